@@ -1,0 +1,5 @@
+-- What the two checks of a packet are.
+
+pub mod Checksum
+
+pub mod Crc
