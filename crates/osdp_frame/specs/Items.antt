@@ -1,0 +1,19 @@
+-- The items that bytes decide, one behind the other.
+use Rattle.std.specs.Prelude.{ℕ, zero, suc, Bool, true, List, [], ◌∷◌, length, drop}
+use Rattle.std.specs.Option.{option_map_or}
+use Rattle.osdp_frame.specs.Reading.{Part, part_size}
+use Rattle.osdp_frame.specs.Held.{decided}
+
+-- at most `most` of them
+abbrev pub items_within : ℕ → Bool → List ℕ → List Part
+items_within zero ended bytes = []
+items_within (suc most) ended bytes =
+    option_map_or (λ part. part ∷ items_within most ended (drop (part_size part) bytes)) (decided ended bytes) []
+
+-- all of them: each takes a byte or more
+unfoldable pub items : Bool → List ℕ → List Part
+items ended bytes = items_within (length bytes) ended bytes
+
+-- the reading of a run, as a function of it
+abbrev pub reading : List ℕ → List Part
+reading run = items true run

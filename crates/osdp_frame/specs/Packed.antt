@@ -1,0 +1,15 @@
+-- A packet from its fields, in the order of the calls that take them.
+use Rattle.std.specs.Prelude.{ℕ, Bool, List}
+use Rattle.osdp_frame.specs.declared.check_kind.CheckKind.{CheckKind}
+use Rattle.osdp_frame.specs.Packet.{Packet}
+
+abbrev pub packed : Bool → ℕ → ℕ → CheckKind → Bool → ℕ → List ℕ → Packet
+packed reply address sequence check block reserved body = record {
+  reply = reply;
+  address = address;
+  sequence = sequence;
+  check = check;
+  block = block;
+  reserved = reserved;
+  body = body;
+}

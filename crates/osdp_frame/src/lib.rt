@@ -1,0 +1,20 @@
+//! Packets of the line and the framer that finds them.
+//!
+//! A packet is a list of bytes with a head, a body and a check. A run of bytes, such as what stands
+//! between two silences of the line, has exactly one reading as packets, skipped bytes and refusals.
+//! Nothing here takes memory.
+#![tactic(auto)]
+
+mod address;
+mod check_kind;
+mod fault;
+mod frame;
+mod seq;
+
+
+pub use address::Address;
+pub use check_kind::CheckKind;
+pub use fault::FrameFault;
+pub use frame::{Burst, Frame};
+pub use seq::Seq;
+

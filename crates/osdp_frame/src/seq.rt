@@ -1,0 +1,55 @@
+//! Sequence numbers.
+
+ghost use Rattle.std.specs.Prelude.{◌≡◌, ◌<◌};
+ghost use Rattle.std.specs.Option.{SomeIff};
+ghost use Rattle.osdp_frame.specs.Packet.{next_sequence};
+
+use std::marker::Model;
+
+/// A sequence number, 0 to 3. 0 opens a session; behind it 1, 2 and 3 take turns.
+#[derive(Clone, Copy, Debug, PartialEq, Eq, PartialOrd, Ord, Hash)]
+pub struct Seq {
+    value: u8,
+}
+
+impl Model for Seq {
+    ghost use Rattle.std.specs.Prelude.{ℕ, ◌<◌};
+
+    ghost Value = { ℕ };
+
+    ghost view = { λ s. s.value };
+
+    ghost invariant = { λ s. s.value < 4 };
+
+    ghost inverse = { λ n. record { value = n } };
+}
+
+impl Seq {
+    /// The sequence number of this value. None from 4 on.
+    pub fn new(value: u8) -> Option<Seq>
+        ensures { SomeIff result (value < 4) value }
+    {
+        if value < 4 {
+            Some(Seq { value })
+        } else {
+            None
+        }
+    }
+
+    /// The value of this sequence number, 0 to 3.
+    pub fn get(self) -> u8
+        ensures value { result ≡ self }
+        ensures range { self < 4 }
+    {
+        self.value
+    }
+
+    /// The number of the exchange behind this one: 0 to 1, 1 to 2, 2 to 3, 3 to 1.
+    pub fn next(self) -> Seq
+        ensures { result ≡ next_sequence self }
+    {
+        Seq {
+            value: self.value % 3 + 1,
+        }
+    }
+}
