@@ -1,0 +1,7 @@
+-- Lemmas on exclusive or and long division, and what they say of the CRC.
+
+pub mod Xor
+
+pub mod Remainder
+
+pub mod Crc
