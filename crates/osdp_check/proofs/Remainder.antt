@@ -15,13 +15,13 @@ step place n = bit_xor n (bit_at n (place + 16) * (divisor * 2 ^ place))
 step-xor : (k a b : ℕ) → step k (bit_xor a b) ≡ bit_xor (step k a) (step k b)
 step-xor k a b =
     ap (bit_xor (bit_xor a b)) (bit_at_xor-mul a b (k + 16) (divisor * 2 ^ k))
-      ∙ xor_middle a b (bit_at a (k + 16) * (divisor * 2 ^ k)) (bit_at b (k + 16) * (divisor * 2 ^ k))
+    ∙ xor_middle a b (bit_at a (k + 16) * (divisor * 2 ^ k)) (bit_at b (k + 16) * (divisor * 2 ^ k))
 
 -- nothing goes under a zero bit
 step_none : (k n : ℕ) → n < 2 ^ (k + 16) → step k n ≡ n
 step_none k n h =
     ap (λ d. bit_xor n (d * (divisor * 2 ^ k))) (bit_at_above n (k + 16) (k + 16) h (omega arith))
-      ∙ ap (bit_xor n) (zero-mul (divisor * 2 ^ k)) ∙ xor_zero_r n
+    ∙ ap (bit_xor n) (zero-mul (divisor * 2 ^ k)) ∙ xor_zero_r n
 
 pub remainder-xor : (k a b : ℕ) → remainder k (bit_xor a b) ≡ bit_xor (remainder k a) (remainder k b)
 unfolding remainder
@@ -55,9 +55,9 @@ top_cleared k zero r p h = simp (zero-mul, zero-add, xor_zero_r) h
 top_cleared k (suc zero) r p h =
     let low = 0x1021 * 2 ^ k in
     let e : bit_xor (1 * 2 ^ (k + 16) + r) (1 * (divisor * 2 ^ k)) ≡ bit_xor r low =
-        ap (bit_xor (1 * 2 ^ (k + 16) + r)) (one-mul (divisor * 2 ^ k) ∙ divisor_parts k)
-          ∙ xor_block (k + 16) 1 1 r low h (low_fits k) ∙ ap (λ n. n + bit_xor r low) (zero-mul (2 ^ (k + 16)))
-          ∙ zero-add (bit_xor r low)
+    ap (bit_xor (1 * 2 ^ (k + 16) + r)) (one-mul (divisor * 2 ^ k) ∙ divisor_parts k)
+    ∙ xor_block (k + 16) 1 1 r low h (low_fits k) ∙ ap (λ n. n + bit_xor r low) (zero-mul (2 ^ (k + 16)))
+    ∙ zero-add (bit_xor r low)
     in
     subst (λ n. n < 2 ^ (k + 16)) (sym e) (xor_lt (k + 16) r low h (low_fits k))
 top_cleared k (suc (suc d)) r p h = absurd (omega arith)
@@ -67,13 +67,13 @@ step-lt : (k n : ℕ) → n < 2 ^ (suc k + 16) → step k n < 2 ^ (k + 16)
 step-lt k n h =
     let top = n / 2 ^ (k + 16) in
     let small : top < 2 =
-        shr_below n 1 (k + 16) (subst (λ m. n < 2 ^ m) (omega arith) h)
+    shr_below n 1 (k + 16) (subst (λ m. n < 2 ^ m) (omega arith) h)
     in
     let bit : top ≡ bit_at n (k + 16) = sym (mod-eq_of_lt small) in
     let P : ℕ → ℕ → Type 0 = λ m d. bit_xor m (d * (divisor * 2 ^ k)) < 2 ^ (k + 16) in
     subst (λ m. P m (bit_at n (k + 16))) (shr_split n (k + 16))
-      (subst (P (top * 2 ^ (k + 16) + n % 2 ^ (k + 16))) bit
-        (top_cleared k top (n % 2 ^ (k + 16)) small (mod_below n (2 ^ (k + 16)) (pow_pos (k + 16)))))
+    (subst (P (top * 2 ^ (k + 16) + n % 2 ^ (k + 16))) bit
+    (top_cleared k top (n % 2 ^ (k + 16)) small (mod_below n (2 ^ (k + 16)) (pow_pos (k + 16)))))
 
 -- what is left has at most sixteen bits
 pub remainder-lt : (k n : ℕ) → n < 2 ^ (k + 16) → remainder k n < 2 ^ 16
@@ -86,24 +86,24 @@ bit_of_high : (k m x u : ℕ) → u < 2 ^ (m + 16) → bit_at (bit_xor (x * 2 ^ 
 bit_of_high k m x u h =
     let place : k + 16 + m ≡ k + m + 16 = omega arith in
     let high : bit_at (x * 2 ^ m) (k + m + 16) ≡ bit_at x (k + 16) =
-        ap (bit_at (x * 2 ^ m)) (sym place) ∙ bit_at-shl x m (k + 16)
+    ap (bit_at (x * 2 ^ m)) (sym place) ∙ bit_at-shl x m (k + 16)
     in
     let low : bit_at u (k + m + 16) ≡ 0 = bit_at_above u (m + 16) (k + m + 16) h (omega arith) in
     bit_at_xor (x * 2 ^ m) u (k + m + 16) ∙ ap (λ d. (d + bit_at u (k + m + 16)) % 2) high
-      ∙ ap (λ d. (bit_at x (k + 16) + d) % 2) low ∙ ap (λ d. d % 2) (add-zero (bit_at x (k + 16)))
-      ∙ mod-eq_of_lt (bit_at-lt x (k + 16))
+    ∙ ap (λ d. (bit_at x (k + 16) + d) % 2) low ∙ ap (λ d. d % 2) (add-zero (bit_at x (k + 16)))
+    ∙ mod-eq_of_lt (bit_at-lt x (k + 16))
 
 step-shl : (k m x u : ℕ) → u < 2 ^ (m + 16) → step (k + m) (bit_xor (x * 2 ^ m) u) ≡ bit_xor (step k x * 2 ^ m) u
 step-shl k m x u h =
     let d = bit_at x (k + 16) in
     let under = d * (divisor * 2 ^ k) in
     let shifted : d * (divisor * 2 ^ (k + m)) ≡ under * 2 ^ m =
-        ap (λ p. d * (divisor * p)) (pow-add 2 k m) ∙ ap (λ p. d * p) (sym (mul_assoc divisor (2 ^ k) (2 ^ m)))
-          ∙ sym (mul_assoc d (divisor * 2 ^ k) (2 ^ m))
+    ap (λ p. d * (divisor * p)) (pow-add 2 k m) ∙ ap (λ p. d * p) (sym (mul_assoc divisor (2 ^ k) (2 ^ m)))
+    ∙ sym (mul_assoc d (divisor * 2 ^ k) (2 ^ m))
     in
     ap (λ b. bit_xor (bit_xor (x * 2 ^ m) u) (b * (divisor * 2 ^ (k + m)))) (bit_of_high k m x u h)
-      ∙ ap (bit_xor (bit_xor (x * 2 ^ m) u)) shifted ∙ xor_last (x * 2 ^ m) u (under * 2 ^ m)
-      ∙ ap (λ n. bit_xor n u) (xor-shl m x under)
+    ∙ ap (bit_xor (bit_xor (x * 2 ^ m) u)) shifted ∙ xor_last (x * 2 ^ m) u (under * 2 ^ m)
+    ∙ ap (λ n. bit_xor n u) (xor-shl m x under)
 
 -- the division of a number goes over its high part first, and then over what that leaves before the low part
 pub remainder-shl : (k m x u : ℕ) → u < 2 ^ (m + 16) → remainder (k + m) (bit_xor (x * 2 ^ m) u) ≡ remainder m (bit_xor (remainder k x * 2 ^ m) u)
@@ -111,7 +111,7 @@ unfolding remainder
 remainder-shl zero m x u h = ap (λ i. remainder i (bit_xor (x * 2 ^ m) u)) (zero-add m)
 remainder-shl (suc k) m x u h =
     ap (λ i. remainder i (bit_xor (x * 2 ^ m) u)) (suc-add k m) ∙ ap (remainder (k + m)) (step-shl k m x u h)
-      ∙ remainder-shl k m (step k x) u h
+    ∙ remainder-shl k m (step k x) u h
 
 -- ---- multiples of the divisor
 
@@ -119,7 +119,7 @@ times_fits : (k d : ℕ) → d < 2 → d * (divisor * 2 ^ k) < 2 ^ (suc k + 16)
 times_fits k zero h = subst (λ n. n < 2 ^ (suc k + 16)) (sym (zero-mul (divisor * 2 ^ k))) (pow_pos (suc k + 16))
 times_fits k (suc zero) h =
     subst (λ n. n < 2 ^ (suc k + 16)) (sym (one-mul (divisor * 2 ^ k)))
-      (omega (arith, pow-add 2 k 17, pow_pos k, ap (λ n. 2 ^ n) (let e : suc k + 16 ≡ k + 17 = omega arith in e)))
+    (omega (arith, pow-add 2 k 17, pow_pos k, ap (λ n. 2 ^ n) (let e : suc k + 16 ≡ k + 17 = omega arith in e)))
 times_fits k (suc (suc d)) h = absurd (omega arith)
 
 product-lt : (k q : ℕ) → product k q divisor < 2 ^ (k + 16)
@@ -127,7 +127,7 @@ unfolding product
 product-lt zero q = pow_pos (0 + 16)
 product-lt (suc k) q =
     xor_lt (suc k + 16) (product k q divisor) (bit_at q k * (divisor * 2 ^ k))
-      (let e = product-lt k q in omega (arith, pow_below (k + 16) (suc k + 16) (omega arith))) (times_fits k (bit_at q k) (bit_at-lt q k))
+    (let e = product-lt k q in omega (arith, pow_below (k + 16) (suc k + 16) (omega arith))) (times_fits k (bit_at q k) (bit_at-lt q k))
 
 -- a multiple at one place leaves nothing
 step-times : (k d : ℕ) → d < 2 → step k (d * (divisor * 2 ^ k)) ≡ 0
@@ -137,8 +137,8 @@ step-times k (suc zero) h =
     let place : 16 + k ≡ k + 16 = omega arith in
     let bit : bit_at (divisor * 2 ^ k) (k + 16) ≡ 1 = ap (bit_at (divisor * 2 ^ k)) (sym place) ∙ bit_at-shl divisor k 16 in
     ap (step k) (one-mul (divisor * 2 ^ k))
-      ∙ ap (λ b. bit_xor (divisor * 2 ^ k) (b * (divisor * 2 ^ k))) bit
-      ∙ ap (bit_xor (divisor * 2 ^ k)) (one-mul (divisor * 2 ^ k)) ∙ xor_self (divisor * 2 ^ k)
+    ∙ ap (λ b. bit_xor (divisor * 2 ^ k) (b * (divisor * 2 ^ k))) bit
+    ∙ ap (bit_xor (divisor * 2 ^ k)) (one-mul (divisor * 2 ^ k)) ∙ xor_self (divisor * 2 ^ k)
 step-times k (suc (suc d)) h = absurd (omega arith)
 
 remainder-times : (k d : ℕ) → d < 2 → remainder (suc k) (d * (divisor * 2 ^ k)) ≡ 0
@@ -151,8 +151,8 @@ remainder-product zero q = refl
 remainder-product (suc k) q =
     let top = bit_at q k * (divisor * 2 ^ k) in
     remainder-xor (suc k) (product k q divisor) top
-      ∙ ap (λ n. bit_xor n (remainder (suc k) top)) (remainder_top k (product k q divisor) (product-lt k q) ∙ remainder-product k q)
-      ∙ ap (bit_xor 0) (remainder-times k (bit_at q k) (bit_at-lt q k))
+    ∙ ap (λ n. bit_xor n (remainder (suc k) top)) (remainder_top k (product k q divisor) (product-lt k q) ∙ remainder-product k q)
+    ∙ ap (bit_xor 0) (remainder-times k (bit_at q k) (bit_at-lt q k))
 
 -- only the low bits of a factor count
 product-low : (i k d q f : ℕ) → i ≤ k → product i (d * 2 ^ k + q) f ≡ product i q f
@@ -160,7 +160,7 @@ unfolding product
 product-low zero k d q f h = refl
 product-low (suc i) k d q f h =
     ap (λ n. bit_xor n (bit_at (d * 2 ^ k + q) i * (f * 2 ^ i))) (product-low i k d q f (omega arith))
-      ∙ ap (λ b. bit_xor (product i q f) (b * (f * 2 ^ i))) (bit_at_cat_low d k q i h)
+    ∙ ap (λ b. bit_xor (product i q f) (b * (f * 2 ^ i))) (bit_at_cat_low d k q i h)
 
 pub record HasQuotient (places dividend : ℕ) : Type 0 where
   pub quotient : ℕ
@@ -175,19 +175,19 @@ divided_more k n h =
     let under = d * (divisor * 2 ^ k) in
     let nowhere : k - k ≡ 0 = omega arith in
     let top : bit_at q k ≡ d =
-        bit_at_cat_high d k h.quotient k h.fits (omega arith) ∙ ap (bit_at d) nowhere ∙ bit_at_lowest d
-          ∙ mod-eq_of_lt (bit_at-lt n (k + 16))
+    bit_at_cat_high d k h.quotient k h.fits (omega arith) ∙ ap (bit_at d) nowhere ∙ bit_at_lowest d
+    ∙ mod-eq_of_lt (bit_at-lt n (k + 16))
     in
     let factors : bit_xor (product k q divisor) (bit_at q k * (divisor * 2 ^ k)) ≡ bit_xor (product k h.quotient divisor) under =
-        ap (λ m. bit_xor m (bit_at q k * (divisor * 2 ^ k))) (product-low k k d h.quotient divisor (omega arith))
-          ∙ ap (λ b. bit_xor (product k h.quotient divisor) (b * (divisor * 2 ^ k))) top
+    ap (λ m. bit_xor m (bit_at q k * (divisor * 2 ^ k))) (product-low k k d h.quotient divisor (omega arith))
+    ∙ ap (λ b. bit_xor (product k h.quotient divisor) (b * (divisor * 2 ^ k))) top
     in
     let left = remainder k (step k n) in
     record {
       quotient = q;
       fits = subst (λ m. q < m) (sym (pow-suc 2 k)) (mul-add-lt d (2 ^ k) h.quotient 2 (bit_at-lt n (k + 16)) h.fits);
       whole = sym (xor_twice n under) ∙ ap (λ m. bit_xor m under) h.whole ∙ xor_last (product k h.quotient divisor) left under
-        ∙ ap (λ m. bit_xor m left) (sym factors);
+          ∙ ap (λ m. bit_xor m left) (sym factors);
     }
 
 pub divided : (k n : ℕ) → n < 2 ^ (k + 16) → HasQuotient k n
@@ -203,5 +203,5 @@ IsRemainder-remainder k n h = let q = divided k n h in (remainder-lt k n h, (q.q
 pub one_remainder : (k n left : ℕ) → IsRemainder k n left → left ≡ remainder k n
 one_remainder k n left h =
     sym (ap (remainder k) h.1.2 ∙ remainder-xor k (product k h.1.0 divisor) left
-      ∙ ap (λ m. bit_xor m (remainder k left)) (remainder-product k h.1.0) ∙ xor_zero_l (remainder k left)
-      ∙ remainder_small k left h.0)
+    ∙ ap (λ m. bit_xor m (remainder k left)) (remainder-product k h.1.0) ∙ xor_zero_l (remainder k left)
+    ∙ remainder_small k left h.0)

@@ -25,14 +25,14 @@ unfolding bits_of
 bits_of-append [] more = sym (ap (λ n. n + bits_of more) (zero-mul (2 ^ width more)) ∙ zero-add (bits_of more))
 bits_of-append (b ∷ bytes) more =
     ap (λ n. b * n + bits_of (bytes ++ more)) (power-append bytes more)
-      ∙ ap (λ n. b * (2 ^ width bytes * 2 ^ width more) + n) (bits_of-append bytes more) ∙ omega arith
+    ∙ ap (λ n. b * (2 ^ width bytes * 2 ^ width more) + n) (bits_of-append bytes more) ∙ omega arith
 
 pub bits_of-lt : (bytes : List ℕ) → IsBytes bytes → bits_of bytes < 2 ^ (8 * length bytes)
 unfolding bits_of
 bits_of-lt [] h = pow_pos 0
 bits_of-lt (b ∷ bytes) h =
     subst (λ n. b * 2 ^ width bytes + bits_of bytes < n) (sym (width-cons b bytes))
-      (mul-add-lt b (2 ^ width bytes) (bits_of bytes) 256 (All-head (λ n. n < 256) b bytes h) (bits_of-lt bytes (All-tail (λ n. n < 256) b bytes h)))
+    (mul-add-lt b (2 ^ width bytes) (bits_of bytes) 256 (All-head (λ n. n < 256) b bytes h) (bits_of-lt bytes (All-tail (λ n. n < 256) b bytes h)))
 
 dividend_from-lt : (start : ℕ) (bytes : List ℕ) → start < 2 ^ 16 → IsBytes bytes → dividend_from start bytes < 2 ^ (8 * length bytes + 16)
 unfolding dividend_from
@@ -40,7 +40,7 @@ dividend_from-lt start bytes s h =
     let w = width bytes in
     let place : 16 + w ≡ w + 16 = omega arith in
     xor_lt (w + 16) (bits_of bytes * 2 ^ 16) (start * 2 ^ w) (shl_below (bits_of bytes) w 16 (bits_of-lt bytes h))
-      (subst (λ n. start * 2 ^ w < 2 ^ n) place (shl_below start 16 w s))
+    (subst (λ n. start * 2 ^ w < 2 ^ n) place (shl_below start 16 w s))
 
 pub dividend_from-append : (start : ℕ) (bytes more : List ℕ) → IsBytes more → dividend_from start (bytes ++ more) ≡ bit_xor (dividend_from start bytes * 2 ^ (8 * length more)) (bits_of more * 2 ^ 16)
 unfolding dividend_from
@@ -50,18 +50,18 @@ dividend_from-append start bytes more h =
     let front = start * 2 ^ width bytes in
     let power = 2 ^ width more in
     let place : bits_of bytes * 2 ^ (width more + 16) ≡ old * power =
-        ap (λ n. bits_of bytes * n) (pow-add 2 (width more) 16) ∙ omega arith
+    ap (λ n. bits_of bytes * n) (pow-add 2 (width more) 16) ∙ omega arith
     in
     let bits : bits_of (bytes ++ more) * 2 ^ 16 ≡ bit_xor (old * power) new =
-        ap (λ n. n * 2 ^ 16) (bits_of-append bytes more) ∙ omega (arith, place)
-          ∙ sym (xor_parts (width more + 16) (bits_of bytes) new (shl_below (bits_of more) (width more) 16 (bits_of-lt more h)))
-          ∙ ap (λ n. bit_xor n new) place
+    ap (λ n. n * 2 ^ 16) (bits_of-append bytes more) ∙ omega (arith, place)
+    ∙ sym (xor_parts (width more + 16) (bits_of bytes) new (shl_below (bits_of more) (width more) 16 (bits_of-lt more h)))
+    ∙ ap (λ n. bit_xor n new) place
     in
     let changed : start * 2 ^ width (bytes ++ more) ≡ front * power =
-        ap (λ n. start * n) (power-append bytes more) ∙ sym (mul_assoc start (2 ^ width bytes) power)
+    ap (λ n. start * n) (power-append bytes more) ∙ sym (mul_assoc start (2 ^ width bytes) power)
     in
     ap (λ n. bit_xor n (start * 2 ^ width (bytes ++ more))) bits ∙ ap (bit_xor (bit_xor (old * power) new)) changed
-      ∙ xor_last (old * power) new (front * power) ∙ ap (λ n. bit_xor n new) (xor-shl (width more) old front)
+    ∙ xor_last (old * power) new (front * power) ∙ ap (λ n. bit_xor n new) (xor-shl (width more) old front)
 
 pub crc_from-append : (start : ℕ) (bytes more : List ℕ) → IsBytes more → crc_from start (bytes ++ more) ≡ crc_from (crc_from start bytes) more
 unfolding crc_from dividend_from
@@ -69,9 +69,9 @@ crc_from-append start bytes more h =
     let new = bits_of more * 2 ^ 16 in
     let left = remainder (width bytes) (dividend_from start bytes) in
     ap (λ k. remainder k (dividend_from start (bytes ++ more))) (width-append bytes more)
-      ∙ ap (remainder (width bytes + width more)) (dividend_from-append start bytes more h)
-      ∙ remainder-shl (width bytes) (width more) (dividend_from start bytes) new (shl_below (bits_of more) (width more) 16 (bits_of-lt more h))
-      ∙ ap (remainder (width more)) (xor_comm (left * 2 ^ width more) new)
+    ∙ ap (remainder (width bytes + width more)) (dividend_from-append start bytes more h)
+    ∙ remainder-shl (width bytes) (width more) (dividend_from start bytes) new (shl_below (bits_of more) (width more) 16 (bits_of-lt more h))
+    ∙ ap (remainder (width more)) (xor_comm (left * 2 ^ width more) new)
 
 pub crc_from-lt : (start : ℕ) (bytes : List ℕ) → start < 2 ^ 16 → IsBytes bytes → crc_from start bytes < 2 ^ 16
 unfolding crc_from
@@ -88,8 +88,8 @@ crc_from-xor start change bytes =
     let bits = bits_of bytes * 2 ^ 16 in
     let power = 2 ^ width bytes in
     ap (λ n. remainder (width bytes) (bit_xor bits n)) (sym (xor-shl (width bytes) start change))
-      ∙ ap (remainder (width bytes)) (sym (xor_assoc bits (start * power) (change * power)))
-      ∙ remainder-xor (width bytes) (bit_xor bits (start * power)) (change * power)
+    ∙ ap (remainder (width bytes)) (sym (xor_assoc bits (start * power) (change * power)))
+    ∙ remainder-xor (width bytes) (bit_xor bits (start * power)) (change * power)
 
 -- no bytes leave the start as it is
 pub crc_from-nil : (start : ℕ) → crc_from start [] ≡ start
@@ -106,22 +106,22 @@ crc_from-byte start b s h =
     let fits : low * 2 ^ 8 < 2 ^ 16 = omega arith in
     let byte : (n : ℕ) → (n * 2 ^ 0 + 0) * 2 ^ 16 ≡ n * 2 ^ 16 = λ n. omega arith in
     let parts : start * 2 ^ 8 ≡ bit_xor (high * 2 ^ 16) (low * 2 ^ 8) =
-        let split : start * 2 ^ 8 ≡ high * 2 ^ 16 + low * 2 ^ 8 = omega arith in
-        split ∙ sym (xor_parts 16 high (low * 2 ^ 8) fits)
+    let split : start * 2 ^ 8 ≡ high * 2 ^ 16 + low * 2 ^ 8 = omega arith in
+    split ∙ sym (xor_parts 16 high (low * 2 ^ 8) fits)
     in
     let joined : bit_xor (b * 2 ^ 16) (bit_xor (high * 2 ^ 16) (low * 2 ^ 8)) ≡ bit_xor (index * 2 ^ 16) (low * 2 ^ 8) =
-        sym (xor_assoc (b * 2 ^ 16) (high * 2 ^ 16) (low * 2 ^ 8))
-          ∙ ap (λ n. bit_xor n (low * 2 ^ 8)) (xor-shl 16 b high ∙ ap (λ n. n * 2 ^ 16) (xor_comm b high))
+    sym (xor_assoc (b * 2 ^ 16) (high * 2 ^ 16) (low * 2 ^ 8))
+    ∙ ap (λ n. bit_xor n (low * 2 ^ 8)) (xor-shl 16 b high ∙ ap (λ n. n * 2 ^ 16) (xor_comm b high))
     in
     let entry : remainder 8 (index * 2 ^ 16) ≡ crc_from 0 (index ∷ []) =
-        ap (remainder 8) (sym (byte index) ∙ sym (xor_zero_r ((index * 2 ^ 0 + 0) * 2 ^ 16)))
+    ap (remainder 8) (sym (byte index) ∙ sym (xor_zero_r ((index * 2 ^ 0 + 0) * 2 ^ 16)))
     in
     let kept : low * 2 ^ 8 ≡ start * 2 ^ 8 % 2 ^ 16 = omega arith in
     ap (λ n. remainder 8 (bit_xor n (start * 2 ^ 8))) (byte b) ∙ ap (λ n. remainder 8 (bit_xor (b * 2 ^ 16) n)) parts
-      ∙ ap (remainder 8) joined ∙ remainder-xor 8 (index * 2 ^ 16) (low * 2 ^ 8)
-      ∙ ap (bit_xor (remainder 8 (index * 2 ^ 16))) (remainder_small 8 (low * 2 ^ 8) fits)
-      ∙ xor_comm (remainder 8 (index * 2 ^ 16)) (low * 2 ^ 8) ∙ ap (bit_xor (low * 2 ^ 8)) entry
-      ∙ ap (λ n. bit_xor n (crc_from 0 (index ∷ []))) kept
+    ∙ ap (remainder 8) joined ∙ remainder-xor 8 (index * 2 ^ 16) (low * 2 ^ 8)
+    ∙ ap (bit_xor (remainder 8 (index * 2 ^ 16))) (remainder_small 8 (low * 2 ^ 8) fits)
+    ∙ xor_comm (remainder 8 (index * 2 ^ 16)) (low * 2 ^ 8) ∙ ap (bit_xor (low * 2 ^ 8)) entry
+    ∙ ap (λ n. bit_xor n (crc_from 0 (index ∷ []))) kept
 
 pub crc-push : (bytes : List ℕ) (b : ℕ) → crc bytes < 2 ^ 16 → b < 256 → crc (bytes ++ b ∷ []) ≡ bit_xor (crc bytes * 2 ^ 8 % 2 ^ 16) (crc_from 0 (bit_xor (crc bytes / 2 ^ 8) b ∷ []))
 unfolding crc
