@@ -1,12 +1,12 @@
 -- What the division says of the CRC: it goes piece by piece, and byte by byte through the table.
-use Rattle.std.proofs.Common.{◌≡◌, ℕ, zero, suc, ◌+◌, ◌-◌, ◌*◌, ◌/◌, ◌%◌, ◌^◌, ◌<◌, ◌≤◌, List, [], ◌∷◌, ◌++◌, length, refl, sym, ap, subst, ◌∙◌, arith, zero-add, add-zero, length-append}
+use Rattle.std.proofs.Common.{◌≡◌, ℕ, ◌+◌, ◌*◌, ◌/◌, ◌%◌, ◌^◌, ◌<◌, List, [], ◌∷◌, ◌++◌, length, sym, ap, subst, ◌∙◌, arith, zero-add, length-append}
 use Rattle.std.proofs.Math.Nat.{zero-mul, mul_assoc, mul-add, mul-one}
 use Rattle.std.specs.Int.Bits.{bit_xor, xor_assoc, xor_zero_r}
-use Rattle.std.proofs.lemmas.Nat.{pow_pos, pow-add, xor_comm, xor_lt, mul-add-lt, shl_below, shr_below}
+use Rattle.std.proofs.lemmas.Nat.{pow_pos, pow-add, xor_comm, xor_lt, mul-add-lt, shl_below}
 use Rattle.std.proofs.lemmas.List.Elements.{All-head, All-tail, All-nil, All-cons}
-use Rattle.osdp_check.specs.Crc.{bits_of, crc, crc_from, dividend_from, divisor, initial, remainder, IsBytes, IsCrc}
-use Rattle.osdp_check.proofs.Xor.{xor_last, xor_middle, xor-shl, xor_parts}
-use Rattle.osdp_check.proofs.Remainder.{remainder-xor, remainder-shl, remainder-lt, remainder_small, short_fits, IsRemainder-remainder, one_remainder}
+use Rattle.osdp_check.specs.Crc.{bits_of, crc, crc_from, dividend_from, initial, remainder, IsBytes, IsCrc}
+use Rattle.osdp_check.proofs.Xor.{xor_last, xor_twice, xor-shl, xor_parts}
+use Rattle.osdp_check.proofs.Remainder.{remainder-xor, remainder-shl, remainder-lt, remainder_small, IsRemainder-remainder, one_remainder}
 
 abbrev width : List ℕ → ℕ
 width bytes = 8 * length bytes
@@ -90,6 +90,23 @@ crc_from-xor start change bytes =
     ap (λ n. remainder (width bytes) (bit_xor bits n)) (sym (xor-shl (width bytes) start change))
     ∙ ap (remainder (width bytes)) (sym (xor_assoc bits (start * power) (change * power)))
     ∙ remainder-xor (width bytes) (bit_xor bits (start * power)) (change * power)
+
+-- the CRC of the rest, from those of the whole and of the front
+pub crc_of_rest : (bytes more : List ℕ) → IsBytes more → crc more ≡ bit_xor (crc (bytes ++ more)) (remainder (8 * length more) (bit_xor (crc bytes) initial * 2 ^ (8 * length more)))
+unfolding crc
+crc_of_rest bytes more h =
+    let front = crc_from initial bytes in
+    let change = bit_xor front initial in
+    let moved = remainder (width more) (change * 2 ^ width more) in
+    let back : bit_xor initial change ≡ front = xor_comm initial change ∙ xor_twice front initial in
+    let whole : crc_from initial (bytes ++ more) ≡ bit_xor (crc_from initial more) moved =
+    crc_from-append initial bytes more h ∙ ap (λ n. crc_from n more) (sym back) ∙ crc_from-xor initial change more
+    in
+    sym (ap (λ n. bit_xor n moved) whole ∙ xor_twice (crc_from initial more) moved)
+
+pub bits_of-one : (b : ℕ) → bits_of (b ∷ []) ≡ b
+unfolding bits_of
+bits_of-one b = omega arith
 
 -- no bytes leave the start as it is
 pub crc_from-nil : (start : ℕ) → crc_from start [] ≡ start

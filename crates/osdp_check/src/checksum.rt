@@ -1,6 +1,7 @@
 //! The one-byte check.
 
 ghost use Rattle.std.specs.Prelude.{◌≡◌, ℕ, ◌%◌, List, ◌++◌, ◌∷◌, [], take, slice_index, sum, refl};
+ghost use Rattle.std.proofs.Common.{lit≤};
 ghost use Rattle.osdp_check.specs.Checksum.{checksum_bytes};
 
 use super::Check;
@@ -46,4 +47,6 @@ impl Check for Sum8 {
     }
 
     ghost check_size = { λ bytes. refl };
+
+    ghost size_fits = { lit≤ tt };
 }

@@ -1,6 +1,7 @@
 //! The two-byte check.
 
 ghost use Rattle.std.specs.Prelude.{◌≡◌, ℕ, ◌<◌, List, slice_index, refl};
+ghost use Rattle.std.proofs.Common.{lit≤};
 ghost use Rattle.osdp_check.specs.Crc.{crc, crc_bytes};
 
 use super::{CRC_TABLE, Check};
@@ -43,6 +44,8 @@ impl Check for Crc16 {
     }
 
     ghost check_size = { λ bytes. refl };
+
+    ghost size_fits = { lit≤ tt };
 }
 
 /// The state that `byte` leaves when the start is 0.

@@ -2,7 +2,7 @@
 
 ghost use Rattle.std.specs.Prelude.{◌≡◌, ℕ, ◌+◌, ◌*◌, ◌<◌, ◌^◌, ◌↔◌, List, [], ◌∷◌, ◌++◌, length, slice_index, bit_xor};
 ghost use Rattle.osdp_check.specs.Checksum.{IsChecksum, checksum};
-ghost use Rattle.osdp_check.specs.Crc.{IsBytes, IsCrc, IsRemainder, crc, crc_from, remainder};
+ghost use Rattle.osdp_check.specs.Crc.{IsBytes, IsCrc, IsRemainder, bits_of, crc, crc_from, initial, remainder};
 
 use super::CRC_TABLE;
 
@@ -34,11 +34,26 @@ pub fn crc_in_pieces()
         → crc_from start (bytes ++ more) ≡ crc_from (crc_from start bytes) more }
 {}
 
+/// The bytes as one number: a byte is itself, and the front stands as many places higher as the rest has.
+pub fn bits_in_pieces()
+    ensures none { bits_of [] ≡ 0 }
+    ensures one { (b : ℕ) → bits_of (b ∷ []) ≡ b }
+    ensures more { (bytes more : List ℕ) →
+        bits_of (bytes ++ more) ≡ bits_of bytes * 2 ^ (8 * length more) + bits_of more }
+{}
+
 /// Another start changes the CRC by what the division leaves of the change, as many bytes on.
 pub fn crc_from_another_start()
     ensures { (start change : ℕ) (bytes : List ℕ) →
         let places = 8 * length bytes in
         crc_from (bit_xor start change) bytes ≡ bit_xor (crc_from start bytes) (remainder places (change * 2 ^ places)) }
+{}
+
+/// The CRC of the rest follows from that of the whole and that of the front.
+pub fn crc_of_rest()
+    ensures { (bytes more : List ℕ) → IsBytes more →
+        let places = 8 * length more in
+        crc more ≡ bit_xor (crc (bytes ++ more)) (remainder places (bit_xor (crc bytes) initial * 2 ^ places)) }
 {}
 
 /// Each entry of the table is the state that its byte leaves when the start is 0.

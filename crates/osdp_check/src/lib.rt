@@ -10,7 +10,7 @@ mod table;
 #[cfg(test)]
 mod tests;
 
-ghost use Rattle.std.specs.Prelude.{◌≡◌, ℕ, List, [], ◌∷◌, ◌++◌, length, take};
+ghost use Rattle.std.specs.Prelude.{◌≡◌, ℕ, ◌≤◌, List, [], ◌∷◌, ◌++◌, length, take};
 
 pub use checksum::Sum8;
 pub use crc::Crc16;
@@ -42,6 +42,8 @@ pub trait Check: Drop {
         ensures { (bytes : List ℕ) → Took self.now bytes → take SIZE result ≡ check bytes };
 
     ghost check_size: { (bytes : List ℕ) → length (check bytes) ≡ SIZE };
+
+    ghost size_fits: { SIZE ≤ 2 };
 }
 
 /// The check of `bytes`, in its first `SIZE` bytes, in the order in which they are sent.

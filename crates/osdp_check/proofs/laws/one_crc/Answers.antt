@@ -1,5 +1,5 @@
 use Rattle.std.proofs.Common.{subst, sym}
-use Rattle.osdp_check.specs.Crc.{crc, IsCrc}
+use Rattle.osdp_check.specs.Crc.{IsCrc}
 use Rattle.osdp_check.proofs.Pieces.{one_crc, IsCrc-crc}
 use Rattle.osdp_check.proofs.laws.one_crc.Goals as goal
 
