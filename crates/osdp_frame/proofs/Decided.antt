@@ -209,7 +209,7 @@ nothing_stands (Whole p) s = omega (arith, (Tells-Begins p [] s).long)
 nothing_stands (Passed b) s = let e = s.1 in absurd cc
 nothing_stands (Bad f) s = let e = s.1 in absurd cc
 
-abbrev WantsMore : List ℕ → Type 0
+abbrev pub WantsMore : List ℕ → Type 0
 WantsMore bytes =
     (length bytes < 5) ⊎ ((smallest (check_at bytes) ≤ count_at bytes) × (count_at bytes ≤ largest) × (length bytes < count_at bytes))
 

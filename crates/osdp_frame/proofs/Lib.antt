@@ -4,3 +4,4 @@ pub mod Decided
 pub mod Readings
 pub mod FirstItems
 pub mod Framing
+pub mod LawsOfSpellings

@@ -10,7 +10,7 @@ use Rattle.osdp_frame.specs.Reading.{Part, Whole, Passed, Bad, part_size, total_
 use Rattle.osdp_frame.specs.Held.{decided}
 use Rattle.osdp_frame.specs.Items.{items, items_within, reading, left_over, Drains}
 use Rattle.osdp_frame.proofs.Head.{Tells-Begins, AreBytes-drop}
-use Rattle.osdp_frame.proofs.Decided.{one_item, first_decided, decided_first, undecided_none, none_undecided, stands_first}
+use Rattle.osdp_frame.proofs.Decided.{one_item, first_decided, decided_first, undecided_none, none_undecided, stands_first, WantsMore}
 
 pub part_size-positive : (part : Part) → 0 < part_size part
 part_size-positive (Whole p) = omega arith
@@ -256,3 +256,31 @@ pub reading_drained : (run : List ℕ) (parts : List Part) → IsReading run par
 reading_drained run [] r = inl r
 reading_drained run (part ∷ parts) r =
     (first_stands run part r.0, reading_drained (drop (part_size part) run) parts r.1)
+
+-- what is undecided of a run that goes on leaves room in a framer
+pub undecided_small : (bytes : List ℕ) → decided false bytes ≡ None → length bytes < 1440
+undecided_small bytes is = elim (undecided_none false bytes is) [
+  | inl nil ↦ omega (arith, ap length nil)
+  | inr w ↦ small bytes w.2
+]
+  where
+    small : (bytes : List ℕ) → WantsMore bytes → length bytes < 1440
+    small bytes wants = elim wants [
+      | inl few ↦ omega arith
+      | inr less ↦ omega (arith, less.1, less.2)
+    ]
+
+-- each rest of a run has a first item
+pub some_item : (b : ℕ) (rest : List ℕ) → AreBytes (b ∷ rest) → (part : Part) × Stands (b ∷ rest) part
+some_item b rest fits = by_answer (decided true (b ∷ rest)) refl
+  where
+    by_answer : (o : Option Part) → decided true (b ∷ rest) ≡ o → (part : Part) × Stands (b ∷ rest) part
+    by_answer None is = absurd (let nil = undecided_ended (b ∷ rest) (undecided_none true (b ∷ rest) is) in omega (arith, ap length nil))
+    by_answer (Some part) is = (part, stands_first true (b ∷ rest) part (first_decided true (b ∷ rest) part fits is))
+
+-- what is taken off a run that goes on begins the reading of all that it may become
+pub reading_begins : (bytes more : List ℕ) (parts all : List Part) → AreBytes (bytes ++ more) → Drains false bytes parts → IsReading (bytes ++ more) all → (others : List Part) × (all ≡ parts ++ others)
+reading_begins bytes more parts all fits d r =
+    let front = AreBytes-front bytes more fits in
+    (items true (left_over bytes ++ more),
+     reading_is (bytes ++ more) all fits r ∙ items-append true bytes more fits ∙ ap (λ xs. xs ++ items true (left_over bytes ++ more)) (sym (drained_items false bytes parts front d)))

@@ -13,6 +13,7 @@ mod first;
 mod frame;
 mod framer;
 mod item;
+pub mod laws;
 mod read;
 mod seq;
 mod view;
