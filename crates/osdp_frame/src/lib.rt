@@ -27,3 +27,6 @@ pub use item::Item;
 pub use read::{ReadItem, read_at};
 pub use seq::Seq;
 pub use view::FrameView;
+
+#[cfg(test)]
+mod tests;
