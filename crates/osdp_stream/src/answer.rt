@@ -26,14 +26,15 @@ pub fn final_answer<T: Drop>(
     answer
 }
 
-/// Ends a command: flushes the output, unless it has failed before, and gives the final answer.
+/// Ends a command: flushes the output and gives the final answer. Where the output has failed
+/// before, nothing more is done to it.
 pub fn finish<W: Write, T: Drop>(
     input_failed: bool,
     output: &mut Watched<W>,
     answer: Result<T, ToolFault>,
 ) -> Result<T, ToolFault>
     ensures answer { result ≡ final_answer_of input_failed (has_failed output.new) answer }
-    ensures failed { has_failed output.old ≡ true → has_failed output.new ≡ true }
+    ensures kept { has_failed output.old ≡ true → output.new ≡ output.old }
     ensures bytes { Keeps (W.contents (inner_of output.old)) (W.contents (inner_of output.new)) }
 {
     if !output.failed() {

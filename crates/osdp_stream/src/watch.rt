@@ -61,21 +61,21 @@ impl<W: Write> Write for Watched<W> {
         ensures failed { has_failed self.new
             ≡ (has_failed self.old || is_failed_write result buf.now) }
     {
-        let answer = self.inner.write(buf);
-        let failed = match &answer {
+        let written = self.inner.write(buf);
+        let failed = match &written {
             Ok(taken) => *taken == 0 && !buf.is_empty(),
             Err(_) => true,
         };
         self.failed = self.failed || failed;
-        answer
+        written
     }
 
     fn flush(&mut self) -> io::Result<()>
         ensures bytes { Keeps (W.contents (inner_of self.old)) (W.contents (inner_of self.new)) }
         ensures failed { has_failed self.new ≡ (has_failed self.old || is_err result) }
     {
-        let answer = self.inner.flush();
-        self.failed = self.failed || answer.is_err();
-        answer
+        let flushed = self.inner.flush();
+        self.failed = self.failed || flushed.is_err();
+        flushed
     }
 }
