@@ -1,7 +1,7 @@
 -- What `clap` makes of the options.
 use Rattle.std.specs.Borrow.{Bor}
 use Rattle.std.proofs.Common.{◌≡◌, ◌<◌, ℕ, List, Bool, true, false, [], ◌∷◌, length, drop, refl, arith, Some, Option, codes}
-use Rattle.clap.specs.Words.{Row, Text, is_simple, matches_of, one_of, takes}
+use Rattle.clap.specs.Words.{Text, is_simple, matches_of, one_of, takes}
 use Rattle.clap.proofs.OnLiterals.{clap_on_literals}
 use Rattle.osdp_job.specs.Job.{Words, are_options, mode_of, texts_of}
 use Rattle.osdp_job.specs.Options.{options_app}

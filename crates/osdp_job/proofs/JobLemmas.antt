@@ -1,12 +1,12 @@
 -- Words choose a job exactly where they are its words.
-use Rattle.std.proofs.Common.{◌≡◌, ◌⊎◌, ◌↔◌, ℕ, Bool, true, false, List, [], ◌∷◌, refl, sym, subst, ap, inl, inr, ◌∙◌, codes, Ok, Err}
+use Rattle.std.proofs.Common.{◌≡◌, ◌⊎◌, Bool, true, false, [], ◌∷◌, refl, subst, ap, inl, inr, codes, Ok, Err}
 use Rattle.std.specs.Str.{bytes_eq}
 use Rattle.std.proofs.lemmas.Slice.Eq.{bytes_eq-Decides}
 use Rattle.osdp_stream.specs.declared.fault.ToolFault.TheVariants.{BadWords}
 use Rattle.osdp_job.specs.declared.types.Job.{Job}
 use Rattle.osdp_job.specs.declared.types.Job.TheVariants.{Show, Check, Make, Sim}
 use Rattle.osdp_job.specs.declared.types.Mode.{Mode}
-use Rattle.osdp_job.specs.Job.{Words, are_options, mode_of, job_in_mode, job_without_mode, job_of, AreOptionsOf, IsCommandIn, IsWordsOf, ChoosesByWords}
+use Rattle.osdp_job.specs.Job.{Words, are_options, mode_of, job_in_mode, job_of, AreOptionsOf, IsWordsOf, ChoosesByWords}
 use Rattle.osdp_job.proofs.OptionLemmas.{are_options-listed, AreOptionsOf-options, AreOptionsOf-mode}
 
 -- a command in a mode chooses the job of its options' mode, or none
@@ -61,9 +61,11 @@ ChoosesByWords-all words = record { chosen = λ job. (chosen_words job, words_ch
           subst (λ j. IsWordsOf j words) same good.2
       | inr bad ↦ cc
     ]
+
     bad_words : job_of words ≡ Err BadWords → (job : Job) → ¬ IsWordsOf job words
     bad_words bad job are =
         let good = words_choose job words are in
         cc
+
     no_words : ((job : Job) → ¬ IsWordsOf job words) → job_of words ≡ Err BadWords
     no_words none = elim (choose words) [ inl good ↦ absurd (none good.0 good.2) | inr bad ↦ bad ]

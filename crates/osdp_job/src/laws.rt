@@ -7,5 +7,4 @@ ghost use Rattle.osdp_job.specs.Job.{Words, ChoosesByWords};
 /// mode in any order. They are bad exactly where they are no job's.
 pub fn words_choose_jobs()
     ensures { (words : Words) → ChoosesByWords words }
-{
-}
+{}

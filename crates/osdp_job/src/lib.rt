@@ -8,3 +8,6 @@ mod words;
 
 pub use types::{Job, Mode};
 pub use words::job;
+
+#[cfg(test)]
+mod tests;
