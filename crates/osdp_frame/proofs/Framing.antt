@@ -1,15 +1,14 @@
 -- What a framer's fields say of what it holds.
-use Rattle.std.proofs.Common.{◌≡◌, ℕ, ◌+◌, ◌-◌, ◌<◌, ◌≤◌, Bool, true, false, not, ◌&&◌, eqb, ltb, cond, IsTrue, List, [], ◌∷◌, ◌++◌, length, take, drop, slice_range, min, Option, Some, None, refl, sym, ap, subst, ◌∙◌, arith, inl, inr}
+use Rattle.std.proofs.Common.{◌≡◌, ℕ, ◌+◌, ◌-◌, ◌<◌, ◌≤◌, Bool, true, false, not, ◌&&◌, eqb, ltb, List, ◌++◌, length, take, drop, slice_range, Some, None, refl, sym, ap, subst, ◌∙◌, arith, inl, inr}
 use Rattle.std.proofs.lemmas.Bool.{cases_lt, le-ltb, lt-ltb}
 use Rattle.std.proofs.lemmas.Bool.Decides.{nat_tests}
-use Rattle.std.proofs.lemmas.List.{length-drop, length-take, drop-take, take-take, take-append-le, take_at, drop-drop, drop_at, length-append}
+use Rattle.std.proofs.lemmas.List.{length-drop, length-take, drop-take, drop-drop}
 use Rattle.std.proofs.Math.Seq.{take-add}
 use Rattle.osdp_frame.specs.declared.first.First.{First}
 use Rattle.osdp_frame.specs.declared.framer.Framer.TheInside.{Inside}
 use Rattle.osdp_frame.specs.Bytes.{AreBytes}
-use Rattle.osdp_frame.specs.Packet.{largest}
 use Rattle.osdp_frame.specs.Reading.{Part, part_size, IsFirst, IsUndecided}
-use Rattle.osdp_frame.specs.Held.{Held, decided, behind, behind_first, after_advance, after_push, taken_count}
+use Rattle.osdp_frame.specs.Held.{Held, decided, behind, behind_first, after_advance}
 use Rattle.osdp_frame.specs.First.{part_in, part_if, FirstFits}
 use Rattle.osdp_frame.specs.Framed.{held_bytes, held_of, IsFramer}
 use Rattle.osdp_frame.proofs.Decided.{first_decided, undecided_none, undecided_first}

@@ -1,5 +1,5 @@
 -- What a framer keeps in its buffer.
-use Rattle.std.specs.Prelude.{◌≡◌, ℕ, ◌-◌, ◌≤◌, ◌<◌, ◌+◌, Bool, true, List, slice_range, Option}
+use Rattle.std.specs.Prelude.{◌≡◌, ℕ, ◌-◌, ◌≤◌, ◌<◌, ◌+◌, true, List, slice_range}
 use Rattle.osdp_frame.specs.declared.framer.Framer.TheInside.{Inside}
 use Rattle.osdp_frame.specs.Packet.{largest}
 use Rattle.osdp_frame.specs.Held.{Held, decided}

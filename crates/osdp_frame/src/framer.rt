@@ -117,6 +117,14 @@ impl Framer {
     }
 }
 
+impl Default for Framer {
+    ghost is_default = { λ f. f ≡ new_run };
+
+    fn default() -> Framer {
+        Framer::new()
+    }
+}
+
 /// The first item of `rest`, where it was `first` for its first `held` bytes as long as the run went on.
 fn decided_again(first: Option<First>, held: usize, rest: &[u8], ended: bool) -> Option<First>
     requires held { held ≤ length rest.now }

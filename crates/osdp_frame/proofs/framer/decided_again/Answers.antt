@@ -1,5 +1,5 @@
-use Rattle.std.proofs.Common.{◌≡◌, arith, ap, sym, ◌∙◌, subst, take, Some, true, false}
-use Rattle.osdp_frame.specs.First.{part_if, part_in, FirstFits}
+use Rattle.std.proofs.Common.{◌≡◌, arith, subst, take, false}
+use Rattle.osdp_frame.specs.First.{part_if, FirstFits}
 use Rattle.osdp_frame.specs.Held.{decided}
 use Rattle.osdp_frame.proofs.FirstItems.{part_if-more}
 use Rattle.osdp_frame.proofs.framer.decided_again.Goals as goal

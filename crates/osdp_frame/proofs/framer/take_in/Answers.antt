@@ -1,4 +1,4 @@
-use Rattle.std.proofs.Common.{◌≡◌, ◌+◌, ◌-◌, ◌++◌, slice_range, length, ap, sym, ◌∙◌, arith}
+use Rattle.std.proofs.Common.{◌-◌, ◌++◌, length, ◌∙◌, arith}
 use Rattle.osdp_frame.proofs.Framing.{written_behind}
 use Rattle.osdp_frame.proofs.framer.take_in.Goals as goal
 

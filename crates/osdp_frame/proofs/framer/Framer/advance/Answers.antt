@@ -1,4 +1,4 @@
-use Rattle.std.proofs.Common.{◌≡◌, ◌+◌, ◌-◌, ◌&&◌, Bool, refl, ap, sym, ◌∙◌, ltb, arith}
+use Rattle.std.proofs.Common.{◌≡◌, ◌+◌, ◌-◌, ◌&&◌, Bool, refl, ap, sym, ◌∙◌, ltb}
 use Rattle.osdp_frame.specs.Framed.{held_bytes}
 use Rattle.osdp_frame.proofs.Framing.{advanced, kept_fits, kept_fits_held}
 use Rattle.osdp_frame.proofs.framer.Framer.advance.Goals.{then-self, else-self}
