@@ -1,0 +1,2 @@
+pub mod LineText
+pub mod Tally

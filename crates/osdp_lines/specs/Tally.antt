@@ -1,0 +1,2 @@
+-- What has been told.
+use Rattle.std.specs.Prelude.{ℕ}
