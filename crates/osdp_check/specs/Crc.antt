@@ -1,7 +1,7 @@
 -- The two-byte check: what is left of the bytes after long division by a polynomial over one bit.
 -- A number stands for the polynomial whose coefficients are its bits, so that adding and taking away are both
 -- exclusive or.
-use Rattle.std.specs.Prelude.{◌≡◌, ℕ, zero, suc, ◌+◌, ◌*◌, ◌/◌, ◌%◌, ◌^◌, ◌<◌, ◌↔◌, List, [], ◌∷◌, ◌++◌, All, length, bit_xor}
+use Rattle.std.specs.Prelude.{◌≡◌, ℕ, zero, suc, ◌+◌, ◌*◌, ◌/◌, ◌%◌, ◌^◌, ◌<◌, List, [], ◌∷◌, All, length, bit_xor}
 use Rattle.std.specs.Int.{bit_at}
 
 -- x^16 + x^12 + x^5 + 1

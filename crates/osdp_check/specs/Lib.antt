@@ -1,5 +1,4 @@
 -- What the two checks of a packet are.
 
 pub mod Checksum
-
 pub mod Crc

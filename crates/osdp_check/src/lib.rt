@@ -1,14 +1,58 @@
 //! The two checks that a packet may end in: a one-byte checksum and a CRC of sixteen bits.
 //!
-//! Both are added up byte by byte, and what is spelled at the end is the check of all bytes that were added.
+//! Both are computed byte by byte. What is spelled at the end is the check of all bytes that were added.
 #![tactic(auto)]
 
-ghost use Rattle.std.specs.Prelude.{◌≡◌, ℕ, ◌<◌, ◌^◌, ◌↔◌, List, ◌++◌, length, slice_index};
-ghost use Rattle.osdp_check.specs.Checksum.{IsChecksum, checksum};
-ghost use Rattle.osdp_check.specs.Crc.{IsBytes, IsCrc, crc};
+mod checksum;
+mod crc;
+pub mod laws;
+mod table;
+#[cfg(test)]
+mod tests;
 
-/// Law: bytes have one checksum, and only that byte.
-pub fn one_checksum()
-    ensures { (bytes : List ℕ) (check : ℕ) → IsChecksum bytes check ↔ (check ≡ checksum bytes) }
+ghost use Rattle.std.specs.Prelude.{◌≡◌, ℕ, ◌≤◌, List, [], ◌∷◌, ◌++◌, length, take};
+
+pub use checksum::Sum8;
+pub use crc::Crc16;
+pub use table::CRC_TABLE;
+
+/// A check that is computed byte by byte.
+pub trait Check: Drop {
+    /// How many bytes of a packet the check takes, at most 2.
+    const SIZE: usize;
+
+    ghost SIZE: { ℕ };
+
+    /// The check of bytes, as sent.
+    ghost check: { List ℕ → List ℕ };
+
+    /// The state that has taken these bytes, in order.
+    ghost Took: { Self → List ℕ → Type 0 };
+
+    /// The check of no bytes.
+    fn start() -> Self
+        ensures { Took result [] };
+
+    /// Adds the next byte.
+    fn add(&mut self, byte: u8)
+        ensures { (bytes : List ℕ) → Took self.old bytes → Took self.new (bytes ++ byte ∷ []) };
+
+    /// The check of the bytes that were added, in its first `SIZE` bytes, in the order in which they are sent.
+    fn spell(&self) -> [u8; 2]
+        ensures { (bytes : List ℕ) → Took self.now bytes → take SIZE result ≡ check bytes };
+
+    ghost check_size: { (bytes : List ℕ) → length (check bytes) ≡ SIZE };
+
+    ghost size_fits: { SIZE ≤ 2 };
+}
+
+/// The check of `bytes`, in its first `SIZE` bytes, in the order in which they are sent.
+pub fn check_of<C: Check>(bytes: &[u8]) -> [u8; 2]
+    ensures { take C.SIZE result ≡ C.check bytes.now }
 {
+    let mut check = C::start();
+    for byte in bytes {
+        check.add(*byte);
+    }
+    check.spell()
 }

@@ -1,7 +1,7 @@
 -- The items that bytes decide, one behind the other.
-use Rattle.std.specs.Prelude.{ℕ, zero, suc, Bool, true, List, [], ◌∷◌, length, drop}
+use Rattle.std.specs.Prelude.{ℕ, zero, suc, Bool, true, false, List, [], ◌∷◌, length, drop}
 use Rattle.std.specs.Option.{option_map_or}
-use Rattle.osdp_frame.specs.Reading.{Part, part_size}
+use Rattle.osdp_frame.specs.Reading.{Part, part_size, total_size, IsFirst, IsUndecided}
 use Rattle.osdp_frame.specs.Held.{decided}
 
 -- at most `most` of them
@@ -17,3 +17,13 @@ items ended bytes = items_within (length bytes) ended bytes
 -- the reading of a run, as a function of it
 abbrev pub reading : List ℕ → List Part
 reading run = items true run
+
+-- what is left behind the items that bytes decide in a run that goes on
+unfoldable pub left_over : List ℕ → List ℕ
+left_over bytes = drop (total_size (items false bytes)) bytes
+
+-- what a caller sees who takes item after item off until none is shown
+abbrev pub Drains : Bool → List ℕ → List Part → Type 0
+Drains ended bytes [] = IsUndecided ended bytes
+Drains ended bytes (part ∷ parts) =
+    IsFirst ended bytes part × Drains ended (drop (part_size part) bytes) parts

@@ -20,6 +20,11 @@ part_size (Whole p) = packet_length p
 part_size (Passed b) = 1
 part_size (Bad f) = 1
 
+-- how many bytes items take together
+abbrev pub total_size : List Part → ℕ
+total_size [] = 0
+total_size (part ∷ parts) = part_size part + total_size parts
+
 -- the packet stands at the head of the rest
 pub record Begins (p : Packet) (rest : List ℕ) : Type 0 where
   pub bytes : List ℕ

@@ -1,0 +1,52 @@
+//! The one-byte check.
+
+ghost use Rattle.std.specs.Prelude.{◌≡◌, ℕ, ◌%◌, List, ◌++◌, ◌∷◌, [], take, slice_index, sum, refl};
+ghost use Rattle.std.proofs.Common.{lit≤};
+ghost use Rattle.osdp_check.specs.Checksum.{checksum_bytes};
+
+use super::Check;
+use std::marker::Model;
+
+/// The checksum of the bytes that were added: the byte that makes their sum a multiple of 256.
+#[derive(Clone, Copy, Debug, PartialEq, Eq)]
+pub struct Sum8 {
+    sum: u8,
+}
+
+impl Model for Sum8 {
+    ghost Value = { ℕ };
+
+    ghost view = { λ s. s.sum };
+
+    ghost inverse = { λ n. record { sum = n } };
+}
+
+impl Check for Sum8 {
+    const SIZE: usize = 1;
+
+    ghost SIZE = { 1 };
+
+    ghost check = { checksum_bytes };
+
+    ghost Took = { λ state bytes. state ≡ sum bytes % 256 };
+
+    fn start() -> Self {
+        Sum8 { sum: 0 }
+    }
+
+    fn add(&mut self, byte: u8) {
+        self.sum = self.sum.wrapping_add(byte);
+    }
+
+    /// The second byte is 0.
+    fn spell(&self) -> [u8; 2]
+        ensures first { (bytes : List ℕ) → self.now ≡ sum bytes % 256 → take 1 result ≡ checksum_bytes bytes }
+        ensures second { slice_index result 1 ≡ 0 }
+    {
+        [self.sum.wrapping_neg(), 0]
+    }
+
+    ghost check_size = { λ bytes. refl };
+
+    ghost size_fits = { lit≤ tt };
+}

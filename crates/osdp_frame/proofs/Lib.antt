@@ -1,0 +1,4 @@
+pub mod Spelled
+pub mod Head
+pub mod Decided
+pub mod Readings
