@@ -1,0 +1,4 @@
+pub mod Refusal
+pub mod CommandTable
+pub mod ReplyTable
+pub mod Laws
