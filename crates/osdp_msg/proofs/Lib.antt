@@ -1,2 +1,4 @@
 pub mod Table
+pub mod Texts
 pub mod Commands
+pub mod Replies

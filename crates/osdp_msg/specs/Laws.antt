@@ -1,27 +1,43 @@
--- What holds of the tables.
-use Rattle.std.specs.Prelude.{◌≡◌, ◌↔◌, ◌<◌, ◌≤◌, ℕ, List, length, slice_index, Some, Ok, Err}
-use Rattle.osdp_msg.specs.declared.command.Command.{Command}
-use Rattle.osdp_msg.specs.declared.reply.Reply.{Reply}
+-- What holds of a table of messages, and of their texts.
+use Rattle.std.specs.Prelude.{◌≡◌, ◌↔◌, ◌+◌, ◌≤◌, ℕ, List, ◌∷◌, length, map, Option, Some, Result, Ok, Err}
+use Rattle.std.specs.List.{join_with_byte}
+use Rattle.hex.specs.Hex.{IsBytes}
+use Rattle.osdp_words.specs.Word.{Word, AllStandFor, printed}
 use Rattle.osdp_msg.specs.declared.fault.MsgFault.{MsgFault}
-use Rattle.osdp_msg.specs.CommandTable.{CommandFits, IsCommand, command_code, command_data, command_fault, command_of}
-use Rattle.osdp_msg.specs.ReplyTable.{ReplyFits, IsReply, reply_code, reply_data, reply_fault, reply_of}
 
--- each number of the list is a byte
-abbrev pub AreBytes : List ℕ → Type 0
-AreBytes bytes = (i : ℕ) → slice_index bytes i < 256
+-- reading gives a value exactly where the table has it
+abbrev pub ReadsTheTable : {M : Type 0} → (ℕ → List ℕ → M → Type 0) → (ℕ → List ℕ → Result M MsgFault) → Type 0
+ReadsTheTable {M} Is reading =
+    (code : ℕ) (bytes : List ℕ) (m : M) → IsBytes bytes → (reading code bytes ≡ Ok m) ↔ Is code bytes m
 
--- reading gives a command exactly where the table has it
-abbrev pub CommandOfIsTable : Type 0
-CommandOfIsTable = (code : ℕ) (bytes : List ℕ) (m : Command) → AreBytes bytes
-    → (command_of code bytes ≡ Ok m) ↔ IsCommand code bytes m
+-- reading gives a fault exactly where the rule of refusals has it
+abbrev pub ReadsTheFaults : {M : Type 0} → (ℕ → List ℕ → Option MsgFault) → (ℕ → List ℕ → Result M MsgFault) → Type 0
+ReadsTheFaults fault reading =
+    (code : ℕ) (bytes : List ℕ) (e : MsgFault) → (reading code bytes ≡ Err e) ↔ (fault code bytes ≡ Some e)
 
--- reading gives a fault exactly where the refusals have it
-abbrev pub CommandOfIsFault : Type 0
-CommandOfIsFault = (code : ℕ) (bytes : List ℕ) (e : MsgFault)
-    → (command_of code bytes ≡ Err e) ↔ (command_fault code bytes ≡ Some e)
+-- a code and data stand for one value at most
+abbrev pub HasOneValue : {M : Type 0} → (ℕ → List ℕ → M → Type 0) → Type 0
+HasOneValue {M} Is = (code : ℕ) (bytes : List ℕ) (m n : M) → Is code bytes m → Is code bytes n → m ≡ n
 
--- a code and data stand for one command at most, and a command has one code and data
-pub record CommandsAreUnique : Type 0 where
-  pub value : (code : ℕ) (bytes : List ℕ) (m n : Command) → IsCommand code bytes m → IsCommand code bytes n → m ≡ n
-  pub code : (code other : ℕ) (bytes others : List ℕ) (m : Command) → IsCommand code bytes m → IsCommand other others m → code ≡ other
-  pub data_bytes : (code other : ℕ) (bytes others : List ℕ) (m : Command) → IsCommand code bytes m → IsCommand other others m → bytes ≡ others
+-- a value has one code and data
+abbrev pub HasOneSpelling : {M : Type 0} → (ℕ → List ℕ → M → Type 0) → Type 0
+HasOneSpelling {M} Is =
+    (code other : ℕ) (bytes others : List ℕ) (m : M) → Is code bytes m → Is other others m → (code ≡ other) × (bytes ≡ others)
+
+-- a code and data in the table are bytes, and have room in a packet, whatever its check
+abbrev pub FitsAPacket : {M : Type 0} → (ℕ → List ℕ → M → Type 0) → Type 0
+FitsAPacket {M} Is =
+    (code : ℕ) (bytes : List ℕ) (m : M) → Is code bytes m → IsBytes (code ∷ bytes) × (1 + length bytes ≤ 1433)
+
+-- a text is the words of the value as printed, joined by single spaces
+abbrev pub JoinsItsWords : {M : Type 0} → (M → List Word) → (M → List ℕ) → Type 0
+JoinsItsWords {M} words text = (m : M) → text m ≡ join_with_byte 32 (map printed (words m))
+
+-- words stand for one value at most
+abbrev pub HasOneMeaning : {M : Type 0} → (M → Type 0) → (M → List Word) → Type 0
+HasOneMeaning {M} Fits words =
+    (given : List (List ℕ)) (m n : M) → Fits m → Fits n → AllStandFor (words m) given → AllStandFor (words n) given → m ≡ n
+
+-- two values with one text are the same
+abbrev pub HasOneText : {M : Type 0} → (M → Type 0) → (M → List ℕ) → Type 0
+HasOneText {M} Fits text = (m n : M) → Fits m → Fits n → text m ≡ text n → m ≡ n

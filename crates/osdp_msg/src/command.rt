@@ -1,10 +1,13 @@
 //! Commands: what the controller sends to a reader.
 
 ghost use Rattle.std.specs.Prelude.{◌≡◌, ◌∷◌, length, Some, Ok, IfOk, IfErr};
+ghost use Rattle.osdp_words.specs.Word.{AllStandFor, texts};
 ghost use Rattle.osdp_msg.specs.CommandTable.{CommandFits, IsCommand, command_code, command_data, command_counts_agree, command_fault, command_length_allowed, command_of, command_at};
+ghost use Rattle.osdp_msg.specs.CommandText.{command_words, command_text};
 
-use crate::fault::{MsgFault, refusal};
+use crate::fault::{BadWords, MsgFault, refusal};
 use arrayvec::ArrayVec;
+use std::fmt;
 
 /// A command. Each value has the lengths and counts of its row in the table of commands.
 #[derive(Debug, Drop, PartialEq)]
@@ -86,6 +89,28 @@ impl Command {
     {
         match self {
             Command::Poll => Command::Poll,
+        }
+    }
+
+    /// The command whose text has these words. The digits of byte lists may have either case.
+    pub fn parse(words: &[&str]) -> Result<Command, BadWords>
+        ensures value { IfOk result (λ m. AllStandFor (command_words m) (texts words.now) × CommandFits m) }
+        ensures only { (m : Command) → CommandFits m → AllStandFor (command_words m) (texts words.now) → result ≡ Ok m }
+    {
+        match words {
+            ["POLL"] => Ok(Command::Poll),
+            _ => Err(BadWords),
+        }
+    }
+}
+
+impl fmt::Display for Command {
+    ghost output = { λ m. Some (command_text m) };
+
+    #[tactic(auto, unfolding(crate::specs::CommandText::command_text))]
+    fn fmt<W: fmt::Write>(&self, f: &mut fmt::Formatter<W>) -> fmt::Result {
+        match self {
+            Command::Poll => f.write_str("POLL"),
         }
     }
 }

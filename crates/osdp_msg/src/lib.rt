@@ -13,7 +13,9 @@ mod reply;
 pub use command::Command;
 pub use fault::{BadWords, MsgFault};
 pub use laws::{
-    command_of_follows_the_fault, command_of_follows_the_table, commands_are_unique,
+    command_of_reads_the_table, command_text_joins_words, command_texts_are_unique,
+    commands_are_unique, commands_fit_a_packet, replies_are_unique, replies_fit_a_packet,
+    reply_of_reads_the_table, reply_text_joins_words, reply_texts_are_unique,
 };
 pub use reply::Reply;
 

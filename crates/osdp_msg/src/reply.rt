@@ -1,10 +1,13 @@
-//! Replys: what a reader answers.
+//! Replies: what a reader answers.
 
 ghost use Rattle.std.specs.Prelude.{◌≡◌, ◌∷◌, length, Some, Ok, IfOk, IfErr};
+ghost use Rattle.osdp_words.specs.Word.{AllStandFor, texts};
 ghost use Rattle.osdp_msg.specs.ReplyTable.{ReplyFits, IsReply, reply_code, reply_data, reply_counts_agree, reply_fault, reply_length_allowed, reply_of, reply_at};
+ghost use Rattle.osdp_msg.specs.ReplyText.{reply_words, reply_text};
 
-use crate::fault::{MsgFault, refusal};
+use crate::fault::{BadWords, MsgFault, refusal};
 use arrayvec::ArrayVec;
+use std::fmt;
 
 /// A reply. Each value has the lengths and counts of its row in the table of replys.
 #[derive(Debug, Drop, PartialEq)]
@@ -86,6 +89,28 @@ impl Reply {
     {
         match self {
             Reply::Ack => Reply::Ack,
+        }
+    }
+
+    /// The reply whose text has these words. The digits of byte lists may have either case.
+    pub fn parse(words: &[&str]) -> Result<Reply, BadWords>
+        ensures value { IfOk result (λ m. AllStandFor (reply_words m) (texts words.now) × ReplyFits m) }
+        ensures only { (m : Reply) → ReplyFits m → AllStandFor (reply_words m) (texts words.now) → result ≡ Ok m }
+    {
+        match words {
+            ["ACK"] => Ok(Reply::Ack),
+            _ => Err(BadWords),
+        }
+    }
+}
+
+impl fmt::Display for Reply {
+    ghost output = { λ m. Some (reply_text m) };
+
+    #[tactic(auto, unfolding(crate::specs::ReplyText::reply_text))]
+    fn fmt<W: fmt::Write>(&self, f: &mut fmt::Formatter<W>) -> fmt::Result {
+        match self {
+            Reply::Ack => f.write_str("ACK"),
         }
     }
 }
