@@ -1,2 +1,3 @@
-pub mod LineText
+pub mod ItemText
 pub mod Tally
+pub mod Told

@@ -2,3 +2,7 @@
 #![tactic(auto)]
 
 mod hex_text;
+mod message_text;
+mod tally;
+
+pub use tally::Tally;
