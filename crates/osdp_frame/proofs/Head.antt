@@ -5,6 +5,8 @@ use Rattle.std.proofs.lemmas.Bool.{cases_lt}
 use Rattle.std.proofs.lemmas.Bool.Decides.{nat_tests}
 use Rattle.std.specs.Str.{bytes_eq}
 use Rattle.std.specs.Bool.{Decides}
+use Rattle.std.specs.List.{between}
+use Rattle.std.proofs.lemmas.Slice.{between_is}
 use Rattle.std.proofs.lemmas.Slice.Eq.{bytes_eq-Decides}
 use Rattle.osdp_frame.specs.declared.check_kind.CheckKind.{CheckKind}
 use Rattle.osdp_frame.specs.declared.check_kind.CheckKind.TheVariants.{Sum, Crc}
@@ -111,12 +113,13 @@ is_checked-Decides rest long =
     let n = count_at rest in
     let m = n - check_size (check_at rest) in
     let check = check_of (check_at rest) (take m rest) in
-    let d = bytes_eq-Decides (drop m (take n rest)) check in
+    let there : between m n rest ≡ drop m (take n rest) = between_is rest m n in
+    let d = bytes_eq-Decides (between m n rest) check in
     let head : take m (take n rest) ≡ take m rest = take-take m n rest (omega arith) in
     let size : length (take m rest) ≡ m = length-take-le m rest (omega arith) in
     let split : take n rest ≡ take m rest ++ drop m (take n rest) = sym (take-append-drop m (take n rest)) ∙ ap (λ l. l ++ drop m (take n rest)) head in (
-      λ e. split ∙ ap (λ l. take m rest ++ l) (d.0 e),
-      λ h. d.1 (ap (drop m) h ∙ drop_at (take m rest) check m size),
+      λ e. split ∙ ap (λ l. take m rest ++ l) (sym there ∙ d.0 e),
+      λ h. d.1 (there ∙ ap (drop m) h ∙ drop_at (take m rest) check m size),
     )
 
 -- the fields are those that the bytes of the head hold

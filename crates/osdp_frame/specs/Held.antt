@@ -1,5 +1,5 @@
 -- What a framer holds, and what it makes of it step by step.
-use Rattle.std.specs.Prelude.{ℕ, ◌+◌, ◌-◌, ◌*◌, ◌/◌, ◌%◌, Bool, true, false, not, ◌&&◌, ◌==◌, nat_lt, if◌then◌else◌, min, List, [], ◌∷◌, ◌++◌, length, take, drop, get_or, Option, Some, None}
+use Rattle.std.specs.Prelude.{ℕ, ◌+◌, ◌-◌, ◌*◌, ◌/◌, ◌%◌, Bool, true, false, not, ◌&&◌, ◌==◌, nat_lt, if◌then◌else◌, min, List, [], ◌∷◌, ◌++◌, length, take, drop, get_or, slice_range, Option, Some, None}
 use Rattle.std.specs.Str.{bytes_eq}
 use Rattle.osdp_frame.specs.declared.check_kind.CheckKind.{CheckKind}
 use Rattle.osdp_frame.specs.declared.check_kind.CheckKind.TheVariants.{Sum, Crc}
@@ -27,7 +27,7 @@ packet_at rest =
 abbrev pub is_checked : List ℕ → Bool
 is_checked rest =
     let checked = count_at rest - check_size (check_at rest) in
-    bytes_eq (drop checked (take (count_at rest) rest)) (check_of (check_at rest) (take checked rest))
+    bytes_eq (slice_range rest checked (count_at rest)) (check_of (check_at rest) (take checked rest))
 
 -- what a byte 53 begins
 abbrev pub begun : Bool → List ℕ → Option Part

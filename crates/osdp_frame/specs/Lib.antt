@@ -6,3 +6,4 @@ pub mod Spelling
 pub mod Reading
 pub mod Held
 pub mod Items
+pub mod First

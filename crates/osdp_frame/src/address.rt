@@ -1,6 +1,6 @@
 //! Addresses of devices on the line.
 
-ghost use Rattle.std.specs.Prelude.{◌≡◌, ◌<◌};
+ghost use Rattle.std.specs.Prelude.{◌≡◌, ◌<◌, ◌%◌};
 ghost use Rattle.std.specs.Option.{SomeIff};
 
 use std::marker::Model;
@@ -37,6 +37,13 @@ impl Address {
         } else {
             None
         }
+    }
+
+    /// The address in the low seven bits of a byte.
+    pub(crate) fn of(byte: u8) -> Address
+        ensures { result ≡ byte % 128 }
+    {
+        Address { value: byte % 128 }
     }
 
     /// The number of this address, 0 to 127.

@@ -1,9 +1,13 @@
 //! A packet that holds its own bytes.
 
-ghost use Rattle.std.specs.Prelude.{◌≡◌, MatchOption};
+ghost use Rattle.std.specs.Prelude.{◌≡◌, ◌≤◌, length};
+ghost use Rattle.std.specs.Option.{SomeIff};
 ghost use Rattle.osdp_frame.specs.Packet.{IsPacket};
+ghost use Rattle.osdp_frame.specs.Packed.{packed};
+ghost use Rattle.osdp_frame.specs.Spelling.{Spells};
 
-use crate::{Address, CheckKind, Seq};
+use crate::bytes::{HEAD, LARGEST, are_bytes};
+use crate::{Address, CheckKind, FrameView, Seq};
 use arrayvec::ArrayVec;
 use std::marker::Model;
 
@@ -32,4 +36,96 @@ impl Model for Frame {
 
     ghost invariant = { λ f.
         IsPacket (packed f.reply f.address f.seq f.check f.block f.reserved f.body.items) };
+}
+
+impl Frame {
+    /// The packet with these fields: `reply` in an answer of a device, `block` where the body begins
+    /// with a security block, `reserved` the four high bits of the control byte, 0 to 15, and the
+    /// body with its code byte first. None where the body is empty, the packet is larger than 1440
+    /// bytes or `reserved` is above 15.
+    pub fn new(
+        reply: bool,
+        address: Address,
+        seq: Seq,
+        check: CheckKind,
+        block: bool,
+        reserved: u8,
+        body: ArrayVec<u8, 1434>,
+    ) -> Option<Frame>
+        ensures { let packet = packed reply address seq check block reserved body.items in
+            SomeIff result (IsPacket packet) packet }
+    {
+        let length = body.len();
+        if length == 0 || HEAD + length + check.size() > LARGEST || reserved > 15 {
+            return None;
+        }
+        are_bytes(body.as_slice());
+        let _ranges = (address.get(), seq.get());
+        Some(Frame {
+            reply,
+            address,
+            seq,
+            check,
+            block,
+            reserved,
+            body,
+        })
+    }
+
+    /// The packet, lent.
+    pub fn view(&self) -> FrameView<'_>
+        ensures { result ≡ self.now }
+    {
+        FrameView::of(
+            self.reply,
+            self.address,
+            self.seq,
+            self.check,
+            self.block,
+            self.reserved,
+            self.body.as_slice(),
+        )
+    }
+
+    /// The bytes of the packet, as they are sent.
+    pub fn encode(&self) -> Burst
+        ensures { Spells self.now result.items }
+    {
+        self.view().encode()
+    }
+
+    /// An equal packet.
+    pub fn copy(&self) -> Frame
+        ensures { result ≡ self.now }
+    {
+        self.view().to_frame()
+    }
+}
+
+/// The same bytes in a body of their own.
+fn body_of(bytes: &[u8]) -> ArrayVec<u8, 1434>
+    requires { length bytes.now ≤ 1434 }
+    ensures { result.items ≡ bytes.now }
+{
+    let mut body = ArrayVec::new();
+    let _ = body.try_extend_from_slice(bytes);
+    body
+}
+
+impl FrameView<'_> {
+    /// An equal packet with a body of its own.
+    pub fn to_frame(&self) -> Frame
+        ensures { result ≡ self.now }
+    {
+        let body = body_of(self.body());
+        Frame {
+            reply: self.is_reply(),
+            address: self.address(),
+            seq: self.seq(),
+            check: self.check(),
+            block: self.has_block(),
+            reserved: self.reserved(),
+            body,
+        }
+    }
 }

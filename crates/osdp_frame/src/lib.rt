@@ -6,15 +6,17 @@
 #![tactic(auto)]
 
 mod address;
+mod bytes;
 mod check_kind;
 mod fault;
+mod first;
 mod frame;
 mod seq;
-
+mod view;
 
 pub use address::Address;
 pub use check_kind::CheckKind;
 pub use fault::FrameFault;
 pub use frame::{Burst, Frame};
 pub use seq::Seq;
-
+pub use view::FrameView;

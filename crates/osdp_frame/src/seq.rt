@@ -1,6 +1,6 @@
 //! Sequence numbers.
 
-ghost use Rattle.std.specs.Prelude.{◌≡◌, ◌<◌};
+ghost use Rattle.std.specs.Prelude.{◌≡◌, ◌<◌, ◌%◌};
 ghost use Rattle.std.specs.Option.{SomeIff};
 ghost use Rattle.osdp_frame.specs.Packet.{next_sequence};
 
@@ -34,6 +34,13 @@ impl Seq {
         } else {
             None
         }
+    }
+
+    /// The sequence number in the low two bits of a byte.
+    pub(crate) fn of(byte: u8) -> Seq
+        ensures { result ≡ byte % 4 }
+    {
+        Seq { value: byte % 4 }
     }
 
     /// The value of this sequence number, 0 to 3.

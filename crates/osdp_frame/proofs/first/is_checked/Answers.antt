@@ -1,0 +1,5 @@
+use Rattle.std.proofs.Common.{◌≡◌}
+use Rattle.osdp_frame.proofs.first.is_checked.Goals as goal
+
+pub returns : goal.returns
+returns c = cc

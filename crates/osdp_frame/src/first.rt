@@ -1,0 +1,136 @@
+//! The first item that bytes decide.
+
+ghost use Rattle.std.specs.Prelude.{◌≡◌, ◌≤◌, length, length as size_of_list};
+ghost use Rattle.osdp_frame.specs.Held.{begun, decided, is_checked, packet_at};
+ghost use Rattle.osdp_frame.specs.Reading.{check_at, count_at};
+ghost use Rattle.osdp_frame.specs.Check.{check_size};
+ghost use Rattle.osdp_frame.specs.First.{part_if, FirstFits, headed, HeadingFits};
+
+use crate::bytes::{HEAD, LARGEST, START_OF_MESSAGE, check_bytes};
+use crate::{Address, CheckKind, FrameFault, Seq};
+use byteorder::{ByteOrder, LittleEndian};
+
+/// What the head of a packet says.
+#[derive(Clone, Copy, Debug)]
+pub struct Heading {
+    pub reply: bool,
+    pub address: Address,
+    pub seq: Seq,
+    pub check: CheckKind,
+    pub block: bool,
+    pub reserved: u8,
+    /// How many bytes the packet has, from the start to the last byte of the check.
+    pub length: usize,
+}
+
+/// The first item, without the bytes of a packet's body.
+#[derive(Clone, Copy, Debug)]
+pub enum First {
+    Packet(Heading),
+    Skipped(u8),
+    Refused(FrameFault),
+}
+
+/// The check that the control byte speaks of.
+fn check_kind(rest: &[u8]) -> CheckKind
+    requires { 5 ≤ length rest.now }
+    ensures { result ≡ check_at rest.now }
+{
+    if rest[4] / 4 % 2 == 0 {
+        CheckKind::Sum
+    } else {
+        CheckKind::Crc
+    }
+}
+
+/// The count of the packet's bytes.
+fn count(rest: &[u8]) -> usize
+    requires { 5 ≤ length rest.now }
+    ensures { result ≡ count_at rest.now }
+{
+    usize::from(LittleEndian::read_u16(&[rest[2], rest[3]]))
+}
+
+/// Whether the bytes of the packet end with the check of those before it.
+fn is_checked(rest: &[u8], check: CheckKind, length: usize) -> bool
+    requires check { check ≡ check_at rest.now }
+    requires count { length ≡ count_at rest.now }
+    requires some { check_size check ≤ length }
+    requires there { length ≤ size_of_list rest.now }
+    ensures { result ≡ is_checked rest.now }
+{
+    let checked = length - check.size();
+    let expected = check_bytes(check, &rest[..checked]);
+    rest[checked..length] == expected[..check.size()]
+}
+
+/// What the head of the rest says, where its count and its check are well.
+fn heading_at(rest: &[u8], check: CheckKind, length: usize) -> Heading
+    requires head { 5 ≤ size_of_list rest.now }
+    requires check { check ≡ check_at rest.now }
+    requires count { length ≡ count_at rest.now }
+    ensures packet { headed result rest.now ≡ packet_at rest.now }
+    ensures check { result.check ≡ check }
+    ensures length { result.length ≡ length }
+{
+    let control = rest[4];
+    Heading {
+        reply: rest[1] > 127,
+        address: Address::of(rest[1]),
+        seq: Seq::of(control),
+        check,
+        block: control / 8 % 2 == 1,
+        reserved: control / 16,
+        length,
+    }
+}
+
+/// What a start of message begins. A packet's check is computed only where its bytes are there.
+fn begun(rest: &[u8], ended: bool) -> Option<First>
+    requires { 1 ≤ length rest.now }
+    ensures part { part_if result rest.now ≡ begun ended rest.now }
+    ensures fits { FirstFits (length rest.now) result }
+{
+    let at_end = if ended {
+        Some(First::Refused(FrameFault::Ended))
+    } else {
+        None
+    };
+    if rest.len() < HEAD {
+        return at_end;
+    }
+    let check = check_kind(rest);
+    let length = count(rest);
+    if length < HEAD + 1 + check.size() {
+        return Some(First::Refused(FrameFault::TooShort));
+    }
+    if length > LARGEST {
+        return Some(First::Refused(FrameFault::TooLong));
+    }
+    if rest.len() < length {
+        return at_end;
+    }
+    if is_checked(rest, check, length) {
+        Some(First::Packet(heading_at(rest, check, length)))
+    } else {
+        Some(First::Refused(FrameFault::BadCheck))
+    }
+}
+
+/// The first item of the rest of a run, where these bytes of it decide it.
+#[tactic(auto, unfolding(crate::specs::Held::decided))]
+pub fn first_item(rest: &[u8], ended: bool) -> Option<First>
+    ensures part { part_if result rest.now ≡ decided ended rest.now }
+    ensures fits { FirstFits (length rest.now) result }
+{
+    match rest {
+        [] => None,
+        [start, ..] => {
+            if *start == START_OF_MESSAGE {
+                begun(rest, ended)
+            } else {
+                Some(First::Skipped(*start))
+            }
+        }
+    }
+}
