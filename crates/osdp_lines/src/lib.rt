@@ -2,7 +2,9 @@
 #![tactic(auto)]
 
 mod hex_text;
+mod item_text;
 mod message_text;
+mod packet_text;
 mod tally;
 
 pub use tally::Tally;
