@@ -1,10 +1,11 @@
 -- Long division: it goes bit by bit, and what is left is what the division leaves.
-use Rattle.std.proofs.Common.{◌≡◌, ℕ, zero, suc, ◌+◌, ◌-◌, ◌*◌, ◌/◌, ◌%◌, ◌^◌, ◌<◌, ◌≤◌, refl, sym, ap, subst, ◌∙◌, arith, zero-add, add-zero}
+use Rattle.std.proofs.Common.{◌≡◌, ℕ, zero, suc, ◌+◌, ◌-◌, ◌*◌, ◌/◌, ◌%◌, ◌^◌, ◌<◌, ◌≤◌, refl, sym, ap, subst, ◌∙◌, inl, inr, arith, zero-add, add-zero}
 use Rattle.std.proofs.Math.Nat.{zero-mul, one-mul, suc-add, mul_assoc, mod-eq_of_lt, pow-suc}
 use Rattle.std.specs.Int.{bit_at}
 use Rattle.std.specs.Int.Bits.{bit_xor, xor_self, xor_zero_l, xor_zero_r}
 use Rattle.std.proofs.lemmas.Nat.{pow_pos, pow-add, xor_lt, xor_block, mul-le, pow_below, shr_split, shr_below, mod_below, mul-add-lt}
-use Rattle.std.proofs.lemmas.Nat.Bits.{bit_at_xor, bit_at-lt, bit_at_above, bit_at_lowest, bit_at_cat_low, bit_at_cat_high}
+use Rattle.std.proofs.lemmas.Nat.Bits.{bit_at_xor, bit_at-lt, bit_at_above, bit_at_lowest, bit_at-pow_same, bit_at-pow_other, bit_at_cat_low, bit_at_cat_high}
+use Rattle.std.proofs.lemmas.Bool.{cases_lt}
 use Rattle.osdp_check.specs.Crc.{divisor, remainder, product, IsRemainder}
 use Rattle.osdp_check.proofs.Xor.{xor_last, xor_middle, xor_twice, xor-shl, bit_at-shl, bit_at_xor-mul}
 
@@ -153,6 +154,45 @@ remainder-product (suc k) q =
     remainder-xor (suc k) (product k q divisor) top
     ∙ ap (λ n. bit_xor n (remainder (suc k) top)) (remainder_top k (product k q divisor) (product-lt k q) ∙ remainder-product k q)
     ∙ ap (bit_xor 0) (remainder-times k (bit_at q k) (bit_at-lt q k))
+
+-- ---- the product is linear in its number, and shifts at a power of two
+
+pub product-xor : (k a b f : ℕ) → product k (bit_xor a b) f ≡ bit_xor (product k a f) (product k b f)
+unfolding product
+product-xor zero a b f = refl
+product-xor (suc k) a b f =
+    ap (bit_xor (product k (bit_xor a b) f)) (bit_at_xor-mul a b k (f * 2 ^ k))
+    ∙ ap (λ n. bit_xor n (bit_xor (bit_at a k * (f * 2 ^ k)) (bit_at b k * (f * 2 ^ k)))) (product-xor k a b f)
+    ∙ xor_middle (product k a f) (product k b f) (bit_at a k * (f * 2 ^ k)) (bit_at b k * (f * 2 ^ k))
+
+product_other : (k n f : ℕ) → bit_at n k ≡ 0 → product (suc k) n f ≡ product k n f
+unfolding product
+product_other k n f e =
+    ap (λ b. bit_xor (product k n f) (b * (f * 2 ^ k))) e ∙ ap (bit_xor (product k n f)) (zero-mul (f * 2 ^ k))
+    ∙ xor_zero_r (product k n f)
+
+product-pow_below : (i k f : ℕ) → i ≤ k → product i (2 ^ k) f ≡ 0
+unfolding product
+product-pow_below zero k f h = refl
+product-pow_below (suc i) k f h =
+    product_other i (2 ^ k) f (bit_at-pow_other k i (omega arith)) ∙ product-pow_below i k f (omega arith)
+
+product-pow_last : (i k f : ℕ) → i ≡ k → product (suc i) (2 ^ k) f ≡ f * 2 ^ k
+unfolding product
+product-pow_last i k f e =
+    ap (λ n. bit_xor n (bit_at (2 ^ k) i * (f * 2 ^ i))) (product-pow_below i k f (omega arith))
+    ∙ ap (λ j. bit_xor 0 (bit_at (2 ^ k) j * (f * 2 ^ j))) e
+    ∙ ap (λ b. bit_xor 0 (b * (f * 2 ^ k))) (bit_at-pow_same k) ∙ xor_zero_l (1 * (f * 2 ^ k))
+    ∙ one-mul (f * 2 ^ k)
+
+pub product-pow : (i k f : ℕ) → k < i → product i (2 ^ k) f ≡ f * 2 ^ k
+unfolding product
+product-pow zero k f h = absurd (omega arith)
+product-pow (suc i) k f h =
+    elim (cases_lt k i) [
+      | inl below ↦ product_other i (2 ^ k) f (bit_at-pow_other k i (omega arith)) ∙ product-pow i k f below
+      | inr above ↦ product-pow_last i k f (omega arith)
+    ]
 
 -- only the low bits of a factor count
 product-low : (i k d q f : ℕ) → i ≤ k → product i (d * 2 ^ k + q) f ≡ product i q f

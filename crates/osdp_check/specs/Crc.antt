@@ -20,7 +20,7 @@ unfoldable pub bits_of : List ℕ → ℕ
 bits_of [] = 0
 bits_of (b ∷ bytes) = b * 2 ^ (8 * length bytes) + bits_of bytes
 
--- Long division: from the highest place down, the divisor goes under each bit that is left, and is taken away.
+-- Long division: from the highest place down, the divisor is taken away at each place where a bit is left.
 unfoldable pub remainder : ℕ → ℕ → ℕ
 remainder zero dividend = dividend
 remainder (suc place) dividend =
@@ -40,7 +40,7 @@ crc bytes = crc_from initial bytes
 abbrev pub crc_bytes : List ℕ → List ℕ
 crc_bytes bytes = (crc bytes % 256) ∷ (crc bytes / 256) ∷ []
 
--- the product of two polynomials: factor at each of the lowest places where number has a bit, all added up
+-- the product of two polynomials: factor, moved to each of the lowest places where number has a bit, all added up
 unfoldable pub product : ℕ → ℕ → ℕ → ℕ
 product zero number factor = 0
 product (suc place) number factor =

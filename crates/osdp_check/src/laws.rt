@@ -2,13 +2,20 @@
 
 ghost use Rattle.std.specs.Prelude.{◌≡◌, ℕ, ◌+◌, ◌*◌, ◌<◌, ◌^◌, ◌↔◌, List, [], ◌∷◌, ◌++◌, length, slice_index, bit_xor};
 ghost use Rattle.osdp_check.specs.Checksum.{IsChecksum, checksum};
-ghost use Rattle.osdp_check.specs.Crc.{IsBytes, IsCrc, IsRemainder, bits_of, crc, crc_from, initial, remainder};
+ghost use Rattle.osdp_check.specs.Crc.{IsBytes, IsCrc, IsRemainder, bits_of, crc, crc_from, initial, product, remainder};
 
 use super::CRC_TABLE;
 
 /// Bytes have one checksum, and only that byte.
 pub fn one_checksum()
     ensures { (bytes : List ℕ) (check : ℕ) → IsChecksum bytes check ↔ (check ≡ checksum bytes) }
+{}
+
+/// The product of two polynomials adds up over the powers in its number, and a power moves the factor.
+pub fn products()
+    ensures power { (places k factor : ℕ) → k < places → product places (2 ^ k) factor ≡ factor * 2 ^ k }
+    ensures added { (places a b factor : ℕ) →
+        product places (bit_xor a b) factor ≡ bit_xor (product places a factor) (product places b factor) }
 {}
 
 /// Long division leaves the one number below 2^16 that differs from the dividend by a multiple of the divisor.

@@ -171,13 +171,12 @@ front_at (s ∷ a ∷ low ∷ high ∷ c ∷ tail) h =
     let m = n - check_size (check_at rest) in
     let shape : m ≡ suc (suc (suc (suc (suc (m - 5))))) = omega (arith, h.not_short) in
     let taken : take m rest ≡ s ∷ a ∷ low ∷ high ∷ c ∷ take (m - 5) tail = ap (λ k. take k rest) shape in
-    let body : drop 5 (take m rest) ≡ take (m - 5) tail = ap (drop 5) taken in
     let low-is : n % 256 ≡ low = omega (arith, h.bytes 2) in
     let high-is : n / 256 ≡ high = omega (arith, h.bytes 2, h.bytes 3) in
     let address = address_of a (h.bytes 1) in
     let control = control_of c in
     let start : start_of_message ≡ s = sym h.start in
-    (λ i. start i ∷ address i ∷ low-is i ∷ high-is i ∷ control i ∷ body i) ∙ sym taken
+    (λ i. start i ∷ address i ∷ low-is i ∷ high-is i ∷ control i ∷ take (m - 5) tail) ∙ sym taken
 
 pub Spells-packet_at : (rest : List ℕ) → IsHead rest → IsChecked rest → Spells (packet_at rest) (take (count_at rest) rest)
 Spells-packet_at rest h checked =
@@ -185,13 +184,13 @@ Spells-packet_at rest h checked =
     let m = n - check_size (check_at rest) in
     let size : length (take n rest) ≡ n = length-take-le n rest h.there in
     let front-is = front_at rest h in
-    let body-size : length (drop 5 (take m rest)) ≡ m - 5 = omega (arith, length-drop 5 (take m rest), length-take m rest, h.there) in
+    let body-size : length (take (m - 5) (drop 5 rest)) ≡ m - 5 = omega (arith, length-take (m - 5) (drop 5 rest), length-drop 5 rest, h.there) in
     record {
       fits = record {
         address = omega arith;
         sequence = omega arith;
         reserved = omega (arith, h.bytes 4);
-        body = AreBytes-drop 5 (take m rest) (AreBytes-take m rest h.bytes);
+        body = AreBytes-take (m - 5) (drop 5 rest) (AreBytes-drop 5 rest h.bytes);
         code = omega (arith, h.not_short);
         room = omega (arith, h.not_short, h.not_long);
       };
@@ -201,7 +200,7 @@ Spells-packet_at rest h checked =
 pub packet_length-packet_at : (rest : List ℕ) → IsHead rest → packet_length (packet_at rest) ≡ count_at rest
 packet_length-packet_at rest h =
     let m = count_at rest - check_size (check_at rest) in
-    omega (arith, length-drop 5 (take m rest), length-take m rest, h.there, h.not_short)
+    omega (arith, length-take (m - 5) (drop 5 rest), length-drop 5 rest, h.there, h.not_short)
 
 pub Begins-packet_at : (rest more : List ℕ) → IsHead rest → IsChecked rest → Begins (packet_at rest) (rest ++ more)
 Begins-packet_at rest more h checked = record {

@@ -2,3 +2,4 @@ pub mod Spelled
 pub mod Head
 pub mod Decided
 pub mod Readings
+pub mod FirstItems

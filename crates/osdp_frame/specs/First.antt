@@ -1,5 +1,5 @@
 -- What is kept of the first item, beside the bytes that it stands in.
-use Rattle.std.specs.Prelude.{ℕ, ◌+◌, ◌-◌, ◌≤◌, List, drop, take, Option, Some, None}
+use Rattle.std.specs.Prelude.{ℕ, ◌+◌, ◌-◌, ◌≤◌, List, slice_range, Option, Some, None}
 use Rattle.osdp_frame.specs.declared.first.First.{First}
 use Rattle.osdp_frame.specs.declared.first.First.TheVariants.{Packet, Skipped, Refused}
 use Rattle.osdp_frame.specs.declared.first.Heading.{Heading}
@@ -12,7 +12,7 @@ use Rattle.osdp_frame.specs.Reading.{Part, Whole, Passed, Bad}
 abbrev pub headed : Heading → List ℕ → packets.Packet
 headed h rest =
     packed h.reply h.address h.seq h.check h.block h.reserved
-    (drop 5 (take (h.length - check_size h.check) rest))
+    (slice_range rest 5 (h.length - check_size h.check))
 
 -- the item in these bytes
 abbrev pub part_in : First → List ℕ → Part

@@ -21,7 +21,7 @@ abbrev pub packet_at : List ℕ → Packet
 packet_at rest =
     packed (nat_lt 127 (get_or rest 1 0)) (get_or rest 1 0 % 128) (get_or rest 4 0 % 4) (check_at rest)
     (get_or rest 4 0 / 8 % 2 == 1) (get_or rest 4 0 / 16)
-    (drop 5 (take (count_at rest - check_size (check_at rest)) rest))
+    (slice_range rest 5 (count_at rest - check_size (check_at rest)))
 
 -- whether the bytes that the count speaks of end with the check of those before it
 abbrev pub is_checked : List ℕ → Bool

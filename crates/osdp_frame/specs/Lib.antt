@@ -7,3 +7,5 @@ pub mod Reading
 pub mod Held
 pub mod Items
 pub mod First
+pub mod Shown
+pub mod Framed

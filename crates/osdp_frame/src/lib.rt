@@ -11,6 +11,8 @@ mod check_kind;
 mod fault;
 mod first;
 mod frame;
+mod framer;
+mod item;
 mod seq;
 mod view;
 
@@ -18,5 +20,7 @@ pub use address::Address;
 pub use check_kind::CheckKind;
 pub use fault::FrameFault;
 pub use frame::{Burst, Frame};
+pub use framer::Framer;
+pub use item::{Item, ReadItem};
 pub use seq::Seq;
 pub use view::FrameView;

@@ -1,0 +1,84 @@
+//! The items of a run's reading, as callers see them.
+
+ghost use Rattle.std.specs.Prelude.{◌≡◌, ◌<◌, Bool, Some, true, length, drop};
+ghost use Rattle.osdp_frame.specs.First.{FirstFits, HeadingFits, headed, part_if, part_in};
+ghost use Rattle.osdp_frame.specs.Packet.{IsPacket};
+ghost use Rattle.osdp_frame.specs.Held.{decided};
+ghost use Rattle.osdp_frame.specs.Reading.{Stands, part_size};
+
+use crate::bytes::{HEAD, are_bytes};
+use crate::first::{First, Heading, first_item};
+use crate::{Frame, FrameFault, FrameView};
+
+/// One item of a run: the first of what is left of it.
+#[derive(Debug, Drop)]
+pub enum Item<'a> {
+    /// A packet stands here.
+    Packet(FrameView<'a>),
+    /// A byte other than 53, which begins no packet.
+    Skipped(u8),
+    /// A byte 53 at which no packet begins.
+    Refused(FrameFault),
+}
+
+impl Item<'_> {
+    ghost use Rattle.osdp_frame.specs.Shown.{part_of};
+
+    /// How many bytes of the run it takes: those of the packet, else 1.
+    pub fn size(&self) -> usize
+        ensures { result ≡ part_size (part_of self.now) }
+    {
+        match self {
+            Item::Packet(packet) => HEAD + packet.body().len() + packet.check().size(),
+            Item::Skipped(_) | Item::Refused(_) => 1,
+        }
+    }
+}
+
+/// One item of a run, with a packet of its own.
+#[derive(Debug, Drop)]
+pub enum ReadItem {
+    /// A packet stands here.
+    Packet(Frame),
+    /// A byte other than 53, which begins no packet.
+    Skipped(u8),
+    /// A byte 53 at which no packet begins.
+    Refused(FrameFault),
+}
+
+impl First {
+    ghost use Rattle.osdp_frame.specs.Shown.{part_of};
+
+    /// The item, shown in the bytes of which it is the first.
+    pub(crate) fn shown<'a>(&self, rest: &'a [u8]) -> Item<'a>
+        requires fits { FirstFits (length rest.now) (Some self.now) }
+        requires decided { (ended : Bool) × (Some (part_in self.now rest.now) ≡ decided ended rest.now) }
+        ensures { part_of result ≡ part_in self.now rest.now }
+    {
+        match self {
+            First::Packet(heading) => Item::Packet(heading.shown(rest)),
+            First::Skipped(byte) => Item::Skipped(*byte),
+            First::Refused(fault) => Item::Refused(*fault),
+        }
+    }
+}
+
+impl Heading {
+    /// The packet of this heading at the head of the bytes.
+    fn shown<'a>(&self, rest: &'a [u8]) -> FrameView<'a>
+        requires fits { HeadingFits (length rest.now) self.now }
+        requires packet { IsPacket (headed self.now rest.now) }
+        ensures { result ≡ headed self.now rest.now }
+    {
+        let body = &rest[HEAD..self.length - self.check.size()];
+        FrameView::of(
+            self.reply,
+            self.address,
+            self.seq,
+            self.check,
+            self.block,
+            self.reserved,
+            body,
+        )
+    }
+}
