@@ -1,5 +1,5 @@
 -- Where the text stands, and what has been counted.
-use Rattle.std.specs.Prelude.{ℕ, ◌+◌, ◌==◌, ◌<◌, Bool, if◌then◌else◌, List, [], ◌∷◌}
+use Rattle.std.specs.Prelude.{ℕ, ◌+◌, ◌==◌, Bool, if◌then◌else◌, List, [], ◌∷◌}
 use Rattle.osdp_frame.specs.Packet.{packet_length}
 use Rattle.osdp_frame.specs.Reading.{Part, Whole, Passed, Bad, part_size}
 use Rattle.osdp_lines.specs.declared.tally.Tally.{Tally}
@@ -32,9 +32,6 @@ after_parts tally (part ∷ parts) = after_parts (after_part tally part) parts
 abbrev pub after_run : Tally → Tally
 after_run tally = if tally.place == 0 then tally else record tally { runs = tally.runs + 1; place = 0 }
 
--- no count is past this number
-pub record IsWithin (bound : ℕ) (tally : Tally) : Type 0 where
-  pub runs : tally.runs + tally.place < bound
-  pub packets : tally.packets < bound
-  pub skipped : tally.skipped < bound
-  pub refused : tally.refused < bound
+-- all counts together
+abbrev pub counted : Tally → ℕ
+counted tally = tally.runs + (tally.place + (tally.packets + (tally.skipped + tally.refused)))

@@ -6,5 +6,8 @@ mod item_text;
 mod message_text;
 mod packet_text;
 mod tally;
+mod telling;
 
+pub use item_text::push_end;
 pub use tally::Tally;
+pub use telling::tell;

@@ -1,5 +1,7 @@
 //! Where the text stands, and what has been counted.
 
+ghost use Rattle.std.specs.Prelude.{◌≡◌, ◌+◌, ◌<◌, ◌^◌};
+
 /// What the lines so far have told of the runs.
 #[derive(Clone, Copy, Debug, PartialEq, Eq)]
 pub struct Tally {
@@ -13,4 +15,33 @@ pub struct Tally {
     pub skipped: u64,
     /// The refusals of all runs.
     pub refused: u64,
+}
+
+impl Tally {
+    ghost use Rattle.osdp_lines.specs.Tally.{no_tally, after_run};
+
+    /// Nothing has come.
+    pub fn new() -> Tally
+        ensures { result ≡ no_tally }
+    {
+        Tally {
+            runs: 0,
+            place: 0,
+            packets: 0,
+            skipped: 0,
+            refused: 0,
+        }
+    }
+
+    /// The run has ended; one without bytes isn't counted.
+    pub fn end_run(&mut self)
+        requires { self.old.runs + 1 < 2 ^ 64 }
+        ensures { self.new ≡ after_run self.old }
+    {
+        if self.place == 0 {
+            return;
+        }
+        self.runs += 1;
+        self.place = 0;
+    }
 }
