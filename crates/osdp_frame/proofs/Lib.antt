@@ -3,3 +3,4 @@ pub mod Head
 pub mod Decided
 pub mod Readings
 pub mod FirstItems
+pub mod Framing

@@ -1,8 +1,8 @@
 -- The items that callers see.
 use Rattle.osdp_frame.specs.declared.item.Item.{Item}
 use Rattle.osdp_frame.specs.declared.item.Item.TheVariants as shown
-use Rattle.osdp_frame.specs.declared.item.ReadItem.{ReadItem}
-use Rattle.osdp_frame.specs.declared.item.ReadItem.TheVariants as owned
+use Rattle.osdp_frame.specs.declared.read.ReadItem.{ReadItem}
+use Rattle.osdp_frame.specs.declared.read.ReadItem.TheVariants as owned
 use Rattle.osdp_frame.specs.Reading.{Part, Whole, Passed, Bad}
 
 -- the item of a reading that is shown

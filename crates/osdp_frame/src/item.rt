@@ -1,14 +1,14 @@
 //! The items of a run's reading, as callers see them.
 
-ghost use Rattle.std.specs.Prelude.{◌≡◌, ◌<◌, Bool, Some, true, length, drop};
+ghost use Rattle.std.specs.Prelude.{◌≡◌, ◌<◌, ◌≤◌, ℕ, Bool, List, Some, true, length};
 ghost use Rattle.osdp_frame.specs.First.{FirstFits, HeadingFits, headed, part_if, part_in};
 ghost use Rattle.osdp_frame.specs.Packet.{IsPacket};
 ghost use Rattle.osdp_frame.specs.Held.{decided};
-ghost use Rattle.osdp_frame.specs.Reading.{Stands, part_size};
+ghost use Rattle.osdp_frame.specs.Reading.{part_size};
 
-use crate::bytes::{HEAD, are_bytes};
-use crate::first::{First, Heading, first_item};
-use crate::{Frame, FrameFault, FrameView};
+use crate::bytes::HEAD;
+use crate::first::{First, Heading};
+use crate::{FrameFault, FrameView};
 
 /// One item of a run: the first of what is left of it.
 #[derive(Debug, Drop)]
@@ -35,19 +35,19 @@ impl Item<'_> {
     }
 }
 
-/// One item of a run, with a packet of its own.
-#[derive(Debug, Drop)]
-pub enum ReadItem {
-    /// A packet stands here.
-    Packet(Frame),
-    /// A byte other than 53, which begins no packet.
-    Skipped(u8),
-    /// A byte 53 at which no packet begins.
-    Refused(FrameFault),
-}
-
 impl First {
     ghost use Rattle.osdp_frame.specs.Shown.{part_of};
+
+    /// How many bytes it takes of those that it stands in.
+    pub(crate) fn size(&self) -> usize
+        ensures size { (rest : List ℕ) → FirstFits (length rest) (Some self.now) → part_size (part_in self.now rest) ≡ result }
+        ensures within { (count : ℕ) → FirstFits count (Some self.now) → result ≤ count }
+    {
+        match self {
+            First::Packet(heading) => heading.length,
+            First::Skipped(_) | First::Refused(_) => 1,
+        }
+    }
 
     /// The item, shown in the bytes of which it is the first.
     pub(crate) fn shown<'a>(&self, rest: &'a [u8]) -> Item<'a>

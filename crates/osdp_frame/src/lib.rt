@@ -13,6 +13,7 @@ mod first;
 mod frame;
 mod framer;
 mod item;
+mod read;
 mod seq;
 mod view;
 
@@ -21,6 +22,7 @@ pub use check_kind::CheckKind;
 pub use fault::FrameFault;
 pub use frame::{Burst, Frame};
 pub use framer::Framer;
-pub use item::{Item, ReadItem};
+pub use item::Item;
+pub use read::{ReadItem, read_at};
 pub use seq::Seq;
 pub use view::FrameView;

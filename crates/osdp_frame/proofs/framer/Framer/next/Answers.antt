@@ -1,0 +1,17 @@
+use Rattle.std.proofs.Common.{sym, refl, subst}
+use Rattle.std.specs.Prelude.{IsNone}
+use Rattle.osdp_frame.specs.Shown.{part_of}
+use Rattle.osdp_frame.proofs.Framing.{shown_first, shown_none, shown_some}
+use Rattle.osdp_frame.proofs.framer.Framer.next.Goals as goal
+
+pub returns-in_err-first-clause-none : goal.returns-in_err-first-clause-none
+returns-in_err-first-clause-none c =
+    (λ _. shown_none c.self.inside c.args.self.now c.self.view_is c.self.invariant c.in_err-first.was, λ _. subst (λ o. IsNone o) (sym c.from_residual.ensures) refl)
+
+pub returns-clause-first : goal.returns-clause-first
+returns-clause-first c =
+    shown_first c.self.inside c.args.self.now c.in_ok-first.first (part_of c.shown.result) c.self.view_is c.self.invariant c.are_bytes.ensures c.in_ok-first.was c.shown.ensures
+
+pub returns-clause-none : goal.returns-clause-none
+returns-clause-none c =
+    (λ e. absurd cc, λ wants. absurd (shown_some c.self.inside c.args.self.now c.in_ok-first.first (part_of c.shown.result) c.self.view_is c.self.invariant c.are_bytes.ensures c.in_ok-first.was c.shown.ensures wants))

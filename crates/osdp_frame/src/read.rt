@@ -1,0 +1,47 @@
+//! Items that hold their own packets.
+
+ghost use Rattle.std.specs.Prelude.{◌≡◌, ◌<◌, length, drop};
+ghost use Rattle.osdp_frame.specs.Reading.{Stands};
+ghost use Rattle.osdp_frame.specs.Shown.{part_of, part_read};
+
+use crate::bytes::are_bytes;
+use crate::first::first_item;
+use crate::item::Item;
+use crate::{Frame, FrameFault};
+
+/// One item of a run, with a packet of its own.
+#[derive(Debug, Drop)]
+pub enum ReadItem {
+    /// A packet stands here.
+    Packet(Frame),
+    /// A byte other than 53, which begins no packet.
+    Skipped(u8),
+    /// A byte 53 at which no packet begins.
+    Refused(FrameFault),
+}
+
+/// The item of `run` at `place`, where the reading has come to it. The run ends with the slice.
+pub fn read_at(run: &[u8], place: usize) -> ReadItem
+    requires { place < length run.now }
+    ensures { Stands (drop place run.now) (part_read result) }
+{
+    let rest = &run[place..];
+    are_bytes(rest);
+    match first_item(rest, true) {
+        Some(first) => first.shown(rest).into_owned(),
+        None => unreachable!(),
+    }
+}
+
+impl Item<'_> {
+    /// The same item with a packet of its own.
+    pub fn into_owned(self) -> ReadItem
+        ensures { part_read result ≡ part_of self.entry }
+    {
+        match self {
+            Item::Packet(packet) => ReadItem::Packet(packet.to_frame()),
+            Item::Skipped(byte) => ReadItem::Skipped(byte),
+            Item::Refused(fault) => ReadItem::Refused(fault),
+        }
+    }
+}
