@@ -1,13 +1,10 @@
-// A library with one function.
+//! The program's words: which command they choose, and how it is to read its input.
 #![tactic(auto)]
 
-ghost use Rattle.std.specs.Prelude.{◌≡◌};
-ghost use Rattle.osdp_job.specs.Echo.{echo_of};
+pub mod laws;
+mod options;
+mod types;
+mod words;
 
-// The `ensures` clause is the contract: what `echo` returns is `echo_of` of its argument, a definition
-// in `specs/Echo.antt`, which a caller's clause can cite too.
-pub fn echo(x: usize) -> usize
-    ensures { result ≡ echo_of x }
-{
-    x
-}
+pub use types::{Job, Mode};
+pub use words::job;
