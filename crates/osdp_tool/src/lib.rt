@@ -1,13 +1,8 @@
-// A library with one function.
+//! The commands `show` and `check`.
 #![tactic(auto)]
 
-ghost use Rattle.std.specs.Prelude.{◌≡◌};
-ghost use Rattle.osdp_tool.specs.Echo.{echo_of};
+mod report;
+mod runs;
 
-// The `ensures` clause is the contract: what `echo` returns is `echo_of` of its argument, a definition
-// in `specs/Echo.antt`, which a caller's clause can cite too.
-pub fn echo(x: usize) -> usize
-    ensures { result ≡ echo_of x }
-{
-    x
-}
+pub use osdp_job::{Job, Mode, job};
+pub use osdp_stream::{ToolFault, Watched};

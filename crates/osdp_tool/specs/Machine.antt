@@ -1,0 +1,60 @@
+-- The state of a capture that is read, step by step.
+use Rattle.std.specs.Prelude.{◌≡◌, ℕ, ◌+◌, ◌*◌, ◌<◌, ◌≤◌, Bool, true, false, List, [], ◌∷◌, ◌++◌, length, drop, string_bytes, Option, Some, None, Result, Ok, Err}
+use Rattle.std.specs.Io.KnownBytes.{Appends, append_known}
+use Rattle.osdp_frame.specs.Reading.{Part, total_size}
+use Rattle.osdp_frame.specs.Held.{Held, decided}
+use Rattle.osdp_frame.specs.Bytes.{AreBytes}
+use Rattle.osdp_frame.specs.Items.{items, left_over}
+use Rattle.osdp_lines.specs.Tally.{after_parts, counted}
+use Rattle.osdp_lines.specs.Told.{parts_lines}
+use Rattle.osdp_stream.specs.declared.fault.ToolFault.{ToolFault}
+use Rattle.osdp_stream.specs.declared.fault.ToolFault.TheVariants.{NotHex, TooLong, BadWords, BadStep}
+use Rattle.osdp_stream.specs.declared.fault.ToolFault.TheVariants.{HoldsPacket, NotQuiet, ReadFailed}
+use Rattle.osdp_stream.specs.declared.fault.ToolFault.TheVariants.{WriteFailed, NoMemory}
+use Rattle.osdp_tool.specs.declared.report.Report.{Report}
+
+-- what was written and what waits to be
+abbrev pub told : Option (List ℕ) → Report → Option (List ℕ)
+told contents report = append_known contents (string_bytes report.text)
+
+-- a step went well, or told of its output or of memory; the output fails only where that is told
+abbrev pub IsStep : {T : Type 0} → Result T ToolFault → Bool → Bool → Type 0
+IsStep (Ok x) before after = after ≡ before
+IsStep (Err WriteFailed) before after = after ≡ true
+IsStep (Err NoMemory) before after = after ≡ before
+IsStep (Err (NotHex line)) before after = ⊥
+IsStep (Err TooLong) before after = ⊥
+IsStep (Err ReadFailed) before after = ⊥
+IsStep (Err BadWords) before after = ⊥
+IsStep (Err (BadStep line)) before after = ⊥
+IsStep (Err (HoldsPacket step)) before after = ⊥
+IsStep (Err (NotQuiet step)) before after = ⊥
+
+-- the report went on by these items
+pub record Tells (old new : Report) (before after : Option (List ℕ)) (parts : List Part) : Type 0 where
+  pub full : new.full ≡ old.full
+  pub tally : new.tally ≡ after_parts old.tally parts
+  pub lines : Appends before after (parts_lines old.full old.tally parts)
+
+-- what was written changed, and what was told did not
+pub record KeepsReport (old new : Report) : Type 0 where
+  pub full : new.full ≡ old.full
+  pub tally : new.tally ≡ old.tally
+  pub text : string_bytes new.text ≡ []
+
+-- the items that the held bytes decide have been told and taken off, and no other is decided
+pub record Drained (start now : Held) (old new : Report) (before after : Option (List ℕ)) : Type 0 where
+  pub tells : Tells old new before after (items start.ended start.bytes)
+  pub held : now ≡ record { bytes = drop (total_size (items start.ended start.bytes)) start.bytes; ended = false }
+  pub settled : decided false now.bytes ≡ None
+  pub counts : counted new.tally + 5 * length now.bytes ≤ counted old.tally + 5 * length start.bytes
+
+-- some of them have been
+pub record Draining (start now : Held) (old new : Report) (before after : Option (List ℕ)) : Type 0 where
+  pub parts : List Part
+  pub tells : Tells old new before after parts
+  pub whole : items start.ended start.bytes ≡ parts ++ items now.ended now.bytes
+  pub rest : drop (total_size (items now.ended now.bytes)) now.bytes ≡ drop (total_size (items start.ended start.bytes)) start.bytes
+  pub bytes : AreBytes now.bytes
+  pub some : now.ended ≡ true → 0 < length now.bytes
+  pub counts : counted new.tally + 5 * length now.bytes ≤ counted old.tally + 5 * length start.bytes
