@@ -1,6 +1,6 @@
 //! A line of hexadecimal digits.
 
-ghost use Rattle.std.specs.Prelude.{◌≡◌, ◌++◌, ◌*◌, true, false, length, IfOk, OnOk, MatchOption};
+ghost use Rattle.std.specs.Prelude.{◌≡◌, ◌++◌, ◌*◌, ◌≤◌, true, false, length, IfOk, OnOk, MatchOption};
 ghost use Rattle.std.specs.Result.{result_ok};
 ghost use Rattle.hex.specs.Hex.{decode_of};
 ghost use Rattle.osdp_input.specs.Line.{is_blank, kept, said};
@@ -36,7 +36,8 @@ fn decode(characters: &[u8], bytes: &mut [u8]) -> bool
 
 /// Puts what the characters of a line say in place of these bytes; false where the line is bad.
 pub fn read_digits(characters: &[u8], bytes: &mut Vec<u8>) -> Result<bool, AllocError>
-    ensures { IfOk result (λ good. MatchOption (said characters.now) (good ≡ false) (λ read. (good ≡ true) × (bytes.new.items ≡ read))) }
+    ensures read { IfOk result (λ good. MatchOption (said characters.now) (good ≡ false) (λ read. (good ≡ true) × (bytes.new.items ≡ read))) }
+    ensures length { IfOk result (λ good. good ≡ true → 2 * length bytes.new.items ≤ length characters.now) }
 {
     match characters {
         [] | [b'#', ..] => {

@@ -1,2 +1,4 @@
 pub mod Reports
 pub mod Drains
+pub mod Standing
+pub mod Pieces

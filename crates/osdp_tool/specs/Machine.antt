@@ -5,8 +5,9 @@ use Rattle.osdp_frame.specs.Reading.{Part, total_size}
 use Rattle.osdp_frame.specs.Held.{Held, decided}
 use Rattle.osdp_frame.specs.Bytes.{AreBytes}
 use Rattle.osdp_frame.specs.Items.{items, left_over}
+use Rattle.osdp_input.specs.Runs.{closed_runs}
 use Rattle.osdp_lines.specs.Tally.{after_parts, counted}
-use Rattle.osdp_lines.specs.Told.{parts_lines}
+use Rattle.osdp_lines.specs.Told.{parts_lines, tally_so_far, lines_so_far}
 use Rattle.osdp_stream.specs.declared.fault.ToolFault.{ToolFault}
 use Rattle.osdp_stream.specs.declared.fault.ToolFault.TheVariants.{NotHex, TooLong, BadWords, BadStep}
 use Rattle.osdp_stream.specs.declared.fault.ToolFault.TheVariants.{HoldsPacket, NotQuiet, ReadFailed}
@@ -58,3 +59,31 @@ pub record Draining (start now : Held) (old new : Report) (before after : Option
   pub bytes : AreBytes now.bytes
   pub some : now.ended ≡ true → 0 < length now.bytes
   pub counts : counted new.tally + 5 * length now.bytes ≤ counted old.tally + 5 * length start.bytes
+
+-- a run goes on, and none of the held bytes is decided
+pub record IsSettled (held : Held) : Type 0 where
+  pub bytes : AreBytes held.bytes
+  pub goes_on : held.ended ≡ false
+  pub none : decided false held.bytes ≡ None
+
+-- of these runs that have ended and this one that goes on, all items that are decided have been told
+pub record Stands (full : Bool) (start : Option (List ℕ)) (ended : List (List ℕ)) (open_bytes : List ℕ) (held : Held) (report : Report) (now : Option (List ℕ)) : Type 0 where
+  pub full_is : report.full ≡ full
+  pub tally : report.tally ≡ tally_so_far ended open_bytes
+  pub held_is : held ≡ record { bytes = left_over open_bytes; ended = false }
+  pub bytes : AreBytes open_bytes
+  pub lines : Appends start now (lines_so_far full ended open_bytes)
+
+-- the run went on by these bytes
+pub record Took (bytes : List ℕ) (held next : Held) (old new : Report) (before after : Option (List ℕ)) : Type 0 where
+  pub stands : (full : Bool) (start : Option (List ℕ)) (ended : List (List ℕ)) (open_bytes : List ℕ)
+    → Stands full start ended open_bytes held old before → Stands full start ended (open_bytes ++ bytes) next new after
+  pub settled : IsSettled next
+  pub counts : counted new.tally + 5 * length next.bytes ≤ counted old.tally + 5 * (length held.bytes + length bytes)
+
+-- the run ended
+pub record EndedRun (held next : Held) (old new : Report) (before after : Option (List ℕ)) : Type 0 where
+  pub stands : (full : Bool) (start : Option (List ℕ)) (ended : List (List ℕ)) (open_bytes : List ℕ)
+    → Stands full start ended open_bytes held old before → Stands full start (closed_runs ended open_bytes) [] next new after
+  pub settled : IsSettled next
+  pub counts : counted new.tally + 5 * length next.bytes ≤ counted old.tally + 5 * length held.bytes

@@ -1,6 +1,7 @@
 //! The commands `show` and `check`.
 #![tactic(auto)]
 
+mod capture;
 mod report;
 mod runs;
 

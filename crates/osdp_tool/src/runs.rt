@@ -5,7 +5,7 @@ ghost use Rattle.osdp_frame.specs.Bytes.{AreBytes};
 ghost use Rattle.osdp_frame.specs.Held.{decided};
 ghost use Rattle.osdp_lines.specs.Tally.{counted};
 ghost use Rattle.osdp_stream.specs.Watched.{inner_of, has_failed};
-ghost use Rattle.osdp_tool.specs.Machine.{told, IsStep, Drained};
+ghost use Rattle.osdp_tool.specs.Machine.{told, IsStep, Drained, IsSettled, Took, EndedRun};
 
 use crate::report::Report;
 use osdp_frame::Framer;
@@ -29,5 +29,44 @@ fn drain<W: Write>(
         report.tell(&item, output)?;
         framer.advance();
     }
+    Ok(())
+}
+
+/// The run goes on by these bytes.
+pub fn take<W: Write>(
+    framer: &mut Framer,
+    report: &mut Report,
+    bytes: &[u8],
+    output: &mut Watched<W>,
+) -> Result<(), ToolFault>
+    requires settled { IsSettled framer.old }
+    requires counts { counted report.old.tally + 5 * (length framer.old.bytes + length bytes.now) < 2 ^ 62 }
+    ensures step { IsStep result (has_failed output.old) (has_failed output.new) }
+    ensures took { OnOk result (Took bytes.now framer.old framer.new report.old report.new
+        (told (W.contents (inner_of output.old)) report.old) (told (W.contents (inner_of output.new)) report.new)) }
+{
+    let mut at = 0;
+    'pieces: while at < bytes.len() {
+        at += framer.push(&bytes[at..]);
+        drain(framer, report, output)?;
+    }
+    Ok(())
+}
+
+/// The run has ended.
+pub fn end_run<W: Write>(
+    framer: &mut Framer,
+    report: &mut Report,
+    output: &mut Watched<W>,
+) -> Result<(), ToolFault>
+    requires settled { IsSettled framer.old }
+    requires counts { counted report.old.tally + 5 * length framer.old.bytes < 2 ^ 62 }
+    ensures step { IsStep result (has_failed output.old) (has_failed output.new) }
+    ensures ended { OnOk result (EndedRun framer.old framer.new report.old report.new
+        (told (W.contents (inner_of output.old)) report.old) (told (W.contents (inner_of output.new)) report.new)) }
+{
+    framer.gap();
+    drain(framer, report, output)?;
+    report.tally.end_run();
     Ok(())
 }
