@@ -2,3 +2,4 @@ pub mod Reports
 pub mod Drains
 pub mod Standing
 pub mod Pieces
+pub mod Works

@@ -16,6 +16,9 @@ pub record Stream : Type 0 where
   pub after : Option (List ℕ)
   pub failed : Bool
 
+abbrev pub streamed : Option (List ℕ) → Option (List ℕ) → Bool → Stream
+streamed before after failed = record { before = before; after = after; failed = failed }
+
 -- at most so many bytes are asked for at once
 abbrev pub piece_size : ℕ
 piece_size = 65536

@@ -148,6 +148,42 @@ impl Capture {
     }
 }
 
+impl Capture {
+    ghost use Rattle.osdp_tool.specs.Capture.{load};
+    ghost use Rattle.osdp_tool.specs.Works.{Closed, EndsLine};
+
+    /// The input has ended, and with it its last line; false where that is bad.
+    pub fn end_last_line<W: Write>(
+        &mut self,
+        output: &mut Watched<W>,
+    ) -> Result<bool, ToolFault>
+        requires settled { IsSettled self.old.framer }
+        requires load { load self.old < 2 ^ 61 }
+        ensures step { IsStep result (has_failed output.old) (has_failed output.new) }
+        ensures ends { IfOk result (λ good. EndsLine good self.old self.new
+            (told (W.contents (inner_of output.old)) self.old.report) (told (W.contents (inner_of output.new)) self.new.report)) }
+    {
+        match self.form {
+            Form::Raw => Ok(true),
+            Form::Joined => self.end_line(output),
+            Form::Apart => self.end_line(output),
+        }
+    }
+
+    /// The run ends here: its last items are told, then the counts where they are wanted, and all of it is
+    /// written.
+    pub fn close<W: Write>(&mut self, output: &mut Watched<W>) -> Result<(), ToolFault>
+        requires settled { IsSettled self.old.framer }
+        requires load { load self.old < 2 ^ 61 }
+        ensures step { IsStep result (has_failed output.old) (has_failed output.new) }
+        ensures closed { OnOk result (Closed self.old self.new
+            (told (W.contents (inner_of output.old)) self.old.report) (W.contents (inner_of output.new))) }
+    {
+        end_run(&mut self.framer, &mut self.report, output)?;
+        self.report.end(output)
+    }
+}
+
 /// How many bytes stand before the first line feed.
 fn line_length(bytes: &[u8]) -> Option<usize>
     ensures { MatchOption result (IsLine bytes.now) (λ length. HasLine bytes.now length) }

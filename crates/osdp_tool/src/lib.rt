@@ -2,6 +2,7 @@
 #![tactic(auto)]
 
 mod capture;
+mod reading;
 mod report;
 mod runs;
 

@@ -1,14 +1,15 @@
 //! The text that waits to be written.
 
 ghost use Rattle.std.specs.Prelude.{◌≡◌, ◌+◌, ◌<◌, ◌^◌, [], ◌∷◌, OnOk, string_bytes};
-ghost use Rattle.std.specs.Io.KnownBytes.{Keeps};
+ghost use Rattle.std.specs.Io.KnownBytes.{Appends, Keeps};
 ghost use Rattle.osdp_frame.specs.Reading.{part_size};
 ghost use Rattle.osdp_frame.specs.Shown.{part_of};
 ghost use Rattle.osdp_lines.specs.Tally.{counted};
+ghost use Rattle.osdp_lines.specs.Told.{end_line};
 ghost use Rattle.osdp_stream.specs.Watched.{inner_of, has_failed};
 
 use osdp_frame::Item;
-use osdp_lines::{Tally, tell};
+use osdp_lines::{Tally, push_end, tell};
 use osdp_stream::{ToolFault, Watched, write_out};
 use std::io::Write;
 
@@ -32,6 +33,7 @@ impl Report {
         ensures step { IsStep result (has_failed output.old) (has_failed output.new) }
         ensures same { OnOk result (KeepsReport self.old self.new) }
         ensures told { OnOk result (Keeps (told (W.contents (inner_of output.old)) self.old) (told (W.contents (inner_of output.new)) self.new)) }
+        ensures written { OnOk result (Keeps (told (W.contents (inner_of output.old)) self.old) (W.contents (inner_of output.new))) }
     {
         write_out(output, self.text.as_bytes())?;
         self.text.clear();
@@ -55,6 +57,19 @@ impl Report {
         }
         if self.text.len() < GATHERED {
             return Ok(());
+        }
+        self.write_out(output)
+    }
+
+    /// Tells the counts, where not all items have a line, and writes out what waits.
+    pub fn end<W: Write>(&mut self, output: &mut Watched<W>) -> Result<(), ToolFault>
+        ensures step { IsStep result (has_failed output.old) (has_failed output.new) }
+        ensures same { OnOk result (KeepsReport self.old self.new) }
+        ensures written { OnOk result (Appends (told (W.contents (inner_of output.old)) self.old) (W.contents (inner_of output.new)) (end_line self.old.full self.old.tally)) }
+    {
+        match push_end(&mut self.text, self.full, &self.tally) {
+            Ok(()) => {}
+            Err(_) => return Err(ToolFault::NoMemory),
         }
         self.write_out(output)
     }
