@@ -3,3 +3,4 @@ pub mod Drains
 pub mod Standing
 pub mod Pieces
 pub mod Works
+pub mod Whole

@@ -252,7 +252,7 @@ nothing_open Raw = refl
 nothing_open Joined = refl
 nothing_open Apart = refl
 
-nothing_bad : (form : Form) → first_bad_ended form [] ≡ None
+pub nothing_bad : (form : Form) → first_bad_ended form [] ≡ None
 unfolding bad_line ended_behind
 nothing_bad Raw = refl
 nothing_bad Joined = refl

@@ -1,5 +1,5 @@
 -- A capture that is read to its end.
-use Rattle.std.proofs.Common.{◌≡◌, ◌≢◌, ℕ, ◌+◌, ◌-◌, ◌*◌, ◌<◌, ◌≤◌, Bool, true, false, List, [], ◌∷◌, ◌++◌, length, take, drop, Option, Some, None, ◌⊎◌, inl, inr, refl, sym, subst, ap, ◌∙◌, arith, append_assoc, append-nil, length-append}
+use Rattle.std.proofs.Common.{◌≡◌, ◌≢◌, ℕ, ◌+◌, ◌-◌, ◌*◌, ◌<◌, ◌≤◌, Bool, true, false, List, [], ◌∷◌, ◌++◌, length, take, drop, take-append-drop, Option, Some, None, Result, Ok, Err, OnOk, IfErr, ◌⊎◌, inl, inr, refl, sym, subst, ap, ◌∙◌, arith, append_assoc, append-nil, length-append}
 use Rattle.std.specs.Io.KnownBytes.{Appends, Consumes, Keeps, IsAtEnd}
 use Rattle.std.proofs.KnownBytes.{Consumes-nil, Consumes-trans, Consumes-kept}
 use Rattle.std.proofs.KnownBytes.{Appends-trans, Appends-kept}
@@ -16,10 +16,16 @@ use Rattle.osdp_lines.specs.Told.{parts_lines, after_runs, runs_lines, end_line,
 use Rattle.osdp_lines.proofs.Lines.{after_parts-nil, parts_lines-nil}
 use Rattle.osdp_tool.specs.declared.capture.Capture.{Capture}
 use Rattle.osdp_tool.specs.declared.report.Report.{Report}
-use Rattle.osdp_tool.specs.Machine.{IsSettled, Stands, EndedRun}
+use Rattle.osdp_stream.specs.declared.fault.ToolFault.{ToolFault}
+use Rattle.osdp_stream.specs.declared.fault.ToolFault.TheVariants.{NotHex, TooLong, BadWords, BadStep}
+use Rattle.osdp_stream.specs.declared.fault.ToolFault.TheVariants.{HoldsPacket, NotQuiet, ReadFailed}
+use Rattle.osdp_stream.specs.declared.fault.ToolFault.TheVariants.{WriteFailed, NoMemory}
+use Rattle.osdp_tool.specs.Machine.{IsSettled, IsStep, Stands, EndedRun}
+use Rattle.osdp_tool.specs.Shown.{shown, shown_so_far}
+use Rattle.osdp_tool.specs.Ending.{streamed, EndsAtEnd, EndsAtBadLine, EndsAtFailedRead}
 use Rattle.osdp_tool.specs.Capture.{load, Follows, FollowsIf, TookPiece, TookPart}
-use Rattle.osdp_tool.specs.Works.{Closed, EndedInput, EndsLine, HasRead, ReadToEnd, ReadToBadLine, ReadToLimit, ReadToFailure}
-use Rattle.osdp_tool.proofs.Pieces.{took_both}
+use Rattle.osdp_tool.specs.Works.{Works, Answered, Closed, EndedInput, EndsLine, HasRead, ReadToEnd, ReadToBadLine, ReadToLimit, ReadToFailure}
+use Rattle.osdp_tool.proofs.Pieces.{took_both, nothing_bad, told_nothing}
 
 -- ---- reading
 
@@ -170,3 +176,100 @@ ends_line good old new before after is t = record {
       bad = fed.1 ∙ f.bad;
       stands = f.stands;
     }
+
+-- ---- the answers
+
+pub works_at_end : (full : Bool) (form : Form) (limit : ℕ) (start before middle written input_before input_after : Option (List ℕ)) (input_failed output_failed : Bool)
+    (old mid : Capture) (result : Result Bool ToolFault) → ReadToEnd limit old mid input_before input_after before middle → input_failed ≡ false
+    → Answered mid result false output_failed middle written → Follows full form start [] old before
+    → Works full form limit (streamed input_before input_after input_failed) (streamed start written output_failed) result
+works_at_end full form limit start before middle written ib ia input_failed output_failed old mid (Ok refused) r well a f =
+    let here = a.1 full form start r.read (r.took.follows full form start [] f) in
+    record {
+      read = r.read; taken = r.taken; at_end = r.at_end; within = r.within; good = here.0; answer = here.1; text = here.2;
+      input_well = well; output_well = a.0;
+    }
+works_at_end full form limit start before middle written ib ia input_failed output_failed old mid (Err (NotHex line)) r well a f =
+    let here = a.1 full form start r.read (r.took.follows full form start [] f) in
+    record {
+      earlier = r.read; piece = [];
+      taken = subst (Consumes ib ia) (sym (append-nil r.read)) r.taken;
+      within = subst (λ (l : List ℕ). length l ≤ limit) (sym (append-nil r.read)) r.within;
+      one_piece = omega arith;
+      good = (r.took.follows full form start [] f).good;
+      bad = subst (λ l. first_bad form l ≡ Some line) (sym (append-nil r.read)) here.0;
+      ended = inr r.at_end;
+      text = subst (λ l. Appends start written (shown full form l)) (sym (append-nil r.read)) here.1;
+      input_well = well; output_well = a.0;
+    }
+works_at_end full form limit start before middle written ib ia input_failed output_failed old mid (Err TooLong) r well a f = absurd a
+works_at_end full form limit start before middle written ib ia input_failed output_failed old mid (Err ReadFailed) r well a f = absurd a
+works_at_end full form limit start before middle written ib ia input_failed output_failed old mid (Err WriteFailed) r well a f = (well, a)
+works_at_end full form limit start before middle written ib ia input_failed output_failed old mid (Err NoMemory) r well a f = well
+works_at_end full form limit start before middle written ib ia input_failed output_failed old mid (Err BadWords) r well a f = absurd a
+works_at_end full form limit start before middle written ib ia input_failed output_failed old mid (Err (BadStep line)) r well a f = absurd a
+works_at_end full form limit start before middle written ib ia input_failed output_failed old mid (Err (HoldsPacket step)) r well a f = absurd a
+works_at_end full form limit start before middle written ib ia input_failed output_failed old mid (Err (NotQuiet step)) r well a f = absurd a
+
+pub works_at_bad_line : (full : Bool) (form : Form) (limit : ℕ) (start before middle written input_before input_after : Option (List ℕ)) (input_failed output_failed : Bool)
+    (old mid new : Capture) → ReadToBadLine limit old mid input_before input_after before middle → input_failed ≡ false → output_failed ≡ false
+    → Closed mid new middle written → Follows full form start [] old before
+    → EndsAtBadLine full form limit (streamed input_before input_after input_failed) (streamed start written output_failed) new.ended
+works_at_bad_line full form limit start before middle written ib ia input_failed output_failed old mid new r well well_too c f =
+    let earlier = r.took_earlier.follows full form start [] f in
+    let stops = r.took.follows full form start r.earlier earlier in
+    let fed = r.earlier ++ take r.most r.piece in
+    let more = drop r.most r.piece in
+    let whole : fed ++ more ≡ r.earlier ++ r.piece =
+        append_assoc r.earlier (take r.most r.piece) more ∙ ap (λ l. r.earlier ++ l) (take-append-drop r.most r.piece) in
+    let line : Some mid.ended ≡ Some new.ended = ap Some (sym c.same) in
+    let stays = bad_stays form fed more mid.ended stops.bad in
+    let text = c.text full start (ended_runs form fed) (open_run form fed) stops.stands in
+    record {
+      earlier = r.earlier; piece = r.piece; taken = r.taken; within = r.within; one_piece = r.one_piece; good = earlier.good;
+      bad = subst (λ l. first_bad form l ≡ Some new.ended) whole (stays.0 ∙ line);
+      ended = inl (subst (λ l. first_bad_ended form l ≡ Some new.ended) whole (stays.1 ∙ line));
+      text = subst (λ l. Appends start written (shown full form l)) whole
+        (subst (λ runs. Appends start written (runs_lines full no_tally runs ++ end_line full (after_runs no_tally runs))) (sym stays.2) text);
+      input_well = well; output_well = well_too;
+    }
+
+-- what a write that went well gave
+written_well : {P : Type 0} (r : Result (Unit {0}) ToolFault) (failed : Bool) → IsStep r false failed → IfErr r (λ fault. fault ≡ WriteFailed) → OnOk r P → failed ≡ false → P
+written_well (Ok x) failed s e p well = p
+written_well {P} (Err fault) failed s e p well = absurd (no_failure fault failed s e well)
+  where
+    no_failure : (fault : ToolFault) (failed : Bool) → IsStep {T = Unit {0}} (Err fault) false failed → fault ≡ WriteFailed → failed ≡ false → ⊥
+    no_failure WriteFailed failed s e well = cc
+    no_failure (NotHex line) failed s e well = cc
+    no_failure TooLong failed s e well = cc
+    no_failure ReadFailed failed s e well = cc
+    no_failure NoMemory failed s e well = cc
+    no_failure BadWords failed s e well = cc
+    no_failure (BadStep line) failed s e well = cc
+    no_failure (HoldsPacket step) failed s e well = cc
+    no_failure (NotQuiet step) failed s e well = cc
+
+pub works_at_failed_read : (full : Bool) (form : Form) (limit : ℕ) (start before middle written input_before input_after : Option (List ℕ)) (input_failed output_failed : Bool)
+    (old mid : Capture) (r : Result (Unit {0}) ToolFault) → ReadToFailure limit old mid input_before input_after before middle → input_failed ≡ true
+    → IsStep r false output_failed → IfErr r (λ fault. fault ≡ WriteFailed) → OnOk r (Keeps middle written) → Follows full form start [] old before
+    → EndsAtFailedRead full form limit (streamed input_before input_after input_failed) (streamed start written output_failed)
+works_at_failed_read full form limit start before middle written ib ia input_failed output_failed old mid r read failed step fault kept f =
+    let here = read.took.follows full form start [] f in
+    record {
+      read = read.read; taken = read.taken; within = read.within; good = here.good;
+      text = λ well. Appends-kept start middle written (lines_so_far full (ended_runs form read.read) (open_run form read.read)) here.stands.lines (written_well r output_failed step fault kept well);
+      input_failed = failed;
+    }
+
+-- an input that failed before the call
+pub ends_at_once : (full : Bool) (form : Form) (limit : ℕ) (input output : Option (List ℕ)) (input_failed output_failed : Bool) → input_failed ≡ true
+    → EndsAtFailedRead full form limit (streamed input input input_failed) (streamed output output output_failed)
+ends_at_once full form limit input output input_failed output_failed failed = record {
+  read = [];
+  taken = Consumes-nil input;
+  within = omega arith;
+  good = nothing_bad form;
+  text = λ well. told_nothing full form output;
+  input_failed = failed;
+}

@@ -118,8 +118,7 @@ Works full form limit input output (Ok refused) = EndsAtEnd full form limit inpu
 Works full form limit input output (Err (NotHex line)) = EndsAtBadLine full form limit input output line
 Works full form limit input output (Err TooLong) = EndsPastLimit full form limit input output
 Works full form limit input output (Err ReadFailed) = EndsAtFailedRead full form limit input output
-Works full form limit input output (Err WriteFailed) =
-    (output.failed ≡ true) × ((input.failed ≡ false) ⊎ EndsAtFailedRead full form limit input output)
+Works full form limit input output (Err WriteFailed) = (input.failed ≡ false) × (output.failed ≡ true)
 Works full form limit input output (Err NoMemory) = input.failed ≡ false
 Works full form limit input output (Err BadWords) = ⊥
 Works full form limit input output (Err (BadStep line)) = ⊥

@@ -2,9 +2,11 @@
 #![tactic(auto)]
 
 mod capture;
+mod commands;
 mod reading;
 mod report;
 mod runs;
 
+pub use commands::{check, show};
 pub use osdp_job::{Job, Mode, job};
 pub use osdp_stream::{ToolFault, Watched};

@@ -118,7 +118,8 @@ impl Capture {
                 Err(ToolFault::TooLong)
             }
             Ending::AtFailedRead => {
-                self.report.write_out(output)?;
+                // A failed read is told before a failed write.
+                let _ = self.report.write_out(output);
                 Err(ToolFault::ReadFailed)
             }
         }

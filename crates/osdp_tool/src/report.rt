@@ -1,6 +1,6 @@
 //! The text that waits to be written.
 
-ghost use Rattle.std.specs.Prelude.{◌≡◌, ◌+◌, ◌<◌, ◌^◌, [], ◌∷◌, OnOk, string_bytes};
+ghost use Rattle.std.specs.Prelude.{◌≡◌, ◌+◌, ◌<◌, ◌^◌, [], ◌∷◌, OnOk, IfErr, string_bytes};
 ghost use Rattle.std.specs.Io.KnownBytes.{Appends, Keeps};
 ghost use Rattle.osdp_frame.specs.Reading.{part_size};
 ghost use Rattle.osdp_frame.specs.Shown.{part_of};
@@ -31,6 +31,7 @@ impl Report {
     /// Writes out what waits.
     pub fn write_out<W: Write>(&mut self, output: &mut Watched<W>) -> Result<(), ToolFault>
         ensures step { IsStep result (has_failed output.old) (has_failed output.new) }
+        ensures fault { IfErr result (λ fault. fault ≡ ToolFault.WriteFailed) }
         ensures same { OnOk result (KeepsReport self.old self.new) }
         ensures told { OnOk result (Keeps (told (W.contents (inner_of output.old)) self.old) (told (W.contents (inner_of output.new)) self.new)) }
         ensures written { OnOk result (Keeps (told (W.contents (inner_of output.old)) self.old) (W.contents (inner_of output.new))) }
