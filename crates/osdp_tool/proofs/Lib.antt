@@ -4,3 +4,4 @@ pub mod Standing
 pub mod Pieces
 pub mod Works
 pub mod Whole
+pub mod Readings

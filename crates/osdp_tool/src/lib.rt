@@ -3,6 +3,7 @@
 
 mod capture;
 mod commands;
+pub mod laws;
 mod reading;
 mod report;
 mod runs;
