@@ -1,10 +1,8 @@
 //! The words of texts: numbers, lists of bytes and records, as they are read and printed.
 #![tactic(auto)]
 
-ghost use Rattle.osdp_words.specs.Laws.{JoinsWords};
+mod laws;
+mod numbers;
 
-/// A text is its words, each behind a space but the first.
-pub fn joins_words()
-    ensures { JoinsWords }
-{
-}
+pub use crate::laws::joins_words;
+pub use crate::numbers::{number_u8, number_u16, number_u32};
