@@ -1,8 +1,10 @@
 //! The words of texts: numbers, lists of bytes and records, as they are read and printed.
 #![tactic(auto)]
 
+mod byte_lists;
 mod laws;
 mod numbers;
 
+pub use crate::byte_lists::{byte_list, vendor};
 pub use crate::laws::joins_words;
 pub use crate::numbers::{number_u8, number_u16, number_u32};
