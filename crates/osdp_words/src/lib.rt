@@ -4,7 +4,9 @@
 mod byte_lists;
 mod laws;
 mod numbers;
+mod records;
 
 pub use crate::byte_lists::{byte_list, vendor};
 pub use crate::laws::joins_words;
 pub use crate::numbers::{number_u8, number_u16, number_u32};
+pub use crate::records::record;
