@@ -1,9 +1,11 @@
 -- Hexadecimal digits in either case: a text decodes to bytes just where it is their digits in upper case.
-use Rattle.std.proofs.Common.{◌≡◌, ℕ, zero, suc, ◌+◌, ◌*◌, ◌/◌, ◌%◌, ◌<◌, ◌==◌, ◌&&◌, Bool, true, false, inl, inr, List, [], ◌∷◌, length, slice_index, map, Option, Some, None, Result, Ok, Err, refl, sym, ap, ◌∙◌, arith, rules}
+use Rattle.std.proofs.Common.{◌≡◌, ℕ, zero, suc, ◌+◌, ◌*◌, ◌/◌, ◌%◌, ◌-◌, ◌<◌, ◌^◌, ◌==◌, ◌&&◌, Bool, true, false, inl, inr, List, [], ◌∷◌, ◌++◌, length, get_or, take, slice_index, map, Option, Some, None, Result, Ok, Err, refl, sym, ap, ◌∙◌, arith, rules}
 use Rattle.std.proofs.lemmas.Bool.{and_parts, cases_lt, eqb-true}
 use Rattle.std.proofs.lemmas.Bool.Decides.{nat_tests}
+use Rattle.std.proofs.lemmas.Fmt.{hex_byte}
+use Rattle.std.proofs.lemmas.List.{take_more}
 use Rattle.std.specs.Char.{to_ascii_uppercase}
-use Rattle.std.specs.Fmt.{digit_glyph}
+use Rattle.std.specs.Fmt.{digit_glyph, digits, format_spec, padded_integral}
 use Rattle.std.specs.Str.{str_to_ascii_uppercase}
 use Rattle.std.specs.Result.{result_ok, result_unwrap_or}
 use Rattle.hex.specs.Hex.{IsBytes, decode_pairs, digit_or_error, encode_upper, encode_with, hex_digit_value, pair_value, upper_digits, value_at, ◌>>=◌}
@@ -100,3 +102,23 @@ pairs_from_digits i (a ∷ c ∷ text) (b ∷ bs) h e =
     let ih = pairs_from_digits (i + 2) text bs (λ k. h (suc k)) rest in
     let whole : b / 16 * 16 + b % 16 ≡ b = omega arith in
     decode_pairs-ok_pair i a c _ text pair ∙ ap (cons_byte (b / 16 * 16 + b % 16)) ih ∙ ap (λ (v : ℕ). Ok (v ∷ bs)) whole
+
+-- ---- printing
+
+encode_with-append : (t xs ys : List ℕ) → encode_with t (xs ++ ys) ≡ encode_with t xs ++ encode_with t ys
+unfolding encode_with
+encode_with-append t [] ys = refl
+encode_with-append t (x ∷ xs) ys = ap (λ (rest : List ℕ). slice_index t (x / 16) ∷ slice_index t (x % 16) ∷ rest) (encode_with-append t xs ys)
+
+encode_one : (b : ℕ) → b < 256 → encode_upper (b ∷ []) ≡ padded_integral (format_spec 32 0 4 2 (2 ^ 64 - 1)) false [] (digits 16 true b)
+unfolding encode_with
+encode_one b lt =
+    let high = upper_digit (b / 16) (omega arith) in
+    let low = upper_digit (b % 16) (omega arith) in
+    cc (hex_byte true b lt, high, low)
+
+-- one byte more is printed
+pub printed_more : (xs : List ℕ) (i b : ℕ) → i < length xs → b ≡ get_or xs i 0 → b < 256
+    → encode_upper (take i xs) ++ padded_integral (format_spec 32 0 4 2 (2 ^ 64 - 1)) false [] (digits 16 true b) ≡ encode_upper (take (i + 1) xs)
+printed_more xs i b lt e small =
+    rw (take_more xs i 0 lt, encode_with-append, ← e) (ap (λ (text : List ℕ). encode_upper (take i xs) ++ text) (sym (encode_one b small)))

@@ -4,9 +4,11 @@
 mod byte_lists;
 mod laws;
 mod numbers;
+mod printing;
 mod records;
 
 pub use crate::byte_lists::{byte_list, vendor};
 pub use crate::laws::joins_words;
 pub use crate::numbers::{number_u8, number_u16, number_u32};
+pub use crate::printing::{ByteList, Record};
 pub use crate::records::record;
