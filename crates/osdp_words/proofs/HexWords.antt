@@ -1,5 +1,5 @@
 -- Hexadecimal words: for which bytes a text stands, as the decoder answers it.
-use Rattle.std.proofs.Common.{◌≡◌, ℕ, zero, suc, ◌+◌, ◌*◌, ◌/◌, ◌%◌, ◌<◌, ◌≤◌, inl, inr, List, [], ◌∷◌, length, map, codes, Option, Some, None, Result, Ok, Err, refl, sym, ap, ◌∙◌, arith, rules}
+use Rattle.std.proofs.Common.{◌≡◌, ℕ, ◌*◌, ◌/◌, ◌<◌, ◌≤◌, inl, inr, List, [], ◌∷◌, length, codes, Option, Some, None, Result, Ok, Err, refl, sym, ap, ◌∙◌, arith}
 use Rattle.std.proofs.lemmas.Bool.{cases_lt}
 use Rattle.std.proofs.lemmas.List.{length-map, nil_from_length}
 use Rattle.std.specs.Prelude.{IfSome, ◌⊎◌, MatchResult, option_map}
@@ -60,7 +60,7 @@ ReadsList cap text r =
     Reads (λ list. bytes list.items) (λ list. (array_vec_len list ≤ cap) × IsBytes list.items) text r
 
 -- `none` is no text of digits
-no_digits : (bs : List ℕ) → 0 < length bs → IsBytes bs → StandsFor (bytes bs) (codes "none") → ⊥
+pub no_digits : (bs : List ℕ) → 0 < length bs → IsBytes bs → StandsFor (bytes bs) (codes "none") → ⊥
 unfolding hex_on_literals
 no_digits bs some fits stands =
     let e = pairs_from_digits 0 (codes "none") bs fits (digits_that_stand bs (codes "none") some stands) in

@@ -1,10 +1,10 @@
 -- What is joined by a byte that its pieces lack splits into them again.
-use Rattle.std.proofs.Common.{◌≡◌, ℕ, zero, suc, ◌+◌, ◌<◌, ◌≤◌, Bool, true, false, inl, inr, List, [], ◌∷◌, ◌++◌, length, get_or, eq-eqb, eqb, map, refl, sym, ap, ◌∙◌, arith, rules}
+use Rattle.std.proofs.Common.{◌≡◌, ℕ, false, List, [], ◌∷◌, ◌++◌, get_or, eq-eqb, eqb, map, refl, sym, ap, ◌∙◌}
 use Rattle.std.proofs.lemmas.Bool.{ne_eqb}
 use Rattle.std.proofs.lemmas.List.{append-nil}
 use Rattle.std.proofs.lemmas.List.Elements.{All-from_get_or}
 use Rattle.std.proofs.lemmas.List.Splits.{join_with_byte-slice_split, slice_split_at, slice_split_none}
-use Rattle.std.specs.List.{All, AllByRecursion, flat_map, join_by, join_with_byte, slice_split}
+use Rattle.std.specs.List.{All, AllByRecursion, join_by, join_with_byte, slice_split}
 use Rattle.std.specs.Str.Iter.{LacksByte}
 
 -- the pieces between the bytes c

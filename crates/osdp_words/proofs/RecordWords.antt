@@ -1,5 +1,5 @@
 -- Record words: the numbers read so far, next to the pieces between the colons.
-use Rattle.std.proofs.Common.{◌≡◌, ℕ, zero, suc, ◌+◌, ◌<◌, ◌≤◌, ◌^◌, ◌⊎◌, inl, inr, List, [], ◌∷◌, length, get_or, eqb, eq-eqb, true, false, set, map, codes, Option, Some, None, refl, sym, ap, ◌∙◌, arith, below_more, ◌≢◌}
+use Rattle.std.proofs.Common.{◌≡◌, ℕ, suc, ◌+◌, ◌<◌, ◌≤◌, ◌^◌, ◌⊎◌, inl, inr, List, [], ◌∷◌, length, get_or, eqb, eq-eqb, true, false, set, map, Some, None, refl, sym, ap, ◌∙◌, arith, below_more, ◌≢◌}
 use Rattle.std.proofs.lemmas.Bool.{cases_eq, ne_eqb}
 use Rattle.std.proofs.lemmas.Fmt.{decimal_injective, digits_decimal}
 use Rattle.std.proofs.lemmas.List.{get_or-map, get_or-set_other, get_or-set_same, get_or_read, length-map, length-set}
@@ -7,7 +7,7 @@ use Rattle.std.proofs.lemmas.List.Elements.{AllZip-get_or, length_all_zip}
 use Rattle.std.proofs.lemmas.Str.Parse.{IsNumeralModel, not_in_digits, numerals_by_value, tells_digits}
 use Rattle.std.specs.Bool.{then_some}
 use Rattle.std.specs.Fmt.{decimal}
-use Rattle.std.specs.List.{AllByRecursion, AllZip, join_by}
+use Rattle.std.specs.List.{AllByRecursion}
 use Rattle.std.specs.Str.Iter.{LacksByte}
 use Rattle.std.specs.Str.Parse.{AllDigits, digits_value}
 use Rattle.osdp_words.specs.Reading.{Reads}
@@ -83,21 +83,21 @@ pub part_unread : (text limits part : List ℕ) (i : ℕ) → AreSmall limits �
     → Reads number (λ n. n < 2 ^ 16) part None → Reads numbers (AreWithin limits) text None
 part_unread text limits part i small lt at within unread =
     none_record text limits small (omega arith) (λ ns below e.
-        let here = part_at (pieces 58 text) limits ns i below e lt in
-        let low = small i in
-        let same : part ≡ decimal (get_or ns i 0) = get_or_read (pieces 58 text) i part within at [] ∙ here.0 in
-        cc (unread.only (get_or ns i 0) (omega (arith, here.1)) same))
+    let here = part_at (pieces 58 text) limits ns i below e lt in
+    let low = small i in
+    let same : part ≡ decimal (get_or ns i 0) = get_or_read (pieces 58 text) i part within at [] ∙ here.0 in
+    cc (unread.only (get_or ns i 0) (omega (arith, here.1)) same))
 
 -- a piece that is a number past its limit
 pub part_past : (text limits part : List ℕ) (i v : ℕ) → AreSmall limits → i < length limits → part ≡ get_or (pieces 58 text) i part → i < length (pieces 58 text)
     → Reads number (λ n. n < 2 ^ 16) part (Some v) → get_or limits i 0 < v → Reads numbers (AreWithin limits) text None
 part_past text limits part i v small lt at within read past =
     none_record text limits small (omega arith) (λ ns below e.
-        let here = part_at (pieces 58 text) limits ns i below e lt in
-        let low = small i in
-        let same : decimal v ≡ decimal (get_or ns i 0) = sym read.value.0 ∙ get_or_read (pieces 58 text) i part within at [] ∙ here.0 in
-        let one = decimal_injective v (get_or ns i 0) (omega (arith, read.value.1)) (omega (arith, here.1)) same in
-        omega (arith, here.1))
+    let here = part_at (pieces 58 text) limits ns i below e lt in
+    let low = small i in
+    let same : decimal v ≡ decimal (get_or ns i 0) = sym read.value.0 ∙ get_or_read (pieces 58 text) i part within at [] ∙ here.0 in
+    let one = decimal_injective v (get_or ns i 0) (omega (arith, read.value.1)) (omega (arith, here.1)) same in
+    omega (arith, here.1))
 
 -- one more number
 pub reads_more : (text limits found part : List ℕ) (i n v : ℕ) → HasRead (pieces 58 text) limits found i n → i < n → part ≡ get_or (pieces 58 text) i part → i < length (pieces 58 text)
@@ -109,11 +109,11 @@ reads_more text limits found part i n v so_far lt at within read low =
       room = omega arith;
       len = length-set found i v ∙ so_far.len;
       same = below_more _ _
-      (λ k h. let other : k ≢ i = omega arith in rw get_or-set_other (so_far.same k h))
-      (rw get_or-set_same here);
+          (λ k h. let other : k ≢ i = omega arith in rw get_or-set_other (so_far.same k h))
+          (rw get_or-set_same here);
       within = below_more _ _
-      (λ k h. let other : k ≢ i = omega arith in rw get_or-set_other (so_far.within k h))
-      (rw get_or-set_same low);
+          (λ k h. let other : k ≢ i = omega arith in rw get_or-set_other (so_far.within k h))
+          (rw get_or-set_same low);
     }
 
 same_parts : (parts : List (List ℕ)) (found : List ℕ) → length parts ≡ length found

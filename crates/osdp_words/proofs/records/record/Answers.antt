@@ -1,4 +1,4 @@
-use Rattle.std.proofs.Common.{sym, ◌∙◌, arith, lit<}
+use Rattle.std.proofs.Common.{arith, lit<}
 use Rattle.std.proofs.lemmas.Iterator.Consumers.{YieldsList-turn, YieldsList-end}
 use Rattle.std.proofs.lemmas.List.{length_push}
 use Rattle.std.proofs.lemmas.Iterator.Splits.{YieldsList-from_str_split}
@@ -29,9 +29,12 @@ pub loop-piece-preserved : goal.loop-piece-preserved
 loop-piece-preserved g c =
     let t = YieldsList-turn (YieldsList-from_str_split 58 c.args.word.now (lit< tt) (cc) (cc) (cc)) c.loop-piece.yielded _ c.loop-piece.yielded_by _ _ c.in-Some.piece c.in-Some.is c.next.ensures.steps in
     let count_is = c.loop-piece.invariant.2 in
-    let at = rw (← count_is) at t in
-    (tt, tt, omega (arith, length_push c.loop-piece.yielded c.in-Some.piece),
-    reads_more c.args.word.now c.args.limits.now c.loop-piece.found c.in-Some.piece.now c.loop-piece.count g.row.N c.in_ok-number.number c.loop-piece.invariant.3 (omega arith) at.1 at.0 c.in_ok-number.ensures c.if-number-limits.false)
+    let at = rw (← count_is) at t in (
+      tt,
+      tt,
+      omega (arith, length_push c.loop-piece.yielded c.in-Some.piece),
+      reads_more c.args.word.now c.args.limits.now c.loop-piece.found c.in-Some.piece.now c.loop-piece.count g.row.N c.in_ok-number.number c.loop-piece.invariant.3 (omega arith) at.1 at.0 c.in_ok-number.ensures c.if-number-limits.false,
+    )
 
 pub returns : goal.returns
 returns g c =
