@@ -7,6 +7,8 @@ mod laws;
 mod numbers;
 mod printing;
 mod records;
+#[cfg(test)]
+mod tests;
 
 pub use crate::byte_lists::{byte_list, vendor};
 pub use crate::fields::Fields;
