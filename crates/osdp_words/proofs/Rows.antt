@@ -1,7 +1,9 @@
 -- For callers: the values of several words, put together of what was taken for their parts.
-use Rattle.std.proofs.Common.{◌≡◌, ℕ, List, [], ◌∷◌, ◌++◌, Option, Some, None, refl, sym, ap, subst, ◌∙◌}
-use Rattle.std.proofs.lemmas.List.{append-nil, append_assoc}
+use Rattle.std.proofs.Common.{◌≡◌, ℕ, zero, suc, ◌<◌, List, [], ◌∷◌, ◌++◌, length, get_or, Option, Some, None, refl, sym, ap, subst, ◌∙◌, arith}
+use Rattle.std.proofs.lemmas.List.{append-nil, append_assoc, nil_from_length}
 use Rattle.std.specs.Prelude.{IfSome, option_map}
+use Rattle.std.specs.List.{AllByRecursion}
+use Rattle.hex.specs.Hex.{IsBytes}
 use Rattle.osdp_words.specs.Reading.{ReadsWords, Takes}
 use Rattle.osdp_words.specs.Word.{AllStandFor, Word}
 
@@ -118,3 +120,27 @@ module _ {A : Type 0} (words : A → List Word) (Allowed : A → Type 0) (given 
     value = tt;
     only = λ b allowed stands. (h.only b given [] allowed (sym (append-nil given)) stands).0;
   }
+
+-- ---- numbers in a row
+
+-- the n elements from place k on
+abbrev pub entries_from : ℕ → ℕ → List ℕ → List ℕ
+entries_from k zero xs = []
+entries_from k (suc n) xs = get_or xs k 0 ∷ entries_from (suc k) n xs
+
+entries_on : (x : ℕ) (k n : ℕ) (xs : List ℕ) → entries_from (suc k) n (x ∷ xs) ≡ entries_from k n xs
+entries_on x k zero xs = refl
+entries_on x k (suc n) xs = ap (λ (rest : List ℕ). get_or xs k 0 ∷ rest) (entries_on x (suc k) n xs)
+
+-- as many elements as there are
+pub entries_whole : (n : ℕ) (xs : List ℕ) → length xs ≡ n → entries_from 0 n xs ≡ xs
+entries_whole zero xs h = sym (nil_from_length xs h)
+entries_whole (suc n) [] h = absurd (omega arith)
+entries_whole (suc n) (x ∷ xs) h =
+    ap (λ (rest : List ℕ). x ∷ rest) (entries_on x 0 n xs ∙ entries_whole n xs (omega arith))
+
+-- each number, one after another, is a byte
+pub are_bytes : (bs : List ℕ) → AllByRecursion (λ b. b < 256) bs → IsBytes bs
+are_bytes [] h k = omega arith
+are_bytes (b ∷ bs) h zero = h.0
+are_bytes (b ∷ bs) h (suc k) = are_bytes bs h.1 k
