@@ -1,10 +1,10 @@
 -- For callers: lists of values that have a word each, as records have, taken one after another to a text's end.
 use Rattle.std.proofs.Common.{◌≡◌, ℕ, ◌+◌, ◌<◌, ◌≤◌, List, [], ◌∷◌, ◌++◌, length, map, Option, Some, None, refl, sym, ap, subst, ◌∙◌, arith, length-append}
 use Rattle.std.proofs.lemmas.List.{append-nil, append_assoc}
-use Rattle.std.specs.List.{AllByRecursion}
+use Rattle.std.specs.List.{AllByRecursion, flat_map}
 use Rattle.arrayvec.specs.ArrayVec.{ArrayVec, array_vec_len}
 use Rattle.osdp_words.specs.Reading.{IsListOf, ReadsWords, Takes}
-use Rattle.osdp_words.specs.Word.{AllStandFor, StandsFor, Word}
+use Rattle.osdp_words.specs.Word.{AllStandFor, StandsFor, Word, printed}
 
 -- one value alone has the word for which a given one stands
 abbrev pub HasOneValue : {A : Type 0} → (A → Word) → (A → Type 0) → Type 0
@@ -169,3 +169,11 @@ module _ {A : Type 0} (word : A → Word) (Allowed : A → Type 0) (one : HasOne
         value = tt;
         only = λ other fits stands. absurd (cc (none.only other.items fits.each stands));
       }
+
+-- ---- printing
+
+-- the words of values behind a text's name, each behind a space
+pub words_behind : {A : Type 0} (word : A → Word) (list : List A)
+    → flat_map (λ w. 32 ∷ printed w) (map word list) ≡ flat_map (λ x. 32 ∷ printed (word x)) list
+words_behind word [] = refl
+words_behind word (x ∷ list) = ap (λ (rest : List ℕ). (32 ∷ printed (word x)) ++ rest) (words_behind word list)

@@ -93,6 +93,10 @@ one_left : (m : ℕ) (ms : List ℕ) (others : List (List ℕ)) → AllStandFor 
 one_left m ms [] h = absurd h
 one_left m ms (text ∷ more) h = (text, more, refl, h.0)
 
+first_of : (others mid rest : List (List ℕ)) (text : List ℕ) (more : List (List ℕ)) → mid ≡ others ++ rest → others ≡ text ∷ more
+    → mid ≡ (text ∷ []) ++ (more ++ rest)
+first_of others mid rest text more e split = e ∙ ap (λ (all : List (List ℕ)). all ++ rest) split
+
 -- all of them
 pub all_taken : (given left : List (List ℕ)) (found : List ℕ) (n : ℕ) → HasTaken given found left → length found ≡ n
     → Takes (λ ns. map number ns) (λ ns. (length ns ≡ n) × IsBytes ns) given left (Some found)
@@ -116,7 +120,7 @@ one_missing given mid left ns n h short unread = record {
       let next : drop (length ns) ms ≡ get_or ms (length ns) 0 ∷ drop (length ns + 1) ms = drop_more ms (length ns) 0 (omega arith) in
       let P : List ℕ → Type 0 = λ xs. AllStandFor (map number xs) r.1.0 in
       let one = one_left (get_or ms (length ns) 0) (drop (length ns + 1) ms) r.1.0 (subst P next r.1.2) in
-      let mid_is : mid ≡ (one.0 ∷ []) ++ (one.1 ++ rest) = r.1.1 ∙ ap (λ (others : List (List ℕ)). others ++ rest) one.2 in
+      let mid_is : mid ≡ (one.0 ∷ []) ++ (one.1 ++ rest) = first_of r.1.0 mid rest one.0 one.1 r.1.1 one.2 in
       let read = unread.only (get_or ms (length ns) 0) (one.0 ∷ []) (one.1 ++ rest) (allowed.1 (length ns)) mid_is (one.3, tt) in
       cc (read.0);
 }
