@@ -1,11 +1,13 @@
 -- For callers: the values of several words, put together of what was taken for their parts.
-use Rattle.std.proofs.Common.{◌≡◌, ℕ, zero, suc, ◌<◌, List, [], ◌∷◌, ◌++◌, length, get_or, Option, Some, None, refl, sym, ap, subst, ◌∙◌, arith}
+use Rattle.std.proofs.Common.{◌≡◌, ℕ, zero, suc, ◌<◌, List, [], ◌∷◌, ◌++◌, length, get_or, Bool, true, false, Option, Some, None, refl, sym, ap, subst, ◌∙◌, arith}
 use Rattle.std.proofs.lemmas.List.{append-nil, append_assoc, nil_from_length}
-use Rattle.std.specs.Prelude.{IfSome, option_map}
+use Rattle.std.proofs.lemmas.Bool.{false≢true}
+use Rattle.std.specs.Prelude.{IfSome, IsTrue, ◌↔◌, option_map}
+use Rattle.std.specs.Bool.{then_some}
 use Rattle.std.specs.List.{AllByRecursion}
 use Rattle.hex.specs.Hex.{IsBytes}
 use Rattle.osdp_words.specs.Reading.{ReadsWords, Takes}
-use Rattle.osdp_words.specs.Word.{AllStandFor, Word}
+use Rattle.osdp_words.specs.Word.{AllStandFor, Word, plain}
 
 -- ---- lists of words
 
@@ -120,6 +122,28 @@ module _ {A : Type 0} (words : A → List Word) (Allowed : A → Type 0) (given 
     value = tt;
     only = λ b allowed stands. (h.only b given [] allowed (sym (append-nil given)) stands).0;
   }
+
+-- the value that was taken, if the words end there
+module _ {A : Type 0} (words : A → List Word) (Allowed : A → Type 0) (given left : List (List ℕ)) where
+  pub ended_read : (ended : Bool) (a : A) → IsTrue ended ↔ (left ≡ []) → Takes words Allowed given left (Some a)
+      → ReadsWords words Allowed given (then_some ended a)
+  ended_read true a h taken = all_read words Allowed given left a (h.0 refl) taken
+  ended_read false a h taken = more_left words Allowed given left a (λ e. false≢true (h.1 e)) taken
+
+-- behind a name
+module _ {A : Type 0} (name : List ℕ) (words : A → List Word) (Allowed : A → Type 0) (rest : List (List ℕ)) where
+  named_value : (r : Option A) → IfSome r (λ a. AllStandFor (words a) rest × Allowed a)
+      → IfSome r (λ a. AllStandFor (plain name ∷ words a) (name ∷ rest) × Allowed a)
+  named_value (Some a) h = ((refl, h.0), h.1)
+  named_value None h = tt
+
+  pub named : (given : List (List ℕ)) (r : Option A) → given ≡ name ∷ rest → ReadsWords words Allowed rest r
+      → ReadsWords (λ a. plain name ∷ words a) Allowed given r
+  named given r e h =
+      rw e record {
+        value = named_value r h.value;
+        only = λ a allowed stands. h.only a allowed stands.1;
+      }
 
 -- ---- numbers in a row
 
