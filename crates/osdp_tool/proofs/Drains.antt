@@ -49,7 +49,7 @@ draining_step start now next old mid new before middle after part d is advanced 
     let here : next ≡ behind now part = advanced ∙ ap (behind_first now) is in
     let first : items now.ended now.bytes ≡ part ∷ items now.ended left = items_decided now.ended now.bytes part d.bytes is in
     let same : items next.ended next.bytes ≡ items now.ended left =
-        ap (λ (h : Held). items h.ended h.bytes) here ∙ still_ended now.ended left in
+    ap (λ (h : Held). items h.ended h.bytes) here ∙ still_ended now.ended left in
     let tally : new.tally ≡ after_part mid.tally part = tells.tally ∙ after_parts-cons mid.tally part [] ∙ after_parts-nil (after_part mid.tally part) in
     let bytes_are : next.bytes ≡ left = ap (λ (h : Held). h.bytes) here in
     let grows : counted (after_part mid.tally part) + 5 * length left ≤ counted mid.tally + 5 * length now.bytes = counted-behind mid.tally part now.bytes some short in
@@ -61,7 +61,7 @@ draining_step start now next old mid new before middle after part d is advanced 
       tells = tells_more old mid new before middle after d.parts (part ∷ []) d.tells tells;
       whole = d.whole ∙ ap (λ l. d.parts ++ l) (first ∙ ap (λ l. part ∷ l) (sym same)) ∙ sym (append_assoc d.parts (part ∷ []) (items next.ended next.bytes));
       rest = ap (λ l. drop (total_size l) next.bytes) same ∙ ap (λ l. drop (total_size (items now.ended left)) l) bytes_are
-        ∙ drop-drop (total_size (items now.ended left)) n now.bytes ∙ sym (ap (λ l. drop (total_size l) now.bytes) first) ∙ d.rest;
+          ∙ drop-drop (total_size (items now.ended left)) n now.bytes ∙ sym (ap (λ l. drop (total_size l) now.bytes) first) ∙ d.rest;
       bytes = subst AreBytes (sym bytes_are) (AreBytes-drop n now.bytes d.bytes);
       some = λ e. subst (λ (l : List ℕ). 0 < length l) (sym bytes_are) (ended_some now.ended left (sym (ap (λ (h : Held). h.ended) here) ∙ e));
       counts = omega arith;
@@ -73,12 +73,12 @@ draining_end start now old new before after d is =
     let none : items now.ended now.bytes ≡ [] = items_undecided now.ended now.bytes is in
     let whole : items start.ended start.bytes ≡ d.parts = d.whole ∙ ap (λ l. d.parts ++ l) none ∙ append-nil d.parts in
     let bytes_are : now.bytes ≡ drop (total_size (items start.ended start.bytes)) start.bytes =
-        sym (ap (λ l. drop (total_size l) now.bytes) none) ∙ d.rest in
+    sym (ap (λ l. drop (total_size l) now.bytes) none) ∙ d.rest in
     let open_ended : now.ended ≡ false = goes_on now.ended refl in
     record {
       tells = subst (λ l. Tells old new before after l) (sym whole) d.tells;
       held = ap (λ (l : List ℕ). record { bytes = l; ended = now.ended }) bytes_are
-        ∙ ap (λ (e : Bool). record { bytes = drop (total_size (items start.ended start.bytes)) start.bytes; ended = e }) open_ended;
+          ∙ ap (λ (e : Bool). record { bytes = drop (total_size (items start.ended start.bytes)) start.bytes; ended = e }) open_ended;
       settled = ap (λ e. decided e now.bytes) (sym open_ended) ∙ is;
       counts = d.counts;
     }

@@ -35,7 +35,7 @@ took_both xs ys good a b c before middle after first second =
     let q = second.load_is in
     record {
       follows = λ full form start read f.
-        subst (λ l. FollowsIf good full form start l c after) (append_assoc read xs ys) (second.follows full form start (read ++ xs) (first.follows full form start read f));
+          subst (λ l. FollowsIf good full form start l c after) (append_assoc read xs ys) (second.follows full form start (read ++ xs) (first.follows full form start read f));
       settled = second.settled;
       form_is = second.form_is ∙ first.form_is;
       load_is = omega arith;
@@ -106,17 +106,18 @@ held_line piece old new before whole lines settled form_is ended_is framer_is re
       line = line_is ∙ ap (λ l. l ++ kept piece) o.line ∙ sym (ap kept (unended_line-hold read piece whole) ∙ kept-append (unended_line read) piece);
       count = ended_is ∙ o.count ∙ ap length (sym (ended_lines-hold read piece whole));
     }
+
     goes_on : (full : Bool) (form : Form) (start : Option (List ℕ)) (read : List ℕ) → Follows full form start read old before
         → (ended_runs form (read ++ piece) ≡ ended_runs form read) × (open_run form (read ++ piece) ≡ open_run form read)
-          × (first_bad_ended form (read ++ piece) ≡ first_bad_ended form read)
+        × (first_bad_ended form (read ++ piece) ≡ first_bad_ended form read)
         → Follows full form start (read ++ piece) new before
     goes_on full form start read f same = record {
       form_is = form_is ∙ f.form_is;
       stands =
-        subst (λ r. Stands full start (ended_runs form (read ++ piece)) (open_run form (read ++ piece)) new.framer r before) (sym report_is)
-        (subst (λ (h : Held). Stands full start (ended_runs form (read ++ piece)) (open_run form (read ++ piece)) h old.report before) (sym framer_is)
-        (subst (λ r. Stands full start r (open_run form (read ++ piece)) old.framer old.report before) (sym same.0)
-        (subst (λ r. Stands full start (ended_runs form read) r old.framer old.report before) (sym same.1) f.stands)));
+          subst (λ r. Stands full start (ended_runs form (read ++ piece)) (open_run form (read ++ piece)) new.framer r before) (sym report_is)
+          (subst (λ (h : Held). Stands full start (ended_runs form (read ++ piece)) (open_run form (read ++ piece)) h old.report before) (sym framer_is)
+          (subst (λ r. Stands full start r (open_run form (read ++ piece)) old.framer old.report before) (sym same.0)
+          (subst (λ r. Stands full start (ended_runs form read) r old.framer old.report before) (sym same.1) f.stands)));
       open_line = line_goes_on form read f.open_line;
       good = same.2 ∙ f.good;
     }
@@ -190,7 +191,7 @@ fed_apart bytes old mid new before middle after apart form_is says short line_is
         record {
           form_is = form_is ∙ f.form_is;
           stands = subst (λ r. Stands full start r [] new.framer new.report after) (sym fed.0)
-            (e.stands full start (ended_runs Apart read) bytes (t.stands full start (ended_runs Apart read) [] f.stands));
+              (e.stands full start (ended_runs Apart read) bytes (t.stands full start (ended_runs Apart read) [] f.stands));
           open_line = fed_line read old new f.open_line line_is ended_is;
           good = fed.1;
         }
@@ -216,15 +217,16 @@ fed_bad old new now lines settled form_is says line_is ended_is framer_is report
         let here = read ++ line_feed ∷ [] in
         record {
           stands =
-            subst (λ r. Stands full start (ended_runs form here) (open_run form here) new.framer r now) (sym report_is)
-            (subst (λ (h : Held). Stands full start (ended_runs form here) (open_run form here) h old.report now) (sym framer_is)
-            (subst (λ r. Stands full start r (open_run form here) old.framer old.report now) (sym fed.0)
-            (subst (λ r. Stands full start (ended_runs form read) r old.framer old.report now) (sym fed.1) f.stands)));
+              subst (λ r. Stands full start (ended_runs form here) (open_run form here) new.framer r now) (sym report_is)
+              (subst (λ (h : Held). Stands full start (ended_runs form here) (open_run form here) h old.report now) (sym framer_is)
+              (subst (λ r. Stands full start r (open_run form here) old.framer old.report now) (sym fed.0)
+              (subst (λ r. Stands full start (ended_runs form read) r old.framer old.report now) (sym fed.1) f.stands)));
           bad = fed.2 ∙ ap Some (ap (λ n. n + 1) (sym o.count) ∙ sym ended_is);
         }
+
     by_form : (full : Bool) (form : Form) (start : Option (List ℕ)) (read : List ℕ) → Follows full form start read old now
         → (form ≡ Joined) ⊎ (form ≡ Apart) → Stops full form start (read ++ line_feed ∷ []) new now
-    by_form full Raw start read f is = elim is [ | inl j ↦ cc | inr a ↦ cc ]
+    by_form full Raw start read f is = elim is [ inl j ↦ cc | inr a ↦ cc ]
     by_form full Joined start read f is = stops full Joined start read f f.open_line is
     by_form full Apart start read f is = stops full Apart start read f f.open_line is
 
@@ -287,7 +289,7 @@ begins full capture start line ended framer full_is tally text = record {
     held_is = framer ∙ ap (λ (l : List ℕ). record { bytes = l; ended = false }) (sym (ap left_over (nothing_open capture.form) ∙ left_none));
     bytes = subst AreBytes (sym (nothing_open capture.form)) no_bytes;
     lines = subst (λ (now : Option (List ℕ)). Appends start now (lines_so_far full (ended_runs capture.form []) (open_run capture.form [])))
-      (sym (ap (append_known start) text ∙ append_nothing start)) (told_nothing full capture.form start);
+        (sym (ap (append_known start) text ∙ append_nothing start)) (told_nothing full capture.form start);
   };
   open_line = by_form capture.form;
   good = nothing_bad capture.form;
@@ -295,6 +297,7 @@ begins full capture start line ended framer full_is tally text = record {
   where
     opens : LineStands [] capture
     opens = record { line = line ∙ sym (ap kept none_unended); count = ended ∙ ap length (sym none_ended) }
+
     by_form : (form : Form) → OpenLine form [] capture
     by_form Raw = tt
     by_form Joined = opens
@@ -318,11 +321,11 @@ pub took_line : (piece : List ℕ) (at count : ℕ) (good : Bool) (a b c d : Cap
 took_line piece at count good a b c d before middle after h first second third =
     let rest = drop at piece in
     let one_more : take (count + 1) rest ≡ take count rest ++ line_feed ∷ [] =
-        take_more rest count 0 h.below ∙ ap (λ n. take count rest ++ n ∷ []) h.feed in
+    take_more rest count 0 h.below ∙ ap (λ n. take count rest ++ n ∷ []) h.feed in
     subst (λ l. TookPiece l good a d before after)
-      (append_assoc (take at piece) (take count rest) (line_feed ∷ []) ∙ ap (λ l. take at piece ++ l) (sym one_more) ∙ sym (take-add at (count + 1) piece))
-      (took_both (take at piece ++ take count rest) (line_feed ∷ []) good a c d before middle after
-        (took_both (take at piece) (take count rest) true a b c before middle middle first second) third)
+    (append_assoc (take at piece) (take count rest) (line_feed ∷ []) ∙ ap (λ l. take at piece ++ l) (sym one_more) ∙ sym (take-add at (count + 1) piece))
+    (took_both (take at piece ++ take count rest) (line_feed ∷ []) good a c d before middle after
+    (took_both (take at piece) (take count rest) true a b c before middle middle first second) third)
 
 -- what is left of the piece is part of a line
 pub took_rest : (piece : List ℕ) (at : ℕ) (a b c : Capture) (before middle : Option (List ℕ))

@@ -64,8 +64,8 @@ parts_text full tally [] = refl
 parts_text full tally (part ∷ parts) =
     ap (λ l. part_line full tally part ++ l)
     (parts_text full (after_part tally part) parts
-     ∙ ap (λ n. items_text full (n + 1) (after_part tally part).place parts) (after_part-runs tally part)
-     ∙ ap (λ n. items_text full (tally.runs + 1) n parts) (after_part-place tally part))
+    ∙ ap (λ n. items_text full (n + 1) (after_part tally part).place parts) (after_part-runs tally part)
+    ∙ ap (λ n. items_text full (tally.runs + 1) n parts) (after_part-place tally part))
 
 -- what is counted of them
 pub record Counted (old new : Tally) (parts : List Part) : Type 0 where
@@ -126,7 +126,7 @@ run_counted tally run parts has r =
     let step = after_run_place (after_parts tally parts) (λ none. omega arith) in
     subst (λ ps. CountedRun tally (after_run (after_parts tally ps)) parts) is
     (subst (λ t. CountedRun tally t parts) (sym step)
-     (record { runs = ap (λ n. n + 1) c.runs; place = refl; packets = c.packets; skipped = c.skipped; refused = c.refused }))
+    (record { runs = ap (λ n. n + 1) c.runs; place = refl; packets = c.packets; skipped = c.skipped; refused = c.refused }))
 
 runs_text : (full : Bool) (tally : Tally) (runs : List (List ℕ)) (readings : List (List Part)) → tally.place ≡ 0 → AllByRecursion HasBytes runs → AreReadings runs readings
     → runs_lines full tally runs ≡ readings_text full (tally.runs + 1) readings
@@ -139,10 +139,10 @@ runs_text full tally (run ∷ runs) (parts ∷ readings) none has r =
     let next = after_run (after_parts tally (reading run)) in
     let c = run_counted tally run parts has.0 r.0 in
     let here : parts_lines full tally (reading run) ≡ items_text full (tally.runs + 1) 0 parts =
-      parts_text full tally (reading run) ∙ ap (λ n. items_text full (tally.runs + 1) n (reading run)) none ∙ ap (items_text full (tally.runs + 1) 0) (sym is) in
+    parts_text full tally (reading run) ∙ ap (λ n. items_text full (tally.runs + 1) n (reading run)) none ∙ ap (items_text full (tally.runs + 1) 0) (sym is) in
     ap (λ l. l ++ runs_lines full next runs) here
     ∙ ap (λ l. items_text full (tally.runs + 1) 0 parts ++ l)
-      (runs_text full next runs readings c.place has.1 r.1 ∙ ap (λ n. readings_text full (n + 1) readings) c.runs)
+    (runs_text full next runs readings c.place has.1 r.1 ∙ ap (λ n. readings_text full (n + 1) readings) c.runs)
 
 record CountedRuns (old new : Tally) (readings : List (List Part)) : Type 0 where
   runs : new.runs ≡ old.runs + length readings
@@ -309,12 +309,12 @@ shown_so_far_is full form bytes runs open_bytes readings parts fits has r d =
     let t = after_runs no_tally (ended_runs form bytes) in
     let c = runs_counted no_tally (ended_runs form bytes) readings have r' in
     let shown_items : parts ≡ items false (open_run form bytes) =
-      drained_items false (open_run form bytes) parts (open_has_bytes form bytes fits) (subst (λ l. Drains false l parts) is.1 d) in
+    drained_items false (open_run form bytes) parts (open_has_bytes form bytes fits) (subst (λ l. Drains false l parts) is.1 d) in
     let last : parts_lines full t (items false (open_run form bytes)) ≡ items_text full (length readings + 1) 0 parts =
-      parts_text full t (items false (open_run form bytes))
-      ∙ ap (λ n. items_text full (n + 1) t.place (items false (open_run form bytes))) (c.runs ∙ zero-add (length readings))
-      ∙ ap (λ n. items_text full (length readings + 1) n (items false (open_run form bytes))) (after_runs-place no_tally (ended_runs form bytes) refl)
-      ∙ ap (items_text full (length readings + 1) 0) (sym shown_items) in
+    parts_text full t (items false (open_run form bytes))
+    ∙ ap (λ n. items_text full (n + 1) t.place (items false (open_run form bytes))) (c.runs ∙ zero-add (length readings))
+    ∙ ap (λ n. items_text full (length readings + 1) n (items false (open_run form bytes))) (after_runs-place no_tally (ended_runs form bytes) refl)
+    ∙ ap (items_text full (length readings + 1) 0) (sym shown_items) in
     ap (λ l. l ++ parts_lines full t (items false (open_run form bytes))) (runs_text full no_tally (ended_runs form bytes) readings refl have r')
     ∙ ap (λ l. readings_text full 1 readings ++ l) last
 
@@ -329,11 +329,11 @@ drain_within zero bytes fits short =
     empty (b ∷ l) h = absurd (omega arith)
 drain_within (suc most) bytes fits short = by_first (decided false bytes) refl
     (λ part is. drain_within most (drop (part_size part) bytes) (AreBytes-drop (part_size part) bytes fits)
-      (omega (arith, length-drop (part_size part) bytes, part_size-positive part, part_size-decided false bytes part fits is)))
+    (omega (arith, length-drop (part_size part) bytes, part_size-positive part, part_size-decided false bytes part fits is)))
   where
     by_first : (o : Option Part) → decided false bytes ≡ o
-      → ((part : Part) → decided false bytes ≡ Some part → Drains false (drop (part_size part) bytes) (items false (drop (part_size part) bytes)))
-      → Drains false bytes (items false bytes)
+        → ((part : Part) → decided false bytes ≡ Some part → Drains false (drop (part_size part) bytes) (items false (drop (part_size part) bytes)))
+        → Drains false bytes (items false bytes)
     by_first None is tails = subst (Drains false bytes) (sym (items_undecided false bytes is)) (undecided_none false bytes is)
     by_first (Some part) is tails = subst (Drains false bytes) (sym (items_decided false bytes part fits is)) (first_decided false bytes part fits is, tails part is)
 
@@ -342,8 +342,14 @@ items_drain bytes fits = drain_within (length bytes) bytes fits (omega arith)
 
 pub some_so_far : (form : Form) (bytes : List ℕ) → AreBytes bytes
     → (runs : List (List ℕ)) × (open_bytes : List ℕ) × (readings : List (List Part)) × (parts : List Part)
-      × HasRunsSoFar form bytes runs open_bytes × AreReadings runs readings × Drains false open_bytes parts
+    × HasRunsSoFar form bytes runs open_bytes × AreReadings runs readings × Drains false open_bytes parts
 some_so_far form bytes fits =
-    let r = have_readings (ended_runs form bytes) (ended_have_bytes form bytes) in
-    (ended_runs form bytes, open_run form bytes, r.0, items false (open_run form bytes), are_so_far form bytes, r.1,
-     items_drain (open_run form bytes) (open_has_bytes form bytes fits))
+    let r = have_readings (ended_runs form bytes) (ended_have_bytes form bytes) in (
+      ended_runs form bytes,
+      open_run form bytes,
+      r.0,
+      items false (open_run form bytes),
+      are_so_far form bytes,
+      r.1,
+      items_drain (open_run form bytes) (open_has_bytes form bytes fits),
+    )

@@ -26,7 +26,7 @@ tells_one known old new part full tally text = record {
   full = full;
   tally = tally ∙ sym (after_parts-cons old.tally part [] ∙ after_parts-nil (after_part old.tally part));
   lines = subst (Appends (told known old) (told known new)) (sym (parts_lines-one old.full old part))
-    (grown known (string_bytes old.text) (string_bytes new.text) (part_line old.full old.tally part) text);
+      (grown known (string_bytes old.text) (string_bytes new.text) (part_line old.full old.tally part) text);
 }
 
 -- nothing was told
@@ -53,11 +53,11 @@ tells_more old mid new a b c xs ys first second = record {
   full = second.full ∙ first.full;
   tally = second.tally ∙ ap (λ t. after_parts t ys) first.tally ∙ sym (after_parts-append old.tally xs ys);
   lines =
-    let here : parts_lines mid.full mid.tally ys ≡ parts_lines old.full (after_parts old.tally xs) ys =
-        ap (λ f. parts_lines f mid.tally ys) first.full ∙ ap (λ t. parts_lines old.full t ys) first.tally in
-    subst (Appends a c) (sym (parts_lines-append old.full old.tally xs ys))
-    (Appends-trans a b c (parts_lines old.full old.tally xs) (parts_lines old.full (after_parts old.tally xs) ys)
-     first.lines (subst (Appends b c) here second.lines));
+      let here : parts_lines mid.full mid.tally ys ≡ parts_lines old.full (after_parts old.tally xs) ys =
+      ap (λ f. parts_lines f mid.tally ys) first.full ∙ ap (λ t. parts_lines old.full t ys) first.tally in
+      subst (Appends a c) (sym (parts_lines-append old.full old.tally xs ys))
+      (Appends-trans a b c (parts_lines old.full old.tally xs) (parts_lines old.full (after_parts old.tally xs) ys)
+      first.lines (subst (Appends b c) here second.lines));
 }
 
 -- two facts of a call that went well make a third

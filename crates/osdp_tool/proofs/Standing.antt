@@ -60,7 +60,7 @@ left_over-append xs ys fits =
     let rest = drop a xs in
     let b = total_size (items false (rest ++ ys)) in
     let both : total_size (items false (xs ++ ys)) ≡ a + b =
-        ap total_size (items-append false xs ys fits) ∙ total_size-append (items false xs) (items false (rest ++ ys)) in
+    ap total_size (items-append false xs ys fits) ∙ total_size-append (items false xs) (items false (rest ++ ys)) in
     ap (λ n. drop n (xs ++ ys)) both ∙ sym (drop-drop b a (xs ++ ys))
     ∙ ap (drop b) (drop-append-le a xs ys (decided_short xs (AreBytes-front xs ys fits)))
 
@@ -91,23 +91,23 @@ stands_more full start before after ended bytes xs held next old new fits s d =
     let parts : items false (held.bytes ++ xs) ≡ items false (left_over bytes ++ xs) = ap (λ l. items false (l ++ xs)) held_bytes in
     let whole = items-append false bytes xs all in
     let tally_is : new.tally ≡ after_parts (tally_so_far ended bytes) (items false (left_over bytes ++ xs)) =
-        d.tells.tally ∙ ap (λ t. after_parts t (items false (held.bytes ++ xs))) s.tally ∙ ap (after_parts (tally_so_far ended bytes)) parts in
+    d.tells.tally ∙ ap (λ t. after_parts t (items false (held.bytes ++ xs))) s.tally ∙ ap (after_parts (tally_so_far ended bytes)) parts in
     let lines_are : parts_lines old.full old.tally (items false (held.bytes ++ xs)) ≡ parts_lines full (tally_so_far ended bytes) (items false (left_over bytes ++ xs)) =
-        ap (λ f. parts_lines f old.tally (items false (held.bytes ++ xs))) s.full_is
-        ∙ ap (λ t. parts_lines full t (items false (held.bytes ++ xs))) s.tally
-        ∙ ap (parts_lines full (tally_so_far ended bytes)) parts in
+    ap (λ f. parts_lines f old.tally (items false (held.bytes ++ xs))) s.full_is
+    ∙ ap (λ t. parts_lines full t (items false (held.bytes ++ xs))) s.tally
+    ∙ ap (parts_lines full (tally_so_far ended bytes)) parts in
     let grown : lines_so_far full ended (bytes ++ xs) ≡ lines_so_far full ended bytes ++ parts_lines full (tally_so_far ended bytes) (items false (left_over bytes ++ xs)) =
-        ap (λ l. runs_lines full no_tally ended ++ parts_lines full (after_runs no_tally ended) l) whole
-        ∙ ap (λ l. runs_lines full no_tally ended ++ l) (parts_lines-append full (after_runs no_tally ended) (items false bytes) (items false (left_over bytes ++ xs)))
-        ∙ sym (append_assoc (runs_lines full no_tally ended) (parts_lines full (after_runs no_tally ended) (items false bytes)) (parts_lines full (tally_so_far ended bytes) (items false (left_over bytes ++ xs)))) in
+    ap (λ l. runs_lines full no_tally ended ++ parts_lines full (after_runs no_tally ended) l) whole
+    ∙ ap (λ l. runs_lines full no_tally ended ++ l) (parts_lines-append full (after_runs no_tally ended) (items false bytes) (items false (left_over bytes ++ xs)))
+    ∙ sym (append_assoc (runs_lines full no_tally ended) (parts_lines full (after_runs no_tally ended) (items false bytes)) (parts_lines full (tally_so_far ended bytes) (items false (left_over bytes ++ xs)))) in
     record {
       full_is = d.tells.full ∙ s.full_is;
       tally = tally_is ∙ sym (ap (after_parts (after_runs no_tally ended)) whole ∙ after_parts-append (after_runs no_tally ended) (items false bytes) (items false (left_over bytes ++ xs)));
       held_is = d.held ∙ ap (λ (l : List ℕ). record { bytes = l; ended = false })
-        (left_is (held.bytes ++ xs) ∙ ap (λ l. left_over (l ++ xs)) held_bytes ∙ sym (left_over-append bytes xs all));
+          (left_is (held.bytes ++ xs) ∙ ap (λ l. left_over (l ++ xs)) held_bytes ∙ sym (left_over-append bytes xs all));
       bytes = all;
       lines = subst (Appends start after) (sym grown)
-        (Appends-trans start before after (lines_so_far full ended bytes) _ s.lines (subst (Appends before after) lines_are d.tells.lines));
+          (Appends-trans start before after (lines_so_far full ended bytes) _ s.lines (subst (Appends before after) lines_are d.tells.lines));
     }
 
 -- ---- a run that ends
@@ -124,7 +124,7 @@ closed_tally ended [] fits =
     let left : items true (left_over []) ≡ [] = ap (items true) left_nothing ∙ items_nothing true in
     ap (λ r. tally_so_far r []) (append-nil ended) ∙ same
     ∙ sym (ap (λ l. after_run (after_parts (tally_so_far ended []) l)) left ∙ ap after_run (after_parts-nil (tally_so_far ended []) ∙ same)
-           ∙ after_run-none t (after_runs-place no_tally ended refl))
+    ∙ after_run-none t (after_runs-place no_tally ended refl))
 closed_tally ended (b ∷ bytes) fits =
     let t = after_runs no_tally ended in
     let run = b ∷ bytes in
@@ -148,7 +148,7 @@ closed_lines full ended (b ∷ bytes) fits =
     ∙ ap (λ l. runs_lines full no_tally (ended ++ l)) (with_bytes-some b bytes)
     ∙ runs_lines-append full no_tally ended (run ∷ [])
     ∙ ap (λ l. runs_lines full no_tally ended ++ l)
-      (runs_lines-one full t run ∙ ap (parts_lines full t) (reading_split run fits) ∙ parts_lines-append full t (items false run) (items true (left_over run)))
+    (runs_lines-one full t run ∙ ap (parts_lines full t) (reading_split run fits) ∙ parts_lines-append full t (items false run) (items true (left_over run)))
     ∙ sym (append_assoc (runs_lines full no_tally ended) (parts_lines full t (items false run)) (parts_lines full (tally_so_far ended run) (items true (left_over run))))
 
 -- a run of which bytes are held has ended, else nothing is left of it
@@ -176,18 +176,18 @@ stands_end full start before after ended bytes held next old mid new s d same ta
     let parts : items (not (length held.bytes == 0)) held.bytes ≡ items true (left_over bytes) = gap_items held.bytes ∙ ap (items true) held_bytes in
     let so_far = tally_so_far ended bytes in
     let mid_is : mid.tally ≡ after_parts so_far (items true (left_over bytes)) =
-        d.tells.tally ∙ ap (λ t. after_parts t (items (not (length held.bytes == 0)) held.bytes)) s.tally ∙ ap (after_parts so_far) parts in
+    d.tells.tally ∙ ap (λ t. after_parts t (items (not (length held.bytes == 0)) held.bytes)) s.tally ∙ ap (after_parts so_far) parts in
     let lines_are : parts_lines old.full old.tally (items (not (length held.bytes == 0)) held.bytes) ≡ parts_lines full so_far (items true (left_over bytes)) =
-        ap (λ f. parts_lines f old.tally (items (not (length held.bytes == 0)) held.bytes)) s.full_is
-        ∙ ap (λ t. parts_lines full t (items (not (length held.bytes == 0)) held.bytes)) s.tally
-        ∙ ap (parts_lines full so_far) parts in
+    ap (λ f. parts_lines f old.tally (items (not (length held.bytes == 0)) held.bytes)) s.full_is
+    ∙ ap (λ t. parts_lines full t (items (not (length held.bytes == 0)) held.bytes)) s.tally
+    ∙ ap (parts_lines full so_far) parts in
     record {
       full_is = same ∙ d.tells.full ∙ s.full_is;
       tally = tally ∙ ap after_run mid_is ∙ sym (closed_tally ended bytes s.bytes);
       held_is = d.held ∙ ap (λ (l : List ℕ). record { bytes = l; ended = false }) (nothing_left held.bytes settled.bytes ∙ sym left_nothing);
       bytes = λ place. get_or_none place;
       lines = subst (Appends start after) (sym (closed_lines full ended bytes s.bytes))
-        (Appends-trans start before after (lines_so_far full ended bytes) _ s.lines (subst (Appends before after) lines_are d.tells.lines));
+          (Appends-trans start before after (lines_so_far full ended bytes) _ s.lines (subst (Appends before after) lines_are d.tells.lines));
     }
   where
     get_or_none : (place : ℕ) → get_or [] place 0 < 256
@@ -198,7 +198,7 @@ stands_end full start before after ended bytes held next old mid new s d same ta
 undecided_small : (bytes : List ℕ) → decided false bytes ≡ None → length bytes < 1440
 undecided_small bytes none = elim (undecided_none false bytes none) [
   | inl nil ↦ omega (arith, ap length nil)
-  | inr u ↦ elim u.2 [ | inl few ↦ omega arith | inr count ↦ omega arith ]
+  | inr u ↦ elim u.2 [ inl few ↦ omega arith | inr count ↦ omega arith ]
 ]
 
 min_some : (m n : ℕ) → 0 < m → 0 < n → 0 < min m n
@@ -247,7 +247,7 @@ took_step bytes at start held pushed next first old new a b c fits within t push
     let piece = take-add at n bytes in
     let given_fits = AreBytes-take n (drop at bytes) (AreBytes-drop at bytes fits) in
     let pushed_is : pushed ≡ record { bytes = held.bytes ++ given; ended = false } =
-        pushes ∙ ap (λ (e : Bool). record { bytes = held.bytes ++ given; ended = e }) t.settled.goes_on in
+    pushes ∙ ap (λ (e : Bool). record { bytes = held.bytes ++ given; ended = e }) t.settled.goes_on in
     let drained = subst (λ (h : Held). Drained h next old new b c) pushed_is d in
     let grow : length (held.bytes ++ given) ≡ length held.bytes + length given = length-append held.bytes given in
     let front : length (take (at + n) bytes) ≡ length (take at bytes) + length given = ap length piece ∙ length-append (take at bytes) given in
@@ -255,8 +255,8 @@ took_step bytes at start held pushed next first old new a b c fits within t push
     let now = drained.counts in
     record {
       stands = λ full begin ended open_bytes s.
-        subst (λ l. Stands full begin ended l next new c) (append_assoc open_bytes (take at bytes) given ∙ ap (λ l. open_bytes ++ l) (sym piece))
-        (stands_more full begin b c ended (open_bytes ++ take at bytes) given held next old new given_fits (t.stands full begin ended open_bytes s) drained);
+          subst (λ l. Stands full begin ended l next new c) (append_assoc open_bytes (take at bytes) given ∙ ap (λ l. open_bytes ++ l) (sym piece))
+          (stands_more full begin b c ended (open_bytes ++ take at bytes) given held next old new given_fits (t.stands full begin ended open_bytes s) drained);
       settled = drained_settled (record { bytes = held.bytes ++ given; ended = false }) next old new b c (AreBytes-append held.bytes given t.settled.bytes given_fits) drained;
       counts = omega arith;
     }

@@ -100,7 +100,7 @@ whole_past : (full : Bool) (form : Form) (limit one : ℕ) (bytes read rest : Li
 whole_past full form limit one bytes read rest output parts whole good text =
     let regrouped : bytes ≡ read ++ (one ∷ [] ++ rest) = parts ∙ append_assoc read (one ∷ []) rest in
     let front : take limit bytes ≡ read =
-        ap (take limit) regrouped ∙ ap (λ n. take n (read ++ (one ∷ [] ++ rest))) (sym whole) ∙ take-append_seam read (one ∷ [] ++ rest) in
+    ap (take limit) regrouped ∙ ap (λ n. take n (read ++ (one ∷ [] ++ rest))) (sym whole) ∙ take-append_seam read (one ∷ [] ++ rest) in
     let lengths = ap length parts in
     let a = length-append (read ++ one ∷ []) rest in
     let b = length-append read (one ∷ []) in

@@ -95,47 +95,47 @@ pub closed_by : (old new : Capture) (next : Held) (mid : Report) (before middle 
     → Appends middle written (end_line mid.full mid.tally) → Closed old new before written
 closed_by old new next mid before middle written e tally ended w = record {
   text = λ full start runs open_bytes s.
-    let closed = closed_runs runs open_bytes in
-    let at = e.stands full start runs open_bytes s in
-    let last : end_line mid.full mid.tally ≡ end_line full (after_runs no_tally closed) =
-        ap (λ f. end_line f mid.tally) at.full_is ∙ ap (end_line full) (at.tally ∙ tally_closed closed) in
-    Appends-trans start middle written (runs_lines full no_tally closed) (end_line full (after_runs no_tally closed))
-    (subst (Appends start middle) (lines_closed full closed) at.lines) (subst (Appends middle written) last w);
+      let closed = closed_runs runs open_bytes in
+      let at = e.stands full start runs open_bytes s in
+      let last : end_line mid.full mid.tally ≡ end_line full (after_runs no_tally closed) =
+      ap (λ f. end_line f mid.tally) at.full_is ∙ ap (end_line full) (at.tally ∙ tally_closed closed) in
+      Appends-trans start middle written (runs_lines full no_tally closed) (end_line full (after_runs no_tally closed))
+      (subst (Appends start middle) (lines_closed full closed) at.lines) (subst (Appends middle written) last w);
   tally = λ full start runs open_bytes s.
-    tally ∙ (e.stands full start runs open_bytes s).tally ∙ tally_closed (closed_runs runs open_bytes);
+      tally ∙ (e.stands full start runs open_bytes s).tally ∙ tally_closed (closed_runs runs open_bytes);
   same = ended;
 }
 
 fed_end : (form : Form) (read : List ℕ) → (form ≡ Joined) ⊎ (form ≡ Apart) → first_bad_ended form read ≡ None
     → (runs_of form read ≡ closed_runs (ended_runs form (read ++ line_feed ∷ [])) (open_run form (read ++ line_feed ∷ [])))
-      × (first_bad form read ≡ first_bad_ended form (read ++ line_feed ∷ []))
-fed_end Raw read is good = elim is [ | inl j ↦ cc | inr a ↦ cc ]
+    × (first_bad form read ≡ first_bad_ended form (read ++ line_feed ∷ []))
+fed_end Raw read is good = elim is [ inl j ↦ cc | inr a ↦ cc ]
 fed_end Joined read is good = go (line_bytes (unended_line read)) refl
   where
     go : (o : Option (List ℕ)) → line_bytes (unended_line read) ≡ o
-      → (runs_of Joined read ≡ closed_runs (ended_runs Joined (read ++ line_feed ∷ [])) (open_run Joined (read ++ line_feed ∷ [])))
+        → (runs_of Joined read ≡ closed_runs (ended_runs Joined (read ++ line_feed ∷ [])) (open_run Joined (read ++ line_feed ∷ [])))
         × (first_bad Joined read ≡ first_bad_ended Joined (read ++ line_feed ∷ []))
     go None says =
-      let e = end_bad Joined read is good says in
-      let f = feed_bad Joined read is good says in
-      (e.1 ∙ sym (ap (λ r. closed_runs [] r) f.1), e.0 ∙ sym f.2)
+        let e = end_bad Joined read is good says in
+        let f = feed_bad Joined read is good says in
+        (e.1 ∙ sym (ap (λ r. closed_runs [] r) f.1), e.0 ∙ sym f.2)
     go (Some bytes) says =
-      let e = end_joined read bytes good says in
-      let f = feed_joined read bytes good says in
-      (e.1 ∙ sym (ap (λ r. closed_runs [] r) f.0), e.0 ∙ sym f.1)
+        let e = end_joined read bytes good says in
+        let f = feed_joined read bytes good says in
+        (e.1 ∙ sym (ap (λ r. closed_runs [] r) f.0), e.0 ∙ sym f.1)
 fed_end Apart read is good = go (line_bytes (unended_line read)) refl
   where
     go : (o : Option (List ℕ)) → line_bytes (unended_line read) ≡ o
-      → (runs_of Apart read ≡ closed_runs (ended_runs Apart (read ++ line_feed ∷ [])) (open_run Apart (read ++ line_feed ∷ [])))
+        → (runs_of Apart read ≡ closed_runs (ended_runs Apart (read ++ line_feed ∷ [])) (open_run Apart (read ++ line_feed ∷ [])))
         × (first_bad Apart read ≡ first_bad_ended Apart (read ++ line_feed ∷ []))
     go None says =
-      let e = end_bad Apart read is good says in
-      let f = feed_bad Apart read is good says in
-      (e.1 ∙ sym (ap (λ r. closed_runs r []) f.0), e.0 ∙ sym f.2)
+        let e = end_bad Apart read is good says in
+        let f = feed_bad Apart read is good says in
+        (e.1 ∙ sym (ap (λ r. closed_runs r []) f.0), e.0 ∙ sym f.2)
     go (Some bytes) says =
-      let e = end_apart read bytes good says in
-      let f = feed_apart read bytes good says in
-      (e.1 ∙ sym (append-nil (closed_runs (ended_runs Apart read) bytes)) ∙ sym (ap (λ r. closed_runs r []) f.0), e.0 ∙ sym f.1)
+        let e = end_apart read bytes good says in
+        let f = feed_apart read bytes good says in
+        (e.1 ∙ sym (append-nil (closed_runs (ended_runs Apart read) bytes)) ∙ sym (ap (λ r. closed_runs r []) f.0), e.0 ∙ sym f.1)
 
 pub ends_raw : (old : Capture) (before : Option (List ℕ)) → old.form ≡ Raw → IsSettled old.framer → EndsLine true old old before before
 ends_raw old before raw settled = record {
@@ -160,7 +160,7 @@ ends_line good old new before after is t = record {
   where
     by_good : (g : Bool) (full : Bool) (form : Form) (start : Option (List ℕ)) (read : List ℕ)
         → (runs_of form read ≡ closed_runs (ended_runs form (read ++ line_feed ∷ [])) (open_run form (read ++ line_feed ∷ [])))
-          × (first_bad form read ≡ first_bad_ended form (read ++ line_feed ∷ []))
+        × (first_bad form read ≡ first_bad_ended form (read ++ line_feed ∷ []))
         → FollowsIf g full form start (read ++ line_feed ∷ []) new after → EndedInput full form start read g new after
     by_good true full form start read fed f = record {
       ended = ended_runs form (read ++ line_feed ∷ []);
@@ -186,13 +186,21 @@ pub works_at_end : (full : Bool) (form : Form) (limit : ℕ) (start before middl
 works_at_end full form limit start before middle written ib ia input_failed output_failed old mid (Ok refused) r well a f =
     let here = a.1 full form start r.read (r.took.follows full form start [] f) in
     record {
-      read = r.read; taken = r.taken; at_end = r.at_end; within = r.within; good = here.0; answer = here.1; text = here.2;
-      input_well = well; output_well = a.0;
+      read = r.read;
+      taken = r.taken;
+      at_end = r.at_end;
+      within = r.within;
+      good = here.0;
+      answer = here.1;
+      text = here.2;
+      input_well = well;
+      output_well = a.0;
     }
 works_at_end full form limit start before middle written ib ia input_failed output_failed old mid (Err (NotHex line)) r well a f =
     let here = a.1 full form start r.read (r.took.follows full form start [] f) in
     record {
-      earlier = r.read; piece = [];
+      earlier = r.read;
+      piece = [];
       taken = subst (Consumes ib ia) (sym (append-nil r.read)) r.taken;
       within = subst (λ (l : List ℕ). length l ≤ limit) (sym (append-nil r.read)) r.within;
       one_piece = omega arith;
@@ -200,7 +208,8 @@ works_at_end full form limit start before middle written ib ia input_failed outp
       bad = subst (λ l. first_bad form l ≡ Some line) (sym (append-nil r.read)) here.0;
       ended = inr r.at_end;
       text = subst (λ l. Appends start written (shown full form l)) (sym (append-nil r.read)) here.1;
-      input_well = well; output_well = a.0;
+      input_well = well;
+      output_well = a.0;
     }
 works_at_end full form limit start before middle written ib ia input_failed output_failed old mid (Err TooLong) r well a f = absurd a
 works_at_end full form limit start before middle written ib ia input_failed output_failed old mid (Err ReadFailed) r well a f = absurd a
@@ -221,17 +230,23 @@ works_at_bad_line full form limit start before middle written ib ia input_failed
     let fed = r.earlier ++ take r.most r.piece in
     let more = drop r.most r.piece in
     let whole : fed ++ more ≡ r.earlier ++ r.piece =
-        append_assoc r.earlier (take r.most r.piece) more ∙ ap (λ l. r.earlier ++ l) (take-append-drop r.most r.piece) in
+    append_assoc r.earlier (take r.most r.piece) more ∙ ap (λ l. r.earlier ++ l) (take-append-drop r.most r.piece) in
     let line : Some mid.ended ≡ Some new.ended = ap Some (sym c.same) in
     let stays = bad_stays form fed more mid.ended stops.bad in
     let text = c.text full start (ended_runs form fed) (open_run form fed) stops.stands in
     record {
-      earlier = r.earlier; piece = r.piece; taken = r.taken; within = r.within; one_piece = r.one_piece; good = earlier.good;
+      earlier = r.earlier;
+      piece = r.piece;
+      taken = r.taken;
+      within = r.within;
+      one_piece = r.one_piece;
+      good = earlier.good;
       bad = subst (λ l. first_bad form l ≡ Some new.ended) whole (stays.0 ∙ line);
       ended = inl (subst (λ l. first_bad_ended form l ≡ Some new.ended) whole (stays.1 ∙ line));
       text = subst (λ l. Appends start written (shown full form l)) whole
-        (subst (λ runs. Appends start written (runs_lines full no_tally runs ++ end_line full (after_runs no_tally runs))) (sym stays.2) text);
-      input_well = well; output_well = well_too;
+          (subst (λ runs. Appends start written (runs_lines full no_tally runs ++ end_line full (after_runs no_tally runs))) (sym stays.2) text);
+      input_well = well;
+      output_well = well_too;
     }
 
 -- what a write that went well gave
@@ -257,7 +272,10 @@ pub works_at_failed_read : (full : Bool) (form : Form) (limit : ℕ) (start befo
 works_at_failed_read full form limit start before middle written ib ia input_failed output_failed old mid r read failed step fault kept f =
     let here = read.took.follows full form start [] f in
     record {
-      read = read.read; taken = read.taken; within = read.within; good = here.good;
+      read = read.read;
+      taken = read.taken;
+      within = read.within;
+      good = here.good;
       text = λ well. Appends-kept start middle written (lines_so_far full (ended_runs form read.read) (open_run form read.read)) here.stands.lines (written_well r output_failed step fault kept well);
       input_failed = failed;
     }

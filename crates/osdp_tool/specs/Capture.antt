@@ -44,7 +44,7 @@ FollowsIf false full form start read capture now = Stops full form start read ca
 -- the capture went on by these bytes; good is whether no bad line ended
 pub record TookPiece (piece : List ℕ) (good : Bool) (old new : Capture) (before after : Option (List ℕ)) : Type 0 where
   pub follows : (full : Bool) (form : Form) (start : Option (List ℕ)) (read : List ℕ)
-    → Follows full form start read old before → FollowsIf good full form start (read ++ piece) new after
+      → Follows full form start read old before → FollowsIf good full form start (read ++ piece) new after
   pub settled : IsSettled new.framer
   pub form_is : new.form ≡ old.form
   pub load_is : load new ≤ load old + 5 * length piece

@@ -92,4 +92,4 @@ pub record IsWhole (full : Bool) (form : Form) (limit : ℕ) (bytes : List ℕ) 
 abbrev pub EndsWhole : Bool → Form → ℕ → Stream → Stream → Result Bool ToolFault → Type 0
 EndsWhole full form limit input output result =
     IfSome input.before (λ bytes. input.failed ≡ false → output.failed ≡ false → (result ≡ Err NoMemory → ⊥)
-      → IsWhole full form limit bytes output result)
+    → IsWhole full form limit bytes output result)

@@ -77,13 +77,13 @@ pub record Stands (full : Bool) (start : Option (List ℕ)) (ended : List (List 
 -- the run went on by these bytes
 pub record Took (bytes : List ℕ) (held next : Held) (old new : Report) (before after : Option (List ℕ)) : Type 0 where
   pub stands : (full : Bool) (start : Option (List ℕ)) (ended : List (List ℕ)) (open_bytes : List ℕ)
-    → Stands full start ended open_bytes held old before → Stands full start ended (open_bytes ++ bytes) next new after
+      → Stands full start ended open_bytes held old before → Stands full start ended (open_bytes ++ bytes) next new after
   pub settled : IsSettled next
   pub counts : counted new.tally + 5 * length next.bytes ≤ counted old.tally + 5 * (length held.bytes + length bytes)
 
 -- the run ended
 pub record EndedRun (held next : Held) (old new : Report) (before after : Option (List ℕ)) : Type 0 where
   pub stands : (full : Bool) (start : Option (List ℕ)) (ended : List (List ℕ)) (open_bytes : List ℕ)
-    → Stands full start ended open_bytes held old before → Stands full start (closed_runs ended open_bytes) [] next new after
+      → Stands full start ended open_bytes held old before → Stands full start (closed_runs ended open_bytes) [] next new after
   pub settled : IsSettled next
   pub counts : counted new.tally + 5 * length next.bytes ≤ counted old.tally + 5 * length held.bytes

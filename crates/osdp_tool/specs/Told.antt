@@ -89,20 +89,20 @@ counts_text readings =
 -- full, else the refusals and the counts. It is refused where one of them is.
 pub record ShowsReadings : Type 0 where
   pub some : (form : Form) (bytes : List ℕ) → AreBytes bytes
-    → (runs : List (List ℕ)) × (readings : List (List Part)) × HasRuns form bytes runs × AreReadings runs readings
+      → (runs : List (List ℕ)) × (readings : List (List Part)) × HasRuns form bytes runs × AreReadings runs readings
   pub text : (full : Bool) (form : Form) (bytes : List ℕ) (runs : List (List ℕ)) (readings : List (List Part)) → AreBytes bytes
-    → HasRuns form bytes runs → AreReadings runs readings
-    → shown full form bytes ≡ readings_text full 1 readings ++ (if full then [] else counts_text readings)
+      → HasRuns form bytes runs → AreReadings runs readings
+      → shown full form bytes ≡ readings_text full 1 readings ++ (if full then [] else counts_text readings)
   pub refused : (form : Form) (bytes : List ℕ) (runs : List (List ℕ)) (readings : List (List Part)) → AreBytes bytes
-    → HasRuns form bytes runs → AreReadings runs readings
-    → is_refused_input form bytes ≡ nat_lt 0 (count_items is_refusal readings)
+      → HasRuns form bytes runs → AreReadings runs readings
+      → is_refused_input form bytes ≡ nat_lt 0 (count_items is_refusal readings)
 
 -- The text of an input that is cut off is that of the readings of the runs that have ended, and of those items of
 -- the last that its bytes decide.
 pub record ShowsDecided : Type 0 where
   pub some : (form : Form) (bytes : List ℕ) → AreBytes bytes
-    → (runs : List (List ℕ)) × (open_bytes : List ℕ) × (readings : List (List Part)) × (parts : List Part)
+      → (runs : List (List ℕ)) × (open_bytes : List ℕ) × (readings : List (List Part)) × (parts : List Part)
       × HasRunsSoFar form bytes runs open_bytes × AreReadings runs readings × Drains false open_bytes parts
   pub text : (full : Bool) (form : Form) (bytes : List ℕ) (runs : List (List ℕ)) (open_bytes : List ℕ) (readings : List (List Part)) (parts : List Part)
-    → AreBytes bytes → HasRunsSoFar form bytes runs open_bytes → AreReadings runs readings → Drains false open_bytes parts
-    → shown_so_far full form bytes ≡ readings_text full 1 readings ++ items_text full (length readings + 1) 0 parts
+      → AreBytes bytes → HasRunsSoFar form bytes runs open_bytes → AreReadings runs readings → Drains false open_bytes parts
+      → shown_so_far full form bytes ≡ readings_text full 1 readings ++ items_text full (length readings + 1) 0 parts

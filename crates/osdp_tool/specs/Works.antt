@@ -20,12 +20,12 @@ use Rattle.osdp_tool.specs.Ending.{Stream, piece_size, EndsAtEnd, EndsAtBadLine,
 -- the run has ended, and all that waited is written, with the counts where they are wanted
 pub record Closed (old new : Capture) (before written : Option (List ℕ)) : Type 0 where
   pub text : (full : Bool) (start : Option (List ℕ)) (ended : List (List ℕ)) (open_bytes : List ℕ)
-    → Stands full start ended open_bytes old.framer old.report before
-    → Appends start written (runs_lines full no_tally (closed_runs ended open_bytes)
-        ++ end_line full (after_runs no_tally (closed_runs ended open_bytes)))
+      → Stands full start ended open_bytes old.framer old.report before
+      → Appends start written (runs_lines full no_tally (closed_runs ended open_bytes)
+      ++ end_line full (after_runs no_tally (closed_runs ended open_bytes)))
   pub tally : (full : Bool) (start : Option (List ℕ)) (ended : List (List ℕ)) (open_bytes : List ℕ)
-    → Stands full start ended open_bytes old.framer old.report before
-    → new.report.tally ≡ after_runs no_tally (closed_runs ended open_bytes)
+      → Stands full start ended open_bytes old.framer old.report before
+      → new.report.tally ≡ after_runs no_tally (closed_runs ended open_bytes)
   pub same : new.ended ≡ old.ended
 
 -- the input has ended behind these bytes, and its last line has been told
@@ -38,7 +38,7 @@ pub record EndedInput (full : Bool) (form : Form) (start : Option (List ℕ)) (r
 
 pub record EndsLine (good : Bool) (old new : Capture) (before after : Option (List ℕ)) : Type 0 where
   pub ends : (full : Bool) (form : Form) (start : Option (List ℕ)) (read : List ℕ)
-    → Follows full form start read old before → EndedInput full form start read good new after
+      → Follows full form start read old before → EndedInput full form start read good new after
   pub settled : IsSettled new.framer
   pub load_is : load new ≤ load old + 5
 
@@ -99,10 +99,10 @@ ReadTo AtFailedRead limit old new input_before input_after before after was_fail
 abbrev pub Answered : Capture → Result Bool ToolFault → Bool → Bool → Option (List ℕ) → Option (List ℕ) → Type 0
 Answered old (Ok refused) was_failed failed before written = (failed ≡ was_failed)
     × ((full : Bool) (form : Form) (start : Option (List ℕ)) (read : List ℕ) → Follows full form start read old before
-      → (first_bad form read ≡ None) × (refused ≡ is_refused_input form read) × Appends start written (shown full form read))
+    → (first_bad form read ≡ None) × (refused ≡ is_refused_input form read) × Appends start written (shown full form read))
 Answered old (Err (NotHex line)) was_failed failed before written = (failed ≡ was_failed)
     × ((full : Bool) (form : Form) (start : Option (List ℕ)) (read : List ℕ) → Follows full form start read old before
-      → (first_bad form read ≡ Some line) × Appends start written (shown full form read))
+    → (first_bad form read ≡ Some line) × Appends start written (shown full form read))
 Answered old (Err WriteFailed) was_failed failed before written = failed ≡ true
 Answered old (Err NoMemory) was_failed failed before written = failed ≡ was_failed
 Answered old (Err TooLong) was_failed failed before written = ⊥

@@ -153,10 +153,7 @@ impl Capture {
     ghost use Rattle.osdp_tool.specs.Works.{Closed, EndsLine};
 
     /// The input has ended, and with it its last line; false where that is bad.
-    pub fn end_last_line<W: Write>(
-        &mut self,
-        output: &mut Watched<W>,
-    ) -> Result<bool, ToolFault>
+    pub fn end_last_line<W: Write>(&mut self, output: &mut Watched<W>) -> Result<bool, ToolFault>
         requires settled { IsSettled self.old.framer }
         requires load { load self.old < 2 ^ 61 }
         ensures step { IsStep result (has_failed output.old) (has_failed output.new) }

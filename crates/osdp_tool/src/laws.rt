@@ -7,11 +7,9 @@ ghost use Rattle.osdp_tool.specs.Told.{ShowsReadings, ShowsDecided};
 /// its place; in `check` the refusals alone, and the counts.
 pub fn shows_readings()
     ensures { ShowsReadings }
-{
-}
+{}
 
 /// The text of an input that is cut off is that of the items which its bytes decide.
 pub fn shows_decided()
     ensures { ShowsDecided }
-{
-}
+{}

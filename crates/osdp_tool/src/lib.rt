@@ -11,3 +11,6 @@ mod runs;
 pub use commands::{check, show};
 pub use osdp_job::{Job, Mode, job};
 pub use osdp_stream::{ToolFault, Watched};
+
+#[cfg(test)]
+mod tests;

@@ -104,8 +104,8 @@ impl Capture {
         ensures { (full : Bool) (form : Form) (start : Option (List ℕ))
             → Follows full form start [] self.old (told (W.contents (inner_of output.old)) self.old.report)
             → Works full form limit
-                (streamed (R.remaining (inner_of input.old)) (R.remaining (inner_of input.new)) (has_failed input.new))
-                (streamed start (W.contents (inner_of output.new)) (has_failed output.new)) result }
+            (streamed (R.remaining (inner_of input.old)) (R.remaining (inner_of input.new)) (has_failed input.new))
+            (streamed start (W.contents (inner_of output.new)) (has_failed output.new)) result }
     {
         match self.read_all(limit, input, output)? {
             Ending::AtEnd => self.answer(output),

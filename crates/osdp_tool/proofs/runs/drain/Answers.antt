@@ -14,8 +14,8 @@ items-init g c = record {
 pub items-preserved : goal.items-preserved
 items-preserved g c = record {
   draining = draining_step c.args.framer.now c.items.framer c.advance.new.self c.args.report.now c.items.report c.tell.new.self
-    _ (told (g.W.Write.contents (inner_of c.items.output)) c.items.report) (told (g.W.Write.contents (inner_of c.tell.new.output)) c.tell.new.self)
-    (part_of c.in-Some.item) c.items.invariant.draining (sym c.in-Some.ensures.shown) c.advance.ensures c.in_ok-tell.ensures.tells;
+      _ (told (g.W.Write.contents (inner_of c.items.output)) c.items.report) (told (g.W.Write.contents (inner_of c.tell.new.output)) c.tell.new.self)
+      (part_of c.in-Some.item) c.items.invariant.draining (sym c.in-Some.ensures.shown) c.advance.ensures c.in_ok-tell.ensures.tells;
   unfailed = c.in_ok-tell.ensures.step ∙ c.items.invariant.unfailed;
 }
 

@@ -6,7 +6,7 @@ use Rattle.osdp_tool.proofs.runs.drain.Given as goal
 abbrev pub invariant-items : goal.invariant-items
 invariant-items g l = record {
   draining : Draining l.initial.framer l.framer l.initial.report l.report
-    (told (g.W.Write.contents (inner_of l.initial.output)) l.initial.report) (told (g.W.Write.contents (inner_of l.output)) l.report);
+      (told (g.W.Write.contents (inner_of l.initial.output)) l.initial.report) (told (g.W.Write.contents (inner_of l.output)) l.report);
   unfailed : has_failed l.output ≡ has_failed l.initial.output;
 }
 

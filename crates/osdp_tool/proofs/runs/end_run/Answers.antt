@@ -13,5 +13,5 @@ returns-clause-ended g c =
     (told (g.W.Write.contents (inner_of c.args.output.now)) c.args.report.now) (told (g.W.Write.contents (inner_of c.drain.new.output)) last)
     c.requires.settled
     (subst (λ (h : Held). Drained h c.drain.new.framer c.args.report.now c.drain.new.report (told (g.W.Write.contents (inner_of c.args.output.now)) c.args.report.now) (told (g.W.Write.contents (inner_of c.drain.new.output)) c.drain.new.report))
-      c.gap.ensures c.in_ok-drain.ensures.drained)
+    c.gap.ensures c.in_ok-drain.ensures.drained)
     refl c.end_run.ensures

@@ -33,8 +33,8 @@ pieces-preserved g c =
       within = omega arith;
       took = subst (λ n. Took (take (c.pieces.at + n) c.args.bytes.now) c.args.framer.now c.drain.new.framer c.args.report.now c.drain.new.report
           (told (g.W.Write.contents (inner_of c.args.output.now)) c.args.report.now) (told (g.W.Write.contents (inner_of c.drain.new.output)) c.drain.new.report))
-        (sym count)
-        (took_step c.args.bytes.now c.pieces.at c.args.framer.now c.pieces.framer c.push-at.new.self c.drain.new.framer c.args.report.now c.pieces.report c.drain.new.report
-         _ _ _ (λ k. omega (arith, c.type_inv.bytes k)) was c.pieces.invariant.took (c.push-at.ensures.held ∙ ap (after_push c.pieces.framer) (take_rest c.args.bytes.now c.pieces.at)) c.in_ok-drain.ensures.drained);
+          (sym count)
+          (took_step c.args.bytes.now c.pieces.at c.args.framer.now c.pieces.framer c.push-at.new.self c.drain.new.framer c.args.report.now c.pieces.report c.drain.new.report
+          _ _ _ (λ k. omega (arith, c.type_inv.bytes k)) was c.pieces.invariant.took (c.push-at.ensures.held ∙ ap (after_push c.pieces.framer) (take_rest c.args.bytes.now c.pieces.at)) c.in_ok-drain.ensures.drained);
       unfailed = c.in_ok-drain.ensures.step ∙ c.pieces.invariant.unfailed;
     }

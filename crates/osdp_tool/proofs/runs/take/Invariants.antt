@@ -7,7 +7,7 @@ abbrev pub invariant-pieces : goal.invariant-pieces
 invariant-pieces g l = record {
   within : l.at ≤ length l.bytes;
   took : Took (take l.at l.bytes) l.initial.framer l.framer l.initial.report l.report
-    (told (g.W.Write.contents (inner_of l.initial.output)) l.initial.report) (told (g.W.Write.contents (inner_of l.output)) l.report);
+      (told (g.W.Write.contents (inner_of l.initial.output)) l.initial.report) (told (g.W.Write.contents (inner_of l.output)) l.report);
   unfailed : has_failed l.output ≡ has_failed l.initial.output;
 }
 

@@ -18,6 +18,6 @@ returns-clause-closed g c =
     } in
     on_ok_both c.end.result
     (λ kept written. closed_by c.args.self.now last c.end_run.new.framer c.end_run.new.report
-      (told (g.W.Write.contents (inner_of c.args.output.now)) c.args.self.now.report) (told (g.W.Write.contents (inner_of c.end_run.new.output)) c.end_run.new.report)
-      (g.W.Write.contents (inner_of c.end.new.output)) c.in_ok-end_run.ensures.ended kept.tally refl written)
+    (told (g.W.Write.contents (inner_of c.args.output.now)) c.args.self.now.report) (told (g.W.Write.contents (inner_of c.end_run.new.output)) c.end_run.new.report)
+    (g.W.Write.contents (inner_of c.end.new.output)) c.in_ok-end_run.ensures.ended kept.tally refl written)
     c.end.ensures.same c.end.ensures.written

@@ -1,4 +1,4 @@
-use Rattle.std.proofs.Common.{inl, inr, []  , ◌∷◌}
+use Rattle.std.proofs.Common.{inl, inr, [], ◌∷◌}
 use Rattle.osdp_stream.specs.Watched.{inner_of}
 use Rattle.osdp_input.specs.Cut.{line_feed}
 use Rattle.osdp_tool.specs.Machine.{told}

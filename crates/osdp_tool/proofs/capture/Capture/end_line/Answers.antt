@@ -9,7 +9,7 @@ use Rattle.osdp_tool.proofs.capture.Capture.end_line.Goals as goal
 pub returns-then-not-good-clause-took : goal.returns-then-not-good-clause-took
 returns-then-not-good-clause-took g c =
     let says : said c.args.self.now.line.items ≡ None =
-        sym (ap said c.deref.ensures.value) ∙ says_none (said c.deref.result.now) c.in-Ok.good c.read_digits.new.bytes.items c.in-Ok.ensures.read c.if-not-good.true in
+    sym (ap said c.deref.ensures.value) ∙ says_none (said c.deref.result.now) c.in-Ok.good c.read_digits.new.bytes.items c.in-Ok.ensures.read c.if-not-good.true in
     fed_bad c.args.self.now
     (record {
       form = c.args.self.now.form;
@@ -25,8 +25,8 @@ returns-then-not-good-clause-took g c =
 pub returns-in-Joined-clause-took : goal.returns-in-Joined-clause-took
 returns-in-Joined-clause-took g c =
     let says : said c.args.self.now.line.items ≡ Some c.deref-2.result.now =
-        sym (ap said c.deref.ensures.value) ∙ says_bytes (said c.deref.result.now) c.in-Ok.good c.read_digits.new.bytes.items c.in-Ok.ensures.read c.if-not-good.false
-        ∙ ap Some (sym c.deref-2.ensures.value) in
+    sym (ap said c.deref.ensures.value) ∙ says_bytes (said c.deref.result.now) c.in-Ok.good c.read_digits.new.bytes.items c.in-Ok.ensures.read c.if-not-good.false
+    ∙ ap Some (sym c.deref-2.ensures.value) in
     let line_count : length c.deref.result.now ≡ length c.args.self.now.line.items = ap length c.deref.ensures.value in
     let bytes_count : length c.deref-2.result.now ≡ length c.read_digits.new.bytes.items = ap length c.deref-2.ensures.value in
     let half = c.in-Ok.ensures.length c.if-not-good.false in
@@ -46,8 +46,8 @@ returns-in-Joined-clause-took g c =
 pub returns-in_ok-end_run-in-Apart-clause-took : goal.returns-in_ok-end_run-in-Apart-clause-took
 returns-in_ok-end_run-in-Apart-clause-took g c =
     let says : said c.args.self.now.line.items ≡ Some c.deref-2.result.now =
-        sym (ap said c.deref.ensures.value) ∙ says_bytes (said c.deref.result.now) c.in-Ok.good c.read_digits.new.bytes.items c.in-Ok.ensures.read c.if-not-good.false
-        ∙ ap Some (sym c.deref-2.ensures.value) in
+    sym (ap said c.deref.ensures.value) ∙ says_bytes (said c.deref.result.now) c.in-Ok.good c.read_digits.new.bytes.items c.in-Ok.ensures.read c.if-not-good.false
+    ∙ ap Some (sym c.deref-2.ensures.value) in
     let line_count : length c.deref.result.now ≡ length c.args.self.now.line.items = ap length c.deref.ensures.value in
     let bytes_count : length c.deref-2.result.now ≡ length c.read_digits.new.bytes.items = ap length c.deref-2.ensures.value in
     let half = c.in-Ok.ensures.length c.if-not-good.false in

@@ -14,7 +14,7 @@ returns-in-AtEnd g c = λ full form start f.
     let middle = told (g.W.Write.contents (inner_of c.read_all.new.output)) c.read_all.new.self.report in
     let written = g.W.Write.contents (inner_of c.answer.new.output) in
     let read = subst (λ (e : Ending). ReadTo e c.args.limit c.args.self.now c.read_all.new.self ib ia before middle (has_failed c.args.input.now) (has_failed c.read_all.new.input))
-        c.in-AtEnd.is c.in_ok-read_all.ensures.read in
+    c.in-AtEnd.is c.in_ok-read_all.ensures.read in
     works_at_end full form c.args.limit start before middle written ib ia (has_failed c.read_all.new.input) (has_failed c.answer.new.output)
     c.args.self.now c.read_all.new.self c.answer.result read.0 (read.1 ∙ c.requires.input)
     (subst (λ was. Answered c.read_all.new.self c.answer.result was (has_failed c.answer.new.output) middle written) (c.in_ok-read_all.ensures.step ∙ c.requires.output) c.answer.ensures)
@@ -28,7 +28,7 @@ returns-in_ok-close-in-AtBadLine g c = λ full form start f.
     let middle = told (g.W.Write.contents (inner_of c.read_all.new.output)) c.read_all.new.self.report in
     let written = g.W.Write.contents (inner_of c.close.new.output) in
     let read = subst (λ (e : Ending). ReadTo e c.args.limit c.args.self.now c.read_all.new.self ib ia before middle (has_failed c.args.input.now) (has_failed c.read_all.new.input))
-        c.in-AtBadLine.is c.in_ok-read_all.ensures.read in
+    c.in-AtBadLine.is c.in_ok-read_all.ensures.read in
     works_at_bad_line full form c.args.limit start before middle written ib ia (has_failed c.read_all.new.input) (has_failed c.close.new.output)
     c.args.self.now c.read_all.new.self c.close.new.self read.0 (read.1 ∙ c.requires.input)
     (c.in_ok-close-in-AtBadLine.ensures.step ∙ c.in_ok-read_all.ensures.step ∙ c.requires.output)
@@ -42,7 +42,7 @@ returns-in-AtFailedRead g c = λ full form start f.
     let middle = told (g.W.Write.contents (inner_of c.read_all.new.output)) c.read_all.new.self.report in
     let written = g.W.Write.contents (inner_of c.write_out-in-AtFailedRead.new.output) in
     let read = subst (λ (e : Ending). ReadTo e c.args.limit c.args.self.now c.read_all.new.self ib ia before middle (has_failed c.args.input.now) (has_failed c.read_all.new.input))
-        c.in-AtFailedRead.is c.in_ok-read_all.ensures.read in
+    c.in-AtFailedRead.is c.in_ok-read_all.ensures.read in
     works_at_failed_read full form c.args.limit start before middle written ib ia (has_failed c.read_all.new.input) (has_failed c.write_out-in-AtFailedRead.new.output)
     c.args.self.now c.read_all.new.self c.write_out-in-AtFailedRead.result read.0 read.1
     (subst (λ was. IsStep c.write_out-in-AtFailedRead.result was (has_failed c.write_out-in-AtFailedRead.new.output)) (c.in_ok-read_all.ensures.step ∙ c.requires.output) c.write_out-in-AtFailedRead.ensures.step)

@@ -47,13 +47,14 @@ pub returns-then-not-branch-clause-took : goal.returns-then-not-branch-clause-to
 returns-then-not-branch-clause-took g c =
     let contents = g.W.Write.contents (inner_of c.lines.output) in
     let middle = told contents c.lines.self.report in
-    let after = told (g.W.Write.contents (inner_of c.end_line.new.output)) c.end_line.new.self.report in
-    (c.lines.at + (c.in-Some.length + 1),
-     took_line c.args.piece.now c.lines.at c.in-Some.length false c.args.self.now c.lines.self c.hold.new.self c.end_line.new.self _ middle after
-     (line_at c.args.piece.now c.lines.at c.in-Some.length c.in-Some.ensures) c.lines.invariant.took
-     (subst (λ l. TookPiece l true c.lines.self c.hold.new.self middle middle) (part_of_slice c.args.piece.now c.lines.at c.in-Some.length) (c.in_ok-hold.ensures.took middle))
-     (subst (λ (m : Option (List ℕ)). TookPiece (line_feed ∷ []) false c.hold.new.self c.end_line.new.self m after) (ap (told contents) c.in_ok-hold.ensures.report)
-      (subst (λ good. TookPiece (line_feed ∷ []) good c.hold.new.self c.end_line.new.self (told contents c.hold.new.self.report) after) c.if-not-branch.true c.in_ok-end_line.ensures.took)))
+    let after = told (g.W.Write.contents (inner_of c.end_line.new.output)) c.end_line.new.self.report in (
+      c.lines.at + (c.in-Some.length + 1),
+      took_line c.args.piece.now c.lines.at c.in-Some.length false c.args.self.now c.lines.self c.hold.new.self c.end_line.new.self _ middle after
+          (line_at c.args.piece.now c.lines.at c.in-Some.length c.in-Some.ensures) c.lines.invariant.took
+          (subst (λ l. TookPiece l true c.lines.self c.hold.new.self middle middle) (part_of_slice c.args.piece.now c.lines.at c.in-Some.length) (c.in_ok-hold.ensures.took middle))
+          (subst (λ (m : Option (List ℕ)). TookPiece (line_feed ∷ []) false c.hold.new.self c.end_line.new.self m after) (ap (told contents) c.in_ok-hold.ensures.report)
+          (subst (λ good. TookPiece (line_feed ∷ []) good c.hold.new.self c.end_line.new.self (told contents c.hold.new.self.report) after) c.if-not-branch.true c.in_ok-end_line.ensures.took)),
+    )
 
 pub lines-preserved : goal.lines-preserved
 lines-preserved g c =
@@ -66,10 +67,10 @@ lines-preserved g c =
     record {
       within = omega arith;
       took = took_line c.args.piece.now c.lines.at c.in-Some.length true c.args.self.now c.lines.self c.hold.new.self c.end_line.new.self _ middle after
-        line c.lines.invariant.took
-        (subst (λ l. TookPiece l true c.lines.self c.hold.new.self middle middle) (part_of_slice c.args.piece.now c.lines.at c.in-Some.length) (c.in_ok-hold.ensures.took middle))
-        (subst (λ (m : Option (List ℕ)). TookPiece (line_feed ∷ []) true c.hold.new.self c.end_line.new.self m after) (ap (told contents) c.in_ok-hold.ensures.report)
-         (subst (λ good. TookPiece (line_feed ∷ []) good c.hold.new.self c.end_line.new.self (told contents c.hold.new.self.report) after) c.if-not-branch.false c.in_ok-end_line.ensures.took));
+          line c.lines.invariant.took
+          (subst (λ l. TookPiece l true c.lines.self c.hold.new.self middle middle) (part_of_slice c.args.piece.now c.lines.at c.in-Some.length) (c.in_ok-hold.ensures.took middle))
+          (subst (λ (m : Option (List ℕ)). TookPiece (line_feed ∷ []) true c.hold.new.self c.end_line.new.self m after) (ap (told contents) c.in_ok-hold.ensures.report)
+          (subst (λ good. TookPiece (line_feed ∷ []) good c.hold.new.self c.end_line.new.self (told contents c.hold.new.self.report) after) c.if-not-branch.false c.in_ok-end_line.ensures.took));
       unfailed = c.in_ok-end_line.ensures.step ∙ c.lines.invariant.unfailed;
     }
 
@@ -80,4 +81,4 @@ returns-clause-took g c =
     subst (λ (m : Option (List ℕ)). TookPiece c.args.piece.now true c.args.self.now c.hold-2.new.self (told (g.W.Write.contents (inner_of c.args.output.now)) c.args.self.now.report) m)
     (ap (told contents) (sym c.in_ok-hold-2.ensures.report))
     (took_rest c.args.piece.now c.lines.at c.args.self.now c.lines.self c.hold-2.new.self _ middle c.lines.invariant.took
-     (subst (λ l. TookPiece l true c.lines.self c.hold-2.new.self middle middle) (take_rest c.args.piece.now c.lines.at) (c.in_ok-hold-2.ensures.took middle)))
+    (subst (λ l. TookPiece l true c.lines.self c.hold-2.new.self middle middle) (take_rest c.args.piece.now c.lines.at) (c.in_ok-hold-2.ensures.took middle)))

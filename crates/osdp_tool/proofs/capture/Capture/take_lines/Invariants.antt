@@ -8,7 +8,7 @@ abbrev pub invariant-lines : goal.invariant-lines
 invariant-lines g l = record {
   within : l.at ≤ length l.piece;
   took : TookPiece (take l.at l.piece) true l.initial.self l.self
-    (told (g.W.Write.contents (inner_of l.initial.output)) l.initial.self.report) (told (g.W.Write.contents (inner_of l.output)) l.self.report);
+      (told (g.W.Write.contents (inner_of l.initial.output)) l.initial.self.report) (told (g.W.Write.contents (inner_of l.output)) l.self.report);
   unfailed : has_failed l.output ≡ has_failed l.initial.output;
 }
 

@@ -16,6 +16,6 @@ returns-clause-tells g c =
     let mid : Report = record { full = c.args.self.now.full; tally = c.tell.new.tally; text = c.tell.new.text } in
     on_ok_both c.write_out.result
     (λ kept same. tells_kept c.args.self.now mid c.write_out.new.self _ _ _ _
-      (tells_one (g.W.Write.contents (inner_of c.args.output.now)) c.args.self.now mid (part_of c.args.item.now) refl c.in-Ok.ensures.tally c.in-Ok.ensures.line)
-      kept same)
+    (tells_one (g.W.Write.contents (inner_of c.args.output.now)) c.args.self.now mid (part_of c.args.item.now) refl c.in-Ok.ensures.tally c.in-Ok.ensures.line)
+    kept same)
     c.write_out.ensures.same c.write_out.ensures.told
