@@ -1,4 +1,0 @@
-pub mod Table
-pub mod Texts
-pub mod Commands
-pub mod Replies

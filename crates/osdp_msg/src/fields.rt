@@ -1,0 +1,368 @@
+//! The data of messages whose fields are free.
+
+ghost use Rattle.std.specs.Prelude.{◌≡◌, ◌≤◌, ◌∷◌, length};
+ghost use Rattle.osdp_msg.specs.CommandFields.{BuzzerFits, buzzer_at, buzzer_data, TextFits, text_at, text_data, CommunicationFits, communication_at, communication_data, MakerFits, maker_at, maker_data};
+ghost use Rattle.osdp_msg.specs.ReplyFields.{NakFits, nak_at, nak_data, PdIdFits, pd_id_at, pd_id_data, LocalStateFits, local_state_at, local_state_data, FormattedFits, formatted_at, formatted_data, KeypadFits, keypad_at, keypad_data};
+
+use crate::nak::NakReason;
+use crate::records::Capability;
+use crate::spelling::{Spelling, append, append_u32, code_alone, list_of, rest, with_bytes};
+use arrayvec::ArrayVec;
+use byteorder::{ByteOrder, LittleEndian};
+
+/// How the buzzer of a reader sounds.
+#[derive(Clone, Copy, Debug, PartialEq, Eq)]
+pub struct Buzzer {
+    pub reader: u8,
+    /// 0 none, 1 off, 2 default.
+    pub tone: u8,
+    /// In 100 ms.
+    pub on_time: u8,
+    /// In 100 ms.
+    pub off_time: u8,
+    /// How often; 0 means until another command.
+    pub count: u8,
+}
+
+impl Buzzer {
+    pub(crate) fn read(bytes: &[u8]) -> Buzzer
+        requires { length bytes.now ≡ 5 }
+        ensures { result ≡ buzzer_at bytes.now }
+    {
+        Buzzer {
+            reader: bytes[0],
+            tone: bytes[1],
+            on_time: bytes[2],
+            off_time: bytes[3],
+            count: bytes[4],
+        }
+    }
+
+    pub(crate) fn write(self) -> Spelling
+        ensures spelled { result.items ≡ 0x6A ∷ buzzer_data self }
+        ensures fits { BuzzerFits self }
+    {
+        let data = [self.reader, self.tone, self.on_time, self.off_time, self.count];
+        with_bytes(0x6A, &data)
+    }
+}
+
+/// What the display of a reader shows.
+#[derive(Debug, Drop, PartialEq)]
+pub struct Text {
+    pub reader: u8,
+    /// 1 permanent, 2 permanent with wrap, 3 temporary, 4 temporary with wrap.
+    pub command: u8,
+    /// In seconds, of a temporary text.
+    pub time: u8,
+    pub row: u8,
+    pub column: u8,
+    pub characters: ArrayVec<u8, 255>,
+}
+
+impl Text {
+    pub(crate) fn read(bytes: &[u8]) -> Text
+        requires some { 6 ≤ length bytes.now }
+        requires room { length bytes.now ≤ 261 }
+        ensures { result ≡ text_at bytes.now }
+    {
+        Text {
+            reader: bytes[0],
+            command: bytes[1],
+            time: bytes[2],
+            row: bytes[3],
+            column: bytes[4],
+            characters: list_of(rest(bytes, 6)),
+        }
+    }
+
+    pub(crate) fn write(&self) -> Spelling
+        ensures spelled { result.items ≡ 0x6B ∷ text_data self.now }
+        ensures fits { TextFits self.now }
+    {
+        let count = self.characters.len() as u8;
+        let front = [self.reader, self.command, self.time, self.row, self.column, count];
+        let mut spelling = with_bytes(0x6B, &front);
+        append(&mut spelling, self.characters.as_slice());
+        spelling
+    }
+
+    pub(crate) fn copy(&self) -> Text
+        ensures { result ≡ self.now }
+    {
+        Text {
+            characters: list_of(self.characters.as_slice()),
+            ..*self
+        }
+    }
+}
+
+/// How a device communicates, as the controller sets it and the device confirms it.
+#[derive(Clone, Copy, Debug, PartialEq, Eq)]
+pub struct Communication {
+    pub address: u8,
+    /// In bits per second.
+    pub baud_rate: u32,
+}
+
+impl Communication {
+    pub(crate) fn read(bytes: &[u8]) -> Communication
+        requires { length bytes.now ≡ 5 }
+        ensures { result ≡ communication_at bytes.now }
+    {
+        Communication {
+            address: bytes[0],
+            baud_rate: LittleEndian::read_u32(rest(bytes, 1)),
+        }
+    }
+
+    pub(crate) fn write(self, code: u8) -> Spelling
+        ensures spelled { result.items ≡ code ∷ communication_data self }
+        ensures fits { CommunicationFits self }
+    {
+        let mut spelling = code_alone(code);
+        spelling.push(self.address);
+        append_u32(&mut spelling, self.baud_rate);
+        spelling
+    }
+}
+
+/// A message of a device's maker, with the maker's code in front.
+#[derive(Debug, Drop, PartialEq)]
+pub struct MakerMessage {
+    pub vendor: [u8; 3],
+    pub bytes: ArrayVec<u8, 1429>,
+}
+
+impl MakerMessage {
+    pub(crate) fn read(bytes: &[u8]) -> MakerMessage
+        requires some { 3 ≤ length bytes.now }
+        requires room { length bytes.now ≤ 1432 }
+        ensures { result ≡ maker_at bytes.now }
+    {
+        MakerMessage {
+            vendor: [bytes[0], bytes[1], bytes[2]],
+            bytes: list_of(rest(bytes, 3)),
+        }
+    }
+
+    pub(crate) fn write(&self, code: u8) -> Spelling
+        ensures spelled { result.items ≡ code ∷ maker_data self.now }
+        ensures fits { MakerFits self.now }
+    {
+        let mut spelling = with_bytes(code, &self.vendor);
+        append(&mut spelling, self.bytes.as_slice());
+        spelling
+    }
+
+    pub(crate) fn copy(&self) -> MakerMessage
+        ensures { result ≡ self.now }
+    {
+        MakerMessage {
+            vendor: self.vendor,
+            bytes: list_of(self.bytes.as_slice()),
+        }
+    }
+}
+
+/// Why a command wasn't done.
+#[derive(Debug, Drop, PartialEq)]
+pub struct Nak {
+    pub reason: NakReason,
+    pub detail: ArrayVec<u8, 1431>,
+}
+
+impl Nak {
+    pub(crate) fn read(bytes: &[u8]) -> Nak
+        requires some { 1 ≤ length bytes.now }
+        requires room { length bytes.now ≤ 1432 }
+        ensures { result ≡ nak_at bytes.now }
+    {
+        Nak {
+            reason: NakReason::from(bytes[0]),
+            detail: list_of(rest(bytes, 1)),
+        }
+    }
+
+    pub(crate) fn write(&self) -> Spelling
+        ensures spelled { result.items ≡ 0x41 ∷ nak_data self.now }
+        ensures fits { NakFits self.now }
+    {
+        let mut spelling = code_alone(0x41);
+        spelling.push(self.reason.number());
+        append(&mut spelling, self.detail.as_slice());
+        spelling
+    }
+
+    pub(crate) fn copy(&self) -> Nak
+        ensures { result ≡ self.now }
+    {
+        Nak {
+            reason: self.reason,
+            detail: list_of(self.detail.as_slice()),
+        }
+    }
+}
+
+/// What a device is.
+#[derive(Clone, Copy, Debug, PartialEq, Eq)]
+pub struct PdId {
+    pub vendor: [u8; 3],
+    pub model: u8,
+    pub version: u8,
+    pub serial: u32,
+    pub firmware_major: u8,
+    pub firmware_minor: u8,
+    pub firmware_build: u8,
+}
+
+impl PdId {
+    pub(crate) fn read(bytes: &[u8]) -> PdId
+        requires { length bytes.now ≡ 12 }
+        ensures { result ≡ pd_id_at bytes.now }
+    {
+        PdId {
+            vendor: [bytes[0], bytes[1], bytes[2]],
+            model: bytes[3],
+            version: bytes[4],
+            serial: LittleEndian::read_u32(rest(bytes, 5)),
+            firmware_major: bytes[9],
+            firmware_minor: bytes[10],
+            firmware_build: bytes[11],
+        }
+    }
+
+    pub(crate) fn write(self) -> Spelling
+        ensures spelled { result.items ≡ 0x45 ∷ pd_id_data self }
+        ensures fits { PdIdFits self }
+    {
+        let mut spelling = with_bytes(0x45, &self.vendor);
+        append(&mut spelling, &[self.model, self.version]);
+        append_u32(&mut spelling, self.serial);
+        let firmware = [self.firmware_major, self.firmware_minor, self.firmware_build];
+        append(&mut spelling, &firmware);
+        spelling
+    }
+}
+
+/// What a device can do.
+#[derive(Debug, Drop, PartialEq)]
+pub struct PdCap {
+    pub capabilities: ArrayVec<Capability, 477>,
+}
+
+impl PdCap {
+    pub(crate) fn copy(&self) -> PdCap
+        ensures { result ≡ self.now }
+    {
+        PdCap {
+            capabilities: list_of(self.capabilities.as_slice()),
+        }
+    }
+}
+
+/// The state of the device itself.
+#[derive(Clone, Copy, Debug, PartialEq, Eq)]
+pub struct LocalState {
+    pub tamper: u8,
+    pub power: u8,
+}
+
+impl LocalState {
+    pub(crate) fn read(bytes: &[u8]) -> LocalState
+        requires { length bytes.now ≡ 2 }
+        ensures { result ≡ local_state_at bytes.now }
+    {
+        LocalState {
+            tamper: bytes[0],
+            power: bytes[1],
+        }
+    }
+
+    pub(crate) fn write(self) -> Spelling
+        ensures spelled { result.items ≡ 0x48 ∷ local_state_data self }
+        ensures fits { LocalStateFits self }
+    {
+        with_bytes(0x48, &[self.tamper, self.power])
+    }
+}
+
+/// A card as the reader formatted it.
+#[derive(Debug, Drop, PartialEq)]
+pub struct Formatted {
+    pub reader: u8,
+    pub direction: u8,
+    pub digits: ArrayVec<u8, 255>,
+}
+
+impl Formatted {
+    pub(crate) fn read(bytes: &[u8]) -> Formatted
+        requires some { 3 ≤ length bytes.now }
+        requires room { length bytes.now ≤ 258 }
+        ensures { result ≡ formatted_at bytes.now }
+    {
+        Formatted {
+            reader: bytes[0],
+            direction: bytes[1],
+            digits: list_of(rest(bytes, 3)),
+        }
+    }
+
+    pub(crate) fn write(&self) -> Spelling
+        ensures spelled { result.items ≡ 0x51 ∷ formatted_data self.now }
+        ensures fits { FormattedFits self.now }
+    {
+        let count = self.digits.len() as u8;
+        let mut spelling = with_bytes(0x51, &[self.reader, self.direction, count]);
+        append(&mut spelling, self.digits.as_slice());
+        spelling
+    }
+
+    pub(crate) fn copy(&self) -> Formatted
+        ensures { result ≡ self.now }
+    {
+        Formatted {
+            digits: list_of(self.digits.as_slice()),
+            ..*self
+        }
+    }
+}
+
+/// Keys that were pressed.
+#[derive(Debug, Drop, PartialEq)]
+pub struct Keypad {
+    pub reader: u8,
+    pub digits: ArrayVec<u8, 255>,
+}
+
+impl Keypad {
+    pub(crate) fn read(bytes: &[u8]) -> Keypad
+        requires some { 2 ≤ length bytes.now }
+        requires room { length bytes.now ≤ 257 }
+        ensures { result ≡ keypad_at bytes.now }
+    {
+        Keypad {
+            reader: bytes[0],
+            digits: list_of(rest(bytes, 2)),
+        }
+    }
+
+    pub(crate) fn write(&self) -> Spelling
+        ensures spelled { result.items ≡ 0x53 ∷ keypad_data self.now }
+        ensures fits { KeypadFits self.now }
+    {
+        let count = self.digits.len() as u8;
+        let mut spelling = with_bytes(0x53, &[self.reader, count]);
+        append(&mut spelling, self.digits.as_slice());
+        spelling
+    }
+
+    pub(crate) fn copy(&self) -> Keypad
+        ensures { result ≡ self.now }
+    {
+        Keypad {
+            reader: self.reader,
+            digits: list_of(self.digits.as_slice()),
+        }
+    }
+}

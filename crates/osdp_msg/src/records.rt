@@ -1,0 +1,337 @@
+//! The records of the commands that set outputs and LEDs, and of the abilities of a device.
+
+ghost use Rattle.std.specs.Prelude.{◌≡◌, ◌<◌, ◌≤◌, ◌+◌, ◌*◌, ◌%◌, ℕ, ◌++◌, List, ◌∷◌, length};
+ghost use Rattle.std.specs.List.{AllByRecursion, flat_map};
+ghost use Rattle.arrayvec.specs.ArrayVec.{array_vec_len};
+ghost use Rattle.osdp_msg.specs.CommandFields.{led_at, output_at};
+ghost use Rattle.osdp_msg.specs.Records.{records_at};
+
+use crate::spelling::{Spelling, append, append_u16, code_alone, list_of, rest};
+use arrayvec::ArrayVec;
+use byteorder::{ByteOrder, LittleEndian};
+use std::marker::Model;
+
+/// A record of a fixed size in bytes.
+pub(crate) trait Record: Copy + Default + Drop {
+    ghost SIZE: { ℕ };
+
+    ghost spelled: { Self → List ℕ };
+
+    ghost fits: { Self → Type 0 };
+
+    ghost read_at: { List ℕ → Self };
+
+    /// How many bytes a record takes.
+    const SIZE: usize;
+
+    /// The record in the bytes in front.
+    fn read(bytes: &[u8]) -> Self
+        requires { SIZE ≤ length bytes.now }
+        ensures { result ≡ read_at bytes.now };
+
+    /// Appends the bytes of the record.
+    fn append_to(self, spelling: &mut Spelling)
+        requires { array_vec_len spelling.old + SIZE ≤ 1433 }
+        ensures appended { spelling.new.items ≡ spelling.old.items ++ spelled self }
+        ensures fits { fits self };
+
+    ghost some: { 0 < SIZE };
+
+    ghost length_spelled: { (r : Self) → length (spelled r) ≡ SIZE };
+}
+
+/// The records that the bytes are.
+pub(crate) fn read_records<R: Record, const N: usize>(bytes: &[u8]) -> ArrayVec<R, N>
+    requires whole { length bytes.now % R.SIZE ≡ 0 }
+    requires room { length bytes.now < R.SIZE * (N + 1) }
+    ensures { result.items ≡ records_at R.read_at R.SIZE bytes.now }
+{
+    let mut records = ArrayVec::new();
+    let mut left = bytes;
+    for _ in 0..bytes.len() / R::SIZE {
+        records.push(R::read(left));
+        left = rest(left, R::SIZE);
+    }
+    records
+}
+
+/// A message of records.
+pub(crate) fn with_records<R: Record>(code: u8, records: &[R]) -> Spelling
+    requires { R.SIZE * length records.now ≤ 1432 }
+    ensures spelled { result.items ≡ code ∷ flat_map R.spelled records.now }
+    ensures fits { AllByRecursion R.fits records.now }
+{
+    let mut spelling = code_alone(code);
+    for record in records {
+        record.append_to(&mut spelling);
+    }
+    spelling
+}
+
+/// What one output is to do.
+#[derive(Clone, Copy, Debug, Default, PartialEq, Eq)]
+pub struct OutputRecord {
+    pub output: u8,
+    /// 0 no change; 1 off for good, timed operation ended; 2 on for good, timed operation ended;
+    /// 3 off for good, timed operation left to end; 4 on for good, timed operation left to end;
+    /// 5 on for a time; 6 off for a time.
+    pub control: u8,
+    /// In 100 ms.
+    pub timer: u16,
+}
+
+impl Record for OutputRecord {
+    ghost use Rattle.osdp_msg.specs.CommandFields.{OutputFits, output_at, output_data};
+    ghost use Rattle.std.proofs.Common.{arith, refl};
+
+    ghost SIZE = { 4 };
+
+    ghost spelled = { output_data };
+
+    ghost fits = { OutputFits };
+
+    ghost read_at = { output_at };
+
+    const SIZE: usize = 4;
+
+    fn read(bytes: &[u8]) -> OutputRecord {
+        OutputRecord {
+            output: bytes[0],
+            control: bytes[1],
+            timer: LittleEndian::read_u16(rest(bytes, 2)),
+        }
+    }
+
+    fn append_to(self, spelling: &mut Spelling) {
+        spelling.push(self.output);
+        spelling.push(self.control);
+        append_u16(spelling, self.timer);
+    }
+
+    ghost some = { Prim.omega arith };
+
+    ghost length_spelled = { λ r. refl };
+}
+
+/// What one LED of a reader is to do. Times are in 100 ms. Colors: 0 off, 1 red, 2 green, 3 amber, 4 blue,
+/// 5 magenta, 6 cyan, 7 white.
+#[derive(Clone, Copy, Debug, Default, PartialEq, Eq)]
+pub struct LedRecord {
+    pub reader: u8,
+    pub led: u8,
+    /// 0 nothing, 1 cancel, 2 set.
+    pub temporary_control: u8,
+    pub temporary_on_time: u8,
+    pub temporary_off_time: u8,
+    pub temporary_on_color: u8,
+    pub temporary_off_color: u8,
+    /// How long the temporary state lasts.
+    pub timer: u16,
+    /// 0 nothing, 1 set.
+    pub permanent_control: u8,
+    pub permanent_on_time: u8,
+    pub permanent_off_time: u8,
+    pub permanent_on_color: u8,
+    pub permanent_off_color: u8,
+}
+
+impl Record for LedRecord {
+    ghost use Rattle.osdp_msg.specs.CommandFields.{LedFits, led_at, led_data};
+    ghost use Rattle.std.proofs.Common.{arith, refl};
+
+    ghost SIZE = { 14 };
+
+    ghost spelled = { led_data };
+
+    ghost fits = { LedFits };
+
+    ghost read_at = { led_at };
+
+    const SIZE: usize = 14;
+
+    fn read(bytes: &[u8]) -> LedRecord {
+        LedRecord {
+            reader: bytes[0],
+            led: bytes[1],
+            temporary_control: bytes[2],
+            temporary_on_time: bytes[3],
+            temporary_off_time: bytes[4],
+            temporary_on_color: bytes[5],
+            temporary_off_color: bytes[6],
+            timer: LittleEndian::read_u16(rest(bytes, 7)),
+            permanent_control: bytes[9],
+            permanent_on_time: bytes[10],
+            permanent_off_time: bytes[11],
+            permanent_on_color: bytes[12],
+            permanent_off_color: bytes[13],
+        }
+    }
+
+    fn append_to(self, spelling: &mut Spelling) {
+        let temporary = [
+            self.reader,
+            self.led,
+            self.temporary_control,
+            self.temporary_on_time,
+            self.temporary_off_time,
+            self.temporary_on_color,
+            self.temporary_off_color,
+        ];
+        let permanent = [
+            self.permanent_control,
+            self.permanent_on_time,
+            self.permanent_off_time,
+            self.permanent_on_color,
+            self.permanent_off_color,
+        ];
+        append(spelling, &temporary);
+        append_u16(spelling, self.timer);
+        append(spelling, &permanent);
+    }
+
+    ghost some = { Prim.omega arith };
+
+    ghost length_spelled = { λ r. refl };
+}
+
+/// One ability of a device.
+#[derive(Clone, Copy, Debug, Default, PartialEq, Eq)]
+pub struct Capability {
+    /// 1 contact status, 2 outputs, 3 card data format, 4 LED, 5 audible, 6 text, 7 time keeping,
+    /// 8 check characters, 9 security, 10 receive buffer size, 11 largest combined message,
+    /// 12 smart card, 13 readers, 14 biometrics.
+    pub function: u8,
+    pub level: u8,
+    pub count: u8,
+}
+
+impl Record for Capability {
+    ghost use Rattle.osdp_msg.specs.ReplyFields.{CapabilityFits, capability_at, capability_data};
+    ghost use Rattle.std.proofs.Common.{arith, refl};
+
+    ghost SIZE = { 3 };
+
+    ghost spelled = { capability_data };
+
+    ghost fits = { CapabilityFits };
+
+    ghost read_at = { capability_at };
+
+    const SIZE: usize = 3;
+
+    fn read(bytes: &[u8]) -> Capability {
+        Capability {
+            function: bytes[0],
+            level: bytes[1],
+            count: bytes[2],
+        }
+    }
+
+    fn append_to(self, spelling: &mut Spelling) {
+        spelling.push(self.function);
+        spelling.push(self.level);
+        spelling.push(self.count);
+    }
+
+    ghost some = { Prim.omega arith };
+
+    ghost length_spelled = { λ r. refl };
+}
+
+/// One to 358 records of outputs, as they were read.
+#[derive(Debug, Drop, PartialEq)]
+pub struct Outputs {
+    records: ArrayVec<OutputRecord, 358>,
+}
+
+impl Model for Outputs {
+    ghost use Rattle.std.specs.Prelude.{List, ◌<◌, length};
+    ghost use Rattle.osdp_msg.specs.declared.records.OutputRecord.{OutputRecord};
+
+    ghost Value = { List OutputRecord };
+
+    ghost view = { λ o. o.records.items };
+
+    ghost invariant = { λ o. 0 < length o.records.items };
+
+    ghost inverse = { λ rs. record { records = record { items = rs } } };
+}
+
+impl Outputs {
+    /// The records: one at least.
+    pub fn records(&self) -> &[OutputRecord]
+        ensures value { result.now ≡ self.now }
+        ensures some { 0 < length self.now }
+        ensures room { length self.now ≤ 358 }
+    {
+        self.records.as_slice()
+    }
+
+    pub(crate) fn read(bytes: &[u8]) -> Outputs
+        requires some { 4 ≤ length bytes.now }
+        requires room { length bytes.now ≤ 1432 }
+        requires whole { length bytes.now % 4 ≡ 0 }
+        ensures { result ≡ records_at output_at 4 bytes.now }
+    {
+        Outputs {
+            records: read_records(bytes),
+        }
+    }
+
+    pub(crate) fn copy(&self) -> Outputs
+        ensures { result ≡ self.now }
+    {
+        Outputs {
+            records: list_of(self.records.as_slice()),
+        }
+    }
+}
+
+/// One to 102 records of LEDs, as they were read.
+#[derive(Debug, Drop, PartialEq)]
+pub struct Leds {
+    records: ArrayVec<LedRecord, 102>,
+}
+
+impl Model for Leds {
+    ghost use Rattle.std.specs.Prelude.{List, ◌<◌, length};
+    ghost use Rattle.osdp_msg.specs.declared.records.LedRecord.{LedRecord};
+
+    ghost Value = { List LedRecord };
+
+    ghost view = { λ l. l.records.items };
+
+    ghost invariant = { λ l. 0 < length l.records.items };
+
+    ghost inverse = { λ rs. record { records = record { items = rs } } };
+}
+
+impl Leds {
+    /// The records: one at least.
+    pub fn records(&self) -> &[LedRecord]
+        ensures value { result.now ≡ self.now }
+        ensures some { 0 < length self.now }
+        ensures room { length self.now ≤ 102 }
+    {
+        self.records.as_slice()
+    }
+
+    pub(crate) fn read(bytes: &[u8]) -> Leds
+        requires some { 14 ≤ length bytes.now }
+        requires room { length bytes.now ≤ 1432 }
+        requires whole { length bytes.now % 14 ≡ 0 }
+        ensures { result ≡ records_at led_at 14 bytes.now }
+    {
+        Leds {
+            records: read_records(bytes),
+        }
+    }
+
+    pub(crate) fn copy(&self) -> Leds
+        ensures { result ≡ self.now }
+    {
+        Leds {
+            records: list_of(self.records.as_slice()),
+        }
+    }
+}
