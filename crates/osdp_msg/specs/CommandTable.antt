@@ -1,6 +1,6 @@
 -- The table of commands, by rows: code, data, ranges, lengths, counts inside.
 use Rattle.std.specs.Prelude.{◌≡◌, ◌<◌, ◌≤◌, ℕ, ◌-◌, ◌%◌, Bool, true, ◌==◌, ◌&&◌, nat_le, List, [], ◌∷◌, length, slice_index, Option, Some, None, Result, if◌then◌else◌}
-use Rattle.std.specs.List.{AllByRecursion, flat_map}
+use Rattle.std.specs.List.{All, flat_map}
 use Rattle.osdp_msg.specs.declared.command.Command.{Command}
 use Rattle.osdp_msg.specs.declared.command.Command.TheVariants.{Poll, Id, Cap, LocalStatus, InputStatus, OutputStatus, ReaderStatus, Output, Led, Buzzer, Text, Comset, Maker}
 use Rattle.osdp_msg.specs.declared.fault.MsgFault.{MsgFault}
@@ -47,8 +47,8 @@ CommandFits LocalStatus = Unit {0}
 CommandFits InputStatus = Unit {0}
 CommandFits OutputStatus = Unit {0}
 CommandFits ReaderStatus = Unit {0}
-CommandFits (Output records) = (0 < length records) × (length records ≤ 358) × AllByRecursion OutputFits records
-CommandFits (Led records) = (0 < length records) × (length records ≤ 102) × AllByRecursion LedFits records
+CommandFits (Output records) = (0 < length records) × (length records ≤ 358) × All OutputFits records
+CommandFits (Led records) = (0 < length records) × (length records ≤ 102) × All LedFits records
 CommandFits (Buzzer b) = BuzzerFits b
 CommandFits (Text t) = TextFits t
 CommandFits (Comset c) = CommunicationFits c

@@ -1,6 +1,6 @@
 -- The table of replies, by rows: code, data, ranges, lengths, counts inside.
 use Rattle.std.specs.Prelude.{◌≡◌, ◌<◌, ◌≤◌, ℕ, ◌+◌, ◌-◌, ◌/◌, ◌%◌, Bool, true, ◌==◌, nat_le, List, [], ◌∷◌, length, slice_index, drop, Option, Some, None, Result, if◌then◌else◌}
-use Rattle.std.specs.List.{AllByRecursion, flat_map}
+use Rattle.std.specs.List.{All, flat_map}
 use Rattle.byteorder.specs.Endian.{little_number}
 use Rattle.hex.specs.Hex.{IsBytes}
 use Rattle.osdp_msg.specs.declared.reply.Reply.{Reply}
@@ -53,7 +53,7 @@ abbrev pub ReplyFits : Reply → Type 0
 ReplyFits Ack = Unit {0}
 ReplyFits (Nak n) = NakFits n
 ReplyFits (PdId p) = PdIdFits p
-ReplyFits (PdCap p) = (length p.capabilities.items ≤ 477) × AllByRecursion CapabilityFits p.capabilities.items
+ReplyFits (PdCap p) = (length p.capabilities.items ≤ 477) × All CapabilityFits p.capabilities.items
 ReplyFits (LocalState s) = LocalStateFits s
 ReplyFits (Inputs states) = StatesFit states.items
 ReplyFits (Outputs states) = StatesFit states.items

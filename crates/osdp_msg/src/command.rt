@@ -1,6 +1,6 @@
 //! Commands: what the controller sends to a reader.
 
-ghost use Rattle.std.specs.Prelude.{◌≡◌, ◌∷◌, length, None, Some, Ok, IfOk, IfErr};
+ghost use Rattle.std.specs.Prelude.{◌≡◌, ◌∷◌, length, None, Some, Ok, IfOk, IfErr, true};
 ghost use Rattle.osdp_words.specs.Word.{AllStandFor, texts};
 ghost use Rattle.osdp_msg.specs.CommandTable.{CommandFits, IsCommand, command_code, command_data, command_counts_agree, command_fault, command_length_allowed, command_of, command_at};
 ghost use Rattle.osdp_msg.specs.CommandText.{command_words, command_text};
@@ -85,6 +85,7 @@ fn fault(code: u8, bytes: &[u8]) -> Option<MsgFault>
 }
 
 /// The command that a code and data without a fault stand for.
+#[tactic(auto, unfolding(crate::specs::CommandTable::command_at))]
 fn value_at(code: u8, bytes: &[u8]) -> Command
     requires { command_fault code bytes.now ≡ None }
     ensures { result ≡ command_at code bytes.now }

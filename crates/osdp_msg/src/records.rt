@@ -1,7 +1,7 @@
 //! The records of the commands that set outputs and LEDs, and of the abilities of a device.
 
 ghost use Rattle.std.specs.Prelude.{◌≡◌, ◌<◌, ◌≤◌, ◌+◌, ◌*◌, ◌%◌, ℕ, ◌++◌, List, ◌∷◌, length};
-ghost use Rattle.std.specs.List.{AllByRecursion, flat_map};
+ghost use Rattle.std.specs.List.{All, flat_map};
 ghost use Rattle.arrayvec.specs.ArrayVec.{array_vec_len};
 ghost use Rattle.osdp_msg.specs.CommandFields.{led_at, output_at};
 ghost use Rattle.osdp_msg.specs.Records.{records_at};
@@ -59,7 +59,7 @@ pub(crate) fn read_records<R: Record, const N: usize>(bytes: &[u8]) -> ArrayVec<
 pub(crate) fn with_records<R: Record>(code: u8, records: &[R]) -> Spelling
     requires { R.SIZE * length records.now ≤ 1432 }
     ensures spelled { result.items ≡ code ∷ flat_map R.spelled records.now }
-    ensures fits { AllByRecursion R.fits records.now }
+    ensures fits { All R.fits records.now }
 {
     let mut spelling = code_alone(code);
     for record in records {

@@ -1,6 +1,6 @@
 //! Replies: what a reader answers.
 
-ghost use Rattle.std.specs.Prelude.{◌≡◌, ◌∷◌, length, None, Some, Ok, IfOk, IfErr};
+ghost use Rattle.std.specs.Prelude.{◌≡◌, ◌∷◌, length, None, Some, Ok, IfOk, IfErr, true};
 ghost use Rattle.osdp_words.specs.Word.{AllStandFor, texts};
 ghost use Rattle.osdp_msg.specs.ReplyTable.{ReplyFits, IsReply, reply_code, reply_data, reply_counts_agree, reply_fault, reply_length_allowed, reply_of, reply_at};
 ghost use Rattle.osdp_msg.specs.ReplyText.{reply_words, reply_text};
@@ -99,6 +99,7 @@ fn fault(code: u8, bytes: &[u8]) -> Option<MsgFault>
 }
 
 /// The reply that a code and data without a fault stand for.
+#[tactic(auto, unfolding(crate::specs::ReplyTable::reply_at))]
 fn value_at(code: u8, bytes: &[u8]) -> Reply
     requires { reply_fault code bytes.now ≡ None }
     ensures { result ≡ reply_at code bytes.now }

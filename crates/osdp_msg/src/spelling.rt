@@ -1,6 +1,6 @@
 //! Bytes of messages, as they are read and written.
 
-ghost use Rattle.std.specs.Prelude.{◌≡◌, ◌<◌, ◌≤◌, ◌+◌, [], ◌∷◌, ◌++◌, length, drop};
+ghost use Rattle.std.specs.Prelude.{◌≡◌, ◌<◌, ◌≤◌, ◌+◌, [], ◌∷◌, ◌++◌, ◌^◌, length, drop};
 ghost use Rattle.arrayvec.specs.ArrayVec.{array_vec_len};
 ghost use Rattle.byteorder.specs.Endian.{little_bytes};
 ghost use Rattle.hex.specs.Hex.{IsBytes};
@@ -71,7 +71,8 @@ pub(crate) fn append(spelling: &mut Spelling, bytes: &[u8])
 /// Appends a number as two bytes, low byte first.
 pub(crate) fn append_u16(spelling: &mut Spelling, number: u16)
     requires { array_vec_len spelling.old + 2 ≤ 1433 }
-    ensures { spelling.new.items ≡ spelling.old.items ++ little_bytes 2 number }
+    ensures appended { spelling.new.items ≡ spelling.old.items ++ little_bytes 2 number }
+    ensures fits { number < 2 ^ 16 }
 {
     let mut field = [0; 2];
     LittleEndian::write_u16(&mut field, number);
@@ -81,7 +82,8 @@ pub(crate) fn append_u16(spelling: &mut Spelling, number: u16)
 /// Appends a number as four bytes, low byte first.
 pub(crate) fn append_u32(spelling: &mut Spelling, number: u32)
     requires { array_vec_len spelling.old + 4 ≤ 1433 }
-    ensures { spelling.new.items ≡ spelling.old.items ++ little_bytes 4 number }
+    ensures appended { spelling.new.items ≡ spelling.old.items ++ little_bytes 4 number }
+    ensures fits { number < 2 ^ 32 }
 {
     let mut field = [0; 4];
     LittleEndian::write_u32(&mut field, number);
