@@ -1,5 +1,6 @@
 -- Lists of bytes, byte by byte, and numbers in them.
 use Rattle.std.proofs.Common.{◌≡◌, ◌<◌, ◌≤◌, inl, inr, add-zero, ℕ, zero, suc, ◌+◌, ◌-◌, ◌*◌, ◌/◌, ◌%◌, ◌^◌, List, [], ◌∷◌, ◌++◌, length, drop, take, get_or, refl, sym, ap, ◌∙◌, arith}
+use Rattle.std.specs.List.{AllByRecursion}
 use Rattle.std.proofs.Math.Seq.{drop-cons}
 use Rattle.std.proofs.lemmas.Bool.{cases_lt}
 use Rattle.std.proofs.lemmas.List.{append-nil, get_or-drop, get_or-take, get_or_past, length-drop, length-take, nil_from_length}
@@ -23,7 +24,11 @@ cells (suc k) n bs le =
 pub all_cells : (k : ℕ) (bs : List ℕ) → length bs ≡ k → bs ≡ cells_from 0 k bs
 all_cells k bs e =
     let none : drop k bs ≡ [] = nil_from_length (drop k bs) (simp length-drop (omega arith)) in
-    cells k 0 bs (omega arith) ∙ ap (λ (t : List ℕ). cells_from 0 k bs ++ t) none ∙ append-nil (cells_from 0 k bs)
+    let at : 0 + k ≡ k = omega arith in
+    cells k 0 bs (omega arith)
+    ∙ ap (λ (i : ℕ). cells_from 0 k bs ++ drop i bs) at
+    ∙ ap (λ (t : List ℕ). cells_from 0 k bs ++ t) none
+    ∙ append-nil (cells_from 0 k bs)
 
 pub IsBytes-nil : IsBytes []
 IsBytes-nil i = omega arith
@@ -94,8 +99,17 @@ number_2_bound bs h = omega (arith, h 0, h 1)
 pub number_4_bound : (bs : List ℕ) → IsBytes bs → little_number 4 bs < 2 ^ 32
 number_4_bound bs h = omega (arith, h 0, h 1, h 2, h 3)
 
+-- a list of bytes, element by element
+pub IsBytes-each : (bs : List ℕ) → AllByRecursion (λ b. b < 256) bs → IsBytes bs
+IsBytes-each [] h = IsBytes-nil
+IsBytes-each (b ∷ bs) h = IsBytes-cons b bs h.0 (IsBytes-each bs h.1)
+
+low_byte : (n : ℕ) → n % 256 < 256
+low_byte n = omega arith
+
 pub IsBytes-little_2 : (n : ℕ) → IsBytes (little_bytes 2 n)
-IsBytes-little_2 n = IsBytes-cons _ _ (omega arith) (IsBytes-cons _ _ (omega arith) IsBytes-nil)
+IsBytes-little_2 n = IsBytes-each (little_bytes 2 n) (low_byte n, (low_byte (n / 256), tt))
 
 pub IsBytes-little_4 : (n : ℕ) → IsBytes (little_bytes 4 n)
-IsBytes-little_4 n = IsBytes-cons _ _ (omega arith) (IsBytes-cons _ _ (omega arith) (IsBytes-cons _ _ (omega arith) (IsBytes-cons _ _ (omega arith) IsBytes-nil)))
+IsBytes-little_4 n =
+    IsBytes-each (little_bytes 4 n) (low_byte n, (low_byte (n / 256), (low_byte (n / 65536), (low_byte (n / 16777216), tt))))

@@ -1,3 +1,6 @@
 pub mod Bytes
 pub mod RecordLists
 pub mod Table
+pub mod CommandRows
+pub mod Commands
+pub mod ReplyRows
