@@ -4,3 +4,4 @@ pub mod Table
 pub mod CommandRows
 pub mod Commands
 pub mod ReplyRows
+pub mod Replies
