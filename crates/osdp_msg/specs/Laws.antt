@@ -1,9 +1,11 @@
 -- What holds of a table of messages, and of their texts.
-use Rattle.std.specs.Prelude.{◌≡◌, ◌↔◌, ◌+◌, ◌≤◌, ℕ, List, ◌∷◌, length, map, Option, Some, Result, Ok, Err}
+use Rattle.std.specs.Prelude.{◌≡◌, ◌↔◌, ◌+◌, ◌<◌, ◌≤◌, ℕ, List, ◌∷◌, length, map, Option, Some, Result, Ok, Err}
 use Rattle.std.specs.List.{join_with_byte}
 use Rattle.hex.specs.Hex.{IsBytes}
-use Rattle.osdp_words.specs.Word.{Word, AllStandFor, printed}
+use Rattle.osdp_words.specs.Word.{Word, printed}
+use Rattle.osdp_msg.specs.NakReasons.{ReasonFits, reason_number, reason_of}
 use Rattle.osdp_msg.specs.declared.fault.MsgFault.{MsgFault}
+use Rattle.osdp_msg.specs.declared.nak.NakReason.{NakReason}
 
 -- reading gives a value exactly where the table has it
 abbrev pub ReadsTheTable : {M : Type 0} → (ℕ → List ℕ → M → Type 0) → (ℕ → List ℕ → Result M MsgFault) → Type 0
@@ -33,11 +35,8 @@ FitsAPacket {M} Is =
 abbrev pub JoinsItsWords : {M : Type 0} → (M → List Word) → (M → List ℕ) → Type 0
 JoinsItsWords {M} words text = (m : M) → text m ≡ join_with_byte 32 (map printed (words m))
 
--- words stand for one value at most
-abbrev pub HasOneMeaning : {M : Type 0} → (M → Type 0) → (M → List Word) → Type 0
-HasOneMeaning {M} Fits words =
-    (given : List (List ℕ)) (m n : M) → Fits m → Fits n → AllStandFor (words m) given → AllStandFor (words n) given → m ≡ n
-
--- two values with one text are the same
-abbrev pub HasOneText : {M : Type 0} → (M → Type 0) → (M → List ℕ) → Type 0
-HasOneText {M} Fits text = (m n : M) → Fits m → Fits n → text m ≡ text n → m ≡ n
+-- the number of the reason of a number is that number, and the reason of a reason's number is that reason
+abbrev pub HasOneNumber : Type 0
+HasOneNumber =
+    ((n : ℕ) → reason_number (reason_of n) ≡ n)
+    × ((r : NakReason) → ReasonFits r → (reason_of (reason_number r) ≡ r) × (reason_number r < 256))

@@ -11,6 +11,7 @@ mod event;
 mod fault;
 mod fields;
 mod fitting;
+mod laws;
 mod nak;
 mod raw;
 mod records;
@@ -24,6 +25,11 @@ pub use fields::{
     Buzzer, Communication, Formatted, Keypad, LocalState, MakerMessage, Nak, PdCap, PdId, Text,
 };
 pub use fitting::fits;
+pub use laws::{
+    command_of_reads_the_table, command_text_joins_words, commands_are_unique,
+    commands_fit_a_packet, reasons_are_unique, replies_are_unique, replies_fit_a_packet,
+    reply_of_reads_the_table, reply_text_joins_words,
+};
 pub use nak::{NakReason, OtherReason};
 pub use raw::Raw;
 pub use records::{Capability, LedRecord, Leds, OutputRecord, Outputs};
