@@ -7,6 +7,7 @@ ghost use Rattle.osdp_msg.specs.CommandText.{command_words, command_text};
 
 use crate::fault::{BadWords, MsgFault, refusal};
 use crate::fields::{Buzzer, Communication, MakerMessage, Text};
+use crate::printing::{print_byte, print_records};
 use crate::records::{Leds, Outputs, with_records};
 use crate::spelling::{code_alone, with_byte};
 use arrayvec::ArrayVec;
@@ -169,6 +170,29 @@ impl Command {
             Command::Text(text) => Command::Text(text.copy()),
             Command::Comset(communication) => Command::Comset(*communication),
             Command::Maker(message) => Command::Maker(message.copy()),
+        }
+    }
+}
+
+impl fmt::Display for Command {
+    ghost output = { λ m. Some (command_text m) };
+
+    #[tactic(auto, unfolding(crate::specs::CommandText::command_text))]
+    fn fmt<W: fmt::Write>(&self, f: &mut fmt::Formatter<W>) -> fmt::Result {
+        match self {
+            Command::Poll => f.write_str("POLL"),
+            Command::Id(kept) => print_byte(f, "ID", *kept),
+            Command::Cap(kept) => print_byte(f, "CAP", *kept),
+            Command::LocalStatus => f.write_str("LSTAT"),
+            Command::InputStatus => f.write_str("ISTAT"),
+            Command::OutputStatus => f.write_str("OSTAT"),
+            Command::ReaderStatus => f.write_str("RSTAT"),
+            Command::Output(outputs) => print_records(f, "OUT", outputs.records()),
+            Command::Led(leds) => print_records(f, "LED", leds.records()),
+            Command::Buzzer(buzzer) => buzzer.print(f),
+            Command::Text(text) => text.print(f),
+            Command::Comset(communication) => communication.print(f, "COMSET"),
+            Command::Maker(message) => message.print(f, "MFG"),
         }
     }
 }

@@ -1,14 +1,18 @@
 //! The data of messages whose fields are free.
 
-ghost use Rattle.std.specs.Prelude.{◌≡◌, ◌≤◌, ◌∷◌, length};
-ghost use Rattle.osdp_msg.specs.CommandFields.{BuzzerFits, buzzer_at, buzzer_data, TextFits, text_at, text_data, CommunicationFits, communication_at, communication_data, MakerFits, maker_at, maker_data};
-ghost use Rattle.osdp_msg.specs.ReplyFields.{NakFits, nak_at, nak_data, PdIdFits, pd_id_at, pd_id_data, LocalStateFits, local_state_at, local_state_data, FormattedFits, formatted_at, formatted_data, KeypadFits, keypad_at, keypad_data};
+ghost use Rattle.std.specs.Prelude.{◌≡◌, ◌≤◌, ◌∷◌, [], codes, length};
+ghost use Rattle.std.specs.Fmt.{WritesOnOk};
+ghost use Rattle.osdp_words.specs.Word.{bytes, number, plain, text_of};
+ghost use Rattle.osdp_msg.specs.CommandFields.{BuzzerFits, buzzer_at, buzzer_data, buzzer_words, TextFits, text_at, text_data, text_words, CommunicationFits, communication_at, communication_data, communication_words, MakerFits, maker_at, maker_data, maker_words};
+ghost use Rattle.osdp_msg.specs.ReplyFields.{NakFits, nak_at, nak_data, nak_words, PdIdFits, pd_id_at, pd_id_data, pd_id_words, LocalStateFits, local_state_at, local_state_data, local_state_words, FormattedFits, formatted_at, formatted_data, formatted_words, KeypadFits, keypad_at, keypad_data, keypad_words};
 
 use crate::nak::NakReason;
 use crate::records::Capability;
 use crate::spelling::{Spelling, append, append_u32, code_alone, list_of, rest, with_bytes};
 use arrayvec::ArrayVec;
 use byteorder::{ByteOrder, LittleEndian};
+use osdp_words::ByteList;
+use std::fmt;
 
 /// How the buzzer of a reader sounds.
 #[derive(Clone, Copy, Debug, PartialEq, Eq)]
@@ -44,6 +48,13 @@ impl Buzzer {
     {
         let data = [self.reader, self.tone, self.on_time, self.off_time, self.count];
         with_bytes(0x6A, &data)
+    }
+
+    pub(crate) fn print<W: fmt::Write>(self, f: &mut fmt::Formatter<W>) -> fmt::Result
+        ensures { WritesOnOk W.write_str_gives f.old result (text_of (plain (codes "BUZ") ∷ buzzer_words self)) f.new }
+    {
+        let Buzzer { reader, tone, on_time, off_time, count } = self;
+        write!(f, "BUZ {reader} {tone} {on_time} {off_time} {count}")
     }
 }
 
@@ -95,6 +106,15 @@ impl Text {
             ..*self
         }
     }
+
+    pub(crate) fn print<W: fmt::Write>(&self, f: &mut fmt::Formatter<W>) -> fmt::Result
+        ensures { WritesOnOk W.write_str_gives f.old result (text_of (plain (codes "TEXT") ∷ text_words self.now)) f.new }
+    {
+        let (reader, command, time) = (self.reader, self.command, self.time);
+        let (row, column) = (self.row, self.column);
+        let characters = ByteList(self.characters.as_slice());
+        write!(f, "TEXT {reader} {command} {time} {row} {column} {characters}")
+    }
 }
 
 /// How a device communicates, as the controller sets it and the device confirms it.
@@ -124,6 +144,13 @@ impl Communication {
         spelling.push(self.address);
         append_u32(&mut spelling, self.baud_rate);
         spelling
+    }
+
+    pub(crate) fn print<W: fmt::Write>(self, f: &mut fmt::Formatter<W>, name: &str) -> fmt::Result
+        ensures { WritesOnOk W.write_str_gives f.old result (text_of (plain name.now ∷ communication_words self)) f.new }
+    {
+        let Communication { address, baud_rate } = self;
+        write!(f, "{name} {address} {baud_rate}")
     }
 }
 
@@ -163,6 +190,14 @@ impl MakerMessage {
             bytes: list_of(self.bytes.as_slice()),
         }
     }
+
+    pub(crate) fn print<W: fmt::Write>(&self, f: &mut fmt::Formatter<W>, name: &str) -> fmt::Result
+        ensures { WritesOnOk W.write_str_gives f.old result (text_of (plain name.now ∷ maker_words self.now)) f.new }
+    {
+        let vendor = ByteList(&self.vendor);
+        let bytes = ByteList(self.bytes.as_slice());
+        write!(f, "{name} {vendor} {bytes}")
+    }
 }
 
 /// Why a command wasn't done.
@@ -201,6 +236,18 @@ impl Nak {
             reason: self.reason,
             detail: list_of(self.detail.as_slice()),
         }
+    }
+
+    pub(crate) fn print<W: fmt::Write>(&self, f: &mut fmt::Formatter<W>) -> fmt::Result
+        ensures { WritesOnOk W.write_str_gives f.old result (text_of (plain (codes "NAK") ∷ nak_words self.now)) f.new }
+    {
+        let reason = self.reason.number();
+        write!(f, "NAK {reason}")?;
+        if self.detail.is_empty() {
+            return Ok(());
+        }
+        let detail = ByteList(self.detail.as_slice());
+        write!(f, " {detail}")
     }
 }
 
@@ -242,6 +289,16 @@ impl PdId {
         let firmware = [self.firmware_major, self.firmware_minor, self.firmware_build];
         append(&mut spelling, &firmware);
         spelling
+    }
+
+    pub(crate) fn print<W: fmt::Write>(self, f: &mut fmt::Formatter<W>) -> fmt::Result
+        ensures { WritesOnOk W.write_str_gives f.old result (text_of (plain (codes "PDID") ∷ pd_id_words self)) f.new }
+    {
+        let vendor = ByteList(&self.vendor);
+        let PdId { model, version, serial, .. } = self;
+        write!(f, "PDID {vendor} {model} {version} {serial}")?;
+        let (major, minor, build) = (self.firmware_major, self.firmware_minor, self.firmware_build);
+        write!(f, " {major} {minor} {build}")
     }
 }
 
@@ -285,6 +342,13 @@ impl LocalState {
     {
         with_bytes(0x48, &[self.tamper, self.power])
     }
+
+    pub(crate) fn print<W: fmt::Write>(self, f: &mut fmt::Formatter<W>) -> fmt::Result
+        ensures { WritesOnOk W.write_str_gives f.old result (text_of (plain (codes "LSTATR") ∷ local_state_words self)) f.new }
+    {
+        let LocalState { tamper, power } = self;
+        write!(f, "LSTATR {tamper} {power}")
+    }
 }
 
 /// A card as the reader formatted it.
@@ -326,6 +390,14 @@ impl Formatted {
             ..*self
         }
     }
+
+    pub(crate) fn print<W: fmt::Write>(&self, f: &mut fmt::Formatter<W>) -> fmt::Result
+        ensures { WritesOnOk W.write_str_gives f.old result (text_of (plain (codes "FMT") ∷ formatted_words self.now)) f.new }
+    {
+        let (reader, direction) = (self.reader, self.direction);
+        let digits = ByteList(self.digits.as_slice());
+        write!(f, "FMT {reader} {direction} {digits}")
+    }
 }
 
 /// Keys that were pressed.
@@ -364,5 +436,13 @@ impl Keypad {
             reader: self.reader,
             digits: list_of(self.digits.as_slice()),
         }
+    }
+
+    pub(crate) fn print<W: fmt::Write>(&self, f: &mut fmt::Formatter<W>) -> fmt::Result
+        ensures { WritesOnOk W.write_str_gives f.old result (text_of (plain (codes "KEYPAD") ∷ keypad_words self.now)) f.new }
+    {
+        let reader = self.reader;
+        let digits = ByteList(self.digits.as_slice());
+        write!(f, "KEYPAD {reader} {digits}")
     }
 }

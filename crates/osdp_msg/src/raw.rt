@@ -1,12 +1,17 @@
 //! A card's bits as they were read.
 
 ghost use Rattle.std.specs.Prelude.{◌≡◌, ◌∷◌, ◌+◌, ◌-◌, ◌/◌, ◌≤◌, drop, length};
+ghost use Rattle.std.specs.Prelude.{codes};
+ghost use Rattle.std.specs.Fmt.{WritesOnOk};
 ghost use Rattle.byteorder.specs.Endian.{little_number};
-ghost use Rattle.osdp_msg.specs.ReplyFields.{RawFits, raw_at, raw_data};
+ghost use Rattle.osdp_words.specs.Word.{plain, text_of};
+ghost use Rattle.osdp_msg.specs.ReplyFields.{RawFits, raw_at, raw_data, raw_words};
 
 use crate::spelling::{Spelling, append, append_u16, list_of, rest, with_bytes};
 use arrayvec::ArrayVec;
 use byteorder::{ByteOrder, LittleEndian};
+use osdp_words::ByteList;
+use std::fmt;
 use std::marker::Model;
 
 /// The bits of a card, in as many bytes as they need. The unused bits of the last byte are kept as read.
@@ -95,5 +100,13 @@ impl Raw {
             bits: self.bits,
             bytes: list_of(self.bytes.as_slice()),
         }
+    }
+
+    pub(crate) fn print<W: fmt::Write>(&self, f: &mut fmt::Formatter<W>) -> fmt::Result
+        ensures { WritesOnOk W.write_str_gives f.old result (text_of (plain (codes "RAW") ∷ raw_words self.now)) f.new }
+    {
+        let (reader, format, bits) = (self.reader, self.format, self.bits);
+        let bytes = ByteList(self.bytes.as_slice());
+        write!(f, "RAW {reader} {format} {bits} {bytes}")
     }
 }

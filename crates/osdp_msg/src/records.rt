@@ -1,18 +1,20 @@
 //! The records of the commands that set outputs and LEDs, and of the abilities of a device.
 
-ghost use Rattle.std.specs.Prelude.{◌≡◌, ◌<◌, ◌≤◌, ◌+◌, ◌*◌, ◌%◌, ℕ, ◌++◌, List, ◌∷◌, length};
+ghost use Rattle.std.specs.Prelude.{◌≡◌, ◌<◌, ◌≤◌, ◌+◌, ◌*◌, ◌%◌, ℕ, ◌++◌, List, ◌∷◌, Some, length};
 ghost use Rattle.std.specs.List.{All, flat_map};
 ghost use Rattle.arrayvec.specs.ArrayVec.{array_vec_len};
+ghost use Rattle.osdp_words.specs.Word.{Word, printed};
 ghost use Rattle.osdp_msg.specs.CommandFields.{led_at, output_at};
 ghost use Rattle.osdp_msg.specs.Records.{records_at};
 
 use crate::spelling::{Spelling, append, append_u16, code_alone, list_of, rest};
 use arrayvec::ArrayVec;
 use byteorder::{ByteOrder, LittleEndian};
+use std::fmt;
 use std::marker::Model;
 
 /// A record of a fixed size in bytes.
-pub(crate) trait Record: Copy + Default + Drop {
+pub(crate) trait Record: Copy + Default + Drop + fmt::Display {
     ghost SIZE: { ℕ };
 
     ghost spelled: { Self → List ℕ };
@@ -20,6 +22,8 @@ pub(crate) trait Record: Copy + Default + Drop {
     ghost fits: { Self → Type 0 };
 
     ghost read_at: { List ℕ → Self };
+
+    ghost word: { Self → Word };
 
     /// How many bytes a record takes.
     const SIZE: usize;
@@ -38,6 +42,8 @@ pub(crate) trait Record: Copy + Default + Drop {
     ghost some: { 0 < SIZE };
 
     ghost length_spelled: { (r : Self) → length (spelled r) ≡ SIZE };
+
+    ghost prints: { (r : Self) → Self.output r ≡ Some (printed (word r)) };
 }
 
 /// The records that the bytes are.
@@ -80,8 +86,27 @@ pub struct OutputRecord {
     pub timer: u16,
 }
 
+impl fmt::Display for OutputRecord {
+    ghost use Rattle.std.specs.Prelude.{Some};
+    ghost use Rattle.osdp_words.specs.Word.{printed};
+    ghost use Rattle.osdp_msg.specs.CommandFields.{output_word};
+
+    ghost output = { λ r. Some (printed (output_word r)) };
+
+    /// The numbers of the record, joined by colons.
+    fn fmt<W: fmt::Write>(&self, f: &mut fmt::Formatter<W>) -> fmt::Result {
+        let numbers = [
+            u16::from(self.output),
+            u16::from(self.control),
+            self.timer,
+        ];
+        let word = osdp_words::Record(&numbers);
+        write!(f, "{word}")
+    }
+}
+
 impl Record for OutputRecord {
-    ghost use Rattle.osdp_msg.specs.CommandFields.{OutputFits, output_at, output_data};
+    ghost use Rattle.osdp_msg.specs.CommandFields.{OutputFits, output_at, output_data, output_word};
     ghost use Rattle.std.proofs.Common.{arith, refl};
 
     ghost SIZE = { 4 };
@@ -91,6 +116,8 @@ impl Record for OutputRecord {
     ghost fits = { OutputFits };
 
     ghost read_at = { output_at };
+
+    ghost word = { output_word };
 
     const SIZE: usize = 4;
 
@@ -111,6 +138,8 @@ impl Record for OutputRecord {
     ghost some = { Prim.omega arith };
 
     ghost length_spelled = { λ r. refl };
+
+    ghost prints = { λ r. refl };
 }
 
 /// What one LED of a reader is to do. Times are in 100 ms. Colors: 0 off, 1 red, 2 green, 3 amber, 4 blue,
@@ -135,8 +164,37 @@ pub struct LedRecord {
     pub permanent_off_color: u8,
 }
 
+impl fmt::Display for LedRecord {
+    ghost use Rattle.std.specs.Prelude.{Some};
+    ghost use Rattle.osdp_words.specs.Word.{printed};
+    ghost use Rattle.osdp_msg.specs.CommandFields.{led_word};
+
+    ghost output = { λ r. Some (printed (led_word r)) };
+
+    /// The numbers of the record, joined by colons.
+    fn fmt<W: fmt::Write>(&self, f: &mut fmt::Formatter<W>) -> fmt::Result {
+        let numbers = [
+            u16::from(self.reader),
+            u16::from(self.led),
+            u16::from(self.temporary_control),
+            u16::from(self.temporary_on_time),
+            u16::from(self.temporary_off_time),
+            u16::from(self.temporary_on_color),
+            u16::from(self.temporary_off_color),
+            self.timer,
+            u16::from(self.permanent_control),
+            u16::from(self.permanent_on_time),
+            u16::from(self.permanent_off_time),
+            u16::from(self.permanent_on_color),
+            u16::from(self.permanent_off_color),
+        ];
+        let word = osdp_words::Record(&numbers);
+        write!(f, "{word}")
+    }
+}
+
 impl Record for LedRecord {
-    ghost use Rattle.osdp_msg.specs.CommandFields.{LedFits, led_at, led_data};
+    ghost use Rattle.osdp_msg.specs.CommandFields.{LedFits, led_at, led_data, led_word};
     ghost use Rattle.std.proofs.Common.{arith, refl};
 
     ghost SIZE = { 14 };
@@ -146,6 +204,8 @@ impl Record for LedRecord {
     ghost fits = { LedFits };
 
     ghost read_at = { led_at };
+
+    ghost word = { led_word };
 
     const SIZE: usize = 14;
 
@@ -192,6 +252,8 @@ impl Record for LedRecord {
     ghost some = { Prim.omega arith };
 
     ghost length_spelled = { λ r. refl };
+
+    ghost prints = { λ r. refl };
 }
 
 /// One ability of a device.
@@ -205,8 +267,27 @@ pub struct Capability {
     pub count: u8,
 }
 
+impl fmt::Display for Capability {
+    ghost use Rattle.std.specs.Prelude.{Some};
+    ghost use Rattle.osdp_words.specs.Word.{printed};
+    ghost use Rattle.osdp_msg.specs.ReplyFields.{capability_word};
+
+    ghost output = { λ r. Some (printed (capability_word r)) };
+
+    /// The numbers of the record, joined by colons.
+    fn fmt<W: fmt::Write>(&self, f: &mut fmt::Formatter<W>) -> fmt::Result {
+        let numbers = [
+            u16::from(self.function),
+            u16::from(self.level),
+            u16::from(self.count),
+        ];
+        let word = osdp_words::Record(&numbers);
+        write!(f, "{word}")
+    }
+}
+
 impl Record for Capability {
-    ghost use Rattle.osdp_msg.specs.ReplyFields.{CapabilityFits, capability_at, capability_data};
+    ghost use Rattle.osdp_msg.specs.ReplyFields.{CapabilityFits, capability_at, capability_data, capability_word};
     ghost use Rattle.std.proofs.Common.{arith, refl};
 
     ghost SIZE = { 3 };
@@ -216,6 +297,8 @@ impl Record for Capability {
     ghost fits = { CapabilityFits };
 
     ghost read_at = { capability_at };
+
+    ghost word = { capability_word };
 
     const SIZE: usize = 3;
 
@@ -236,6 +319,8 @@ impl Record for Capability {
     ghost some = { Prim.omega arith };
 
     ghost length_spelled = { λ r. refl };
+
+    ghost prints = { λ r. refl };
 }
 
 /// One to 358 records of outputs, as they were read.

@@ -9,6 +9,7 @@ use crate::fault::{BadWords, MsgFault};
 use crate::fields::{
     Communication, Formatted, Keypad, LocalState, MakerMessage, Nak, PdCap, PdId,
 };
+use crate::printing::{print_bytes, print_records};
 use crate::raw::Raw;
 use crate::records::{read_records, with_records};
 use crate::spelling::{code_alone, list_of, rest, with_bytes};
@@ -188,6 +189,30 @@ impl Reply {
             Reply::Com(communication) => Reply::Com(*communication),
             Reply::Busy => Reply::Busy,
             Reply::MakerReply(message) => Reply::MakerReply(message.copy()),
+        }
+    }
+}
+
+impl fmt::Display for Reply {
+    ghost output = { λ m. Some (reply_text m) };
+
+    #[tactic(auto, unfolding(crate::specs::ReplyText::reply_text))]
+    fn fmt<W: fmt::Write>(&self, f: &mut fmt::Formatter<W>) -> fmt::Result {
+        match self {
+            Reply::Ack => f.write_str("ACK"),
+            Reply::Nak(nak) => nak.print(f),
+            Reply::PdId(pd_id) => pd_id.print(f),
+            Reply::PdCap(pd_cap) => print_records(f, "PDCAP", pd_cap.capabilities.as_slice()),
+            Reply::LocalState(state) => state.print(f),
+            Reply::Inputs(states) => print_bytes(f, "ISTATR", states.as_slice()),
+            Reply::Outputs(states) => print_bytes(f, "OSTATR", states.as_slice()),
+            Reply::Readers(states) => print_bytes(f, "RSTATR", states.as_slice()),
+            Reply::Raw(raw) => raw.print(f),
+            Reply::Formatted(formatted) => formatted.print(f),
+            Reply::Keypad(keypad) => keypad.print(f),
+            Reply::Com(communication) => communication.print(f, "COM"),
+            Reply::Busy => f.write_str("BUSY"),
+            Reply::MakerReply(message) => message.print(f, "MFGREP"),
         }
     }
 }
