@@ -5,3 +5,11 @@ pub mod CommandRows
 pub mod Commands
 pub mod ReplyRows
 pub mod Replies
+pub mod Texts
+pub mod TakenParts
+pub mod ParsedRows
+pub mod RecordTexts
+pub mod RecordWordRows
+pub mod RowTexts
+pub mod CommandTextRows
+pub mod ReplyTextRows

@@ -1,17 +1,16 @@
 -- The table of replies.
-use Rattle.std.proofs.Common.{◌≡◌, ◌<◌, ◌≤◌, ◌+◌, ◌-◌, ◌*◌, ◌/◌, ◌%◌, lit<, lit≤, [], ◌∷◌, ◌++◌, ℕ, zero, true, eqb, leb, List, length, get_or, drop, None, refl, sym, ap, ◌∙◌, arith}
+use Rattle.std.proofs.Common.{◌≡◌, ◌<◌, ◌+◌, ◌-◌, ◌*◌, ◌/◌, ◌%◌, lit<, ◌++◌, ℕ, true, eqb, leb, List, length, get_or, drop, None, refl, sym, ap, ◌∙◌, arith}
 use Rattle.std.specs.List.{flat_map}
 use Rattle.std.proofs.lemmas.Bool.{eq-eqb, eqb-true, le-leb}
-use Rattle.std.proofs.lemmas.List.{length-append, nil_from_length}
-use Rattle.std.proofs.Math.Nat.{mul-le-mul_left, mul-mod_right}
+use Rattle.std.proofs.lemmas.List.{nil_from_length}
+use Rattle.std.proofs.Math.Nat.{mul-mod_right}
 use Rattle.byteorder.specs.Endian.{little_bytes, little_number}
 use Rattle.hex.specs.Hex.{IsBytes}
-use Rattle.osdp_msg.specs.declared.fields.PdCap.{PdCap as PdCapData}
 use Rattle.osdp_msg.specs.declared.records.Capability.{Capability}
 use Rattle.osdp_msg.specs.declared.reply.Reply.{Reply}
 use Rattle.osdp_msg.specs.declared.reply.Reply.TheVariants.{Ack, Nak, PdId, PdCap, LocalState, Inputs, Outputs, Readers, Raw, Formatted, Keypad, Com, Busy, MakerReply}
 use Rattle.osdp_msg.specs.ReplyFields.{CapabilityFits, capability_at, capability_data}
-use Rattle.osdp_msg.specs.ReplyTable.{IsReply, ReplyFits, StatesFit, reply_at, reply_code, reply_counts_agree, reply_data, reply_fault, reply_length_allowed, reply_of}
+use Rattle.osdp_msg.specs.ReplyTable.{IsReply, ReplyFits, reply_at, reply_code, reply_counts_agree, reply_data, reply_fault, reply_length_allowed, reply_of}
 use Rattle.osdp_msg.specs.Laws.{FitsAPacket, HasOneSpelling, HasOneValue, ReadsTheFaults, ReadsTheTable}
 use Rattle.osdp_msg.proofs.Bytes.{IsBytes-cons, IsBytes-nil, bytes_2}
 use Rattle.osdp_msg.proofs.CommandRows.{communication_again, communication_fits, communication_spells, communication_takes, maker_again, maker_fits, maker_length, maker_spells, maker_takes}

@@ -1,7 +1,7 @@
 -- The data of replies, row by row: bytes that are read are spelled so, and what is spelled so is read.
-use Rattle.std.proofs.Common.{◌≡◌, ◌<◌, ◌≤◌, ℕ, zero, suc, ◌+◌, ◌-◌, ◌*◌, ◌/◌, ◌^◌, ◌≢◌, inl, inr, Bool, true, false, eqb, cond, List, [], ◌∷◌, ◌++◌, length, drop, take, get_or, lit<, lit≤, refl, sym, ap, subst, ◌∙◌, append_assoc, arith}
+use Rattle.std.proofs.Common.{◌≡◌, ◌<◌, ◌≤◌, ℕ, ◌+◌, ◌-◌, ◌/◌, ◌≢◌, inl, inr, false, eqb, List, [], ◌∷◌, ◌++◌, length, drop, take, get_or, lit<, lit≤, refl, sym, ap, ◌∙◌, arith}
 use Rattle.std.proofs.lemmas.Bool.{cases_lt, eqb-false, ne_eqb}
-use Rattle.std.proofs.lemmas.List.{drop_at, length-append, length-drop, length-take, take-append-drop, take_at}
+use Rattle.std.proofs.lemmas.List.{length-drop, length-take, take_at}
 use Rattle.byteorder.specs.Endian.{little_bytes, little_number}
 use Rattle.hex.specs.Hex.{IsBytes}
 use Rattle.osdp_msg.specs.declared.nak.NakReason.{NakReason}
@@ -11,7 +11,6 @@ use Rattle.osdp_msg.specs.declared.fields.Keypad.{Keypad}
 use Rattle.osdp_msg.specs.declared.fields.LocalState.{LocalState}
 use Rattle.osdp_msg.specs.declared.fields.Nak.{Nak}
 use Rattle.osdp_msg.specs.declared.fields.PdId.{PdId}
-use Rattle.osdp_msg.specs.declared.records.Capability.{Capability}
 use Rattle.osdp_msg.specs.NakReasons.{ReasonFits, reason_number, reason_of}
 use Rattle.osdp_msg.specs.OtherReasons.{IsOtherReason}
 use Rattle.osdp_msg.specs.Raw.{RawCard}

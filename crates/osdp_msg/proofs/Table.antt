@@ -1,5 +1,5 @@
 -- What follows for a table of messages from two facts on its rows.
-use Rattle.std.proofs.Common.{◌≡◌, ◌↔◌, ◌≤◌, ◌<◌, [], ◌∷◌, zero, suc, arith, ℕ, Bool, true, false, not, ◌||◌, cond, eqb, ltb, leb, ◌&&◌, ◌%◌, List, Option, Some, None, Result, Ok, Err, ◌*◌, refl, sym, ap, subst, ◌∙◌}
+use Rattle.std.proofs.Common.{◌≡◌, ◌↔◌, ◌≤◌, ◌<◌, arith, ℕ, Bool, true, false, not, ◌||◌, cond, eqb, ltb, leb, ◌&&◌, ◌%◌, List, Option, Some, None, Result, Ok, Err, ◌*◌, refl, sym, ap, subst, ◌∙◌}
 use Rattle.std.proofs.lemmas.Bool.{eq-eqb, eqb-true, leb-true, le-leb, le-ltb, ltb-false}
 use Rattle.std.proofs.Math.Nat.{mul-le-mul_left, mul-mod_right}
 use Rattle.osdp_msg.specs.declared.fault.MsgFault.{MsgFault}

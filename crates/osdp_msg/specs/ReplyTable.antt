@@ -1,5 +1,5 @@
 -- The table of replies, by rows: code, data, ranges, lengths, counts inside.
-use Rattle.std.specs.Prelude.{◌≡◌, ◌<◌, ◌≤◌, ℕ, ◌+◌, ◌-◌, ◌/◌, ◌%◌, Bool, true, ◌==◌, nat_le, List, [], ◌∷◌, length, slice_index, drop, Option, Some, None, Result, if◌then◌else◌}
+use Rattle.std.specs.Prelude.{◌≡◌, ◌≤◌, ℕ, ◌+◌, ◌-◌, ◌/◌, ◌%◌, Bool, true, ◌==◌, nat_le, List, [], length, slice_index, drop, Option, Some, None, Result, if◌then◌else◌}
 use Rattle.std.specs.List.{All, flat_map}
 use Rattle.byteorder.specs.Endian.{little_number}
 use Rattle.hex.specs.Hex.{IsBytes}

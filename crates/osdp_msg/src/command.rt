@@ -1,12 +1,14 @@
 //! Commands: what the controller sends to a reader.
 
 ghost use Rattle.std.specs.Prelude.{◌≡◌, ◌∷◌, length, None, Some, Ok, IfOk, IfErr, true};
+ghost use Rattle.osdp_words.specs.Reading.{ReadsWords};
 ghost use Rattle.osdp_words.specs.Word.{AllStandFor, texts};
 ghost use Rattle.osdp_msg.specs.CommandTable.{CommandFits, IsCommand, command_code, command_data, command_counts_agree, command_fault, command_length_allowed, command_of, command_at};
 ghost use Rattle.osdp_msg.specs.CommandText.{command_words, command_text};
 
 use crate::fault::{BadWords, MsgFault, refusal};
 use crate::fields::{Buzzer, Communication, MakerMessage, Text};
+use crate::parsing::parse_byte;
 use crate::printing::{print_byte, print_records};
 use crate::records::{Leds, Outputs, with_records};
 use crate::spelling::{code_alone, with_byte};
@@ -119,6 +121,28 @@ fn decode(code: u8, bytes: &[u8]) -> Result<Command, MsgFault>
     }
 }
 
+/// The command whose text begins with a name and goes on with these words.
+fn parse_row(name: &str, words: &[&str]) -> Option<Command>
+    ensures { ReadsWords command_words CommandFits (name.now ∷ texts words.now) result }
+{
+    match name {
+        "POLL" => words.is_empty().then_some(Command::Poll),
+        "ID" => Some(Command::Id(parse_byte(words)?)),
+        "CAP" => Some(Command::Cap(parse_byte(words)?)),
+        "LSTAT" => words.is_empty().then_some(Command::LocalStatus),
+        "ISTAT" => words.is_empty().then_some(Command::InputStatus),
+        "OSTAT" => words.is_empty().then_some(Command::OutputStatus),
+        "RSTAT" => words.is_empty().then_some(Command::ReaderStatus),
+        "OUT" => Some(Command::Output(Outputs::parse(words)?)),
+        "LED" => Some(Command::Led(Leds::parse(words)?)),
+        "BUZ" => Some(Command::Buzzer(Buzzer::parse(words)?)),
+        "TEXT" => Some(Command::Text(Text::parse(words)?)),
+        "COMSET" => Some(Command::Comset(Communication::parse(words)?)),
+        "MFG" => Some(Command::Maker(MakerMessage::parse(words)?)),
+        _ => None,
+    }
+}
+
 impl Command {
     /// The command that a code and data stand for, or the first fault that holds.
     pub fn read(code: u8, bytes: &[u8]) -> Result<Command, MsgFault>
@@ -150,6 +174,17 @@ impl Command {
             Command::Comset(communication) => communication.write(0x6E),
             Command::Maker(message) => message.write(0x80),
         }
+    }
+
+    /// The command whose text has these words. The digits of byte lists may have either case.
+    pub fn parse(words: &[&str]) -> Result<Command, BadWords>
+        ensures value { IfOk result (λ m. AllStandFor (command_words m) (texts words.now) × CommandFits m) }
+        ensures only { (m : Command) → CommandFits m → AllStandFor (command_words m) (texts words.now) → result ≡ Ok m }
+    {
+        let [name, rest @ ..] = words else {
+            return Err(BadWords);
+        };
+        parse_row(name, rest).ok_or(BadWords)
     }
 
     /// An equal command.

@@ -1,13 +1,16 @@
 //! Events: what a reader tells when it is polled.
 
-ghost use Rattle.std.specs.Prelude.{◌≡◌, Ok, IfOk, IfErr};
-ghost use Rattle.osdp_msg.specs.Events.{event_reply};
+ghost use Rattle.std.specs.Prelude.{◌≡◌, Some, Ok, IfOk, IfErr};
+ghost use Rattle.osdp_words.specs.Word.{AllStandFor, texts};
+ghost use Rattle.osdp_msg.specs.Events.{EventFits, event_reply, event_text, event_words};
 
+use crate::fault::BadWords;
 use crate::fields::{Formatted, Keypad, LocalState};
 use crate::raw::Raw;
 use crate::reply::Reply;
 use crate::spelling::list_of;
 use arrayvec::ArrayVec;
+use std::fmt;
 
 /// What happened at a reader: the seven replies to a POLL that tell something.
 #[derive(Debug, Drop, PartialEq)]
@@ -41,6 +44,17 @@ impl Event {
             Event::Raw(raw) => Reply::Raw(raw.copy()),
             Event::Formatted(formatted) => Reply::Formatted(formatted.copy()),
             Event::Keypad(keypad) => Reply::Keypad(keypad.copy()),
+        }
+    }
+
+    /// The event whose text has these words. The digits of byte lists may have either case.
+    pub fn parse(words: &[&str]) -> Result<Event, BadWords>
+        ensures value { IfOk result (λ e. AllStandFor (event_words e) (texts words.now) × EventFits e) }
+        ensures only { (e : Event) → EventFits e → AllStandFor (event_words e) (texts words.now) → result ≡ Ok e }
+    {
+        match Reply::parse(words)?.to_event() {
+            Ok(event) => Ok(event),
+            Err(_) => Err(BadWords),
         }
     }
 
@@ -83,5 +97,14 @@ impl Reply {
             Reply::Busy => Err(Reply::Busy),
             Reply::MakerReply(message) => Err(Reply::MakerReply(message)),
         }
+    }
+}
+
+impl fmt::Display for Event {
+    ghost output = { λ e. Some (event_text e) };
+
+    fn fmt<W: fmt::Write>(&self, f: &mut fmt::Formatter<W>) -> fmt::Result {
+        let reply = self.to_reply();
+        write!(f, "{reply}")
     }
 }

@@ -2,7 +2,8 @@
 
 ghost use Rattle.std.specs.Prelude.{◌≡◌, ◌≤◌, ◌∷◌, [], codes, length};
 ghost use Rattle.std.specs.Fmt.{WritesOnOk};
-ghost use Rattle.osdp_words.specs.Word.{bytes, number, plain, text_of};
+ghost use Rattle.osdp_words.specs.Reading.{ReadsWords};
+ghost use Rattle.osdp_words.specs.Word.{bytes, number, plain, text_of, texts};
 ghost use Rattle.osdp_msg.specs.CommandFields.{BuzzerFits, buzzer_at, buzzer_data, buzzer_words, TextFits, text_at, text_data, text_words, CommunicationFits, communication_at, communication_data, communication_words, MakerFits, maker_at, maker_data, maker_words};
 ghost use Rattle.osdp_msg.specs.ReplyFields.{NakFits, nak_at, nak_data, nak_words, PdIdFits, pd_id_at, pd_id_data, pd_id_words, LocalStateFits, local_state_at, local_state_data, local_state_words, FormattedFits, formatted_at, formatted_data, formatted_words, KeypadFits, keypad_at, keypad_data, keypad_words};
 
@@ -11,7 +12,7 @@ use crate::records::Capability;
 use crate::spelling::{Spelling, append, append_u32, code_alone, list_of, rest, with_bytes};
 use arrayvec::ArrayVec;
 use byteorder::{ByteOrder, LittleEndian};
-use osdp_words::ByteList;
+use osdp_words::{ByteList, Fields};
 use std::fmt;
 
 /// How the buzzer of a reader sounds.
@@ -46,15 +47,42 @@ impl Buzzer {
         ensures spelled { result.items ≡ 0x6A ∷ buzzer_data self }
         ensures fits { BuzzerFits self }
     {
-        let data = [self.reader, self.tone, self.on_time, self.off_time, self.count];
+        let data = [
+            self.reader,
+            self.tone,
+            self.on_time,
+            self.off_time,
+            self.count,
+        ];
         with_bytes(0x6A, &data)
     }
 
     pub(crate) fn print<W: fmt::Write>(self, f: &mut fmt::Formatter<W>) -> fmt::Result
         ensures { WritesOnOk W.write_str_gives f.old result (text_of (plain (codes "BUZ") ∷ buzzer_words self)) f.new }
     {
-        let Buzzer { reader, tone, on_time, off_time, count } = self;
+        let Buzzer {
+            reader,
+            tone,
+            on_time,
+            off_time,
+            count,
+        } = self;
         write!(f, "BUZ {reader} {tone} {on_time} {off_time} {count}")
+    }
+
+    pub(crate) fn parse(words: &[&str]) -> Option<Buzzer>
+        ensures { ReadsWords buzzer_words BuzzerFits (texts words.now) result }
+    {
+        let mut fields = Fields::new(words);
+        let [reader, tone, on_time, off_time, count] = fields.numbers_u8::<5>()?;
+        let buzzer = Buzzer {
+            reader,
+            tone,
+            on_time,
+            off_time,
+            count,
+        };
+        fields.is_empty().then_some(buzzer)
     }
 }
 
@@ -92,7 +120,14 @@ impl Text {
         ensures fits { TextFits self.now }
     {
         let count = self.characters.len() as u8;
-        let front = [self.reader, self.command, self.time, self.row, self.column, count];
+        let front = [
+            self.reader,
+            self.command,
+            self.time,
+            self.row,
+            self.column,
+            count,
+        ];
         let mut spelling = with_bytes(0x6B, &front);
         append(&mut spelling, self.characters.as_slice());
         spelling
@@ -113,7 +148,27 @@ impl Text {
         let (reader, command, time) = (self.reader, self.command, self.time);
         let (row, column) = (self.row, self.column);
         let characters = ByteList(self.characters.as_slice());
-        write!(f, "TEXT {reader} {command} {time} {row} {column} {characters}")
+        write!(
+            f,
+            "TEXT {reader} {command} {time} {row} {column} {characters}"
+        )
+    }
+
+    pub(crate) fn parse(words: &[&str]) -> Option<Text>
+        ensures { ReadsWords text_words TextFits (texts words.now) result }
+    {
+        let mut fields = Fields::new(words);
+        let [reader, command, time, row, column] = fields.numbers_u8::<5>()?;
+        let characters = fields.byte_list()?;
+        let text = Text {
+            reader,
+            command,
+            time,
+            row,
+            column,
+            characters,
+        };
+        fields.is_empty().then_some(text)
     }
 }
 
@@ -151,6 +206,17 @@ impl Communication {
     {
         let Communication { address, baud_rate } = self;
         write!(f, "{name} {address} {baud_rate}")
+    }
+
+    pub(crate) fn parse(words: &[&str]) -> Option<Communication>
+        ensures { ReadsWords communication_words CommunicationFits (texts words.now) result }
+    {
+        let mut fields = Fields::new(words);
+        let address = fields.number_u8()?;
+        let baud_rate = fields.number_u32()?;
+        fields
+            .is_empty()
+            .then_some(Communication { address, baud_rate })
     }
 }
 
@@ -197,6 +263,15 @@ impl MakerMessage {
         let vendor = ByteList(&self.vendor);
         let bytes = ByteList(self.bytes.as_slice());
         write!(f, "{name} {vendor} {bytes}")
+    }
+
+    pub(crate) fn parse(words: &[&str]) -> Option<MakerMessage>
+        ensures { ReadsWords maker_words MakerFits (texts words.now) result }
+    {
+        let mut fields = Fields::new(words);
+        let vendor = fields.vendor()?;
+        let bytes = fields.byte_list()?;
+        fields.is_empty().then_some(MakerMessage { vendor, bytes })
     }
 }
 
@@ -249,6 +324,27 @@ impl Nak {
         let detail = ByteList(self.detail.as_slice());
         write!(f, " {detail}")
     }
+
+    pub(crate) fn parse(words: &[&str]) -> Option<Nak>
+        ensures { ReadsWords nak_words NakFits (texts words.now) result }
+    {
+        let mut fields = Fields::new(words);
+        let reason = NakReason::from(fields.number_u8()?);
+        if fields.is_empty() {
+            return Some(Nak {
+                reason,
+                detail: ArrayVec::new(),
+            });
+        }
+        let detail: ArrayVec<u8, 1431> = fields.byte_list()?;
+        if !fields.is_empty() {
+            return None;
+        }
+        if detail.is_empty() {
+            return None;
+        }
+        Some(Nak { reason, detail })
+    }
 }
 
 /// What a device is.
@@ -286,7 +382,11 @@ impl PdId {
         let mut spelling = with_bytes(0x45, &self.vendor);
         append(&mut spelling, &[self.model, self.version]);
         append_u32(&mut spelling, self.serial);
-        let firmware = [self.firmware_major, self.firmware_minor, self.firmware_build];
+        let firmware = [
+            self.firmware_major,
+            self.firmware_minor,
+            self.firmware_build,
+        ];
         append(&mut spelling, &firmware);
         spelling
     }
@@ -295,10 +395,39 @@ impl PdId {
         ensures { WritesOnOk W.write_str_gives f.old result (text_of (plain (codes "PDID") ∷ pd_id_words self)) f.new }
     {
         let vendor = ByteList(&self.vendor);
-        let PdId { model, version, serial, .. } = self;
+        let PdId {
+            model,
+            version,
+            serial,
+            ..
+        } = self;
         write!(f, "PDID {vendor} {model} {version} {serial}")?;
-        let (major, minor, build) = (self.firmware_major, self.firmware_minor, self.firmware_build);
+        let (major, minor, build) = (
+            self.firmware_major,
+            self.firmware_minor,
+            self.firmware_build,
+        );
         write!(f, " {major} {minor} {build}")
+    }
+
+    pub(crate) fn parse(words: &[&str]) -> Option<PdId>
+        ensures { ReadsWords pd_id_words PdIdFits (texts words.now) result }
+    {
+        let mut fields = Fields::new(words);
+        let vendor = fields.vendor()?;
+        let [model, version] = fields.numbers_u8::<2>()?;
+        let serial = fields.number_u32()?;
+        let [firmware_major, firmware_minor, firmware_build] = fields.numbers_u8::<3>()?;
+        let pd_id = PdId {
+            vendor,
+            model,
+            version,
+            serial,
+            firmware_major,
+            firmware_minor,
+            firmware_build,
+        };
+        fields.is_empty().then_some(pd_id)
     }
 }
 
@@ -349,6 +478,14 @@ impl LocalState {
         let LocalState { tamper, power } = self;
         write!(f, "LSTATR {tamper} {power}")
     }
+
+    pub(crate) fn parse(words: &[&str]) -> Option<LocalState>
+        ensures { ReadsWords local_state_words LocalStateFits (texts words.now) result }
+    {
+        let mut fields = Fields::new(words);
+        let [tamper, power] = fields.numbers_u8::<2>()?;
+        fields.is_empty().then_some(LocalState { tamper, power })
+    }
 }
 
 /// A card as the reader formatted it.
@@ -398,6 +535,19 @@ impl Formatted {
         let digits = ByteList(self.digits.as_slice());
         write!(f, "FMT {reader} {direction} {digits}")
     }
+
+    pub(crate) fn parse(words: &[&str]) -> Option<Formatted>
+        ensures { ReadsWords formatted_words FormattedFits (texts words.now) result }
+    {
+        let mut fields = Fields::new(words);
+        let [reader, direction] = fields.numbers_u8::<2>()?;
+        let digits = fields.byte_list()?;
+        fields.is_empty().then_some(Formatted {
+            reader,
+            direction,
+            digits,
+        })
+    }
 }
 
 /// Keys that were pressed.
@@ -444,5 +594,14 @@ impl Keypad {
         let reader = self.reader;
         let digits = ByteList(self.digits.as_slice());
         write!(f, "KEYPAD {reader} {digits}")
+    }
+
+    pub(crate) fn parse(words: &[&str]) -> Option<Keypad>
+        ensures { ReadsWords keypad_words KeypadFits (texts words.now) result }
+    {
+        let mut fields = Fields::new(words);
+        let reader = fields.number_u8()?;
+        let digits = fields.byte_list()?;
+        fields.is_empty().then_some(Keypad { reader, digits })
     }
 }

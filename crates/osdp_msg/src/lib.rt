@@ -13,6 +13,7 @@ mod fields;
 mod fitting;
 mod laws;
 mod nak;
+mod parsing;
 mod printing;
 mod raw;
 mod records;

@@ -4,13 +4,14 @@ ghost use Rattle.std.specs.Prelude.{◌≡◌, ◌∷◌, ◌+◌, ◌-◌, ◌/
 ghost use Rattle.std.specs.Prelude.{codes};
 ghost use Rattle.std.specs.Fmt.{WritesOnOk};
 ghost use Rattle.byteorder.specs.Endian.{little_number};
-ghost use Rattle.osdp_words.specs.Word.{plain, text_of};
+ghost use Rattle.osdp_words.specs.Reading.{ReadsWords};
+ghost use Rattle.osdp_words.specs.Word.{plain, text_of, texts};
 ghost use Rattle.osdp_msg.specs.ReplyFields.{RawFits, raw_at, raw_data, raw_words};
 
 use crate::spelling::{Spelling, append, append_u16, list_of, rest, with_bytes};
 use arrayvec::ArrayVec;
 use byteorder::{ByteOrder, LittleEndian};
-use osdp_words::ByteList;
+use osdp_words::{ByteList, Fields};
 use std::fmt;
 use std::marker::Model;
 
@@ -108,5 +109,26 @@ impl Raw {
         let (reader, format, bits) = (self.reader, self.format, self.bits);
         let bytes = ByteList(self.bytes.as_slice());
         write!(f, "RAW {reader} {format} {bits} {bytes}")
+    }
+
+    pub(crate) fn parse(words: &[&str]) -> Option<Raw>
+        ensures { ReadsWords raw_words RawFits (texts words.now) result }
+    {
+        let mut fields = Fields::new(words);
+        let [reader, format] = fields.numbers_u8::<2>()?;
+        let bits = fields.number_u16()?;
+        let bytes: ArrayVec<u8, 1428> = fields.byte_list()?;
+        if !fields.is_empty() {
+            return None;
+        }
+        if bytes.len() != (usize::from(bits) + 7) / 8 {
+            return None;
+        }
+        Some(Raw {
+            reader,
+            format,
+            bits,
+            bytes,
+        })
     }
 }

@@ -1,12 +1,14 @@
 //! The records of the commands that set outputs and LEDs, and of the abilities of a device.
 
-ghost use Rattle.std.specs.Prelude.{◌≡◌, ◌<◌, ◌≤◌, ◌+◌, ◌*◌, ◌%◌, ℕ, ◌++◌, List, ◌∷◌, Some, length};
+ghost use Rattle.std.specs.Prelude.{◌≡◌, ◌<◌, ◌≤◌, ◌+◌, ◌*◌, ◌%◌, ℕ, ◌++◌, List, ◌∷◌, Some, length, map};
 ghost use Rattle.std.specs.List.{All, flat_map};
 ghost use Rattle.arrayvec.specs.ArrayVec.{array_vec_len};
-ghost use Rattle.osdp_words.specs.Word.{Word, printed};
-ghost use Rattle.osdp_msg.specs.CommandFields.{led_at, output_at};
+ghost use Rattle.osdp_words.specs.Reading.{Reads, ReadsWords};
+ghost use Rattle.osdp_words.specs.Word.{Word, printed, texts};
+ghost use Rattle.osdp_msg.specs.CommandFields.{LedFits, OutputFits, led_at, led_word, output_at, output_word};
 ghost use Rattle.osdp_msg.specs.Records.{records_at};
 
+use crate::parsing::parse_records;
 use crate::spelling::{Spelling, append, append_u16, code_alone, list_of, rest};
 use arrayvec::ArrayVec;
 use byteorder::{ByteOrder, LittleEndian};
@@ -38,6 +40,10 @@ pub(crate) trait Record: Copy + Default + Drop + fmt::Display {
         requires { array_vec_len spelling.old + SIZE ≤ 1433 }
         ensures appended { spelling.new.items ≡ spelling.old.items ++ spelled self }
         ensures fits { fits self };
+
+    /// The record of a word.
+    fn parse(given: &str) -> Option<Self>
+        ensures { Reads word fits given.now result };
 
     ghost some: { 0 < SIZE };
 
@@ -95,11 +101,7 @@ impl fmt::Display for OutputRecord {
 
     /// The numbers of the record, joined by colons.
     fn fmt<W: fmt::Write>(&self, f: &mut fmt::Formatter<W>) -> fmt::Result {
-        let numbers = [
-            u16::from(self.output),
-            u16::from(self.control),
-            self.timer,
-        ];
+        let numbers = [u16::from(self.output), u16::from(self.control), self.timer];
         let word = osdp_words::Record(&numbers);
         write!(f, "{word}")
     }
@@ -133,6 +135,15 @@ impl Record for OutputRecord {
         spelling.push(self.output);
         spelling.push(self.control);
         append_u16(spelling, self.timer);
+    }
+
+    fn parse(given: &str) -> Option<OutputRecord> {
+        let [output, control, timer] = osdp_words::record::<3>(given, &[255, 255, 65535])?;
+        Some(OutputRecord {
+            output: output as u8,
+            control: control as u8,
+            timer,
+        })
     }
 
     ghost some = { Prim.omega arith };
@@ -249,6 +260,28 @@ impl Record for LedRecord {
         append(spelling, &permanent);
     }
 
+    fn parse(given: &str) -> Option<LedRecord> {
+        let limits = [
+            255, 255, 255, 255, 255, 255, 255, 65535, 255, 255, 255, 255, 255,
+        ];
+        let numbers: [u16; 13] = osdp_words::record(given, &limits)?;
+        Some(LedRecord {
+            reader: numbers[0] as u8,
+            led: numbers[1] as u8,
+            temporary_control: numbers[2] as u8,
+            temporary_on_time: numbers[3] as u8,
+            temporary_off_time: numbers[4] as u8,
+            temporary_on_color: numbers[5] as u8,
+            temporary_off_color: numbers[6] as u8,
+            timer: numbers[7],
+            permanent_control: numbers[8] as u8,
+            permanent_on_time: numbers[9] as u8,
+            permanent_off_time: numbers[10] as u8,
+            permanent_on_color: numbers[11] as u8,
+            permanent_off_color: numbers[12] as u8,
+        })
+    }
+
     ghost some = { Prim.omega arith };
 
     ghost length_spelled = { λ r. refl };
@@ -316,6 +349,15 @@ impl Record for Capability {
         spelling.push(self.count);
     }
 
+    fn parse(given: &str) -> Option<Capability> {
+        let [function, level, count] = osdp_words::record::<3>(given, &[255, 255, 255])?;
+        Some(Capability {
+            function: function as u8,
+            level: level as u8,
+            count: count as u8,
+        })
+    }
+
     ghost some = { Prim.omega arith };
 
     ghost length_spelled = { λ r. refl };
@@ -370,6 +412,16 @@ impl Outputs {
             records: list_of(self.records.as_slice()),
         }
     }
+
+    pub(crate) fn parse(words: &[&str]) -> Option<Outputs>
+        ensures { ReadsWords (λ records. map output_word records) (λ records. (0 < length records) × (length records ≤ 358) × All OutputFits records) (texts words.now) result }
+    {
+        let records: ArrayVec<OutputRecord, 358> = parse_records(words)?;
+        if records.is_empty() {
+            return None;
+        }
+        Some(Outputs { records })
+    }
 }
 
 /// One to 102 records of LEDs, as they were read.
@@ -418,5 +470,15 @@ impl Leds {
         Leds {
             records: list_of(self.records.as_slice()),
         }
+    }
+
+    pub(crate) fn parse(words: &[&str]) -> Option<Leds>
+        ensures { ReadsWords (λ records. map led_word records) (λ records. (0 < length records) × (length records ≤ 102) × All LedFits records) (texts words.now) result }
+    {
+        let records: ArrayVec<LedRecord, 102> = parse_records(words)?;
+        if records.is_empty() {
+            return None;
+        }
+        Some(Leds { records })
     }
 }

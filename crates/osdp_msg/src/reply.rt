@@ -1,14 +1,14 @@
 //! Replies: what a reader answers.
 
 ghost use Rattle.std.specs.Prelude.{◌≡◌, ◌∷◌, length, None, Some, Ok, IfOk, IfErr, true};
+ghost use Rattle.osdp_words.specs.Reading.{ReadsWords};
 ghost use Rattle.osdp_words.specs.Word.{AllStandFor, texts};
 ghost use Rattle.osdp_msg.specs.ReplyTable.{ReplyFits, IsReply, reply_code, reply_data, reply_counts_agree, reply_fault, reply_length_allowed, reply_of, reply_at};
 ghost use Rattle.osdp_msg.specs.ReplyText.{reply_words, reply_text};
 
 use crate::fault::{BadWords, MsgFault};
-use crate::fields::{
-    Communication, Formatted, Keypad, LocalState, MakerMessage, Nak, PdCap, PdId,
-};
+use crate::fields::{Communication, Formatted, Keypad, LocalState, MakerMessage, Nak, PdCap, PdId};
+use crate::parsing::{parse_records, parse_states};
 use crate::printing::{print_bytes, print_records};
 use crate::raw::Raw;
 use crate::records::{read_records, with_records};
@@ -136,6 +136,31 @@ fn decode(code: u8, bytes: &[u8]) -> Result<Reply, MsgFault>
     }
 }
 
+/// The reply whose text begins with a name and goes on with these words.
+fn parse_row(name: &str, words: &[&str]) -> Option<Reply>
+    ensures { ReadsWords reply_words ReplyFits (name.now ∷ texts words.now) result }
+{
+    match name {
+        "ACK" => words.is_empty().then_some(Reply::Ack),
+        "NAK" => Some(Reply::Nak(Nak::parse(words)?)),
+        "PDID" => Some(Reply::PdId(PdId::parse(words)?)),
+        "PDCAP" => Some(Reply::PdCap(PdCap {
+            capabilities: parse_records(words)?,
+        })),
+        "LSTATR" => Some(Reply::LocalState(LocalState::parse(words)?)),
+        "ISTATR" => Some(Reply::Inputs(parse_states(words)?)),
+        "OSTATR" => Some(Reply::Outputs(parse_states(words)?)),
+        "RSTATR" => Some(Reply::Readers(parse_states(words)?)),
+        "RAW" => Some(Reply::Raw(Raw::parse(words)?)),
+        "FMT" => Some(Reply::Formatted(Formatted::parse(words)?)),
+        "KEYPAD" => Some(Reply::Keypad(Keypad::parse(words)?)),
+        "COM" => Some(Reply::Com(Communication::parse(words)?)),
+        "BUSY" => words.is_empty().then_some(Reply::Busy),
+        "MFGREP" => Some(Reply::MakerReply(MakerMessage::parse(words)?)),
+        _ => None,
+    }
+}
+
 impl Reply {
     /// The reply that a code and data stand for, or the first fault that holds.
     pub fn read(code: u8, bytes: &[u8]) -> Result<Reply, MsgFault>
@@ -168,6 +193,17 @@ impl Reply {
             Reply::Busy => code_alone(0x79),
             Reply::MakerReply(message) => message.write(0x90),
         }
+    }
+
+    /// The reply whose text has these words. The digits of byte lists may have either case.
+    pub fn parse(words: &[&str]) -> Result<Reply, BadWords>
+        ensures value { IfOk result (λ m. AllStandFor (reply_words m) (texts words.now) × ReplyFits m) }
+        ensures only { (m : Reply) → ReplyFits m → AllStandFor (reply_words m) (texts words.now) → result ≡ Ok m }
+    {
+        let [name, rest @ ..] = words else {
+            return Err(BadWords);
+        };
+        parse_row(name, rest).ok_or(BadWords)
     }
 
     /// An equal reply.

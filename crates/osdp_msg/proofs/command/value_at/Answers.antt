@@ -1,4 +1,4 @@
-use Rattle.std.proofs.Common.{◌≡◌, ◌-◌, eqb, length, slice_index, true, arith}
+use Rattle.std.proofs.Common.{◌-◌, eqb, length, slice_index, true, arith}
 use Rattle.std.proofs.lemmas.Bool.{eqb-true}
 use Rattle.osdp_msg.specs.CommandTable.{command_fault}
 use Rattle.osdp_msg.proofs.Table.{at_least, exactly, some_multiple}

@@ -1,4 +1,4 @@
-use Rattle.std.proofs.Common.{◌≡◌, ◌<◌, ◌+◌, ◌*◌, ◌/◌, length, arith}
+use Rattle.std.proofs.Common.{◌<◌, ◌/◌, length, arith}
 use Rattle.std.proofs.lemmas.List.{length-drop}
 use Rattle.osdp_msg.proofs.RecordLists.{next_left, records_more}
 use Rattle.osdp_msg.specs.Records.{records_at}

@@ -1,4 +1,4 @@
-use Rattle.std.proofs.Common.{◌≡◌, ◌+◌, ◌-◌, ◌/◌, drop, eqb, length, slice_index, true, lit<, arith}
+use Rattle.std.proofs.Common.{◌+◌, ◌-◌, ◌/◌, drop, eqb, length, slice_index, true, lit<, arith}
 use Rattle.std.proofs.lemmas.Bool.{eqb-true}
 use Rattle.byteorder.specs.Endian.{little_number}
 use Rattle.osdp_msg.specs.ReplyTable.{reply_fault}
