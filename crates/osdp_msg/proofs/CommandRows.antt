@@ -3,10 +3,10 @@ use Rattle.std.proofs.Common.{◌≡◌, ◌≤◌, ℕ, ◌+◌, ◌-◌, List,
 use Rattle.std.proofs.lemmas.List.{drop_at, length-append, length-drop, length-take, take-append-drop, take_at}
 use Rattle.byteorder.specs.Endian.{little_bytes}
 use Rattle.hex.specs.Hex.{IsBytes}
-use Rattle.osdp_msg.specs.declared.fields.Buzzer.{Buzzer}
-use Rattle.osdp_msg.specs.declared.fields.Communication.{Communication}
-use Rattle.osdp_msg.specs.declared.fields.MakerMessage.{MakerMessage}
-use Rattle.osdp_msg.specs.declared.fields.Text.{Text}
+use Rattle.osdp_msg.specs.declared.command_fields.Buzzer.{Buzzer}
+use Rattle.osdp_msg.specs.declared.command_fields.Communication.{Communication}
+use Rattle.osdp_msg.specs.declared.command_fields.MakerMessage.{MakerMessage}
+use Rattle.osdp_msg.specs.declared.command_fields.Text.{Text}
 use Rattle.osdp_msg.specs.declared.records.LedRecord.{LedRecord}
 use Rattle.osdp_msg.specs.declared.records.OutputRecord.{OutputRecord}
 use Rattle.osdp_msg.specs.CommandFields.{OutputFits, output_data, output_at, LedFits, led_data, led_at, BuzzerFits, buzzer_data, buzzer_at, TextFits, text_data, text_at, CommunicationFits, communication_data, communication_at, MakerFits, maker_data, maker_at}

@@ -3,8 +3,8 @@ use Rattle.std.proofs.Common.{◌≡◌, ◌<◌, ◌^◌, ℕ, [], ◌∷◌, c
 use Rattle.osdp_words.specs.Word.{number}
 use Rattle.osdp_msg.specs.declared.command.Command.{Command}
 use Rattle.osdp_msg.specs.declared.command.Command.TheVariants.{Id, Cap, Buzzer, Comset}
-use Rattle.osdp_msg.specs.declared.fields.Buzzer.{Buzzer as BuzzerData}
-use Rattle.osdp_msg.specs.declared.fields.Communication.{Communication}
+use Rattle.osdp_msg.specs.declared.command_fields.Buzzer.{Buzzer as BuzzerData}
+use Rattle.osdp_msg.specs.declared.command_fields.Communication.{Communication}
 use Rattle.osdp_msg.specs.CommandFields.{BuzzerFits, buzzer_words, CommunicationFits, communication_words}
 use Rattle.osdp_msg.specs.CommandTable.{CommandFits}
 use Rattle.osdp_msg.specs.CommandText.{command_fields, command_name}

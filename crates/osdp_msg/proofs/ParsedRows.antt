@@ -7,13 +7,13 @@ use Rattle.hex.specs.Hex.{IsBytes}
 use Rattle.osdp_words.specs.Reading.{ReadsWords, Takes}
 use Rattle.osdp_words.specs.Word.{AllStandFor, Word, bytes, number}
 use Rattle.osdp_words.proofs.Rows.{IsMadeOf, PairAllowed, front_missing, pair_taken, pair_words}
-use Rattle.osdp_msg.specs.declared.fields.Communication.{Communication}
-use Rattle.osdp_msg.specs.declared.fields.Formatted.{Formatted}
-use Rattle.osdp_msg.specs.declared.fields.Keypad.{Keypad}
-use Rattle.osdp_msg.specs.declared.fields.MakerMessage.{MakerMessage}
-use Rattle.osdp_msg.specs.declared.fields.Nak.{Nak}
-use Rattle.osdp_msg.specs.declared.fields.PdId.{PdId}
-use Rattle.osdp_msg.specs.declared.fields.Text.{Text}
+use Rattle.osdp_msg.specs.declared.command_fields.Communication.{Communication}
+use Rattle.osdp_msg.specs.declared.reply_fields.Formatted.{Formatted}
+use Rattle.osdp_msg.specs.declared.reply_fields.Keypad.{Keypad}
+use Rattle.osdp_msg.specs.declared.command_fields.MakerMessage.{MakerMessage}
+use Rattle.osdp_msg.specs.declared.reply_fields.Nak.{Nak}
+use Rattle.osdp_msg.specs.declared.reply_fields.PdId.{PdId}
+use Rattle.osdp_msg.specs.declared.command_fields.Text.{Text}
 use Rattle.osdp_msg.specs.declared.nak.NakReason.{NakReason}
 use Rattle.osdp_msg.specs.CommandFields.{BuzzerFits, buzzer_at, buzzer_data, buzzer_words, CommunicationFits, communication_words, MakerFits, maker_words, TextFits, text_words}
 use Rattle.osdp_msg.specs.NakReasons.{reason_number, reason_of}

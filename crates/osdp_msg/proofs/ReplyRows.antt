@@ -6,11 +6,11 @@ use Rattle.byteorder.specs.Endian.{little_bytes, little_number}
 use Rattle.hex.specs.Hex.{IsBytes}
 use Rattle.osdp_msg.specs.declared.nak.NakReason.{NakReason}
 use Rattle.osdp_msg.specs.declared.nak.NakReason.TheVariants.{CheckCharacters, CommandLength, UnknownCommand, UnexpectedSequence, SecurityBlock, SecurityConditions, BiometricType, BiometricFormat, RecordNotProcessed, Other}
-use Rattle.osdp_msg.specs.declared.fields.Formatted.{Formatted}
-use Rattle.osdp_msg.specs.declared.fields.Keypad.{Keypad}
-use Rattle.osdp_msg.specs.declared.fields.LocalState.{LocalState}
-use Rattle.osdp_msg.specs.declared.fields.Nak.{Nak}
-use Rattle.osdp_msg.specs.declared.fields.PdId.{PdId}
+use Rattle.osdp_msg.specs.declared.reply_fields.Formatted.{Formatted}
+use Rattle.osdp_msg.specs.declared.reply_fields.Keypad.{Keypad}
+use Rattle.osdp_msg.specs.declared.reply_fields.LocalState.{LocalState}
+use Rattle.osdp_msg.specs.declared.reply_fields.Nak.{Nak}
+use Rattle.osdp_msg.specs.declared.reply_fields.PdId.{PdId}
 use Rattle.osdp_msg.specs.NakReasons.{ReasonFits, reason_number, reason_of}
 use Rattle.osdp_msg.specs.OtherReasons.{IsOtherReason}
 use Rattle.osdp_msg.specs.Raw.{RawCard}

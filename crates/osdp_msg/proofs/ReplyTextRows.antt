@@ -2,8 +2,8 @@
 use Rattle.std.proofs.Common.{◌≡◌, codes, refl}
 use Rattle.osdp_msg.specs.declared.reply.Reply.{Reply}
 use Rattle.osdp_msg.specs.declared.reply.Reply.TheVariants.{LocalState, Com}
-use Rattle.osdp_msg.specs.declared.fields.Communication.{Communication}
-use Rattle.osdp_msg.specs.declared.fields.LocalState.{LocalState as LocalStateData}
+use Rattle.osdp_msg.specs.declared.command_fields.Communication.{Communication}
+use Rattle.osdp_msg.specs.declared.reply_fields.LocalState.{LocalState as LocalStateData}
 use Rattle.osdp_msg.specs.CommandFields.{CommunicationFits, communication_words}
 use Rattle.osdp_msg.specs.ReplyFields.{LocalStateFits, local_state_words}
 use Rattle.osdp_msg.specs.ReplyTable.{ReplyFits}

@@ -3,10 +3,10 @@ use Rattle.std.specs.Prelude.{ℕ, ◌<◌, ◌≤◌, ◌≡◌, ◌^◌, List,
 use Rattle.byteorder.specs.Endian.{little_bytes, little_number}
 use Rattle.hex.specs.Hex.{IsBytes}
 use Rattle.osdp_words.specs.Word.{Word, bytes, number, numbers}
-use Rattle.osdp_msg.specs.declared.fields.Buzzer.{Buzzer}
-use Rattle.osdp_msg.specs.declared.fields.Communication.{Communication}
-use Rattle.osdp_msg.specs.declared.fields.MakerMessage.{MakerMessage}
-use Rattle.osdp_msg.specs.declared.fields.Text.{Text}
+use Rattle.osdp_msg.specs.declared.command_fields.Buzzer.{Buzzer}
+use Rattle.osdp_msg.specs.declared.command_fields.Communication.{Communication}
+use Rattle.osdp_msg.specs.declared.command_fields.MakerMessage.{MakerMessage}
+use Rattle.osdp_msg.specs.declared.command_fields.Text.{Text}
 use Rattle.osdp_msg.specs.declared.records.LedRecord.{LedRecord}
 use Rattle.osdp_msg.specs.declared.records.OutputRecord.{OutputRecord}
 

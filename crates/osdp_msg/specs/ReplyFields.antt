@@ -4,11 +4,11 @@ use Rattle.byteorder.specs.Endian.{little_bytes, little_number}
 use Rattle.hex.specs.Hex.{IsBytes}
 use Rattle.osdp_words.specs.Word.{Word, bytes, number, numbers}
 use Rattle.osdp_msg.specs.declared.records.Capability.{Capability}
-use Rattle.osdp_msg.specs.declared.fields.Formatted.{Formatted}
-use Rattle.osdp_msg.specs.declared.fields.Keypad.{Keypad}
-use Rattle.osdp_msg.specs.declared.fields.LocalState.{LocalState}
-use Rattle.osdp_msg.specs.declared.fields.Nak.{Nak}
-use Rattle.osdp_msg.specs.declared.fields.PdId.{PdId}
+use Rattle.osdp_msg.specs.declared.reply_fields.Formatted.{Formatted}
+use Rattle.osdp_msg.specs.declared.reply_fields.Keypad.{Keypad}
+use Rattle.osdp_msg.specs.declared.reply_fields.LocalState.{LocalState}
+use Rattle.osdp_msg.specs.declared.reply_fields.Nak.{Nak}
+use Rattle.osdp_msg.specs.declared.reply_fields.PdId.{PdId}
 use Rattle.osdp_msg.specs.NakReasons.{ReasonFits, reason_number, reason_of}
 use Rattle.osdp_msg.specs.Raw.{RawCard}
 

@@ -6,8 +6,8 @@ ghost use Rattle.osdp_words.specs.Word.{AllStandFor, texts};
 ghost use Rattle.osdp_msg.specs.CommandTable.{CommandFits, IsCommand, command_code, command_data, command_counts_agree, command_fault, command_length_allowed, command_of, command_at};
 ghost use Rattle.osdp_msg.specs.CommandText.{command_words, command_text};
 
+use crate::command_fields::{Buzzer, Communication, MakerMessage, Text};
 use crate::fault::{BadWords, MsgFault, refusal};
-use crate::fields::{Buzzer, Communication, MakerMessage, Text};
 use crate::parsing::parse_byte;
 use crate::printing::{print_byte, print_records};
 use crate::records::{Leds, Outputs, with_records};

@@ -5,9 +5,9 @@ ghost use Rattle.osdp_words.specs.Word.{AllStandFor, texts};
 ghost use Rattle.osdp_msg.specs.Events.{EventFits, event_reply, event_text, event_words};
 
 use crate::fault::BadWords;
-use crate::fields::{Formatted, Keypad, LocalState};
 use crate::raw::Raw;
 use crate::reply::Reply;
+use crate::reply_fields::{Formatted, Keypad, LocalState};
 use crate::spelling::list_of;
 use arrayvec::ArrayVec;
 use std::fmt;

@@ -7,9 +7,9 @@
 #![tactic(auto)]
 
 mod command;
+mod command_fields;
 mod event;
 mod fault;
-mod fields;
 mod fitting;
 mod laws;
 mod nak;
@@ -18,14 +18,13 @@ mod printing;
 mod raw;
 mod records;
 mod reply;
+mod reply_fields;
 mod spelling;
 
 pub use command::Command;
+pub use command_fields::{Buzzer, Communication, MakerMessage, Text};
 pub use event::Event;
 pub use fault::{BadWords, MsgFault};
-pub use fields::{
-    Buzzer, Communication, Formatted, Keypad, LocalState, MakerMessage, Nak, PdCap, PdId, Text,
-};
 pub use fitting::fits;
 pub use laws::{
     command_of_reads_the_table, command_text_joins_words, commands_are_unique,
@@ -36,6 +35,7 @@ pub use nak::{NakReason, OtherReason};
 pub use raw::Raw;
 pub use records::{Capability, LedRecord, Leds, OutputRecord, Outputs};
 pub use reply::Reply;
+pub use reply_fields::{Formatted, Keypad, LocalState, Nak, PdCap, PdId};
 
 #[cfg(test)]
 mod tests;

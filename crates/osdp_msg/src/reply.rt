@@ -6,12 +6,13 @@ ghost use Rattle.osdp_words.specs.Word.{AllStandFor, texts};
 ghost use Rattle.osdp_msg.specs.ReplyTable.{ReplyFits, IsReply, reply_code, reply_data, reply_counts_agree, reply_fault, reply_length_allowed, reply_of, reply_at};
 ghost use Rattle.osdp_msg.specs.ReplyText.{reply_words, reply_text};
 
+use crate::command_fields::{Communication, MakerMessage};
 use crate::fault::{BadWords, MsgFault};
-use crate::fields::{Communication, Formatted, Keypad, LocalState, MakerMessage, Nak, PdCap, PdId};
 use crate::parsing::{parse_records, parse_states};
 use crate::printing::{print_bytes, print_records};
 use crate::raw::Raw;
 use crate::records::{read_records, with_records};
+use crate::reply_fields::{Formatted, Keypad, LocalState, Nak, PdCap, PdId};
 use crate::spelling::{code_alone, list_of, rest, with_bytes};
 use arrayvec::ArrayVec;
 use byteorder::{ByteOrder, LittleEndian};
