@@ -1,9 +1,9 @@
 -- The records of texts, made of the numbers of their words.
 use Rattle.std.proofs.Common.{◌<◌, ◌≤◌, ◌+◌, ℕ, List, [], ◌∷◌, get_or, lit<, refl, sym, ap, arith}
 use Rattle.osdp_words.specs.Word.{AreWithin, numbers}
-use Rattle.osdp_msg.specs.declared.records.Capability.{Capability}
-use Rattle.osdp_msg.specs.declared.records.LedRecord.{LedRecord}
-use Rattle.osdp_msg.specs.declared.records.OutputRecord.{OutputRecord}
+use Rattle.osdp_msg.specs.declared.capability.Capability.{Capability}
+use Rattle.osdp_msg.specs.declared.leds.LedRecord.{LedRecord}
+use Rattle.osdp_msg.specs.declared.outputs.OutputRecord.{OutputRecord}
 use Rattle.osdp_msg.specs.CommandFields.{LedFits, OutputFits, led_word, output_word}
 use Rattle.osdp_msg.specs.ReplyFields.{CapabilityFits, capability_word}
 use Rattle.osdp_msg.proofs.Bytes.{all_cells}

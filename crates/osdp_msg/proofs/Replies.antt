@@ -6,7 +6,7 @@ use Rattle.std.proofs.lemmas.List.{nil_from_length}
 use Rattle.std.proofs.Math.Nat.{mul-mod_right}
 use Rattle.byteorder.specs.Endian.{little_bytes, little_number}
 use Rattle.hex.specs.Hex.{IsBytes}
-use Rattle.osdp_msg.specs.declared.records.Capability.{Capability}
+use Rattle.osdp_msg.specs.declared.capability.Capability.{Capability}
 use Rattle.osdp_msg.specs.declared.reply.Reply.{Reply}
 use Rattle.osdp_msg.specs.declared.reply.Reply.TheVariants.{Ack, Nak, PdId, PdCap, LocalState, Inputs, Outputs, Readers, Raw, Formatted, Keypad, Com, Busy, MakerReply}
 use Rattle.osdp_msg.specs.ReplyFields.{CapabilityFits, capability_at, capability_data}

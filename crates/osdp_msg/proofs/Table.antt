@@ -1,5 +1,6 @@
 -- What follows for a table of messages from two facts on its rows.
 use Rattle.std.proofs.Common.{◌≡◌, ◌↔◌, ◌≤◌, ◌<◌, arith, ℕ, Bool, true, false, not, ◌||◌, cond, eqb, ltb, leb, ◌&&◌, ◌%◌, List, Option, Some, None, Result, Ok, Err, ◌*◌, refl, sym, ap, subst, ◌∙◌}
+use Rattle.std.specs.Bool.{then_some}
 use Rattle.std.proofs.lemmas.Bool.{eq-eqb, eqb-true, leb-true, le-leb, le-ltb, ltb-false}
 use Rattle.std.proofs.Math.Nat.{mul-le-mul_left, mul-mod_right}
 use Rattle.osdp_msg.specs.declared.fault.MsgFault.{MsgFault}
@@ -44,6 +45,25 @@ bounded allowed len agree e = (passes allowed len agree e).bound
 
 pub some_is : (a b : Bool) → Some a ≡ Some b → a ≡ b
 some_is a b e = cc
+
+-- the fault of a length comes before that of a count
+pub length_first : (allowed : Option Bool) (len : ℕ) (agree : Bool) (f : MsgFault) → refusal allowed len true ≡ Some f → refusal allowed len agree ≡ Some f
+length_first None len agree f e = e
+length_first (Some a) len true f e = e
+length_first (Some a) len false f e = test (ltb 1432 len || not a) f e
+  where
+    test : (b : Bool) (f : MsgFault) → cond b (Some Length) None ≡ Some f → cond b (Some Length) (Some Count) ≡ Some f
+    test true f e = e
+    test false f e = absurd cc
+
+pub count_last : (allowed : Option Bool) (len : ℕ) (agree : Bool) → refusal allowed len true ≡ None → refusal allowed len agree ≡ then_some (not agree) Count
+count_last allowed len true e = e
+count_last None len false e = absurd cc
+count_last (Some a) len false e = test (ltb 1432 len || not a) e
+  where
+    test : (b : Bool) → cond b (Some Length) None ≡ None → cond b (Some Length) (Some Count) ≡ Some Count
+    test true e = absurd cc
+    test false e = refl
 
 pub unknown_faults : (len : ℕ) (agree : Bool) → refusal None len agree ≡ None → ⊥
 unknown_faults len agree e = cc

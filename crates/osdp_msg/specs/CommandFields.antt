@@ -7,8 +7,8 @@ use Rattle.osdp_msg.specs.declared.command_fields.Buzzer.{Buzzer}
 use Rattle.osdp_msg.specs.declared.command_fields.Communication.{Communication}
 use Rattle.osdp_msg.specs.declared.command_fields.MakerMessage.{MakerMessage}
 use Rattle.osdp_msg.specs.declared.command_fields.Text.{Text}
-use Rattle.osdp_msg.specs.declared.records.LedRecord.{LedRecord}
-use Rattle.osdp_msg.specs.declared.records.OutputRecord.{OutputRecord}
+use Rattle.osdp_msg.specs.declared.leds.LedRecord.{LedRecord}
+use Rattle.osdp_msg.specs.declared.outputs.OutputRecord.{OutputRecord}
 
 -- what an output is to do: output, control, and a timer of two bytes, low byte first
 

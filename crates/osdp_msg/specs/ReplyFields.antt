@@ -3,7 +3,7 @@ use Rattle.std.specs.Prelude.{ℕ, ◌<◌, ◌≤◌, ◌≡◌, ◌^◌, ◌+�
 use Rattle.byteorder.specs.Endian.{little_bytes, little_number}
 use Rattle.hex.specs.Hex.{IsBytes}
 use Rattle.osdp_words.specs.Word.{Word, bytes, number, numbers}
-use Rattle.osdp_msg.specs.declared.records.Capability.{Capability}
+use Rattle.osdp_msg.specs.declared.capability.Capability.{Capability}
 use Rattle.osdp_msg.specs.declared.reply_fields.Formatted.{Formatted}
 use Rattle.osdp_msg.specs.declared.reply_fields.Keypad.{Keypad}
 use Rattle.osdp_msg.specs.declared.reply_fields.LocalState.{LocalState}

@@ -7,10 +7,12 @@ ghost use Rattle.osdp_msg.specs.CommandTable.{CommandFits, IsCommand, command_co
 ghost use Rattle.osdp_msg.specs.CommandText.{command_words, command_text};
 
 use crate::command_fields::{Buzzer, Communication, MakerMessage, Text};
-use crate::fault::{BadWords, MsgFault, refusal};
+use crate::fault::{BadWords, MsgFault, length_fault};
 use crate::parsing::parse_byte;
 use crate::printing::{print_byte, print_records};
-use crate::records::{Leds, Outputs, with_records};
+use crate::leds::Leds;
+use crate::outputs::Outputs;
+use crate::records::with_records;
 use crate::spelling::{code_alone, with_byte};
 use arrayvec::ArrayVec;
 use std::fmt;
@@ -79,12 +81,10 @@ fn fault(code: u8, bytes: &[u8]) -> Option<MsgFault>
     ensures { result ≡ command_fault code bytes.now }
 {
     let len = bytes.len();
-    match length_allowed(code, len) {
-        None => Some(MsgFault::UnknownCode),
-        Some(allowed) if len > 1432 || !allowed => Some(MsgFault::Length),
-        Some(_) if !counts_agree(code, bytes) => Some(MsgFault::Count),
-        Some(_) => None,
+    if let Some(fault) = length_fault(length_allowed(code, len), len) {
+        return Some(fault);
     }
+    (!counts_agree(code, bytes)).then_some(MsgFault::Count)
 }
 
 /// The command that a code and data without a fault stand for.

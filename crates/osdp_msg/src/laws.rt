@@ -4,7 +4,7 @@ ghost use Rattle.osdp_msg.specs.CommandTable.{IsCommand, command_fault, command_
 ghost use Rattle.osdp_msg.specs.CommandText.{command_text, command_words};
 ghost use Rattle.osdp_msg.specs.ReplyTable.{IsReply, reply_fault, reply_of};
 ghost use Rattle.osdp_msg.specs.ReplyText.{reply_text, reply_words};
-ghost use Rattle.osdp_msg.specs.Laws.{ReadsTheTable, ReadsTheFaults, HasOneValue, HasOneSpelling, FitsAPacket, JoinsItsWords, HasOneNumber};
+ghost use Rattle.osdp_msg.specs.Laws.{ReadsTheTable, ReadsTheFaults, HasOneValue, HasOneSpelling, FitsAPacket, JoinsItsWords, HasOneNumber, HasLowByteFirst, FitsByKind};
 
 /// Reading a code and data as a command follows the table of commands, and its refusals.
 pub fn command_of_reads_the_table()
@@ -57,4 +57,14 @@ pub fn reply_text_joins_words()
 /// A number is that of one reason, and a reason has one number.
 pub fn reasons_are_unique()
     ensures { HasOneNumber }
+{}
+
+/// A number of two or four bytes has its low byte first.
+pub fn numbers_have_low_byte_first()
+    ensures { HasLowByteFirst }
+{}
+
+/// NAK fits every command and BUSY none, and every event fits a POLL.
+pub fn replies_fit_by_kind()
+    ensures { FitsByKind }
 {}

@@ -6,13 +6,16 @@
 //! The tables themselves are the definitions in `specs/`.
 #![tactic(auto)]
 
+mod capability;
 mod command;
 mod command_fields;
 mod event;
 mod fault;
 mod fitting;
 mod laws;
+mod leds;
 mod nak;
+mod outputs;
 mod parsing;
 mod printing;
 mod raw;
@@ -21,6 +24,7 @@ mod reply;
 mod reply_fields;
 mod spelling;
 
+pub use capability::Capability;
 pub use command::Command;
 pub use command_fields::{Buzzer, Communication, MakerMessage, Text};
 pub use event::Event;
@@ -28,12 +32,13 @@ pub use fault::{BadWords, MsgFault};
 pub use fitting::fits;
 pub use laws::{
     command_of_reads_the_table, command_text_joins_words, commands_are_unique,
-    commands_fit_a_packet, reasons_are_unique, replies_are_unique, replies_fit_a_packet,
-    reply_of_reads_the_table, reply_text_joins_words,
+    commands_fit_a_packet, numbers_have_low_byte_first, reasons_are_unique, replies_are_unique,
+    replies_fit_a_packet, replies_fit_by_kind, reply_of_reads_the_table, reply_text_joins_words,
 };
+pub use leds::{LedRecord, Leds};
 pub use nak::{NakReason, OtherReason};
+pub use outputs::{OutputRecord, Outputs};
 pub use raw::Raw;
-pub use records::{Capability, LedRecord, Leds, OutputRecord, Outputs};
 pub use reply::Reply;
 pub use reply_fields::{Formatted, Keypad, LocalState, Nak, PdCap, PdId};
 

@@ -7,7 +7,7 @@ ghost use Rattle.osdp_msg.specs.ReplyTable.{ReplyFits, IsReply, reply_code, repl
 ghost use Rattle.osdp_msg.specs.ReplyText.{reply_words, reply_text};
 
 use crate::command_fields::{Communication, MakerMessage};
-use crate::fault::{BadWords, MsgFault};
+use crate::fault::{BadWords, MsgFault, length_fault};
 use crate::parsing::{parse_records, parse_states};
 use crate::printing::{print_bytes, print_records};
 use crate::raw::Raw;
@@ -92,12 +92,10 @@ fn fault(code: u8, bytes: &[u8]) -> Option<MsgFault>
     ensures { result ≡ reply_fault code bytes.now }
 {
     let len = bytes.len();
-    match length_allowed(code, len) {
-        None => Some(MsgFault::UnknownCode),
-        Some(allowed) if len > 1432 || !allowed => Some(MsgFault::Length),
-        Some(_) if !counts_agree(code, bytes) => Some(MsgFault::Count),
-        Some(_) => None,
+    if let Some(fault) = length_fault(length_allowed(code, len), len) {
+        return Some(fault);
     }
+    (!counts_agree(code, bytes)).then_some(MsgFault::Count)
 }
 
 /// The reply that a code and data without a fault stand for.
