@@ -3,7 +3,7 @@ use Rattle.std.specs.Prelude.{◌≡◌, ◌↔◌, ◌+◌, ◌*◌, ◌<◌, �
 use Rattle.std.specs.List.{join_with_byte}
 use Rattle.byteorder.specs.Endian.{little_bytes}
 use Rattle.hex.specs.Hex.{IsBytes}
-use Rattle.osdp_words.specs.Word.{Word, printed}
+use Rattle.osdp_words.specs.Word.{AllStandFor, Word, printed}
 use Rattle.osdp_msg.specs.declared.command.Command.{Command}
 use Rattle.osdp_msg.specs.declared.command.Command.TheVariants.{Poll}
 use Rattle.osdp_msg.specs.declared.event.Event.{Event}
@@ -43,6 +43,15 @@ FitsAPacket {M} Is =
 abbrev pub JoinsItsWords : {M : Type 0} → (M → List Word) → (M → List ℕ) → Type 0
 JoinsItsWords {M} words text = (m : M) → text m ≡ join_with_byte 32 (map printed (words m))
 
+-- words stand for one value at most
+abbrev pub HasOneMeaning : {M : Type 0} → (M → Type 0) → (M → List Word) → Type 0
+HasOneMeaning {M} Fits words =
+    (given : List (List ℕ)) (m n : M) → Fits m → Fits n → AllStandFor (words m) given → AllStandFor (words n) given → m ≡ n
+
+-- two values with one text are the same
+abbrev pub HasOneText : {M : Type 0} → (M → Type 0) → (M → List ℕ) → Type 0
+HasOneText {M} Fits text = (m n : M) → Fits m → Fits n → text m ≡ text n → m ≡ n
+
 -- the number of the reason of a number is that number, and the reason of a reason's number is that reason
 abbrev pub HasOneNumber : Type 0
 HasOneNumber =
@@ -54,7 +63,7 @@ abbrev pub HasLowByteFirst : Type 0
 HasLowByteFirst =
     ((a b : ℕ) → a < 256 → b < 256 → little_bytes 2 (a + 256 * b) ≡ a ∷ b ∷ [])
     × ((a b c d : ℕ) → a < 256 → b < 256 → c < 256 → d < 256
-      → little_bytes 4 (a + 256 * b + 65536 * c + 16777216 * d) ≡ a ∷ b ∷ c ∷ d ∷ [])
+    → little_bytes 4 (a + 256 * b + 65536 * c + 16777216 * d) ≡ a ∷ b ∷ c ∷ d ∷ [])
 
 -- NAK fits every command and BUSY none, and every event fits a POLL
 pub record FitsByKind : Type 0 where

@@ -8,10 +8,10 @@ ghost use Rattle.osdp_msg.specs.CommandText.{command_words, command_text};
 
 use crate::command_fields::{Buzzer, Communication, MakerMessage, Text};
 use crate::fault::{BadWords, MsgFault, length_fault};
-use crate::parsing::parse_byte;
-use crate::printing::{print_byte, print_records};
 use crate::leds::Leds;
 use crate::outputs::Outputs;
+use crate::parsing::parse_byte;
+use crate::printing::{print_byte, print_records};
 use crate::records::with_records;
 use crate::spelling::{code_alone, with_byte};
 use arrayvec::ArrayVec;

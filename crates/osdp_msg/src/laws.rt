@@ -1,10 +1,10 @@
 //! Laws of the tables and texts. Each function's contract is the law; its body is empty.
 
-ghost use Rattle.osdp_msg.specs.CommandTable.{IsCommand, command_fault, command_of};
+ghost use Rattle.osdp_msg.specs.CommandTable.{CommandFits, IsCommand, command_fault, command_of};
 ghost use Rattle.osdp_msg.specs.CommandText.{command_text, command_words};
-ghost use Rattle.osdp_msg.specs.ReplyTable.{IsReply, reply_fault, reply_of};
+ghost use Rattle.osdp_msg.specs.ReplyTable.{ReplyFits, IsReply, reply_fault, reply_of};
 ghost use Rattle.osdp_msg.specs.ReplyText.{reply_text, reply_words};
-ghost use Rattle.osdp_msg.specs.Laws.{ReadsTheTable, ReadsTheFaults, HasOneValue, HasOneSpelling, FitsAPacket, JoinsItsWords, HasOneNumber, HasLowByteFirst, FitsByKind};
+ghost use Rattle.osdp_msg.specs.Laws.{ReadsTheTable, ReadsTheFaults, HasOneValue, HasOneSpelling, FitsAPacket, JoinsItsWords, HasOneMeaning, HasOneText, HasOneNumber, HasLowByteFirst, FitsByKind};
 
 /// Reading a code and data as a command follows the table of commands, and its refusals.
 pub fn command_of_reads_the_table()
@@ -30,6 +30,12 @@ pub fn command_text_joins_words()
     osdp_words::joins_by_spaces();
 }
 
+/// Words stand for one command at most, and two commands with one text are the same.
+pub fn command_texts_are_unique()
+    ensures words { HasOneMeaning CommandFits command_words }
+    ensures text { HasOneText CommandFits command_text }
+{}
+
 /// Reading a code and data as a reply follows the table of replies, and its refusals.
 pub fn reply_of_reads_the_table()
     ensures values { ReadsTheTable IsReply reply_of }
@@ -53,6 +59,12 @@ pub fn reply_text_joins_words()
 {
     osdp_words::joins_by_spaces();
 }
+
+/// Words stand for one reply at most, and two replies with one text are the same.
+pub fn reply_texts_are_unique()
+    ensures words { HasOneMeaning ReplyFits reply_words }
+    ensures text { HasOneText ReplyFits reply_text }
+{}
 
 /// A number is that of one reason, and a reason has one number.
 pub fn reasons_are_unique()

@@ -31,9 +31,10 @@ pub use event::Event;
 pub use fault::{BadWords, MsgFault};
 pub use fitting::fits;
 pub use laws::{
-    command_of_reads_the_table, command_text_joins_words, commands_are_unique,
-    commands_fit_a_packet, numbers_have_low_byte_first, reasons_are_unique, replies_are_unique,
-    replies_fit_a_packet, replies_fit_by_kind, reply_of_reads_the_table, reply_text_joins_words,
+    command_of_reads_the_table, command_text_joins_words, command_texts_are_unique,
+    commands_are_unique, commands_fit_a_packet, numbers_have_low_byte_first, reasons_are_unique,
+    replies_are_unique, replies_fit_a_packet, replies_fit_by_kind, reply_of_reads_the_table,
+    reply_text_joins_words, reply_texts_are_unique,
 };
 pub use leds::{LedRecord, Leds};
 pub use nak::{NakReason, OtherReason};

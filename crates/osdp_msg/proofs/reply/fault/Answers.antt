@@ -1,6 +1,6 @@
 use Rattle.std.proofs.Common.{length, sym, true, ◌∙◌}
 use Rattle.osdp_msg.specs.ReplyTable.{reply_counts_agree, reply_fault, reply_length_allowed}
-use Rattle.osdp_msg.proofs.Table.{Passes, count_last, length_first, passes}
+use Rattle.osdp_msg.proofs.Table.{count_last, length_first, passes}
 use Rattle.osdp_msg.proofs.reply.fault.Goals as goal
 
 pub returns-in-Some : goal.returns-in-Some
