@@ -130,7 +130,8 @@ impl Text {
         spelling
     }
 
-    pub(crate) fn copy(&self) -> Text
+    /// An equal value.
+    pub fn copy(&self) -> Text
         ensures { result ≡ self.now }
     {
         Text {
@@ -245,7 +246,8 @@ impl MakerMessage {
         spelling
     }
 
-    pub(crate) fn copy(&self) -> MakerMessage
+    /// An equal value.
+    pub fn copy(&self) -> MakerMessage
         ensures { result ≡ self.now }
     {
         MakerMessage {

@@ -191,7 +191,8 @@ impl Leds {
         }
     }
 
-    pub(crate) fn copy(&self) -> Leds
+    /// An equal value.
+    pub fn copy(&self) -> Leds
         ensures { result ≡ self.now }
     {
         Leds {

@@ -128,7 +128,8 @@ impl Outputs {
         }
     }
 
-    pub(crate) fn copy(&self) -> Outputs
+    /// An equal value.
+    pub fn copy(&self) -> Outputs
         ensures { result ≡ self.now }
     {
         Outputs {

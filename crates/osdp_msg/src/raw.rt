@@ -92,7 +92,8 @@ impl Raw {
         spelling
     }
 
-    pub(crate) fn copy(&self) -> Raw
+    /// An equal value.
+    pub fn copy(&self) -> Raw
         ensures { result ≡ self.now }
     {
         Raw {

@@ -43,7 +43,8 @@ impl Nak {
         spelling
     }
 
-    pub(crate) fn copy(&self) -> Nak
+    /// An equal value.
+    pub fn copy(&self) -> Nak
         ensures { result ≡ self.now }
     {
         Nak {
@@ -177,7 +178,8 @@ pub struct PdCap {
 }
 
 impl PdCap {
-    pub(crate) fn copy(&self) -> PdCap
+    /// An equal value.
+    pub fn copy(&self) -> PdCap
         ensures { result ≡ self.now }
     {
         PdCap {
@@ -258,7 +260,8 @@ impl Formatted {
         spelling
     }
 
-    pub(crate) fn copy(&self) -> Formatted
+    /// An equal value.
+    pub fn copy(&self) -> Formatted
         ensures { result ≡ self.now }
     {
         Formatted {
@@ -318,7 +321,8 @@ impl Keypad {
         spelling
     }
 
-    pub(crate) fn copy(&self) -> Keypad
+    /// An equal value.
+    pub fn copy(&self) -> Keypad
         ensures { result ≡ self.now }
     {
         Keypad {
