@@ -1,41 +1,179 @@
--- The rows of the table of commands.
-use Rattle.std.proofs.Common.{◌≡◌, ◌≤◌, ◌+◌, lit<, lit≤, [], ◌∷◌, ℕ, true, eqb, List, length, Some, None, refl, sym, ◌∙◌}
-use Rattle.std.proofs.lemmas.Bool.{eqb-true}
+-- The table of commands.
+use Rattle.std.proofs.Common.{◌≡◌, ◌<◌, ◌≤◌, ◌-◌, ◌*◌, ◌/◌, ◌%◌, lit<, lit≤, [], ◌∷◌, ◌&&◌, ℕ, zero, true, eqb, leb, List, length, get_or, None, refl, sym, ap, ◌∙◌, arith}
+use Rattle.std.specs.List.{flat_map}
+use Rattle.std.proofs.lemmas.Bool.{eq-eqb, eqb-true, le-leb}
 use Rattle.std.proofs.lemmas.List.{nil_from_length}
-use Rattle.osdp_msg.specs.declared.command.Command.{Command}
-use Rattle.osdp_msg.specs.declared.command.Command.TheVariants.{Poll}
-use Rattle.osdp_msg.specs.CommandTable.{CommandFits, IsCommand, command_at, command_code, command_counts_agree, command_data, command_fault, command_length_allowed, command_of}
+use Rattle.std.proofs.Math.Nat.{mul-le-mul_left}
 use Rattle.hex.specs.Hex.{IsBytes}
+use Rattle.osdp_msg.specs.declared.command.Command.{Command}
+use Rattle.osdp_msg.specs.declared.command.Command.TheVariants.{Poll, Id, Cap, LocalStatus, InputStatus, OutputStatus, ReaderStatus, Output, Led, Buzzer, Text, Comset, Maker}
+use Rattle.osdp_msg.specs.CommandFields.{LedFits, OutputFits, led_at, led_data, output_at, output_data}
+use Rattle.osdp_msg.specs.CommandTable.{CommandFits, IsCommand, command_at, command_code, command_counts_agree, command_data, command_fault, command_length_allowed, command_of}
 use Rattle.osdp_msg.specs.Laws.{FitsAPacket, HasOneSpelling, HasOneValue, ReadsTheFaults, ReadsTheTable}
-use Rattle.osdp_msg.proofs.Table.{IsBytes-cons, IsBytes-nil, IsTable, code_or, passes, some_is, unknown_faults, reading, one_value, unless_err}
+use Rattle.osdp_msg.proofs.Bytes.{IsBytes-cons, IsBytes-each, IsBytes-nil, all_cells}
+use Rattle.osdp_msg.proofs.CommandRows.{buzzer_spells, buzzer_takes, communication_again, communication_fits, communication_spells, communication_takes, leds, maker_again, maker_fits, maker_length, maker_spells, maker_takes, outputs, text_fits, text_spells, text_takes}
+use Rattle.osdp_msg.proofs.RecordLists.{length-flat_map_size, length-records_from, records_again, records_fit, records_spell, records_take}
+use Rattle.osdp_msg.proofs.Table.{IsTable, at_least, bounded, code_or, exactly, multiple_allowed, one_value, passed, reading, some_multiple, unknown_faults, unless_err}
+
+-- ---- what has been written is read
+
+records_well : (size n len room : ℕ) → zero < size → zero < n → n ≤ room → size * room ≤ 1432 → len ≡ size * n → ((leb size len && eqb (len % size) 0) ≡ true) × (len ≤ 1432)
+records_well size n len room wide some few fits e =
+    let more : size * n ≤ size * room = mul-le-mul_left size few in
+    (multiple_allowed size n len some wide e, omega (arith, e, more))
 
 command_well : (m : Command) → CommandFits m → command_fault (command_code m) (command_data m) ≡ None
 unfolding command_fault
 command_well Poll fits = refl
+command_well (Id kept) fits = refl
+command_well (Cap kept) fits = refl
+command_well LocalStatus fits = refl
+command_well InputStatus fits = refl
+command_well OutputStatus fits = refl
+command_well ReaderStatus fits = refl
+command_well (Output rs) fits =
+    let len = length-flat_map_size output_data 4 outputs.len rs in
+    let ok = records_well 4 (length rs) (length (flat_map output_data rs)) 358 (lit< tt) fits.0 fits.1 (lit≤ tt) len in
+    passed (leb 4 (length (flat_map output_data rs)) && eqb (length (flat_map output_data rs) % 4) 0) true (length (flat_map output_data rs)) ok.0 ok.1 refl
+command_well (Led rs) fits =
+    let len = length-flat_map_size led_data 14 leds.len rs in
+    let ok = records_well 14 (length rs) (length (flat_map led_data rs)) 102 (lit< tt) fits.0 fits.1 (lit≤ tt) len in
+    passed (leb 14 (length (flat_map led_data rs)) && eqb (length (flat_map led_data rs) % 14) 0) true (length (flat_map led_data rs)) ok.0 ok.1 refl
+command_well (Buzzer b) fits = refl
+command_well (Text t) fits =
+    let room = fits.room in
+    let len = length (command_data (Text t)) in
+    passed (leb 6 len) (eqb (length t.characters.items) (len - 6)) len (le-leb 6 len (omega arith)) (omega arith) (eq-eqb (length t.characters.items) (len - 6) (omega arith))
+command_well (Comset c) fits = refl
+command_well (Maker m) fits =
+    let len = maker_length m fits in
+    let room = fits.room in
+    passed (leb 3 (length (command_data (Maker m)))) true (length (command_data (Maker m))) (le-leb 3 (length (command_data (Maker m))) (omega (arith, len))) (omega (arith, len)) refl
 
 command_again : (m : Command) → CommandFits m → command_at (command_code m) (command_data m) ≡ m
 unfolding command_at
 command_again Poll fits = refl
+command_again (Id kept) fits = refl
+command_again (Cap kept) fits = refl
+command_again LocalStatus fits = refl
+command_again InputStatus fits = refl
+command_again OutputStatus fits = refl
+command_again ReaderStatus fits = refl
+command_again (Output rs) fits = ap Output (records_again 4 output_data OutputFits output_at outputs rs fits.2)
+command_again (Led rs) fits = ap Led (records_again 14 led_data LedFits led_at leds rs fits.2)
+command_again (Buzzer b) fits = refl
+command_again (Text t) fits = refl
+command_again (Comset c) fits = ap Comset (communication_again c fits)
+command_again (Maker m) fits = ap Maker (maker_again m fits)
 
--- what holds of each row and of the codes outside the table holds of all codes
-command_codes : (P : ℕ → Type 0) → P 0x60 → ((code : ℕ) → ((len : ℕ) → command_length_allowed code len ≡ None) → P code) → (code : ℕ) → P code
-command_codes P poll other code =
-    code_or P 0x60 code poll λ not_poll.
-    other code λ len. rw not_poll refl
+-- ---- what is read has been written
 
 abbrev Takes : ℕ → Type 0
 Takes code = (bytes : List ℕ) → IsBytes bytes → command_fault code bytes ≡ None → IsCommand code bytes (command_at code bytes)
 
+empty : (bytes : List ℕ) → length bytes ≡ 0 → bytes ≡ []
+empty bytes e = nil_from_length bytes e
+
 takes_poll : Takes 0x60
 unfolding command_fault command_at
-takes_poll bytes fits well =
-    let p = passes (Some (eqb (length bytes) 0)) (length bytes) true well in
-    record { code_is = refl; data_is = nil_from_length bytes (eqb-true _ _ (some_is _ _ p.allowed_is)); fits = tt }
+takes_poll bytes h well = record { code_is = refl; data_is = empty bytes (exactly (length bytes) 0 true well).0; fits = tt }
+
+takes_id : Takes 0x61
+unfolding command_fault command_at
+takes_id bytes h well = record { code_is = refl; data_is = all_cells 1 bytes (exactly (length bytes) 1 true well).0; fits = h 0 }
+
+takes_cap : Takes 0x62
+unfolding command_fault command_at
+takes_cap bytes h well = record { code_is = refl; data_is = all_cells 1 bytes (exactly (length bytes) 1 true well).0; fits = h 0 }
+
+takes_local_status : Takes 0x64
+unfolding command_fault command_at
+takes_local_status bytes h well = record { code_is = refl; data_is = empty bytes (exactly (length bytes) 0 true well).0; fits = tt }
+
+takes_input_status : Takes 0x65
+unfolding command_fault command_at
+takes_input_status bytes h well = record { code_is = refl; data_is = empty bytes (exactly (length bytes) 0 true well).0; fits = tt }
+
+takes_output_status : Takes 0x66
+unfolding command_fault command_at
+takes_output_status bytes h well = record { code_is = refl; data_is = empty bytes (exactly (length bytes) 0 true well).0; fits = tt }
+
+takes_reader_status : Takes 0x67
+unfolding command_fault command_at
+takes_reader_status bytes h well = record { code_is = refl; data_is = empty bytes (exactly (length bytes) 0 true well).0; fits = tt }
+
+takes_output : Takes 0x68
+unfolding command_fault command_at
+takes_output bytes h well =
+    let p = some_multiple 4 4 (length bytes) true well in
+    let n = length-records_from output_at 4 (length bytes / 4) bytes in
+    record {
+      code_is = refl;
+      data_is = records_take 4 output_data OutputFits output_at outputs bytes p.2 h;
+      fits = (omega (arith, n, p.0), omega (arith, n, p.1), records_fit 4 output_data OutputFits output_at outputs bytes h);
+    }
+
+takes_led : Takes 0x69
+unfolding command_fault command_at
+takes_led bytes h well =
+    let p = some_multiple 14 14 (length bytes) true well in
+    let n = length-records_from led_at 14 (length bytes / 14) bytes in
+    record {
+      code_is = refl;
+      data_is = records_take 14 led_data LedFits led_at leds bytes p.2 h;
+      fits = (omega (arith, n, p.0), omega (arith, n, p.1), records_fit 14 led_data LedFits led_at leds bytes h);
+    }
+
+takes_buzzer : Takes 0x6A
+unfolding command_fault command_at
+takes_buzzer bytes h well = record { code_is = refl; data_is = buzzer_takes bytes (exactly (length bytes) 5 true well).0; fits = (h 0, h 1, h 2, h 3, h 4) }
+
+takes_text : Takes 0x6B
+unfolding command_fault command_at
+takes_text bytes h well =
+    let p = at_least 6 (length bytes) (eqb (get_or bytes 5 0) (length bytes - 6)) well in
+    let count = eqb-true (get_or bytes 5 0) (length bytes - 6) p.2 in
+    record { code_is = refl; data_is = text_takes bytes p.0 count; fits = text_fits bytes p.0 count h }
+
+takes_comset : Takes 0x6E
+unfolding command_fault command_at
+takes_comset bytes h well = record { code_is = refl; data_is = communication_takes bytes (exactly (length bytes) 5 true well).0 h; fits = communication_fits bytes h }
+
+takes_maker : Takes 0x80
+unfolding command_fault command_at
+takes_maker bytes h well =
+    let p = at_least 3 (length bytes) true well in
+    record { code_is = refl; data_is = maker_takes bytes; fits = maker_fits bytes p.0 p.1 h }
+
+-- what holds at each code of the table and at the codes outside it holds at all codes
+command_codes : (P : ℕ → Type 0)
+    → P 0x60 → P 0x61 → P 0x62 → P 0x64 → P 0x65 → P 0x66 → P 0x67 → P 0x68 → P 0x69 → P 0x6A → P 0x6B → P 0x6E → P 0x80
+    → ((code : ℕ) → ((len : ℕ) → command_length_allowed code len ≡ None) → P code)
+    → (code : ℕ) → P code
+command_codes P poll id cap local_status input_status output_status reader_status output led buzzer text comset maker other code =
+    code_or P 0x60 code poll λ n0.
+    code_or P 0x61 code id λ n1.
+    code_or P 0x62 code cap λ n2.
+    code_or P 0x64 code local_status λ n4.
+    code_or P 0x65 code input_status λ n5.
+    code_or P 0x66 code output_status λ n6.
+    code_or P 0x67 code reader_status λ n7.
+    code_or P 0x68 code output λ n8.
+    code_or P 0x69 code led λ n9.
+    code_or P 0x6A code buzzer λ nA.
+    code_or P 0x6B code text λ nB.
+    code_or P 0x6E code comset λ nE.
+    code_or P 0x80 code maker λ nF.
+    other code λ len. rw (n0, n1, n2, n4, n5, n6, n7, n8, n9, nA, nB, nE, nF) refl
+
+takes_no_other : (code : ℕ) → ((len : ℕ) → command_length_allowed code len ≡ None) → Takes code
+unfolding command_fault
+takes_no_other code unknown bytes h well =
+    absurd (unknown_faults (length bytes) (command_counts_agree code bytes) (rw (unknown (length bytes)) at well))
 
 command_takes : (code : ℕ) → Takes code
-unfolding command_fault
-command_takes = command_codes Takes takes_poll λ code unknown bytes fits well.
-    absurd (unknown_faults (length bytes) (command_counts_agree code bytes) (rw (unknown (length bytes)) at well))
+command_takes =
+    command_codes Takes takes_poll takes_id takes_cap takes_local_status takes_input_status takes_output_status takes_reader_status takes_output takes_led takes_buzzer takes_text takes_comset takes_maker takes_no_other
 
 pub commands : IsTable IsCommand command_fault command_at
 commands = record {
@@ -44,9 +182,11 @@ commands = record {
   again = λ code bytes m is. rw (is.code_is, is.data_is) (command_again m is.fits);
 }
 
+-- ---- laws
+
 pub command_reads : ReadsTheTable IsCommand command_of
 unfolding command_of
-command_reads code bytes m fits = reading IsCommand command_fault command_at commands code bytes m fits
+command_reads code bytes m h = reading IsCommand command_fault command_at commands code bytes m h
 
 pub command_faults : ReadsTheFaults command_fault command_of
 unfolding command_of
@@ -58,11 +198,38 @@ commands_one_value = one_value IsCommand command_fault command_at commands
 pub commands_one_spelling : HasOneSpelling IsCommand
 commands_one_spelling code other bytes others m is also = (is.code_is ∙ sym also.code_is, is.data_is ∙ sym also.data_is)
 
-spells_bytes : (m : Command) → CommandFits m → IsBytes (command_code m ∷ command_data m)
-spells_bytes Poll fits = IsBytes-cons 0x60 [] (lit< tt) IsBytes-nil
+spells_data : (m : Command) → CommandFits m → IsBytes (command_data m)
+spells_data Poll fits = IsBytes-nil
+spells_data (Id kept) fits = IsBytes-each (kept ∷ []) (fits, tt)
+spells_data (Cap kept) fits = IsBytes-each (kept ∷ []) (fits, tt)
+spells_data LocalStatus fits = IsBytes-nil
+spells_data InputStatus fits = IsBytes-nil
+spells_data OutputStatus fits = IsBytes-nil
+spells_data ReaderStatus fits = IsBytes-nil
+spells_data (Output rs) fits = records_spell 4 output_data OutputFits output_at outputs rs fits.2
+spells_data (Led rs) fits = records_spell 14 led_data LedFits led_at leds rs fits.2
+spells_data (Buzzer b) fits = buzzer_spells b fits
+spells_data (Text t) fits = text_spells t fits
+spells_data (Comset c) fits = communication_spells c fits
+spells_data (Maker m) fits = maker_spells m fits
 
-has_room : (m : Command) → CommandFits m → 1 + length (command_data m) ≤ 1433
-has_room Poll fits = lit≤ tt
+code_is_byte : (m : Command) → command_code m < 256
+code_is_byte Poll = lit< tt
+code_is_byte (Id kept) = lit< tt
+code_is_byte (Cap kept) = lit< tt
+code_is_byte LocalStatus = lit< tt
+code_is_byte InputStatus = lit< tt
+code_is_byte OutputStatus = lit< tt
+code_is_byte ReaderStatus = lit< tt
+code_is_byte (Output rs) = lit< tt
+code_is_byte (Led rs) = lit< tt
+code_is_byte (Buzzer b) = lit< tt
+code_is_byte (Text t) = lit< tt
+code_is_byte (Comset c) = lit< tt
+code_is_byte (Maker m) = lit< tt
 
 pub commands_fit : FitsAPacket IsCommand
-commands_fit code bytes m is = rw (is.code_is, is.data_is) (spells_bytes m is.fits, has_room m is.fits)
+unfolding command_fault
+commands_fit code bytes m is =
+    let room = bounded (command_length_allowed code (length bytes)) (length bytes) (command_counts_agree code bytes) (commands.well code bytes m is) in
+    (rw (is.code_is, is.data_is) (IsBytes-cons (command_code m) (command_data m) (code_is_byte m) (spells_data m is.fits)), omega (arith, room))

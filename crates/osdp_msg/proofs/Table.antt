@@ -1,6 +1,8 @@
 -- What follows for a table of messages from two facts on its rows.
-use Rattle.std.proofs.Common.{◌≡◌, ◌↔◌, ◌≤◌, ◌<◌, [], ◌∷◌, zero, suc, arith, ℕ, Bool, true, false, not, ◌||◌, cond, eqb, ltb, List, Option, Some, None, Result, Ok, Err, refl, sym, subst, ◌∙◌}
-use Rattle.std.proofs.lemmas.Bool.{eqb-true, ltb-false}
+use Rattle.std.proofs.Common.{◌≡◌, ◌↔◌, ◌≤◌, ◌<◌, arith, ℕ, Bool, true, false, not, ◌||◌, cond, eqb, ltb, leb, ◌&&◌, ◌%◌, List, Option, Some, None, Result, Ok, Err, ◌*◌, refl, sym, ap, subst, ◌∙◌}
+use Rattle.std.specs.Bool.{then_some}
+use Rattle.std.proofs.lemmas.Bool.{eq-eqb, eqb-true, leb-true, le-leb, le-ltb, ltb-false}
+use Rattle.std.proofs.Math.Nat.{mul-le-mul_left, mul-mod_right}
 use Rattle.osdp_msg.specs.declared.fault.MsgFault.{MsgFault}
 use Rattle.osdp_msg.specs.declared.fault.MsgFault.TheVariants.{Length, Count}
 use Rattle.osdp_msg.specs.Refusal.{refusal, unless_fault}
@@ -13,13 +15,6 @@ pub record IsTable {M : Type 0} (Is : ℕ → List ℕ → M → Type 0) (fault 
   pub takes : (code : ℕ) (bytes : List ℕ) → IsBytes bytes → fault code bytes ≡ None → Is code bytes (value_at code bytes)
   pub well : (code : ℕ) (bytes : List ℕ) (m : M) → Is code bytes m → fault code bytes ≡ None
   pub again : (code : ℕ) (bytes : List ℕ) (m : M) → Is code bytes m → value_at code bytes ≡ m
-
-pub IsBytes-nil : IsBytes []
-IsBytes-nil i = omega arith
-
-pub IsBytes-cons : (b : ℕ) (bs : List ℕ) → b < 256 → IsBytes bs → IsBytes (b ∷ bs)
-IsBytes-cons b bs h hs zero = h
-IsBytes-cons b bs h hs (suc i) = hs i
 
 -- one row of a chain of tests on the code
 pub code_or : (P : ℕ → Type 0) (k code : ℕ) → P k → (eqb code k ≡ false → P code) → P code
@@ -45,11 +40,73 @@ passes (Some a) len agree e = split a (ltb 1432 len) agree refl e
     split true false true is e = record { allowed_is = refl; bound = ltb-false 1432 len is; agree_is = refl }
     split true false false is e = absurd cc
 
+pub bounded : (allowed : Option Bool) (len : ℕ) (agree : Bool) → refusal allowed len agree ≡ None → len ≤ 1432
+bounded allowed len agree e = (passes allowed len agree e).bound
+
 pub some_is : (a b : Bool) → Some a ≡ Some b → a ≡ b
 some_is a b e = cc
 
+-- the fault of a length comes before that of a count
+pub length_first : (allowed : Option Bool) (len : ℕ) (agree : Bool) (f : MsgFault) → refusal allowed len true ≡ Some f → refusal allowed len agree ≡ Some f
+length_first None len agree f e = e
+length_first (Some a) len true f e = e
+length_first (Some a) len false f e = test (ltb 1432 len || not a) f e
+  where
+    test : (b : Bool) (f : MsgFault) → cond b (Some Length) None ≡ Some f → cond b (Some Length) (Some Count) ≡ Some f
+    test true f e = e
+    test false f e = absurd cc
+
+pub count_last : (allowed : Option Bool) (len : ℕ) (agree : Bool) → refusal allowed len true ≡ None → refusal allowed len agree ≡ then_some (not agree) Count
+count_last allowed len true e = e
+count_last None len false e = absurd cc
+count_last (Some a) len false e = test (ltb 1432 len || not a) e
+  where
+    test : (b : Bool) → cond b (Some Length) None ≡ None → cond b (Some Length) (Some Count) ≡ Some Count
+    test true e = absurd cc
+    test false e = refl
+
 pub unknown_faults : (len : ℕ) (agree : Bool) → refusal None len agree ≡ None → ⊥
 unknown_faults len agree e = cc
+
+-- what the lengths of a row say of data without a fault
+pub exactly : (len n : ℕ) (agree : Bool) → refusal (Some (eqb len n)) len agree ≡ None → (len ≡ n) × (agree ≡ true)
+exactly len n agree e =
+    let p = passes (Some (eqb len n)) len agree e in
+    (eqb-true len n (some_is _ _ p.allowed_is), p.agree_is)
+
+pub at_least : (n len : ℕ) (agree : Bool) → refusal (Some (leb n len)) len agree ≡ None → (n ≤ len) × (len ≤ 1432) × (agree ≡ true)
+at_least n len agree e =
+    let p = passes (Some (leb n len)) len agree e in
+    (leb-true n len (some_is _ _ p.allowed_is), p.bound, p.agree_is)
+
+pub any_length : (len : ℕ) (agree : Bool) → refusal (Some true) len agree ≡ None → len ≤ 1432
+any_length len agree e = (passes (Some true) len agree e).bound
+
+pub multiple : (k len : ℕ) (agree : Bool) → refusal (Some (eqb (len % k) 0)) len agree ≡ None → (len % k ≡ 0) × (len ≤ 1432)
+multiple k len agree e =
+    let p = passes (Some (eqb (len % k) 0)) len agree e in
+    (eqb-true (len % k) 0 (some_is _ _ p.allowed_is), p.bound)
+
+-- and the other way round
+pub passed : (allowed agree : Bool) (len : ℕ) → allowed ≡ true → len ≤ 1432 → agree ≡ true → refusal (Some allowed) len agree ≡ None
+passed allowed agree len may bound same = rw (may, le-ltb 1432 len bound, same) refl
+
+both_parts : (a b : Bool) → (a && b) ≡ true → (a ≡ true) × (b ≡ true)
+both_parts true true e = (refl, refl)
+both_parts true false e = absurd cc
+both_parts false b e = absurd cc
+
+pub some_multiple : (n k len : ℕ) (agree : Bool) → refusal (Some (leb n len && eqb (len % k) 0)) len agree ≡ None → (n ≤ len) × (len ≤ 1432) × (len % k ≡ 0)
+some_multiple n k len agree e =
+    let p = passes (Some (leb n len && eqb (len % k) 0)) len agree e in
+    let both = both_parts (leb n len) (eqb (len % k) 0) (some_is _ _ p.allowed_is) in
+    (leb-true n len both.0, p.bound, eqb-true (len % k) 0 both.1)
+
+pub multiple_allowed : (size n len : ℕ) → 0 < n → 0 < size → len ≡ size * n → (leb size len && eqb (len % size) 0) ≡ true
+multiple_allowed size n len some wide e =
+    let more : size * 1 ≤ size * n = mul-le-mul_left size (omega arith) in
+    let whole : len % size ≡ 0 = ap (λ (k : ℕ). k % size) e ∙ mul-mod_right size n in
+    rw (le-leb size len (omega (arith, more, e)), eq-eqb (len % size) 0 whole) refl
 
 unless_ok : {M : Type 0} (o : Option MsgFault) (x m : M) → unless_fault o x ≡ Ok m → (o ≡ None) × (x ≡ m)
 unless_ok None x m e = (refl, cc)

@@ -1,9 +1,19 @@
 -- What holds of a table of messages, and of their texts.
-use Rattle.std.specs.Prelude.{◌≡◌, ◌↔◌, ◌+◌, ◌≤◌, ℕ, List, ◌∷◌, length, map, Option, Some, Result, Ok, Err}
+use Rattle.std.specs.Prelude.{◌≡◌, ◌↔◌, ◌+◌, ◌*◌, ◌<◌, ◌≤◌, ℕ, true, false, List, [], ◌∷◌, length, map, Option, Some, Result, Ok, Err}
 use Rattle.std.specs.List.{join_with_byte}
+use Rattle.byteorder.specs.Endian.{little_bytes}
 use Rattle.hex.specs.Hex.{IsBytes}
-use Rattle.osdp_words.specs.Word.{Word, AllStandFor, printed}
+use Rattle.osdp_words.specs.Word.{AllStandFor, Word, printed}
+use Rattle.osdp_msg.specs.declared.command.Command.{Command}
+use Rattle.osdp_msg.specs.declared.command.Command.TheVariants.{Poll}
+use Rattle.osdp_msg.specs.declared.event.Event.{Event}
+use Rattle.osdp_msg.specs.declared.reply.Reply.TheVariants.{Nak, Busy}
+use Rattle.osdp_msg.specs.declared.reply_fields.Nak.{Nak as NakData}
+use Rattle.osdp_msg.specs.Events.{event_reply}
+use Rattle.osdp_msg.specs.Fitting.{reply_fits}
+use Rattle.osdp_msg.specs.NakReasons.{ReasonFits, reason_number, reason_of}
 use Rattle.osdp_msg.specs.declared.fault.MsgFault.{MsgFault}
+use Rattle.osdp_msg.specs.declared.nak.NakReason.{NakReason}
 
 -- reading gives a value exactly where the table has it
 abbrev pub ReadsTheTable : {M : Type 0} → (ℕ → List ℕ → M → Type 0) → (ℕ → List ℕ → Result M MsgFault) → Type 0
@@ -41,3 +51,22 @@ HasOneMeaning {M} Fits words =
 -- two values with one text are the same
 abbrev pub HasOneText : {M : Type 0} → (M → Type 0) → (M → List ℕ) → Type 0
 HasOneText {M} Fits text = (m n : M) → Fits m → Fits n → text m ≡ text n → m ≡ n
+
+-- the number of the reason of a number is that number, and the reason of a reason's number is that reason
+abbrev pub HasOneNumber : Type 0
+HasOneNumber =
+    ((n : ℕ) → reason_number (reason_of n) ≡ n)
+    × ((r : NakReason) → ReasonFits r → (reason_of (reason_number r) ≡ r) × (reason_number r < 256))
+
+-- a number of two or four bytes has its low byte first
+abbrev pub HasLowByteFirst : Type 0
+HasLowByteFirst =
+    ((a b : ℕ) → a < 256 → b < 256 → little_bytes 2 (a + 256 * b) ≡ a ∷ b ∷ [])
+    × ((a b c d : ℕ) → a < 256 → b < 256 → c < 256 → d < 256
+    → little_bytes 4 (a + 256 * b + 65536 * c + 16777216 * d) ≡ a ∷ b ∷ c ∷ d ∷ [])
+
+-- NAK fits every command and BUSY none, and every event fits a POLL
+pub record FitsByKind : Type 0 where
+  pub nak : (m : Command) (n : NakData) → reply_fits m (Nak n) ≡ true
+  pub busy : (m : Command) → reply_fits m Busy ≡ false
+  pub event : (e : Event) → reply_fits Poll (event_reply e) ≡ true

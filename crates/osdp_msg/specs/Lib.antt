@@ -1,6 +1,14 @@
+pub mod OtherReasons
+pub mod NakReasons
+pub mod Raw
+pub mod Records
+pub mod CommandFields
+pub mod ReplyFields
 pub mod Refusal
 pub mod CommandTable
 pub mod CommandText
 pub mod ReplyTable
 pub mod ReplyText
+pub mod Events
+pub mod Fitting
 pub mod Laws

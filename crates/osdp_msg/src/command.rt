@@ -1,19 +1,51 @@
 //! Commands: what the controller sends to a reader.
 
-ghost use Rattle.std.specs.Prelude.{◌≡◌, ◌∷◌, length, Some, Ok, IfOk, IfErr};
+ghost use Rattle.std.specs.Prelude.{◌≡◌, ◌∷◌, length, None, Some, Ok, IfOk, IfErr, true};
+ghost use Rattle.osdp_words.specs.Reading.{ReadsWords};
 ghost use Rattle.osdp_words.specs.Word.{AllStandFor, texts};
 ghost use Rattle.osdp_msg.specs.CommandTable.{CommandFits, IsCommand, command_code, command_data, command_counts_agree, command_fault, command_length_allowed, command_of, command_at};
 ghost use Rattle.osdp_msg.specs.CommandText.{command_words, command_text};
 
-use crate::fault::{BadWords, MsgFault, refusal};
+use crate::command_fields::{Buzzer, Communication, MakerMessage, Text};
+use crate::fault::{BadWords, MsgFault, length_fault};
+use crate::leds::Leds;
+use crate::outputs::Outputs;
+use crate::parsing::parse_byte;
+use crate::printing::{print_byte, print_records};
+use crate::records::with_records;
+use crate::spelling::{code_alone, with_byte};
 use arrayvec::ArrayVec;
 use std::fmt;
 
 /// A command. Each value has the lengths and counts of its row in the table of commands.
 #[derive(Debug, Drop, PartialEq)]
 pub enum Command {
-    /// Asks for the next event, code 60.
+    /// Asks for the next event.
     Poll,
+    /// Asks what the device is. The byte is kept as read.
+    Id(u8),
+    /// Asks what the device can do. The byte is kept as read.
+    Cap(u8),
+    /// Asks for the state of the device itself.
+    LocalStatus,
+    /// Asks for the states of the inputs.
+    InputStatus,
+    /// Asks for the states of the outputs.
+    OutputStatus,
+    /// Asks for the states of the readers.
+    ReaderStatus,
+    /// Sets outputs.
+    Output(Outputs),
+    /// Sets LEDs of readers.
+    Led(Leds),
+    /// Sounds the buzzer of a reader.
+    Buzzer(Buzzer),
+    /// Shows a text on a reader.
+    Text(Text),
+    /// Sets the device's address and baud rate.
+    Comset(Communication),
+    /// A command of the device's maker.
+    Maker(MakerMessage),
 }
 
 /// Whether the table of commands allows `len` data bytes; None where it hasn't the code.
@@ -21,16 +53,26 @@ fn length_allowed(code: u8, len: usize) -> Option<bool>
     ensures { result ≡ command_length_allowed code len }
 {
     match code {
-        0x60 => Some(len == 0),
+        0x60 | 0x64 | 0x65 | 0x66 | 0x67 => Some(len == 0),
+        0x61 | 0x62 => Some(len == 1),
+        0x68 => Some(4 <= len && len % 4 == 0),
+        0x69 => Some(14 <= len && len % 14 == 0),
+        0x6A | 0x6E => Some(len == 5),
+        0x6B => Some(6 <= len),
+        0x80 => Some(3 <= len),
         _ => None,
     }
 }
 
 /// Whether the counts inside the data agree with their length.
-fn counts_agree(_code: u8, _bytes: &[u8]) -> bool
-    ensures { result ≡ command_counts_agree _code _bytes.now }
+fn counts_agree(code: u8, bytes: &[u8]) -> bool
+    requires { command_length_allowed code (length bytes.now) ≡ Some true }
+    ensures { result ≡ command_counts_agree code bytes.now }
 {
-    true
+    match code {
+        0x6B => usize::from(bytes[5]) == bytes.len() - 6,
+        _ => true,
+    }
 }
 
 /// The first fault of a code and data.
@@ -39,14 +81,33 @@ fn fault(code: u8, bytes: &[u8]) -> Option<MsgFault>
     ensures { result ≡ command_fault code bytes.now }
 {
     let len = bytes.len();
-    refusal(length_allowed(code, len), len, counts_agree(code, bytes))
+    if let Some(fault) = length_fault(length_allowed(code, len), len) {
+        return Some(fault);
+    }
+    (!counts_agree(code, bytes)).then_some(MsgFault::Count)
 }
 
 /// The command that a code and data without a fault stand for.
-fn value_at(_code: u8, _bytes: &[u8]) -> Command
-    ensures { result ≡ command_at _code _bytes.now }
+#[tactic(auto, unfolding(crate::specs::CommandTable::command_at))]
+fn value_at(code: u8, bytes: &[u8]) -> Command
+    requires { command_fault code bytes.now ≡ None }
+    ensures { result ≡ command_at code bytes.now }
 {
-    Command::Poll
+    match code {
+        0x61 => Command::Id(bytes[0]),
+        0x62 => Command::Cap(bytes[0]),
+        0x64 => Command::LocalStatus,
+        0x65 => Command::InputStatus,
+        0x66 => Command::OutputStatus,
+        0x67 => Command::ReaderStatus,
+        0x68 => Command::Output(Outputs::read(bytes)),
+        0x69 => Command::Led(Leds::read(bytes)),
+        0x6A => Command::Buzzer(Buzzer::read(bytes)),
+        0x6B => Command::Text(Text::read(bytes)),
+        0x6E => Command::Comset(Communication::read(bytes)),
+        0x80 => Command::Maker(MakerMessage::read(bytes)),
+        _ => Command::Poll,
+    }
 }
 
 /// The first fault of a code and data, or the command that they stand for.
@@ -57,6 +118,28 @@ fn decode(code: u8, bytes: &[u8]) -> Result<Command, MsgFault>
     match fault(code, bytes) {
         Some(fault) => Err(fault),
         None => Ok(value_at(code, bytes)),
+    }
+}
+
+/// The command whose text begins with a name and goes on with these words.
+fn parse_row(name: &str, words: &[&str]) -> Option<Command>
+    ensures { ReadsWords command_words CommandFits (name.now ∷ texts words.now) result }
+{
+    match name {
+        "POLL" => words.is_empty().then_some(Command::Poll),
+        "ID" => Some(Command::Id(parse_byte(words)?)),
+        "CAP" => Some(Command::Cap(parse_byte(words)?)),
+        "LSTAT" => words.is_empty().then_some(Command::LocalStatus),
+        "ISTAT" => words.is_empty().then_some(Command::InputStatus),
+        "OSTAT" => words.is_empty().then_some(Command::OutputStatus),
+        "RSTAT" => words.is_empty().then_some(Command::ReaderStatus),
+        "OUT" => Some(Command::Output(Outputs::parse(words)?)),
+        "LED" => Some(Command::Led(Leds::parse(words)?)),
+        "BUZ" => Some(Command::Buzzer(Buzzer::parse(words)?)),
+        "TEXT" => Some(Command::Text(Text::parse(words)?)),
+        "COMSET" => Some(Command::Comset(Communication::parse(words)?)),
+        "MFG" => Some(Command::Maker(MakerMessage::parse(words)?)),
+        _ => None,
     }
 }
 
@@ -76,19 +159,20 @@ impl Command {
         ensures spelled { result.items ≡ command_code self.now ∷ command_data self.now }
         ensures fits { CommandFits self.now }
     {
-        let mut bytes = ArrayVec::new();
         match self {
-            Command::Poll => bytes.push(0x60),
-        }
-        bytes
-    }
-
-    /// An equal command.
-    pub fn copy(&self) -> Command
-        ensures { result ≡ self.now }
-    {
-        match self {
-            Command::Poll => Command::Poll,
+            Command::Poll => code_alone(0x60),
+            Command::Id(kept) => with_byte(0x61, *kept),
+            Command::Cap(kept) => with_byte(0x62, *kept),
+            Command::LocalStatus => code_alone(0x64),
+            Command::InputStatus => code_alone(0x65),
+            Command::OutputStatus => code_alone(0x66),
+            Command::ReaderStatus => code_alone(0x67),
+            Command::Output(outputs) => with_records(0x68, outputs.records()),
+            Command::Led(leds) => with_records(0x69, leds.records()),
+            Command::Buzzer(buzzer) => buzzer.write(),
+            Command::Text(text) => text.write(),
+            Command::Comset(communication) => communication.write(0x6E),
+            Command::Maker(message) => message.write(0x80),
         }
     }
 
@@ -97,9 +181,30 @@ impl Command {
         ensures value { IfOk result (λ m. AllStandFor (command_words m) (texts words.now) × CommandFits m) }
         ensures only { (m : Command) → CommandFits m → AllStandFor (command_words m) (texts words.now) → result ≡ Ok m }
     {
-        match words {
-            ["POLL"] => Ok(Command::Poll),
-            _ => Err(BadWords),
+        let [name, rest @ ..] = words else {
+            return Err(BadWords);
+        };
+        parse_row(name, rest).ok_or(BadWords)
+    }
+
+    /// An equal command.
+    pub fn copy(&self) -> Command
+        ensures { result ≡ self.now }
+    {
+        match self {
+            Command::Poll => Command::Poll,
+            Command::Id(kept) => Command::Id(*kept),
+            Command::Cap(kept) => Command::Cap(*kept),
+            Command::LocalStatus => Command::LocalStatus,
+            Command::InputStatus => Command::InputStatus,
+            Command::OutputStatus => Command::OutputStatus,
+            Command::ReaderStatus => Command::ReaderStatus,
+            Command::Output(outputs) => Command::Output(outputs.copy()),
+            Command::Led(leds) => Command::Led(leds.copy()),
+            Command::Buzzer(buzzer) => Command::Buzzer(*buzzer),
+            Command::Text(text) => Command::Text(text.copy()),
+            Command::Comset(communication) => Command::Comset(*communication),
+            Command::Maker(message) => Command::Maker(message.copy()),
         }
     }
 }
@@ -111,6 +216,18 @@ impl fmt::Display for Command {
     fn fmt<W: fmt::Write>(&self, f: &mut fmt::Formatter<W>) -> fmt::Result {
         match self {
             Command::Poll => f.write_str("POLL"),
+            Command::Id(kept) => print_byte(f, "ID", *kept),
+            Command::Cap(kept) => print_byte(f, "CAP", *kept),
+            Command::LocalStatus => f.write_str("LSTAT"),
+            Command::InputStatus => f.write_str("ISTAT"),
+            Command::OutputStatus => f.write_str("OSTAT"),
+            Command::ReaderStatus => f.write_str("RSTAT"),
+            Command::Output(outputs) => print_records(f, "OUT", outputs.records()),
+            Command::Led(leds) => print_records(f, "LED", leds.records()),
+            Command::Buzzer(buzzer) => buzzer.print(f),
+            Command::Text(text) => text.print(f),
+            Command::Comset(communication) => communication.print(f, "COMSET"),
+            Command::Maker(message) => message.print(f, "MFG"),
         }
     }
 }

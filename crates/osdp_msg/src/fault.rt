@@ -1,6 +1,6 @@
 //! Why bytes or words are no message.
 
-ghost use Rattle.std.specs.Prelude.{◌≡◌};
+ghost use Rattle.std.specs.Prelude.{◌≡◌, true};
 ghost use Rattle.osdp_msg.specs.Refusal.{refusal};
 
 /// Why a code and data are no message of the table, the first of these that holds.
@@ -18,15 +18,14 @@ pub enum MsgFault {
 #[derive(Clone, Copy, Debug, PartialEq, Eq)]
 pub struct BadWords;
 
-/// The first fault of a code and data, where `allowed` says of a code in the table whether the table allows their
-/// length, and `agree` whether the counts inside agree with it.
-pub(crate) fn refusal(allowed: Option<bool>, len: usize, agree: bool) -> Option<MsgFault>
-    ensures { result ≡ refusal allowed len agree }
+/// The fault of a code and of how many data bytes it has, where `allowed` says of a code in the table whether the
+/// table allows the length.
+pub(crate) fn length_fault(allowed: Option<bool>, len: usize) -> Option<MsgFault>
+    ensures { result ≡ refusal allowed len true }
 {
     match allowed {
         None => Some(MsgFault::UnknownCode),
         Some(allowed) if len > 1432 || !allowed => Some(MsgFault::Length),
-        Some(_) if !agree => Some(MsgFault::Count),
         Some(_) => None,
     }
 }

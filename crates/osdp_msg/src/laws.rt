@@ -4,7 +4,7 @@ ghost use Rattle.osdp_msg.specs.CommandTable.{CommandFits, IsCommand, command_fa
 ghost use Rattle.osdp_msg.specs.CommandText.{command_text, command_words};
 ghost use Rattle.osdp_msg.specs.ReplyTable.{ReplyFits, IsReply, reply_fault, reply_of};
 ghost use Rattle.osdp_msg.specs.ReplyText.{reply_text, reply_words};
-ghost use Rattle.osdp_msg.specs.Laws.{ReadsTheTable, ReadsTheFaults, HasOneValue, HasOneSpelling, FitsAPacket, JoinsItsWords, HasOneMeaning, HasOneText};
+ghost use Rattle.osdp_msg.specs.Laws.{ReadsTheTable, ReadsTheFaults, HasOneValue, HasOneSpelling, FitsAPacket, JoinsItsWords, HasOneMeaning, HasOneText, HasOneNumber, HasLowByteFirst, FitsByKind};
 
 /// Reading a code and data as a command follows the table of commands, and its refusals.
 pub fn command_of_reads_the_table()
@@ -26,7 +26,9 @@ pub fn commands_fit_a_packet()
 /// A command's text is its words, joined by single spaces.
 pub fn command_text_joins_words()
     ensures { JoinsItsWords command_words command_text }
-{}
+{
+    osdp_words::joins_by_spaces();
+}
 
 /// Words stand for one command at most, and two commands with one text are the same.
 pub fn command_texts_are_unique()
@@ -54,10 +56,27 @@ pub fn replies_fit_a_packet()
 /// A reply's text is its words, joined by single spaces.
 pub fn reply_text_joins_words()
     ensures { JoinsItsWords reply_words reply_text }
-{}
+{
+    osdp_words::joins_by_spaces();
+}
 
 /// Words stand for one reply at most, and two replies with one text are the same.
 pub fn reply_texts_are_unique()
     ensures words { HasOneMeaning ReplyFits reply_words }
     ensures text { HasOneText ReplyFits reply_text }
+{}
+
+/// A number is that of one reason, and a reason has one number.
+pub fn reasons_are_unique()
+    ensures { HasOneNumber }
+{}
+
+/// A number of two or four bytes has its low byte first.
+pub fn numbers_have_low_byte_first()
+    ensures { HasLowByteFirst }
+{}
+
+/// NAK fits every command and BUSY none, and every event fits a POLL.
+pub fn replies_fit_by_kind()
+    ensures { FitsByKind }
 {}

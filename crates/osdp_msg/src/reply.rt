@@ -1,36 +1,89 @@
 //! Replies: what a reader answers.
 
-ghost use Rattle.std.specs.Prelude.{◌≡◌, ◌∷◌, length, Some, Ok, IfOk, IfErr};
+ghost use Rattle.std.specs.Prelude.{◌≡◌, ◌∷◌, length, None, Some, Ok, IfOk, IfErr, true};
+ghost use Rattle.osdp_words.specs.Reading.{ReadsWords};
 ghost use Rattle.osdp_words.specs.Word.{AllStandFor, texts};
 ghost use Rattle.osdp_msg.specs.ReplyTable.{ReplyFits, IsReply, reply_code, reply_data, reply_counts_agree, reply_fault, reply_length_allowed, reply_of, reply_at};
 ghost use Rattle.osdp_msg.specs.ReplyText.{reply_words, reply_text};
 
-use crate::fault::{BadWords, MsgFault, refusal};
+use crate::command_fields::{Communication, MakerMessage};
+use crate::fault::{BadWords, MsgFault, length_fault};
+use crate::parsing::{parse_records, parse_states};
+use crate::printing::{print_bytes, print_records};
+use crate::raw::Raw;
+use crate::records::{read_records, with_records};
+use crate::reply_fields::{Formatted, Keypad, LocalState, Nak, PdCap, PdId};
+use crate::spelling::{code_alone, list_of, rest, with_bytes};
 use arrayvec::ArrayVec;
+use byteorder::{ByteOrder, LittleEndian};
 use std::fmt;
 
-/// A reply. Each value has the lengths and counts of its row in the table of replys.
+/// A reply. Each value has the lengths and counts of its row in the table of replies.
 #[derive(Debug, Drop, PartialEq)]
 pub enum Reply {
-    /// Done, or nothing to tell, code 40.
+    /// Done, or nothing to tell.
     Ack,
+    /// Not done.
+    Nak(Nak),
+    /// What the device is.
+    PdId(PdId),
+    /// What the device can do.
+    PdCap(PdCap),
+    /// The state of the device itself.
+    LocalState(LocalState),
+    /// A byte for each input.
+    Inputs(ArrayVec<u8, 1432>),
+    /// A byte for each output.
+    Outputs(ArrayVec<u8, 1432>),
+    /// A byte for each reader.
+    Readers(ArrayVec<u8, 1432>),
+    /// A card's bits.
+    Raw(Raw),
+    /// A card as the reader formatted it.
+    Formatted(Formatted),
+    /// Pressed keys.
+    Keypad(Keypad),
+    /// The address and baud rate from now on.
+    Com(Communication),
+    /// Not taken: to be sent again.
+    Busy,
+    /// A reply of the device's maker.
+    MakerReply(MakerMessage),
 }
 
-/// Whether the table of replys allows `len` data bytes; None where it hasn't the code.
+/// Whether the table of replies allows `len` data bytes; None where it hasn't the code.
 fn length_allowed(code: u8, len: usize) -> Option<bool>
     ensures { result ≡ reply_length_allowed code len }
 {
     match code {
-        0x40 => Some(len == 0),
+        0x40 | 0x79 => Some(len == 0),
+        0x41 => Some(1 <= len),
+        0x45 => Some(len == 12),
+        0x46 => Some(len % 3 == 0),
+        0x48 => Some(len == 2),
+        0x49 | 0x4A | 0x4B => Some(true),
+        0x50 => Some(4 <= len),
+        0x51 | 0x90 => Some(3 <= len),
+        0x53 => Some(2 <= len),
+        0x54 => Some(len == 5),
         _ => None,
     }
 }
 
 /// Whether the counts inside the data agree with their length.
-fn counts_agree(_code: u8, _bytes: &[u8]) -> bool
-    ensures { result ≡ reply_counts_agree _code _bytes.now }
+fn counts_agree(code: u8, bytes: &[u8]) -> bool
+    requires { reply_length_allowed code (length bytes.now) ≡ Some true }
+    ensures { result ≡ reply_counts_agree code bytes.now }
 {
-    true
+    match code {
+        0x50 => {
+            let bits = LittleEndian::read_u16(rest(bytes, 2));
+            (usize::from(bits) + 7) / 8 == bytes.len() - 4
+        }
+        0x51 => usize::from(bytes[2]) == bytes.len() - 3,
+        0x53 => usize::from(bytes[1]) == bytes.len() - 2,
+        _ => true,
+    }
 }
 
 /// The first fault of a code and data.
@@ -39,14 +92,36 @@ fn fault(code: u8, bytes: &[u8]) -> Option<MsgFault>
     ensures { result ≡ reply_fault code bytes.now }
 {
     let len = bytes.len();
-    refusal(length_allowed(code, len), len, counts_agree(code, bytes))
+    if let Some(fault) = length_fault(length_allowed(code, len), len) {
+        return Some(fault);
+    }
+    (!counts_agree(code, bytes)).then_some(MsgFault::Count)
 }
 
 /// The reply that a code and data without a fault stand for.
-fn value_at(_code: u8, _bytes: &[u8]) -> Reply
-    ensures { result ≡ reply_at _code _bytes.now }
+#[tactic(auto, unfolding(crate::specs::ReplyTable::reply_at))]
+fn value_at(code: u8, bytes: &[u8]) -> Reply
+    requires { reply_fault code bytes.now ≡ None }
+    ensures { result ≡ reply_at code bytes.now }
 {
-    Reply::Ack
+    match code {
+        0x41 => Reply::Nak(Nak::read(bytes)),
+        0x45 => Reply::PdId(PdId::read(bytes)),
+        0x46 => Reply::PdCap(PdCap {
+            capabilities: read_records(bytes),
+        }),
+        0x48 => Reply::LocalState(LocalState::read(bytes)),
+        0x49 => Reply::Inputs(list_of(bytes)),
+        0x4A => Reply::Outputs(list_of(bytes)),
+        0x4B => Reply::Readers(list_of(bytes)),
+        0x50 => Reply::Raw(Raw::read(bytes)),
+        0x51 => Reply::Formatted(Formatted::read(bytes)),
+        0x53 => Reply::Keypad(Keypad::read(bytes)),
+        0x54 => Reply::Com(Communication::read(bytes)),
+        0x79 => Reply::Busy,
+        0x90 => Reply::MakerReply(MakerMessage::read(bytes)),
+        _ => Reply::Ack,
+    }
 }
 
 /// The first fault of a code and data, or the reply that they stand for.
@@ -57,6 +132,31 @@ fn decode(code: u8, bytes: &[u8]) -> Result<Reply, MsgFault>
     match fault(code, bytes) {
         Some(fault) => Err(fault),
         None => Ok(value_at(code, bytes)),
+    }
+}
+
+/// The reply whose text begins with a name and goes on with these words.
+fn parse_row(name: &str, words: &[&str]) -> Option<Reply>
+    ensures { ReadsWords reply_words ReplyFits (name.now ∷ texts words.now) result }
+{
+    match name {
+        "ACK" => words.is_empty().then_some(Reply::Ack),
+        "NAK" => Some(Reply::Nak(Nak::parse(words)?)),
+        "PDID" => Some(Reply::PdId(PdId::parse(words)?)),
+        "PDCAP" => Some(Reply::PdCap(PdCap {
+            capabilities: parse_records(words)?,
+        })),
+        "LSTATR" => Some(Reply::LocalState(LocalState::parse(words)?)),
+        "ISTATR" => Some(Reply::Inputs(parse_states(words)?)),
+        "OSTATR" => Some(Reply::Outputs(parse_states(words)?)),
+        "RSTATR" => Some(Reply::Readers(parse_states(words)?)),
+        "RAW" => Some(Reply::Raw(Raw::parse(words)?)),
+        "FMT" => Some(Reply::Formatted(Formatted::parse(words)?)),
+        "KEYPAD" => Some(Reply::Keypad(Keypad::parse(words)?)),
+        "COM" => Some(Reply::Com(Communication::parse(words)?)),
+        "BUSY" => words.is_empty().then_some(Reply::Busy),
+        "MFGREP" => Some(Reply::MakerReply(MakerMessage::parse(words)?)),
+        _ => None,
     }
 }
 
@@ -76,19 +176,21 @@ impl Reply {
         ensures spelled { result.items ≡ reply_code self.now ∷ reply_data self.now }
         ensures fits { ReplyFits self.now }
     {
-        let mut bytes = ArrayVec::new();
         match self {
-            Reply::Ack => bytes.push(0x40),
-        }
-        bytes
-    }
-
-    /// An equal reply.
-    pub fn copy(&self) -> Reply
-        ensures { result ≡ self.now }
-    {
-        match self {
-            Reply::Ack => Reply::Ack,
+            Reply::Ack => code_alone(0x40),
+            Reply::Nak(nak) => nak.write(),
+            Reply::PdId(pd_id) => pd_id.write(),
+            Reply::PdCap(pd_cap) => with_records(0x46, pd_cap.capabilities.as_slice()),
+            Reply::LocalState(state) => state.write(),
+            Reply::Inputs(states) => with_bytes(0x49, states.as_slice()),
+            Reply::Outputs(states) => with_bytes(0x4A, states.as_slice()),
+            Reply::Readers(states) => with_bytes(0x4B, states.as_slice()),
+            Reply::Raw(raw) => raw.write(),
+            Reply::Formatted(formatted) => formatted.write(),
+            Reply::Keypad(keypad) => keypad.write(),
+            Reply::Com(communication) => communication.write(0x54),
+            Reply::Busy => code_alone(0x79),
+            Reply::MakerReply(message) => message.write(0x90),
         }
     }
 
@@ -97,9 +199,31 @@ impl Reply {
         ensures value { IfOk result (λ m. AllStandFor (reply_words m) (texts words.now) × ReplyFits m) }
         ensures only { (m : Reply) → ReplyFits m → AllStandFor (reply_words m) (texts words.now) → result ≡ Ok m }
     {
-        match words {
-            ["ACK"] => Ok(Reply::Ack),
-            _ => Err(BadWords),
+        let [name, rest @ ..] = words else {
+            return Err(BadWords);
+        };
+        parse_row(name, rest).ok_or(BadWords)
+    }
+
+    /// An equal reply.
+    pub fn copy(&self) -> Reply
+        ensures { result ≡ self.now }
+    {
+        match self {
+            Reply::Ack => Reply::Ack,
+            Reply::Nak(nak) => Reply::Nak(nak.copy()),
+            Reply::PdId(pd_id) => Reply::PdId(*pd_id),
+            Reply::PdCap(pd_cap) => Reply::PdCap(pd_cap.copy()),
+            Reply::LocalState(state) => Reply::LocalState(*state),
+            Reply::Inputs(states) => Reply::Inputs(list_of(states.as_slice())),
+            Reply::Outputs(states) => Reply::Outputs(list_of(states.as_slice())),
+            Reply::Readers(states) => Reply::Readers(list_of(states.as_slice())),
+            Reply::Raw(raw) => Reply::Raw(raw.copy()),
+            Reply::Formatted(formatted) => Reply::Formatted(formatted.copy()),
+            Reply::Keypad(keypad) => Reply::Keypad(keypad.copy()),
+            Reply::Com(communication) => Reply::Com(*communication),
+            Reply::Busy => Reply::Busy,
+            Reply::MakerReply(message) => Reply::MakerReply(message.copy()),
         }
     }
 }
@@ -111,6 +235,19 @@ impl fmt::Display for Reply {
     fn fmt<W: fmt::Write>(&self, f: &mut fmt::Formatter<W>) -> fmt::Result {
         match self {
             Reply::Ack => f.write_str("ACK"),
+            Reply::Nak(nak) => nak.print(f),
+            Reply::PdId(pd_id) => pd_id.print(f),
+            Reply::PdCap(pd_cap) => print_records(f, "PDCAP", pd_cap.capabilities.as_slice()),
+            Reply::LocalState(state) => state.print(f),
+            Reply::Inputs(states) => print_bytes(f, "ISTATR", states.as_slice()),
+            Reply::Outputs(states) => print_bytes(f, "OSTATR", states.as_slice()),
+            Reply::Readers(states) => print_bytes(f, "RSTATR", states.as_slice()),
+            Reply::Raw(raw) => raw.print(f),
+            Reply::Formatted(formatted) => formatted.print(f),
+            Reply::Keypad(keypad) => keypad.print(f),
+            Reply::Com(communication) => communication.print(f, "COM"),
+            Reply::Busy => f.write_str("BUSY"),
+            Reply::MakerReply(message) => message.print(f, "MFGREP"),
         }
     }
 }

@@ -1,0 +1,71 @@
+-- A row of texts: a name, and the words of the fields behind it.
+use Rattle.std.proofs.Common.{◌≡◌, ℕ, Bool, true, false, ◌&&◌, eqb, List, [], ◌∷◌, length, Option, Some, None, refl, sym, ap, subst, ◌∙◌, arith}
+use Rattle.std.specs.Bool.{then_some}
+use Rattle.std.specs.Prelude.{IfSome, option_map}
+use Rattle.std.proofs.lemmas.Bool.{eq-eqb, eqb-true, true≢false}
+use Rattle.osdp_words.specs.Reading.{ReadsWords}
+use Rattle.osdp_words.specs.Word.{AllStandFor, Word, plain}
+
+-- two texts, character by character
+abbrev pub same : List ℕ → List ℕ → Bool
+same [] [] = true
+same [] (b ∷ rest) = false
+same (a ∷ front) [] = false
+same (a ∷ front) (b ∷ rest) = eqb a b && same front rest
+
+same_self : (a : List ℕ) → same a a ≡ true
+same_self [] = refl
+same_self (b ∷ rest) = rw (eq-eqb b b refl, same_self rest) refl
+
+-- texts that differ somewhere
+pub differ : (a b : List ℕ) → same a b ≡ false → a ≡ b → ⊥
+differ a b no_match e = true≢false (sym (same_self a) ∙ ap (same a) e ∙ no_match)
+
+-- the values of a row: those that go by its name
+pub record IsRow {M X : Type 0} (name_of : M → List ℕ) (fields_of : M → List Word) (Fits : M → Type 0) (words : X → List Word) (Allowed : X → Type 0) (name : List ℕ) (make : X → M) : Type 0 where
+  pub named : (x : X) → name_of (make x) ≡ name
+  pub fields : (x : X) → fields_of (make x) ≡ words x
+  pub fits : (x : X) → Allowed x → Fits (make x)
+  pub allowed : (x : X) → Fits (make x) → Allowed x
+  pub only : (m : M) → name_of m ≡ name → (x : X) × (m ≡ make x)
+
+module _ {M X : Type 0} (name_of : M → List ℕ) (fields_of : M → List Word) (Fits : M → Type 0) (words : X → List Word) (Allowed : X → Type 0) (name : List ℕ) (make : X → M) (row : IsRow name_of fields_of Fits words Allowed name make) where
+  abbrev pub named_words : M → List Word
+  named_words m = plain (name_of m) ∷ fields_of m
+
+  row_value : (given : List (List ℕ)) (r : Option X) → IfSome r (λ x. AllStandFor (words x) given × Allowed x)
+      → IfSome (option_map make r) (λ m. AllStandFor (named_words m) (name ∷ given) × Fits m)
+  row_value given (Some x) h = ((sym (row.named x), subst (λ (ws : List Word). AllStandFor ws given) (sym (row.fields x)) h.0), row.fits x h.1)
+  row_value given None h = tt
+
+  row_only : (given : List (List ℕ)) (r : Option X) → ReadsWords words Allowed given r
+      → (m : M) (x : X) → m ≡ make x → Fits m → AllStandFor (fields_of m) given → option_map make r ≡ Some m
+  row_only given r reads m x e fits stands =
+      let made_fits = subst Fits e fits in
+      let made_stands = subst (λ (n : M). AllStandFor (fields_of n) given) e stands in
+      ap (option_map make) (reads.only x (row.allowed x made_fits) (subst (λ (ws : List Word). AllStandFor ws given) (row.fields x) made_stands)) ∙ ap Some (sym e)
+
+  pub row_read : (given : List (List ℕ)) (r : Option X) (result : Option M) → ReadsWords words Allowed given r → result ≡ option_map make r
+      → ReadsWords named_words Fits (name ∷ given) result
+  row_read given r result reads e = rw e record {
+    value = row_value given r reads.value;
+    only = λ m fits stands. let x = row.only m (sym stands.0) in row_only given r reads m x.0 x.1 fits stands.1;
+  }
+
+-- ---- a row with no fields
+
+module _ {M : Type 0} (name_of : M → List ℕ) (fields_of : M → List Word) (Fits : M → Type 0) (name : List ℕ) (m : M) (row : IsRow name_of fields_of Fits (λ (x : Unit {0}). []) (λ x. Unit {0}) name (λ x. m)) where
+  nothing_read : (given : List (List ℕ)) (empty : Bool) → empty ≡ eqb (length given) 0 → ReadsWords (λ (x : Unit {0}). []) (λ x. Unit {0}) given (then_some empty tt)
+  nothing_read [] true e = record { value = (tt, tt); only = λ x fits stands. refl }
+  nothing_read [] false e = absurd cc
+  nothing_read (g ∷ given) true e = absurd (omega (arith, eqb-true (length (g ∷ given)) 0 (sym e)))
+  nothing_read (g ∷ given) false e = record { value = tt; only = λ x fits stands. absurd stands }
+
+  made_by : (empty : Bool) → then_some empty m ≡ option_map (λ (x : Unit {0}). m) (then_some empty tt)
+  made_by true = refl
+  made_by false = refl
+
+  pub empty_row_read : (given : List (List ℕ)) (empty : Bool) (result : Option M) → empty ≡ eqb (length given) 0 → result ≡ then_some empty m
+      → ReadsWords (named_words name_of fields_of Fits (λ (x : Unit {0}). []) (λ x. Unit {0}) name (λ x. m) row) Fits (name ∷ given) result
+  empty_row_read given empty result is e =
+      row_read name_of fields_of Fits (λ (x : Unit {0}). []) (λ x. Unit {0}) name (λ x. m) row given (then_some empty tt) result (nothing_read given empty is) (e ∙ made_by empty)

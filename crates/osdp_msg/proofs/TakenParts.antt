@@ -1,0 +1,74 @@
+-- Values read from words: what each part takes, put together.
+use Rattle.std.proofs.Common.{◌≡◌, ◌↔◌, ◌<◌, ◌≤◌, ℕ, Bool, true, false, IsTrue, List, [], ◌∷◌, length, map, Option, Some, None, refl}
+use Rattle.std.specs.Bool.{then_some}
+use Rattle.arrayvec.specs.ArrayVec.{ArrayVec, array_vec_len}
+use Rattle.hex.specs.Hex.{IsBytes}
+use Rattle.osdp_words.specs.Reading.{ReadsWords, Takes}
+use Rattle.osdp_words.specs.Word.{Word, bytes, number}
+use Rattle.osdp_words.proofs.Rows.{IsMadeOf, all_read, front_missing, made_taken, more_left, none_read, pair_taken, pair_words, PairAllowed}
+
+-- ---- the parts
+
+abbrev pub numbers_words : List ℕ → List Word
+numbers_words ns = map number ns
+
+abbrev pub AreNumbers : ℕ → List ℕ → Type 0
+AreNumbers n ns = (length ns ≡ n) × IsBytes ns
+
+abbrev pub number_words : ℕ → List Word
+number_words n = number n ∷ []
+
+abbrev pub IsBelow : ℕ → ℕ → Type 0
+IsBelow limit n = n < limit
+
+abbrev pub list_words : ArrayVec ℕ → List Word
+list_words list = bytes list.items ∷ []
+
+abbrev pub IsList : ℕ → ArrayVec ℕ → Type 0
+IsList room list = (array_vec_len list ≤ room) × IsBytes list.items
+
+abbrev pub vendor_words : List ℕ → List Word
+vendor_words v = bytes v ∷ []
+
+abbrev pub IsVendor : List ℕ → Type 0
+IsVendor v = (length v ≡ 3) × IsBytes v
+
+pub not_true : IsTrue false → ⊥
+not_true h = cc
+
+-- ---- a value of one part
+
+module _ {A B : Type 0} (words : A → List Word) (Allowed : A → Type 0) (made_words : B → List Word) (Fits : B → Type 0) (f : A → B) (g : B → A) (made : IsMadeOf words Allowed made_words Fits f g) where
+  by_end : (given left : List (List ℕ)) (a : A) (ended : Bool) → (IsTrue ended ↔ (left ≡ [])) → Takes made_words Fits given left (Some (f a))
+      → ReadsWords made_words Fits given (then_some ended (f a))
+  by_end given left a true end taken = all_read made_words Fits given left (f a) (end.0 refl) taken
+  by_end given left a false end taken = more_left made_words Fits given left (f a) (λ e. absurd (not_true (end.1 e))) taken
+
+  pub one_whole : (given left : List (List ℕ)) (a : A) (ended : Bool) (r : Option B) → Takes words Allowed given left (Some a)
+      → (IsTrue ended ↔ (left ≡ [])) → r ≡ then_some ended (f a) → ReadsWords made_words Fits given r
+  one_whole given left a ended r taken end e =
+      rw e (by_end given left a ended end (made_taken words Allowed made_words Fits f g made given left (Some a) taken))
+
+  pub one_missing : (given left : List (List ℕ)) (r : Option B) → Takes words Allowed given left None → r ≡ None → ReadsWords made_words Fits given r
+  one_missing given left r taken e =
+      rw e (none_read made_words Fits given left (made_taken words Allowed made_words Fits f g made given left None taken))
+
+-- ---- a value of two parts
+
+module _ {A B C : Type 0} (front_words : A → List Word) (FrontAllowed : A → Type 0) (back_words : B → List Word) (BackAllowed : B → Type 0) (made_words : C → List Word) (Fits : C → Type 0) (f : A × B → C) (g : C → A × B) (made : IsMadeOf (pair_words front_words FrontAllowed back_words BackAllowed) (PairAllowed front_words FrontAllowed back_words BackAllowed) made_words Fits f g) (given mid left : List (List ℕ)) (a : A) where
+  pub two_whole : (b : B) (ended : Bool) (r : Option C) → Takes front_words FrontAllowed given mid (Some a) → Takes back_words BackAllowed mid left (Some b)
+      → (IsTrue ended ↔ (left ≡ [])) → r ≡ then_some ended (f (a, b)) → ReadsWords made_words Fits given r
+  two_whole b ended r front back end e =
+      one_whole (pair_words front_words FrontAllowed back_words BackAllowed) (PairAllowed front_words FrontAllowed back_words BackAllowed) made_words Fits f g made given left (a, b) ended r
+      (pair_taken front_words FrontAllowed back_words BackAllowed given mid left a (Some b) front back) end e
+
+  pub two_no_back : (r : Option C) → Takes front_words FrontAllowed given mid (Some a) → Takes back_words BackAllowed mid left None → r ≡ None → ReadsWords made_words Fits given r
+  two_no_back r front back e =
+      one_missing (pair_words front_words FrontAllowed back_words BackAllowed) (PairAllowed front_words FrontAllowed back_words BackAllowed) made_words Fits f g made given left r
+      (pair_taken front_words FrontAllowed back_words BackAllowed given mid left a None front back) e
+
+module _ {A B C : Type 0} (front_words : A → List Word) (FrontAllowed : A → Type 0) (back_words : B → List Word) (BackAllowed : B → Type 0) (made_words : C → List Word) (Fits : C → Type 0) (f : A × B → C) (g : C → A × B) (made : IsMadeOf (pair_words front_words FrontAllowed back_words BackAllowed) (PairAllowed front_words FrontAllowed back_words BackAllowed) made_words Fits f g) (given left : List (List ℕ)) where
+  pub two_no_front : (r : Option C) → Takes front_words FrontAllowed given left None → r ≡ None → ReadsWords made_words Fits given r
+  two_no_front r front e =
+      one_missing (pair_words front_words FrontAllowed back_words BackAllowed) (PairAllowed front_words FrontAllowed back_words BackAllowed) made_words Fits f g made given left r
+      (front_missing front_words FrontAllowed back_words BackAllowed given left front) e

@@ -1,0 +1,24 @@
+use Rattle.std.proofs.Common.{length, sym, true, ◌∙◌}
+use Rattle.osdp_msg.specs.ReplyTable.{reply_counts_agree, reply_fault, reply_length_allowed}
+use Rattle.osdp_msg.proofs.Table.{count_last, length_first, passes}
+use Rattle.osdp_msg.proofs.reply.fault.Goals as goal
+
+pub returns-in-Some : goal.returns-in-Some
+unfolding reply_fault
+returns-in-Some c =
+    let code = c.args.code in
+    let bytes = c.args.bytes.now in
+    sym (length_first (reply_length_allowed code (length bytes)) (length bytes) (reply_counts_agree code bytes) c.in-Some.fault (sym (rw c.length_allowed.ensures at c.in-Some.ensures)))
+
+pub counts_agree-requires : goal.counts_agree-requires
+counts_agree-requires c =
+    let code = c.args.code in
+    let bytes = c.args.bytes.now in
+    (passes (reply_length_allowed code (length bytes)) (length bytes) true (sym (rw c.length_allowed.ensures at c.in_default.ensures))).allowed_is
+
+pub returns : goal.returns
+unfolding reply_fault
+returns c =
+    let code = c.args.code in
+    let bytes = c.args.bytes.now in
+    c.then_some.ensures ∙ rw c.counts_agree.ensures (sym (count_last (reply_length_allowed code (length bytes)) (length bytes) (reply_counts_agree code bytes) (sym (rw c.length_allowed.ensures at c.in_default.ensures))))

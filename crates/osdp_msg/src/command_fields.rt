@@ -1,0 +1,275 @@
+//! The fields of commands, and of the replies that have the same.
+
+ghost use Rattle.std.specs.Prelude.{◌≡◌, ◌≤◌, ◌∷◌, [], codes, length};
+ghost use Rattle.std.specs.Fmt.{WritesOnOk};
+ghost use Rattle.osdp_words.specs.Reading.{ReadsWords};
+ghost use Rattle.osdp_words.specs.Word.{plain, text_of, texts};
+ghost use Rattle.osdp_msg.specs.CommandFields.{BuzzerFits, buzzer_at, buzzer_data, buzzer_words, TextFits, text_at, text_data, text_words, CommunicationFits, communication_at, communication_data, communication_words, MakerFits, maker_at, maker_data, maker_words};
+
+use crate::spelling::{Spelling, append, append_u32, code_alone, list_of, rest, with_bytes};
+use arrayvec::ArrayVec;
+use byteorder::{ByteOrder, LittleEndian};
+use osdp_words::{ByteList, Fields};
+use std::fmt;
+
+/// How the buzzer of a reader sounds.
+#[derive(Clone, Copy, Debug, PartialEq, Eq)]
+pub struct Buzzer {
+    pub reader: u8,
+    /// 0 none, 1 off, 2 default.
+    pub tone: u8,
+    /// In 100 ms.
+    pub on_time: u8,
+    /// In 100 ms.
+    pub off_time: u8,
+    /// How often; 0 means until another command.
+    pub count: u8,
+}
+
+impl Buzzer {
+    pub(crate) fn read(bytes: &[u8]) -> Buzzer
+        requires { length bytes.now ≡ 5 }
+        ensures { result ≡ buzzer_at bytes.now }
+    {
+        Buzzer {
+            reader: bytes[0],
+            tone: bytes[1],
+            on_time: bytes[2],
+            off_time: bytes[3],
+            count: bytes[4],
+        }
+    }
+
+    pub(crate) fn write(self) -> Spelling
+        ensures spelled { result.items ≡ 0x6A ∷ buzzer_data self }
+        ensures fits { BuzzerFits self }
+    {
+        let data = [
+            self.reader,
+            self.tone,
+            self.on_time,
+            self.off_time,
+            self.count,
+        ];
+        with_bytes(0x6A, &data)
+    }
+
+    pub(crate) fn print<W: fmt::Write>(self, f: &mut fmt::Formatter<W>) -> fmt::Result
+        ensures { WritesOnOk W.write_str_gives f.old result (text_of (plain (codes "BUZ") ∷ buzzer_words self)) f.new }
+    {
+        let Buzzer {
+            reader,
+            tone,
+            on_time,
+            off_time,
+            count,
+        } = self;
+        write!(f, "BUZ {reader} {tone} {on_time} {off_time} {count}")
+    }
+
+    pub(crate) fn parse(words: &[&str]) -> Option<Buzzer>
+        ensures { ReadsWords buzzer_words BuzzerFits (texts words.now) result }
+    {
+        let mut fields = Fields::new(words);
+        let [reader, tone, on_time, off_time, count] = fields.numbers_u8::<5>()?;
+        let buzzer = Buzzer {
+            reader,
+            tone,
+            on_time,
+            off_time,
+            count,
+        };
+        fields.is_empty().then_some(buzzer)
+    }
+}
+
+/// What the display of a reader shows.
+#[derive(Debug, Drop, PartialEq)]
+pub struct Text {
+    pub reader: u8,
+    /// 1 permanent, 2 permanent with wrap, 3 temporary, 4 temporary with wrap.
+    pub command: u8,
+    /// In seconds, of a temporary text.
+    pub time: u8,
+    pub row: u8,
+    pub column: u8,
+    pub characters: ArrayVec<u8, 255>,
+}
+
+impl Text {
+    pub(crate) fn read(bytes: &[u8]) -> Text
+        requires some { 6 ≤ length bytes.now }
+        requires room { length bytes.now ≤ 261 }
+        ensures { result ≡ text_at bytes.now }
+    {
+        Text {
+            reader: bytes[0],
+            command: bytes[1],
+            time: bytes[2],
+            row: bytes[3],
+            column: bytes[4],
+            characters: list_of(rest(bytes, 6)),
+        }
+    }
+
+    pub(crate) fn write(&self) -> Spelling
+        ensures spelled { result.items ≡ 0x6B ∷ text_data self.now }
+        ensures fits { TextFits self.now }
+    {
+        let count = self.characters.len() as u8;
+        let front = [
+            self.reader,
+            self.command,
+            self.time,
+            self.row,
+            self.column,
+            count,
+        ];
+        let mut spelling = with_bytes(0x6B, &front);
+        append(&mut spelling, self.characters.as_slice());
+        spelling
+    }
+
+    /// An equal value.
+    pub fn copy(&self) -> Text
+        ensures { result ≡ self.now }
+    {
+        Text {
+            characters: list_of(self.characters.as_slice()),
+            ..*self
+        }
+    }
+
+    pub(crate) fn print<W: fmt::Write>(&self, f: &mut fmt::Formatter<W>) -> fmt::Result
+        ensures { WritesOnOk W.write_str_gives f.old result (text_of (plain (codes "TEXT") ∷ text_words self.now)) f.new }
+    {
+        let (reader, command, time) = (self.reader, self.command, self.time);
+        let (row, column) = (self.row, self.column);
+        let characters = ByteList(self.characters.as_slice());
+        write!(
+            f,
+            "TEXT {reader} {command} {time} {row} {column} {characters}"
+        )
+    }
+
+    pub(crate) fn parse(words: &[&str]) -> Option<Text>
+        ensures { ReadsWords text_words TextFits (texts words.now) result }
+    {
+        let mut fields = Fields::new(words);
+        let [reader, command, time, row, column] = fields.numbers_u8::<5>()?;
+        let characters = fields.byte_list()?;
+        let text = Text {
+            reader,
+            command,
+            time,
+            row,
+            column,
+            characters,
+        };
+        fields.is_empty().then_some(text)
+    }
+}
+
+/// How a device communicates, as the controller sets it and the device confirms it.
+#[derive(Clone, Copy, Debug, PartialEq, Eq)]
+pub struct Communication {
+    pub address: u8,
+    /// In bits per second.
+    pub baud_rate: u32,
+}
+
+impl Communication {
+    pub(crate) fn read(bytes: &[u8]) -> Communication
+        requires { length bytes.now ≡ 5 }
+        ensures { result ≡ communication_at bytes.now }
+    {
+        Communication {
+            address: bytes[0],
+            baud_rate: LittleEndian::read_u32(rest(bytes, 1)),
+        }
+    }
+
+    pub(crate) fn write(self, code: u8) -> Spelling
+        ensures spelled { result.items ≡ code ∷ communication_data self }
+        ensures fits { CommunicationFits self }
+    {
+        let mut spelling = code_alone(code);
+        spelling.push(self.address);
+        append_u32(&mut spelling, self.baud_rate);
+        spelling
+    }
+
+    pub(crate) fn print<W: fmt::Write>(self, f: &mut fmt::Formatter<W>, name: &str) -> fmt::Result
+        ensures { WritesOnOk W.write_str_gives f.old result (text_of (plain name.now ∷ communication_words self)) f.new }
+    {
+        let Communication { address, baud_rate } = self;
+        write!(f, "{name} {address} {baud_rate}")
+    }
+
+    pub(crate) fn parse(words: &[&str]) -> Option<Communication>
+        ensures { ReadsWords communication_words CommunicationFits (texts words.now) result }
+    {
+        let mut fields = Fields::new(words);
+        let address = fields.number_u8()?;
+        let baud_rate = fields.number_u32()?;
+        fields
+            .is_empty()
+            .then_some(Communication { address, baud_rate })
+    }
+}
+
+/// A message of a device's maker, with the maker's code in front.
+#[derive(Debug, Drop, PartialEq)]
+pub struct MakerMessage {
+    pub vendor: [u8; 3],
+    pub bytes: ArrayVec<u8, 1429>,
+}
+
+impl MakerMessage {
+    pub(crate) fn read(bytes: &[u8]) -> MakerMessage
+        requires some { 3 ≤ length bytes.now }
+        requires room { length bytes.now ≤ 1432 }
+        ensures { result ≡ maker_at bytes.now }
+    {
+        MakerMessage {
+            vendor: [bytes[0], bytes[1], bytes[2]],
+            bytes: list_of(rest(bytes, 3)),
+        }
+    }
+
+    pub(crate) fn write(&self, code: u8) -> Spelling
+        ensures spelled { result.items ≡ code ∷ maker_data self.now }
+        ensures fits { MakerFits self.now }
+    {
+        let mut spelling = with_bytes(code, &self.vendor);
+        append(&mut spelling, self.bytes.as_slice());
+        spelling
+    }
+
+    /// An equal value.
+    pub fn copy(&self) -> MakerMessage
+        ensures { result ≡ self.now }
+    {
+        MakerMessage {
+            vendor: self.vendor,
+            bytes: list_of(self.bytes.as_slice()),
+        }
+    }
+
+    pub(crate) fn print<W: fmt::Write>(&self, f: &mut fmt::Formatter<W>, name: &str) -> fmt::Result
+        ensures { WritesOnOk W.write_str_gives f.old result (text_of (plain name.now ∷ maker_words self.now)) f.new }
+    {
+        let vendor = ByteList(&self.vendor);
+        let bytes = ByteList(self.bytes.as_slice());
+        write!(f, "{name} {vendor} {bytes}")
+    }
+
+    pub(crate) fn parse(words: &[&str]) -> Option<MakerMessage>
+        ensures { ReadsWords maker_words MakerFits (texts words.now) result }
+    {
+        let mut fields = Fields::new(words);
+        let vendor = fields.vendor()?;
+        let bytes = fields.byte_list()?;
+        fields.is_empty().then_some(MakerMessage { vendor, bytes })
+    }
+}

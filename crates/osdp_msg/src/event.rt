@@ -1,0 +1,110 @@
+//! Events: what a reader tells when it is polled.
+
+ghost use Rattle.std.specs.Prelude.{◌≡◌, Some, Ok, IfOk, IfErr};
+ghost use Rattle.osdp_words.specs.Word.{AllStandFor, texts};
+ghost use Rattle.osdp_msg.specs.Events.{EventFits, event_reply, event_text, event_words};
+
+use crate::fault::BadWords;
+use crate::raw::Raw;
+use crate::reply::Reply;
+use crate::reply_fields::{Formatted, Keypad, LocalState};
+use crate::spelling::list_of;
+use arrayvec::ArrayVec;
+use std::fmt;
+
+/// What happened at a reader: the seven replies to a POLL that tell something.
+#[derive(Debug, Drop, PartialEq)]
+pub enum Event {
+    /// The state of the device itself.
+    LocalState(LocalState),
+    /// A byte for each input.
+    Inputs(ArrayVec<u8, 1432>),
+    /// A byte for each output.
+    Outputs(ArrayVec<u8, 1432>),
+    /// A byte for each reader.
+    Readers(ArrayVec<u8, 1432>),
+    /// A card's bits.
+    Raw(Raw),
+    /// A card as the reader formatted it.
+    Formatted(Formatted),
+    /// Pressed keys.
+    Keypad(Keypad),
+}
+
+impl Event {
+    /// The reply that tells the event.
+    pub fn to_reply(&self) -> Reply
+        ensures { result ≡ event_reply self.now }
+    {
+        match self {
+            Event::LocalState(state) => Reply::LocalState(*state),
+            Event::Inputs(states) => Reply::Inputs(list_of(states.as_slice())),
+            Event::Outputs(states) => Reply::Outputs(list_of(states.as_slice())),
+            Event::Readers(states) => Reply::Readers(list_of(states.as_slice())),
+            Event::Raw(raw) => Reply::Raw(raw.copy()),
+            Event::Formatted(formatted) => Reply::Formatted(formatted.copy()),
+            Event::Keypad(keypad) => Reply::Keypad(keypad.copy()),
+        }
+    }
+
+    /// The event whose text has these words. The digits of byte lists may have either case.
+    pub fn parse(words: &[&str]) -> Result<Event, BadWords>
+        ensures value { IfOk result (λ e. AllStandFor (event_words e) (texts words.now) × EventFits e) }
+        ensures only { (e : Event) → EventFits e → AllStandFor (event_words e) (texts words.now) → result ≡ Ok e }
+    {
+        match Reply::parse(words)?.to_event() {
+            Ok(event) => Ok(event),
+            Err(_) => Err(BadWords),
+        }
+    }
+
+    /// An equal event.
+    pub fn copy(&self) -> Event
+        ensures { result ≡ self.now }
+    {
+        match self {
+            Event::LocalState(state) => Event::LocalState(*state),
+            Event::Inputs(states) => Event::Inputs(list_of(states.as_slice())),
+            Event::Outputs(states) => Event::Outputs(list_of(states.as_slice())),
+            Event::Readers(states) => Event::Readers(list_of(states.as_slice())),
+            Event::Raw(raw) => Event::Raw(raw.copy()),
+            Event::Formatted(formatted) => Event::Formatted(formatted.copy()),
+            Event::Keypad(keypad) => Event::Keypad(keypad.copy()),
+        }
+    }
+}
+
+impl Reply {
+    /// The event that the reply tells, or the reply itself where it tells none.
+    pub fn to_event(self) -> Result<Event, Reply>
+        ensures event { IfOk result (λ e. self ≡ event_reply e) }
+        ensures only { (e : Event) → self ≡ event_reply e → result ≡ Ok e }
+        ensures back { IfErr result (λ reply. reply ≡ self) }
+    {
+        match self {
+            Reply::LocalState(state) => Ok(Event::LocalState(state)),
+            Reply::Inputs(states) => Ok(Event::Inputs(states)),
+            Reply::Outputs(states) => Ok(Event::Outputs(states)),
+            Reply::Readers(states) => Ok(Event::Readers(states)),
+            Reply::Raw(raw) => Ok(Event::Raw(raw)),
+            Reply::Formatted(formatted) => Ok(Event::Formatted(formatted)),
+            Reply::Keypad(keypad) => Ok(Event::Keypad(keypad)),
+            Reply::Ack => Err(Reply::Ack),
+            Reply::Nak(nak) => Err(Reply::Nak(nak)),
+            Reply::PdId(pd_id) => Err(Reply::PdId(pd_id)),
+            Reply::PdCap(pd_cap) => Err(Reply::PdCap(pd_cap)),
+            Reply::Com(communication) => Err(Reply::Com(communication)),
+            Reply::Busy => Err(Reply::Busy),
+            Reply::MakerReply(message) => Err(Reply::MakerReply(message)),
+        }
+    }
+}
+
+impl fmt::Display for Event {
+    ghost output = { λ e. Some (event_text e) };
+
+    fn fmt<W: fmt::Write>(&self, f: &mut fmt::Formatter<W>) -> fmt::Result {
+        let reply = self.to_reply();
+        write!(f, "{reply}")
+    }
+}

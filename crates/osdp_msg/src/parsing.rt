@@ -1,0 +1,44 @@
+//! Words that several messages share.
+
+ghost use Rattle.std.specs.Prelude.{◌≡◌, ◌<◌, ◌≤◌, ◌^◌, ◌∷◌, [], length, map};
+ghost use Rattle.std.specs.List.{All};
+ghost use Rattle.hex.specs.Hex.{IsBytes};
+ghost use Rattle.osdp_words.specs.Reading.{ReadsWords};
+ghost use Rattle.osdp_words.specs.Word.{bytes, number, texts};
+ghost use Rattle.osdp_msg.specs.ReplyTable.{StatesFit};
+
+use crate::records::Record;
+use arrayvec::ArrayVec;
+use osdp_words::Fields;
+
+/// One number.
+pub(crate) fn parse_byte(words: &[&str]) -> Option<u8>
+    ensures { ReadsWords (λ n. number n ∷ []) (λ n. n < 2 ^ 8) (texts words.now) result }
+{
+    let mut fields = Fields::new(words);
+    let number = fields.number_u8()?;
+    fields.is_empty().then_some(number)
+}
+
+/// A byte for each input, output or reader.
+pub(crate) fn parse_states(words: &[&str]) -> Option<ArrayVec<u8, 1432>>
+    ensures { ReadsWords (λ states. bytes states.items ∷ []) (λ states. StatesFit states.items) (texts words.now) result }
+{
+    let mut fields = Fields::new(words);
+    let states = fields.byte_list()?;
+    fields.is_empty().then_some(states)
+}
+
+/// Records, each a word of its own.
+pub(crate) fn parse_records<R: Record, const N: usize>(words: &[&str]) -> Option<ArrayVec<R, N>>
+    ensures { ReadsWords (λ records. map R.word records.items) (λ records. (length records.items ≤ N) × All R.fits records.items) (texts words.now) result }
+{
+    let mut records = ArrayVec::new();
+    for word in words {
+        if records.is_full() {
+            return None;
+        }
+        records.push(R::parse(word)?);
+    }
+    Some(records)
+}

@@ -1,0 +1,135 @@
+//! A card's bits as they were read.
+
+ghost use Rattle.std.specs.Prelude.{◌≡◌, ◌∷◌, ◌+◌, ◌-◌, ◌/◌, ◌≤◌, drop, length};
+ghost use Rattle.std.specs.Prelude.{codes};
+ghost use Rattle.std.specs.Fmt.{WritesOnOk};
+ghost use Rattle.byteorder.specs.Endian.{little_number};
+ghost use Rattle.osdp_words.specs.Reading.{ReadsWords};
+ghost use Rattle.osdp_words.specs.Word.{plain, text_of, texts};
+ghost use Rattle.osdp_msg.specs.ReplyFields.{RawFits, raw_at, raw_data, raw_words};
+
+use crate::spelling::{Spelling, append, append_u16, list_of, rest, with_bytes};
+use arrayvec::ArrayVec;
+use byteorder::{ByteOrder, LittleEndian};
+use osdp_words::{ByteList, Fields};
+use std::fmt;
+use std::marker::Model;
+
+/// The bits of a card, in as many bytes as they need. The unused bits of the last byte are kept as read.
+#[derive(Debug, Drop, PartialEq)]
+pub struct Raw {
+    reader: u8,
+    format: u8,
+    bits: u16,
+    bytes: ArrayVec<u8, 1428>,
+}
+
+impl Model for Raw {
+    ghost use Rattle.std.specs.Prelude.{◌≡◌, ◌+◌, ◌/◌, length};
+    ghost use Rattle.osdp_msg.specs.Raw.{RawCard};
+
+    ghost Value = { RawCard };
+
+    ghost view = { λ r. record { reader = r.reader; format = r.format; bits = r.bits; bytes = r.bytes.items } };
+
+    ghost invariant = { λ r. length r.bytes.items ≡ (r.bits + 7) / 8 };
+
+    ghost inverse = { λ r. record { reader = r.reader; format = r.format; bits = r.bits; bytes = record { items = r.bytes } } };
+}
+
+impl Raw {
+    /// Which reader of the device.
+    pub fn reader(&self) -> u8
+        ensures { result ≡ self.now.reader }
+    {
+        self.reader
+    }
+
+    /// How the bits are to be understood.
+    pub fn format(&self) -> u8
+        ensures { result ≡ self.now.format }
+    {
+        self.format
+    }
+
+    /// How many bits there are.
+    pub fn bits(&self) -> u16
+        ensures { result ≡ self.now.bits }
+    {
+        self.bits
+    }
+
+    /// The bits, the first in the highest place of the first byte.
+    pub fn bytes(&self) -> &[u8]
+        ensures value { result.now ≡ self.now.bytes }
+        ensures len { length self.now.bytes ≡ (self.now.bits + 7) / 8 }
+        ensures room { length self.now.bytes ≤ 1428 }
+    {
+        self.bytes.as_slice()
+    }
+
+    pub(crate) fn read(bytes: &[u8]) -> Raw
+        requires some { 4 ≤ length bytes.now }
+        requires room { length bytes.now ≤ 1432 }
+        requires needed { (little_number 2 (drop 2 bytes.now) + 7) / 8 ≡ length bytes.now - 4 }
+        ensures { result ≡ raw_at bytes.now }
+    {
+        Raw {
+            reader: bytes[0],
+            format: bytes[1],
+            bits: LittleEndian::read_u16(rest(bytes, 2)),
+            bytes: list_of(rest(bytes, 4)),
+        }
+    }
+
+    pub(crate) fn write(&self) -> Spelling
+        ensures spelled { result.items ≡ 0x50 ∷ raw_data self.now }
+        ensures fits { RawFits self.now }
+    {
+        let mut spelling = with_bytes(0x50, &[self.reader, self.format]);
+        append_u16(&mut spelling, self.bits);
+        append(&mut spelling, self.bytes.as_slice());
+        spelling
+    }
+
+    /// An equal value.
+    pub fn copy(&self) -> Raw
+        ensures { result ≡ self.now }
+    {
+        Raw {
+            reader: self.reader,
+            format: self.format,
+            bits: self.bits,
+            bytes: list_of(self.bytes.as_slice()),
+        }
+    }
+
+    pub(crate) fn print<W: fmt::Write>(&self, f: &mut fmt::Formatter<W>) -> fmt::Result
+        ensures { WritesOnOk W.write_str_gives f.old result (text_of (plain (codes "RAW") ∷ raw_words self.now)) f.new }
+    {
+        let (reader, format, bits) = (self.reader, self.format, self.bits);
+        let bytes = ByteList(self.bytes.as_slice());
+        write!(f, "RAW {reader} {format} {bits} {bytes}")
+    }
+
+    pub(crate) fn parse(words: &[&str]) -> Option<Raw>
+        ensures { ReadsWords raw_words RawFits (texts words.now) result }
+    {
+        let mut fields = Fields::new(words);
+        let [reader, format] = fields.numbers_u8::<2>()?;
+        let bits = fields.number_u16()?;
+        let bytes: ArrayVec<u8, 1428> = fields.byte_list()?;
+        if !fields.is_empty() {
+            return None;
+        }
+        if bytes.len() != (usize::from(bits) + 7) / 8 {
+            return None;
+        }
+        Some(Raw {
+            reader,
+            format,
+            bits,
+            bytes,
+        })
+    }
+}

@@ -1,0 +1,77 @@
+//! Records of a fixed size, of which messages have lists.
+
+ghost use Rattle.std.specs.Prelude.{◌≡◌, ◌<◌, ◌≤◌, ◌+◌, ◌*◌, ◌%◌, ℕ, ◌++◌, List, ◌∷◌, Some, length};
+ghost use Rattle.std.specs.List.{All, flat_map};
+ghost use Rattle.arrayvec.specs.ArrayVec.{array_vec_len};
+ghost use Rattle.osdp_words.specs.Reading.{Reads};
+ghost use Rattle.osdp_words.specs.Word.{Word, printed};
+ghost use Rattle.osdp_msg.specs.Records.{records_at};
+
+use crate::spelling::{Spelling, code_alone, rest};
+use arrayvec::ArrayVec;
+use std::fmt;
+
+/// A record of a fixed size in bytes.
+pub(crate) trait Record: Copy + Default + Drop + fmt::Display {
+    ghost SIZE: { ℕ };
+
+    ghost spelled: { Self → List ℕ };
+
+    ghost fits: { Self → Type 0 };
+
+    ghost read_at: { List ℕ → Self };
+
+    ghost word: { Self → Word };
+
+    /// How many bytes a record takes.
+    const SIZE: usize;
+
+    /// The record in the bytes in front.
+    fn read(bytes: &[u8]) -> Self
+        requires { SIZE ≤ length bytes.now }
+        ensures { result ≡ read_at bytes.now };
+
+    /// Appends the bytes of the record.
+    fn append_to(self, spelling: &mut Spelling)
+        requires { array_vec_len spelling.old + SIZE ≤ 1433 }
+        ensures appended { spelling.new.items ≡ spelling.old.items ++ spelled self }
+        ensures fits { fits self };
+
+    /// The record of a word.
+    fn parse(given: &str) -> Option<Self>
+        ensures { Reads word fits given.now result };
+
+    ghost some: { 0 < SIZE };
+
+    ghost length_spelled: { (r : Self) → length (spelled r) ≡ SIZE };
+
+    ghost prints: { (r : Self) → Self.output r ≡ Some (printed (word r)) };
+}
+
+/// The records that the bytes are.
+pub(crate) fn read_records<R: Record, const N: usize>(bytes: &[u8]) -> ArrayVec<R, N>
+    requires whole { length bytes.now % R.SIZE ≡ 0 }
+    requires room { length bytes.now < R.SIZE * (N + 1) }
+    ensures { result.items ≡ records_at R.read_at R.SIZE bytes.now }
+{
+    let mut records = ArrayVec::new();
+    let mut left = bytes;
+    for _ in 0..bytes.len() / R::SIZE {
+        records.push(R::read(left));
+        left = rest(left, R::SIZE);
+    }
+    records
+}
+
+/// A message of records.
+pub(crate) fn with_records<R: Record>(code: u8, records: &[R]) -> Spelling
+    requires { R.SIZE * length records.now ≤ 1432 }
+    ensures spelled { result.items ≡ code ∷ flat_map R.spelled records.now }
+    ensures fits { All R.fits records.now }
+{
+    let mut spelling = code_alone(code);
+    for record in records {
+        record.append_to(&mut spelling);
+    }
+    spelling
+}

@@ -1,0 +1,350 @@
+//! The fields of replies.
+
+ghost use Rattle.std.specs.Prelude.{◌≡◌, ◌≤◌, ◌∷◌, [], codes, length};
+ghost use Rattle.std.specs.Fmt.{WritesOnOk};
+ghost use Rattle.osdp_words.specs.Reading.{ReadsWords};
+ghost use Rattle.osdp_words.specs.Word.{plain, text_of, texts};
+ghost use Rattle.osdp_msg.specs.ReplyFields.{NakFits, nak_at, nak_data, nak_words, PdIdFits, pd_id_at, pd_id_data, pd_id_words, LocalStateFits, local_state_at, local_state_data, local_state_words, FormattedFits, formatted_at, formatted_data, formatted_words, KeypadFits, keypad_at, keypad_data, keypad_words};
+
+use crate::capability::Capability;
+use crate::nak::NakReason;
+use crate::spelling::{Spelling, append, append_u32, code_alone, list_of, rest, with_bytes};
+use arrayvec::ArrayVec;
+use byteorder::{ByteOrder, LittleEndian};
+use osdp_words::{ByteList, Fields};
+use std::fmt;
+
+/// Why a command wasn't done.
+#[derive(Debug, Drop, PartialEq)]
+pub struct Nak {
+    pub reason: NakReason,
+    pub detail: ArrayVec<u8, 1431>,
+}
+
+impl Nak {
+    pub(crate) fn read(bytes: &[u8]) -> Nak
+        requires some { 1 ≤ length bytes.now }
+        requires room { length bytes.now ≤ 1432 }
+        ensures { result ≡ nak_at bytes.now }
+    {
+        Nak {
+            reason: NakReason::from(bytes[0]),
+            detail: list_of(rest(bytes, 1)),
+        }
+    }
+
+    pub(crate) fn write(&self) -> Spelling
+        ensures spelled { result.items ≡ 0x41 ∷ nak_data self.now }
+        ensures fits { NakFits self.now }
+    {
+        let mut spelling = code_alone(0x41);
+        spelling.push(self.reason.number());
+        append(&mut spelling, self.detail.as_slice());
+        spelling
+    }
+
+    /// An equal value.
+    pub fn copy(&self) -> Nak
+        ensures { result ≡ self.now }
+    {
+        Nak {
+            reason: self.reason,
+            detail: list_of(self.detail.as_slice()),
+        }
+    }
+
+    pub(crate) fn print<W: fmt::Write>(&self, f: &mut fmt::Formatter<W>) -> fmt::Result
+        ensures { WritesOnOk W.write_str_gives f.old result (text_of (plain (codes "NAK") ∷ nak_words self.now)) f.new }
+    {
+        let reason = self.reason.number();
+        write!(f, "NAK {reason}")?;
+        if self.detail.is_empty() {
+            return Ok(());
+        }
+        let detail = ByteList(self.detail.as_slice());
+        write!(f, " {detail}")
+    }
+
+    pub(crate) fn parse(words: &[&str]) -> Option<Nak>
+        ensures { ReadsWords nak_words NakFits (texts words.now) result }
+    {
+        let mut fields = Fields::new(words);
+        let reason = NakReason::from(fields.number_u8()?);
+        if fields.is_empty() {
+            return Some(Nak {
+                reason,
+                detail: ArrayVec::new(),
+            });
+        }
+        let detail: ArrayVec<u8, 1431> = fields.byte_list()?;
+        if !fields.is_empty() {
+            return None;
+        }
+        if detail.is_empty() {
+            return None;
+        }
+        Some(Nak { reason, detail })
+    }
+}
+
+/// What a device is.
+#[derive(Clone, Copy, Debug, PartialEq, Eq)]
+pub struct PdId {
+    pub vendor: [u8; 3],
+    pub model: u8,
+    pub version: u8,
+    pub serial: u32,
+    pub firmware_major: u8,
+    pub firmware_minor: u8,
+    pub firmware_build: u8,
+}
+
+impl PdId {
+    pub(crate) fn read(bytes: &[u8]) -> PdId
+        requires { length bytes.now ≡ 12 }
+        ensures { result ≡ pd_id_at bytes.now }
+    {
+        PdId {
+            vendor: [bytes[0], bytes[1], bytes[2]],
+            model: bytes[3],
+            version: bytes[4],
+            serial: LittleEndian::read_u32(rest(bytes, 5)),
+            firmware_major: bytes[9],
+            firmware_minor: bytes[10],
+            firmware_build: bytes[11],
+        }
+    }
+
+    pub(crate) fn write(self) -> Spelling
+        ensures spelled { result.items ≡ 0x45 ∷ pd_id_data self }
+        ensures fits { PdIdFits self }
+    {
+        let mut spelling = with_bytes(0x45, &self.vendor);
+        append(&mut spelling, &[self.model, self.version]);
+        append_u32(&mut spelling, self.serial);
+        let firmware = [
+            self.firmware_major,
+            self.firmware_minor,
+            self.firmware_build,
+        ];
+        append(&mut spelling, &firmware);
+        spelling
+    }
+
+    pub(crate) fn print<W: fmt::Write>(self, f: &mut fmt::Formatter<W>) -> fmt::Result
+        ensures { WritesOnOk W.write_str_gives f.old result (text_of (plain (codes "PDID") ∷ pd_id_words self)) f.new }
+    {
+        let vendor = ByteList(&self.vendor);
+        let PdId {
+            model,
+            version,
+            serial,
+            ..
+        } = self;
+        write!(f, "PDID {vendor} {model} {version} {serial}")?;
+        let (major, minor, build) = (
+            self.firmware_major,
+            self.firmware_minor,
+            self.firmware_build,
+        );
+        write!(f, " {major} {minor} {build}")
+    }
+
+    pub(crate) fn parse(words: &[&str]) -> Option<PdId>
+        ensures { ReadsWords pd_id_words PdIdFits (texts words.now) result }
+    {
+        let mut fields = Fields::new(words);
+        let vendor = fields.vendor()?;
+        let [model, version] = fields.numbers_u8::<2>()?;
+        let serial = fields.number_u32()?;
+        let [firmware_major, firmware_minor, firmware_build] = fields.numbers_u8::<3>()?;
+        let pd_id = PdId {
+            vendor,
+            model,
+            version,
+            serial,
+            firmware_major,
+            firmware_minor,
+            firmware_build,
+        };
+        fields.is_empty().then_some(pd_id)
+    }
+}
+
+/// What a device can do.
+#[derive(Debug, Drop, PartialEq)]
+pub struct PdCap {
+    pub capabilities: ArrayVec<Capability, 477>,
+}
+
+impl PdCap {
+    /// An equal value.
+    pub fn copy(&self) -> PdCap
+        ensures { result ≡ self.now }
+    {
+        PdCap {
+            capabilities: list_of(self.capabilities.as_slice()),
+        }
+    }
+}
+
+/// The state of the device itself.
+#[derive(Clone, Copy, Debug, PartialEq, Eq)]
+pub struct LocalState {
+    pub tamper: u8,
+    pub power: u8,
+}
+
+impl LocalState {
+    pub(crate) fn read(bytes: &[u8]) -> LocalState
+        requires { length bytes.now ≡ 2 }
+        ensures { result ≡ local_state_at bytes.now }
+    {
+        LocalState {
+            tamper: bytes[0],
+            power: bytes[1],
+        }
+    }
+
+    pub(crate) fn write(self) -> Spelling
+        ensures spelled { result.items ≡ 0x48 ∷ local_state_data self }
+        ensures fits { LocalStateFits self }
+    {
+        with_bytes(0x48, &[self.tamper, self.power])
+    }
+
+    pub(crate) fn print<W: fmt::Write>(self, f: &mut fmt::Formatter<W>) -> fmt::Result
+        ensures { WritesOnOk W.write_str_gives f.old result (text_of (plain (codes "LSTATR") ∷ local_state_words self)) f.new }
+    {
+        let LocalState { tamper, power } = self;
+        write!(f, "LSTATR {tamper} {power}")
+    }
+
+    pub(crate) fn parse(words: &[&str]) -> Option<LocalState>
+        ensures { ReadsWords local_state_words LocalStateFits (texts words.now) result }
+    {
+        let mut fields = Fields::new(words);
+        let [tamper, power] = fields.numbers_u8::<2>()?;
+        fields.is_empty().then_some(LocalState { tamper, power })
+    }
+}
+
+/// A card as the reader formatted it.
+#[derive(Debug, Drop, PartialEq)]
+pub struct Formatted {
+    pub reader: u8,
+    pub direction: u8,
+    pub digits: ArrayVec<u8, 255>,
+}
+
+impl Formatted {
+    pub(crate) fn read(bytes: &[u8]) -> Formatted
+        requires some { 3 ≤ length bytes.now }
+        requires room { length bytes.now ≤ 258 }
+        ensures { result ≡ formatted_at bytes.now }
+    {
+        Formatted {
+            reader: bytes[0],
+            direction: bytes[1],
+            digits: list_of(rest(bytes, 3)),
+        }
+    }
+
+    pub(crate) fn write(&self) -> Spelling
+        ensures spelled { result.items ≡ 0x51 ∷ formatted_data self.now }
+        ensures fits { FormattedFits self.now }
+    {
+        let count = self.digits.len() as u8;
+        let mut spelling = with_bytes(0x51, &[self.reader, self.direction, count]);
+        append(&mut spelling, self.digits.as_slice());
+        spelling
+    }
+
+    /// An equal value.
+    pub fn copy(&self) -> Formatted
+        ensures { result ≡ self.now }
+    {
+        Formatted {
+            digits: list_of(self.digits.as_slice()),
+            ..*self
+        }
+    }
+
+    pub(crate) fn print<W: fmt::Write>(&self, f: &mut fmt::Formatter<W>) -> fmt::Result
+        ensures { WritesOnOk W.write_str_gives f.old result (text_of (plain (codes "FMT") ∷ formatted_words self.now)) f.new }
+    {
+        let (reader, direction) = (self.reader, self.direction);
+        let digits = ByteList(self.digits.as_slice());
+        write!(f, "FMT {reader} {direction} {digits}")
+    }
+
+    pub(crate) fn parse(words: &[&str]) -> Option<Formatted>
+        ensures { ReadsWords formatted_words FormattedFits (texts words.now) result }
+    {
+        let mut fields = Fields::new(words);
+        let [reader, direction] = fields.numbers_u8::<2>()?;
+        let digits = fields.byte_list()?;
+        fields.is_empty().then_some(Formatted {
+            reader,
+            direction,
+            digits,
+        })
+    }
+}
+
+/// Keys that were pressed.
+#[derive(Debug, Drop, PartialEq)]
+pub struct Keypad {
+    pub reader: u8,
+    pub digits: ArrayVec<u8, 255>,
+}
+
+impl Keypad {
+    pub(crate) fn read(bytes: &[u8]) -> Keypad
+        requires some { 2 ≤ length bytes.now }
+        requires room { length bytes.now ≤ 257 }
+        ensures { result ≡ keypad_at bytes.now }
+    {
+        Keypad {
+            reader: bytes[0],
+            digits: list_of(rest(bytes, 2)),
+        }
+    }
+
+    pub(crate) fn write(&self) -> Spelling
+        ensures spelled { result.items ≡ 0x53 ∷ keypad_data self.now }
+        ensures fits { KeypadFits self.now }
+    {
+        let count = self.digits.len() as u8;
+        let mut spelling = with_bytes(0x53, &[self.reader, count]);
+        append(&mut spelling, self.digits.as_slice());
+        spelling
+    }
+
+    /// An equal value.
+    pub fn copy(&self) -> Keypad
+        ensures { result ≡ self.now }
+    {
+        Keypad {
+            reader: self.reader,
+            digits: list_of(self.digits.as_slice()),
+        }
+    }
+
+    pub(crate) fn print<W: fmt::Write>(&self, f: &mut fmt::Formatter<W>) -> fmt::Result
+        ensures { WritesOnOk W.write_str_gives f.old result (text_of (plain (codes "KEYPAD") ∷ keypad_words self.now)) f.new }
+    {
+        let reader = self.reader;
+        let digits = ByteList(self.digits.as_slice());
+        write!(f, "KEYPAD {reader} {digits}")
+    }
+
+    pub(crate) fn parse(words: &[&str]) -> Option<Keypad>
+        ensures { ReadsWords keypad_words KeypadFits (texts words.now) result }
+    {
+        let mut fields = Fields::new(words);
+        let reader = fields.number_u8()?;
+        let digits = fields.byte_list()?;
+        fields.is_empty().then_some(Keypad { reader, digits })
+    }
+}

@@ -1,0 +1,91 @@
+//! Bytes of messages, as they are read and written.
+
+ghost use Rattle.std.specs.Prelude.{◌≡◌, ◌<◌, ◌≤◌, ◌+◌, [], ◌∷◌, ◌++◌, ◌^◌, length, drop};
+ghost use Rattle.arrayvec.specs.ArrayVec.{array_vec_len};
+ghost use Rattle.byteorder.specs.Endian.{little_bytes};
+ghost use Rattle.hex.specs.Hex.{IsBytes};
+
+use arrayvec::ArrayVec;
+use byteorder::{ByteOrder, LittleEndian};
+
+/// A message's code and data.
+pub(crate) type Spelling = ArrayVec<u8, 1433>;
+
+/// The bytes from place `from` on.
+pub(crate) fn rest(bytes: &[u8], from: usize) -> &[u8]
+    requires { from ≤ length bytes.now }
+    ensures { result.now ≡ drop from bytes.now }
+{
+    bytes.split_at(from).1
+}
+
+/// A list with these elements.
+pub(crate) fn list_of<T: Copy + Default + Drop, const N: usize>(items: &[T]) -> ArrayVec<T, N>
+    requires { length items.now ≤ N }
+    ensures { result.items ≡ items.now }
+{
+    let mut list = ArrayVec::new();
+    list.try_extend_from_slice(items).unwrap();
+    list
+}
+
+/// A message of a code alone.
+pub(crate) fn code_alone(code: u8) -> Spelling
+    ensures { result.items ≡ code ∷ [] }
+{
+    let mut spelling = ArrayVec::new();
+    spelling.push(code);
+    spelling
+}
+
+/// A message of one byte.
+pub(crate) fn with_byte(code: u8, byte: u8) -> Spelling
+    ensures spelled { result.items ≡ code ∷ byte ∷ [] }
+    ensures fits { byte < 256 }
+{
+    let mut spelling = code_alone(code);
+    spelling.push(byte);
+    spelling
+}
+
+/// A message of some bytes.
+pub(crate) fn with_bytes(code: u8, bytes: &[u8]) -> Spelling
+    requires { length bytes.now ≤ 1432 }
+    ensures spelled { result.items ≡ code ∷ bytes.now }
+    ensures fits { IsBytes bytes.now }
+{
+    let mut spelling = code_alone(code);
+    append(&mut spelling, bytes);
+    spelling
+}
+
+/// Appends some bytes.
+pub(crate) fn append(spelling: &mut Spelling, bytes: &[u8])
+    requires { array_vec_len spelling.old + length bytes.now ≤ 1433 }
+    ensures appended { spelling.new.items ≡ spelling.old.items ++ bytes.now }
+    ensures fits { IsBytes bytes.now }
+{
+    spelling.try_extend_from_slice(bytes).unwrap();
+}
+
+/// Appends a number as two bytes, low byte first.
+pub(crate) fn append_u16(spelling: &mut Spelling, number: u16)
+    requires { array_vec_len spelling.old + 2 ≤ 1433 }
+    ensures appended { spelling.new.items ≡ spelling.old.items ++ little_bytes 2 number }
+    ensures fits { number < 2 ^ 16 }
+{
+    let mut field = [0; 2];
+    LittleEndian::write_u16(&mut field, number);
+    append(spelling, &field);
+}
+
+/// Appends a number as four bytes, low byte first.
+pub(crate) fn append_u32(spelling: &mut Spelling, number: u32)
+    requires { array_vec_len spelling.old + 4 ≤ 1433 }
+    ensures appended { spelling.new.items ≡ spelling.old.items ++ little_bytes 4 number }
+    ensures fits { number < 2 ^ 32 }
+{
+    let mut field = [0; 4];
+    LittleEndian::write_u32(&mut field, number);
+    append(spelling, &field);
+}
