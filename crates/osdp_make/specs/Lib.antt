@@ -1,0 +1,2 @@
+pub mod PacketOrder
+pub mod Ending
