@@ -1,5 +1,6 @@
 -- Words choose a job exactly where they are its words.
-use Rattle.std.proofs.Common.{◌≡◌, ◌⊎◌, Bool, true, false, [], ◌∷◌, refl, subst, ap, inl, inr, codes, Ok, Err}
+use Rattle.std.proofs.Common.{List, length, ◌==◌, arith, ℕ, false, true, refl, ◌≡◌, ◌⊎◌, Bool, [], ◌∷◌, subst, ap, inl, inr, codes, Ok, Err}
+use Rattle.std.proofs.lemmas.Bool.{ne_eqb}
 use Rattle.std.specs.Str.{bytes_eq}
 use Rattle.std.proofs.lemmas.Slice.Eq.{bytes_eq-Decides}
 use Rattle.osdp_stream.specs.declared.fault.ToolFault.TheVariants.{BadWords}
@@ -23,6 +24,20 @@ job_in_mode-cases command options = go (are_options options) refl
 abbrev Chooses : Words → Type 0
 Chooses words = ((job : Job) × (job_of words ≡ Ok job) × IsWordsOf job words) ⊎ (job_of words ≡ Err BadWords)
 
+choose_without_mode : (command : List ℕ) (rest : Words) → bytes_eq command (codes "show") ≡ false → bytes_eq command (codes "check") ≡ false
+    → Chooses (command ∷ rest)
+choose_without_mode command rest no_show no_check = go (bytes_eq command (codes "make")) (bytes_eq command (codes "sim")) refl refl rest
+  where
+    go : (make sim : Bool) → bytes_eq command (codes "make") ≡ make → bytes_eq command (codes "sim") ≡ sim → (rest : Words) → Chooses (command ∷ rest)
+    go true sim is_make is_sim rest =
+        inl (Make, rw (no_show, no_check, is_make), (rest, ap (λ word. word ∷ rest) ((bytes_eq-Decides command (codes "make")).0 is_make)))
+    go false true is_make is_sim [] =
+        inl (Sim, rw (no_show, no_check, is_make, is_sim), ap (λ word. word ∷ []) ((bytes_eq-Decides command (codes "sim")).0 is_sim))
+    go false true is_make is_sim (word ∷ words) =
+        let some : (length (word ∷ words) == 0) ≡ false = ne_eqb _ _ (λ none. omega arith) in
+        inr (rw (no_show, no_check, is_make, is_sim, some))
+    go false false is_make is_sim rest = inr (rw (no_show, no_check, is_make, is_sim))
+
 choose : (words : Words) → Chooses words
 choose [] = inr refl
 choose (command ∷ rest) = go (bytes_eq command (codes "show")) (bytes_eq command (codes "check")) refl refl
@@ -36,7 +51,7 @@ choose (command ∷ rest) = go (bytes_eq command (codes "show")) (bytes_eq comma
       | inl good ↦ inl (Check (mode_of rest), rw (is_show, is_check) good.1, (rest, ap (λ word. word ∷ rest) ((bytes_eq-Decides command (codes "check")).0 is_check), are_options-listed rest good.0))
       | inr bad ↦ inr (rw (is_show, is_check) bad)
     ]
-    go false false is_show is_check = inr (rw (is_show, is_check))
+    go false false is_show is_check = choose_without_mode command rest is_show is_check
 
 -- the options of a mode, behind a command, choose it
 job_in_mode-options : (command : Mode → Job) (mode : Mode) (options : Words) → AreOptionsOf mode.raw mode.join options
@@ -48,8 +63,8 @@ job_in_mode-options command mode options listed =
 words_choose : (job : Job) (words : Words) → IsWordsOf job words → job_of words ≡ Ok job
 words_choose (Show mode) words (options, is, listed) = rw is (job_in_mode-options Show mode options listed)
 words_choose (Check mode) words (options, is, listed) = rw is (job_in_mode-options Check mode options listed)
-words_choose Make words none = absurd none
-words_choose Sim words none = absurd none
+words_choose Make words (rest, is) = rw is
+words_choose Sim words is = rw is
 
 pub ChoosesByWords-all : (words : Words) → ChoosesByWords words
 ChoosesByWords-all words = record { chosen = λ job. (chosen_words job, words_choose job words); refused = (bad_words, no_words) }

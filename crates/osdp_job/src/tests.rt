@@ -87,19 +87,20 @@ fn other_words_are_bad(rt: HostRuntime) {
 }
 
 #[test]
-fn make_and_sim_are_not_there_yet(rt: HostRuntime) {
-    let lists: [&[&str]; 5] = [
+fn make_takes_any_words_and_sim_none(rt: HostRuntime) {
+    let lists: [&[&str]; 4] = [
         &["make"],
         &["make", "5", "1", "sum", "POLL"],
-        &["make", "x"],
-        &["sim"],
-        &["sim", "x"],
+        &["make", "--raw", "--raw"],
+        &["make", "sim"],
     ];
     for words in lists {
-        assert_eq!(rt;
-            job(rt.alloc(), words),
-            Err(ToolFault::BadWords),
-            "{words:?}"
-        );
+        assert_eq!(rt; job(rt.alloc(), words), Ok(Job::Make), "{words:?}");
     }
+    assert_eq!(rt; job(rt.alloc(), &["sim"]), Ok(Job::Sim));
+    assert_eq!(rt; job(rt.alloc(), &["sim", "x"]), Err(ToolFault::BadWords));
+    assert_eq!(rt;
+        job(rt.alloc(), &["sim", "--raw"]),
+        Err(ToolFault::BadWords)
+    );
 }
