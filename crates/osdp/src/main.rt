@@ -1,7 +1,7 @@
 //! The program `osdp`: it reads captures of an OSDP line and prints what stands in them.
 #![tactic(auto)]
 
-use osdp_tool::{Job, ToolFault, Watched, check, job, show};
+use osdp_tool::{Job, ToolFault, Watched, check, job, make, show};
 use std::env;
 use std::io::ErrorKind;
 use std::process::ExitCode;
@@ -31,7 +31,11 @@ fn run(rt: &HostRuntime) -> Result<bool, ToolFault> {
     match job(rt.alloc(), &words)? {
         Job::Show(mode) => show(rt.alloc(), mode, &mut input, &mut output),
         Job::Check(mode) => check(rt.alloc(), mode, &mut input, &mut output),
-        Job::Make | Job::Sim => Err(ToolFault::BadWords),
+        Job::Make => {
+            make(rt.alloc(), words.get(1..).unwrap_or(&[]), &mut output)?;
+            Ok(false)
+        }
+        Job::Sim => Err(ToolFault::BadWords),
     }
 }
 

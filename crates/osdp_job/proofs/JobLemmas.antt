@@ -26,17 +26,12 @@ Chooses words = ((job : Job) × (job_of words ≡ Ok job) × IsWordsOf job words
 
 choose_without_mode : (command : List ℕ) (rest : Words) → bytes_eq command (codes "show") ≡ false → bytes_eq command (codes "check") ≡ false
     → Chooses (command ∷ rest)
-choose_without_mode command rest no_show no_check = go (bytes_eq command (codes "make")) (bytes_eq command (codes "sim")) refl refl rest
+choose_without_mode command rest no_show no_check = go (bytes_eq command (codes "make")) refl
   where
-    go : (make sim : Bool) → bytes_eq command (codes "make") ≡ make → bytes_eq command (codes "sim") ≡ sim → (rest : Words) → Chooses (command ∷ rest)
-    go true sim is_make is_sim rest =
+    go : (make : Bool) → bytes_eq command (codes "make") ≡ make → Chooses (command ∷ rest)
+    go true is_make =
         inl (Make, rw (no_show, no_check, is_make), (rest, ap (λ word. word ∷ rest) ((bytes_eq-Decides command (codes "make")).0 is_make)))
-    go false true is_make is_sim [] =
-        inl (Sim, rw (no_show, no_check, is_make, is_sim), ap (λ word. word ∷ []) ((bytes_eq-Decides command (codes "sim")).0 is_sim))
-    go false true is_make is_sim (word ∷ words) =
-        let some : (length (word ∷ words) == 0) ≡ false = ne_eqb _ _ (λ none. omega arith) in
-        inr (rw (no_show, no_check, is_make, is_sim, some))
-    go false false is_make is_sim rest = inr (rw (no_show, no_check, is_make, is_sim))
+    go false is_make = inr (rw (no_show, no_check, is_make))
 
 choose : (words : Words) → Chooses words
 choose [] = inr refl
@@ -64,7 +59,7 @@ words_choose : (job : Job) (words : Words) → IsWordsOf job words → job_of wo
 words_choose (Show mode) words (options, is, listed) = rw is (job_in_mode-options Show mode options listed)
 words_choose (Check mode) words (options, is, listed) = rw is (job_in_mode-options Check mode options listed)
 words_choose Make words (rest, is) = rw is
-words_choose Sim words is = rw is
+words_choose Sim words none = absurd none
 
 pub ChoosesByWords-all : (words : Words) → ChoosesByWords words
 ChoosesByWords-all words = record { chosen = λ job. (chosen_words job, words_choose job words); refused = (bad_words, no_words) }

@@ -87,7 +87,7 @@ fn other_words_are_bad(rt: HostRuntime) {
 }
 
 #[test]
-fn make_takes_any_words_and_sim_none(rt: HostRuntime) {
+fn make_takes_any_words_and_sim_is_not_there_yet(rt: HostRuntime) {
     let lists: [&[&str]; 4] = [
         &["make"],
         &["make", "5", "1", "sum", "POLL"],
@@ -97,7 +97,7 @@ fn make_takes_any_words_and_sim_none(rt: HostRuntime) {
     for words in lists {
         assert_eq!(rt; job(rt.alloc(), words), Ok(Job::Make), "{words:?}");
     }
-    assert_eq!(rt; job(rt.alloc(), &["sim"]), Ok(Job::Sim));
+    assert_eq!(rt; job(rt.alloc(), &["sim"]), Err(ToolFault::BadWords));
     assert_eq!(rt; job(rt.alloc(), &["sim", "x"]), Err(ToolFault::BadWords));
     assert_eq!(rt;
         job(rt.alloc(), &["sim", "--raw"]),

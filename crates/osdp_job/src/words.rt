@@ -9,8 +9,8 @@ use std::alloc::Global;
 /// The job that the words behind the program's name choose.
 ///
 /// The first word is the command. Behind `show` and `check` the options `--raw` and `--join` may
-/// stand, in any order, each at most once. Behind `make` any words may stand, which `make` reads,
-/// and behind `sim` none. Every other list of words is `BadWords`.
+/// stand, in any order, each at most once. Behind `make` any words may stand, which `make` reads.
+/// Every other list of words is `BadWords`, `sim` among them: the program does not have it yet.
 ///
 /// `NoMemory` comes only where options of `show` or `check` are read, which takes memory.
 pub fn job(alloc: Global, words: &[&str]) -> Result<Job, ToolFault>
@@ -28,9 +28,6 @@ pub fn job(alloc: Global, words: &[&str]) -> Result<Job, ToolFault>
     }
     if *command == "make" {
         return Ok(Job::Make);
-    }
-    if *command == "sim" && words.len() == 1 {
-        return Ok(Job::Sim);
     }
     Err(ToolFault::BadWords)
 }

@@ -20,8 +20,8 @@ use Rattle.osdp_make.proofs.Names.{not_both}
 
 -- a command that is read is the message that is read
 pub read_command : (c : CommandValue) (given : List (List ℕ)) → AllStandFor (command_words c) given × CommandFits c
-  → ((m : CommandValue) → CommandFits m → AllStandFor (command_words m) given → c ≡ m)
-  → ReadsWords message_words MessageFits given (Some (Command c))
+    → ((m : CommandValue) → CommandFits m → AllStandFor (command_words m) given → c ≡ m)
+    → ReadsWords message_words MessageFits given (Some (Command c))
 read_command c given v one = record { value = v; only = only }
   where
     only : (a : Message) → MessageFits a → AllStandFor (message_words a) given → Some (Command c) ≡ Some a
@@ -42,7 +42,7 @@ small_check Crc = omega arith
 
 -- a message and its fields make a packet
 pub is_packet : (reply : Bool) (address sequence : ℕ) (kind : CheckKind) (m : Message) (body : List ℕ) → address < 128 → sequence < 4 → body ≡ message_body m → AreBytes body → length body ≤ 1433
-  → (block : Bool) → IsPacket (packed reply address sequence kind block 0 body)
+    → (block : Bool) → IsPacket (packed reply address sequence kind block 0 body)
 is_packet reply address sequence kind m body a s is bytes short block = record {
   address = a;
   sequence = s;

@@ -1,10 +1,11 @@
 //! The command `make`: one packet from the words of its fields and its message.
 #![tactic(auto)]
 
-
 mod making;
 mod order;
 
-
 pub use making::make;
 pub use order::{Message, PacketOrder};
+
+#[cfg(test)]
+mod tests;

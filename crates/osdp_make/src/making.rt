@@ -22,11 +22,7 @@ fn line(alloc: Global, order: &PacketOrder) -> Result<String, AllocError>
 }
 
 /// Prints the packet that the words order, where they order one.
-fn print<W: Write>(
-    alloc: Global,
-    words: &[&str],
-    output: &mut Watched<W>,
-) -> Result<(), ToolFault>
+fn print<W: Write>(alloc: Global, words: &[&str], output: &mut Watched<W>) -> Result<(), ToolFault>
     requires { has_failed output.old ≡ false }
     ensures { Ends (texts words.now) (W.contents (inner_of output.old)) (W.contents (inner_of output.new)) (has_failed output.new) result }
 {

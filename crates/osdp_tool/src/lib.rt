@@ -1,4 +1,4 @@
-//! The commands `show` and `check`.
+//! The commands `show`, `check` and `make`.
 #![tactic(auto)]
 
 mod capture;
@@ -10,6 +10,7 @@ mod runs;
 
 pub use commands::{check, show};
 pub use osdp_job::{Job, Mode, job};
+pub use osdp_make::make;
 pub use osdp_stream::{ToolFault, Watched};
 
 #[cfg(test)]

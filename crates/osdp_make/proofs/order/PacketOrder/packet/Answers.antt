@@ -10,5 +10,5 @@ unwrap-requires c =
     let slice = c.as_slice.ensures in
     some_if c.new-made.result _ _ c.new-made.ensures
     (is_packet c.is_reply.result c.args.self.now.address c.args.self.now.seq c.args.self.now.check c.args.self.now.message c.with_room-body.result.items
-      c.get.ensures.range c.get-2.ensures.range (bytes.bytes ∙ slice.value ∙ body) (subst (λ l. AreBytes l) (sym bytes.bytes) bytes.are_bytes)
-      (omega (arith, ap length bytes.bytes, slice.fits)) false)
+    c.get.ensures.range c.get-2.ensures.range (bytes.bytes ∙ slice.value ∙ body) (subst (λ l. AreBytes l) (sym bytes.bytes) bytes.are_bytes)
+    (omega (arith, ap length bytes.bytes, slice.fits)) false)
