@@ -115,8 +115,8 @@ Chain ended few short long less right rest =
     cond few ending (cond short (Some (Bad TooShort)) (cond long (Some (Bad TooLong)) (cond less ending (cond right (Some (Whole (packet_at rest))) (Some (Bad BadCheck))))))
 
 begun_first : (ended few short long less right : Bool) (rest : List ℕ) (part : Part) → AreBytes rest → get_or rest 0 0 ≡ start_of_message → 0 < length rest
-  → ltb (length rest) 5 ≡ few → ltb (count_at rest) (smallest (check_at rest)) ≡ short → ltb largest (count_at rest) ≡ long → ltb (length rest) (count_at rest) ≡ less → is_checked rest ≡ right
-  → Chain ended few short long less right rest ≡ Some part → IsFirst ended rest part
+    → ltb (length rest) 5 ≡ few → ltb (count_at rest) (smallest (check_at rest)) ≡ short → ltb largest (count_at rest) ≡ long → ltb (length rest) (count_at rest) ≡ less → is_checked rest ≡ right
+    → Chain ended few short long less right rest ≡ Some part → IsFirst ended rest part
 begun_first ended true short long less right rest part bytes start some few-is short-is long-is less-is right-is e =
     let few : length rest < 5 = ltb-true _ _ few-is in
     at_end ended rest part start some (inl few, (λ h. omega (arith, h.0)), (λ h. omega (arith, h.0))) e
@@ -124,21 +124,21 @@ begun_first ended false true long less right rest part bytes start some few-is s
     let five : 5 ≤ length rest = ltb-false _ _ few-is in
     let short : count_at rest < smallest (check_at rest) = ltb-true _ _ short-is in
     subst (λ x. IsFirst ended rest x) (some_is (Bad TooShort) part e) (λ more none.
-      let count = count_at-append rest more five in
-      let size = ap check_size (check_at-append rest more five) in
-      let still : count_at (rest ++ more) < smallest (check_at (rest ++ more)) = omega arith in
-      let enough : 5 ≤ length (rest ++ more) = omega (arith, length-append rest more) in
-      (drop 1 rest ++ more, first_byte-append rest more start some, none_short (rest ++ more) still, (enough, still)))
+    let count = count_at-append rest more five in
+    let size = ap check_size (check_at-append rest more five) in
+    let still : count_at (rest ++ more) < smallest (check_at (rest ++ more)) = omega arith in
+    let enough : 5 ≤ length (rest ++ more) = omega (arith, length-append rest more) in
+    (drop 1 rest ++ more, first_byte-append rest more start some, none_short (rest ++ more) still, (enough, still)))
 begun_first ended false false true less right rest part bytes start some few-is short-is long-is less-is right-is e =
     let five : 5 ≤ length rest = ltb-false _ _ few-is in
     let not_short : smallest (check_at rest) ≤ count_at rest = ltb-false _ _ short-is in
     let long : largest < count_at rest = ltb-true _ _ long-is in
     subst (λ x. IsFirst ended rest x) (some_is (Bad TooLong) part e) (λ more none.
-      let count = count_at-append rest more five in
-      let size = ap check_size (check_at-append rest more five) in
-      let still : largest < count_at (rest ++ more) = omega arith in
-      let enough : 5 ≤ length (rest ++ more) = omega (arith, length-append rest more) in
-      (drop 1 rest ++ more, first_byte-append rest more start some, none_long (rest ++ more) still, ((enough, still), (λ h. omega (arith, h.1)))))
+    let count = count_at-append rest more five in
+    let size = ap check_size (check_at-append rest more five) in
+    let still : largest < count_at (rest ++ more) = omega arith in
+    let enough : 5 ≤ length (rest ++ more) = omega (arith, length-append rest more) in
+    (drop 1 rest ++ more, first_byte-append rest more start some, none_long (rest ++ more) still, ((enough, still), (λ h. omega (arith, h.1)))))
 begun_first ended false false false true right rest part bytes start some few-is short-is long-is less-is right-is e =
     let not_short : smallest (check_at rest) ≤ count_at rest = ltb-false _ _ short-is in
     let not_long : count_at rest ≤ largest = ltb-false _ _ long-is in
@@ -162,13 +162,16 @@ begun_first ended false false false false false rest part bytes start some few-i
     let there : count_at rest ≤ length rest = ltb-false _ _ less-is in
     let wrong : IsChecked rest → ⊥ = λ h. false≢true (sym right-is ∙ (is_checked-Decides rest there).1 h) in
     subst (λ x. IsFirst ended rest x) (some_is (Bad BadCheck) part e) (λ more none.
-      let count = count_at-append rest more five in
-      let size = ap check_size (check_at-append rest more five) in
-      let enough : 5 ≤ length (rest ++ more) = omega (arith, length-append rest more) in
-      let whole : count_at (rest ++ more) ≤ length (rest ++ more) = omega (arith, length-append rest more) in
-      let still : IsChecked (rest ++ more) → ⊥ = λ h. wrong (IsChecked-append rest more five there h) in
-      (drop 1 rest ++ more, first_byte-append rest more start some, none_unchecked (rest ++ more) still,
-       ((enough, whole, still), (λ h. omega (arith, h.1)), (λ h. omega (arith, h.1)), not_ended (rest ++ more) enough whole)))
+    let count = count_at-append rest more five in
+    let size = ap check_size (check_at-append rest more five) in
+    let enough : 5 ≤ length (rest ++ more) = omega (arith, length-append rest more) in
+    let whole : count_at (rest ++ more) ≤ length (rest ++ more) = omega (arith, length-append rest more) in
+    let still : IsChecked (rest ++ more) → ⊥ = λ h. wrong (IsChecked-append rest more five there h) in (
+      drop 1 rest ++ more,
+      first_byte-append rest more start some,
+      none_unchecked (rest ++ more) still,
+      ((enough, whole, still), (λ h. omega (arith, h.1)), (λ h. omega (arith, h.1)), not_ended (rest ++ more) enough whole),
+    ))
 
 -- what is decided stands first
 pub first_decided : (ended : Bool) (bytes : List ℕ) (part : Part) → AreBytes bytes → decided ended bytes ≡ Some part → IsFirst ended bytes part
@@ -183,8 +186,8 @@ first_decided ended (b ∷ bytes) part fits e = by_test (eqb b start_of_message)
 -- ---- where nothing is decided
 
 undecided_begun : (ended few short long less right : Bool) (rest : List ℕ) → get_or rest 0 0 ≡ start_of_message
-  → ltb (length rest) 5 ≡ few → ltb (count_at rest) (smallest (check_at rest)) ≡ short → ltb largest (count_at rest) ≡ long → ltb (length rest) (count_at rest) ≡ less
-  → Chain ended few short long less right rest ≡ None → IsUndecided ended rest
+    → ltb (length rest) 5 ≡ few → ltb (count_at rest) (smallest (check_at rest)) ≡ short → ltb largest (count_at rest) ≡ long → ltb (length rest) (count_at rest) ≡ less
+    → Chain ended few short long less right rest ≡ None → IsUndecided ended rest
 undecided_begun true true short long less right rest start few-is short-is long-is less-is e = absurd cc
 undecided_begun false true short long less right rest start few-is short-is long-is less-is e = inr (refl, start, inl (ltb-true _ _ few-is))
 undecided_begun ended false true long less right rest start few-is short-is long-is less-is e = absurd cc
@@ -248,9 +251,9 @@ not_ended_more bytes ended =
     let five : 5 ≤ length (bytes ++ pad) = omega (arith, length-append bytes pad) in
     let same : bytes ++ enough_more bytes ≡ (bytes ++ pad) ++ replicate n 0 = sym (append_assoc bytes pad (replicate n 0)) in
     let there : HasFault Ended ((bytes ++ pad) ++ replicate n 0) → ⊥ = λ h.
-      let size = length-append (bytes ++ pad) (replicate n 0) in
-      let count = count_at-append (bytes ++ pad) (replicate n 0) five in
-      not_ended ((bytes ++ pad) ++ replicate n 0) (omega arith) (omega (arith, length-replicate {A = ℕ} n 0)) h in
+    let size = length-append (bytes ++ pad) (replicate n 0) in
+    let count = count_at-append (bytes ++ pad) (replicate n 0) five in
+    not_ended ((bytes ++ pad) ++ replicate n 0) (omega arith) (omega (arith, length-replicate {A = ℕ} n 0)) h in
     there (subst (λ l. HasFault Ended l) same ended)
 
 -- where more is wanted no item is first
@@ -260,9 +263,9 @@ undecided_first ended bytes part wants first =
     elim wants [
       | inl nil ↦ nothing_stands part (subst (λ l. Stands l part) nil stands)
       | inr w ↦
-        let is : part ≡ Bad Ended = only_ended bytes part w.1 w.2 stands in
-        let later : Stands (bytes ++ enough_more bytes) part = first (enough_more bytes) (λ t. absurd (false≢true (sym w.0 ∙ t))) in
-        not_ended_more bytes (subst (λ x. Stands (bytes ++ enough_more bytes) x) is later).3.0
+          let is : part ≡ Bad Ended = only_ended bytes part w.1 w.2 stands in
+          let later : Stands (bytes ++ enough_more bytes) part = first (enough_more bytes) (λ t. absurd (false≢true (sym w.0 ∙ t))) in
+          not_ended_more bytes (subst (λ x. Stands (bytes ++ enough_more bytes) x) is later).3.0
     ]
 
 pub stands_first : (ended : Bool) (bytes : List ℕ) (part : Part) → IsFirst ended bytes part → Stands bytes part
@@ -275,7 +278,7 @@ decided_first ended bytes part fits first = by_answer (decided ended bytes) refl
     by_answer : (o : Option Part) → decided ended bytes ≡ o → o ≡ Some part
     by_answer None is = absurd (undecided_first ended bytes part (undecided_none ended bytes is) first)
     by_answer (Some other) is =
-      ap Some (one_item bytes other part (stands_first ended bytes other (first_decided ended bytes other fits is)) (stands_first ended bytes part first))
+        ap Some (one_item bytes other part (stands_first ended bytes other (first_decided ended bytes other fits is)) (stands_first ended bytes part first))
 
 pub none_undecided : (ended : Bool) (bytes : List ℕ) → AreBytes bytes → IsUndecided ended bytes → decided ended bytes ≡ None
 none_undecided ended bytes fits wants = by_answer (decided ended bytes) refl

@@ -33,7 +33,7 @@ part_in-append (kept.Refused f) rest more fits = refl
 
 -- what is decided of the front of bytes in a run that goes on is decided of all of them
 pub part_if-more : (first : First) (held : ℕ) (rest : List ℕ) (ended : Bool) → held ≤ length rest → AreBytes rest → FirstFits held (Some first)
-  → part_if (Some first) (take held rest) ≡ decided false (take held rest) → part_if (Some first) rest ≡ decided ended rest
+    → part_if (Some first) (take held rest) ≡ decided false (take held rest) → part_if (Some first) rest ≡ decided ended rest
 part_if-more first held rest ended there bytes fits is =
     let split : take held rest ++ drop held rest ≡ rest = take-append-drop held rest in
     let size : length (take held rest) ≡ held = omega (arith, length-take held rest) in

@@ -58,15 +58,15 @@ kept_fits_held f first inv room kept =
     subst (λ n. FirstFits n (Some first)) (sym (length-slice f.buffer f.from f.to inv.order (omega (arith, inv.within)))) (kept_fits f first inv kept)
 
 pub advanced : (f : Inside) (held : Held) (first : First) (size : ℕ) (ended : Bool) → held_of f ≡ held → IsFramer f → length f.buffer ≡ 2880 → f.first ≡ Some first
-  → part_size (part_in first (held_bytes f)) ≡ size → size ≤ f.to - f.from → ended ≡ (f.ended && ltb (f.from + size) f.to)
-  → (bytes : List ℕ) → bytes ≡ slice_range f.buffer (f.from + size) f.to → record { bytes = bytes; ended = ended } ≡ after_advance held
+    → part_size (part_in first (held_bytes f)) ≡ size → size ≤ f.to - f.from → ended ≡ (f.ended && ltb (f.from + size) f.to)
+    → (bytes : List ℕ) → bytes ≡ slice_range f.buffer (f.from + size) f.to → record { bytes = bytes; ended = ended } ≡ after_advance held
 advanced f held first size ended is inv room kept size-is fits ended-is bytes bytes-is =
     let part = part_in first (held_bytes f) in
     let decision : decided f.ended (held_bytes f) ≡ Some part = sym inv.first ∙ ap (λ o. part_if o (held_bytes f)) kept in
     let there : f.from + size ≤ f.to = omega (arith, inv.order) in
     let rest : bytes ≡ drop (part_size part) (held_bytes f) = bytes-is ∙ slice_behind f.buffer f.from f.to size there ∙ ap (λ n. drop n (held_bytes f)) (sym size-is) in
     let count : length (drop (part_size part) (held_bytes f)) ≡ f.to - (f.from + size) =
-      omega (arith, length-drop (part_size part) (held_bytes f), length-slice f.buffer f.from f.to inv.order (omega (arith, inv.within))) in
+    omega (arith, length-drop (part_size part) (held_bytes f), length-slice f.buffer f.from f.to inv.order (omega (arith, inv.within))) in
     let done : ended ≡ (f.ended && not (eqb (length (drop (part_size part) (held_bytes f))) 0)) = ended-is ∙ still_ended f.ended (length (drop (part_size part) (held_bytes f))) (f.from + size) f.to count in
     let same : record { bytes = bytes; ended = ended } ≡ behind (held_of f) part = λ i. record { bytes = rest i; ended = done i } in
     same ∙ sym (ap (behind_first (held_of f)) decision) ∙ ap after_advance is

@@ -28,8 +28,10 @@ check_of_control p lt = by_flags p.check p.block
   where
     bit_sum : (s r f : ℕ) → s < 4 → (s + 0 + 8 * f + 16 * r) / 4 % 2 ≡ 0
     bit_sum s r f h = omega arith
+
     bit_crc : (s r f : ℕ) → s < 4 → (s + 4 + 8 * f + 16 * r) / 4 % 2 ≡ 1
     bit_crc s r f h = omega arith
+
     by_flags : (c : CheckKind) (f : Bool) → cond (eqb ((p.sequence + crc_bit c + cond f 8 0 + 16 * p.reserved) / 4 % 2) 0) Sum Crc ≡ c
     by_flags Sum true = ap (λ n. cond (eqb n 0) Sum Crc) (bit_sum p.sequence p.reserved 1 lt)
     by_flags Sum false = ap (λ n. cond (eqb n 0) Sum Crc) (bit_sum p.sequence p.reserved 0 lt)
@@ -69,7 +71,7 @@ Tells-Begins p rest b =
     let whole : take n rest ≡ front p n ++ kind = ap (take n) spelled ∙ parts.0 in
     let head : take (n - check_size p.check) rest ≡ front p n = ap (take (n - check_size p.check)) spelled ∙ parts.1 in
     let checked : take n rest ≡ take (n - check_size p.check) rest ++ check_of p.check (take (n - check_size p.check) rest) =
-      whole ∙ ap (λ l. l ++ check_of p.check l) (sym head) in
+    whole ∙ ap (λ l. l ++ check_of p.check l) (sym head) in
     let HasCheck : ℕ → CheckKind → Type 0 = λ m k. take m rest ≡ take (m - check_size k) rest ++ check_of k (take (m - check_size k) rest) in
     record {
       long = omega (arith, ap length b.parts, length-append b.bytes b.after);

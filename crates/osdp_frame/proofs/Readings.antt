@@ -76,21 +76,22 @@ items_within-nil zero ended = refl
 items_within-nil (suc most) ended = ap (λ o. option_map_or (λ part. part ∷ items_within most ended (drop (part_size part) [])) o []) (decided_nothing ended)
 
 items_within_step : (n m : ℕ) (ended : Bool) (bytes : List ℕ) → AreBytes bytes → length bytes ≤ suc n → length bytes ≤ suc m
-  → ((rest : List ℕ) → AreBytes rest → length rest ≤ n → length rest ≤ m → items_within n ended rest ≡ items_within m ended rest)
-  → items_within (suc n) ended bytes ≡ items_within (suc m) ended bytes
+    → ((rest : List ℕ) → AreBytes rest → length rest ≤ n → length rest ≤ m → items_within n ended rest ≡ items_within m ended rest)
+    → items_within (suc n) ended bytes ≡ items_within (suc m) ended bytes
 items_within_step n m ended bytes fits a b tails = by_answer (decided ended bytes) refl
   where
     with : ℕ → Option Part → List Part
     with k o = option_map_or (λ part. part ∷ items_within k ended (drop (part_size part) bytes)) o []
+
     by_answer : (o : Option Part) → decided ended bytes ≡ o → with n (decided ended bytes) ≡ with m (decided ended bytes)
     by_answer None is = ap (with n) is ∙ sym (ap (with m) is)
     by_answer (Some part) is =
-      let short = part_size-decided ended bytes part fits is in
-      let some = part_size-positive part in
-      let size = length-drop (part_size part) bytes in
-      let tail : items_within n ended (drop (part_size part) bytes) ≡ items_within m ended (drop (part_size part) bytes) =
+        let short = part_size-decided ended bytes part fits is in
+        let some = part_size-positive part in
+        let size = length-drop (part_size part) bytes in
+        let tail : items_within n ended (drop (part_size part) bytes) ≡ items_within m ended (drop (part_size part) bytes) =
         tails (drop (part_size part) bytes) (AreBytes-drop (part_size part) bytes fits) (omega arith) (omega arith) in
-      ap (with n) is ∙ ap (λ l. part ∷ l) tail ∙ sym (ap (with m) is)
+        ap (with n) is ∙ ap (λ l. part ∷ l) tail ∙ sym (ap (with m) is)
 
 pub items_within-same : (n m : ℕ) (ended : Bool) (bytes : List ℕ) → AreBytes bytes → length bytes ≤ n → length bytes ≤ m → items_within n ended bytes ≡ items_within m ended bytes
 items_within-same zero m ended bytes fits a b =
@@ -118,13 +119,13 @@ items_decided ended bytes part fits is = by_length (length bytes) (omega arith)
   where
     by_length : (n : ℕ) → length bytes ≤ n → items_within n ended bytes ≡ part ∷ items_within (length (drop (part_size part) bytes)) ended (drop (part_size part) bytes)
     by_length zero h =
-      absurd (let short = part_size-decided ended bytes part fits is in let some = part_size-positive part in omega arith)
+        absurd (let short = part_size-decided ended bytes part fits is in let some = part_size-positive part in omega arith)
     by_length (suc n) h =
-      let short = part_size-decided ended bytes part fits is in
-      let some = part_size-positive part in
-      let size = length-drop (part_size part) bytes in
-      ap (λ o. option_map_or (λ x. x ∷ items_within n ended (drop (part_size x) bytes)) o []) is
-      ∙ ap (λ l. part ∷ l) (items_within-same n (length (drop (part_size part) bytes)) ended (drop (part_size part) bytes) (AreBytes-drop (part_size part) bytes fits) (omega arith) (omega arith))
+        let short = part_size-decided ended bytes part fits is in
+        let some = part_size-positive part in
+        let size = length-drop (part_size part) bytes in
+        ap (λ o. option_map_or (λ x. x ∷ items_within n ended (drop (part_size x) bytes)) o []) is
+        ∙ ap (λ l. part ∷ l) (items_within-same n (length (drop (part_size part) bytes)) ended (drop (part_size part) bytes) (AreBytes-drop (part_size part) bytes fits) (omega arith) (omega arith))
 
 -- ---- a reading exists
 
@@ -135,13 +136,14 @@ is_reading_within (suc n) rest fits h =
   where
     with : Option Part → List Part
     with o = option_map_or (λ part. part ∷ items_within n true (drop (part_size part) rest)) o []
+
     by_answer : ((part : Part) → length (drop (part_size part) rest) ≤ n → IsReading (drop (part_size part) rest) (items_within n true (drop (part_size part) rest)))
-      → (o : Option Part) → decided true rest ≡ o → IsReading rest (with (decided true rest))
+        → (o : Option Part) → decided true rest ≡ o → IsReading rest (with (decided true rest))
     by_answer tails None is = subst (λ o. IsReading rest (with o)) (sym is) (undecided_ended rest (undecided_none true rest is))
     by_answer tails (Some part) is =
-      let some = part_size-positive part in
-      let size = length-drop (part_size part) rest in
-      subst (λ o. IsReading rest (with o)) (sym is) (stands_first true rest part (first_decided true rest part fits is), tails part (omega arith))
+        let some = part_size-positive part in
+        let size = length-drop (part_size part) rest in
+        subst (λ o. IsReading rest (with o)) (sym is) (stands_first true rest part (first_decided true rest part fits is), tails part (omega arith))
 
 pub is_reading : (run : List ℕ) → AreBytes run → IsReading run (reading run)
 unfolding items
@@ -169,40 +171,42 @@ decided_more ended bytes more part fits is =
     decided_first ended (bytes ++ more) part fits (first_more ended bytes more part (first_decided false bytes part (AreBytes-front bytes more fits) is))
 
 pieces_within : (n : ℕ) (ended : Bool) (bytes more : List ℕ) → AreBytes (bytes ++ more) → length bytes ≤ n
-  → items ended (bytes ++ more) ≡ items false bytes ++ items ended (drop (total_size (items false bytes)) bytes ++ more)
+    → items ended (bytes ++ more) ≡ items false bytes ++ items ended (drop (total_size (items false bytes)) bytes ++ more)
 pieces_within n ended bytes more fits h = by_bound n bytes fits h
   where
     InPieces : List ℕ → Type 0
     InPieces bytes = items ended (bytes ++ more) ≡ items false bytes ++ items ended (drop (total_size (items false bytes)) bytes ++ more)
+
     by_answer : (n : ℕ) (bytes : List ℕ) → AreBytes (bytes ++ more) → length bytes ≤ n
-      → ((part : Part) → decided false bytes ≡ Some part → InPieces (drop (part_size part) bytes))
-      → (o : Option Part) → decided false bytes ≡ o → InPieces bytes
+        → ((part : Part) → decided false bytes ≡ Some part → InPieces (drop (part_size part) bytes))
+        → (o : Option Part) → decided false bytes ≡ o → InPieces bytes
     by_answer n bytes fits h tails None is =
-      let none : items false bytes ≡ [] = items_undecided false bytes is in
-      sym (ap (λ xs. xs ++ items ended (drop (total_size xs) bytes ++ more)) none)
+        let none : items false bytes ≡ [] = items_undecided false bytes is in
+        sym (ap (λ xs. xs ++ items ended (drop (total_size xs) bytes ++ more)) none)
     by_answer n bytes fits h tails (Some part) is =
-      let k = part_size part in
-      let front = AreBytes-front bytes more fits in
-      let short : k ≤ length bytes = part_size-decided false bytes part front is in
-      let first : items false bytes ≡ part ∷ items false (drop k bytes) = items_decided false bytes part front is in
-      let whole : items ended (bytes ++ more) ≡ part ∷ items ended (drop k (bytes ++ more)) = items_decided ended (bytes ++ more) part fits (decided_more ended bytes more part fits is) in
-      let behind : drop k (bytes ++ more) ≡ drop k bytes ++ more = drop-append-le k bytes more short in
-      let there : drop (total_size (items false (drop k bytes))) (drop k bytes) ≡ drop (k + total_size (items false (drop k bytes))) bytes = drop-drop (total_size (items false (drop k bytes))) k bytes in
-      whole ∙ ap (λ l. part ∷ items ended l) behind ∙ ap (λ xs. part ∷ xs) (tails part is)
-      ∙ ap (λ l. part ∷ (items false (drop k bytes) ++ items ended (l ++ more))) there
-      ∙ sym (ap (λ xs. xs ++ items ended (drop (total_size xs) bytes ++ more)) first)
+        let k = part_size part in
+        let front = AreBytes-front bytes more fits in
+        let short : k ≤ length bytes = part_size-decided false bytes part front is in
+        let first : items false bytes ≡ part ∷ items false (drop k bytes) = items_decided false bytes part front is in
+        let whole : items ended (bytes ++ more) ≡ part ∷ items ended (drop k (bytes ++ more)) = items_decided ended (bytes ++ more) part fits (decided_more ended bytes more part fits is) in
+        let behind : drop k (bytes ++ more) ≡ drop k bytes ++ more = drop-append-le k bytes more short in
+        let there : drop (total_size (items false (drop k bytes))) (drop k bytes) ≡ drop (k + total_size (items false (drop k bytes))) bytes = drop-drop (total_size (items false (drop k bytes))) k bytes in
+        whole ∙ ap (λ l. part ∷ items ended l) behind ∙ ap (λ xs. part ∷ xs) (tails part is)
+        ∙ ap (λ l. part ∷ (items false (drop k bytes) ++ items ended (l ++ more))) there
+        ∙ sym (ap (λ xs. xs ++ items ended (drop (total_size xs) bytes ++ more)) first)
+
     by_bound : (n : ℕ) (bytes : List ℕ) → AreBytes (bytes ++ more) → length bytes ≤ n → InPieces bytes
     by_bound zero bytes fits h = by_answer zero bytes fits h (λ part is.
-      let short = part_size-decided false bytes part (AreBytes-front bytes more fits) is in
-      let some = part_size-positive part in
-      absurd (omega arith)) (decided false bytes) refl
+        let short = part_size-decided false bytes part (AreBytes-front bytes more fits) is in
+        let some = part_size-positive part in
+        absurd (omega arith)) (decided false bytes) refl
     by_bound (suc n) bytes fits h = by_answer (suc n) bytes fits h (λ part is.
-      let k = part_size part in
-      let short = part_size-decided false bytes part (AreBytes-front bytes more fits) is in
-      let some = part_size-positive part in
-      let behind : drop k (bytes ++ more) ≡ drop k bytes ++ more = drop-append-le k bytes more short in
-      let fit : AreBytes (drop k bytes ++ more) = subst (λ l. AreBytes l) behind (AreBytes-drop k (bytes ++ more) fits) in
-      by_bound n (drop k bytes) fit (omega (arith, length-drop k bytes))) (decided false bytes) refl
+        let k = part_size part in
+        let short = part_size-decided false bytes part (AreBytes-front bytes more fits) is in
+        let some = part_size-positive part in
+        let behind : drop k (bytes ++ more) ≡ drop k bytes ++ more = drop-append-le k bytes more short in
+        let fit : AreBytes (drop k bytes ++ more) = subst (λ l. AreBytes l) behind (AreBytes-drop k (bytes ++ more) fits) in
+        by_bound n (drop k bytes) fit (omega (arith, length-drop k bytes))) (decided false bytes) refl
 
 -- the items of the whole are those that the first piece decides and those of what it leaves with the rest
 pub items-append : (ended : Bool) (bytes more : List ℕ) → AreBytes (bytes ++ more) → items ended (bytes ++ more) ≡ items false bytes ++ items ended (left_over bytes ++ more)
@@ -214,24 +218,26 @@ left_within n bytes fits h = by_bound n bytes fits h
   where
     NoneLeft : List ℕ → Type 0
     NoneLeft bytes = decided false (drop (total_size (items false bytes)) bytes) ≡ None
+
     by_answer : (bytes : List ℕ) → AreBytes bytes → ((part : Part) → decided false bytes ≡ Some part → NoneLeft (drop (part_size part) bytes))
-      → (o : Option Part) → decided false bytes ≡ o → NoneLeft bytes
+        → (o : Option Part) → decided false bytes ≡ o → NoneLeft bytes
     by_answer bytes fits tails None is =
-      ap (λ xs. decided false (drop (total_size xs) bytes)) (items_undecided false bytes is) ∙ is
+        ap (λ xs. decided false (drop (total_size xs) bytes)) (items_undecided false bytes is) ∙ is
     by_answer bytes fits tails (Some part) is =
-      let k = part_size part in
-      ap (λ xs. decided false (drop (total_size xs) bytes)) (items_decided false bytes part fits is)
-      ∙ ap (decided false) (sym (drop-drop (total_size (items false (drop k bytes))) k bytes)) ∙ tails part is
+        let k = part_size part in
+        ap (λ xs. decided false (drop (total_size xs) bytes)) (items_decided false bytes part fits is)
+        ∙ ap (decided false) (sym (drop-drop (total_size (items false (drop k bytes))) k bytes)) ∙ tails part is
+
     by_bound : (n : ℕ) (bytes : List ℕ) → AreBytes bytes → length bytes ≤ n → NoneLeft bytes
     by_bound zero bytes fits h = by_answer bytes fits (λ part is.
-      let short = part_size-decided false bytes part fits is in
-      let some = part_size-positive part in
-      absurd (omega arith)) (decided false bytes) refl
+        let short = part_size-decided false bytes part fits is in
+        let some = part_size-positive part in
+        absurd (omega arith)) (decided false bytes) refl
     by_bound (suc n) bytes fits h = by_answer bytes fits (λ part is.
-      let k = part_size part in
-      let short = part_size-decided false bytes part fits is in
-      let some = part_size-positive part in
-      by_bound n (drop k bytes) (AreBytes-drop k bytes fits) (omega (arith, length-drop k bytes))) (decided false bytes) refl
+        let k = part_size part in
+        let short = part_size-decided false bytes part fits is in
+        let some = part_size-positive part in
+        by_bound n (drop k bytes) (AreBytes-drop k bytes fits) (omega (arith, length-drop k bytes))) (decided false bytes) refl
 
 -- nothing of what is left is decided
 pub left_undecided : (bytes : List ℕ) → AreBytes bytes → decided false (left_over bytes) ≡ None
@@ -281,6 +287,7 @@ some_item b rest fits = by_answer (decided true (b ∷ rest)) refl
 -- what is taken off a run that goes on begins the reading of all that it may become
 pub reading_begins : (bytes more : List ℕ) (parts all : List Part) → AreBytes (bytes ++ more) → Drains false bytes parts → IsReading (bytes ++ more) all → (others : List Part) × (all ≡ parts ++ others)
 reading_begins bytes more parts all fits d r =
-    let front = AreBytes-front bytes more fits in
-    (items true (left_over bytes ++ more),
-     reading_is (bytes ++ more) all fits r ∙ items-append true bytes more fits ∙ ap (λ xs. xs ++ items true (left_over bytes ++ more)) (sym (drained_items false bytes parts front d)))
+    let front = AreBytes-front bytes more fits in (
+      items true (left_over bytes ++ more),
+      reading_is (bytes ++ more) all fits r ∙ items-append true bytes more fits ∙ ap (λ xs. xs ++ items true (left_over bytes ++ more)) (sym (drained_items false bytes parts front d)),
+    )

@@ -88,7 +88,7 @@ same_packet p q a b c d e f g = λ i. record {
 same_body : (p q : Packet) (n m : ℕ) → p.check ≡ q.check → front p n ++ check_of p.check (front p n) ≡ front q m ++ check_of q.check (front q m) → p.body ≡ q.body
 same_body p q n m kind e =
     let sizes : length (check_of p.check (front p n)) ≡ length (check_of q.check (front q m)) =
-      length-check_of p.check (front p n) ∙ ap check_size kind ∙ sym (length-check_of q.check (front q m)) in
+    length-check_of p.check (front p n) ∙ ap check_size kind ∙ sym (length-check_of q.check (front q m)) in
     same_front p.body q.body (check_of p.check (front p n)) (check_of q.check (front q m)) sizes (ap (drop 5) e)
 
 -- one spelling, one packet
@@ -107,7 +107,7 @@ same_count n m low high = omega arith
 pub same_length : (p q : Packet) (a b x y : List ℕ) → Spells p a → Spells q b → a ++ x ≡ b ++ y → length a ≡ length b
 same_length p q a b x y s t e =
     let spelled : (front p (length a) ++ check_of p.check (front p (length a))) ++ x ≡ (front q (length b) ++ check_of q.check (front q (length b))) ++ y =
-      ap (λ l. l ++ x) (sym s.whole) ∙ e ∙ ap (λ l. l ++ y) t.whole in
+    ap (λ l. l ++ x) (sym s.whole) ∙ e ∙ ap (λ l. l ++ y) t.whole in
     same_count (length a) (length b) (ap (λ l. get_or l 2 0) spelled) (ap (λ l. get_or l 3 0) spelled)
 
 -- no spelling begins another

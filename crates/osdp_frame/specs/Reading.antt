@@ -91,6 +91,6 @@ abbrev pub IsUndecided : Bool → List ℕ → Type 0
 IsUndecided ended bytes =
     (bytes ≡ [])
     ⊎ ((ended ≡ false) × (get_or bytes 0 0 ≡ start_of_message)
-       × ((length bytes < 5)
-          ⊎ ((smallest (check_at bytes) ≤ count_at bytes) × (count_at bytes ≤ largest)
-             × (length bytes < count_at bytes))))
+    × ((length bytes < 5)
+    ⊎ ((smallest (check_at bytes) ≤ count_at bytes) × (count_at bytes ≤ largest)
+    × (length bytes < count_at bytes))))

@@ -13,21 +13,18 @@ ghost use Rattle.osdp_frame.specs.Items.{Drains, items, left_over, reading};
 /// A packet has one spelling, and what is no packet has none.
 pub fn one_spelling()
     ensures { (p : Packet) (bytes : List ℕ) → Spells p bytes ↔ (IsPacket p × (bytes ≡ spelling p)) }
-{
-}
+{}
 
 /// A spelling is a list of bytes.
 pub fn spelling_of_bytes()
     ensures { (p : Packet) (bytes : List ℕ) → Spells p bytes → AreBytes bytes }
-{
-}
+{}
 
 /// No spelling begins another, and one spelling is of one packet.
 pub fn one_beginning()
     ensures { (p q : Packet) (a b x y : List ℕ) → Spells p a → Spells q b → a ++ x ≡ b ++ y
         → (a ≡ b) × (p ≡ q) }
-{
-}
+{}
 
 /// Two bytes, or four, that are the same number with the low byte first are the same bytes.
 pub fn one_number()
@@ -35,41 +32,35 @@ pub fn one_number()
         → little_number 2 a ≡ little_number 2 b → a ≡ b }
     ensures four { (a b : List ℕ) → AreBytes a → AreBytes b → length a ≡ 4 → length b ≡ 4
         → little_number 4 a ≡ little_number 4 b → a ≡ b }
-{
-}
+{}
 
 /// At most one item stands first in the rest of a run, and each rest has one.
 pub fn one_item()
     ensures one { (rest : List ℕ) (a b : Part) → Stands rest a → Stands rest b → a ≡ b }
     ensures some { (b : ℕ) (rest : List ℕ) → AreBytes (b ∷ rest) → (part : Part) × Stands (b ∷ rest) part }
-{
-}
+{}
 
 /// Each run of bytes has exactly one reading.
 pub fn one_reading()
     ensures one { (run : List ℕ) (xs ys : List Part) → IsReading run xs → IsReading run ys → xs ≡ ys }
     ensures some { (run : List ℕ) → AreBytes run → IsReading run (reading run) }
-{
-}
+{}
 
 /// The sizes of the items add up to the length of the run.
 pub fn sizes_of_reading()
     ensures { (run : List ℕ) (parts : List Part) → IsReading run parts → total_size parts ≡ length run }
-{
-}
+{}
 
 /// A reading goes on from each place by the rest alone.
 pub fn rest_of_reading()
     ensures { (run : List ℕ) (front back : List Part) → IsReading run (front ++ back)
         → IsReading (drop (total_size front) run) back }
-{
-}
+{}
 
 /// A run that is a spelling is read as its packet alone.
 pub fn reading_of_spelling()
     ensures { (p : Packet) (bytes : List ℕ) → Spells p bytes → IsReading bytes (Whole p ∷ []) }
-{
-}
+{}
 
 /// Bytes decide the first item exactly where it stands first in every run that begins with them, or in
 /// the run that is them; else it depends on bytes to come.
@@ -78,8 +69,7 @@ pub fn first_item_decided()
         → (decided ended bytes ≡ Some part) ↔ IsFirst ended bytes part }
     ensures none { (ended : Bool) (bytes : List ℕ) → AreBytes bytes
         → (decided ended bytes ≡ None) ↔ IsUndecided ended bytes }
-{
-}
+{}
 
 /// A run that comes in pieces has the items that the first piece decides, and then those of what this
 /// leaves with the rest. Nothing that is left is decided.
@@ -87,8 +77,7 @@ pub fn items_in_pieces()
     ensures items { (ended : Bool) (bytes more : List ℕ) → AreBytes (bytes ++ more)
         → items ended (bytes ++ more) ≡ items false bytes ++ items ended (left_over bytes ++ more) }
     ensures left { (bytes : List ℕ) → AreBytes bytes → IsUndecided false (left_over bytes) }
-{
-}
+{}
 
 /// A caller who takes off what is shown until nothing is sees the reading of a run that has ended, and
 /// in a run that goes on a beginning of the reading of all that it may become.
@@ -99,5 +88,4 @@ pub fn items_taken_off()
     ensures beginning { (bytes more : List ℕ) (parts all : List Part) → AreBytes (bytes ++ more)
         → Drains false bytes parts → IsReading (bytes ++ more) all
         → (others : List Part) × (all ≡ parts ++ others) }
-{
-}
+{}

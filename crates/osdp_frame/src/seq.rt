@@ -29,11 +29,7 @@ impl Seq {
     pub fn new(value: u8) -> Option<Seq>
         ensures { SomeIff result (value < 4) value }
     {
-        if value < 4 {
-            Some(Seq { value })
-        } else {
-            None
-        }
+        if value < 4 { Some(Seq { value }) } else { None }
     }
 
     /// The sequence number in the low two bits of a byte.

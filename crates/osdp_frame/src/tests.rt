@@ -21,6 +21,7 @@ const ACK_CONFIGURATION: [u8; 7] = [0x53, 0xff, 0x07, 0x00, 0x00, 0x40, 0x67];
 
 /// A packet with a security block, and one with a reserved bit.
 const BLOCK: [u8; 9] = [0x53, 0x00, 0x09, 0x00, 0x08, 0x02, 0x15, 0x60, 0x25];
+
 const RESERVED: [u8; 7] = [0x53, 0x00, 0x07, 0x00, 0x10, 0x60, 0x36];
 
 /// The fields of a packet as numbers.
@@ -58,7 +59,15 @@ fn made(rt: &impl Abort, fields: &Fields<'_>) -> Option<Frame> {
     let address = Address::new(fields.address).expect(rt, "an address");
     let seq = Seq::new(fields.seq).expect(rt, "a sequence number");
     let body = body_of(rt, fields.body);
-    Frame::new(fields.reply, address, seq, fields.check, fields.block, fields.reserved, body)
+    Frame::new(
+        fields.reply,
+        address,
+        seq,
+        fields.check,
+        fields.block,
+        fields.reserved,
+        body,
+    )
 }
 
 /// The fields make the packet of these bytes, and the bytes are read as these fields.
@@ -145,14 +154,26 @@ fn packets_have_room(rt: HostRuntime) {
 #[test]
 fn faults_in_their_order(rt: HostRuntime) {
     let cases: [(&[u8], FrameFault); 8] = [
-        (&[0x53, 0x00, 0x06, 0x00, 0x00, 0x60, 0x47], FrameFault::TooShort),
-        (&[0x53, 0x00, 0x07, 0x00, 0x04, 0x60, 0x42], FrameFault::TooShort),
+        (
+            &[0x53, 0x00, 0x06, 0x00, 0x00, 0x60, 0x47],
+            FrameFault::TooShort,
+        ),
+        (
+            &[0x53, 0x00, 0x07, 0x00, 0x04, 0x60, 0x42],
+            FrameFault::TooShort,
+        ),
         (&[0x53, 0x00, 0xa1, 0x05, 0x00], FrameFault::TooLong),
         (&[0x53, 0x00, 0x07, 0x00, 0x00, 0x60], FrameFault::Ended),
         (&[0x53], FrameFault::Ended),
         (&[0x53, 0x00, 0x00, 0x00], FrameFault::Ended),
-        (&[0x53, 0x00, 0x07, 0x00, 0x00, 0x60, 0x47], FrameFault::BadCheck),
-        (&[0x53, 0x00, 0x08, 0x00, 0x04, 0x60, 0xaa, 0xeb], FrameFault::BadCheck),
+        (
+            &[0x53, 0x00, 0x07, 0x00, 0x00, 0x60, 0x47],
+            FrameFault::BadCheck,
+        ),
+        (
+            &[0x53, 0x00, 0x08, 0x00, 0x04, 0x60, 0xaa, 0xeb],
+            FrameFault::BadCheck,
+        ),
     ];
     for (run, fault) in cases {
         assert!(rt; !run.is_empty());

@@ -68,7 +68,10 @@ impl<'a> FrameView<'a> {
         let mut out = Burst::new();
         let address = self.address_byte();
         let control = self.control_byte();
-        append(&mut out, &[START_OF_MESSAGE, address, count[0], count[1], control]);
+        append(
+            &mut out,
+            &[START_OF_MESSAGE, address, count[0], count[1], control],
+        );
         append(&mut out, self.body);
         let check = check_bytes(self.check, out.as_slice());
         append(&mut out, &check[..self.check.size()]);

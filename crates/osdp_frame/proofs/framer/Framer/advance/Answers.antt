@@ -9,7 +9,7 @@ returns c =
     let f = c.self.inside in
     let left = ltb (f.from + c.size.result) f.to in
     let ended : c.if-self.ended ≡ (f.ended && left) = elim c.if-self.branch [
-      then-self w ↦ w.ended-is ∙ sym (ap (λ (b : Bool). b && left) w.if-self.true)
+      | then-self w ↦ w.ended-is ∙ sym (ap (λ (b : Bool). b && left) w.if-self.true)
       | else-self w ↦ w.ended-is ∙ w.if-self.false ∙ sym (ap (λ (b : Bool). b && left) w.if-self.false)
     ] in
     advanced f c.args.self.now c.in-Some.first c.size.result c.if-self.ended c.self.view_is c.self.invariant c.self.told c.in-Some.is

@@ -1,0 +1,71 @@
+-- Words choose a job exactly where they are its words.
+use Rattle.std.proofs.Common.{◌≡◌, ◌⊎◌, Bool, true, false, [], ◌∷◌, refl, subst, ap, inl, inr, codes, Ok, Err}
+use Rattle.std.specs.Str.{bytes_eq}
+use Rattle.std.proofs.lemmas.Slice.Eq.{bytes_eq-Decides}
+use Rattle.osdp_stream.specs.declared.fault.ToolFault.TheVariants.{BadWords}
+use Rattle.osdp_job.specs.declared.types.Job.{Job}
+use Rattle.osdp_job.specs.declared.types.Job.TheVariants.{Show, Check, Make, Sim}
+use Rattle.osdp_job.specs.declared.types.Mode.{Mode}
+use Rattle.osdp_job.specs.Job.{Words, are_options, mode_of, job_in_mode, job_of, AreOptionsOf, IsWordsOf, ChoosesByWords}
+use Rattle.osdp_job.proofs.OptionLemmas.{are_options-listed, AreOptionsOf-options, AreOptionsOf-mode}
+
+-- a command in a mode chooses the job of its options' mode, or none
+job_in_mode-cases : (command : Mode → Job) (options : Words)
+    → ((are_options options ≡ true) × (job_in_mode command options ≡ Ok (command (mode_of options)))) ⊎ (job_in_mode command options ≡ Err BadWords)
+job_in_mode-cases command options = go (are_options options) refl
+  where
+    go : (b : Bool) → are_options options ≡ b
+        → ((are_options options ≡ true) × (job_in_mode command options ≡ Ok (command (mode_of options)))) ⊎ (job_in_mode command options ≡ Err BadWords)
+    go true is = inl (is, rw is)
+    go false is = inr (rw is)
+
+-- words choose a job of theirs, or are bad
+abbrev Chooses : Words → Type 0
+Chooses words = ((job : Job) × (job_of words ≡ Ok job) × IsWordsOf job words) ⊎ (job_of words ≡ Err BadWords)
+
+choose : (words : Words) → Chooses words
+choose [] = inr refl
+choose (command ∷ rest) = go (bytes_eq command (codes "show")) (bytes_eq command (codes "check")) refl refl
+  where
+    go : (show check : Bool) → bytes_eq command (codes "show") ≡ show → bytes_eq command (codes "check") ≡ check → Chooses (command ∷ rest)
+    go true check is_show is_check = elim (job_in_mode-cases Show rest) [
+      | inl good ↦ inl (Show (mode_of rest), rw is_show good.1, (rest, ap (λ word. word ∷ rest) ((bytes_eq-Decides command (codes "show")).0 is_show), are_options-listed rest good.0))
+      | inr bad ↦ inr (rw is_show bad)
+    ]
+    go false true is_show is_check = elim (job_in_mode-cases Check rest) [
+      | inl good ↦ inl (Check (mode_of rest), rw (is_show, is_check) good.1, (rest, ap (λ word. word ∷ rest) ((bytes_eq-Decides command (codes "check")).0 is_check), are_options-listed rest good.0))
+      | inr bad ↦ inr (rw (is_show, is_check) bad)
+    ]
+    go false false is_show is_check = inr (rw (is_show, is_check))
+
+-- the options of a mode, behind a command, choose it
+job_in_mode-options : (command : Mode → Job) (mode : Mode) (options : Words) → AreOptionsOf mode.raw mode.join options
+    → job_in_mode command options ≡ Ok (command mode)
+job_in_mode-options command mode options listed =
+    rw (AreOptionsOf-options mode.raw mode.join options listed) (ap (λ m. Ok (command m)) (AreOptionsOf-mode mode.raw mode.join options listed))
+
+-- the words of a job choose it
+words_choose : (job : Job) (words : Words) → IsWordsOf job words → job_of words ≡ Ok job
+words_choose (Show mode) words (options, is, listed) = rw is (job_in_mode-options Show mode options listed)
+words_choose (Check mode) words (options, is, listed) = rw is (job_in_mode-options Check mode options listed)
+words_choose Make words none = absurd none
+words_choose Sim words none = absurd none
+
+pub ChoosesByWords-all : (words : Words) → ChoosesByWords words
+ChoosesByWords-all words = record { chosen = λ job. (chosen_words job, words_choose job words); refused = (bad_words, no_words) }
+  where
+    chosen_words : (job : Job) → job_of words ≡ Ok job → IsWordsOf job words
+    chosen_words job is = elim (choose words) [
+      | inl good ↦
+          let same : good.0 ≡ job = cc in
+          subst (λ j. IsWordsOf j words) same good.2
+      | inr bad ↦ cc
+    ]
+
+    bad_words : job_of words ≡ Err BadWords → (job : Job) → ¬ IsWordsOf job words
+    bad_words bad job are =
+        let good = words_choose job words are in
+        cc
+
+    no_words : ((job : Job) → ¬ IsWordsOf job words) → job_of words ≡ Err BadWords
+    no_words none = elim (choose words) [ inl good ↦ absurd (none good.0 good.2) | inr bad ↦ bad ]

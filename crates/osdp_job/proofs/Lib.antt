@@ -1,0 +1,3 @@
+pub mod OptionLemmas
+pub mod JobLemmas
+pub mod ClapLemmas

@@ -1,0 +1,30 @@
+ghost use Rattle.std.specs.Prelude.{◌≡◌, ◌⊎◌, Err, IsErrOf};
+ghost use Rattle.osdp_job.specs.Job.{job_of, texts_of, AsksForMode};
+
+use crate::options::read_mode;
+use crate::types::Job;
+use osdp_stream::ToolFault;
+use std::alloc::Global;
+
+/// The job that the words behind the program's name choose.
+///
+/// The first word is the command. Behind `show` and `check` the options `--raw` and `--join` may
+/// stand, in any order, each at most once. Every other list of words is `BadWords`, `make` and
+/// `sim` among them: the program has neither yet.
+///
+/// `NoMemory` comes only where options of `show` or `check` are read, which takes memory.
+pub fn job(alloc: Global, words: &[&str]) -> Result<Job, ToolFault>
+    ensures choice { (result ≡ job_of (texts_of words.now)) ⊎ (result ≡ Err ToolFault.NoMemory) }
+    ensures memory { IsErrOf result ToolFault.NoMemory → AsksForMode (texts_of words.now) }
+{
+    let [command, ..] = words else {
+        return Err(ToolFault::BadWords);
+    };
+    if *command == "show" {
+        return Ok(Job::Show(read_mode(alloc, words)?));
+    }
+    if *command == "check" {
+        return Ok(Job::Check(read_mode(alloc, words)?));
+    }
+    Err(ToolFault::BadWords)
+}

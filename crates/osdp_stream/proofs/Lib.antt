@@ -1,0 +1,2 @@
+pub mod TransferLemmas
+pub mod WatchedLemmas

@@ -1,0 +1,55 @@
+-- How a watched stream comes to have failed.
+use Rattle.std.proofs.Common.{◌≡◌, ◌||◌, ◌⊎◌, zero, suc, Bool, true, false, List, [], ◌∷◌, refl, sym, inl, inr, arith, ◌∙◌}
+use Rattle.std.specs.List.{Contains}
+use Rattle.osdp_stream.specs.declared.watch.Watched.{Watched}
+use Rattle.osdp_stream.specs.Watched.{has_failed, WentThrough, FailedBySomeCall}
+
+either_failed : (before now after : Bool) → after ≡ (before || now) → after ≡ true → (before ≡ true) ⊎ (now ≡ true)
+either_failed true now after is failed = inl refl
+either_failed false now after is failed = inr (sym is ∙ failed)
+
+failed_before : (before now after : Bool) → after ≡ (before || now) → before ≡ true → after ≡ true
+failed_before true now after is failed = is
+failed_before false now after is failed = cc
+
+failed_now : (before now after : Bool) → after ≡ (before || now) → now ≡ true → after ≡ true
+failed_now true now after is failed = is
+failed_now false now after is failed = is ∙ failed
+
+-- a call failed first, or one of the calls behind it
+Contains-first : (call : Bool) (calls : List Bool) → Contains (call ∷ calls) true → (call ≡ true) ⊎ Contains calls true
+Contains-first call calls (zero, below, is) = inl is
+Contains-first call calls (suc k, below, is) = inr (k, omega arith, is)
+
+-- one call, and then calls of which this holds
+FailedBySomeCall-first : {T : Type 0} (old next new : Watched T) (call : Bool) (calls : List Bool) → has_failed next ≡ (has_failed old || call)
+    → FailedBySomeCall next calls new → FailedBySomeCall old (call ∷ calls) new
+FailedBySomeCall-first old next new call calls noted later = (cause, effect)
+  where
+    cause : has_failed new ≡ true → (has_failed old ≡ true) ⊎ Contains (call ∷ calls) true
+    cause failed = elim (later.0 failed) [
+      | inl at_next ↦ elim (either_failed _ call _ noted at_next) [
+        | inl before ↦ inl before
+        | inr now ↦ inr (0, omega arith, now)
+      ]
+      | inr behind ↦ inr (suc behind.0, omega (arith, behind.1), behind.2)
+    ]
+
+    effect : (has_failed old ≡ true) ⊎ Contains (call ∷ calls) true → has_failed new ≡ true
+    effect (inl before) = later.1 (inl (failed_before _ call _ noted before))
+    effect (inr some) = elim (Contains-first call calls some) [
+      | inl now ↦ later.1 (inl (failed_now _ call _ noted now))
+      | inr behind ↦ later.1 (inr behind)
+    ]
+
+FailedBySomeCall-none : {T : Type 0} (old new : Watched T) → has_failed new ≡ has_failed old → FailedBySomeCall old [] new
+FailedBySomeCall-none old new same = (λ failed. inl (sym same ∙ failed), effect)
+  where
+    effect : (has_failed old ≡ true) ⊎ Contains [] true → has_failed new ≡ true
+    effect (inl failed) = same ∙ failed
+    effect (inr (k, below, is)) = absurd (omega arith)
+
+pub WentThrough-fails : {T : Type 0} (old new : Watched T) (calls : List Bool) → WentThrough old calls new → FailedBySomeCall old calls new
+WentThrough-fails old new [] same = FailedBySomeCall-none old new same
+WentThrough-fails old new (call ∷ calls) (next, noted, through) =
+    FailedBySomeCall-first old next new call calls noted (WentThrough-fails next new calls through)

@@ -1,0 +1,3 @@
+pub mod FinalAnswer
+pub mod ToolFault
+pub mod Watched

@@ -1,0 +1,33 @@
+//! What the crate's definitions say, in the subject's words. The functions have no code: each
+//! states a law for all values, and its proof is the law's.
+
+ghost use Rattle.std.specs.Prelude.{Bool, List};
+ghost use Rattle.osdp_stream.specs.FinalAnswer.{TellsTruly, TellsStreamsFirst};
+ghost use Rattle.osdp_stream.specs.ToolFault.{StatusTellsCause};
+ghost use Rattle.osdp_stream.specs.Watched.{WentThrough, FailedBySomeCall};
+ghost use Rattle.osdp_stream.specs.declared.watch.Watched.{Watched};
+
+use crate::fault::ToolFault;
+
+/// A status is 2, 3 or 4: 3 exactly at a failed read or write, 4 exactly for want of memory.
+pub fn status_tells_cause(fault: ToolFault)
+    ensures { StatusTellsCause fault }
+{}
+
+/// After any calls a watched stream has failed exactly where it had before, or one of them failed.
+pub fn failed_by_some_call<T>()
+    ensures { (old new : Watched T) (calls : List Bool) → WentThrough old calls new
+        → FailedBySomeCall old calls new }
+{}
+
+/// A failed read is told exactly where the input failed, and a failed write exactly where the
+/// output alone did, whatever the work answers that tells no failed read or write of its own
+/// making.
+pub fn final_answer_tells_streams_first<T: Drop>(
+    input_failed: bool,
+    output_failed: bool,
+    answer: Result<T, ToolFault>,
+)
+    ensures { TellsTruly input_failed output_failed answer
+        → TellsStreamsFirst input_failed output_failed answer }
+{}

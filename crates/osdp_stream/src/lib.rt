@@ -1,0 +1,16 @@
+//! Streams that are watched for failures, and the faults of the program's commands.
+#![tactic(auto)]
+
+mod answer;
+mod fault;
+pub mod laws;
+mod transfer;
+mod watch;
+
+pub use answer::{final_answer, finish};
+pub use fault::ToolFault;
+pub use transfer::{flush_out, read_some, write_out};
+pub use watch::Watched;
+
+#[cfg(test)]
+mod tests;
