@@ -1,17 +1,15 @@
 -- Powers of x, and numbers that are moved by so many places.
-use Rattle.std.proofs.Common.{◌≡◌, ℕ, zero, suc, ◌+◌, ◌-◌, ◌*◌, ◌/◌, ◌%◌, ◌^◌, ◌<◌, ◌≤◌, List, [], ◌∷◌, map, refl, sym, ap, subst, ◌∙◌, arith, zero-add, add-zero, get_or, slice_index, lit<}
-use Rattle.std.proofs.Math.Nat.{pow-le-pow_right, zero-mul, one-mul, mul-one, suc-add, mul_assoc, mod-eq_of_lt}
-use Rattle.std.proofs.lemmas.Nat.{pow-add, pow_pos, pow_below, shl_below, xor_comm, mod_below}
-use Rattle.std.proofs.Math.Pow.{split}
+use Rattle.std.proofs.Common.{◌≡◌, ℕ, zero, suc, ◌+◌, ◌-◌, ◌*◌, ◌/◌, ◌%◌, ◌^◌, ◌<◌, ◌≤◌, List, [], ◌∷◌, map, refl, sym, ap, ◌∙◌, arith, zero-add, add-zero, get_or, slice_index, lit<}
+use Rattle.std.proofs.Math.Nat.{pow-le-pow_right, zero-mul, one-mul, mul_assoc, mod-eq_of_lt}
+use Rattle.std.proofs.lemmas.Nat.{pow-add, pow_pos, pow_below, xor_comm, mod_below}
 use Rattle.std.specs.List.{range_with_len}
 use Rattle.std.proofs.lemmas.List.FromFn.{get_or-map-range_with_len}
-use Rattle.std.specs.Int.{bit_at}
-use Rattle.std.specs.Int.Bits.{bit_xor, xor_zero_l, xor_zero_r}
+use Rattle.std.specs.Int.Bits.{bit_xor, xor_zero_r}
 use Rattle.std.proofs.lemmas.Nat.{mod-pow-add}
 use Rattle.osdp_check.specs.declared.powers.TheConstants.{LOW_POWERS, HIGH_POWERS}
-use Rattle.osdp_check.specs.Crc.{power, remainder, divisor}
+use Rattle.osdp_check.specs.Crc.{power, remainder}
 use Rattle.osdp_check.proofs.Xor.{xor-shl, xor_parts}
-use Rattle.osdp_check.proofs.Remainder.{remainder-xor, remainder-shl, remainder-lt, remainder_top, remainder_small}
+use Rattle.osdp_check.proofs.Remainder.{remainder-xor, remainder-shl, remainder_top, remainder_small}
 
 -- ---- a number is moved by so many places in two goes
 

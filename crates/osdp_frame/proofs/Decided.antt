@@ -1,15 +1,14 @@
 -- What decides the first item is which item stands first.
-use Rattle.std.proofs.Common.{◌≡◌, ◌≢◌, ℕ, zero, suc, ◌+◌, ◌-◌, ◌*◌, ◌/◌, ◌%◌, ◌<◌, ◌≤◌, Bool, true, false, cond, eqb, ltb, IsTrue, List, [], ◌∷◌, ◌++◌, length, take, drop, get_or, Option, Some, None, replicate, refl, sym, ap, subst, ◌∙◌, append_assoc, arith, inl, inr, ◌⊎◌}
-use Rattle.std.proofs.lemmas.Bool.{cases_lt, ltb-true, ltb-false, false≢true, eqb-true, eqb-false}
+use Rattle.std.proofs.Common.{◌≡◌, ◌≢◌, ℕ, ◌<◌, ◌≤◌, Bool, true, false, cond, eqb, ltb, List, [], ◌∷◌, ◌++◌, length, drop, get_or, Option, Some, None, replicate, refl, sym, ap, subst, ◌∙◌, append_assoc, arith, inl, inr, ◌⊎◌}
+use Rattle.std.proofs.lemmas.Bool.{ltb-true, ltb-false, false≢true, eqb-true, eqb-false}
 use Rattle.std.proofs.lemmas.List.{length-append, append-nil, length-replicate}
-use Rattle.osdp_frame.specs.declared.check_kind.CheckKind.{CheckKind}
 use Rattle.osdp_frame.specs.declared.fault.FrameFault.{FrameFault}
 use Rattle.osdp_frame.specs.declared.fault.FrameFault.TheVariants.{TooShort, TooLong, BadCheck, Ended}
 use Rattle.osdp_frame.specs.Bytes.{AreBytes}
-use Rattle.osdp_frame.specs.Check.{check_of, check_size}
-use Rattle.osdp_frame.specs.Packet.{Packet, IsPacket, packet_length, largest}
-use Rattle.osdp_frame.specs.Spelling.{Spells, start_of_message}
-use Rattle.osdp_frame.specs.Reading.{Part, Whole, Passed, Bad, part_size, Begins, count_at, check_at, smallest, IsChecked, HasFault, IsFirstFault, Stands, IsFirst, IsUndecided}
+use Rattle.osdp_frame.specs.Check.{check_size}
+use Rattle.osdp_frame.specs.Packet.{Packet, largest}
+use Rattle.osdp_frame.specs.Spelling.{start_of_message}
+use Rattle.osdp_frame.specs.Reading.{Part, Whole, Passed, Bad, Begins, count_at, check_at, smallest, IsChecked, HasFault, IsFirstFault, Stands, IsFirst, IsUndecided}
 use Rattle.osdp_frame.specs.Held.{packet_at, is_checked, begun, decided}
 use Rattle.osdp_frame.proofs.Spelled.{same_beginning}
 use Rattle.osdp_frame.proofs.Head.{Tells-Begins, count_at-append, check_at-append, IsChecked-append, is_checked-Decides, IsHead, Begins-packet_at}

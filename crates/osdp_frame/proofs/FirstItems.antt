@@ -1,13 +1,13 @@
 -- What is kept of the first item is enough to show it.
-use Rattle.std.proofs.Common.{◌≡◌, ℕ, ◌+◌, ◌-◌, ◌<◌, ◌≤◌, Bool, true, false, List, [], ◌∷◌, ◌++◌, length, take, drop, Option, Some, None, refl, sym, ap, subst, ◌∙◌, arith}
-use Rattle.std.proofs.lemmas.List.{length-drop, length-take, append-nil, take-append-le, drop-append-le, take-append-drop}
+use Rattle.std.proofs.Common.{◌≡◌, ℕ, ◌-◌, ◌≤◌, Bool, false, List, ◌++◌, length, take, drop, Some, refl, sym, ap, subst, ◌∙◌, arith}
+use Rattle.std.proofs.lemmas.List.{length-drop, length-take, take-append-le, drop-append-le, take-append-drop}
 use Rattle.osdp_frame.specs.declared.first.First.{First}
 use Rattle.osdp_frame.specs.declared.first.First.TheVariants as kept
 use Rattle.osdp_frame.specs.declared.first.Heading.{Heading}
 use Rattle.osdp_frame.specs.Bytes.{AreBytes}
 use Rattle.osdp_frame.specs.Check.{check_size}
 use Rattle.osdp_frame.specs.Packet.{Packet, IsPacket, packet_length}
-use Rattle.osdp_frame.specs.Reading.{Part, Whole, Passed, Bad, part_size, Stands, IsFirst}
+use Rattle.osdp_frame.specs.Reading.{Whole}
 use Rattle.osdp_frame.specs.Held.{decided}
 use Rattle.osdp_frame.specs.First.{headed, part_in, part_if, HeadingFits, FirstFits}
 use Rattle.osdp_frame.proofs.Decided.{first_decided, stands_first}

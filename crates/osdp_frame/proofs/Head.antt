@@ -1,9 +1,8 @@
 -- What a packet at the head of bytes says of these bytes.
-use Rattle.std.proofs.Common.{◌≡◌, ◌≢◌, ℕ, zero, suc, ◌+◌, ◌-◌, ◌*◌, ◌/◌, ◌%◌, ◌<◌, ◌≤◌, Bool, true, false, cond, eqb, ltb, List, [], ◌∷◌, ◌++◌, length, take, drop, get_or, refl, sym, ap, subst, ◌∙◌, append_assoc, arith, inl, inr}
+use Rattle.std.proofs.Common.{◌≡◌, ℕ, zero, suc, ◌+◌, ◌-◌, ◌*◌, ◌/◌, ◌%◌, ◌<◌, ◌≤◌, Bool, true, false, cond, eqb, ltb, List, [], ◌∷◌, ◌++◌, length, take, drop, get_or, refl, sym, ap, subst, ◌∙◌, append_assoc, arith, inl, inr}
 use Rattle.std.proofs.lemmas.List.{length-append, take_at, drop_at, take-append-le, get_or_append_left, take-append-drop, length-take-le, take-take, get_or-drop, get_or-take, get_or_past, length-take, length-drop}
 use Rattle.std.proofs.lemmas.Bool.{cases_lt}
 use Rattle.std.proofs.lemmas.Bool.Decides.{nat_tests}
-use Rattle.std.specs.Str.{bytes_eq}
 use Rattle.std.specs.Bool.{Decides}
 use Rattle.std.specs.List.{between}
 use Rattle.std.proofs.lemmas.Slice.{between_is}
@@ -12,12 +11,11 @@ use Rattle.osdp_frame.specs.declared.check_kind.CheckKind.{CheckKind}
 use Rattle.osdp_frame.specs.declared.check_kind.CheckKind.TheVariants.{Sum, Crc}
 use Rattle.osdp_frame.specs.Bytes.{AreBytes}
 use Rattle.osdp_frame.specs.Check.{check_of, check_size}
-use Rattle.osdp_frame.specs.Packet.{Packet, IsPacket, packet_length, largest}
-use Rattle.osdp_frame.specs.Packed.{packed}
-use Rattle.osdp_frame.specs.Spelling.{Spells, spelling, front, address_byte, control_byte, crc_bit, start_of_message}
+use Rattle.osdp_frame.specs.Packet.{Packet, packet_length, largest}
+use Rattle.osdp_frame.specs.Spelling.{Spells, front, control_byte, crc_bit, start_of_message}
 use Rattle.osdp_frame.specs.Reading.{Begins, count_at, check_at, smallest, IsChecked}
 use Rattle.osdp_frame.specs.Held.{packet_at, is_checked}
-use Rattle.osdp_frame.proofs.Spelled.{length-front, length-checked, length-check_of, length-spelled}
+use Rattle.osdp_frame.proofs.Spelled.{length-front, length-checked, length-spelled}
 
 pub AreBytes-drop : (n : ℕ) (bytes : List ℕ) → AreBytes bytes → AreBytes (drop n bytes)
 AreBytes-drop n bytes h place = subst (λ (b : ℕ). b < 256) (sym (get_or-drop n bytes place 0)) (h (n + place))

@@ -1,7 +1,6 @@
 -- The bytes of a spelling, and its reading.
-use Rattle.std.proofs.Common.{◌≡◌, ℕ, zero, suc, ◌+◌, ◌-◌, ◌*◌, ◌/◌, ◌%◌, ◌^◌, ◌<◌, ◌≤◌, Bool, true, false, cond, List, [], ◌∷◌, ◌++◌, length, take, drop, get_or, refl, sym, ap, subst, ◌∙◌, arith, inl, inr}
-use Rattle.std.proofs.lemmas.Bool.{cases_lt}
-use Rattle.std.proofs.lemmas.List.{append-nil, drop_all, get_or_append_left, get_or-append_right, get_or_default}
+use Rattle.std.proofs.Common.{ℕ, zero, suc, ◌+◌, ◌*◌, ◌/◌, ◌%◌, ◌^◌, ◌<◌, ◌≤◌, Bool, true, false, cond, List, [], ◌∷◌, ◌++◌, length, sym, subst, arith}
+use Rattle.std.proofs.lemmas.List.{append-nil, drop_all, get_or_default}
 use Rattle.osdp_check.specs.Checksum.{checksum}
 use Rattle.osdp_check.specs.Crc.{IsBytes, crc}
 use Rattle.osdp_check.proofs.Pieces.{crc-lt}
@@ -10,8 +9,8 @@ use Rattle.osdp_frame.specs.declared.check_kind.CheckKind.TheVariants.{Sum, Crc}
 use Rattle.osdp_frame.specs.Bytes.{AreBytes}
 use Rattle.osdp_frame.specs.Check.{check_of}
 use Rattle.osdp_frame.specs.Packet.{Packet, IsPacket, packet_length}
-use Rattle.osdp_frame.specs.Spelling.{Spells, spelling, front, address_byte, control_byte, crc_bit}
-use Rattle.osdp_frame.specs.Reading.{Part, Whole, Begins, IsReading}
+use Rattle.osdp_frame.specs.Spelling.{Spells, front, address_byte, control_byte, crc_bit}
+use Rattle.osdp_frame.specs.Reading.{Whole, IsReading}
 use Rattle.osdp_frame.proofs.Spelled.{length-spelled}
 
 AreBytes-cons : (b : ℕ) (bytes : List ℕ) → b < 256 → AreBytes bytes → AreBytes (b ∷ bytes)

@@ -1,11 +1,10 @@
 -- Each run has one reading, and it can be read in pieces.
-use Rattle.std.proofs.Common.{◌≡◌, ◌≢◌, ℕ, zero, suc, ◌+◌, ◌-◌, ◌<◌, ◌≤◌, Bool, true, false, IsTrue, List, [], ◌∷◌, ◌++◌, length, take, drop, get_or, Option, Some, None, refl, sym, ap, subst, ◌∙◌, append_assoc, arith, inl, inr, ◌⊎◌}
+use Rattle.std.proofs.Common.{◌≡◌, ℕ, zero, suc, ◌+◌, ◌<◌, ◌≤◌, Bool, true, false, List, [], ◌∷◌, ◌++◌, length, drop, Option, Some, None, refl, sym, ap, subst, ◌∙◌, append_assoc, arith, inl, inr}
 use Rattle.std.proofs.lemmas.Bool.{false≢true}
-use Rattle.std.proofs.lemmas.List.{length-append, length-drop, append-nil, drop-append-le, drop-drop, get_or_append_left, get_or_past}
+use Rattle.std.proofs.lemmas.List.{length-drop, append-nil, drop-append-le, drop-drop, get_or_append_left, get_or_past}
 use Rattle.std.proofs.lemmas.Bool.{cases_lt}
 use Rattle.std.specs.Option.{option_map_or}
 use Rattle.osdp_frame.specs.Bytes.{AreBytes}
-use Rattle.osdp_frame.specs.Packet.{Packet, packet_length}
 use Rattle.osdp_frame.specs.Reading.{Part, Whole, Passed, Bad, part_size, total_size, Stands, IsReading, IsFirst, IsUndecided}
 use Rattle.osdp_frame.specs.Held.{decided}
 use Rattle.osdp_frame.specs.Items.{items, items_within, reading, left_over, Drains}

@@ -1,5 +1,5 @@
 -- Lists of bytes.
-use Rattle.std.specs.Prelude.{ℕ, ◌+◌, ◌*◌, ◌<◌, List, get_or}
+use Rattle.std.specs.Prelude.{ℕ, ◌<◌, List, get_or}
 
 -- each item is a byte
 abbrev pub AreBytes : List ℕ → Type 0

@@ -1,9 +1,6 @@
 -- What a framer holds, and what it makes of it step by step.
-use Rattle.std.specs.Prelude.{ℕ, ◌+◌, ◌-◌, ◌*◌, ◌/◌, ◌%◌, Bool, true, false, not, ◌&&◌, ◌==◌, nat_lt, if◌then◌else◌, min, List, [], ◌∷◌, ◌++◌, length, take, drop, get_or, slice_range, Option, Some, None}
+use Rattle.std.specs.Prelude.{ℕ, ◌-◌, ◌/◌, ◌%◌, Bool, false, not, ◌&&◌, ◌==◌, nat_lt, if◌then◌else◌, min, List, [], ◌∷◌, ◌++◌, length, take, drop, get_or, slice_range, Option, Some, None}
 use Rattle.std.specs.Str.{bytes_eq}
-use Rattle.osdp_frame.specs.declared.check_kind.CheckKind.{CheckKind}
-use Rattle.osdp_frame.specs.declared.check_kind.CheckKind.TheVariants.{Sum, Crc}
-use Rattle.osdp_frame.specs.declared.fault.FrameFault.{FrameFault}
 use Rattle.osdp_frame.specs.declared.fault.FrameFault.TheVariants.{TooShort, TooLong, BadCheck, Ended}
 use Rattle.osdp_frame.specs.Check.{check_of, check_size}
 use Rattle.osdp_frame.specs.Packet.{Packet, largest}

@@ -1,5 +1,5 @@
 -- How a packet is spelled in bytes.
-use Rattle.std.specs.Prelude.{◌≡◌, ℕ, ◌+◌, ◌*◌, ◌/◌, ◌%◌, Bool, true, false, if◌then◌else◌, List, [], ◌∷◌, ◌++◌, length}
+use Rattle.std.specs.Prelude.{◌≡◌, ℕ, ◌+◌, ◌*◌, ◌/◌, ◌%◌, if◌then◌else◌, List, ◌∷◌, ◌++◌, length}
 use Rattle.osdp_frame.specs.declared.check_kind.CheckKind.{CheckKind}
 use Rattle.osdp_frame.specs.declared.check_kind.CheckKind.TheVariants.{Sum, Crc}
 use Rattle.osdp_frame.specs.Check.{check_of}

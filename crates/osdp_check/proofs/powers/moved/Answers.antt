@@ -1,4 +1,4 @@
-use Rattle.std.proofs.Common.{ap, sym, ◌∙◌, arith, ◌≡◌, ◌+◌, ◌*◌, ◌/◌, ◌%◌, ◌<◌}
+use Rattle.std.proofs.Common.{ap, ◌∙◌, arith, ◌*◌, ◌/◌, ◌%◌}
 use Rattle.osdp_check.proofs.Places.{moved_by, moved_over, low_power, high_power}
 use Rattle.osdp_check.proofs.powers.moved.Goals as goal
 

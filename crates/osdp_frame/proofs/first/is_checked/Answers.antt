@@ -1,4 +1,3 @@
-use Rattle.std.proofs.Common.{◌≡◌}
 use Rattle.osdp_frame.proofs.first.is_checked.Goals as goal
 
 pub returns : goal.returns
