@@ -8,7 +8,7 @@ ghost use Rattle.osdp_frame.specs.Check.{check_of, check_size};
 ghost use Rattle.osdp_frame.specs.Running.{IsRunning};
 
 use crate::CheckKind;
-use crate::bytes::are_bytes;
+use crate::bytes::{are_bytes, check_bytes};
 use osdp_check::{Check, Crc16, Sum8};
 use std::marker::Model;
 
@@ -17,16 +17,18 @@ const ROOM: usize = 2880;
 
 /// At most 1440 bytes, taken in at the end and let go at the front.
 ///
-/// Beside each byte stand the running checks of the bytes before it, so that the check of any piece at
-/// the front takes a few steps, however long the piece is. With them a buffer takes 11.5 kB.
+/// Beside the first of them stand running checks, so that the check of a piece at the front takes a few
+/// steps however long the piece is, and those of many pieces go over each byte once. With the room for
+/// them a buffer takes 11.5 kB.
 #[derive(Debug, Drop)]
 pub struct Buffer {
     bytes: [u8; 2880],
-    /// The running checks before each byte, and behind the last.
+    /// The running checks before each of the bytes from `from` to `ran`, and behind the last of these.
     sums: [Sum8; 2881],
     crcs: [Crc16; 2881],
-    /// Where the bytes held begin, and where they end.
+    /// Where the bytes held begin, how far the running checks have come, and where the bytes end.
     from: usize,
+    ran: usize,
     to: usize,
 }
 
@@ -52,6 +54,7 @@ impl Buffer {
             sums: [Sum8::start(); 2881],
             crcs: [Crc16::start(); 2881],
             from: 0,
+            ran: 0,
             to: 0,
         }
     }
@@ -81,19 +84,20 @@ impl Buffer {
         ensures { self.new ≡ self.old ++ bytes.now }
     {
         let held = self.to - self.from;
+        let run = self.ran - self.from;
         let from = make_room(
             &mut self.bytes,
             &mut self.sums,
             &mut self.crcs,
             self.from,
+            self.ran,
             self.to,
             bytes.len(),
         );
-        let to = from + held;
-        put(&mut self.bytes, to, bytes);
-        run_on(&mut self.sums, &mut self.crcs, to, bytes);
+        put(&mut self.bytes, from + held, bytes);
         self.from = from;
-        self.to = to + bytes.len();
+        self.ran = from + run;
+        self.to = from + held + bytes.len();
     }
 
     /// Lets the first `count` bytes go.
@@ -102,6 +106,21 @@ impl Buffer {
         ensures { self.new ≡ drop count self.old }
     {
         self.from += count;
+        self.ran = self.ran.max(self.from);
+    }
+
+    /// Goes on with the running checks over the first `count` bytes. The check of as many bytes, or of
+    /// fewer, takes a few steps from then on.
+    pub fn run_to(&mut self, count: usize)
+        requires { count ≤ length self.old }
+        ensures { self.new ≡ self.old }
+    {
+        let to = self.from + count;
+        if to <= self.ran {
+            return;
+        }
+        run_on(&mut self.sums, &mut self.crcs, &self.bytes, self.ran, to);
+        self.ran = to;
     }
 
     /// The check of the first `count` bytes, in its first one or two bytes.
@@ -110,8 +129,11 @@ impl Buffer {
         requires there { count ≤ length self.now }
         ensures { take (check_size check) result ≡ check_of check (take count self.now) }
     {
-        are_bytes(self.bytes());
+        let held = self.bytes();
         let to = self.from + count;
+        if to > self.ran {
+            return check_bytes(check, &held[..count]);
+        }
         match check {
             CheckKind::Sum => {
                 let front = self.sums[self.from];
@@ -127,30 +149,32 @@ impl Buffer {
     }
 }
 
-/// Moves the bytes from `from` to `to`, and the running checks before and behind them, so that `count`
-/// more have room, and tells where the bytes begin then.
+/// Moves the bytes from `from` to `to`, and the running checks from `from` to `ran`, so that `count` more
+/// bytes have room, and tells where they begin then.
 fn make_room(
     bytes: &mut [u8; 2880],
     sums: &mut [Sum8; 2881],
     crcs: &mut [Crc16; 2881],
     from: usize,
+    ran: usize,
     to: usize,
     count: usize,
 ) -> usize
-    requires order { from ≤ to }
+    requires order { from ≤ ran }
+    requires run { ran ≤ to }
     requires within { to ≤ 2880 }
     requires room { to - from + count ≤ 1440 }
     ensures bytes { slice_range bytes.new result (result + (to - from)) ≡ slice_range bytes.old from to }
-    ensures sums { slice_range sums.new result (result + (to - from) + 1) ≡ slice_range sums.old from (to + 1) }
-    ensures crcs { slice_range crcs.new result (result + (to - from) + 1) ≡ slice_range crcs.old from (to + 1) }
+    ensures sums { slice_range sums.new result (result + (ran - from) + 1) ≡ slice_range sums.old from (ran + 1) }
+    ensures crcs { slice_range crcs.new result (result + (ran - from) + 1) ≡ slice_range crcs.old from (ran + 1) }
     ensures room { result + (to - from) + count ≤ 2880 }
 {
     if ROOM - to >= count {
         return from;
     }
     move_to_front(bytes, from, to);
-    move_to_front(sums, from, to + 1);
-    move_to_front(crcs, from, to + 1);
+    move_to_front(sums, from, ran + 1);
+    move_to_front(crcs, from, ran + 1);
     0
 }
 
@@ -176,20 +200,28 @@ fn put(buffer: &mut [u8; 2880], at: usize, bytes: &[u8])
     buffer[at..end].copy_from_slice(bytes);
 }
 
-/// Goes on with the running checks behind place `at` by `bytes`.
-fn run_on(sums: &mut [Sum8; 2881], crcs: &mut [Crc16; 2881], at: usize, bytes: &[u8])
-    requires { at + length bytes.now ≤ 2880 }
-    ensures sums_before { take (at + 1) sums.new ≡ take (at + 1) sums.old }
-    ensures crcs_before { take (at + 1) crcs.new ≡ take (at + 1) crcs.old }
-    ensures sums { IsRunning sum_from (slice_range sums.new at (at + length bytes.now + 1)) bytes.now }
-    ensures crcs { IsRunning crc_from (slice_range crcs.new at (at + length bytes.now + 1)) bytes.now }
+/// Goes on with the running checks over the bytes from `from` to `to`.
+fn run_on(
+    sums: &mut [Sum8; 2881],
+    crcs: &mut [Crc16; 2881],
+    bytes: &[u8; 2880],
+    from: usize,
+    to: usize,
+)
+    requires order { from ≤ to }
+    requires within { to ≤ 2880 }
+    ensures sums_before { take (from + 1) sums.new ≡ take (from + 1) sums.old }
+    ensures crcs_before { take (from + 1) crcs.new ≡ take (from + 1) crcs.old }
+    ensures sums { IsRunning sum_from (slice_range sums.new from (to + 1)) (slice_range bytes.now from to) }
+    ensures crcs { IsRunning crc_from (slice_range crcs.new from (to + 1)) (slice_range bytes.now from to) }
 {
-    let mut sum = sums[at];
-    let mut crc = crcs[at];
-    for (place, byte) in bytes.iter().enumerate() {
-        sum.add(*byte);
-        crc.add(*byte);
-        sums[at + place + 1] = sum;
-        crcs[at + place + 1] = crc;
+    let mut sum = sums[from];
+    let mut crc = crcs[from];
+    for place in from..to {
+        let byte = bytes[place];
+        sum.add(byte);
+        crc.add(byte);
+        sums[place + 1] = sum;
+        crcs[place + 1] = crc;
     }
 }

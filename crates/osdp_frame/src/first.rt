@@ -45,7 +45,7 @@ fn check_kind(rest: &[u8]) -> CheckKind
 }
 
 /// The count of the packet's bytes.
-fn count(rest: &[u8]) -> usize
+pub fn count(rest: &[u8]) -> usize
     requires { 5 ≤ length rest.now }
     ensures { result ≡ count_at rest.now }
 {

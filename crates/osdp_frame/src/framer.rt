@@ -7,10 +7,13 @@ ghost use Rattle.osdp_frame.specs.Held.{after_advance, after_gap, after_push, de
 ghost use Rattle.osdp_frame.specs.Reading.{IsFirst, IsUndecided};
 
 use crate::buffer::Buffer;
-use crate::bytes::LARGEST;
-use crate::first::{First, first_item};
+use crate::bytes::{LARGEST, START_OF_MESSAGE, are_bytes};
+use crate::first::{First, count, first_item};
 use crate::item::Item;
 use std::marker::Model;
+
+/// The checks of packets of up to so many bytes are computed as they come: a running check costs as much.
+const SHORT: usize = 32;
 
 /// Finds the items of runs of bytes that come in any pieces. It holds at most 1440 bytes.
 ///
@@ -74,7 +77,7 @@ impl Framer {
         let Some(first) = self.first else { return };
         self.held.advance(first.size());
         let ended = self.ended && self.held.len() > 0;
-        self.first = first_held(&self.held, ended);
+        self.first = first_held(&mut self.held, ended);
         self.ended = ended;
     }
 
@@ -88,7 +91,7 @@ impl Framer {
         }
         let count = self.held.len();
         let ended = count > 0;
-        self.first = decided_again(self.first, count, &self.held, ended);
+        self.first = decided_again(self.first, count, &mut self.held, ended);
         self.ended = ended;
     }
 
@@ -104,29 +107,53 @@ impl Framer {
         let held = self.held.len();
         let count = bytes.len().min(LARGEST - held);
         self.held.push(&bytes[..count]);
-        self.first = decided_again(self.first, held, &self.held, false);
+        self.first = decided_again(self.first, held, &mut self.held, false);
         count
     }
 }
 
 /// The first item of what is held.
-fn first_held(held: &Buffer, ended: bool) -> Option<First>
-    ensures part { part_if result held.now ≡ decided ended held.now }
-    ensures fits { FirstFits (length held.now) result }
+fn first_held(held: &mut Buffer, ended: bool) -> Option<First>
+    ensures same { held.new ≡ held.old }
+    ensures part { part_if result held.new ≡ decided ended held.new }
+    ensures fits { FirstFits (length held.new) result }
 {
+    let count = long_count(held.bytes());
+    held.run_to(count);
     first_item(held.bytes(), Some(held), ended)
+}
+
+/// How many bytes a packet at the head of the rest has, where these are there and are many: else 0.
+fn long_count(rest: &[u8]) -> usize
+    ensures { result ≤ length rest.now }
+{
+    if rest.len() <= SHORT || rest[0] != START_OF_MESSAGE {
+        return 0;
+    }
+    let length = count(rest);
+    if SHORT < length && length <= rest.len() {
+        length
+    } else {
+        0
+    }
 }
 
 /// The first item of what is held, where it was `first` for the first `count` bytes as long as the run
 /// went on.
-fn decided_again(first: Option<First>, count: usize, held: &Buffer, ended: bool) -> Option<First>
-    requires count { count ≤ length held.now }
-    requires first { part_if first (take count held.now) ≡ decided false (take count held.now) }
+fn decided_again(
+    first: Option<First>,
+    count: usize,
+    held: &mut Buffer,
+    ended: bool,
+) -> Option<First>
+    requires count { count ≤ length held.old }
+    requires first { part_if first (take count held.old) ≡ decided false (take count held.old) }
     requires fits { FirstFits count first }
-    ensures part { part_if result held.now ≡ decided ended held.now }
-    ensures fits { FirstFits (length held.now) result }
+    ensures same { held.new ≡ held.old }
+    ensures part { part_if result held.new ≡ decided ended held.new }
+    ensures fits { FirstFits (length held.new) result }
 {
-    let _ = held.bytes();
+    are_bytes(held.bytes());
     match first {
         Some(first) => Some(first),
         None => first_held(held, ended),

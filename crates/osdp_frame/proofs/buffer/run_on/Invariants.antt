@@ -5,6 +5,6 @@ use Rattle.osdp_frame.proofs.buffer.run_on.Given as goal
 
 abbrev pub invariant-loop-place : goal.invariant-loop-place
 invariant-loop-place l = record {
-  sums : HasRun sum_from l.initial.sums l.sums l.at l.bytes l.place l.sum;
-  crcs : HasRun crc_from l.initial.crcs l.crcs l.at l.bytes l.place l.crc;
+  sums : HasRun sum_from l.initial.sums l.sums l.bytes l.from l.place l.sum;
+  crcs : HasRun crc_from l.initial.crcs l.crcs l.bytes l.from l.place l.crc;
 }

@@ -1,4 +1,4 @@
-use Rattle.std.proofs.Common.{◌+◌, ◌-◌, ◌≤◌, length, take, drop, slice_range, ap, sym, subst, ◌∙◌, arith, rules}
+use Rattle.std.proofs.Common.{◌+◌, ◌≤◌, length, take, slice_range, ap, sym, subst, ◌∙◌, arith, rules}
 use Rattle.std.proofs.lemmas.List.{length-take}
 use Rattle.std.proofs.lemmas.Grind.{get_or_default_zero}
 use Rattle.osdp_check.specs.Checksum.{sum_from}
@@ -14,11 +14,12 @@ returns-in-Sum c =
     let b = c.self.inside in
     let count = c.args.count in
     let held = slice_range b.bytes b.from b.to in
-    let there : count ≤ length held = omega (arith, ap length c.self.view_is, c.requires.there) in
-    let within : b.from + count ≤ b.to = omega (arith, c.self.invariant.order, length-take (b.to - b.from) (drop b.from b.bytes)) in
-    let bytes : AreBytes held = subst AreBytes (sym c.self.view_is) c.bytes.ensures.bytes in
+    let size = ap length c.self.view_is in
+    let within : b.from + count ≤ b.ran = omega arith in
+    let bytes : AreBytes held = subst AreBytes (sym c.self.view_is) c.bytes-held.ensures.bytes in
     let is = c.spell_since.ensures.rest (take count held) (omega (arith, length-take count held))
-    (get_or_default_zero b.sums (b.from + count) _ (search rules) ∙ sum_at b.sums b.bytes b.from b.to count bytes c.self.invariant.sums c.requires.some there
+    (get_or_default_zero b.sums (b.from + count) _ (search rules)
+    ∙ sum_at b.sums held b.from b.ran count bytes c.self.invariant.sums c.requires.some (omega arith) (omega arith)
     ∙ ap (λ s. sum_from s (take count held)) (sym (get_or_default_zero b.sums b.from _ (search rules)))) in
     rw c.in-Sum.is (is ∙ ap (λ l. check_of Sum (take count l)) c.self.view_is)
 
@@ -27,10 +28,11 @@ returns-in-Crc c =
     let b = c.self.inside in
     let count = c.args.count in
     let held = slice_range b.bytes b.from b.to in
-    let there : count ≤ length held = omega (arith, ap length c.self.view_is, c.requires.there) in
-    let within : b.from + count ≤ b.to = omega (arith, c.self.invariant.order, length-take (b.to - b.from) (drop b.from b.bytes)) in
-    let bytes : AreBytes held = subst AreBytes (sym c.self.view_is) c.bytes.ensures.bytes in
+    let size = ap length c.self.view_is in
+    let within : b.from + count ≤ b.ran = omega arith in
+    let bytes : AreBytes held = subst AreBytes (sym c.self.view_is) c.bytes-held.ensures.bytes in
     let is = c.spell_since-in-Crc.ensures (take count held) (omega (arith, length-take count held))
-    (get_or_default_zero b.crcs (b.from + count) _ (search rules) ∙ crc_at b.crcs b.bytes b.from b.to count bytes c.self.invariant.crcs c.requires.some there
+    (get_or_default_zero b.crcs (b.from + count) _ (search rules)
+    ∙ crc_at b.crcs held b.from b.ran count bytes c.self.invariant.crcs c.requires.some (omega arith) (omega arith)
     ∙ ap (λ s. crc_from s (take count held)) (sym (get_or_default_zero b.crcs b.from _ (search rules)))) in
     rw c.in-Crc.is (is ∙ ap (λ l. check_of Crc (take count l)) c.self.view_is)
