@@ -4,15 +4,17 @@ use Rattle.osdp_check.specs.Checksum.{sum_from}
 use Rattle.osdp_check.specs.Crc.{crc_from}
 use Rattle.osdp_frame.specs.declared.buffer.Buffer.TheInside.{Inside}
 use Rattle.osdp_frame.specs.Packet.{largest}
-use Rattle.osdp_frame.specs.Running.{IsRunning}
+use Rattle.osdp_frame.specs.Running.{Buffered, IsRunning}
 
--- the bytes held
-abbrev pub buffered : Inside → List ℕ
-buffered b = slice_range b.bytes b.from b.to
+abbrev pub bytes_of : Inside → List ℕ
+bytes_of b = slice_range b.bytes b.from b.to
 
--- those that the running checks have gone over
+abbrev pub buffered : Inside → Buffered
+buffered b = record { bytes = bytes_of b; run = b.ran - b.from }
+
+-- the bytes that the running checks have gone over
 abbrev pub run_over : Inside → List ℕ
-run_over b = take (b.ran - b.from) (buffered b)
+run_over b = take (b.ran - b.from) (bytes_of b)
 
 pub record IsBuffer (b : Inside) : Type 0 where
   pub order : b.from ≤ b.ran

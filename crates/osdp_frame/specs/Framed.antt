@@ -6,12 +6,12 @@ use Rattle.osdp_frame.specs.Held.{Held, decided}
 use Rattle.osdp_frame.specs.First.{part_if, FirstFits}
 
 abbrev pub held_of : Inside → Held
-held_of f = record { bytes = f.held; ended = f.ended }
+held_of f = record { bytes = f.held.bytes; ended = f.ended }
 
 pub record IsFramer (f : Inside) : Type 0 where
-  pub room : length f.held ≤ largest
+  pub room : length f.held.bytes ≤ largest
   -- a run that has ended holds a byte
-  pub some : f.ended ≡ true → 0 < length f.held
+  pub some : f.ended ≡ true → 0 < length f.held.bytes
   -- the first item is decided, and lies within what is held
-  pub first : part_if f.first f.held ≡ decided f.ended f.held
-  pub fits : FirstFits (length f.held) f.first
+  pub first : part_if f.first f.held.bytes ≡ decided f.ended f.held.bytes
+  pub fits : FirstFits (length f.held.bytes) f.first

@@ -1,6 +1,6 @@
 //! The bytes that a framer holds, and the checks of their pieces.
 
-ghost use Rattle.std.specs.Prelude.{◌≡◌, ◌+◌, ◌-◌, ◌≤◌, ◌<◌, [], ◌++◌, length, take, drop, slice_range};
+ghost use Rattle.std.specs.Prelude.{◌≡◌, ◌+◌, ◌-◌, ◌≤◌, ◌<◌, [], ◌++◌, length, max, take, drop, slice_range};
 ghost use Rattle.osdp_check.specs.Checksum.{sum_from};
 ghost use Rattle.osdp_check.specs.Crc.{crc_from};
 ghost use Rattle.osdp_frame.specs.Bytes.{AreBytes};
@@ -8,7 +8,7 @@ ghost use Rattle.osdp_frame.specs.Check.{check_of, check_size};
 ghost use Rattle.osdp_frame.specs.Running.{IsRunning};
 
 use crate::CheckKind;
-use crate::bytes::{are_bytes, check_bytes};
+use crate::bytes::are_bytes;
 use osdp_check::{Check, Crc16, Sum8};
 use std::marker::Model;
 
@@ -33,9 +33,9 @@ pub struct Buffer {
 }
 
 impl Model for Buffer {
-    ghost use Rattle.std.specs.Prelude.{ℕ, List};
+    ghost use Rattle.osdp_frame.specs.Running.{Buffered};
 
-    ghost Value = { List ℕ };
+    ghost Value = { Buffered };
 
     ghost use Rattle.osdp_frame.specs.Buffered.{buffered, IsBuffer};
 
@@ -47,7 +47,7 @@ impl Model for Buffer {
 impl Buffer {
     /// A buffer that holds nothing.
     pub fn new() -> Buffer
-        ensures { result ≡ [] }
+        ensures { result ≡ record { bytes = []; run = 0 } }
     {
         Buffer {
             bytes: [0; 2880],
@@ -61,9 +61,10 @@ impl Buffer {
 
     /// The bytes held.
     pub fn bytes(&self) -> &[u8]
-        ensures value { result.now ≡ self.now }
-        ensures room { length self.now ≤ 1440 }
-        ensures bytes { AreBytes self.now }
+        ensures value { result.now ≡ self.now.bytes }
+        ensures room { length self.now.bytes ≤ 1440 }
+        ensures bytes { AreBytes self.now.bytes }
+        ensures run { self.now.run ≤ length self.now.bytes }
     {
         let held = &self.bytes[self.from..self.to];
         are_bytes(held);
@@ -72,16 +73,23 @@ impl Buffer {
 
     /// How many bytes are held.
     pub fn len(&self) -> usize
-        ensures count { result ≡ length self.now }
+        ensures count { result ≡ length self.now.bytes }
         ensures room { result ≤ 1440 }
     {
         self.bytes().len()
     }
 
+    /// How many of them the running checks have gone over.
+    pub fn run(&self) -> usize
+        ensures { result ≡ self.now.run }
+    {
+        self.ran - self.from
+    }
+
     /// Takes bytes in behind those that are held.
     pub fn push(&mut self, bytes: &[u8])
-        requires { length self.old + length bytes.now ≤ 1440 }
-        ensures { self.new ≡ self.old ++ bytes.now }
+        requires { length self.old.bytes + length bytes.now ≤ 1440 }
+        ensures { self.new ≡ record self.old { bytes = self.old.bytes ++ bytes.now } }
     {
         let held = self.to - self.from;
         let run = self.ran - self.from;
@@ -102,18 +110,17 @@ impl Buffer {
 
     /// Lets the first `count` bytes go.
     pub fn advance(&mut self, count: usize)
-        requires { count ≤ length self.old }
-        ensures { self.new ≡ drop count self.old }
+        requires { count ≤ length self.old.bytes }
+        ensures { self.new ≡ record { bytes = drop count self.old.bytes; run = self.old.run - count } }
     {
         self.from += count;
         self.ran = self.ran.max(self.from);
     }
 
-    /// Goes on with the running checks over the first `count` bytes. The check of as many bytes, or of
-    /// fewer, takes a few steps from then on.
+    /// Goes on with the running checks until they have gone over the first `count` bytes.
     pub fn run_to(&mut self, count: usize)
-        requires { count ≤ length self.old }
-        ensures { self.new ≡ self.old }
+        requires { count ≤ length self.old.bytes }
+        ensures { self.new ≡ record self.old { run = max self.old.run count } }
     {
         let to = self.from + count;
         if to <= self.ran {
@@ -123,17 +130,14 @@ impl Buffer {
         self.ran = to;
     }
 
-    /// The check of the first `count` bytes, in its first one or two bytes.
+    /// The check of the first `count` bytes, in its first one or two bytes. It takes a few steps.
     pub fn check(&self, check: CheckKind, count: usize) -> [u8; 2]
         requires some { 0 < count }
-        requires there { count ≤ length self.now }
-        ensures { take (check_size check) result ≡ check_of check (take count self.now) }
+        requires run { count ≤ self.now.run }
+        ensures { take (check_size check) result ≡ check_of check (take count self.now.bytes) }
     {
-        let held = self.bytes();
+        are_bytes(self.bytes());
         let to = self.from + count;
-        if to > self.ran {
-            return check_bytes(check, &held[..count]);
-        }
         match check {
             CheckKind::Sum => {
                 let front = self.sums[self.from];

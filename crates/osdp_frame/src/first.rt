@@ -53,22 +53,22 @@ pub fn count(rest: &[u8]) -> usize
 }
 
 /// The check of the first `count` bytes of the rest, in its first one or two bytes. Where the rest lies
-/// in a buffer it takes a few steps.
+/// in a buffer whose running checks have gone over them it takes a few steps.
 fn front_check(rest: &[u8], held: Option<&Buffer>, check: CheckKind, count: usize) -> [u8; 2]
-    requires held { IfSome held (λ buffer. buffer.now ≡ rest.now) }
+    requires held { IfSome held (λ buffer. buffer.now.bytes ≡ rest.now) }
     requires some { 0 < count }
     requires there { count ≤ length rest.now }
     ensures { take (check_size check) result ≡ check_of check (take count rest.now) }
 {
     match held {
-        Some(buffer) => buffer.check(check, count),
-        None => check_bytes(check, &rest[..count]),
+        Some(buffer) if count <= buffer.run() => buffer.check(check, count),
+        Some(_) | None => check_bytes(check, &rest[..count]),
     }
 }
 
 /// Whether the bytes of the packet end with the check of those before it.
 fn is_checked(rest: &[u8], held: Option<&Buffer>, check: CheckKind, length: usize) -> bool
-    requires held { IfSome held (λ buffer. buffer.now ≡ rest.now) }
+    requires held { IfSome held (λ buffer. buffer.now.bytes ≡ rest.now) }
     requires check { check ≡ check_at rest.now }
     requires count { length ≡ count_at rest.now }
     requires some { check_size check < length }
@@ -104,7 +104,7 @@ fn heading_at(rest: &[u8], check: CheckKind, length: usize) -> Heading
 /// What a start of message begins. A packet's check is computed only where its bytes are there.
 fn begun(rest: &[u8], held: Option<&Buffer>, ended: bool) -> Option<First>
     requires some { 1 ≤ length rest.now }
-    requires held { IfSome held (λ buffer. buffer.now ≡ rest.now) }
+    requires held { IfSome held (λ buffer. buffer.now.bytes ≡ rest.now) }
     ensures part { part_if result rest.now ≡ begun ended rest.now }
     ensures fits { FirstFits (length rest.now) result }
 {
@@ -138,7 +138,7 @@ fn begun(rest: &[u8], held: Option<&Buffer>, ended: bool) -> Option<First>
 /// are in, if any.
 #[tactic(auto, unfolding(crate::specs::Held::decided))]
 pub fn first_item(rest: &[u8], held: Option<&Buffer>, ended: bool) -> Option<First>
-    requires { IfSome held (λ buffer. buffer.now ≡ rest.now) }
+    requires { IfSome held (λ buffer. buffer.now.bytes ≡ rest.now) }
     ensures part { part_if result rest.now ≡ decided ended rest.now }
     ensures fits { FirstFits (length rest.now) result }
 {

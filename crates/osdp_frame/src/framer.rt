@@ -114,9 +114,9 @@ impl Framer {
 
 /// The first item of what is held.
 fn first_held(held: &mut Buffer, ended: bool) -> Option<First>
-    ensures same { held.new ≡ held.old }
-    ensures part { part_if result held.new ≡ decided ended held.new }
-    ensures fits { FirstFits (length held.new) result }
+    ensures same { held.new.bytes ≡ held.old.bytes }
+    ensures part { part_if result held.new.bytes ≡ decided ended held.new.bytes }
+    ensures fits { FirstFits (length held.new.bytes) result }
 {
     let count = long_count(held.bytes());
     held.run_to(count);
@@ -146,12 +146,12 @@ fn decided_again(
     held: &mut Buffer,
     ended: bool,
 ) -> Option<First>
-    requires count { count ≤ length held.old }
-    requires first { part_if first (take count held.old) ≡ decided false (take count held.old) }
+    requires count { count ≤ length held.old.bytes }
+    requires first { part_if first (take count held.old.bytes) ≡ decided false (take count held.old.bytes) }
     requires fits { FirstFits count first }
-    ensures same { held.new ≡ held.old }
-    ensures part { part_if result held.new ≡ decided ended held.new }
-    ensures fits { FirstFits (length held.new) result }
+    ensures same { held.new.bytes ≡ held.old.bytes }
+    ensures part { part_if result held.new.bytes ≡ decided ended held.new.bytes }
+    ensures fits { FirstFits (length held.new.bytes) result }
 {
     are_bytes(held.bytes());
     match first {

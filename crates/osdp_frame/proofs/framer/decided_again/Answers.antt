@@ -6,7 +6,7 @@ use Rattle.osdp_frame.proofs.framer.decided_again.Goals as goal
 
 pub returns-in-Some-clause-part : goal.returns-in-Some-clause-part
 returns-in-Some-clause-part c =
-    let held = c.args.held.now in
+    let held = c.args.held.now.bytes in
     let count = c.args.count in
     part_if-more c.in-Some.first count held c.args.ended c.requires.count c.bytes.ensures.bytes
     (subst (λ f. FirstFits count f) c.in-Some.is c.requires.fits)

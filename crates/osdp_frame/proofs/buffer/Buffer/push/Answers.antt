@@ -1,6 +1,7 @@
 use Rattle.std.proofs.Common.{◌≡◌, ◌+◌, ◌-◌, ◌++◌, length, slice_range, ap, ◌∙◌, arith}
 use Rattle.osdp_check.specs.Checksum.{sum_from}
 use Rattle.osdp_check.specs.Crc.{crc_from}
+use Rattle.osdp_frame.specs.Running.{Buffered}
 use Rattle.osdp_frame.proofs.Buffering.{written_behind, run_kept}
 use Rattle.osdp_frame.proofs.Running.{length-slice}
 use Rattle.osdp_frame.proofs.buffer.Buffer.push.Goals as goal
@@ -21,7 +22,7 @@ invariant_of-self c =
       order = omega arith;
       run = omega arith;
       within = c.make_room-from.ensures.room;
-      room = omega (arith, ap length c.self.view_is);
+      room = omega (arith, ap (λ (v : Buffered). length v.bytes) c.self.view_is);
       sums = run_kept sum_from b.sums c.make_room-from.new.sums held c.args.bytes.now bytes b.from b.ran at (omega arith) all c.make_room-from.ensures.sums i.sums;
       crcs = run_kept crc_from b.crcs c.make_room-from.new.crcs held c.args.bytes.now bytes b.from b.ran at (omega arith) all c.make_room-from.ensures.crcs i.crcs;
     }
@@ -32,5 +33,8 @@ returns c =
     let at = c.make_room-from.result in
     let n = b.to - b.from in
     let k = length c.args.bytes.now in
-    written_behind c.put.new.buffer c.make_room-from.new.bytes at n k c.put.ensures.before
-    ∙ (λ j. c.make_room-from.ensures.bytes j ++ c.put.ensures.there j) ∙ ap (λ l. l ++ c.args.bytes.now) c.self.view_is
+    let all = written_behind c.put.new.buffer c.make_room-from.new.bytes at n k c.put.ensures.before
+      ∙ (λ j. c.make_room-from.ensures.bytes j ++ c.put.ensures.there j) in
+    let run : at + (b.ran - b.from) - at ≡ b.ran - b.from = omega arith in
+    (λ j. record { bytes = all j; run = run j })
+    ∙ ap (λ (v : Buffered). record v { bytes = v.bytes ++ c.args.bytes.now }) c.self.view_is

@@ -1,6 +1,7 @@
 use Rattle.std.proofs.Common.{◌+◌, ◌≤◌, length, ap, arith}
 use Rattle.osdp_check.specs.Checksum.{sum_from}
 use Rattle.osdp_check.specs.Crc.{crc_from}
+use Rattle.osdp_frame.specs.Running.{Buffered}
 use Rattle.osdp_frame.proofs.Buffering.{run_further}
 use Rattle.osdp_frame.proofs.Running.{length-slice}
 use Rattle.osdp_frame.proofs.buffer.Buffer.run_to.Goals as goal
@@ -11,7 +12,7 @@ invariant_of-self c =
     let i = c.self.invariant in
     let end = b.from + c.args.count in
     let size = length-slice b.bytes b.from b.to (omega arith) (omega (arith, i.within)) in
-    let there : end ≤ b.to = omega (arith, ap length c.self.view_is) in
+    let there : end ≤ b.to = omega (arith, ap (λ (v : Buffered). length v.bytes) c.self.view_is) in
     record {
       order = omega arith;
       run = there;
