@@ -131,6 +131,7 @@ impl Buffer {
     }
 
     /// The check of the first `count` bytes, in its first one or two bytes. It takes a few steps.
+    #[inline(never)]
     pub fn check(&self, check: CheckKind, count: usize) -> [u8; 2]
         requires some { 0 < count }
         requires run { count ≤ self.now.run }
@@ -205,6 +206,7 @@ fn put(buffer: &mut [u8; 2880], at: usize, bytes: &[u8])
 }
 
 /// Goes on with the running checks over the bytes from `from` to `to`.
+#[inline(never)]
 fn run_on(
     sums: &mut [Sum8; 2881],
     crcs: &mut [Crc16; 2881],

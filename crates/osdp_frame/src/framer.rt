@@ -113,6 +113,7 @@ impl Framer {
 }
 
 /// The first item of what is held.
+#[inline(always)]
 fn first_held(held: &mut Buffer, ended: bool) -> Option<First>
     ensures same { held.new.bytes ≡ held.old.bytes }
     ensures part { part_if result held.new.bytes ≡ decided ended held.new.bytes }

@@ -34,7 +34,7 @@ returns c =
     let n = b.to - b.from in
     let k = length c.args.bytes.now in
     let all = written_behind c.put.new.buffer c.make_room-from.new.bytes at n k c.put.ensures.before
-      ∙ (λ j. c.make_room-from.ensures.bytes j ++ c.put.ensures.there j) in
+    ∙ (λ j. c.make_room-from.ensures.bytes j ++ c.put.ensures.there j) in
     let run : at + (b.ran - b.from) - at ≡ b.ran - b.from = omega arith in
     (λ j. record { bytes = all j; run = run j })
     ∙ ap (λ (v : Buffered). record v { bytes = v.bytes ++ c.args.bytes.now }) c.self.view_is
