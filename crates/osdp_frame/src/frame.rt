@@ -15,7 +15,7 @@ use std::marker::Model;
 pub type Burst = ArrayVec<u8, 1440>;
 
 /// A packet with a body of its own: at least one byte, and at most 1440 bytes in the whole packet.
-#[derive(Debug, Drop)]
+#[derive(Debug, Drop, PartialEq, Eq)]
 pub struct Frame {
     reply: bool,
     address: Address,
@@ -36,6 +36,16 @@ impl Model for Frame {
 
     ghost invariant = { λ f.
         IsPacket (packed f.reply f.address f.seq f.check f.block f.reserved f.body.items) };
+
+    ghost inverse = { λ p. record {
+      reply = p.reply;
+      address = p.address;
+      seq = p.sequence;
+      check = p.check;
+      block = p.block;
+      reserved = p.reserved;
+      body = record { items = p.body };
+    } };
 }
 
 impl Frame {

@@ -112,6 +112,14 @@ impl Framer {
     }
 }
 
+impl Default for Framer {
+    ghost is_default = { λ f. f ≡ new_run };
+
+    fn default() -> Framer {
+        Framer::new()
+    }
+}
+
 /// The first item of what is held.
 #[inline(always)]
 fn first_held(held: &mut Buffer, ended: bool) -> Option<First>

@@ -10,7 +10,7 @@ use crate::item::Item;
 use crate::{Frame, FrameFault};
 
 /// One item of a run, with a packet of its own.
-#[derive(Debug, Drop)]
+#[derive(Debug, Drop, PartialEq, Eq)]
 pub enum ReadItem {
     /// A packet stands here.
     Packet(Frame),

@@ -1,0 +1,4 @@
+pub mod CutLemmas
+pub mod RunsLemmas
+pub mod FormLemmas
+pub mod Bytes

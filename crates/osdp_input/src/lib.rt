@@ -1,0 +1,8 @@
+//! The input of a capture: lines of hexadecimal digits, cut into runs of bytes.
+#![tactic(auto)]
+
+mod form;
+mod line;
+
+pub use form::Form;
+pub use line::{keep, read_digits};

@@ -1,0 +1,3 @@
+pub mod ItemText
+pub mod Tally
+pub mod Told

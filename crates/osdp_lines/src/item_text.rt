@@ -1,0 +1,185 @@
+//! The lines of items.
+
+ghost use Rattle.std.specs.Prelude.{◌≡◌, ◌++◌, ◌+◌, ◌<◌, ◌^◌, ℕ, true, false, length, OnOk, IfOk, string_bytes, codes};
+ghost use Rattle.std.specs.Fmt.{decimal};
+ghost use Rattle.osdp_frame.specs.Reading.{Whole, Passed, Bad};
+ghost use Rattle.osdp_lines.specs.ItemText.{fault_name, is_refusal, item_line, counts_line};
+ghost use Rattle.osdp_lines.specs.Told.{part_line, end_line};
+
+use crate::hex_text::push_bytes;
+use crate::message_text::{is_refused, push_command, push_reply};
+use crate::packet_text::push_head;
+use crate::tally::Tally;
+use osdp_frame::{FrameFault, FrameView};
+use osdp_msg::{Command, Reply};
+use std::alloc::AllocError;
+
+/// Writes the number of the run, from 1, and the place in it.
+fn push_front(text: &mut String, tally: &Tally) -> Result<(), AllocError>
+    requires { tally.now.runs + 1 < 2 ^ 64 }
+    ensures { OnOk result (string_bytes text.new ≡ string_bytes text.old
+        ++ (decimal (tally.now.runs + 1) ++ (codes ":" ++ (decimal tally.now.place ++ codes " ")))) }
+{
+    let run = tally.runs + 1;
+    let place = tally.place;
+    write!(text, "{run}:{place} ")
+}
+
+/// Writes the line of a packet whose body is left unread.
+fn push_unread_packet(
+    text: &mut String,
+    full: bool,
+    tally: &Tally,
+    view: &FrameView<'_>,
+) -> Result<bool, AllocError>
+    requires room { tally.now.runs + 1 < 2 ^ 64 }
+    requires block { view.now.block ≡ true }
+    ensures refused { IfOk result (λ refused. refused ≡ is_refusal (Whole view.now)) }
+    ensures line { OnOk result (string_bytes text.new ≡ string_bytes text.old ++ part_line full tally.now (Whole view.now)) }
+{
+    if !full {
+        return Ok(false);
+    }
+    push_front(text, tally)?;
+    push_head(text, view)?;
+    text.push_str(" block ")?;
+    push_bytes(text, view.body())?;
+    text.push_str("\n")?;
+    Ok(false)
+}
+
+/// Writes the line of a command, and says whether it is refused.
+fn push_command_packet(
+    text: &mut String,
+    full: bool,
+    tally: &Tally,
+    view: &FrameView<'_>,
+) -> Result<bool, AllocError>
+    requires room { tally.now.runs + 1 < 2 ^ 64 }
+    requires block { view.now.block ≡ false }
+    requires command { view.now.reply ≡ false }
+    ensures refused { IfOk result (λ refused. refused ≡ is_refusal (Whole view.now)) }
+    ensures line { OnOk result (string_bytes text.new ≡ string_bytes text.old ++ part_line full tally.now (Whole view.now)) }
+{
+    let code = view.code();
+    let bytes = view.payload();
+    let read = Command::read(code, bytes);
+    let refused = is_refused(&read);
+    if !full && !refused {
+        return Ok(false);
+    }
+    push_front(text, tally)?;
+    push_head(text, view)?;
+    text.push_str(" ")?;
+    push_command(text, &read, code, bytes)?;
+    text.push_str("\n")?;
+    Ok(refused)
+}
+
+/// Writes the line of a reply, and says whether it is refused.
+fn push_reply_packet(
+    text: &mut String,
+    full: bool,
+    tally: &Tally,
+    view: &FrameView<'_>,
+) -> Result<bool, AllocError>
+    requires room { tally.now.runs + 1 < 2 ^ 64 }
+    requires block { view.now.block ≡ false }
+    requires reply { view.now.reply ≡ true }
+    ensures refused { IfOk result (λ refused. refused ≡ is_refusal (Whole view.now)) }
+    ensures line { OnOk result (string_bytes text.new ≡ string_bytes text.old ++ part_line full tally.now (Whole view.now)) }
+{
+    let code = view.code();
+    let bytes = view.payload();
+    let read = Reply::read(code, bytes);
+    let refused = is_refused(&read);
+    if !full && !refused {
+        return Ok(false);
+    }
+    push_front(text, tally)?;
+    push_head(text, view)?;
+    text.push_str(" ")?;
+    push_reply(text, &read, code, bytes)?;
+    text.push_str("\n")?;
+    Ok(refused)
+}
+
+/// Writes the line of a packet, in full or where its message is refused, and says whether it is.
+pub(crate) fn push_packet(
+    text: &mut String,
+    full: bool,
+    tally: &Tally,
+    view: &FrameView<'_>,
+) -> Result<bool, AllocError>
+    requires { tally.now.runs + 1 < 2 ^ 64 }
+    ensures refused { IfOk result (λ refused. refused ≡ is_refusal (Whole view.now)) }
+    ensures line { OnOk result (string_bytes text.new ≡ string_bytes text.old ++ part_line full tally.now (Whole view.now)) }
+{
+    if view.has_block() {
+        return push_unread_packet(text, full, tally, view);
+    }
+    if view.is_reply() {
+        return push_reply_packet(text, full, tally, view);
+    }
+    push_command_packet(text, full, tally, view)
+}
+
+/// Writes the line of a skipped byte, in full.
+pub(crate) fn push_skipped(
+    text: &mut String,
+    full: bool,
+    tally: &Tally,
+    byte: u8,
+) -> Result<(), AllocError>
+    requires { tally.now.runs + 1 < 2 ^ 64 }
+    ensures { OnOk result (string_bytes text.new ≡ string_bytes text.old ++ part_line full tally.now (Passed byte)) }
+{
+    if !full {
+        return Ok(());
+    }
+    push_front(text, tally)?;
+    text.push_str("skip ")?;
+    push_bytes(text, &[byte])?;
+    text.push_str("\n")
+}
+
+fn fault_name(fault: FrameFault) -> &'static str
+    ensures { result.now ≡ fault_name fault }
+{
+    match fault {
+        FrameFault::TooShort => "F1",
+        FrameFault::TooLong => "F2",
+        FrameFault::BadCheck => "F3",
+        FrameFault::Ended => "F4",
+    }
+}
+
+/// Writes the line of a refused byte.
+pub(crate) fn push_fault(
+    text: &mut String,
+    full: bool,
+    tally: &Tally,
+    fault: FrameFault,
+) -> Result<(), AllocError>
+    requires { tally.now.runs + 1 < 2 ^ 64 }
+    ensures { OnOk result (string_bytes text.new ≡ string_bytes text.old ++ part_line full tally.now (Bad fault)) }
+{
+    push_front(text, tally)?;
+    text.push_str("refused ")?;
+    text.push_str(fault_name(fault))?;
+    text.push_str("\n")
+}
+
+/// Writes the line of counts, where not all items have one.
+pub fn push_end(text: &mut String, full: bool, tally: &Tally) -> Result<(), AllocError>
+    ensures { OnOk result (string_bytes text.new ≡ string_bytes text.old ++ end_line full tally.now) }
+{
+    if full {
+        return Ok(());
+    }
+    let runs = tally.runs;
+    let packets = tally.packets;
+    let skipped = tally.skipped;
+    let refused = tally.refused;
+    write!(text, "runs {runs} packets {packets} skipped {skipped} refused {refused}\n")
+}

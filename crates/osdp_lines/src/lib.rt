@@ -1,0 +1,13 @@
+//! The lines that tell what stands in runs of bytes.
+#![tactic(auto)]
+
+mod hex_text;
+mod item_text;
+mod message_text;
+mod packet_text;
+mod tally;
+mod telling;
+
+pub use item_text::push_end;
+pub use tally::Tally;
+pub use telling::tell;

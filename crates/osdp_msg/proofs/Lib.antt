@@ -1,0 +1,4 @@
+pub mod Table
+pub mod Texts
+pub mod Commands
+pub mod Replies

@@ -1,0 +1,21 @@
+use Rattle.std.proofs.Common.{refl}
+use Rattle.osdp_frame.specs.Shown.{part_of}
+use Rattle.osdp_tool.specs.declared.report.Report.{Report}
+use Rattle.osdp_stream.specs.Watched.{inner_of}
+use Rattle.osdp_tool.proofs.Reports.{tells_one, tells_kept, on_ok_both}
+use Rattle.osdp_tool.proofs.report.Report.tell.Goals as goal
+
+pub returns-then-len-lt-GATHERED-clause-tells : goal.returns-then-len-lt-GATHERED-clause-tells
+returns-then-len-lt-GATHERED-clause-tells g c =
+    tells_one (g.W.Write.contents (inner_of c.args.output.now)) c.args.self.now
+    (record { full = c.args.self.now.full; tally = c.tell.new.tally; text = c.tell.new.text }) (part_of c.args.item.now) refl
+    c.in-Ok.ensures.tally c.in-Ok.ensures.line
+
+pub returns-clause-tells : goal.returns-clause-tells
+returns-clause-tells g c =
+    let mid : Report = record { full = c.args.self.now.full; tally = c.tell.new.tally; text = c.tell.new.text } in
+    on_ok_both c.write_out.result
+    (λ kept same. tells_kept c.args.self.now mid c.write_out.new.self _ _ _ _
+      (tells_one (g.W.Write.contents (inner_of c.args.output.now)) c.args.self.now mid (part_of c.args.item.now) refl c.in-Ok.ensures.tally c.in-Ok.ensures.line)
+      kept same)
+    c.write_out.ensures.same c.write_out.ensures.told

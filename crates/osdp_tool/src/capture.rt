@@ -1,0 +1,197 @@
+//! A capture: its lines, and the runs of bytes that stand in them.
+
+ghost use Rattle.std.specs.Prelude.{◌≡◌, ◌+◌, ◌*◌, ◌<◌, ◌^◌, ◌++◌, ℕ, List, [], ◌∷◌, Bool, true, false, length, Option, OnOk, IfOk, IfErr, MatchOption};
+ghost use Rattle.osdp_stream.specs.Watched.{inner_of, has_failed};
+ghost use Rattle.osdp_input.specs.Cut.{line_feed, IsLine};
+ghost use Rattle.osdp_tool.specs.Machine.{told, IsStep, IsSettled};
+ghost use Rattle.osdp_tool.specs.Feeds.{HasLine};
+
+use crate::report::Report;
+use crate::runs::{end_run, take};
+use osdp_frame::Framer;
+use osdp_input::{Form, keep, read_digits};
+use osdp_lines::Tally;
+use osdp_stream::{ToolFault, Watched};
+use std::alloc::Global;
+use std::io::Write;
+
+/// So much text has room from the start, which is more than the lines of one item need.
+const ROOM: usize = 49152;
+
+/// A capture that is read.
+#[derive(Debug, Drop)]
+pub struct Capture {
+    pub form: Form,
+    /// The characters that count of the line that has not ended.
+    pub line: Vec<u8>,
+    /// The bytes of the line that ended last.
+    pub bytes: Vec<u8>,
+    /// How many lines have ended.
+    pub ended: u64,
+    pub framer: Framer,
+    pub report: Report,
+}
+
+impl Capture {
+    ghost use Rattle.osdp_tool.specs.Capture.{load, Follows, TookPiece, TookPart};
+
+    /// Nothing has been read.
+    pub fn new(alloc: Global, full: bool, form: Form) -> Result<Capture, ToolFault>
+        ensures follows { IfOk result (λ capture. (start : Option (List ℕ)) → Follows full form start [] capture (told start capture.report)) }
+        ensures settled { IfOk result (λ capture. IsSettled capture.framer) }
+        ensures load { IfOk result (λ capture. load capture ≡ 0) }
+        ensures form { IfOk result (λ capture. capture.form ≡ form) }
+        ensures fault { IfErr result (λ fault. fault ≡ ToolFault.NoMemory) }
+    {
+        let Ok(text) = String::with_capacity(alloc, ROOM) else {
+            return Err(ToolFault::NoMemory);
+        };
+        let tally = Tally::new();
+        Ok(Capture {
+            form,
+            line: Vec::new(alloc),
+            bytes: Vec::new(alloc),
+            ended: 0,
+            framer: Framer::new(),
+            report: Report { full, tally, text },
+        })
+    }
+
+    /// The line goes on by these characters.
+    fn hold(&mut self, characters: &[u8]) -> Result<(), ToolFault>
+        requires settled { IsSettled self.old.framer }
+        requires lines { self.old.form ≡ Form.Raw → ⊥ }
+        requires line { IsLine characters.now }
+        ensures step { (failed : Bool) → IsStep result failed failed }
+        ensures took { OnOk result ((now : Option (List ℕ)) → TookPiece characters.now true self.old self.new now now) }
+        ensures report { OnOk result (self.new.report ≡ self.old.report) }
+    {
+        match keep(&mut self.line, characters) {
+            Ok(()) => Ok(()),
+            Err(_) => Err(ToolFault::NoMemory),
+        }
+    }
+
+    /// The line has ended; false where it is bad.
+    fn end_line<W: Write>(&mut self, output: &mut Watched<W>) -> Result<bool, ToolFault>
+        requires settled { IsSettled self.old.framer }
+        requires lines { self.old.form ≡ Form.Raw → ⊥ }
+        requires load { load self.old < 2 ^ 61 }
+        ensures step { IsStep result (has_failed output.old) (has_failed output.new) }
+        ensures took { IfOk result (λ good. TookPiece (line_feed ∷ []) good self.old self.new
+            (told (W.contents (inner_of output.old)) self.old.report) (told (W.contents (inner_of output.new)) self.new.report)) }
+    {
+        let good = match read_digits(&self.line, &mut self.bytes) {
+            Ok(good) => good,
+            Err(_) => return Err(ToolFault::NoMemory),
+        };
+        self.line.clear();
+        self.ended += 1;
+        if !good {
+            return Ok(false);
+        }
+        take(&mut self.framer, &mut self.report, &self.bytes, output)?;
+        match self.form {
+            Form::Raw => Ok(true),
+            Form::Joined => Ok(true),
+            Form::Apart => {
+                end_run(&mut self.framer, &mut self.report, output)?;
+                Ok(true)
+            }
+        }
+    }
+
+    /// The lines go on by these bytes; false where a bad line has ended.
+    fn take_lines<W: Write>(
+        &mut self,
+        piece: &[u8],
+        output: &mut Watched<W>,
+    ) -> Result<bool, ToolFault>
+        requires settled { IsSettled self.old.framer }
+        requires lines { self.old.form ≡ Form.Raw → ⊥ }
+        requires load { load self.old + 5 * length piece.now < 2 ^ 61 }
+        ensures step { IsStep result (has_failed output.old) (has_failed output.new) }
+        ensures took { IfOk result (λ good. TookPart piece.now good self.old self.new
+            (told (W.contents (inner_of output.old)) self.old.report) (told (W.contents (inner_of output.new)) self.new.report)) }
+    {
+        let mut at = 0;
+        'lines: while let Some(length) = line_length(&piece[at..]) {
+            self.hold(&piece[at..at + length])?;
+            at += length + 1;
+            if !self.end_line(output)? {
+                return Ok(false);
+            }
+        }
+        self.hold(&piece[at..])?;
+        Ok(true)
+    }
+
+    /// The capture goes on by these bytes; false where a bad line has ended.
+    pub fn take<W: Write>(
+        &mut self,
+        piece: &[u8],
+        output: &mut Watched<W>,
+    ) -> Result<bool, ToolFault>
+        requires settled { IsSettled self.old.framer }
+        requires load { load self.old + 5 * length piece.now < 2 ^ 61 }
+        ensures step { IsStep result (has_failed output.old) (has_failed output.new) }
+        ensures took { IfOk result (λ good. TookPart piece.now good self.old self.new
+            (told (W.contents (inner_of output.old)) self.old.report) (told (W.contents (inner_of output.new)) self.new.report)) }
+    {
+        match self.form {
+            Form::Raw => {
+                take(&mut self.framer, &mut self.report, piece, output)?;
+                Ok(true)
+            }
+            Form::Joined | Form::Apart => self.take_lines(piece, output),
+        }
+    }
+}
+
+impl Capture {
+    ghost use Rattle.osdp_tool.specs.Capture.{load};
+    ghost use Rattle.osdp_tool.specs.Works.{Closed, EndsLine};
+
+    /// The input has ended, and with it its last line; false where that is bad.
+    pub fn end_last_line<W: Write>(
+        &mut self,
+        output: &mut Watched<W>,
+    ) -> Result<bool, ToolFault>
+        requires settled { IsSettled self.old.framer }
+        requires load { load self.old < 2 ^ 61 }
+        ensures step { IsStep result (has_failed output.old) (has_failed output.new) }
+        ensures ends { IfOk result (λ good. EndsLine good self.old self.new
+            (told (W.contents (inner_of output.old)) self.old.report) (told (W.contents (inner_of output.new)) self.new.report)) }
+    {
+        match self.form {
+            Form::Raw => Ok(true),
+            Form::Joined => self.end_line(output),
+            Form::Apart => self.end_line(output),
+        }
+    }
+
+    /// The run ends here: its last items are told, then the counts where they are wanted, and all of it is
+    /// written.
+    pub fn close<W: Write>(&mut self, output: &mut Watched<W>) -> Result<(), ToolFault>
+        requires settled { IsSettled self.old.framer }
+        requires load { load self.old < 2 ^ 61 }
+        ensures step { IsStep result (has_failed output.old) (has_failed output.new) }
+        ensures closed { OnOk result (Closed self.old self.new
+            (told (W.contents (inner_of output.old)) self.old.report) (W.contents (inner_of output.new))) }
+    {
+        end_run(&mut self.framer, &mut self.report, output)?;
+        self.report.end(output)
+    }
+}
+
+/// How many bytes stand before the first line feed.
+fn line_length(bytes: &[u8]) -> Option<usize>
+    ensures { MatchOption result (IsLine bytes.now) (λ length. HasLine bytes.now length) }
+{
+    for (i, byte) in bytes.iter().enumerate() {
+        if *byte == b'\n' {
+            return Some(i);
+        }
+    }
+    None
+}

@@ -1,0 +1,17 @@
+//! What is printed, in the words of captures. The functions have no code: each states a law for all inputs,
+//! and its proof is the law's.
+
+ghost use Rattle.osdp_tool.specs.Told.{ShowsReadings, ShowsDecided};
+
+/// The text of an input is that of the readings of its runs, each item one line with the number of its run and
+/// its place; in `check` the refusals alone, and the counts.
+pub fn shows_readings()
+    ensures { ShowsReadings }
+{
+}
+
+/// The text of an input that is cut off is that of the items which its bytes decide.
+pub fn shows_decided()
+    ensures { ShowsDecided }
+{
+}

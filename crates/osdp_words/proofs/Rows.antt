@@ -1,0 +1,170 @@
+-- For callers: the values of several words, put together of what was taken for their parts.
+use Rattle.std.proofs.Common.{◌≡◌, ℕ, zero, suc, ◌<◌, List, [], ◌∷◌, ◌++◌, length, get_or, Bool, true, false, Option, Some, None, refl, sym, ap, subst, ◌∙◌, arith}
+use Rattle.std.proofs.lemmas.List.{append-nil, append_assoc, nil_from_length}
+use Rattle.std.proofs.lemmas.Bool.{false≢true}
+use Rattle.std.specs.Prelude.{IfSome, IsTrue, ◌↔◌, option_map}
+use Rattle.std.specs.Bool.{then_some}
+use Rattle.std.specs.List.{AllByRecursion}
+use Rattle.hex.specs.Hex.{IsBytes}
+use Rattle.osdp_words.specs.Reading.{ReadsWords, Takes}
+use Rattle.osdp_words.specs.Word.{AllStandFor, Word, plain}
+
+-- ---- lists of words
+
+stand-append : (ws vs : List Word) (a b : List (List ℕ)) → AllStandFor ws a → AllStandFor vs b → AllStandFor (ws ++ vs) (a ++ b)
+stand-append [] vs [] b h k = k
+stand-append [] vs (text ∷ a) b h k = absurd h
+stand-append (w ∷ ws) vs [] b h k = absurd h
+stand-append (w ∷ ws) vs (text ∷ a) b h k = (h.0, stand-append ws vs a b h.1 k)
+
+stand_parts : (ws vs : List Word) (texts : List (List ℕ)) → AllStandFor (ws ++ vs) texts
+    → (a : List (List ℕ)) × (b : List (List ℕ)) × (texts ≡ a ++ b) × AllStandFor ws a × AllStandFor vs b
+stand_parts [] vs texts h = ([], texts, refl, tt, h)
+stand_parts (w ∷ ws) vs [] h = absurd h
+stand_parts (w ∷ ws) vs (text ∷ texts) h =
+    let r = stand_parts ws vs texts h.1 in
+    (text ∷ r.0, r.1, ap (λ (rest : List (List ℕ)). text ∷ rest) r.2, (h.0, r.3), r.4)
+
+-- ---- a value of a part's value
+
+-- f makes a value of what was taken, and g gives back what it was made of
+pub record IsMadeOf {A B : Type 0} (words : A → List Word) (Allowed : A → Type 0) (made_words : B → List Word) (Fits : B → Type 0) (f : A → B) (g : B → A) : Type 0 where
+  pub back : (b : B) → Fits b → f (g b) ≡ b
+  pub parts_allowed : (b : B) → Fits b → Allowed (g b)
+  pub parts_words : (b : B) → Fits b → made_words b ≡ words (g b)
+  pub fits : (a : A) → Allowed a → Fits (f a)
+  pub same_words : (a : A) → Allowed a → made_words (f a) ≡ words a
+
+module _ {A B : Type 0} (words : A → List Word) (Allowed : A → Type 0) (made_words : B → List Word) (Fits : B → Type 0) (f : A → B) (g : B → A) (made : IsMadeOf words Allowed made_words Fits f g) (given left : List (List ℕ)) where
+  made_value : (r : Option A) → IfSome r (λ a. (first : List (List ℕ)) × (given ≡ first ++ left) × AllStandFor (words a) first × Allowed a)
+      → IfSome (option_map f r) (λ b. (first : List (List ℕ)) × (given ≡ first ++ left) × AllStandFor (made_words b) first × Fits b)
+  made_value (Some a) h =
+      (h.0, h.1, subst (λ (ws : List Word). AllStandFor ws h.0) (sym (made.same_words a h.3)) h.2, made.fits a h.3)
+  made_value None h = tt
+
+  pub made_taken : (r : Option A) → Takes words Allowed given left r → Takes made_words Fits given left (option_map f r)
+  made_taken r h = record {
+    value = made_value r h.value;
+    only = λ b first rest fits e stands.
+        let stands' = subst (λ (ws : List Word). AllStandFor ws first) (made.parts_words b fits) stands in
+        let one = h.only (g b) first rest (made.parts_allowed b fits) e stands' in
+        (ap (option_map f) one.0 ∙ ap Some (made.back b fits), one.1);
+  }
+
+-- ---- two values in a row
+
+module _ {A B : Type 0} (front_words : A → List Word) (FrontAllowed : A → Type 0) (back_words : B → List Word) (BackAllowed : B → Type 0) where
+  -- the words of a pair
+  abbrev pub pair_words : A × B → List Word
+  pair_words p = front_words p.0 ++ back_words p.1
+
+  abbrev pub PairAllowed : A × B → Type 0
+  PairAllowed p = FrontAllowed p.0 × BackAllowed p.1
+
+  abbrev pub with_front : A → Option B → Option (A × B)
+  with_front a r = option_map (λ (b : B). let p : A × B = (a, b) in p) r
+
+  pair_value : (given mid left : List (List ℕ)) (a : A) (r : Option B) → Takes front_words FrontAllowed given mid (Some a)
+      → IfSome r (λ b. (first : List (List ℕ)) × (mid ≡ first ++ left) × AllStandFor (back_words b) first × BackAllowed b)
+      → IfSome (with_front a r) (λ p. (first : List (List ℕ)) × (given ≡ first ++ left) × AllStandFor (pair_words p) first × PairAllowed p)
+  pair_value given mid left a (Some b) h k = (
+    h.value.0 ++ k.0,
+    h.value.1 ∙ ap (λ (rest : List (List ℕ)). h.value.0 ++ rest) k.1 ∙ sym (append_assoc h.value.0 k.0 left),
+    stand-append (front_words a) (back_words b) h.value.0 k.0 h.value.2 k.2,
+    (h.value.3, k.3),
+  )
+  pair_value given mid left a None h k = tt
+
+  pub pair_taken : (given mid left : List (List ℕ)) (a : A) (r : Option B) → Takes front_words FrontAllowed given mid (Some a)
+      → Takes back_words BackAllowed mid left r → Takes pair_words PairAllowed given left (with_front a r)
+  pair_taken given mid left a r h k = record {
+    value = pair_value given mid left a r h k.value;
+    only = λ p first rest allowed e stands.
+        let parts = stand_parts (front_words p.0) (back_words p.1) first stands in
+        let whole : given ≡ parts.0 ++ (parts.1 ++ rest) =
+        e ∙ ap (λ (texts : List (List ℕ)). texts ++ rest) parts.2 ∙ append_assoc parts.0 parts.1 rest in
+        let front = h.only p.0 parts.0 (parts.1 ++ rest) allowed.0 whole parts.3 in
+        let back = k.only p.1 parts.1 rest allowed.1 front.1 parts.4 in
+        let same : a ≡ p.0 = cc (front.0) in
+        (ap (with_front a) back.0 ∙ ap (λ (x : A). let p' : A × B = (x, p.1) in Some p') same, back.1);
+  }
+
+  pub front_missing : (given left : List (List ℕ)) → Takes front_words FrontAllowed given left None → Takes pair_words PairAllowed given left None
+  front_missing given left h = record {
+    value = tt;
+    only = λ p first rest allowed e stands.
+        let parts = stand_parts (front_words p.0) (back_words p.1) first stands in
+        let whole : given ≡ parts.0 ++ (parts.1 ++ rest) =
+        e ∙ ap (λ (texts : List (List ℕ)). texts ++ rest) parts.2 ∙ append_assoc parts.0 parts.1 rest in
+        let front = h.only p.0 parts.0 (parts.1 ++ rest) allowed.0 whole parts.3 in
+        cc (front.0);
+  }
+
+-- ---- all words of a text
+
+module _ {A : Type 0} (words : A → List Word) (Allowed : A → Type 0) (given left : List (List ℕ)) where
+  pub all_read : (a : A) → left ≡ [] → Takes words Allowed given left (Some a) → ReadsWords words Allowed given (Some a)
+  all_read a none h = record {
+    value =
+        let whole : given ≡ h.value.0 = h.value.1 ∙ ap (λ (rest : List (List ℕ)). h.value.0 ++ rest) none ∙ append-nil h.value.0 in
+        (subst (λ (texts : List (List ℕ)). AllStandFor (words a) texts) (sym whole) h.value.2, h.value.3);
+    only = λ b allowed stands. (h.only b given [] allowed (sym (append-nil given)) stands).0;
+  }
+
+  pub more_left : (a : A) → (left ≡ [] → ⊥) → Takes words Allowed given left (Some a) → ReadsWords words Allowed given None
+  more_left a some h = record {
+    value = tt;
+    only = λ b allowed stands. absurd (some (h.only b given [] allowed (sym (append-nil given)) stands).1);
+  }
+
+  pub none_read : Takes words Allowed given left None → ReadsWords words Allowed given None
+  none_read h = record {
+    value = tt;
+    only = λ b allowed stands. (h.only b given [] allowed (sym (append-nil given)) stands).0;
+  }
+
+-- the value that was taken, if the words end there
+module _ {A : Type 0} (words : A → List Word) (Allowed : A → Type 0) (given left : List (List ℕ)) where
+  pub ended_read : (ended : Bool) (a : A) → IsTrue ended ↔ (left ≡ []) → Takes words Allowed given left (Some a)
+      → ReadsWords words Allowed given (then_some ended a)
+  ended_read true a h taken = all_read words Allowed given left a (h.0 refl) taken
+  ended_read false a h taken = more_left words Allowed given left a (λ e. false≢true (h.1 e)) taken
+
+-- behind a name
+module _ {A : Type 0} (name : List ℕ) (words : A → List Word) (Allowed : A → Type 0) (rest : List (List ℕ)) where
+  named_value : (r : Option A) → IfSome r (λ a. AllStandFor (words a) rest × Allowed a)
+      → IfSome r (λ a. AllStandFor (plain name ∷ words a) (name ∷ rest) × Allowed a)
+  named_value (Some a) h = ((refl, h.0), h.1)
+  named_value None h = tt
+
+  pub named : (given : List (List ℕ)) (r : Option A) → given ≡ name ∷ rest → ReadsWords words Allowed rest r
+      → ReadsWords (λ a. plain name ∷ words a) Allowed given r
+  named given r e h =
+      rw e record {
+        value = named_value r h.value;
+        only = λ a allowed stands. h.only a allowed stands.1;
+      }
+
+-- ---- numbers in a row
+
+-- the n elements from place k on
+abbrev pub entries_from : ℕ → ℕ → List ℕ → List ℕ
+entries_from k zero xs = []
+entries_from k (suc n) xs = get_or xs k 0 ∷ entries_from (suc k) n xs
+
+entries_on : (x : ℕ) (k n : ℕ) (xs : List ℕ) → entries_from (suc k) n (x ∷ xs) ≡ entries_from k n xs
+entries_on x k zero xs = refl
+entries_on x k (suc n) xs = ap (λ (rest : List ℕ). get_or xs k 0 ∷ rest) (entries_on x (suc k) n xs)
+
+-- as many elements as there are
+pub entries_whole : (n : ℕ) (xs : List ℕ) → length xs ≡ n → entries_from 0 n xs ≡ xs
+entries_whole zero xs h = sym (nil_from_length xs h)
+entries_whole (suc n) [] h = absurd (omega arith)
+entries_whole (suc n) (x ∷ xs) h =
+    ap (λ (rest : List ℕ). x ∷ rest) (entries_on x 0 n xs ∙ entries_whole n xs (omega arith))
+
+-- each number, one after another, is a byte
+pub are_bytes : (bs : List ℕ) → AllByRecursion (λ b. b < 256) bs → IsBytes bs
+are_bytes [] h k = omega arith
+are_bytes (b ∷ bs) h zero = h.0
+are_bytes (b ∷ bs) h (suc k) = are_bytes bs h.1 k

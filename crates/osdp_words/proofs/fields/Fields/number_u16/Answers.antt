@@ -1,0 +1,7 @@
+use Rattle.std.proofs.Common.{◌<◌, ◌^◌}
+use Rattle.osdp_words.specs.Word.{number}
+use Rattle.osdp_words.proofs.Taking.{one_taken}
+use Rattle.osdp_words.proofs.fields.Fields.number_u16.Goals as goal
+
+pub returns : goal.returns
+returns c = one_taken number (λ n. n < 2 ^ 16) c.args.self.now c.word.new.self c.in_ok-word.field-0.now c.number_u16.result c.in_ok-word.ensures c.number_u16.ensures

@@ -1,0 +1,5 @@
+use Rattle.osdp_words.proofs.TextLaws.{has_one_list}
+use Rattle.osdp_words.proofs.laws.has_one_list.Goals as goal
+
+pub returns : goal.returns
+returns c = has_one_list

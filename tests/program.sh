@@ -1,0 +1,84 @@
+#!/usr/bin/env bash
+# What no contract can say of the program: statuses and standard error over pipes, files, closed and full
+# streams, and words that are no text. Takes the path of the program.
+set -u
+program=$1
+work=$(mktemp -d)
+trap 'rm -rf "$work"' EXIT
+failed=0
+
+# $1: what is tried; $2: the status that is wanted; $3: standard output; $4: standard error; then the words.
+# Standard input is the caller's.
+expect() {
+  local name=$1 status=$2 out=$3 err=$4
+  shift 4
+  "$program" "$@" >"$work/out" 2>"$work/err"
+  local got=$?
+  printf '%s' "$out" >"$work/wanted_out"
+  printf '%s' "$err" >"$work/wanted_err"
+  if [ "$got" -ne "$status" ] || ! cmp -s "$work/out" "$work/wanted_out" || ! cmp -s "$work/err" "$work/wanted_err"; then
+    echo "$name: status $got, wanted $status"
+    diff "$work/wanted_out" "$work/out"
+    diff "$work/wanted_err" "$work/err"
+    failed=1
+  fi
+}
+
+poll=$'1:0 cmd 0 seq 0 sum POLL\n'
+
+expect 'a poll' 0 "$poll" '' show <<<'53 00 07 00 00 60 46'
+expect 'no input' 0 '' '' show </dev/null
+expect 'no input, counted' 0 $'runs 0 packets 0 skipped 0 refused 0\n' '' check </dev/null
+expect 'two lines' 0 $'1:0 cmd 0 seq 0 crc POLL\n2:0 reply 0 seq 1 crc ACK\n' '' show <<<$'530008000460EBAA\n538008000540689F'
+expect 'noise' 0 $'1:0 skip FF\n1:1 skip FF\n1:2 cmd 0 seq 0 sum POLL\n' '' show <<<'FFFF53000700006046'
+expect 'a packet on two lines' 1 $'1:0 refused F4\n1:1 skip 00\n1:2 skip 07\n2:0 skip 00\n2:1 skip 00\n2:2 skip 60\n2:3 skip 46\n' '' show <<<$'530007\n00006046'
+expect 'the same, joined' 0 "$poll" '' show --join <<<$'530007\n00006046'
+expect 'a wrong check' 1 $'1:0 refused F3\nruns 1 packets 0 skipped 6 refused 1\n' '' check <<<'53000700006047'
+expect 'raw bytes' 0 "$poll" '' show --raw < <(printf '\x53\x00\x07\x00\x00\x60\x46')
+expect 'raw bytes, joined' 0 "$poll" '' show --join --raw < <(printf '\x53\x00\x07\x00\x00\x60\x46')
+expect 'a bad line' 2 '' $'osdp: line 1: not hex\n' show <<<'5'
+expect 'a bad line behind a good one' 2 "$poll" $'osdp: line 2: not hex\n' show <<<$'53000700006046\n5x\n53000700006046'
+expect 'a bad line, counted' 2 $'runs 1 packets 1 skipped 0 refused 0\n' $'osdp: line 2: not hex\n' check <<<$'53000700006046\n5'
+expect 'comments and blank lines' 0 $'1:0 cmd 0 seq 0 sum POLL\n' '' show < <(printf ' \t# a capture\r\n\r\n 53 00\t07 00\r00 60 46')
+
+bad=$'osdp: bad words\n'
+expect 'no words' 2 '' "$bad" </dev/null
+expect 'unknown word' 2 '' "$bad" shows </dev/null
+expect 'unknown option' 2 '' "$bad" show --all </dev/null
+expect 'an option twice' 2 '' "$bad" show --raw --raw </dev/null
+expect 'a word that is no text' 2 '' "$bad" show $'\xff' </dev/null
+
+expect 'a directory as input' 3 '' $'osdp: read failed\n' show </
+expect 'a closed input' 3 '' $'osdp: read failed\n' show <&-
+
+# $1: what is tried; $2: the status that is wanted; $3: standard error; then the words. The output is the
+# caller's.
+expect_status() {
+  local name=$1 status=$2 err=$3
+  shift 3
+  "$program" "$@" 2>"$work/err"
+  local got=$?
+  printf '%s' "$err" >"$work/wanted_err"
+  if [ "$got" -ne "$status" ] || ! cmp -s "$work/err" "$work/wanted_err"; then
+    echo "$name: status $got, wanted $status"
+    diff "$work/wanted_err" "$work/err"
+    failed=1
+  fi
+}
+
+write_failed=$'osdp: write failed\n'
+expect_status 'a full device' 3 "$write_failed" show <<<'53000700006046' >/dev/full
+expect_status 'a full device, counted' 3 "$write_failed" check </dev/null >/dev/full
+expect_status 'a closed output' 3 "$write_failed" show <<<'53000700006046' >&-
+expect_status 'a closed output that is not written to' 0 '' show </dev/null >/dev/null
+
+# A reader that stops after the first line: the program ends by status 3 or by the signal of the pipe.
+yes 53000700006046 | head -n 100000 | "$program" show 2>/dev/null | head -n 1 >"$work/out"
+status=${PIPESTATUS[2]}
+if [ "$status" -ne 3 ] && [ "$status" -ne 141 ]; then
+  echo "a reader that stops: status $status"
+  failed=1
+fi
+printf '%s' "$poll" | cmp -s - "$work/out" || { echo 'a reader that stops: another first line'; failed=1; }
+
+exit "$failed"
