@@ -242,8 +242,8 @@ fn a_gap_ends_the_run(rt: HostRuntime) {
     assert!(rt; matches!(framer.next(), Some(Item::Skipped(0x60))));
 }
 
-/// A packet of 100 bytes within what a bad one of 300 speaks of, and far enough in that the bytes are
-/// moved to the front between them.
+/// A packet of 100 bytes within the 300 that a bad one speaks of, so many times that bytes are moved to
+/// the front.
 #[test]
 fn long_packets_behind_bad_checks(rt: HostRuntime) {
     let mut run = [0u8; 300];
