@@ -4,3 +4,5 @@ pub mod Xor
 pub mod Remainder
 pub mod Pieces
 pub mod Entries
+pub mod Places
+pub mod Sums

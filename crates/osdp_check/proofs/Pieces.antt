@@ -91,18 +91,22 @@ crc_from-xor start change bytes =
     ∙ ap (remainder (width bytes)) (sym (xor_assoc bits (start * power) (change * power)))
     ∙ remainder-xor (width bytes) (bit_xor bits (start * power)) (change * power)
 
+-- the CRC of the bytes between two states
+pub crc_since : (front state : ℕ) (bytes : List ℕ) → state ≡ crc_from front bytes → bit_xor state (remainder (8 * length bytes) (bit_xor front initial * 2 ^ (8 * length bytes))) ≡ crc bytes
+unfolding crc
+crc_since front state bytes e =
+    let change = bit_xor front initial in
+    let moved = remainder (width bytes) (change * 2 ^ width bytes) in
+    let back : bit_xor initial change ≡ front = xor_comm initial change ∙ xor_twice front initial in
+    let whole : state ≡ bit_xor (crc_from initial bytes) moved =
+    e ∙ ap (λ n. crc_from n bytes) (sym back) ∙ crc_from-xor initial change bytes
+    in
+    ap (λ n. bit_xor n moved) whole ∙ xor_twice (crc_from initial bytes) moved
+
 -- the CRC of the rest, from those of the whole and of the front
 pub crc_of_rest : (bytes more : List ℕ) → IsBytes more → crc more ≡ bit_xor (crc (bytes ++ more)) (remainder (8 * length more) (bit_xor (crc bytes) initial * 2 ^ (8 * length more)))
 unfolding crc
-crc_of_rest bytes more h =
-    let front = crc_from initial bytes in
-    let change = bit_xor front initial in
-    let moved = remainder (width more) (change * 2 ^ width more) in
-    let back : bit_xor initial change ≡ front = xor_comm initial change ∙ xor_twice front initial in
-    let whole : crc_from initial (bytes ++ more) ≡ bit_xor (crc_from initial more) moved =
-    crc_from-append initial bytes more h ∙ ap (λ n. crc_from n more) (sym back) ∙ crc_from-xor initial change more
-    in
-    sym (ap (λ n. bit_xor n moved) whole ∙ xor_twice (crc_from initial more) moved)
+crc_of_rest bytes more h = sym (crc_since (crc bytes) (crc (bytes ++ more)) more (crc_from-append initial bytes more h))
 
 pub bits_of-one : (b : ℕ) → bits_of (b ∷ []) ≡ b
 unfolding bits_of
@@ -140,10 +144,9 @@ crc_from-byte start b s h =
     ∙ xor_comm (remainder 8 (index * 2 ^ 16)) (low * 2 ^ 8) ∙ ap (bit_xor (low * 2 ^ 8)) entry
     ∙ ap (λ n. bit_xor n (crc_from 0 (index ∷ []))) kept
 
-pub crc-push : (bytes : List ℕ) (b : ℕ) → crc bytes < 2 ^ 16 → b < 256 → crc (bytes ++ b ∷ []) ≡ bit_xor (crc bytes * 2 ^ 8 % 2 ^ 16) (crc_from 0 (bit_xor (crc bytes / 2 ^ 8) b ∷ []))
+pub crc-push : (bytes : List ℕ) (b : ℕ) → b < 256 → crc (bytes ++ b ∷ []) ≡ crc_from (crc bytes) (b ∷ [])
 unfolding crc
-crc-push bytes b s h =
-    crc_from-append initial bytes (b ∷ []) (All-cons (λ n. n < 256) b [] h (All-nil (λ n. n < 256))) ∙ crc_from-byte (crc_from initial bytes) b s h
+crc-push bytes b h = crc_from-append initial bytes (b ∷ []) (All-cons (λ n. n < 256) b [] h (All-nil (λ n. n < 256)))
 
 pub one_crc : (bytes : List ℕ) (check : ℕ) → IsCrc bytes check → check ≡ crc bytes
 unfolding crc crc_from

@@ -26,6 +26,10 @@ remainder zero dividend = dividend
 remainder (suc place) dividend =
     remainder place (bit_xor dividend (bit_at dividend (place + 16) * (divisor * 2 ^ place)))
 
+-- what the division leaves of x to the power of places
+unfoldable pub power : ℕ → ℕ
+power places = remainder places (2 ^ places)
+
 -- the bytes and sixteen zero bits behind them, the first sixteen bits changed by start
 unfoldable pub dividend_from : ℕ → List ℕ → ℕ
 dividend_from start bytes = bit_xor (bits_of bytes * 2 ^ 16) (start * 2 ^ (8 * length bytes))

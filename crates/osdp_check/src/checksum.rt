@@ -1,8 +1,8 @@
 //! The one-byte check.
 
-ghost use Rattle.std.specs.Prelude.{◌≡◌, ℕ, ◌%◌, List, ◌++◌, ◌∷◌, [], take, slice_index, sum, refl};
+ghost use Rattle.std.specs.Prelude.{◌≡◌, ℕ, ◌%◌, List, ◌++◌, ◌∷◌, [], length, take, slice_index, sum, refl};
 ghost use Rattle.std.proofs.Common.{lit≤};
-ghost use Rattle.osdp_check.specs.Checksum.{checksum_bytes};
+ghost use Rattle.osdp_check.specs.Checksum.{checksum_bytes, sum_from};
 
 use super::Check;
 use std::marker::Model;
@@ -30,6 +30,8 @@ impl Check for Sum8 {
 
     ghost Took = { λ state bytes. state ≡ sum bytes % 256 };
 
+    ghost TookSince = { λ front bytes state. state ≡ sum_from front bytes };
+
     fn start() -> Self {
         Sum8 { sum: 0 }
     }
@@ -44,6 +46,16 @@ impl Check for Sum8 {
         ensures second { slice_index result 1 ≡ 0 }
     {
         [self.sum.wrapping_neg(), 0]
+    }
+
+    /// The second byte is 0.
+    fn spell_since(&self, front: &Self, count: usize) -> [u8; 2]
+        ensures rest { (bytes : List ℕ) → length bytes ≡ count → self.now ≡ sum_from front.now bytes
+            → take 1 result ≡ checksum_bytes bytes }
+        ensures second { slice_index result 1 ≡ 0 }
+    {
+        let _ = count;
+        [front.sum.wrapping_sub(self.sum), 0]
     }
 
     ghost check_size = { λ bytes. refl };

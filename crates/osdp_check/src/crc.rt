@@ -2,9 +2,10 @@
 
 ghost use Rattle.std.specs.Prelude.{◌≡◌, ℕ, ◌<◌, List, slice_index, refl};
 ghost use Rattle.std.proofs.Common.{lit≤};
-ghost use Rattle.osdp_check.specs.Crc.{crc, crc_bytes};
+ghost use Rattle.osdp_check.specs.Crc.{crc, crc_bytes, crc_from};
 
 use super::{CRC_TABLE, Check};
+use crate::powers::moved;
 use std::marker::Model;
 
 /// The CRC of the bytes that were added: x^16 + x^12 + x^5 + 1, most significant bit first, started at 0x1D0F.
@@ -30,6 +31,8 @@ impl Check for Crc16 {
 
     ghost Took = { λ state bytes. state ≡ crc bytes };
 
+    ghost TookSince = { λ front bytes state. state ≡ crc_from front bytes };
+
     fn start() -> Self {
         Crc16 { state: 0x1d0f }
     }
@@ -41,6 +44,10 @@ impl Check for Crc16 {
 
     fn spell(&self) -> [u8; 2] {
         self.state.to_le_bytes()
+    }
+
+    fn spell_since(&self, front: &Self, count: usize) -> [u8; 2] {
+        (self.state ^ moved(front.state ^ 0x1d0f, count)).to_le_bytes()
     }
 
     ghost check_size = { λ bytes. refl };

@@ -1,6 +1,6 @@
 //! What the checks are, said apart from how they are computed. The functions do nothing: their contracts are laws.
 
-ghost use Rattle.std.specs.Prelude.{◌≡◌, ℕ, ◌+◌, ◌*◌, ◌<◌, ◌^◌, ◌↔◌, List, [], ◌∷◌, ◌++◌, length, slice_index, bit_xor};
+ghost use Rattle.std.specs.Prelude.{◌≡◌, ℕ, ◌+◌, ◌-◌, ◌*◌, ◌%◌, ◌<◌, ◌^◌, ◌↔◌, List, [], ◌∷◌, ◌++◌, length, slice_index, bit_xor};
 ghost use Rattle.osdp_check.specs.Checksum.{IsChecksum, checksum};
 ghost use Rattle.osdp_check.specs.Crc.{IsBytes, IsCrc, IsRemainder, bits_of, crc, crc_from, initial, product, remainder};
 
@@ -9,6 +9,12 @@ use super::CRC_TABLE;
 /// Bytes have one checksum, and only that byte.
 pub fn one_checksum()
     ensures { (bytes : List ℕ) (check : ℕ) → IsChecksum bytes check ↔ (check ≡ checksum bytes) }
+{}
+
+/// The checksum of the rest is the difference of those of the whole and of the front.
+pub fn checksum_of_rest()
+    ensures { (bytes more : List ℕ) →
+        checksum more ≡ (256 + checksum (bytes ++ more) - checksum bytes) % 256 }
 {}
 
 /// The product of two polynomials adds up over the powers in its number, and a power moves the factor.

@@ -47,3 +47,25 @@ fn has_known_table_entries(rt: HostRuntime) {
         assert_eq!(rt; CRC_TABLE[place], entry, "at {place}");
     }
 }
+
+/// The check of the last bytes alone, whatever came before them.
+#[test]
+fn spells_checks_of_last_bytes(rt: HostRuntime) {
+    let mut crc = Crc16::start();
+    for byte in b"osdp" {
+        crc.add(*byte);
+    }
+    let front = crc;
+    for byte in b"123456789" {
+        crc.add(*byte);
+    }
+    assert_eq!(rt; crc.spell_since(&front, 9), [0xcc, 0xe5]);
+    assert_eq!(rt; crc.spell_since(&crc, 0), [0x0f, 0x1d]);
+    let mut sum = Sum8::start();
+    sum.add(0x99);
+    let front = sum;
+    for byte in [0x53, 0x00, 0x07, 0x00, 0x00, 0x60] {
+        sum.add(byte);
+    }
+    assert_eq!(rt; sum.spell_since(&front, 6), [0x46, 0]);
+}

@@ -142,7 +142,7 @@ control_of c =
     let block = block_bit_of (c / 8 % 2) (omega arith) in
     omega (arith, crc, block)
 
-AreBytes-take : (n : ℕ) (bytes : List ℕ) → AreBytes bytes → AreBytes (take n bytes)
+pub AreBytes-take : (n : ℕ) (bytes : List ℕ) → AreBytes bytes → AreBytes (take n bytes)
 AreBytes-take n bytes h place =
     elim (cases_lt place n) [
       | inl lt ↦ subst (λ (b : ℕ). b < 256) (sym (get_or-take n bytes place 0 lt)) (h place)

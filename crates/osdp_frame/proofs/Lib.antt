@@ -5,3 +5,5 @@ pub mod Readings
 pub mod FirstItems
 pub mod Framing
 pub mod LawsOfSpellings
+pub mod Running
+pub mod Buffering

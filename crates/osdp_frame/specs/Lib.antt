@@ -8,4 +8,6 @@ pub mod Held
 pub mod Items
 pub mod First
 pub mod Shown
+pub mod Running
+pub mod Buffered
 pub mod Framed

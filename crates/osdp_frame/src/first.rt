@@ -1,11 +1,12 @@
 //! The first item that bytes decide.
 
-ghost use Rattle.std.specs.Prelude.{◌≡◌, ◌≤◌, length, length as size_of_list};
+ghost use Rattle.std.specs.Prelude.{◌≡◌, ◌≤◌, ◌<◌, IfSome, length, length as size_of_list, take};
 ghost use Rattle.osdp_frame.specs.Held.{begun, decided, is_checked, packet_at};
 ghost use Rattle.osdp_frame.specs.Reading.{check_at, count_at};
-ghost use Rattle.osdp_frame.specs.Check.{check_size};
+ghost use Rattle.osdp_frame.specs.Check.{check_of, check_size};
 ghost use Rattle.osdp_frame.specs.First.{part_if, FirstFits, headed, HeadingFits};
 
+use crate::buffer::Buffer;
 use crate::bytes::{HEAD, LARGEST, START_OF_MESSAGE, check_bytes};
 use crate::{Address, CheckKind, FrameFault, Seq};
 use byteorder::{ByteOrder, LittleEndian};
@@ -44,23 +45,38 @@ fn check_kind(rest: &[u8]) -> CheckKind
 }
 
 /// The count of the packet's bytes.
-fn count(rest: &[u8]) -> usize
+pub fn count(rest: &[u8]) -> usize
     requires { 5 ≤ length rest.now }
     ensures { result ≡ count_at rest.now }
 {
     usize::from(LittleEndian::read_u16(&[rest[2], rest[3]]))
 }
 
+/// The check of the first `count` bytes of the rest, in its first one or two bytes. Where the rest lies
+/// in a buffer whose running checks have gone over them it takes a few steps.
+fn front_check(rest: &[u8], held: Option<&Buffer>, check: CheckKind, count: usize) -> [u8; 2]
+    requires held { IfSome held (λ buffer. buffer.now.bytes ≡ rest.now) }
+    requires some { 0 < count }
+    requires there { count ≤ length rest.now }
+    ensures { take (check_size check) result ≡ check_of check (take count rest.now) }
+{
+    match held {
+        Some(buffer) if count <= buffer.run() => buffer.check(check, count),
+        Some(_) | None => check_bytes(check, &rest[..count]),
+    }
+}
+
 /// Whether the bytes of the packet end with the check of those before it.
-fn is_checked(rest: &[u8], check: CheckKind, length: usize) -> bool
+fn is_checked(rest: &[u8], held: Option<&Buffer>, check: CheckKind, length: usize) -> bool
+    requires held { IfSome held (λ buffer. buffer.now.bytes ≡ rest.now) }
     requires check { check ≡ check_at rest.now }
     requires count { length ≡ count_at rest.now }
-    requires some { check_size check ≤ length }
+    requires some { check_size check < length }
     requires there { length ≤ size_of_list rest.now }
     ensures { result ≡ is_checked rest.now }
 {
     let checked = length - check.size();
-    let expected = check_bytes(check, &rest[..checked]);
+    let expected = front_check(rest, held, check, checked);
     rest[checked..length] == expected[..check.size()]
 }
 
@@ -86,8 +102,9 @@ fn heading_at(rest: &[u8], check: CheckKind, length: usize) -> Heading
 }
 
 /// What a start of message begins. A packet's check is computed only where its bytes are there.
-fn begun(rest: &[u8], ended: bool) -> Option<First>
-    requires { 1 ≤ length rest.now }
+fn begun(rest: &[u8], held: Option<&Buffer>, ended: bool) -> Option<First>
+    requires some { 1 ≤ length rest.now }
+    requires held { IfSome held (λ buffer. buffer.now.bytes ≡ rest.now) }
     ensures part { part_if result rest.now ≡ begun ended rest.now }
     ensures fits { FirstFits (length rest.now) result }
 {
@@ -110,16 +127,18 @@ fn begun(rest: &[u8], ended: bool) -> Option<First>
     if rest.len() < length {
         return at_end;
     }
-    if is_checked(rest, check, length) {
+    if is_checked(rest, held, check, length) {
         Some(First::Packet(heading_at(rest, check, length)))
     } else {
         Some(First::Refused(FrameFault::BadCheck))
     }
 }
 
-/// The first item of the rest of a run, where these bytes of it decide it.
+/// The first item of the rest of a run, where these bytes of it decide it. `held` is the buffer that they
+/// are in, if any.
 #[tactic(auto, unfolding(crate::specs::Held::decided))]
-pub fn first_item(rest: &[u8], ended: bool) -> Option<First>
+pub fn first_item(rest: &[u8], held: Option<&Buffer>, ended: bool) -> Option<First>
+    requires { IfSome held (λ buffer. buffer.now.bytes ≡ rest.now) }
     ensures part { part_if result rest.now ≡ decided ended rest.now }
     ensures fits { FirstFits (length rest.now) result }
 {
@@ -127,7 +146,7 @@ pub fn first_item(rest: &[u8], ended: bool) -> Option<First>
         [] => None,
         [start, ..] => {
             if *start == START_OF_MESSAGE {
-                begun(rest, ended)
+                begun(rest, held, ended)
             } else {
                 Some(First::Skipped(*start))
             }

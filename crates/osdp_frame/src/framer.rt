@@ -1,26 +1,28 @@
 //! The framer: bytes of the line in any pieces, items one by one.
 
-ghost use Rattle.std.specs.Prelude.{◌≡◌, ◌↔◌, ◌≤◌, ◌+◌, ◌-◌, ◌<◌, Bool, false, true, IsNone, IfSome, length, take, ◌++◌, slice_range};
+ghost use Rattle.std.specs.Prelude.{◌≡◌, ◌↔◌, ◌≤◌, ◌+◌, ◌-◌, ◌<◌, Bool, false, true, IsNone, IfSome, length, take, ◌++◌};
 ghost use Rattle.std.specs.Option.{option_map};
 ghost use Rattle.osdp_frame.specs.First.{FirstFits, part_if};
 ghost use Rattle.osdp_frame.specs.Held.{after_advance, after_gap, after_push, decided, new_run, taken_count};
 ghost use Rattle.osdp_frame.specs.Reading.{IsFirst, IsUndecided};
 
-use crate::bytes::{LARGEST, are_bytes};
-use crate::first::{First, first_item};
+use crate::buffer::Buffer;
+use crate::bytes::{LARGEST, START_OF_MESSAGE, are_bytes};
+use crate::first::{First, count, first_item};
 use crate::item::Item;
 use std::marker::Model;
 
-/// Room for twice the largest packet, so that bytes are moved to the front once in many pushes.
-const ROOM: usize = 2880;
+/// The checks of packets of up to so many bytes are computed as they come: a running check costs as much.
+const SHORT: usize = 32;
 
 /// Finds the items of runs of bytes that come in any pieces. It holds at most 1440 bytes.
+///
+/// Each byte takes a few steps, whatever the line sends: a place where no packet begins costs no more
+/// where a long packet could have begun. For this a framer keeps running checks of the bytes that it
+/// holds, and takes 11.5 kB in all.
 #[derive(Debug, Drop)]
 pub struct Framer {
-    buffer: [u8; 2880],
-    /// Where the bytes held begin, and where they end.
-    from: usize,
-    to: usize,
+    held: Buffer,
     /// Whether the run has ended behind the bytes held.
     ended: bool,
     /// The first item of the bytes held, where they decide it: decided once, and shown as often as is asked.
@@ -48,9 +50,7 @@ impl Framer {
         ensures { result ≡ new_run }
     {
         Framer {
-            buffer: [0; 2880],
-            from: 0,
-            to: 0,
+            held: Buffer::new(),
             ended: false,
             first: None,
         }
@@ -64,8 +64,7 @@ impl Framer {
         ensures none { IsNone result ↔ IsUndecided self.now.ended self.now.bytes }
         ensures room { length self.now.bytes ≤ 1440 }
     {
-        let held = &self.buffer[self.from..self.to];
-        are_bytes(held);
+        let held = self.held.bytes();
         let first = self.first?;
         Some(first.shown(held))
     }
@@ -76,10 +75,9 @@ impl Framer {
         ensures { self.new ≡ after_advance self.old }
     {
         let Some(first) = self.first else { return };
-        let from = self.from + first.size();
-        let ended = self.ended && from < self.to;
-        self.first = first_item(&self.buffer[from..self.to], ended);
-        self.from = from;
+        self.held.advance(first.size());
+        let ended = self.ended && self.held.len() > 0;
+        self.first = first_held(&mut self.held, ended);
         self.ended = ended;
     }
 
@@ -91,9 +89,9 @@ impl Framer {
         if self.ended {
             return;
         }
-        let ended = self.from < self.to;
-        let count = self.to - self.from;
-        self.first = decided_again(self.first, count, &self.buffer[self.from..self.to], ended);
+        let count = self.held.len();
+        let ended = count > 0;
+        self.first = decided_again(self.first, count, &mut self.held, ended);
         self.ended = ended;
     }
 
@@ -106,13 +104,10 @@ impl Framer {
         if self.ended {
             return 0;
         }
-        let held = self.to - self.from;
+        let held = self.held.len();
         let count = bytes.len().min(LARGEST - held);
-        let from = take_in(&mut self.buffer, self.from, self.to, &bytes[..count]);
-        let to = from + held + count;
-        self.first = decided_again(self.first, held, &self.buffer[from..to], false);
-        self.from = from;
-        self.to = to;
+        self.held.push(&bytes[..count]);
+        self.first = decided_again(self.first, held, &mut self.held, false);
         count
     }
 }
@@ -125,61 +120,51 @@ impl Default for Framer {
     }
 }
 
-/// The first item of `rest`, where it was `first` for its first `held` bytes as long as the run went on.
-fn decided_again(first: Option<First>, held: usize, rest: &[u8], ended: bool) -> Option<First>
-    requires held { held ≤ length rest.now }
-    requires first { part_if first (take held rest.now) ≡ decided false (take held rest.now) }
-    requires fits { FirstFits held first }
-    ensures part { part_if result rest.now ≡ decided ended rest.now }
-    ensures fits { FirstFits (length rest.now) result }
+/// The first item of what is held.
+#[inline(always)]
+fn first_held(held: &mut Buffer, ended: bool) -> Option<First>
+    ensures same { held.new.bytes ≡ held.old.bytes }
+    ensures part { part_if result held.new.bytes ≡ decided ended held.new.bytes }
+    ensures fits { FirstFits (length held.new.bytes) result }
 {
-    are_bytes(rest);
+    let count = long_count(held.bytes());
+    held.run_to(count);
+    first_item(held.bytes(), Some(held), ended)
+}
+
+/// How many bytes a packet at the head of the rest has, where these are there and are many: else 0.
+fn long_count(rest: &[u8]) -> usize
+    ensures { result ≤ length rest.now }
+{
+    if rest.len() <= SHORT || rest[0] != START_OF_MESSAGE {
+        return 0;
+    }
+    let length = count(rest);
+    if SHORT < length && length <= rest.len() {
+        length
+    } else {
+        0
+    }
+}
+
+/// The first item of what is held, where it was `first` for the first `count` bytes as long as the run
+/// went on.
+fn decided_again(
+    first: Option<First>,
+    count: usize,
+    held: &mut Buffer,
+    ended: bool,
+) -> Option<First>
+    requires count { count ≤ length held.old.bytes }
+    requires first { part_if first (take count held.old.bytes) ≡ decided false (take count held.old.bytes) }
+    requires fits { FirstFits count first }
+    ensures same { held.new.bytes ≡ held.old.bytes }
+    ensures part { part_if result held.new.bytes ≡ decided ended held.new.bytes }
+    ensures fits { FirstFits (length held.new.bytes) result }
+{
+    are_bytes(held.bytes());
     match first {
         Some(first) => Some(first),
-        None => first_item(rest, ended),
+        None => first_held(held, ended),
     }
-}
-
-/// Puts `bytes` behind those from `from` to `to`, which are moved to the front where that leaves no room
-/// behind them, and tells where they begin then.
-fn take_in(buffer: &mut [u8; 2880], from: usize, to: usize, bytes: &[u8]) -> usize
-    requires order { from ≤ to }
-    requires within { to ≤ 2880 }
-    requires room { to - from + length bytes.now ≤ 1440 }
-    ensures bytes { slice_range buffer.new result (result + (to - from) + length bytes.now)
-        ≡ slice_range buffer.old from to ++ bytes.now }
-    ensures room { result + (to - from) + length bytes.now ≤ 2880 }
-{
-    let held = to - from;
-    let from = make_room(buffer, from, to, bytes.len());
-    put(buffer, from + held, bytes);
-    from
-}
-
-/// Moves the bytes from `from` to `to` so that `count` more have room behind them, and tells where they
-/// begin.
-fn make_room(buffer: &mut [u8; 2880], from: usize, to: usize, count: usize) -> usize
-    requires order { from ≤ to }
-    requires within { to ≤ 2880 }
-    requires room { to - from + count ≤ 1440 }
-    ensures same { slice_range buffer.new result (result + (to - from)) ≡ slice_range buffer.old from to }
-    ensures room { result + (to - from) + count ≤ 2880 }
-{
-    if ROOM - to >= count {
-        return from;
-    }
-    let (front, back) = buffer.split_at_mut(from);
-    let held = to - from;
-    front[..held].copy_from_slice(&back[..held]);
-    0
-}
-
-/// Puts bytes into the buffer at a place.
-fn put(buffer: &mut [u8; 2880], at: usize, bytes: &[u8])
-    requires { at + length bytes.now ≤ 2880 }
-    ensures before { take at buffer.new ≡ take at buffer.old }
-    ensures there { slice_range buffer.new at (at + length bytes.now) ≡ bytes.now }
-{
-    let end = at + bytes.len();
-    buffer[at..end].copy_from_slice(bytes);
 }

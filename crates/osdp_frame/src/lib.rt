@@ -6,6 +6,7 @@
 #![tactic(auto)]
 
 mod address;
+mod buffer;
 mod bytes;
 mod check_kind;
 mod fault;

@@ -27,7 +27,7 @@ pub fn read_at(run: &[u8], place: usize) -> ReadItem
 {
     let rest = &run[place..];
     are_bytes(rest);
-    match first_item(rest, true) {
+    match first_item(rest, None, true) {
         Some(first) => first.shown(rest).into_owned(),
         None => unreachable!(),
     }

@@ -241,3 +241,34 @@ fn a_gap_ends_the_run(rt: HostRuntime) {
     assert_eq!(rt; framer.push(&[0x60]), 1);
     assert!(rt; matches!(framer.next(), Some(Item::Skipped(0x60))));
 }
+
+/// A packet of 100 bytes within the 300 that a bad one speaks of, so many times that bytes are moved to
+/// the front.
+#[test]
+fn long_packets_behind_bad_checks(rt: HostRuntime) {
+    let mut run = [0u8; 300];
+    run[..5].copy_from_slice(&[0x53, 0x00, 0x2c, 0x01, 0x04]);
+    run[10..15].copy_from_slice(&[0x53, 0x00, 0x64, 0x00, 0x04]);
+    run[108..110].copy_from_slice(&[0x7d, 0x35]);
+    let mut framer = Framer::new();
+    for _ in 0..20 {
+        assert_eq!(rt; framer.push(&run), 300);
+        assert!(rt; matches!(framer.next(), Some(Item::Refused(FrameFault::BadCheck))));
+        for _ in 0..10 {
+            framer.advance();
+        }
+        match framer.next() {
+            Some(item) => {
+                assert!(rt; matches!(&item, Item::Packet(_)));
+                assert_eq!(rt; item.size(), 100);
+            }
+            None => assert!(rt; false, "no item"),
+        }
+        framer.advance();
+        for _ in 0..190 {
+            assert!(rt; matches!(framer.next(), Some(Item::Skipped(0))));
+            framer.advance();
+        }
+        assert!(rt; framer.next().is_none());
+    }
+}

@@ -1,4 +1,4 @@
-use Rattle.std.proofs.Common.{◌≡◌, arith, subst, take, false}
+use Rattle.std.proofs.Common.{◌≡◌, subst, take, false}
 use Rattle.osdp_frame.specs.First.{part_if, FirstFits}
 use Rattle.osdp_frame.specs.Held.{decided}
 use Rattle.osdp_frame.proofs.FirstItems.{part_if-more}
@@ -6,8 +6,8 @@ use Rattle.osdp_frame.proofs.framer.decided_again.Goals as goal
 
 pub returns-in-Some-clause-part : goal.returns-in-Some-clause-part
 returns-in-Some-clause-part c =
-    let rest = c.args.rest.now in
-    let held = c.args.held in
-    part_if-more c.in-Some.first held rest c.args.ended c.requires.held (λ i. omega (arith, c.type_inv.rest i))
-    (subst (λ f. FirstFits held f) c.in-Some.is c.requires.fits)
-    (subst (λ f. part_if f (take held rest) ≡ decided false (take held rest)) c.in-Some.is c.requires.first)
+    let held = c.args.held.now.bytes in
+    let count = c.args.count in
+    part_if-more c.in-Some.first count held c.args.ended c.requires.count c.bytes.ensures.bytes
+    (subst (λ f. FirstFits count f) c.in-Some.is c.requires.fits)
+    (subst (λ f. part_if f (take count held) ≡ decided false (take count held)) c.in-Some.is c.requires.first)

@@ -1,17 +1,19 @@
-use Rattle.std.proofs.Common.{◌≡◌, ◌+◌, ◌-◌, ◌&&◌, Bool, refl, ap, sym, ◌∙◌, ltb}
-use Rattle.osdp_frame.specs.Framed.{held_bytes}
-use Rattle.osdp_frame.proofs.Framing.{advanced, kept_fits, kept_fits_held}
+use Rattle.std.proofs.Common.{◌≡◌, ℕ, List, ◌&&◌, Bool, ap, sym, ◌∙◌, ltb, length}
+use Rattle.osdp_frame.specs.Running.{Buffered}
+use Rattle.osdp_frame.proofs.Framing.{advanced, kept_fits}
 use Rattle.osdp_frame.proofs.framer.Framer.advance.Goals.{then-self, else-self}
 use Rattle.osdp_frame.proofs.framer.Framer.advance.Goals as goal
 
 pub returns : goal.returns
 returns c =
     let f = c.self.inside in
-    let left = ltb (f.from + c.size.result) f.to in
+    let rest = c.advance.new.self.bytes in
+    let same = c.first_held-self-inside.ensures.same in
+    let left = ltb 0 (length rest) in
     let ended : c.if-self.ended ≡ (f.ended && left) = elim c.if-self.branch [
-      | then-self w ↦ w.ended-is ∙ sym (ap (λ (b : Bool). b && left) w.if-self.true)
+      | then-self w ↦ w.ended-is ∙ ap (ltb 0) w.len.ensures.count ∙ sym (ap (λ (b : Bool). b && left) w.if-self.true)
       | else-self w ↦ w.ended-is ∙ w.if-self.false ∙ sym (ap (λ (b : Bool). b && left) w.if-self.false)
     ] in
-    advanced f c.args.self.now c.in-Some.first c.size.result c.if-self.ended c.self.view_is c.self.invariant c.self.told c.in-Some.is
-    (c.size.ensures.size (held_bytes f) (kept_fits_held f c.in-Some.first c.self.invariant c.self.told c.in-Some.is))
-    (c.size.ensures.within (f.to - f.from) (kept_fits f c.in-Some.first c.self.invariant c.in-Some.is)) ended _ refl
+    advanced f c.args.self.now c.in-Some.first c.size.result c.if-self.ended c.first_held-self-inside.new.held.bytes c.self.view_is c.self.invariant c.in-Some.is
+    (c.size.ensures.size f.held.bytes (kept_fits f c.in-Some.first c.self.invariant c.in-Some.is)) (same ∙ ap (λ (b : Buffered). b.bytes) c.advance.ensures)
+    (ended ∙ ap (λ (l : List ℕ). f.ended && ltb 0 (length l)) (sym same))

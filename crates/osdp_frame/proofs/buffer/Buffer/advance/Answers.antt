@@ -1,0 +1,34 @@
+use Rattle.std.proofs.Common.{◌≡◌, ◌-◌, ◌+◌, ◌≤◌, length, drop, slice_range, ap, ◌∙◌, arith}
+use Rattle.osdp_check.specs.Checksum.{sum_from}
+use Rattle.osdp_check.specs.Crc.{crc_from}
+use Rattle.osdp_frame.specs.Running.{Buffered}
+use Rattle.osdp_frame.proofs.Buffering.{slice_behind, run_behind}
+use Rattle.osdp_frame.proofs.Running.{length-slice}
+use Rattle.osdp_frame.proofs.buffer.Buffer.advance.Goals as goal
+
+pub invariant_of-self : goal.invariant_of-self
+invariant_of-self c =
+    let b = c.self.inside in
+    let held = slice_range b.bytes b.from b.to in
+    let i = c.self.invariant in
+    let size = length-slice b.bytes b.from b.to (omega arith) (omega (arith, i.within)) in
+    let there : b.from + c.args.count ≤ b.to = omega (arith, ap (λ (v : Buffered). length v.bytes) c.self.view_is) in
+    let rest = slice_behind b.bytes b.from b.to c.args.count there in
+    record {
+      order = omega arith;
+      run = omega arith;
+      within = i.within;
+      room = omega arith;
+      sums = run_behind sum_from b.sums held (slice_range b.bytes (b.from + c.args.count) b.to) b.from b.ran c.args.count _ rest c.max-self-inside.ensures i.sums;
+      crcs = run_behind crc_from b.crcs held (slice_range b.bytes (b.from + c.args.count) b.to) b.from b.ran c.args.count _ rest c.max-self-inside.ensures i.crcs;
+    }
+
+pub returns : goal.returns
+returns c =
+    let b = c.self.inside in
+    let i = c.self.invariant in
+    let size = length-slice b.bytes b.from b.to (omega arith) (omega (arith, i.within)) in
+    let there : b.from + c.args.count ≤ b.to = omega (arith, ap (λ (v : Buffered). length v.bytes) c.self.view_is) in
+    let run : c.max-self-inside.result - (b.from + c.args.count) ≡ b.ran - b.from - c.args.count = omega arith in
+    (λ j. record { bytes = slice_behind b.bytes b.from b.to c.args.count there j; run = run j })
+    ∙ ap (λ (v : Buffered). record { bytes = drop c.args.count v.bytes; run = v.run - c.args.count }) c.self.view_is
