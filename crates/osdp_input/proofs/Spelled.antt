@@ -1,12 +1,12 @@
 -- Digits in pairs and the bytes that they spell.
-use Rattle.std.proofs.Common.{◌≡◌, ◌↔◌, ◌⊎◌, inl, inr, ℕ, ◌+◌, ◌*◌, ◌/◌, ◌%◌, ◌<◌, ◌==◌, cond, Bool, true, false, List, [], ◌∷◌, length, Option, Some, None, Result, Ok, Err, refl, sym, subst, ap, ◌∙◌, arith}
-use Rattle.std.proofs.lemmas.Bool.{eqb-true, eqb-false}
+use Rattle.std.proofs.Common.{◌≡◌, ◌⊎◌, inl, inr, ℕ, ◌+◌, ◌*◌, ◌/◌, ◌%◌, ◌<◌, ◌==◌, cond, Bool, true, false, List, [], ◌∷◌, length, Option, Some, None, Result, Ok, Err, refl, sym, subst, ap, ◌∙◌, arith}
+use Rattle.std.proofs.lemmas.Bool.{eqb-true}
 use Rattle.std.specs.Result.{result_ok}
 use Rattle.hex.specs.Hex.{decode_of, decode_pairs, hex_digit_value, digit_or_error, value_at, pair_value, ◌>>=◌}
 use Rattle.hex.specs.declared.error.FromHexError.{FromHexError}
 use Rattle.hex.proofs.HexLemmas.{decode_of-ok, decode_of-even}
 use Rattle.hex.proofs.Pairs.{cons_byte, decode_pairs-ok_pair}
-use Rattle.osdp_input.specs.Line.{said, kept, line_bytes}
+use Rattle.osdp_input.specs.Line.{said}
 use Rattle.osdp_input.specs.Laws.{IsComment, SpellsBytes}
 
 bound : {A B : Type 0} (r : Result A FromHexError) (f : A → Result B FromHexError) (y : B) → (r >>= f) ≡ Ok y → (x : A) × (r ≡ Ok x) × (f x ≡ Ok y)
@@ -76,16 +76,17 @@ said_is (c ∷ rest) bytes h = go (c == 35) refl h
     go : (t : Bool) → (c == 35) ≡ t → cond t (Some []) (result_ok (decode_of (c ∷ rest))) ≡ Some bytes → (IsComment (c ∷ rest) × (bytes ≡ [])) ⊎ SpellsBytes (c ∷ rest) bytes
     go true is e = let none : bytes ≡ [] = cc in inl (eqb-true c 35 is, none)
     go false is e =
-      let ok = result_is (decode_of (c ∷ rest)) bytes e in
-      inr (pairs_spell 0 (c ∷ rest) bytes (sym (decode_of-even (c ∷ rest) (decode_of-ok (c ∷ rest) bytes ok).0) ∙ ok))
+        let ok = result_is (decode_of (c ∷ rest)) bytes e in
+        inr (pairs_spell 0 (c ∷ rest) bytes (sym (decode_of-even (c ∷ rest) (decode_of-ok (c ∷ rest) bytes ok).0) ∙ ok))
 
 pub is_said : (characters bytes : List ℕ) → (IsComment characters × (bytes ≡ [])) ⊎ SpellsBytes characters bytes → said characters ≡ Some bytes
 is_said [] [] s = refl
-is_said [] (b ∷ bytes) s = elim s [ | inl comment ↦ absurd comment.0 | inr spelled ↦ absurd spelled ]
-is_said (c ∷ rest) bytes s = elim s [ | inl comment ↦ by_comment comment.0 comment.1 | inr spelled ↦ by_digits (c == 35) refl spelled ]
+is_said [] (b ∷ bytes) s = elim s [ inl comment ↦ absurd comment.0 | inr spelled ↦ absurd spelled ]
+is_said (c ∷ rest) bytes s = elim s [ inl comment ↦ by_comment comment.0 comment.1 | inr spelled ↦ by_digits (c == 35) refl spelled ]
   where
     by_comment : c ≡ 35 → bytes ≡ [] → cond (c == 35) (Some []) (result_ok (decode_of (c ∷ rest))) ≡ Some bytes
     by_comment is none = ap (λ n. cond (n == 35) (Some []) (result_ok (decode_of (c ∷ rest)))) is ∙ ap Some (sym none)
+
     first_digit : (digits : List ℕ) → SpellsBytes (c ∷ digits) bytes → (v : ℕ) × (hex_digit_value c ≡ Some v)
     first_digit digits spelled = digit_of bytes digits spelled
       where
@@ -93,7 +94,8 @@ is_said (c ∷ rest) bytes s = elim s [ | inl comment ↦ by_comment comment.0 c
         digit_of bs [] sp = absurd sp
         digit_of [] (d ∷ ds) sp = absurd sp
         digit_of (b ∷ bs) (d ∷ ds) sp = (b / 16, sp.0)
+
     by_digits : (t : Bool) → (c == 35) ≡ t → SpellsBytes (c ∷ rest) bytes → cond t (Some []) (result_ok (decode_of (c ∷ rest))) ≡ Some bytes
     by_digits true is spelled = let d = first_digit rest spelled in absurd (no_digit c d.0 (eqb-true c 35 is) d.1)
     by_digits false is spelled =
-      ap result_ok (decode_of-even (c ∷ rest) (spelled_even (c ∷ rest) bytes spelled) ∙ spelled_pairs 0 (c ∷ rest) bytes spelled)
+        ap result_ok (decode_of-even (c ∷ rest) (spelled_even (c ∷ rest) bytes spelled) ∙ spelled_pairs 0 (c ∷ rest) bytes spelled)

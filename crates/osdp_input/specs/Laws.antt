@@ -27,4 +27,4 @@ LinesSay = (line bytes : List ℕ)
 pub record OneCut : Type 0 where
   pub some : (bytes : List ℕ) → IsCut bytes (ended_lines bytes) (unended_line bytes)
   pub one : (bytes : List ℕ) (lines : List (List ℕ)) (rest : List ℕ) → IsCut bytes lines rest
-    → (ended_lines bytes ≡ lines) × (unended_line bytes ≡ rest)
+      → (ended_lines bytes ≡ lines) × (unended_line bytes ≡ rest)

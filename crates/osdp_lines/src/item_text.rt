@@ -183,5 +183,8 @@ pub fn push_end(text: &mut String, full: bool, tally: &Tally) -> Result<(), Allo
     let packets = tally.packets;
     let skipped = tally.skipped;
     let refused = tally.refused;
-    write!(text, "runs {runs} packets {packets} skipped {skipped} refused {refused}\n")
+    write!(
+        text,
+        "runs {runs} packets {packets} skipped {skipped} refused {refused}\n"
+    )
 }
