@@ -1,5 +1,5 @@
 -- Each input has a cut, and what lines say is bytes.
-use Rattle.std.proofs.Common.{◌≡◌, ◌≢◌, ℕ, zero, suc, ◌<◌, ◌==◌, cond, Bool, true, false, List, [], ◌∷◌, ◌++◌, Option, Some, None, Result, Ok, Err, refl, sym, subst, ap, ◌∙◌, arith, append_assoc, append-nil}
+use Rattle.std.proofs.Common.{◌≡◌, ◌≢◌, ℕ, ◌==◌, cond, Bool, true, false, List, [], ◌∷◌, ◌++◌, Option, Some, None, Result, Ok, Err, refl, sym, subst, ap, ◌∙◌, arith, append_assoc, append-nil}
 use Rattle.std.proofs.lemmas.Bool.{eqb-true, eqb-false}
 use Rattle.std.specs.List.{AllByRecursion, flat_map}
 use Rattle.std.specs.Option.{option_map_or}
@@ -17,25 +17,28 @@ IsLine-append (x ∷ line) b h n = (h.0, IsLine-append line b h.1 n)
 
 cut_behind : (line bytes : List ℕ) → IsLine line
     → (line ++ bytes ≡ flat_map (λ l. l ++ line_feed ∷ []) (ended_behind line bytes) ++ unended_behind line bytes)
-      × AllByRecursion IsLine (ended_behind line bytes) × IsLine (unended_behind line bytes)
+    × AllByRecursion IsLine (ended_behind line bytes) × IsLine (unended_behind line bytes)
 unfolding ended_behind unended_behind
 cut_behind line [] h = (append-nil line, tt, h)
 cut_behind line (b ∷ bytes) h = go (cut_behind [] bytes tt) (cut_behind (line ++ b ∷ []) bytes) (b == line_feed) refl
   where
     Cut : List ℕ → List (List ℕ) → List ℕ → Type 0
     Cut all lines rest = (all ≡ flat_map (λ l. l ++ line_feed ∷ []) lines ++ rest) × AllByRecursion IsLine lines × IsLine rest
+
     go : Cut bytes (ended_behind [] bytes) (unended_behind [] bytes)
-      → (IsLine (line ++ b ∷ []) → Cut ((line ++ b ∷ []) ++ bytes) (ended_behind (line ++ b ∷ []) bytes) (unended_behind (line ++ b ∷ []) bytes))
-      → (t : Bool) → (b == line_feed) ≡ t
-      → Cut (line ++ b ∷ bytes) (cond t (line ∷ ended_behind [] bytes) (ended_behind (line ++ b ∷ []) bytes)) (cond t (unended_behind [] bytes) (unended_behind (line ++ b ∷ []) bytes))
+        → (IsLine (line ++ b ∷ []) → Cut ((line ++ b ∷ []) ++ bytes) (ended_behind (line ++ b ∷ []) bytes) (unended_behind (line ++ b ∷ []) bytes))
+        → (t : Bool) → (b == line_feed) ≡ t
+        → Cut (line ++ b ∷ bytes) (cond t (line ∷ ended_behind [] bytes) (ended_behind (line ++ b ∷ []) bytes)) (cond t (unended_behind [] bytes) (unended_behind (line ++ b ∷ []) bytes))
     go ended going true is =
-      let feed : b ≡ line_feed = eqb-true b line_feed is in
-      (ap (λ c. line ++ c ∷ bytes) feed ∙ sym (append_assoc line (line_feed ∷ []) bytes) ∙ ap (λ l. (line ++ line_feed ∷ []) ++ l) ended.0
-       ∙ sym (append_assoc (line ++ line_feed ∷ []) (flat_map (λ l. l ++ line_feed ∷ []) (ended_behind [] bytes)) (unended_behind [] bytes)),
-       (h, ended.1), ended.2)
+        let feed : b ≡ line_feed = eqb-true b line_feed is in (
+          ap (λ c. line ++ c ∷ bytes) feed ∙ sym (append_assoc line (line_feed ∷ []) bytes) ∙ ap (λ l. (line ++ line_feed ∷ []) ++ l) ended.0
+              ∙ sym (append_assoc (line ++ line_feed ∷ []) (flat_map (λ l. l ++ line_feed ∷ []) (ended_behind [] bytes)) (unended_behind [] bytes)),
+          (h, ended.1),
+          ended.2,
+        )
     go ended going false is =
-      let rest = going (IsLine-append line b h (eqb-false b line_feed is)) in
-      (sym (append_assoc line (b ∷ []) bytes) ∙ rest.0, rest.1, rest.2)
+        let rest = going (IsLine-append line b h (eqb-false b line_feed is)) in
+        (sym (append_assoc line (b ∷ []) bytes) ∙ rest.0, rest.1, rest.2)
 
 -- each input has a cut
 pub is_cut : (bytes : List ℕ) → IsCut bytes (ended_lines bytes) (unended_line bytes)

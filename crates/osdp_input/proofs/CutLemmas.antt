@@ -1,8 +1,8 @@
 -- How cutting into lines goes on from piece to piece.
-use Rattle.std.proofs.Common.{◌≡◌, ◌≢◌, ℕ, ◌==◌, cond, Bool, true, false, List, [], ◌∷◌, ◌++◌, refl, sym, ap, ◌∙◌, append_assoc, append-nil}
+use Rattle.std.proofs.Common.{◌≡◌, ℕ, ◌==◌, cond, true, false, List, [], ◌∷◌, ◌++◌, refl, sym, ap, ◌∙◌, append_assoc, append-nil}
 use Rattle.std.proofs.lemmas.Bool.{ne_eqb}
 use Rattle.std.specs.List.{AllByRecursion, flat_map}
-use Rattle.osdp_input.specs.Cut.{line_feed, ended_behind, unended_behind, ended_lines, unended_line, last_line, lines_of, IsLine, IsCut}
+use Rattle.osdp_input.specs.Cut.{line_feed, ended_behind, unended_behind, ended_lines, unended_line, IsLine}
 
 -- the lines of two pieces, one behind the other
 pub ended_behind-append : (line xs ys : List ℕ)
@@ -13,9 +13,9 @@ ended_behind-append line (b ∷ xs) ys =
     let ended = ended_behind-append [] xs ys in
     let going = ended_behind-append (line ++ b ∷ []) xs ys in
     elim (b == line_feed) as
-      (λ t. cond t (line ∷ ended_behind [] (xs ++ ys)) (ended_behind (line ++ b ∷ []) (xs ++ ys))
-          ≡ cond t (line ∷ ended_behind [] xs) (ended_behind (line ++ b ∷ []) xs)
-            ++ ended_behind (cond t (unended_behind [] xs) (unended_behind (line ++ b ∷ []) xs)) ys)
+    (λ t. cond t (line ∷ ended_behind [] (xs ++ ys)) (ended_behind (line ++ b ∷ []) (xs ++ ys))
+    ≡ cond t (line ∷ ended_behind [] xs) (ended_behind (line ++ b ∷ []) xs)
+    ++ ended_behind (cond t (unended_behind [] xs) (unended_behind (line ++ b ∷ []) xs)) ys)
     [ true ↦ ap (λ l. line ∷ l) ended | false ↦ going ]
 
 pub unended_behind-append : (line xs ys : List ℕ)
@@ -26,8 +26,8 @@ unended_behind-append line (b ∷ xs) ys =
     let ended = unended_behind-append [] xs ys in
     let going = unended_behind-append (line ++ b ∷ []) xs ys in
     elim (b == line_feed) as
-      (λ t. cond t (unended_behind [] (xs ++ ys)) (unended_behind (line ++ b ∷ []) (xs ++ ys))
-          ≡ unended_behind (cond t (unended_behind [] xs) (unended_behind (line ++ b ∷ []) xs)) ys)
+    (λ t. cond t (unended_behind [] (xs ++ ys)) (unended_behind (line ++ b ∷ []) (xs ++ ys))
+    ≡ unended_behind (cond t (unended_behind [] xs) (unended_behind (line ++ b ∷ []) xs)) ys)
     [ true ↦ ended | false ↦ going ]
 
 -- no line ends in a piece without a line feed
@@ -67,7 +67,8 @@ ended_lines-cut bytes [] rest each last whole =
 ended_lines-cut bytes (line ∷ lines) rest each last whole =
     let more = flat_map (λ line. line ++ line_feed ∷ []) lines ++ rest in
     let parts : bytes ≡ line ++ line_feed ∷ more =
-      whole ∙ append_assoc (line ++ line_feed ∷ []) (flat_map (λ line. line ++ line_feed ∷ []) lines) rest ∙ append_assoc line (line_feed ∷ []) more in
-    let below = ended_lines-cut more lines rest each.1 last refl in
-    (ap ended_lines parts ∙ ended_behind-feed [] line more each.0 ∙ ap (λ l. line ∷ l) below.0,
-     ap unended_line parts ∙ unended_behind-feed [] line more ∙ below.1)
+    whole ∙ append_assoc (line ++ line_feed ∷ []) (flat_map (λ line. line ++ line_feed ∷ []) lines) rest ∙ append_assoc line (line_feed ∷ []) more in
+    let below = ended_lines-cut more lines rest each.1 last refl in (
+      ap ended_lines parts ∙ ended_behind-feed [] line more each.0 ∙ ap (λ l. line ∷ l) below.0,
+      ap unended_line parts ∙ unended_behind-feed [] line more ∙ below.1,
+    )

@@ -1,12 +1,12 @@
 -- The runs of an input, step by step: part of a line, a line feed, the end.
-use Rattle.std.proofs.Common.{◌≡◌, ℕ, ◌+◌, List, [], ◌∷◌, ◌++◌, length, Option, Some, None, refl, sym, ap, ◌∙◌, arith, append_assoc, append-nil, filter, ◌⊎◌, inl, inr}
+use Rattle.std.proofs.Common.{◌≡◌, ℕ, ◌+◌, List, [], ◌∷◌, ◌++◌, length, Some, None, refl, sym, ap, ◌∙◌, arith, append_assoc, append-nil, ◌⊎◌, inl, inr}
 use Rattle.std.proofs.lemmas.List.Elements.{filter-append}
 use Rattle.std.specs.List.{concat}
 use Rattle.std.specs.Option.{option_map_or}
 use Rattle.osdp_input.specs.declared.form.Form.{Form}
 use Rattle.osdp_input.specs.declared.form.Form.TheVariants.{Raw, Joined, Apart}
-use Rattle.osdp_input.specs.Cut.{ended_behind, unended_behind, line_feed, ended_lines, unended_line, last_line, lines_of, IsLine}
-use Rattle.osdp_input.specs.Line.{line_bytes, kept, said}
+use Rattle.osdp_input.specs.Cut.{ended_behind, unended_behind, line_feed, ended_lines, unended_line, last_line, IsLine}
+use Rattle.osdp_input.specs.Line.{line_bytes, kept}
 use Rattle.osdp_input.specs.Runs.{good_front, bad_line, with_bytes, runs_of, ended_runs, open_run, first_bad, first_bad_ended, closed_runs}
 use Rattle.osdp_input.proofs.CutLemmas.{ended_behind-line, unended_behind-line, ended_behind-append, unended_behind-append, ended_behind-feed, unended_behind-feed}
 use Rattle.osdp_input.proofs.RunsLemmas.{good_front-append, bad_line-append, good_front-stays, bad_line-stays}
@@ -78,8 +78,8 @@ bad_line-bad lines line good says =
 -- part of a line changes nothing but the line
 pub hold_runs : (form : Form) (read xs : List ℕ) → (form ≡ Joined) ⊎ (form ≡ Apart) → IsLine xs
     → (ended_runs form (read ++ xs) ≡ ended_runs form read) × (open_run form (read ++ xs) ≡ open_run form read)
-      × (first_bad_ended form (read ++ xs) ≡ first_bad_ended form read)
-hold_runs Raw read xs lines h = elim lines [ | inl j ↦ cc | inr a ↦ cc ]
+    × (first_bad_ended form (read ++ xs) ≡ first_bad_ended form read)
+hold_runs Raw read xs lines h = elim lines [ inl j ↦ cc | inr a ↦ cc ]
 hold_runs Joined read xs lines h =
     let e = ended_lines-hold read xs h in
     (refl, ap (λ l. concat (good_front l)) e, ap (bad_line 1) e)
@@ -91,50 +91,58 @@ hold_runs Apart read xs lines h =
 pub feed_joined : (read bytes : List ℕ) → first_bad_ended Joined read ≡ None → line_bytes (unended_line read) ≡ Some bytes
     → (open_run Joined (read ++ line_feed ∷ []) ≡ open_run Joined read ++ bytes) × (first_bad_ended Joined (read ++ line_feed ∷ []) ≡ None)
 feed_joined read bytes good says =
-    let e = ended_lines-feed read in
-    (ap (λ l. concat (good_front l)) e ∙ ap concat (good_front-more (ended_lines read) (unended_line read) bytes good says)
-     ∙ concat-append (good_front (ended_lines read)) (bytes ∷ []) ∙ ap (λ l. open_run Joined read ++ l) (append-nil bytes),
-     ap (bad_line 1) e ∙ bad_line-more (ended_lines read) (unended_line read) bytes good says)
+    let e = ended_lines-feed read in (
+      ap (λ l. concat (good_front l)) e ∙ ap concat (good_front-more (ended_lines read) (unended_line read) bytes good says)
+          ∙ concat-append (good_front (ended_lines read)) (bytes ∷ []) ∙ ap (λ l. open_run Joined read ++ l) (append-nil bytes),
+      ap (bad_line 1) e ∙ bad_line-more (ended_lines read) (unended_line read) bytes good says,
+    )
 
 pub feed_apart : (read bytes : List ℕ) → first_bad_ended Apart read ≡ None → line_bytes (unended_line read) ≡ Some bytes
     → (ended_runs Apart (read ++ line_feed ∷ []) ≡ closed_runs (ended_runs Apart read) bytes) × (first_bad_ended Apart (read ++ line_feed ∷ []) ≡ None)
 feed_apart read bytes good says =
-    let e = ended_lines-feed read in
-    (ap (λ l. with_bytes (good_front l)) e ∙ ap with_bytes (good_front-more (ended_lines read) (unended_line read) bytes good says)
-     ∙ filter-append _ (good_front (ended_lines read)) (bytes ∷ []),
-     ap (bad_line 1) e ∙ bad_line-more (ended_lines read) (unended_line read) bytes good says)
+    let e = ended_lines-feed read in (
+      ap (λ l. with_bytes (good_front l)) e ∙ ap with_bytes (good_front-more (ended_lines read) (unended_line read) bytes good says)
+          ∙ filter-append _ (good_front (ended_lines read)) (bytes ∷ []),
+      ap (bad_line 1) e ∙ bad_line-more (ended_lines read) (unended_line read) bytes good says,
+    )
 
 -- a bad line ends
 pub feed_bad : (form : Form) (read : List ℕ) → (form ≡ Joined) ⊎ (form ≡ Apart) → first_bad_ended form read ≡ None → line_bytes (unended_line read) ≡ None
     → (ended_runs form (read ++ line_feed ∷ []) ≡ ended_runs form read) × (open_run form (read ++ line_feed ∷ []) ≡ open_run form read)
-      × (first_bad_ended form (read ++ line_feed ∷ []) ≡ Some (length (ended_lines read) + 1))
-feed_bad Raw read lines good says = elim lines [ | inl j ↦ cc | inr a ↦ cc ]
+    × (first_bad_ended form (read ++ line_feed ∷ []) ≡ Some (length (ended_lines read) + 1))
+feed_bad Raw read lines good says = elim lines [ inl j ↦ cc | inr a ↦ cc ]
 feed_bad Joined read lines good says =
-    let e = ended_lines-feed read in
-    (refl, ap (λ l. concat (good_front l)) (e) ∙ ap concat (good_front-bad (ended_lines read) (unended_line read) good says),
-     ap (bad_line 1) e ∙ bad_line-bad (ended_lines read) (unended_line read) good says)
+    let e = ended_lines-feed read in (
+      refl,
+      ap (λ l. concat (good_front l)) (e) ∙ ap concat (good_front-bad (ended_lines read) (unended_line read) good says),
+      ap (bad_line 1) e ∙ bad_line-bad (ended_lines read) (unended_line read) good says,
+    )
 feed_bad Apart read lines good says =
-    let e = ended_lines-feed read in
-    (ap (λ l. with_bytes (good_front l)) e ∙ ap with_bytes (good_front-bad (ended_lines read) (unended_line read) good says), refl,
-     ap (bad_line 1) e ∙ bad_line-bad (ended_lines read) (unended_line read) good says)
+    let e = ended_lines-feed read in (
+      ap (λ l. with_bytes (good_front l)) e ∙ ap with_bytes (good_front-bad (ended_lines read) (unended_line read) good says),
+      refl,
+      ap (bad_line 1) e ∙ bad_line-bad (ended_lines read) (unended_line read) good says,
+    )
 
 -- ---- the end of the input
 
 blank_good : (lines : List (List ℕ)) (line bytes : List ℕ) → bad_line 1 lines ≡ None → line_bytes line ≡ Some bytes
     → (bad_line 1 (lines ++ last_line line) ≡ None)
-      × (concat (good_front (lines ++ last_line line)) ≡ concat (good_front lines) ++ bytes)
-      × (with_bytes (good_front (lines ++ last_line line)) ≡ closed_runs (with_bytes (good_front lines)) bytes)
+    × (concat (good_front (lines ++ last_line line)) ≡ concat (good_front lines) ++ bytes)
+    × (with_bytes (good_front (lines ++ last_line line)) ≡ closed_runs (with_bytes (good_front lines)) bytes)
 blank_good lines [] bytes good says =
     let none : bytes ≡ [] = cc in
-    let e = append-nil lines in
-    (ap (bad_line 1) e ∙ good,
-     ap (λ l. concat (good_front l)) e ∙ sym (append-nil (concat (good_front lines))) ∙ ap (λ b. concat (good_front lines) ++ b) (sym none),
-     ap (λ l. with_bytes (good_front l)) e ∙ sym (append-nil (with_bytes (good_front lines))) ∙ ap (λ b. closed_runs (with_bytes (good_front lines)) b) (sym none))
+    let e = append-nil lines in (
+      ap (bad_line 1) e ∙ good,
+      ap (λ l. concat (good_front l)) e ∙ sym (append-nil (concat (good_front lines))) ∙ ap (λ b. concat (good_front lines) ++ b) (sym none),
+      ap (λ l. with_bytes (good_front l)) e ∙ sym (append-nil (with_bytes (good_front lines))) ∙ ap (λ b. closed_runs (with_bytes (good_front lines)) b) (sym none),
+    )
 blank_good lines (b ∷ line) bytes good says =
-    let e = good_front-more lines (b ∷ line) bytes good says in
-    (bad_line-more lines (b ∷ line) bytes good says,
-     ap concat e ∙ concat-append (good_front lines) (bytes ∷ []) ∙ ap (λ l. concat (good_front lines) ++ l) (append-nil bytes),
-     ap with_bytes e ∙ filter-append _ (good_front lines) (bytes ∷ []))
+    let e = good_front-more lines (b ∷ line) bytes good says in (
+      bad_line-more lines (b ∷ line) bytes good says,
+      ap concat e ∙ concat-append (good_front lines) (bytes ∷ []) ∙ ap (λ l. concat (good_front lines) ++ l) (append-nil bytes),
+      ap with_bytes e ∙ filter-append _ (good_front lines) (bytes ∷ []),
+    )
 
 -- the last line is good
 pub end_joined : (read bytes : List ℕ) → first_bad_ended Joined read ≡ None → line_bytes (unended_line read) ≡ Some bytes
@@ -157,7 +165,7 @@ bad_last lines (b ∷ line) good says = (bad_line-bad lines (b ∷ line) good sa
 
 pub end_bad : (form : Form) (read : List ℕ) → (form ≡ Joined) ⊎ (form ≡ Apart) → first_bad_ended form read ≡ None → line_bytes (unended_line read) ≡ None
     → (first_bad form read ≡ Some (length (ended_lines read) + 1)) × (runs_of form read ≡ closed_runs (ended_runs form read) (open_run form read))
-end_bad Raw read lines good says = elim lines [ | inl j ↦ cc | inr a ↦ cc ]
+end_bad Raw read lines good says = elim lines [ inl j ↦ cc | inr a ↦ cc ]
 end_bad Joined read lines good says =
     let g = bad_last (ended_lines read) (unended_line read) good says in
     (g.0, ap (λ l. with_bytes (concat l ∷ [])) g.1)
@@ -175,20 +183,22 @@ ended_lines-more read more =
 -- a bad line that has ended is the first, whatever comes behind it
 pub bad_stays : (form : Form) (read more : List ℕ) (line : ℕ) → first_bad_ended form read ≡ Some line
     → (first_bad form (read ++ more) ≡ Some line) × (first_bad_ended form (read ++ more) ≡ Some line)
-      × (runs_of form (read ++ more) ≡ closed_runs (ended_runs form read) (open_run form read))
+    × (runs_of form (read ++ more) ≡ closed_runs (ended_runs form read) (open_run form read))
 bad_stays Raw read more line bad = cc
 bad_stays Joined read more line bad =
     let m = ended_lines-more read more in
-    let last = last_line (unended_line (read ++ more)) in
-    (ap (bad_line 1) (m.2 last) ∙ bad_line-stays 1 line (ended_lines read) (m.0 ++ last) bad,
-     ap (bad_line 1) m.1 ∙ bad_line-stays 1 line (ended_lines read) m.0 bad,
-     ap (λ l. with_bytes (concat (good_front l) ∷ [])) (m.2 last)
-     ∙ ap (λ l. with_bytes (concat l ∷ [])) (good_front-stays 1 line (ended_lines read) (m.0 ++ last) bad))
+    let last = last_line (unended_line (read ++ more)) in (
+      ap (bad_line 1) (m.2 last) ∙ bad_line-stays 1 line (ended_lines read) (m.0 ++ last) bad,
+      ap (bad_line 1) m.1 ∙ bad_line-stays 1 line (ended_lines read) m.0 bad,
+      ap (λ l. with_bytes (concat (good_front l) ∷ [])) (m.2 last)
+          ∙ ap (λ l. with_bytes (concat l ∷ [])) (good_front-stays 1 line (ended_lines read) (m.0 ++ last) bad),
+    )
 bad_stays Apart read more line bad =
     let m = ended_lines-more read more in
-    let last = last_line (unended_line (read ++ more)) in
-    (ap (bad_line 1) (m.2 last) ∙ bad_line-stays 1 line (ended_lines read) (m.0 ++ last) bad,
-     ap (bad_line 1) m.1 ∙ bad_line-stays 1 line (ended_lines read) m.0 bad,
-     ap (λ l. with_bytes (good_front l)) (m.2 last)
-     ∙ ap with_bytes (good_front-stays 1 line (ended_lines read) (m.0 ++ last) bad)
-     ∙ sym (append-nil (ended_runs Apart read)))
+    let last = last_line (unended_line (read ++ more)) in (
+      ap (bad_line 1) (m.2 last) ∙ bad_line-stays 1 line (ended_lines read) (m.0 ++ last) bad,
+      ap (bad_line 1) m.1 ∙ bad_line-stays 1 line (ended_lines read) m.0 bad,
+      ap (λ l. with_bytes (good_front l)) (m.2 last)
+          ∙ ap with_bytes (good_front-stays 1 line (ended_lines read) (m.0 ++ last) bad)
+          ∙ sym (append-nil (ended_runs Apart read)),
+    )

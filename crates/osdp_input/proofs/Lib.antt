@@ -2,3 +2,4 @@ pub mod CutLemmas
 pub mod RunsLemmas
 pub mod FormLemmas
 pub mod Bytes
+pub mod Spelled

@@ -1,3 +1,4 @@
 pub mod Cut
 pub mod Line
 pub mod Runs
+pub mod Laws

@@ -2,6 +2,7 @@
 #![tactic(auto)]
 
 mod form;
+pub mod laws;
 mod line;
 
 pub use form::Form;

@@ -1,5 +1,5 @@
 -- Bytes as hexadecimal digits, byte by byte.
-use Rattle.std.proofs.Common.{◌≡◌, ℕ, suc, ◌+◌, ◌/◌, ◌%◌, ◌<◌, ◌≤◌, List, [], ◌∷◌, ◌++◌, length, drop, get_or, slice_index, refl, sym, ap, ◌∙◌, append_assoc, append-nil, add-one, arith, drop-cons}
+use Rattle.std.proofs.Common.{◌≡◌, ℕ, ◌+◌, ◌/◌, ◌%◌, ◌<◌, ◌≤◌, List, [], ◌∷◌, ◌++◌, length, drop, get_or, slice_index, refl, ◌∙◌, append_assoc, add-one, drop-cons}
 use Rattle.std.proofs.lemmas.List.{drop_all}
 use Rattle.hex.specs.Hex.{encode_upper, encode_with, upper_digits}
 
@@ -18,7 +18,7 @@ pub encode_upper-more : (start text high new bytes : List ℕ) (i : ℕ) → i <
 encode_upper-more start text high new bytes i below before first second =
     let step = encode_upper-drop bytes i below in
     let whole : new ++ encode_upper (drop (i + 1) bytes) ≡ text ++ encode_upper (drop i bytes) =
-        rw (second, first, step) (simp append_assoc) in
+    rw (second, first, step) (simp append_assoc) in
     whole ∙ before
 
 pub encode_upper-done : (bytes : List ℕ) (i : ℕ) → length bytes ≤ i → encode_upper (drop i bytes) ≡ []

@@ -1,13 +1,12 @@
 -- Lines and counts, piece by piece.
-use Rattle.std.proofs.Common.{◌≡◌, ℕ, ◌+◌, ◌*◌, ◌-◌, ◌<◌, ◌≤◌, ◌==◌, cond, Bool, true, false, List, [], ◌∷◌, ◌++◌, length, drop, refl, sym, ap, ◌∙◌, arith, append_assoc, append-nil}
+use Rattle.std.proofs.Common.{◌≡◌, ℕ, ◌+◌, ◌*◌, ◌<◌, ◌≤◌, ◌==◌, cond, Bool, true, false, List, [], ◌∷◌, ◌++◌, length, drop, refl, sym, ap, ◌∙◌, arith, append_assoc, append-nil}
 use Rattle.std.proofs.Common.{length-drop}
 use Rattle.std.proofs.lemmas.Bool.{eqb-true, eqb-false}
-use Rattle.osdp_frame.specs.Packet.{packet_length}
-use Rattle.osdp_frame.specs.Reading.{Part, Whole, Passed, Bad, part_size, total_size}
-use Rattle.osdp_frame.specs.Items.{items, reading, left_over}
+use Rattle.osdp_frame.specs.Reading.{Part, Whole, Passed, Bad, part_size}
+use Rattle.osdp_frame.specs.Items.{reading}
 use Rattle.osdp_lines.specs.declared.tally.Tally.{Tally}
 use Rattle.osdp_lines.specs.ItemText.{is_refusal}
-use Rattle.osdp_lines.specs.Tally.{no_tally, one_if, after_part, after_parts, after_run, counted}
+use Rattle.osdp_lines.specs.Tally.{one_if, after_part, after_parts, after_run, counted}
 use Rattle.osdp_lines.specs.Told.{part_line, parts_lines, after_runs, runs_lines}
 
 pub after_parts-append : (tally : Tally) (xs ys : List Part) → after_parts tally (xs ++ ys) ≡ after_parts (after_parts tally xs) ys

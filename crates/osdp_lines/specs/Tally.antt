@@ -1,7 +1,7 @@
 -- Where the text stands, and what has been counted.
 use Rattle.std.specs.Prelude.{ℕ, ◌+◌, ◌==◌, Bool, if◌then◌else◌, List, [], ◌∷◌}
 use Rattle.osdp_frame.specs.Packet.{packet_length}
-use Rattle.osdp_frame.specs.Reading.{Part, Whole, Passed, Bad, part_size}
+use Rattle.osdp_frame.specs.Reading.{Part, Whole, Passed, Bad}
 use Rattle.osdp_lines.specs.declared.tally.Tally.{Tally}
 use Rattle.osdp_lines.specs.ItemText.{is_refusal}
 

@@ -8,6 +8,7 @@ ghost use Rattle.osdp_lines.specs.Told.{part_line, end_line};
 
 use crate::hex_text::push_bytes;
 use crate::message_text::{is_refused, push_command, push_reply};
+use crate::number::push_number;
 use crate::packet_text::push_head;
 use crate::tally::Tally;
 use osdp_frame::{FrameFault, FrameView};
@@ -20,9 +21,10 @@ fn push_front(text: &mut String, tally: &Tally) -> Result<(), AllocError>
     ensures { OnOk result (string_bytes text.new ≡ string_bytes text.old
         ++ (decimal (tally.now.runs + 1) ++ (codes ":" ++ (decimal tally.now.place ++ codes " ")))) }
 {
-    let run = tally.runs + 1;
-    let place = tally.place;
-    write!(text, "{run}:{place} ")
+    push_number(text, tally.runs + 1)?;
+    text.push_str(":")?;
+    push_number(text, tally.place)?;
+    text.push_str(" ")
 }
 
 /// Writes the line of a packet whose body is left unread.
@@ -181,5 +183,8 @@ pub fn push_end(text: &mut String, full: bool, tally: &Tally) -> Result<(), Allo
     let packets = tally.packets;
     let skipped = tally.skipped;
     let refused = tally.refused;
-    write!(text, "runs {runs} packets {packets} skipped {skipped} refused {refused}\n")
+    write!(
+        text,
+        "runs {runs} packets {packets} skipped {skipped} refused {refused}\n"
+    )
 }

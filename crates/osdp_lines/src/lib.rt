@@ -4,6 +4,7 @@
 mod hex_text;
 mod item_text;
 mod message_text;
+mod number;
 mod packet_text;
 mod tally;
 mod telling;

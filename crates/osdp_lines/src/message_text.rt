@@ -42,12 +42,7 @@ fn refusal_text(fault: MsgFault) -> &'static str
 }
 
 /// Writes a code and data that are no message, and why.
-fn push_unread(
-    text: &mut String,
-    fault: MsgFault,
-    code: u8,
-    bytes: &[u8],
-) -> Result<(), AllocError>
+fn push_unread(text: &mut String, fault: MsgFault, code: u8, bytes: &[u8]) -> Result<(), AllocError>
     ensures { OnOk result (string_bytes text.new ≡ string_bytes text.old ++ unread_text fault code bytes.now) }
 {
     text.push_str(refusal_text(fault))?;

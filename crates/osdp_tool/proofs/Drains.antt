@@ -1,5 +1,5 @@
 -- Items told and taken off one by one.
-use Rattle.std.proofs.Common.{◌≡◌, ℕ, ◌+◌, ◌*◌, ◌<◌, ◌≤◌, ◌==◌, ◌&&◌, not, Bool, true, false, List, [], ◌∷◌, ◌++◌, length, drop, Option, Some, None, refl, sym, subst, ap, ◌∙◌, arith, append_assoc, append-nil, length-drop}
+use Rattle.std.proofs.Common.{◌≡◌, ℕ, ◌+◌, ◌*◌, ◌<◌, ◌≤◌, ◌==◌, ◌&&◌, not, Bool, true, false, List, [], ◌∷◌, ◌++◌, length, drop, Option, Some, None, refl, sym, subst, ap, ◌∙◌, arith, append_assoc, append-nil}
 use Rattle.std.proofs.Math.Seq.{drop-drop}
 use Rattle.std.proofs.lemmas.Bool.{ne_eqb}
 use Rattle.osdp_frame.specs.Bytes.{AreBytes}
@@ -9,7 +9,7 @@ use Rattle.osdp_frame.specs.Items.{items}
 use Rattle.osdp_frame.proofs.Head.{AreBytes-drop}
 use Rattle.osdp_frame.proofs.Decided.{undecided_none}
 use Rattle.osdp_frame.proofs.Readings.{part_size-positive, part_size-decided, decided_nothing, undecided_ended, items_undecided, items_decided}
-use Rattle.osdp_lines.specs.Tally.{after_part, after_parts, counted}
+use Rattle.osdp_lines.specs.Tally.{after_part, counted}
 use Rattle.osdp_lines.proofs.Lines.{after_parts-nil, after_parts-cons, counted-behind}
 use Rattle.osdp_tool.specs.declared.report.Report.{Report}
 use Rattle.osdp_tool.specs.Machine.{Tells, Draining, Drained}

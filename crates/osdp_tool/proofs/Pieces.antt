@@ -1,5 +1,5 @@
 -- A capture that goes on, piece by piece.
-use Rattle.std.proofs.Common.{◌≡◌, ℕ, ◌+◌, ◌*◌, ◌<◌, ◌≤◌, not, Bool, true, false, List, [], ◌∷◌, ◌++◌, length, take, drop, get_or, string_bytes, Option, Some, None, MatchOption, ◌⊎◌, inl, inr, refl, sym, subst, ap, ◌∙◌, arith, append_assoc, append-nil, length-append}
+use Rattle.std.proofs.Common.{◌≡◌, ℕ, ◌+◌, ◌<◌, ◌≤◌, not, Bool, true, false, List, [], ◌∷◌, ◌++◌, length, take, drop, get_or, string_bytes, Option, Some, None, MatchOption, ◌⊎◌, inl, inr, refl, sym, subst, ap, ◌∙◌, arith, append_assoc, append-nil, length-append}
 use Rattle.std.specs.Io.KnownBytes.{Appends, append_known}
 use Rattle.std.proofs.KnownBytes.{Appends-nil}
 use Rattle.std.proofs.Math.Seq.{take-add}
@@ -10,13 +10,13 @@ use Rattle.osdp_tool.specs.Feeds.{HasLine}
 use Rattle.osdp_frame.specs.Bytes.{AreBytes}
 use Rattle.osdp_frame.specs.Reading.{total_size}
 use Rattle.osdp_frame.proofs.Readings.{decided_nothing, items_undecided}
-use Rattle.osdp_frame.specs.Held.{Held, decided, new_run}
-use Rattle.osdp_frame.specs.Items.{items, left_over}
+use Rattle.osdp_frame.specs.Held.{Held, new_run}
+use Rattle.osdp_frame.specs.Items.{left_over}
 use Rattle.osdp_input.specs.declared.form.Form.{Form}
 use Rattle.osdp_input.specs.declared.form.Form.TheVariants.{Raw, Joined, Apart}
 use Rattle.osdp_input.specs.Cut.{ended_behind, unended_behind, line_feed, ended_lines, unended_line, IsLine}
-use Rattle.osdp_input.specs.Line.{is_blank, kept, said, line_bytes}
-use Rattle.osdp_input.specs.Runs.{good_front, bad_line, ended_runs, open_run, runs_of, first_bad, first_bad_ended, closed_runs}
+use Rattle.osdp_input.specs.Line.{is_blank, kept, said}
+use Rattle.osdp_input.specs.Runs.{good_front, bad_line, ended_runs, open_run, first_bad_ended}
 use Rattle.osdp_input.proofs.FormLemmas.{ended_lines-hold, unended_line-hold, ended_lines-feed, unended_line-feed, kept-append, hold_runs, feed_joined, feed_apart, feed_bad}
 use Rattle.osdp_lines.specs.Tally.{no_tally, counted, after_parts}
 use Rattle.osdp_lines.specs.Told.{parts_lines, after_runs, runs_lines, tally_so_far, lines_so_far}
@@ -24,7 +24,7 @@ use Rattle.osdp_lines.proofs.Lines.{after_parts-nil, parts_lines-nil}
 use Rattle.osdp_tool.specs.declared.capture.Capture.{Capture}
 use Rattle.osdp_tool.specs.declared.report.Report.{Report}
 use Rattle.osdp_tool.specs.Machine.{told, IsSettled, Stands, Took, EndedRun}
-use Rattle.osdp_tool.specs.Capture.{load, LineStands, OpenLine, Follows, Stops, FollowsIf, TookPiece}
+use Rattle.osdp_tool.specs.Capture.{LineStands, OpenLine, Follows, Stops, FollowsIf, TookPiece}
 
 -- one piece behind another
 pub took_both : (xs ys : List ℕ) (good : Bool) (a b c : Capture) (before middle after : Option (List ℕ))

@@ -1,14 +1,12 @@
 -- The text of readings, and the lines that are counted on the way.
-use Rattle.std.proofs.Common.{◌≡◌, ℕ, zero, suc, drop, length-drop, ◌+◌, ◌*◌, ◌<◌, ◌≤◌, ◌==◌, ◌||◌, not, Bool, true, false, cond, nat_lt, List, [], ◌∷◌, ◌++◌, length, Option, Some, None, get_or, ◌⊎◌, inl, inr, refl, sym, subst, ap, ◌∙◌, arith, append_assoc, append-nil, zero-add}
-use Rattle.std.proofs.lemmas.Bool.{ne_eqb, eqb-true, eqb-false}
+use Rattle.std.proofs.Common.{◌≡◌, ℕ, zero, suc, drop, length-drop, ◌+◌, ◌<◌, ◌≤◌, not, Bool, true, false, cond, nat_lt, List, [], ◌∷◌, ◌++◌, length, Option, Some, None, refl, sym, subst, ap, ◌∙◌, arith, zero-add}
+use Rattle.std.proofs.lemmas.Bool.{ne_eqb}
 use Rattle.std.proofs.lemmas.List.{get_or_past}
 use Rattle.std.specs.Prelude.{flat_map, count_by}
 use Rattle.std.proofs.lemmas.List.Sums.{sum_by-append, sum_by-cons}
 use Rattle.std.specs.List.{AllByRecursion, concat}
 use Rattle.std.specs.Option.{option_map_or}
-use Rattle.std.specs.Result.{result_ok}
 use Rattle.osdp_frame.specs.Bytes.{AreBytes}
-use Rattle.osdp_frame.specs.Packet.{packet_length}
 use Rattle.osdp_frame.specs.Reading.{Part, Whole, Passed, Bad, part_size, total_size, IsReading}
 use Rattle.osdp_frame.specs.Items.{items, reading, Drains}
 use Rattle.osdp_frame.specs.Held.{decided}
@@ -17,13 +15,13 @@ use Rattle.osdp_frame.proofs.Decided.{first_decided, undecided_none}
 use Rattle.osdp_frame.proofs.Readings.{is_reading, reading_is, sizes_reading, drained_items, decided_nothing, items_undecided, items_decided, part_size-positive, part_size-decided}
 use Rattle.osdp_input.specs.declared.form.Form.{Form}
 use Rattle.osdp_input.specs.declared.form.Form.TheVariants.{Raw, Joined, Apart}
-use Rattle.osdp_input.specs.Cut.{IsCut, IsLine, ended_lines, unended_line, last_line, lines_of}
-use Rattle.osdp_input.specs.Line.{line_bytes, said, kept}
+use Rattle.osdp_input.specs.Cut.{ended_lines, unended_line, last_line, lines_of}
+use Rattle.osdp_input.specs.Line.{line_bytes}
 use Rattle.osdp_input.specs.Runs.{good_front, with_bytes, runs_of, ended_runs, open_run}
 use Rattle.osdp_input.proofs.CutLemmas.{ended_lines-cut}
 use Rattle.osdp_input.proofs.Bytes.{is_cut, good_front-bytes}
 use Rattle.osdp_lines.specs.declared.tally.Tally.{Tally}
-use Rattle.osdp_lines.specs.ItemText.{is_refusal, item_line, counts_line}
+use Rattle.osdp_lines.specs.ItemText.{is_refusal, counts_line}
 use Rattle.osdp_lines.specs.Tally.{no_tally, one_if, after_part, after_parts, after_run}
 use Rattle.osdp_lines.specs.Told.{part_line, parts_lines, after_runs, runs_lines, end_line}
 use Rattle.osdp_lines.proofs.Lines.{after_runs-place}

@@ -65,15 +65,6 @@ pub on_ok_both : {T E : Type 0} {A B C : Type 0} (r : Result T E) → (A → B �
 on_ok_both (Ok x) f a b = f a b
 on_ok_both (Err e) f a b = tt
 
--- nothing waits
-pub kept_written : (before known : Option (List ℕ)) (text : List ℕ) → Keeps before (append_known known text) → text ≡ [] → Keeps before known
-kept_written None known text h none = tt
-kept_written (Some x) None text h none = absurd h
-kept_written (Some x) (Some y) text h none = sym (append-nil y) ∙ ap (λ l. y ++ l) (sym none) ∙ h
-
-pub grown_written : (known after : Option (List ℕ)) (old new line : List ℕ) → new ≡ old ++ line → Keeps (append_known known new) after → Appends (append_known known old) after line
-grown_written known after old new line grew kept = Appends-kept (append_known known old) (append_known known new) after line (grown known old new line grew) kept
-
 pub if_ok_map : {T E : Type 0} (P Q : T → Type 0) (r : Result T E) → ((x : T) → P x → Q x) → IfOk r P → IfOk r Q
 if_ok_map P Q (Ok x) f p = f x p
 if_ok_map P Q (Err e) f p = tt

@@ -1,24 +1,23 @@
 -- Runs that go on and end, and what has been told of them.
-use Rattle.std.proofs.Common.{◌≡◌, ℕ, suc, ◌+◌, ◌-◌, ◌*◌, ◌<◌, ◌≤◌, ◌==◌, ◌&&◌, not, Bool, true, false, cond, min, List, [], ◌∷◌, ◌++◌, length, take, drop, get_or, Option, Some, None, inl, inr, refl, sym, subst, ap, ◌∙◌, arith, append_assoc, append-nil, length-drop, length-append, length-take, take-append-drop}
+use Rattle.std.proofs.Common.{◌≡◌, ℕ, ◌+◌, ◌-◌, ◌<◌, ◌≤◌, ◌==◌, not, Bool, true, false, cond, min, List, [], ◌∷◌, ◌++◌, length, take, drop, get_or, Option, None, inl, inr, refl, sym, subst, ap, ◌∙◌, arith, append_assoc, append-nil, length-append, take-append-drop}
 use Rattle.std.proofs.Math.Seq.{drop-drop, take-add}
 use Rattle.std.proofs.lemmas.List.{drop-append-le, drop_all, get_or_append_left, get_or-append_right, get_or_past}
 use Rattle.std.proofs.lemmas.Bool.{ne_eqb, cases_lt}
 use Rattle.std.specs.Io.KnownBytes.{Appends}
 use Rattle.std.proofs.KnownBytes.{Appends-trans}
 use Rattle.osdp_frame.specs.Bytes.{AreBytes}
-use Rattle.osdp_frame.specs.Reading.{Part, part_size, total_size, IsUndecided}
+use Rattle.osdp_frame.specs.Reading.{Part, total_size}
 use Rattle.osdp_frame.specs.Held.{Held, decided, after_gap, after_push, taken_count}
 use Rattle.osdp_frame.specs.Items.{items, reading, left_over}
 use Rattle.osdp_frame.proofs.Decided.{undecided_none}
 use Rattle.osdp_frame.proofs.Head.{AreBytes-drop}
 use Rattle.osdp_frame.proofs.Readings.{decided_nothing, items_undecided, items-append, left_undecided, sizes_reading, is_reading, AreBytes-front}
 use Rattle.osdp_input.specs.Runs.{closed_runs, with_bytes}
-use Rattle.osdp_lines.specs.declared.tally.Tally.{Tally}
 use Rattle.osdp_lines.specs.Tally.{no_tally, after_parts, after_run, counted}
 use Rattle.osdp_lines.specs.Told.{parts_lines, after_runs, runs_lines, tally_so_far, lines_so_far}
 use Rattle.osdp_lines.proofs.Lines.{after_parts-nil, after_parts-append, parts_lines-nil, parts_lines-append, after_runs-append, after_runs-one, runs_lines-append, runs_lines-one, after_run-none, after_runs-place, counted-after_run}
 use Rattle.osdp_tool.specs.declared.report.Report.{Report}
-use Rattle.osdp_tool.specs.Machine.{Tells, Drained, IsSettled, Stands, Took, EndedRun}
+use Rattle.osdp_tool.specs.Machine.{Drained, IsSettled, Stands, Took, EndedRun}
 
 -- ---- bytes
 

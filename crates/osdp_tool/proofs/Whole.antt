@@ -1,12 +1,12 @@
 -- Where the bytes of an input are known, the answer and the text are those of these bytes.
-use Rattle.std.proofs.Common.{◌≡◌, ℕ, ◌+◌, ◌-◌, ◌<◌, ◌≤◌, Bool, true, false, cond, ◌||◌, nat_le, List, [], ◌∷◌, ◌++◌, length, take, drop, Option, Some, None, is_some, Result, Ok, Err, ◌⊎◌, inl, inr, refl, sym, subst, ap, ◌∙◌, arith, append_assoc, append-nil, length-append}
+use Rattle.std.proofs.Common.{◌≡◌, ℕ, ◌+◌, ◌-◌, ◌<◌, ◌≤◌, Bool, true, false, cond, ◌||◌, nat_le, List, [], ◌∷◌, ◌++◌, length, take, drop, Option, Some, None, is_some, Result, Ok, Err, inl, inr, refl, sym, subst, ap, ◌∙◌, arith, append_assoc, append-nil, length-append}
 use Rattle.std.specs.Option.{option_map_or}
 use Rattle.std.specs.Io.KnownBytes.{Appends, Consumes, IsAtEnd}
 use Rattle.std.proofs.lemmas.List.{take_all}
 use Rattle.std.proofs.Math.Seq.{take-add, take-append_seam, drop-append_seam}
 use Rattle.std.proofs.lemmas.Bool.{le-leb, lt-leb}
 use Rattle.osdp_input.specs.declared.form.Form.{Form}
-use Rattle.osdp_input.specs.Runs.{runs_of, ended_runs, open_run, first_bad, first_bad_ended, closed_runs}
+use Rattle.osdp_input.specs.Runs.{first_bad, first_bad_ended}
 use Rattle.osdp_input.proofs.FormLemmas.{bad_stays}
 use Rattle.osdp_lines.specs.Tally.{no_tally}
 use Rattle.osdp_lines.specs.Told.{after_runs, runs_lines, end_line}
@@ -14,8 +14,8 @@ use Rattle.osdp_stream.specs.declared.fault.ToolFault.{ToolFault}
 use Rattle.osdp_stream.specs.declared.fault.ToolFault.TheVariants.{NotHex, TooLong, BadWords, BadStep}
 use Rattle.osdp_stream.specs.declared.fault.ToolFault.TheVariants.{HoldsPacket, NotQuiet, ReadFailed}
 use Rattle.osdp_stream.specs.declared.fault.ToolFault.TheVariants.{WriteFailed, NoMemory}
-use Rattle.osdp_tool.specs.Shown.{shown, shown_so_far, answer_to, is_refused_input, ends_within, limited_text, limited_answer}
-use Rattle.osdp_tool.specs.Ending.{Stream, streamed, Ends, EndsAtEnd, EndsAtBadLine, EndsPastLimit, EndsAtFailedRead, IsWhole, EndsWhole}
+use Rattle.osdp_tool.specs.Shown.{shown, shown_so_far, answer_to, is_refused_input, ends_within}
+use Rattle.osdp_tool.specs.Ending.{Stream, streamed, Ends, IsWhole, EndsWhole}
 
 -- what was consumed of known bytes is their front
 consumed : (bytes read : List ℕ) (after : Option (List ℕ)) → Consumes (Some bytes) after read → (rest : List ℕ) × (after ≡ Some rest) × (bytes ≡ read ++ rest)

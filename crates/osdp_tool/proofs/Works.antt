@@ -1,7 +1,7 @@
 -- A capture that is read to its end.
-use Rattle.std.proofs.Common.{◌≡◌, ◌≢◌, ℕ, ◌+◌, ◌-◌, ◌*◌, ◌<◌, ◌≤◌, Bool, true, false, List, [], ◌∷◌, ◌++◌, length, take, drop, take-append-drop, Option, Some, None, Result, Ok, Err, OnOk, IfErr, ◌⊎◌, inl, inr, refl, sym, subst, ap, ◌∙◌, arith, append_assoc, append-nil, length-append}
-use Rattle.std.specs.Io.KnownBytes.{Appends, Consumes, Keeps, IsAtEnd}
-use Rattle.std.proofs.KnownBytes.{Consumes-nil, Consumes-trans, Consumes-kept}
+use Rattle.std.proofs.Common.{◌≡◌, ℕ, ◌-◌, ◌≤◌, Bool, true, false, List, [], ◌∷◌, ◌++◌, length, take, drop, take-append-drop, Option, Some, None, Result, Ok, Err, OnOk, IfErr, ◌⊎◌, inl, inr, refl, sym, subst, ap, ◌∙◌, arith, append_assoc, append-nil, length-append}
+use Rattle.std.specs.Io.KnownBytes.{Appends, Consumes, Keeps}
+use Rattle.std.proofs.KnownBytes.{Consumes-nil, Consumes-trans}
 use Rattle.std.proofs.KnownBytes.{Appends-trans, Appends-kept}
 use Rattle.osdp_frame.specs.Held.{Held}
 use Rattle.osdp_frame.proofs.Readings.{decided_nothing, items_undecided}
@@ -20,10 +20,10 @@ use Rattle.osdp_stream.specs.declared.fault.ToolFault.{ToolFault}
 use Rattle.osdp_stream.specs.declared.fault.ToolFault.TheVariants.{NotHex, TooLong, BadWords, BadStep}
 use Rattle.osdp_stream.specs.declared.fault.ToolFault.TheVariants.{HoldsPacket, NotQuiet, ReadFailed}
 use Rattle.osdp_stream.specs.declared.fault.ToolFault.TheVariants.{WriteFailed, NoMemory}
-use Rattle.osdp_tool.specs.Machine.{IsSettled, IsStep, Stands, EndedRun}
-use Rattle.osdp_tool.specs.Shown.{shown, shown_so_far}
-use Rattle.osdp_tool.specs.Ending.{streamed, EndsAtEnd, EndsAtBadLine, EndsAtFailedRead}
-use Rattle.osdp_tool.specs.Capture.{load, Follows, FollowsIf, TookPiece, TookPart}
+use Rattle.osdp_tool.specs.Machine.{IsSettled, IsStep, EndedRun}
+use Rattle.osdp_tool.specs.Shown.{shown}
+use Rattle.osdp_tool.specs.Ending.{streamed, EndsAtBadLine, EndsAtFailedRead}
+use Rattle.osdp_tool.specs.Capture.{Follows, FollowsIf, TookPiece, TookPart}
 use Rattle.osdp_tool.specs.Works.{Works, Answered, Closed, EndedInput, EndsLine, HasRead, ReadToEnd, ReadToBadLine, ReadToLimit, ReadToFailure}
 use Rattle.osdp_tool.proofs.Pieces.{took_both, nothing_bad, told_nothing}
 

@@ -1,5 +1,5 @@
 -- What show and check print of an input, and what they answer.
-use Rattle.std.specs.Prelude.{ℕ, Bool, ◌||◌, nat_lt, nat_le, if◌then◌else◌, List, [], ◌∷◌, ◌++◌, length, take, Option, Some, None, is_some, Result, Ok, Err}
+use Rattle.std.specs.Prelude.{ℕ, Bool, ◌||◌, nat_lt, nat_le, if◌then◌else◌, List, ◌++◌, length, take, is_some, Result, Ok, Err}
 use Rattle.std.specs.Option.{option_map_or}
 use Rattle.osdp_input.specs.declared.form.Form.{Form}
 use Rattle.osdp_input.specs.declared.form.Form.TheVariants.{Raw, Joined, Apart}

@@ -15,7 +15,7 @@ use osdp_stream::{ToolFault, Watched};
 use std::alloc::Global;
 use std::io::Write;
 
-/// So much text has room from the start, which is more than the lines of one item need.
+/// Room for the text that is gathered and the longest line behind it, so that no line needs memory.
 const ROOM: usize = 49152;
 
 /// A capture that is read.

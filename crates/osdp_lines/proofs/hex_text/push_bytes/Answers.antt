@@ -1,5 +1,4 @@
-use Rattle.std.proofs.Common.{[], ◌∷◌, ◌≡◌, ◌++◌, ◌∙◌, drop, sym, ap, append-nil, string_bytes}
-use Rattle.hex.specs.Hex.{encode_upper}
+use Rattle.std.proofs.Common.{[], ◌∷◌, ◌++◌, ◌∙◌, sym, ap, append-nil, string_bytes}
 use Rattle.osdp_lines.proofs.HexText.{encode_upper-more, encode_upper-done}
 use Rattle.osdp_lines.proofs.hex_text.push_bytes.Goals as goal
 

@@ -1,5 +1,5 @@
-use Rattle.std.proofs.Common.{◌≡◌, ◌++◌, refl, subst, sym}
-use Rattle.osdp_stream.specs.Watched.{inner_of, has_failed}
+use Rattle.std.proofs.Common.{refl, subst}
+use Rattle.osdp_stream.specs.Watched.{inner_of}
 use Rattle.osdp_frame.specs.Held.{Held}
 use Rattle.osdp_tool.specs.declared.report.Report.{Report}
 use Rattle.osdp_tool.specs.Machine.{told, Drained}

@@ -1,6 +1,6 @@
 use Rattle.std.proofs.lemmas.List.{take_rest}
-use Rattle.std.proofs.Common.{refl, ℕ, List, ◌-◌, ◌≡◌, ◌+◌, ◌<◌, ◌≤◌, length, length-drop, drop, take, subst, sym, ap, ◌∙◌, arith}
-use Rattle.osdp_stream.specs.Watched.{inner_of, has_failed}
+use Rattle.std.proofs.Common.{refl, ◌≡◌, ◌+◌, ◌<◌, length-drop, drop, take, subst, sym, ap, ◌∙◌, arith}
+use Rattle.osdp_stream.specs.Watched.{inner_of}
 use Rattle.osdp_frame.specs.Held.{taken_count, after_push}
 use Rattle.osdp_tool.specs.Machine.{told, Took}
 use Rattle.osdp_tool.proofs.Standing.{took_some, took_within, took_step, took_start}

@@ -1,4 +1,4 @@
-use Rattle.std.proofs.Common.{refl, [], ◌∷◌, ◌≡◌, ◌+◌, ◌*◌, ◌≤◌, length, true, false, ap, sym, ◌∙◌, arith, Some, None}
+use Rattle.std.proofs.Common.{refl, ◌≡◌, ◌+◌, length, ap, sym, ◌∙◌, arith, Some, None}
 use Rattle.osdp_stream.specs.Watched.{inner_of}
 use Rattle.osdp_input.specs.Line.{said}
 use Rattle.osdp_tool.specs.declared.capture.Capture.{Capture}

@@ -1,5 +1,4 @@
 use Rattle.std.proofs.Common.{refl}
-use Rattle.osdp_tool.specs.declared.capture.Capture.{Capture}
 use Rattle.osdp_tool.proofs.Pieces.{held_part}
 use Rattle.osdp_tool.proofs.capture.Capture.hold.Goals as goal
 

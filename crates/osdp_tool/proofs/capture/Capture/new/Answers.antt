@@ -1,4 +1,4 @@
-use Rattle.std.proofs.Common.{refl, [], ◌≡◌}
+use Rattle.std.proofs.Common.{refl}
 use Rattle.osdp_tool.specs.declared.capture.Capture.{Capture}
 use Rattle.osdp_tool.proofs.Pieces.{begins}
 use Rattle.osdp_tool.proofs.capture.Capture.new.Goals as goal

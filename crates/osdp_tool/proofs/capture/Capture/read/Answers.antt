@@ -1,4 +1,4 @@
-use Rattle.std.proofs.Common.{sym, subst, ap, ◌∙◌, ◌≡◌, Bool, true, false, List, ℕ, Option}
+use Rattle.std.proofs.Common.{subst, ◌∙◌}
 use Rattle.osdp_stream.specs.Watched.{inner_of, has_failed}
 use Rattle.osdp_tool.specs.declared.reading.Ending.{Ending}
 use Rattle.osdp_tool.specs.Machine.{told, IsStep}

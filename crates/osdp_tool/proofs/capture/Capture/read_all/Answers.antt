@@ -1,5 +1,5 @@
-use Rattle.std.proofs.Common.{◌≡◌, ◌-◌, ◌+◌, ◌<◌, ◌≤◌, ℕ, Bool, true, false, List, take, length, refl, subst, ap, sym, ◌∙◌, arith}
-use Rattle.osdp_stream.specs.Watched.{inner_of, has_failed}
+use Rattle.std.proofs.Common.{take, subst, ◌∙◌, arith}
+use Rattle.osdp_stream.specs.Watched.{inner_of}
 use Rattle.osdp_tool.specs.Machine.{told}
 use Rattle.osdp_tool.specs.Capture.{TookPart}
 use Rattle.osdp_tool.proofs.Works.{read_more, read_bad, read_past}

@@ -1,6 +1,5 @@
 use Rattle.std.proofs.Common.{refl}
 use Rattle.osdp_stream.specs.Watched.{inner_of}
-use Rattle.osdp_tool.specs.declared.capture.Capture.{Capture}
 use Rattle.osdp_tool.specs.Machine.{told}
 use Rattle.osdp_tool.proofs.Pieces.{took_raw}
 use Rattle.osdp_tool.proofs.capture.Capture.take.Goals as goal

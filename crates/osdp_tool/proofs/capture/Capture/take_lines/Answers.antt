@@ -1,4 +1,4 @@
-use Rattle.std.proofs.Common.{refl, sym, subst, ap, ◌∙◌, arith, ℕ, Bool, true, false, List, [], ◌∷◌, Option, ◌≡◌, ◌+◌, ◌-◌, ◌*◌, ◌^◌, ◌<◌, ◌≤◌, length, take, drop, length-take, length-drop}
+use Rattle.std.proofs.Common.{sym, subst, ap, ◌∙◌, arith, ℕ, true, false, List, [], ◌∷◌, Option, ◌≡◌, ◌+◌, ◌-◌, ◌*◌, ◌^◌, ◌<◌, ◌≤◌, length, take, drop, length-take, length-drop}
 use Rattle.std.proofs.lemmas.List.{take_rest}
 use Rattle.osdp_stream.specs.Watched.{inner_of}
 use Rattle.osdp_input.specs.Cut.{line_feed}
@@ -6,7 +6,7 @@ use Rattle.osdp_tool.specs.declared.capture.Capture.{Capture}
 use Rattle.osdp_tool.specs.Machine.{told}
 use Rattle.osdp_tool.specs.Feeds.{HasLine}
 use Rattle.osdp_tool.specs.Capture.{load, TookPiece}
-use Rattle.osdp_tool.proofs.Pieces.{took_line, took_rest, took_both}
+use Rattle.osdp_tool.proofs.Pieces.{took_line, took_rest}
 use Rattle.osdp_tool.proofs.capture.Capture.take_lines.Goals as goal
 
 -- part of a slice
