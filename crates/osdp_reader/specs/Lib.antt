@@ -1,0 +1,7 @@
+pub mod Spelled
+pub mod Queue
+pub mod Replies
+pub mod State
+pub mod Table
+pub mod Answering
+pub mod Told

@@ -1,0 +1,20 @@
+//! The lines of the reader's table.
+
+/// Which line of the table a packet meets: the cases of `Response`.
+#[derive(Clone, Copy, Debug, PartialEq, Eq)]
+pub enum Kind {
+    /// For another device, or from one.
+    Silent,
+    /// With a security block.
+    Secured,
+    /// Sequence number 0, which begins anew.
+    Zero,
+    /// The number of the command acted on last.
+    Repeat,
+    /// The next number.
+    Taken,
+    /// Number 0 or the next, while the reader is busy.
+    Busy,
+    /// Any other number.
+    Wrong,
+}

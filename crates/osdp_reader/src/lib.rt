@@ -1,0 +1,27 @@
+//! The reader's machine: the device end of the link.
+//!
+//! A `Reader` is given the packets of the line and answers each by the reader's table. It acts on each command once, keeps its
+//! last reply for a controller that asks again, and keeps each event until the controller has it. What a command
+//! does is the matter of a `Handler`. Only `Reader::new` takes memory, and no rule depends on time.
+#![tactic(auto)]
+
+mod config;
+mod events;
+mod fault;
+mod handler;
+mod kind;
+pub mod laws;
+mod reader;
+mod reply;
+mod response;
+mod stored;
+
+pub use config::ReaderConfig;
+pub use fault::ReaderFault;
+pub use handler::{Answer, Handler};
+pub use kind::Kind;
+pub use reader::Reader;
+pub use response::Response;
+
+#[cfg(test)]
+mod tests;

@@ -1,0 +1,275 @@
+//! The reader.
+
+ghost use Rattle.std.specs.Prelude.{◌≡◌, ◌↔◌, ◌<◌, ◌≤◌, ◌⊎◌, length, IfOk, IfErr, IsErr, IsErrOf, OnOk, Some};
+ghost use Rattle.osdp_frame.specs.Spelling.{Spells};
+ghost use Rattle.osdp_reader.specs.Queue.{queued};
+ghost use Rattle.osdp_reader.specs.Replies.{reply_packet};
+ghost use Rattle.osdp_reader.specs.Spelled.{IsSpelled};
+ghost use Rattle.osdp_reader.specs.State.{new_reader};
+ghost use Rattle.osdp_reader.specs.Table.{begun, command_in, hears, kind_by_number, kind_of, moved, new_address, passes_by, taken};
+ghost use Rattle.osdp_reader.specs.Told.{told_bytes, told_command, told_kind};
+ghost use Rattle.osdp_reader.specs.declared.fault.ReaderFault.TheVariants.{OutOfRange};
+
+use crate::config::ReaderConfig;
+use crate::events::EventQueue;
+use crate::fault::ReaderFault;
+use crate::handler::Handler;
+use crate::kind::Kind;
+use crate::reply::{answer, nak, spell, tell_or_answer, unread};
+use crate::response::Response;
+use crate::stored::{StoredReply, copy_of};
+use osdp_frame::{Address, Burst, FrameView, Seq};
+use osdp_msg::{Command, Event, MsgFault, NakReason, Reply};
+use std::alloc::Global;
+use std::marker::Model;
+
+/// A reader on the line.
+#[derive(Drop)]
+pub struct Reader<H: Handler> {
+    config: ReaderConfig,
+    last: Option<Seq>,
+    stored: StoredReply,
+    queue: EventQueue,
+    busy: bool,
+    handler: H,
+}
+
+impl<H: Handler> Model for Reader<H> {
+    ghost use Rattle.osdp_reader.specs.State.{ReaderState};
+
+    ghost Value = { ReaderState H };
+
+    ghost view = { λ r. record { config = r.config; last = r.last; stored = r.stored; queue = r.queue; busy = r.busy; handler = r.handler } };
+}
+
+impl<H: Handler> Reader<H> {
+    /// A reader that nothing has come to yet, with room for `capacity` events, 1 to 1024.
+    pub fn new(
+        alloc: Global,
+        config: ReaderConfig,
+        handler: H,
+        capacity: usize,
+    ) -> Result<Reader<H>, ReaderFault>
+        ensures made { IfOk result (λ r. r ≡ new_reader config handler capacity) }
+        ensures range { IsErrOf result OutOfRange ↔ ((126 < config.address) ⊎ (capacity < 1) ⊎ (1024 < capacity)) }
+    {
+        if config.address.get() > 126 || capacity < 1 || capacity > 1024 {
+            return Err(ReaderFault::OutOfRange);
+        }
+        let Ok(queue) = EventQueue::new(alloc, capacity) else {
+            return Err(ReaderFault::NoMemory);
+        };
+        Ok(Reader {
+            config,
+            last: None,
+            stored: StoredReply::none(),
+            queue,
+            busy: false,
+            handler,
+        })
+    }
+
+    /// Puts an event behind those that wait. N2: where as many wait as there is room for, the event comes back, and nothing
+    /// changes.
+    pub fn submit_event(&mut self, event: Event) -> Result<(), Event>
+        ensures ok { OnOk result (self.new ≡ record self.old { queue = queued event self.old.queue }) }
+        ensures full { IsErr result ↔ (length self.old.queue.events ≡ self.old.queue.capacity) }
+        ensures back { IfErr result (λ back. (back ≡ event) × (self.new ≡ self.old)) }
+    {
+        self.queue.submit(event)
+    }
+
+    /// Sets whether the reader is busy. A busy reader takes nothing, but repeats its last reply.
+    pub fn set_busy(&mut self, busy: bool)
+        ensures { self.new ≡ record self.old { busy = busy } }
+    {
+        self.busy = busy;
+    }
+
+    /// The address that the reader has now.
+    pub fn address(&self) -> Address
+        ensures { result ≡ self.now.config.address }
+    {
+        self.config.address
+    }
+
+    /// How many events wait, the one that is offered included.
+    pub fn waiting(&self) -> usize
+        ensures { result ≡ length self.now.queue.events }
+    {
+        self.queue.len()
+    }
+
+    /// The stored reply as it was sent; empty where there is none.
+    pub fn stored(&self) -> &[u8]
+        ensures { IsSpelled self.now.stored result.now }
+    {
+        self.stored.bytes()
+    }
+
+    /// Takes a packet of the line. What comes of it is the reader's table.
+    pub fn on_frame(&mut self, packet: &FrameView) -> Response
+        ensures kind { told_kind result ≡ kind_of self.old packet.now }
+        ensures command { told_command result ≡ (hears H.answer_of H.after self.old packet.now).command }
+        ensures reply { IsSpelled (hears H.answer_of H.after self.old packet.now).reply (told_bytes result) }
+        ensures reader { self.new ≡ (hears H.answer_of H.after self.old packet.now).reader }
+    {
+        match self.kind(packet) {
+            Kind::Silent => Response::Silent,
+            Kind::Secured => {
+                Response::Secured(spell(packet, packet.seq(), &nak(NakReason::SecurityBlock)))
+            }
+            Kind::Zero => {
+                let (command, burst) = self.begin(packet);
+                Response::Zero(command, burst)
+            }
+            Kind::Repeat => Response::Repeat(self.stored.burst()),
+            Kind::Taken => {
+                let (command, burst) = self.take(packet);
+                Response::Taken(command, burst)
+            }
+            Kind::Busy => Response::Busy(spell(packet, zero(), &Reply::Busy)),
+            Kind::Wrong => {
+                Response::Wrong(spell(packet, packet.seq(), &nak(NakReason::UnexpectedSequence)))
+            }
+        }
+    }
+
+    /// Whether a packet is for another device, or from one.
+    fn passes_by(&self, packet: &FrameView) -> bool
+        ensures { result ≡ passes_by self.now packet.now }
+    {
+        let address = packet.address().get();
+        packet.is_reply()
+            || !(address == self.config.address.get() || address == Address::CONFIGURATION)
+    }
+
+    /// The first line of the table that the packet meets.
+    fn kind(&self, packet: &FrameView) -> Kind
+        ensures { result ≡ kind_of self.now packet.now }
+    {
+        if self.passes_by(packet) {
+            Kind::Silent
+        } else if packet.has_block() {
+            Kind::Secured
+        } else if packet.seq().get() == 0 {
+            if self.busy { Kind::Busy } else { Kind::Zero }
+        } else {
+            kind_by_number(self.last, packet.seq(), self.busy)
+        }
+    }
+
+    /// Acts on a packet with number 0.
+    fn begin(&mut self, packet: &FrameView) -> (Option<Command>, Burst)
+        ensures command { result.0 ≡ (begun H.answer_of H.after (command_in packet.now) self.old packet.now).command }
+        ensures reply { IsSpelled (begun H.answer_of H.after (command_in packet.now) self.old packet.now).reply result.1.items }
+        ensures reader { self.new ≡ (begun H.answer_of H.after (command_in packet.now) self.old packet.now).reader }
+    {
+        self.last = Some(zero());
+        self.queue.withdraw();
+        match Command::read(packet.code(), packet.payload()) {
+            Err(fault) => (None, spell(packet, zero(), &nak(unread(fault)))),
+            Ok(command) => {
+                let reply = answer(&self.config, &mut self.handler, &command);
+                let burst = spell(packet, zero(), &reply);
+                self.move_to(new_address(&command));
+                (Some(command), burst)
+            }
+        }
+    }
+
+    /// Acts on a packet with the next number.
+    fn take(&mut self, packet: &FrameView) -> (Option<Command>, Burst)
+        ensures command { result.0 ≡ (taken H.answer_of H.after (command_in packet.now) self.old packet.now).command }
+        ensures reply { IsSpelled (taken H.answer_of H.after (command_in packet.now) self.old packet.now).reply result.1.items }
+        ensures reader { self.new ≡ (taken H.answer_of H.after (command_in packet.now) self.old packet.now).reader }
+    {
+        self.last = Some(packet.seq());
+        self.queue.release();
+        match Command::read(packet.code(), packet.payload()) {
+            Err(fault) => {
+                let (burst, stored) = spell_and_store(packet, &nak(unread(fault)));
+                self.stored = stored;
+                (None, burst)
+            }
+            Ok(command) => {
+                let event = self.queue.offer(&command);
+                let reply = tell_or_answer(event, &self.config, &mut self.handler, &command);
+                let (burst, stored) = spell_and_store(packet, &reply);
+                self.stored = stored;
+                self.move_to(new_address(&command));
+                (Some(command), burst)
+            }
+        }
+    }
+
+    /// Behind an accepted COMSET: the reader is at that address, and where it is another one, nothing said before counts.
+    fn move_to(&mut self, address: Option<Address>)
+        ensures { self.new ≡ moved address self.old }
+    {
+        let Some(address) = address else { return };
+        if address.get() == self.config.address.get() {
+            return;
+        }
+        self.config.address = address;
+        self.last = None;
+        self.stored = StoredReply::none();
+    }
+}
+
+/// The bytes of a reply to a packet, with the packet's number, and once more to be kept.
+fn spell_and_store(packet: &FrameView, reply: &Reply) -> (Burst, StoredReply)
+    ensures sent { Spells (reply_packet packet.now packet.now.sequence reply.now) result.0.items }
+    ensures stored { result.1 ≡ Some (reply_packet packet.now packet.now.sequence reply.now) }
+{
+    let burst = spell(packet, packet.seq(), reply);
+    let stored = StoredReply::new(copy_of(&burst));
+    (burst, stored)
+}
+
+/// The number that begins anew.
+fn zero() -> Seq
+    ensures { result ≡ 0 }
+{
+    Seq::new(0).unwrap()
+}
+
+/// The line of the table by the number of the command acted on last and that of a packet, which isn't 0.
+fn kind_by_number(last: Option<Seq>, seq: Seq, busy: bool) -> Kind
+    ensures { result ≡ kind_by_number last seq busy }
+{
+    let Some(last) = last else {
+        return Kind::Wrong;
+    };
+    if seq.get() == last.get() {
+        Kind::Repeat
+    } else if seq.get() == last.next().get() {
+        if busy { Kind::Busy } else { Kind::Taken }
+    } else {
+        Kind::Wrong
+    }
+}
+
+/// Where an accepted COMSET sets it, the address.
+fn new_address(command: &Command) -> Option<Address>
+    ensures { result ≡ new_address command.now }
+{
+    match command {
+        Command::Comset(communication) if communication.address <= 126 => {
+            Address::new(communication.address)
+        }
+        Command::Comset(_)
+        | Command::Poll
+        | Command::Id(_)
+        | Command::Cap(_)
+        | Command::LocalStatus
+        | Command::InputStatus
+        | Command::OutputStatus
+        | Command::ReaderStatus
+        | Command::Output(_)
+        | Command::Led(_)
+        | Command::Buzzer(_)
+        | Command::Text(_)
+        | Command::Maker(_) => None,
+    }
+}

@@ -1,0 +1,237 @@
+//! The reply to a command that is acted on, and the bytes of a reply.
+
+ghost use Rattle.std.specs.Prelude.{◌≡◌, ◌≤◌, length};
+ghost use Rattle.osdp_frame.specs.Bytes.{AreBytes};
+ghost use Rattle.osdp_frame.specs.Spelling.{Spells};
+ghost use Rattle.osdp_reader.specs.Replies.{comset_reply, done_reply, list_reply, local_reply, maker_reply, not_processed, own_reply, refusal_reply, refused, reply_for, reply_packet, unread_reason};
+ghost use Rattle.osdp_reader.specs.Table.{answer_to, told_or_answered};
+
+use crate::config::ReaderConfig;
+use crate::handler::{Answer, Handler};
+use arrayvec::ArrayVec;
+use osdp_frame::{Burst, Frame, FrameView, Seq};
+use osdp_msg::{Command, Communication, LocalState, MakerMessage, MsgFault, Nak, NakReason, Reply};
+
+/// A NAK with this reason.
+pub fn nak(reason: NakReason) -> Reply
+    ensures { result ≡ refused reason }
+{
+    Reply::Nak(Nak {
+        reason,
+        detail: ArrayVec::new(),
+    })
+}
+
+/// NAK 9: the command can't be processed.
+fn nak_9() -> Reply
+    ensures { result ≡ not_processed }
+{
+    nak(NakReason::RecordNotProcessed)
+}
+
+/// The reason of a packet that is no command.
+pub fn unread(fault: MsgFault) -> NakReason
+    ensures { result ≡ unread_reason fault }
+{
+    match fault {
+        MsgFault::UnknownCode => NakReason::UnknownCommand,
+        MsgFault::Length | MsgFault::Count => NakReason::CommandLength,
+    }
+}
+
+/// The reply to a COMSET.
+fn comset(communication: &Communication) -> Reply
+    ensures { result ≡ comset_reply communication.now }
+{
+    if communication.address <= 126 {
+        Reply::Com(*communication)
+    } else {
+        nak_9()
+    }
+}
+
+/// What the reader answers by itself; None where the handler answers.
+fn own(config: &ReaderConfig, command: &Command) -> Option<Reply>
+    ensures { result ≡ own_reply config.now command.now }
+{
+    match command {
+        Command::Poll => Some(Reply::Ack),
+        Command::Id(_) => Some(Reply::PdId(config.id)),
+        Command::Cap(_) => Some(Reply::PdCap(config.caps.copy())),
+        Command::Comset(communication) => Some(comset(communication)),
+        Command::LocalStatus
+        | Command::InputStatus
+        | Command::OutputStatus
+        | Command::ReaderStatus
+        | Command::Output(_)
+        | Command::Led(_)
+        | Command::Buzzer(_)
+        | Command::Text(_)
+        | Command::Maker(_) => None,
+    }
+}
+
+/// The reply where the handler has done the command.
+fn done(command: &Command) -> Reply
+    ensures { result ≡ done_reply command.now }
+{
+    match command {
+        Command::Output(_)
+        | Command::Led(_)
+        | Command::Buzzer(_)
+        | Command::Text(_)
+        | Command::Maker(_) => Reply::Ack,
+        Command::Poll
+        | Command::Id(_)
+        | Command::Cap(_)
+        | Command::LocalStatus
+        | Command::InputStatus
+        | Command::OutputStatus
+        | Command::ReaderStatus
+        | Command::Comset(_) => nak_9(),
+    }
+}
+
+/// The reply where the handler tells the state of the device itself.
+fn local(command: &Command, tamper: u8, power: u8) -> Reply
+    ensures { result ≡ local_reply command.now tamper power }
+{
+    match command {
+        Command::LocalStatus => Reply::LocalState(LocalState { tamper, power }),
+        Command::Poll
+        | Command::Id(_)
+        | Command::Cap(_)
+        | Command::InputStatus
+        | Command::OutputStatus
+        | Command::ReaderStatus
+        | Command::Output(_)
+        | Command::Led(_)
+        | Command::Buzzer(_)
+        | Command::Text(_)
+        | Command::Comset(_)
+        | Command::Maker(_) => nak_9(),
+    }
+}
+
+/// The reply where the handler tells a byte for each input, output or reader.
+fn list(command: &Command, states: ArrayVec<u8, 1432>) -> Reply
+    ensures { result ≡ list_reply command.now states.items }
+{
+    match command {
+        Command::InputStatus => Reply::Inputs(states),
+        Command::OutputStatus => Reply::Outputs(states),
+        Command::ReaderStatus => Reply::Readers(states),
+        Command::Poll
+        | Command::Id(_)
+        | Command::Cap(_)
+        | Command::LocalStatus
+        | Command::Output(_)
+        | Command::Led(_)
+        | Command::Buzzer(_)
+        | Command::Text(_)
+        | Command::Comset(_)
+        | Command::Maker(_) => nak_9(),
+    }
+}
+
+/// The reply where the handler gives the maker's own.
+fn maker(command: &Command, vendor: [u8; 3], bytes: ArrayVec<u8, 1429>) -> Reply
+    ensures { result ≡ maker_reply command.now vendor bytes.items }
+{
+    match command {
+        Command::Maker(_) => Reply::MakerReply(MakerMessage { vendor, bytes }),
+        Command::Poll
+        | Command::Id(_)
+        | Command::Cap(_)
+        | Command::LocalStatus
+        | Command::InputStatus
+        | Command::OutputStatus
+        | Command::ReaderStatus
+        | Command::Output(_)
+        | Command::Led(_)
+        | Command::Buzzer(_)
+        | Command::Text(_)
+        | Command::Comset(_) => nak_9(),
+    }
+}
+
+/// The reply where the handler refuses the command.
+fn refusal(reason: NakReason) -> Reply
+    ensures { result ≡ refusal_reply reason }
+{
+    match reason {
+        NakReason::CommandLength => nak(NakReason::CommandLength),
+        NakReason::UnknownCommand => nak(NakReason::UnknownCommand),
+        NakReason::CheckCharacters
+        | NakReason::UnexpectedSequence
+        | NakReason::SecurityBlock
+        | NakReason::SecurityConditions
+        | NakReason::BiometricType
+        | NakReason::BiometricFormat
+        | NakReason::RecordNotProcessed
+        | NakReason::Other(_) => nak_9(),
+    }
+}
+
+/// A handler's answer to a command as a reply.
+fn handled(answer: Answer, command: &Command) -> Reply
+    ensures { result ≡ reply_for answer command.now }
+{
+    match answer {
+        Answer::Done => done(command),
+        Answer::Local(tamper, power) => local(command, tamper, power),
+        Answer::List(states) => list(command, states),
+        Answer::Refuse(reason) => refusal(reason),
+        Answer::Maker(vendor, bytes) => maker(command, vendor, bytes),
+    }
+}
+
+/// What the reader answers to a command: by itself, or else by its handler.
+pub fn answer<H: Handler>(config: &ReaderConfig, handler: &mut H, command: &Command) -> Reply
+    ensures reply { result ≡ (answer_to H.answer_of H.after config.now handler.old command.now).reply }
+    ensures handler { handler.new ≡ (answer_to H.answer_of H.after config.now handler.old command.now).handler }
+{
+    match own(config, command) {
+        Some(reply) => reply,
+        None => handled(handler.answer(command), command),
+    }
+}
+
+/// The event where one is told, or else what the reader answers to the command.
+pub fn tell_or_answer<H: Handler>(
+    event: Option<Reply>,
+    config: &ReaderConfig,
+    handler: &mut H,
+    command: &Command,
+) -> Reply
+    ensures reply { result ≡ (told_or_answered H.answer_of H.after event config.now handler.old command.now).reply }
+    ensures handler { handler.new ≡ (told_or_answered H.answer_of H.after event config.now handler.old command.now).handler }
+{
+    match event {
+        Some(event) => event,
+        None => answer(config, handler, command),
+    }
+}
+
+/// The same bytes with room for one more.
+fn with_room(bytes: &[u8]) -> ArrayVec<u8, 1434>
+    requires { length bytes.now ≤ 1433 }
+    ensures bytes { result.items ≡ bytes.now }
+    ensures are_bytes { AreBytes bytes.now }
+{
+    let mut copy = ArrayVec::new();
+    let _ = copy.try_extend_from_slice(bytes);
+    copy
+}
+
+/// The bytes of a reply to a packet, with this number.
+pub fn spell(packet: &FrameView, seq: Seq, reply: &Reply) -> Burst
+    ensures { Spells (reply_packet packet.now seq reply.now) result.items }
+{
+    let body = reply.write();
+    let body = with_room(body.as_slice());
+    let address = packet.address();
+    let _ranges = (address.get(), seq.get());
+    let made = Frame::new(true, address, seq, packet.check(), false, 0, body);
+    made.unwrap().encode()
+}

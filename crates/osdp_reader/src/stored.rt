@@ -1,0 +1,72 @@
+//! The reply that is kept for a controller that asks again.
+
+ghost use Rattle.std.specs.Prelude.{◌≡◌, Option, Some, None};
+ghost use Rattle.osdp_frame.specs.Packet.{Packet};
+ghost use Rattle.osdp_frame.specs.Spelling.{Spells};
+ghost use Rattle.osdp_reader.specs.Spelled.{IsSpelled};
+
+use osdp_frame::{Burst, laws};
+use std::marker::Model;
+
+/// The reply to the last taken command, as it was sent, if there is one.
+#[derive(Debug, Drop)]
+pub struct StoredReply {
+    burst: Burst,
+}
+
+impl Model for StoredReply {
+    ghost use Rattle.std.specs.Prelude.{Option};
+    ghost use Rattle.osdp_frame.specs.Packet.{Packet};
+    ghost use Rattle.osdp_reader.specs.Spelled.{IsSpelled, first_packet};
+
+    ghost Value = { Option Packet };
+
+    ghost view = { λ s. first_packet s.burst.items };
+
+    ghost invariant = { λ s. IsSpelled (first_packet s.burst.items) s.burst.items };
+}
+
+impl StoredReply {
+    /// No reply.
+    #[tactic(auto, unfolding(osdp_frame::specs::Held::decided))]
+    pub fn none() -> StoredReply
+        ensures { result ≡ None }
+    {
+        StoredReply {
+            burst: Burst::new(),
+        }
+    }
+
+    /// The reply of these bytes.
+    pub fn new(burst: Burst) -> StoredReply
+        requires { (p : Packet) × Spells p burst.items }
+        ensures { (p : Packet) → Spells p burst.items → result ≡ Some p }
+    {
+        laws::spelling_of_bytes();
+        laws::first_item_decided();
+        StoredReply { burst }
+    }
+
+    /// The bytes of the reply; none where there is no reply.
+    pub fn bytes(&self) -> &[u8]
+        ensures { IsSpelled self.now result.now }
+    {
+        self.burst.as_slice()
+    }
+
+    /// A copy of these bytes.
+    pub fn burst(&self) -> Burst
+        ensures { IsSpelled self.now result.items }
+    {
+        copy_of(&self.burst)
+    }
+}
+
+/// The same bytes once more.
+pub fn copy_of(burst: &Burst) -> Burst
+    ensures { result.items ≡ burst.now.items }
+{
+    let mut copy = Burst::new();
+    let _ = copy.try_extend_from_slice(burst.as_slice());
+    copy
+}
