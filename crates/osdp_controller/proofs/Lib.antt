@@ -1,0 +1,3 @@
+pub mod Choices
+pub mod Keeping
+pub mod Same

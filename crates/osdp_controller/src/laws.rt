@@ -1,0 +1,1 @@
+//! What the tables come to, said apart from their rows. The functions do nothing: their contracts are laws.
