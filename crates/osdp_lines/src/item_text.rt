@@ -3,11 +3,11 @@
 ghost use Rattle.std.specs.Prelude.{◌≡◌, ◌++◌, ◌+◌, ◌<◌, ◌^◌, ℕ, true, false, length, OnOk, IfOk, string_bytes, codes};
 ghost use Rattle.std.specs.Fmt.{decimal};
 ghost use Rattle.osdp_frame.specs.Reading.{Whole, Passed, Bad};
-ghost use Rattle.osdp_lines.specs.ItemText.{fault_name, is_refusal, item_line, counts_line};
+ghost use Rattle.osdp_lines.specs.ItemText.{body_text, fault_name, is_refusal, item_line, counts_line};
 ghost use Rattle.osdp_lines.specs.Told.{part_line, end_line};
 
 use crate::hex_text::push_bytes;
-use crate::message_text::{is_refused, push_command, push_reply};
+use crate::message_text::{bare_command, bare_reply, is_refused, push_command, push_reply};
 use crate::number::push_number;
 use crate::packet_text::push_head;
 use crate::tally::Tally;
@@ -50,6 +50,30 @@ fn push_unread_packet(
     Ok(false)
 }
 
+/// Writes the line of a packet of which this is told, in full.
+fn push_named_packet(
+    text: &mut String,
+    full: bool,
+    tally: &Tally,
+    view: &FrameView<'_>,
+    name: &str,
+) -> Result<(), AllocError>
+    requires room { tally.now.runs + 1 < 2 ^ 64 }
+    requires block { view.now.block ≡ false }
+    requires name { body_text view.now ≡ name.now }
+    requires refused { is_refusal (Whole view.now) ≡ false }
+    ensures { OnOk result (string_bytes text.new ≡ string_bytes text.old ++ part_line full tally.now (Whole view.now)) }
+{
+    if !full {
+        return Ok(());
+    }
+    push_front(text, tally)?;
+    push_head(text, view)?;
+    text.push_str(" ")?;
+    text.push_str(name)?;
+    text.push_str("\n")
+}
+
 /// Writes the line of a command, and says whether it is refused.
 fn push_command_packet(
     text: &mut String,
@@ -65,6 +89,10 @@ fn push_command_packet(
 {
     let code = view.code();
     let bytes = view.payload();
+    if let Some(name) = bare_command(code, bytes) {
+        push_named_packet(text, full, tally, view, name)?;
+        return Ok(false);
+    }
     let read = Command::read(code, bytes);
     let refused = is_refused(&read);
     if !full && !refused {
@@ -93,6 +121,10 @@ fn push_reply_packet(
 {
     let code = view.code();
     let bytes = view.payload();
+    if let Some(name) = bare_reply(code, bytes) {
+        push_named_packet(text, full, tally, view, name)?;
+        return Ok(false);
+    }
     let read = Reply::read(code, bytes);
     let refused = is_refused(&read);
     if !full && !refused {
