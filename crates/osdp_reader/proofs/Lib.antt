@@ -1,1 +1,5 @@
 pub mod Storing
+pub mod Meeting
+pub mod PlainReplies
+pub mod Keeping
+pub mod Sequences

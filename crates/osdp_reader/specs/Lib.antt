@@ -5,3 +5,4 @@ pub mod State
 pub mod Table
 pub mod Answering
 pub mod Told
+pub mod Laws

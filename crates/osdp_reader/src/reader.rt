@@ -211,7 +211,8 @@ impl<H: Handler> Reader<H> {
         if address.get() == self.config.address.get() {
             return;
         }
-        self.config.address = address;
+        let config = &mut self.config;
+        config.address = address;
         self.last = None;
         self.stored = StoredReply::none();
     }

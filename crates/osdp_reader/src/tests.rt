@@ -555,6 +555,20 @@ fn readers_within_their_ranges(rt: HostRuntime) {
     }
 }
 
+/// The laws hold of a handler of one's own.
+#[test]
+fn laws_hold_of_any_handler(_rt: HostRuntime) {
+    laws::acts_once::<Bench>();
+    laws::repeats_byte_for_byte();
+    laws::acts_at_zero::<Bench>();
+    laws::loses_no_event::<Bench>();
+    laws::hears_its_address::<Bench>();
+    laws::answers_plainly::<Bench>();
+    laws::answers_taken::<Bench>();
+    laws::stays_well::<Bench>();
+    laws::answers_in_order::<Bench>();
+}
+
 /// Hands the packets in a run to a reader, and answers how many there were and the last answer.
 fn hand_over(rt: &impl Abort, reader: &mut Reader<Bench>, run: &[u8]) -> (usize, Response) {
     let mut framer = Framer::new();
