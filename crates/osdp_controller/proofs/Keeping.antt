@@ -27,53 +27,55 @@ use Rattle.osdp_controller.specs.Settings.{IsConfig}
 use Rattle.osdp_controller.specs.Sessions.{after_send, later, seen}
 use Rattle.osdp_controller.specs.Ticking.{Ticked, begins, gives_up, sends_frame, stays, ticks_in, tries_again}
 use Rattle.osdp_controller.specs.Hearing.{Heard, answered, answered_unread, com_of, command_answered, comset_of, hears, hears_answer, hears_busy, ignores, is_from_reader, is_numbered, loses, moved_by, numbered_in, opening_answered, pausing_hears, pd_id_of, waiting_hears}
-use Rattle.osdp_controller.specs.Machine.{IsOutstanding, IsSession, IsState, IsSubmitted}
+use Rattle.osdp_controller.specs.Machine.{IsOutstanding, IsSession, IsState, IsSubmitted, OpensAtZero}
 use Rattle.osdp_controller.proofs.Choices.{either_way, first_true}
 
 -- one more send
 pub keeps_send : (sends : ℕ) (o : Outstanding) (s : Session) → IsConfig s.config → 1 ≤ sends → sends ≤ s.config.sends
     → IfSome (submitted_command o.exchange) IsSubmitted → o.busies ≤ s.config.busy_limit
-    → o.sent + 1 ≤ s.config.sends * o.busies + sends → IsSession (after_send sends o s)
-keeps_send sends o s config one within command busies sent = record {
+    → o.sent + 1 ≤ s.config.sends * o.busies + sends
+    → (o.exchange ≡ Opening → s.number ≡ 0) → IsSession (after_send sends o s)
+keeps_send sends o s config one within command busies sent opening = record {
   config = config;
   state = (one, within, record { command = command; busies = busies; some = omega arith; sent = sent });
+  opening = opening;
 }
 
 -- a new exchange
 pub keeps_begins : (x : Exchange) (number : ℕ) (s : Session) → IsConfig s.config → IfSome (submitted_command x) IsSubmitted
-    → IsSession (begins x number s []).session
-keeps_begins x number s config command =
+    → (x ≡ Opening → number ≡ 0) → IsSession (begins x number s []).session
+keeps_begins x number s config command opening =
     let some : 1 ≤ s.config.sends = config.sends.0 in
-    keeps_send 1 (record { exchange = x; busies = 0; sent = 0 }) (record s { number = number }) config (omega arith) some command (omega arith) (omega arith)
+    keeps_send 1 (record { exchange = x; busies = 0; sent = 0 }) (record s { number = number }) config (omega arith) some command (omega arith) (omega arith) opening
 
 keeps_try : (sends : ℕ) (o : Outstanding) (s : Session) → IsConfig s.config → 1 ≤ sends → sends ≤ s.config.sends → IsOutstanding s.config sends o
-    → IsSession (tries_again sends o s []).session
-keeps_try sends o s config one within is =
+    → (o.exchange ≡ Opening → s.number ≡ 0) → IsSession (tries_again sends o s []).session
+keeps_try sends o s config one within is opening =
     let sent : o.sent ≤ s.config.sends * o.busies + sends = is.sent in
     either_way (λ (t : Ticked). IsSession t.session) (nat_lt sends s.config.sends) (sends_frame (sends + 1) o s []) (gives_up o s [])
     (λ below. let less : sends < s.config.sends = ltb-true sends s.config.sends below in
-    keeps_send (sends + 1) o s config (omega arith) (omega arith) is.command is.busies (omega arith))
-    (λ above. record { config = config; state = tt })
+    keeps_send (sends + 1) o s config (omega arith) (omega arith) is.command is.busies (omega arith) opening)
+    (λ above. record { config = config; state = tt; opening = tt })
 
 -- by the state, which is the session's own
-pub keeps_ticks : (state : State) (s : Session) → IsConfig s.config → IsState s.config s.state → IsState s.config state
+pub keeps_ticks : (state : State) (s : Session) → IsSession s → IsState s.config state → OpensAtZero state s.number
     → IsSession (ticks_in state s []).session
-keeps_ticks Closed s config same is = record { config = config; state = same }
-keeps_ticks (Quiet until) s config same is =
+keeps_ticks Closed s same is opening = same
+keeps_ticks (Quiet until) s same is opening =
     either_way (λ (t : Ticked). IsSession t.session) (nat_le until s.greatest) (begins Opening 0 s []) (stays s [])
-    (λ h. keeps_begins Opening 0 s config tt) (λ h. record { config = config; state = same })
-keeps_ticks (Idle due) s config same is =
+    (λ h. keeps_begins Opening 0 s same.config tt (λ e. refl)) (λ h. same)
+keeps_ticks (Idle due) s same is opening =
     either_way (λ (t : Ticked). IsSession t.session) (nat_le due s.greatest) (begins Polling (next_sequence s.number) s []) (stays s [])
-    (λ h. keeps_begins Polling (next_sequence s.number) s config tt) (λ h. record { config = config; state = same })
-keeps_ticks (Waiting until sends o) s config same is =
+    (λ h. keeps_begins Polling (next_sequence s.number) s same.config tt (λ e. cc)) (λ h. same)
+keeps_ticks (Waiting until sends o) s same is opening =
     either_way (λ (t : Ticked). IsSession t.session) (nat_le until s.greatest) (tries_again sends o s []) (stays s [])
-    (λ h. keeps_try sends o s config is.0 is.1 is.2) (λ h. record { config = config; state = same })
-keeps_ticks (Pausing until o) s config same is =
+    (λ h. keeps_try sends o s same.config is.0 is.1 is.2 opening) (λ h. same)
+keeps_ticks (Pausing until o) s same is opening =
     let sent : o.sent ≤ s.config.sends * o.busies + 0 = is.sent in
-    let some : 1 ≤ s.config.sends = config.sends.0 in
+    let some : 1 ≤ s.config.sends = same.config.sends.0 in
     either_way (λ (t : Ticked). IsSession t.session) (nat_le until s.greatest) (sends_frame 1 o s []) (stays s [])
-    (λ h. keeps_send 1 o s config (omega arith) some is.command is.busies (omega arith))
-    (λ h. record { config = config; state = same })
+    (λ h. keeps_send 1 o s same.config (omega arith) some is.command is.busies (omega arith) opening)
+    (λ h. same)
 
 -- what was sent can be counted
 pub few_sent : (c : ControllerConfig) (sends : ℕ) (o : Outstanding) → IsConfig c → sends ≤ c.sends → IsOutstanding c sends o
@@ -88,17 +90,18 @@ few_sent c sends o config within is =
 
 -- one more BUSY
 keeps_busy : (sends : ℕ) (o : Outstanding) (s : Session) → IsConfig s.config → sends ≤ s.config.sends → IsOutstanding s.config sends o
-    → IsSession (hears_busy o s).session
-keeps_busy sends o s config within is =
+    → (o.exchange ≡ Opening → s.number ≡ 0) → IsSession (hears_busy o s).session
+keeps_busy sends o s config within is opening =
     let sent : o.sent ≤ s.config.sends * o.busies + sends = is.sent in
     let split : s.config.sends * (o.busies + 1) ≡ s.config.sends * o.busies + s.config.sends * 1 = mul-add s.config.sends o.busies 1 in
     let some : 1 ≤ o.sent = is.some in
     either_way (λ (h : Heard). IsSession h.session) (nat_lt s.config.busy_limit (o.busies + 1)) (loses causes.TooBusy o s)
     (record { session = record s { state = Pausing (later s.config.busy_wait s) (record o { busies = o.busies + 1 }) }; report = None })
-    (λ h. record { config = config; state = tt })
+    (λ h. record { config = config; state = tt; opening = tt })
     (λ h. let below : o.busies + 1 ≤ s.config.busy_limit = ltb-false s.config.busy_limit (o.busies + 1) h in record {
       config = config;
       state = record { command = is.command; busies = below; some = some; sent = omega arith };
+      opening = opening;
     })
 
 -- a reader moves to the address of a device
@@ -111,11 +114,11 @@ moved_to_device (Some a) (Some d) =
 
 keeps_opening : (id : Option PdId) (s : Session) → IsSession s → IsSession (opening_answered id s).session
 keeps_opening None s is = is
-keeps_opening (Some id) s is = record { config = is.config; state = tt }
+keeps_opening (Some id) s is = record { config = is.config; state = tt; opening = tt }
 
 keeps_command : (moved : Option Communication) (command : Command) (reply : Reply) (s : Session) → IfSome moved (λ d. d.address < 127) → IsConfig s.config
     → IsSession (command_answered moved command reply s).session
-keeps_command None command reply s device config = record { config = config; state = tt }
+keeps_command None command reply s device config = record { config = config; state = tt; opening = tt }
 keeps_command (Some d) command reply s device config = record {
   config = record {
     address = device;
@@ -127,52 +130,43 @@ keeps_command (Some d) command reply s device config = record {
     busy_limit = config.busy_limit;
   };
   state = tt;
+  opening = tt;
 }
 
 keeps_answered : (x : Exchange) (reply : Reply) (s : Session) → IsSession s → IsSession (answered x reply s).session
 keeps_answered Opening reply s is = keeps_opening (pd_id_of reply) s is
-keeps_answered Polling reply s is = record { config = is.config; state = tt }
+keeps_answered Polling reply s is = record { config = is.config; state = tt; opening = tt }
 keeps_answered (Asking command) reply s is =
     keeps_command (moved_by (comset_of command) (com_of reply)) command reply s (moved_to_device (comset_of command) (com_of reply)) is.config
 
 keeps_unread : (x : Exchange) (code : ℕ) (s : Session) → IsSession s → IsSession (answered_unread x code s).session
 keeps_unread Opening code s is = is
-keeps_unread Polling code s is = record { config = is.config; state = tt }
-keeps_unread (Asking command) code s is = record { config = is.config; state = tt }
+keeps_unread Polling code s is = record { config = is.config; state = tt; opening = tt }
+keeps_unread (Asking command) code s is = record { config = is.config; state = tt; opening = tt }
 
-keeps_waiting : (a : Answer) (sends : ℕ) (o : Outstanding) (s : Session) → 1 ≤ sends → sends ≤ s.config.sends → IsOutstanding s.config sends o → IsSession s
-    → IsSession (waiting_hears a sends o s).session
-keeps_waiting NotTaken sends o s one within out is = keeps_busy sends o s is.config within out
-keeps_waiting Damaged sends o s one within out is = record { config = is.config; state = (one, within, out) }
-keeps_waiting NumberRefused sends o s one within out is = record { config = is.config; state = tt }
-keeps_waiting (Plain reply) sends o s one within out is = keeps_answered o.exchange reply s is
-keeps_waiting (Unreadable code) sends o s one within out is = keeps_unread o.exchange code s is
+keeps_waiting : (a : Answer) (sends : ℕ) (o : Outstanding) (s : Session) → 1 ≤ sends → sends ≤ s.config.sends → IsOutstanding s.config sends o
+    → (o.exchange ≡ Opening → s.number ≡ 0) → IsSession s → IsSession (waiting_hears a sends o s).session
+keeps_waiting NotTaken sends o s one within out opening is = keeps_busy sends o s is.config within out opening
+keeps_waiting Damaged sends o s one within out opening is = record { config = is.config; state = (one, within, out); opening = opening }
+keeps_waiting NumberRefused sends o s one within out opening is = record { config = is.config; state = tt; opening = tt }
+keeps_waiting (Plain reply) sends o s one within out opening is = keeps_answered o.exchange reply s is
+keeps_waiting (Unreadable code) sends o s one within out opening is = keeps_unread o.exchange code s is
 
 keeps_pausing : (a : Answer) (o : Outstanding) (s : Session) → IsSession s → IsSession (pausing_hears a o s).session
 keeps_pausing NotTaken o s is = is
 keeps_pausing Damaged o s is = is
-keeps_pausing NumberRefused o s is = record { config = is.config; state = tt }
+keeps_pausing NumberRefused o s is = record { config = is.config; state = tt; opening = tt }
 keeps_pausing (Plain reply) o s is = keeps_answered o.exchange reply s is
 keeps_pausing (Unreadable code) o s is = keeps_unread o.exchange code s is
 
-pub keeps_numbered : (state : State) (a : Answer) (s : Session) → IsState s.config state → IsSession s → IsSession (numbered_in state a s).session
-keeps_numbered Closed a s state is = is
-keeps_numbered (Quiet until) a s state is = is
-keeps_numbered (Idle due) a s state is = is
-keeps_numbered (Waiting until sends o) a s state is = keeps_waiting a sends o s state.0 state.1 state.2 is
-keeps_numbered (Pausing until o) a s state is = keeps_pausing a o s is
+pub keeps_numbered : (state : State) (a : Answer) (s : Session) → IsState s.config state → OpensAtZero state s.number → IsSession s
+    → IsSession (numbered_in state a s).session
+keeps_numbered Closed a s state opening is = is
+keeps_numbered (Quiet until) a s state opening is = is
+keeps_numbered (Idle due) a s state opening is = is
+keeps_numbered (Waiting until sends o) a s state opening is = keeps_waiting a sends o s state.0 state.1 state.2 opening is
+keeps_numbered (Pausing until o) a s state opening is = keeps_pausing a o s is
 
 -- a moment that is seen changes nothing else
 pub keeps_seen : (now : ℕ) (s : Session) → IsSession s → IsSession (seen now s)
-keeps_seen now s is = record { config = is.config; state = is.state }
-
-keeps_answer : (number : ℕ) (a : Answer) (s : Session) → IsSession s → IsSession (hears_answer number a s).session
-keeps_answer number a s is =
-    either_way (λ (h : Heard). IsSession h.session) (is_numbered number a s) (numbered_in s.state a s) (ignores s)
-    (λ h. keeps_numbered s.state a s is.state is) (λ h. is)
-
--- a frame
-pub keeps_hears : (p : Packet) (now : ℕ) (s : Session) → IsSession s → IsSession (hears p now s).session
-keeps_hears p now s is =
-    either_way (λ (h : Heard). IsSession h.session) (is_from_reader p s) (hears_answer p.sequence (answer_of p) (seen now s)) (ignores (seen now s))
-    (λ h. keeps_answer p.sequence (answer_of p) (seen now s) (keeps_seen now s is)) (λ h. keeps_seen now s is)
+keeps_seen now s is = record { config = is.config; state = is.state; opening = is.opening }

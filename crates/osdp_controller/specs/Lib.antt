@@ -6,3 +6,4 @@ pub mod Sessions
 pub mod Ticking
 pub mod Hearing
 pub mod Machine
+pub mod Laws

@@ -4,7 +4,7 @@ use Rattle.osdp_frame.specs.Packet.{Packet}
 use Rattle.osdp_msg.specs.declared.command.Command.{Command}
 use Rattle.osdp_msg.specs.declared.command.Command.TheVariants.{Poll}
 use Rattle.osdp_controller.specs.declared.config.ControllerConfig.{ControllerConfig}
-use Rattle.osdp_controller.specs.declared.exchange.Exchange.TheVariants.{Asking}
+use Rattle.osdp_controller.specs.declared.exchange.Exchange.TheVariants.{Opening}
 use Rattle.osdp_controller.specs.declared.exchange.Outstanding.{Outstanding}
 use Rattle.osdp_controller.specs.declared.fault.ControllerFault.{ControllerFault}
 use Rattle.osdp_controller.specs.declared.fault.ControllerFault.TheVariants.{NoMemory, OutOfRange, Full, PollSubmitted, NotClosed}
@@ -144,9 +144,18 @@ IsState c (Idle due) = Unit {0}
 IsState c (Waiting until sends o) = (1 ≤ sends) × (sends ≤ c.sends) × IsOutstanding c sends o
 IsState c (Pausing until o) = IsOutstanding c 0 o
 
+-- the opening ID is outstanding with number 0
+abbrev pub OpensAtZero : State → ℕ → Type 0
+OpensAtZero Closed number = Unit {0}
+OpensAtZero (Quiet until) number = Unit {0}
+OpensAtZero (Idle due) number = Unit {0}
+OpensAtZero (Waiting until sends o) number = o.exchange ≡ Opening → number ≡ 0
+OpensAtZero (Pausing until o) number = o.exchange ≡ Opening → number ≡ 0
+
 pub record IsSession (s : Session) : Type 0 where
   pub config : IsConfig s.config
   pub state : IsState s.config s.state
+  pub opening : OpensAtZero s.state s.number
 
 -- what holds of each controller at all times
 pub record IsMachine (m : Machine) : Type 0 where

@@ -39,7 +39,7 @@ impl Model for Controller {
 }
 
 impl Controller {
-    ghost use Rattle.osdp_controller.specs.Machine.{NewEnds, after_begin, after_frame, after_retarget, after_submit, after_tick, begin_refusal, changed_unless, is_due, IsDeadline, is_outstanding, retarget_refusal, sent_in, submit_refusal, unless_refused};
+    ghost use Rattle.osdp_controller.specs.Machine.{IsMachine, NewEnds, after_begin, after_frame, after_retarget, after_submit, after_tick, begin_refusal, changed_unless, is_due, IsDeadline, is_outstanding, retarget_refusal, sent_in, submit_refusal, unless_refused};
     ghost use Rattle.osdp_controller.specs.Hearing.{hears};
     ghost use Rattle.osdp_controller.specs.Ticking.{ticks};
 
@@ -68,7 +68,8 @@ impl Controller {
 
     /// The reader's address.
     pub fn address(&self) -> Address
-        ensures { result ≡ self.now.session.config.address }
+        ensures address { result ≡ self.now.session.config.address }
+        ensures machine { IsMachine self.now }
     {
         self.session.config.address
     }

@@ -1,7 +1,8 @@
 //! The table of ticks.
 
-ghost use Rattle.std.specs.Prelude.{◌≡◌, [], ◌+◌, ◌<◌, ◌^◌, IfSome};
+ghost use Rattle.std.specs.Prelude.{◌≡◌, ◌≢◌, [], ◌+◌, ◌<◌, ◌^◌, IfSome};
 ghost use Rattle.osdp_frame.specs.Packet.{next_sequence};
+ghost use Rattle.osdp_controller.specs.declared.exchange.Exchange.TheVariants.{Opening};
 ghost use Rattle.osdp_controller.specs.Exchanges.{submitted_command};
 ghost use Rattle.osdp_controller.specs.Machine.{IsSession, IsSubmitted};
 ghost use Rattle.osdp_controller.specs.Settings.{IsConfig};
@@ -46,6 +47,7 @@ impl Session {
     pub(crate) fn begin_next(&mut self, exchange: Exchange) -> Step
         requires config { IsConfig self.old.config }
         requires command { IfSome (submitted_command exchange) IsSubmitted }
+        requires behind_opening { exchange ≢ Opening }
         ensures step { result ≡ (begins exchange (next_sequence self.old.number) self.old []).step }
         ensures session { self.new ≡ (begins exchange (next_sequence self.old.number) self.old []).session }
         ensures kept { IsSession self.new }
