@@ -28,6 +28,7 @@ fn push_front(text: &mut String, tally: &Tally) -> Result<(), AllocError>
 }
 
 /// Writes the line of a packet whose body is left unread.
+#[inline(never)]
 fn push_unread_packet(
     text: &mut String,
     full: bool,
@@ -51,6 +52,7 @@ fn push_unread_packet(
 }
 
 /// Writes the line of a packet of which this is told, in full.
+#[inline(always)]
 fn push_named_packet(
     text: &mut String,
     full: bool,
@@ -74,8 +76,9 @@ fn push_named_packet(
     text.push_str("\n")
 }
 
-/// Writes the line of a command, and says whether it is refused.
-fn push_command_packet(
+/// Writes the line of a command that is read to be told, and says whether it is refused.
+#[inline(never)]
+fn push_read_command(
     text: &mut String,
     full: bool,
     tally: &Tally,
@@ -89,10 +92,6 @@ fn push_command_packet(
 {
     let code = view.code();
     let bytes = view.payload();
-    if let Some(name) = bare_command(code, bytes) {
-        push_named_packet(text, full, tally, view, name)?;
-        return Ok(false);
-    }
     let read = Command::read(code, bytes);
     let refused = is_refused(&read);
     if !full && !refused {
@@ -106,8 +105,30 @@ fn push_command_packet(
     Ok(refused)
 }
 
-/// Writes the line of a reply, and says whether it is refused.
-fn push_reply_packet(
+/// Writes the line of a command, and says whether it is refused.
+#[inline(always)]
+fn push_command_packet(
+    text: &mut String,
+    full: bool,
+    tally: &Tally,
+    view: &FrameView<'_>,
+) -> Result<bool, AllocError>
+    requires room { tally.now.runs + 1 < 2 ^ 64 }
+    requires block { view.now.block ≡ false }
+    requires command { view.now.reply ≡ false }
+    ensures refused { IfOk result (λ refused. refused ≡ is_refusal (Whole view.now)) }
+    ensures line { OnOk result (string_bytes text.new ≡ string_bytes text.old ++ part_line full tally.now (Whole view.now)) }
+{
+    if let Some(name) = bare_command(view.code(), view.payload()) {
+        push_named_packet(text, full, tally, view, name)?;
+        return Ok(false);
+    }
+    push_read_command(text, full, tally, view)
+}
+
+/// Writes the line of a reply that is read to be told, and says whether it is refused.
+#[inline(never)]
+fn push_read_reply(
     text: &mut String,
     full: bool,
     tally: &Tally,
@@ -121,10 +142,6 @@ fn push_reply_packet(
 {
     let code = view.code();
     let bytes = view.payload();
-    if let Some(name) = bare_reply(code, bytes) {
-        push_named_packet(text, full, tally, view, name)?;
-        return Ok(false);
-    }
     let read = Reply::read(code, bytes);
     let refused = is_refused(&read);
     if !full && !refused {
@@ -138,7 +155,29 @@ fn push_reply_packet(
     Ok(refused)
 }
 
+/// Writes the line of a reply, and says whether it is refused.
+#[inline(always)]
+fn push_reply_packet(
+    text: &mut String,
+    full: bool,
+    tally: &Tally,
+    view: &FrameView<'_>,
+) -> Result<bool, AllocError>
+    requires room { tally.now.runs + 1 < 2 ^ 64 }
+    requires block { view.now.block ≡ false }
+    requires reply { view.now.reply ≡ true }
+    ensures refused { IfOk result (λ refused. refused ≡ is_refusal (Whole view.now)) }
+    ensures line { OnOk result (string_bytes text.new ≡ string_bytes text.old ++ part_line full tally.now (Whole view.now)) }
+{
+    if let Some(name) = bare_reply(view.code(), view.payload()) {
+        push_named_packet(text, full, tally, view, name)?;
+        return Ok(false);
+    }
+    push_read_reply(text, full, tally, view)
+}
+
 /// Writes the line of a packet, in full or where its message is refused, and says whether it is.
+#[inline(always)]
 pub(crate) fn push_packet(
     text: &mut String,
     full: bool,
@@ -189,6 +228,7 @@ fn fault_name(fault: FrameFault) -> &'static str
 }
 
 /// Writes the line of a refused byte.
+#[inline(never)]
 pub(crate) fn push_fault(
     text: &mut String,
     full: bool,

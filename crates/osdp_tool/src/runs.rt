@@ -16,6 +16,7 @@ use std::io::Write;
 const TRIES: u8 = 8;
 
 /// Tells of the items that the held bytes decide, and takes them off.
+#[inline(never)]
 fn drain<W: Write>(
     framer: &mut Framer,
     report: &mut Report,
@@ -93,6 +94,9 @@ fn take_held<W: Write>(
     ensures took { IfOk result (λ count. Took (take count bytes.now) framer.old framer.new report.old report.new
         (told (W.contents (inner_of output.old)) report.old) (told (W.contents (inner_of output.new)) report.new)) }
 {
+    if bytes.is_empty() {
+        return Ok(0);
+    }
     let count = framer.push(bytes);
     drain(framer, report, output)?;
     Ok(count)
