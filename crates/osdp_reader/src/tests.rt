@@ -555,6 +555,24 @@ fn readers_within_their_ranges(rt: HostRuntime) {
     }
 }
 
+/// Settings are judged before memory is asked for. Where it is refused, as `tests/reader_memory.sh` has it, that is the answer.
+#[test]
+fn want_of_memory_is_told(rt: HostRuntime) {
+    for (address, capacity, is_within) in [(127, 1, false), (5, 1025, false), (5, 4, true)] {
+        let bench = Bench {
+            first: Answer::Done,
+        };
+        match Reader::new(rt.alloc(), config_at(&rt, address), bench, capacity) {
+            Ok(reader) => {
+                assert!(rt; is_within);
+                assert_eq!(rt; reader.waiting(), 0);
+            }
+            Err(ReaderFault::NoMemory) => assert!(rt; is_within),
+            Err(ReaderFault::OutOfRange) => assert!(rt; !is_within),
+        }
+    }
+}
+
 /// The laws hold of a handler of one's own.
 #[test]
 fn laws_hold_of_any_handler(_rt: HostRuntime) {
