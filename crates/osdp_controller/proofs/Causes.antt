@@ -23,7 +23,7 @@ use Rattle.osdp_controller.specs.declared.session.Session.{Session}
 use Rattle.osdp_controller.specs.declared.state.State.{State}
 use Rattle.osdp_controller.specs.declared.state.State.TheVariants.{Closed, Quiet, Idle, Waiting, Pausing}
 use Rattle.osdp_controller.specs.Answers.{answer_of, is_not_taken}
-use Rattle.osdp_controller.specs.Hearing.{Heard, answered, answered_unread, com_of, command_answered, comset_of, event_in, hears, hears_answer, hears_busy, ignores, is_ack, is_from_reader, is_numbered, loses, moved_by, numbered_in, opening_answered, pausing_hears, pd_id_of, poll_told, waiting_hears}
+use Rattle.osdp_controller.specs.Hearing.{Heard, answered, answered_unread, com_of, command_answered, comset_of, event_in, hears, hears_answer, ignores, is_ack, is_from_reader, is_numbered, loses, moved_by, numbered_in, opening_answered, pausing_hears, pd_id_of, poll_told, waiting_hears}
 use Rattle.osdp_controller.specs.Laws.{Comes, ComesNumbered, HearsAnswers, TellsWhy, WhyTold, exchange_in}
 use Rattle.osdp_controller.specs.Machine.{IsSession, OpensAtZero}
 use Rattle.osdp_controller.specs.Sessions.{later, seen}
@@ -167,7 +167,7 @@ why_if : (p : Packet) (now : ℕ) (s : Session) → IsSession s → WhyIf (hears
 why_if p now s is =
     either_way (λ (e : Heard). WhyIf e.report p s) (is_from_reader p s) (hears_answer p.sequence (answer_of p) (seen now s)) (ignores (seen now s))
     (λ from. either_way (λ (e : Heard). WhyIf e.report p s) (is_numbered p.sequence (answer_of p) s) (numbered_in s.state (answer_of p) (seen now s)) (ignores (seen now s))
-      (λ h. why_numbered s.state (answer_of p) p s (seen now s) refl from refl h is.opening) (λ h. tt))
+    (λ h. why_numbered s.state (answer_of p) p s (seen now s) refl from refl h is.opening) (λ h. tt))
     (λ from. tt)
 
 pub tells_why : TellsWhy
@@ -194,5 +194,5 @@ hears_answers p now s x reply is =
     let comes = is.comes in
     if_true (is_from_reader p s) (hears_answer p.sequence (answer_of p) (seen now s)) (ignores (seen now s)) comes.from_reader
     ∙ (if_true (is_numbered p.sequence (answer_of p) s) (numbered_in s.state (answer_of p) (seen now s)) (ignores (seen now s))
-      (same_number p.sequence s.number (p.sequence == 0 && is_not_taken (answer_of p)) is.number)
+    (same_number p.sequence s.number (p.sequence == 0 && is_not_taken (answer_of p)) is.number)
     ∙ (ap (λ (a : Answer). numbered_in s.state a (seen now s)) comes.says ∙ numbered_plain s.state x reply (seen now s) comes.outstanding))

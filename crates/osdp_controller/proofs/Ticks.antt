@@ -1,11 +1,10 @@
 -- What ticks come to.
-use Rattle.std.proofs.Common.{◌≡◌, ◌≢◌, ◌∙◌, ap, subst, ℕ, zero, suc, ◌+◌, ◌%◌, ◌≤◌, Bool, true, false, List, [], ◌∷◌, Option, Some, None, refl, arith}
+use Rattle.std.proofs.Common.{◌≡◌, ap, subst, ℕ, zero, suc, ◌+◌, ◌≤◌, true, false, List, [], ◌∷◌, Option, Some, None, refl, arith}
 use Rattle.std.specs.Prelude.{if◌then◌else◌, nat_lt, nat_le, is_some, max}
-use Rattle.osdp_frame.specs.Packet.{Packet, next_sequence}
+use Rattle.osdp_frame.specs.Packet.{next_sequence}
 use Rattle.osdp_msg.specs.declared.command.Command.{Command}
 use Rattle.osdp_controller.specs.declared.exchange.Exchange.{Exchange}
 use Rattle.osdp_controller.specs.declared.exchange.Exchange.TheVariants.{Opening, Polling, Asking}
-use Rattle.osdp_controller.specs.declared.exchange.Outstanding.{Outstanding}
 use Rattle.osdp_controller.specs.declared.report.LostCause.TheVariants as causes
 use Rattle.osdp_controller.specs.declared.report.Report.{Report}
 use Rattle.osdp_controller.specs.declared.report.Report.TheVariants.{Lost}
@@ -13,13 +12,13 @@ use Rattle.osdp_controller.specs.declared.session.Session.{Session}
 use Rattle.osdp_controller.specs.declared.state.State.{State}
 use Rattle.osdp_controller.specs.declared.state.State.TheVariants.{Closed, Quiet, Idle, Waiting, Pausing}
 use Rattle.osdp_controller.specs.Answers.{answer_of}
-use Rattle.osdp_controller.specs.Exchanges.{exchange_number, submitted_command}
-use Rattle.osdp_controller.specs.Hearing.{Heard, hears, hears_answer, ignores, is_from_reader}
+use Rattle.osdp_controller.specs.Exchanges.{submitted_command}
+use Rattle.osdp_controller.specs.Hearing.{hears_answer, ignores, is_from_reader}
 use Rattle.osdp_controller.specs.Laws.{CountsSends, KeepsTime, NumbersTakeTurns, TakesFront, TellsLost, exchange_in}
 use Rattle.osdp_controller.specs.Machine.{is_outstanding, sent_in}
 use Rattle.osdp_controller.specs.Sessions.{seen}
 use Rattle.osdp_controller.specs.States.{is_idle}
-use Rattle.osdp_controller.specs.Ticking.{Ticked, begins, gives_up, idle_ticks, sends_frame, stays, ticks, ticks_in, tries_again}
+use Rattle.osdp_controller.specs.Ticking.{Ticked, begins, gives_up, sends_frame, stays, ticks_in, tries_again}
 use Rattle.osdp_controller.proofs.Choices.{either_way}
 
 -- one frame more, in an exchange that is outstanding then
@@ -104,7 +103,7 @@ lost_in (Idle due) s [] =
 lost_in (Waiting until sends o) s w =
     either_way (λ (t : Ticked). LostIf (Waiting until sends o) t.step.report) (nat_le until s.greatest) (tries_again sends o s w) (stays s w)
     (λ b. either_way (λ (t : Ticked). LostIf (Waiting until sends o) t.step.report) (nat_lt sends s.config.sends) (sends_frame (sends + 1) o s w) (gives_up o s w)
-      (λ c. tt) (λ c. (o.exchange, refl, refl)))
+    (λ c. tt) (λ c. (o.exchange, refl, refl)))
     (λ b. tt)
 lost_in (Pausing until o) s w =
     either_way (λ (t : Ticked). LostIf (Pausing until o) t.step.report) (nat_le until s.greatest) (sends_frame 1 o s w) (stays s w) (λ b. tt) (λ b. tt)

@@ -1,5 +1,5 @@
 -- What a reply says to a controller that waits for one.
-use Rattle.std.specs.Prelude.{ℕ, Bool, true, false, List, drop, slice_index, Result, Ok, Err}
+use Rattle.std.specs.Prelude.{ℕ, Bool, true, false, drop, slice_index, Result, Ok, Err}
 use Rattle.osdp_frame.specs.Packet.{Packet}
 use Rattle.osdp_msg.specs.declared.fault.MsgFault.{MsgFault}
 use Rattle.osdp_msg.specs.declared.nak.NakReason.{NakReason}

@@ -1,5 +1,5 @@
 -- What the tables come to, in the subject's words.
-use Rattle.std.specs.Prelude.{◌≡◌, ◌≢◌, ℕ, suc, ◌+◌, ◌≤◌, true, false, IsTrue, List, [], ◌∷◌, Option, Some, None, is_some}
+use Rattle.std.specs.Prelude.{◌≡◌, ◌≢◌, ℕ, suc, ◌+◌, ◌≤◌, true, false, List, [], ◌∷◌, Option, Some, None, is_some}
 use Rattle.osdp_frame.specs.Packet.{Packet, next_sequence}
 use Rattle.osdp_msg.specs.declared.command.Command.{Command}
 use Rattle.osdp_msg.specs.declared.reply.Reply.{Reply}
@@ -18,7 +18,7 @@ use Rattle.osdp_controller.specs.declared.state.State.{State}
 use Rattle.osdp_controller.specs.declared.state.State.TheVariants.{Waiting, Pausing}
 use Rattle.osdp_controller.specs.Answers.{answer_of}
 use Rattle.osdp_controller.specs.Exchanges.{exchange_number, submitted_command}
-use Rattle.osdp_controller.specs.Hearing.{answered, answered_unread, hears, is_from_reader}
+use Rattle.osdp_controller.specs.Hearing.{answered, hears, is_from_reader}
 use Rattle.osdp_controller.specs.Machine.{IsSession, is_outstanding, sent_in}
 use Rattle.osdp_controller.specs.Sessions.{seen}
 use Rattle.osdp_controller.specs.States.{is_idle}
@@ -75,17 +75,17 @@ HearsAnswers = (p : Packet) (now : ℕ) (s : Session) (x : Exchange) (reply : Re
 -- a tick sends at most one frame more in the exchange, and a frame counts from 1 on in a new one
 pub record CountsSends (now : ℕ) (s : Session) (waiting : List Command) : Type 0 where
   pub one_more : is_some (ticks now s waiting).step.frame ≡ true
-    → sent_in (ticks now s waiting).session.state ≡ sent_in s.state + 1
+      → sent_in (ticks now s waiting).session.state ≡ sent_in s.state + 1
   pub outstanding : is_some (ticks now s waiting).step.frame ≡ true
-    → is_outstanding (ticks now s waiting).session.state ≡ true
+      → is_outstanding (ticks now s waiting).session.state ≡ true
 
 -- the front of the waiting commands is asked as soon as nothing is outstanding, and leaves; where none waits, a POLL
 -- may begin; in every other state they stay, also where the session ends
 pub record TakesFront (now : ℕ) (s : Session) (waiting : List Command) : Type 0 where
   pub front : (command : Command) (rest : List Command) → is_idle s.state ≡ true → waiting ≡ command ∷ rest
-    → (exchange_in (ticks now s waiting).session.state ≡ Some (Asking command)) × ((ticks now s waiting).waiting ≡ rest)
+      → (exchange_in (ticks now s waiting).session.state ≡ Some (Asking command)) × ((ticks now s waiting).waiting ≡ rest)
   pub poll : is_idle s.state ≡ true → waiting ≡ [] → is_some (ticks now s waiting).step.frame ≡ true
-    → exchange_in (ticks now s waiting).session.state ≡ Some Polling
+      → exchange_in (ticks now s waiting).session.state ≡ Some Polling
   pub stay : is_idle s.state ≡ false → (ticks now s waiting).waiting ≡ waiting
 
 -- a tick that tells something ends the session, and tells the outstanding command unsettled

@@ -1,5 +1,5 @@
 -- What is kept of a session, and what one event makes of it. The moment of an event is the greatest one seen.
-use Rattle.std.specs.Prelude.{ℕ, ◌+◌, ◌-◌, ◌^◌, false, min, max, Option, Some, None}
+use Rattle.std.specs.Prelude.{ℕ, ◌+◌, ◌-◌, ◌^◌, false, min, max}
 use Rattle.osdp_frame.specs.Packet.{Packet}
 use Rattle.osdp_frame.specs.Packed.{packed}
 use Rattle.osdp_controller.specs.declared.config.ControllerConfig.{ControllerConfig}
@@ -9,7 +9,6 @@ use Rattle.osdp_controller.specs.declared.report.LostCause.{LostCause}
 use Rattle.osdp_controller.specs.declared.report.Report.{Report}
 use Rattle.osdp_controller.specs.declared.report.Report.TheVariants.{Lost}
 use Rattle.osdp_controller.specs.declared.session.Session.{Session}
-use Rattle.osdp_controller.specs.declared.state.State.{State}
 use Rattle.osdp_controller.specs.declared.state.State.TheVariants.{Closed, Idle, Waiting}
 use Rattle.osdp_controller.specs.Exchanges.{exchange_body, submitted_command}
 

@@ -1,4 +1,4 @@
-use Rattle.std.proofs.Common.{◌≡◌, ◌∙◌, ap, sym}
+use Rattle.std.proofs.Common.{◌∙◌, ap, sym}
 use Rattle.osdp_controller.specs.Hearing.{Heard}
 use Rattle.osdp_controller.proofs.Same.{numbered_pausing, numbered_waiting}
 use Rattle.osdp_controller.proofs.session.Session.hear_numbered.Goals as goal

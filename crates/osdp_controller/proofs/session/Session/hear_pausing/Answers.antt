@@ -1,4 +1,4 @@
-use Rattle.std.proofs.Common.{◌≡◌, ◌∙◌, ap}
+use Rattle.std.proofs.Common.{◌∙◌, ap}
 use Rattle.osdp_controller.specs.Hearing.{Heard}
 use Rattle.osdp_controller.proofs.Same.{pausing_plain}
 use Rattle.osdp_controller.proofs.session.Session.hear_pausing.Goals as goal

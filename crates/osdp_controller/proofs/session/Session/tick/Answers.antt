@@ -1,4 +1,4 @@
-use Rattle.std.proofs.Common.{◌≡◌, ◌≤◌, ◌∙◌, sym, arith}
+use Rattle.std.proofs.Common.{◌∙◌, sym, arith}
 use Rattle.osdp_controller.proofs.Keeping.{few_sent}
 use Rattle.osdp_controller.proofs.session.Session.tick.Goals as goal
 
