@@ -1,6 +1,7 @@
 //! The first item that bytes decide.
 
 ghost use Rattle.std.specs.Prelude.{◌≡◌, ◌≤◌, ◌<◌, IfSome, length, length as size_of_list, take};
+ghost use Rattle.std.specs.Str.{bytes_eq};
 ghost use Rattle.osdp_frame.specs.Held.{begun, decided, is_checked, packet_at};
 ghost use Rattle.osdp_frame.specs.Reading.{check_at, count_at};
 ghost use Rattle.osdp_frame.specs.Check.{check_of, check_size};
@@ -55,6 +56,17 @@ fn front_check(rest: &[u8], held: Option<&Buffer>, check: CheckKind, count: usiz
     }
 }
 
+/// Whether these bytes are the expected check. It compares bytes one by one: a comparison of slices takes longer.
+fn is_check(found: &[u8], check: CheckKind, expected: &[u8; 2]) -> bool
+    requires { length found.now ≡ check_size check }
+    ensures { result ≡ bytes_eq found.now (take (check_size check) expected.now) }
+{
+    match check {
+        CheckKind::Sum => found[0] == expected[0],
+        CheckKind::Crc => found[0] == expected[0] && found[1] == expected[1],
+    }
+}
+
 /// Whether the bytes of the packet end with the check of those before it.
 fn is_checked(rest: &[u8], held: Option<&Buffer>, check: CheckKind, length: usize) -> bool
     requires held { IfSome held (λ buffer. buffer.now.bytes ≡ rest.now) }
@@ -66,7 +78,7 @@ fn is_checked(rest: &[u8], held: Option<&Buffer>, check: CheckKind, length: usiz
 {
     let checked = length - check.size();
     let expected = front_check(rest, held, check, checked);
-    rest[checked..length] == expected[..check.size()]
+    is_check(&rest[checked..length], check, &expected)
 }
 
 /// The packet of so many bytes at the head of the rest.

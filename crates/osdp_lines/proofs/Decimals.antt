@@ -27,8 +27,8 @@ pub three_digits : (n : ℕ) → 100 ≤ n → n < 1000 → decimal n ≡ (48 + 
 three_digits n large small =
     step n (n / 10) (n % 100 % 10) (omega arith) (omega arith) (omega arith) (omega arith)
     ∙ ap (λ l. l ++ ((48 + n % 100 % 10) ∷ [])) (
-      step (n / 10) (n / 100) (n % 100 / 10) (omega arith) (omega arith) (omega arith) (omega arith)
-      ∙ ap (λ l. l ++ ((48 + n % 100 / 10) ∷ [])) (decimal_digit (n / 100) (omega arith)))
+    step (n / 10) (n / 100) (n % 100 / 10) (omega arith) (omega arith) (omega arith) (omega arith)
+    ∙ ap (λ l. l ++ ((48 + n % 100 / 10) ∷ [])) (decimal_digit (n / 100) (omega arith)))
 
 -- four digits behind those of what is above them
 pub four_behind : (n : ℕ) → 10000 ≤ n → n < 2 ^ 64
@@ -41,11 +41,11 @@ four_behind n large fits =
     let top = decimal (n / 10000) in
     step n (n / 10) (n % 10000 % 100 % 10) (omega arith) fits (omega arith) (omega arith)
     ∙ ap (λ l. l ++ (d ∷ [])) (
-      step (n / 10) (n / 100) (n % 10000 % 100 / 10) (omega arith) (omega arith) (omega arith) (omega arith)
-      ∙ ap (λ l. l ++ (c ∷ [])) (
-        step (n / 100) (n / 1000) (n % 10000 / 100 % 10) (omega arith) (omega arith) (omega arith) (omega arith)
-        ∙ ap (λ l. l ++ (b ∷ [])) (
-          step (n / 1000) (n / 10000) (n % 10000 / 100 / 10) (omega arith) (omega arith) (omega arith) (omega arith))))
+    step (n / 10) (n / 100) (n % 10000 % 100 / 10) (omega arith) (omega arith) (omega arith) (omega arith)
+    ∙ ap (λ l. l ++ (c ∷ [])) (
+    step (n / 100) (n / 1000) (n % 10000 / 100 % 10) (omega arith) (omega arith) (omega arith) (omega arith)
+    ∙ ap (λ l. l ++ (b ∷ [])) (
+    step (n / 1000) (n / 10000) (n % 10000 / 100 / 10) (omega arith) (omega arith) (omega arith) (omega arith))))
     ∙ ap (λ l. l ++ (d ∷ [])) (ap (λ l. l ++ (c ∷ [])) (append_assoc top (a ∷ []) (b ∷ [])))
     ∙ ap (λ l. l ++ (d ∷ [])) (append_assoc top (a ∷ b ∷ []) (c ∷ []))
     ∙ append_assoc top (a ∷ b ∷ c ∷ []) (d ∷ [])
@@ -55,5 +55,5 @@ pub four_digits : (n : ℕ) → 1000 ≤ n → n < 10000
 four_digits n large small =
     step n (n / 10) (n % 100 % 10) (omega arith) (omega arith) (omega arith) (omega arith)
     ∙ ap (λ l. l ++ ((48 + n % 100 % 10) ∷ [])) (
-      step (n / 10) (n / 100) (n % 100 / 10) (omega arith) (omega arith) (omega arith) (omega arith)
-      ∙ ap (λ l. l ++ ((48 + n % 100 / 10) ∷ [])) (two_digits (n / 100) (omega arith) (omega arith)))
+    step (n / 10) (n / 100) (n % 100 / 10) (omega arith) (omega arith) (omega arith) (omega arith)
+    ∙ ap (λ l. l ++ ((48 + n % 100 / 10) ∷ [])) (two_digits (n / 100) (omega arith) (omega arith)))

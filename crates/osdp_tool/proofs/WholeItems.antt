@@ -1,18 +1,17 @@
 -- Items that need no framer, and pieces of a run one behind the other.
-use Rattle.std.proofs.Common.{◌≡◌, ℕ, ◌+◌, ◌*◌, ◌<◌, ◌≤◌, ◌==◌, not, ◌&&◌, Bool, true, false, List, [], ◌∷◌, ◌++◌, length, take, drop, Option, Some, None, refl, sym, subst, ap, ◌∙◌, arith, append_assoc, length-append}
+use Rattle.std.proofs.Common.{◌≡◌, ℕ, ◌+◌, ◌≤◌, ◌==◌, not, false, List, [], ◌∷◌, ◌++◌, length, take, drop, Option, Some, None, refl, sym, subst, ap, ◌∙◌, arith, append_assoc, length-append}
 use Rattle.std.proofs.Math.Seq.{take-add}
 use Rattle.std.proofs.lemmas.List.{drop_all, length-take, take-take}
 use Rattle.osdp_frame.specs.Bytes.{AreBytes}
 use Rattle.osdp_frame.specs.Reading.{Part, part_size}
-use Rattle.osdp_frame.specs.Held.{Held, decided, by_itself, new_run, after_push, after_advance, behind_first, taken_count}
+use Rattle.osdp_frame.specs.Held.{Held, decided, by_itself, new_run, after_push, after_gap, after_advance, behind_first, taken_count}
 use Rattle.osdp_frame.proofs.Head.{AreBytes-drop}
 use Rattle.osdp_frame.proofs.FirstItems.{decided_by_itself}
 use Rattle.osdp_frame.proofs.Readings.{decided_nothing, part_size-decided, part_size-positive}
-use Rattle.osdp_lines.specs.Tally.{counted}
 use Rattle.osdp_tool.specs.declared.report.Report.{Report}
 use Rattle.osdp_tool.specs.Machine.{Tells, Drained, IsSettled, Stands, Took}
 use Rattle.osdp_tool.proofs.Drains.{draining_start, draining_step, draining_end}
-use Rattle.osdp_tool.proofs.Standing.{AreBytes-append, AreBytes-take, drained_settled, stands_more, took_start, took_step}
+use Rattle.osdp_tool.proofs.Standing.{AreBytes-append, AreBytes-take, drained_settled, gap_some, stands_more, took_start, took_step}
 
 -- a new run is settled
 pub settled_new : IsSettled new_run
@@ -100,3 +99,20 @@ item_within bytes at part fits is =
     let rest = drop at bytes in
     let rest_fits = AreBytes-drop at bytes fits in
     omega (arith, part_size-decided false (take (part_size part) rest) part (AreBytes-take (part_size part) rest rest_fits) (decided_by_itself rest part rest_fits is), length-take (part_size part) rest)
+
+-- ---- the end of a run of which nothing is held
+
+no_bytes : (bytes : List ℕ) → length bytes ≡ 0 → bytes ≡ []
+no_bytes [] h = refl
+no_bytes (b ∷ bytes) h = absurd (omega arith)
+
+pub drained_none : (held : Held) (old : Report) (before : Option (List ℕ)) → IsSettled held → length held.bytes ≡ 0
+    → Drained (after_gap held) held old old before before
+drained_none held old before settled none =
+    let start = after_gap held in
+    let nothing : decided start.ended start.bytes ≡ None =
+    ap (decided start.ended) (no_bytes held.bytes none) ∙ decided_nothing start.ended in
+    let open_still : start.ended ≡ held.ended = ap (λ n. not (n == 0)) none ∙ sym settled.goes_on in
+    let same : start ≡ held = λ i. record { bytes = held.bytes; ended = open_still i } in
+    subst (λ (h : Held). Drained start h old old before before) same
+    (draining_end start start old old before before (draining_start start old before settled.bytes (gap_some held.bytes)) nothing)

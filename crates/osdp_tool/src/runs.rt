@@ -2,7 +2,7 @@
 
 ghost use Rattle.std.specs.Prelude.{◌≡◌, ◌+◌, ◌*◌, ◌<◌, ◌≤◌, ◌^◌, ◌++◌, true, false, None, length, take, IfOk, OnOk};
 ghost use Rattle.osdp_frame.specs.Bytes.{AreBytes};
-ghost use Rattle.osdp_frame.specs.Held.{decided, new_run};
+ghost use Rattle.osdp_frame.specs.Held.{after_gap, decided, new_run};
 ghost use Rattle.osdp_lines.specs.Tally.{counted};
 ghost use Rattle.osdp_stream.specs.Watched.{inner_of, has_failed};
 ghost use Rattle.osdp_tool.specs.Machine.{told, IsStep, Drained, IsSettled, Took, EndedRun};
@@ -145,6 +145,25 @@ pub fn take<W: Write>(
     Ok(())
 }
 
+/// What is held of a run that ends is told, where something is.
+fn end_held<W: Write>(
+    framer: &mut Framer,
+    report: &mut Report,
+    output: &mut Watched<W>,
+) -> Result<(), ToolFault>
+    requires settled { IsSettled framer.old }
+    requires counts { counted report.old.tally + 5 * length framer.old.bytes < 2 ^ 62 }
+    ensures step { IsStep result (has_failed output.old) (has_failed output.new) }
+    ensures drained { OnOk result (Drained (after_gap framer.old) framer.new report.old report.new
+        (told (W.contents (inner_of output.old)) report.old) (told (W.contents (inner_of output.new)) report.new)) }
+{
+    if framer.is_empty() {
+        return Ok(());
+    }
+    framer.gap();
+    drain(framer, report, output)
+}
+
 /// The run has ended.
 pub fn end_run<W: Write>(
     framer: &mut Framer,
@@ -157,8 +176,7 @@ pub fn end_run<W: Write>(
     ensures ended { OnOk result (EndedRun framer.old framer.new report.old report.new
         (told (W.contents (inner_of output.old)) report.old) (told (W.contents (inner_of output.new)) report.new)) }
 {
-    framer.gap();
-    drain(framer, report, output)?;
+    end_held(framer, report, output)?;
     report.tally.end_run();
     Ok(())
 }

@@ -1,4 +1,4 @@
-use Rattle.std.proofs.Common.{◌≡◌, ◌∙◌, Some, ap, sym, inl, inr, arith}
+use Rattle.std.proofs.Common.{◌≡◌, ◌∙◌, Some, ap, sym, inl, inr}
 use Rattle.osdp_frame.specs.First.{part_in}
 use Rattle.osdp_frame.specs.Held.{by_itself}
 use Rattle.osdp_frame.specs.Shown.{part_of}

@@ -1,4 +1,4 @@
-use Rattle.std.proofs.Common.{refl, ◌≡◌, ◌+◌, ◌-◌, ◌≤◌, ◌∙◌, Some, length, length-drop, drop, take, false, subst, sym, ap, arith}
+use Rattle.std.proofs.Common.{refl, ◌≡◌, ◌+◌, ◌≤◌, ◌∙◌, Some, length, length-drop, drop, take, false, subst, sym, ap, arith}
 use Rattle.std.proofs.lemmas.List.{take_rest}
 use Rattle.osdp_stream.specs.Watched.{inner_of}
 use Rattle.osdp_frame.specs.Held.{new_run, by_itself, decided}
