@@ -1,5 +1,6 @@
 mod rows;
 mod streams;
+mod vectors;
 
 use crate::{Mode, ToolFault, Watched, check, show};
 use std::alloc::Global;
@@ -55,4 +56,30 @@ fn checked_from<R: Read>(alloc: Global, mode: Mode, input: &mut R) -> Shown {
 fn expect(rt: &impl Abort, shown: &Shown, answer: Result<bool, ToolFault>, text: &str) {
     assert_eq!(rt; shown.0, answer);
     assert_eq!(rt; shown.1.as_slice(), text.as_bytes());
+}
+
+/// `show` of these bytes answers and prints so.
+fn expect_shown(
+    rt: &impl Abort,
+    alloc: Global,
+    mode: Mode,
+    input: &[u8],
+    answer: Result<bool, ToolFault>,
+    text: &str,
+) {
+    let mut input = input;
+    expect(rt, &shown_from(alloc, mode, &mut input), answer, text);
+}
+
+/// `check` of these bytes answers and prints so.
+fn expect_checked(
+    rt: &impl Abort,
+    alloc: Global,
+    mode: Mode,
+    input: &[u8],
+    answer: Result<bool, ToolFault>,
+    text: &str,
+) {
+    let mut input = input;
+    expect(rt, &checked_from(alloc, mode, &mut input), answer, text);
 }

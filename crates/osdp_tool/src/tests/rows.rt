@@ -3,32 +3,6 @@
 use super::*;
 use std::test::Fail;
 
-/// `show` of these bytes answers and prints so.
-fn expect_shown(
-    rt: &impl Abort,
-    alloc: Global,
-    mode: Mode,
-    input: &[u8],
-    answer: Result<bool, ToolFault>,
-    text: &str,
-) {
-    let mut input = input;
-    expect(rt, &shown_from(alloc, mode, &mut input), answer, text);
-}
-
-/// `check` of these bytes answers and prints so.
-fn expect_checked(
-    rt: &impl Abort,
-    alloc: Global,
-    mode: Mode,
-    input: &[u8],
-    answer: Result<bool, ToolFault>,
-    text: &str,
-) {
-    let mut input = input;
-    expect(rt, &checked_from(alloc, mode, &mut input), answer, text);
-}
-
 #[test]
 fn packet_is_shown(rt: HostRuntime) -> Result<(), Fail> {
     let alloc = rt.alloc();
