@@ -3,3 +3,4 @@ pub mod Meeting
 pub mod PlainReplies
 pub mod Keeping
 pub mod Sequences
+pub mod Addresses

@@ -34,6 +34,10 @@ module _ {H : Type 0} where
   abbrev pub HasRoom : ReaderState H → Type 0
   HasRoom r = length r.queue.events ≤ r.queue.capacity
 
+  -- its address is a device's
+  abbrev pub HasDeviceAddress : ReaderState H → Type 0
+  HasDeviceAddress r = r.config.address ≤ 126
+
   module _ (answer_of : H → Command → Answer) (after : H → Command → H) where
     -- a packet with the number of the last command, which isn't 0, changes nothing, so that no command reaches the
     -- handler twice
@@ -87,6 +91,11 @@ module _ {H : Type 0} where
     IsKept P =
         ((config : ReaderConfig) (handler : H) (capacity : ℕ) → P (new_reader config handler capacity))
         × ((r : ReaderState H) (p : Packet) → P r → P (hears answer_of after r p).reader)
+
+    -- a reader with a device's address keeps to such
+    abbrev pub StaysADevice : Type 0
+    StaysADevice = (r : ReaderState H) (p : Packet) → HasDeviceAddress r
+        → HasDeviceAddress (hears answer_of after r p).reader
 
     -- the answers to the first commands are the first answers, and the others come from the handler behind those
     abbrev pub AnswersInOrder : Type 0

@@ -1,7 +1,7 @@
 //! What the reader's table means, said apart from how it is computed. The functions do nothing: their contracts are laws,
 //! and hold whatever the handler does.
 
-ghost use Rattle.osdp_reader.specs.Laws.{ActsAtZero, ActsOnce, AnswersByWhatCame, AnswersInOrder, AnswersPlainly, AnswersTaken, HasOneSpelling, HasRoom, HearsItsAddress, IsKept, KeepsReply, LosesNoEvent, RepeatsItsReply};
+ghost use Rattle.osdp_reader.specs.Laws.{ActsAtZero, ActsOnce, AnswersByWhatCame, AnswersInOrder, AnswersPlainly, AnswersTaken, HasOneSpelling, HasRoom, HearsItsAddress, IsKept, KeepsReply, LosesNoEvent, RepeatsItsReply, StaysADevice};
 
 use crate::handler::Handler;
 
@@ -43,10 +43,12 @@ pub fn answers_taken<H: Handler>()
     ensures { AnswersTaken H.answer_of H.after }
 {}
 
-/// A reply is stored wherever the last number is 1 to 3, and no more events wait than there is room for.
+/// A reply is stored wherever the last number is 1 to 3, no more events wait than there is room for, and the address is that of a
+/// device.
 pub fn stays_well<H: Handler>()
     ensures reply { IsKept H.answer_of H.after KeepsReply }
     ensures room { IsKept H.answer_of H.after HasRoom }
+    ensures address { StaysADevice H.answer_of H.after }
 {}
 
 /// Each command of a list is answered behind those before it, and whatever comes later changes no answer.
