@@ -366,3 +366,24 @@ fn packets_with_one_byte_changed(rt: HostRuntime) {
         feed_changes(&mut controller, packet);
     }
 }
+
+/// The settings are judged first, and no call but the first asks for memory. A script refuses each allocation in turn.
+#[test]
+fn want_of_memory_is_told(rt: HostRuntime) {
+    for (capacity, is_within) in [(0, false), (1025, false), (4, true)] {
+        match Controller::new(rt.alloc(), config(&rt), capacity) {
+            Ok(controller) => {
+                assert!(rt; is_within);
+                assert!(rt; !controller.outstanding());
+            }
+            Err(fault) => {
+                let wanted = if is_within {
+                    ControllerFault::NoMemory
+                } else {
+                    ControllerFault::OutOfRange
+                };
+                assert_eq!(rt; fault, wanted);
+            }
+        }
+    }
+}
