@@ -48,6 +48,10 @@ expect 'unknown option' 2 '' "$bad" show --all </dev/null
 expect 'an option twice' 2 '' "$bad" show --raw --raw </dev/null
 expect 'a word that is no text' 2 '' "$bad" show $'\xff' </dev/null
 
+expect 'a packet made' 0 $'53050C000568000200005183\n' '' make 5 1 crc OUT 0:2:0 </dev/null
+expect 'no packet' 2 '' "$bad" make 5 4 sum POLL </dev/null
+expect 'a text that is no text' 2 '' "$bad" make 5 1 sum TEXT 0 1 0 1 1 $'\xff' </dev/null
+
 expect 'a directory as input' 3 '' $'osdp: read failed\n' show </
 expect 'a closed input' 3 '' $'osdp: read failed\n' show <&-
 
@@ -69,6 +73,8 @@ expect_status() {
 write_failed=$'osdp: write failed\n'
 expect_status 'a full device' 3 "$write_failed" show <<<'53000700006046' >/dev/full
 expect_status 'a full device, counted' 3 "$write_failed" check </dev/null >/dev/full
+expect_status 'a full device for a packet' 3 "$write_failed" make 5 0 sum BUSY </dev/null >/dev/full
+expect_status 'a full device for many lines' 3 "$write_failed" show < <(yes 53000700006046 | head -n 100000) >/dev/full
 expect_status 'a closed output' 3 "$write_failed" show <<<'53000700006046' >&-
 expect_status 'a closed output that is not written to' 0 '' show </dev/null >/dev/null
 

@@ -15,6 +15,6 @@ grep -q 'test tests::want_of_memory_is_told ... ok' <<<"$first" || fail 'want of
 grep -q 'test tests::an_event_is_told_until_the_next_number ... FAILED' <<<"$first" || fail 'no allocation was refused'
 
 second=$(rt try --test --fail-alloc 2 2>&1)
-for name in want_of_memory_is_told an_event_is_told_until_the_next_number no_changed_byte_stops_a_reader; do
+for name in want_of_memory_is_told an_event_is_told_until_the_next_number damage::no_changed_byte_stops_a_reader; do
   grep -q "test tests::$name ... ok" <<<"$second" || fail 'a second allocation was asked for'
 done

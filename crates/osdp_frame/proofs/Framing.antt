@@ -39,8 +39,8 @@ still_ended true n = elim (cases_lt 0 n) [
     not_zero k h = grind (arith, nat_tests)
 still_ended false n = refl
 
-pub kept_fits : (f : Inside) (first : First) → IsFramer f → f.first ≡ Some first → FirstFits (length f.held.bytes) (Some first)
-kept_fits f first inv kept = subst (λ o. FirstFits (length f.held.bytes) o) kept inv.fits
+pub kept_fits : (f : Inside) (first : First) → IsFramer f → f.first ≡ Some first → FirstFits f.held.bytes (Some first)
+kept_fits f first inv kept = subst (λ o. FirstFits f.held.bytes o) kept inv.fits
 
 pub advanced : (f : Inside) (held : Held) (first : First) (size : ℕ) (ended : Bool) (bytes : List ℕ) → held_of f ≡ held → IsFramer f → f.first ≡ Some first
     → part_size (part_in first f.held.bytes) ≡ size → bytes ≡ drop size f.held.bytes → ended ≡ (f.ended && ltb 0 (length bytes)) → record { bytes = bytes; ended = ended } ≡ after_advance held

@@ -14,4 +14,4 @@ pub record IsFramer (f : Inside) : Type 0 where
   pub some : f.ended ≡ true → 0 < length f.held.bytes
   -- the first item is decided, and lies within what is held
   pub first : part_if f.first f.held.bytes ≡ decided f.ended f.held.bytes
-  pub fits : FirstFits (length f.held.bytes) f.first
+  pub fits : FirstFits f.held.bytes f.first

@@ -69,3 +69,10 @@ behind_first held (Some part) = behind held part
 
 abbrev pub after_advance : Held → Held
 after_advance held = behind_first held (decided held.ended held.bytes)
+
+-- of an item that is decided: where its own bytes alone decide it, as they do a packet and a skipped byte
+abbrev pub by_itself : Option Part → Option Part
+by_itself None = None
+by_itself (Some (Whole p)) = Some (Whole p)
+by_itself (Some (Passed b)) = Some (Passed b)
+by_itself (Some (Bad f)) = None

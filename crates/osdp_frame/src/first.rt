@@ -1,33 +1,23 @@
 //! The first item that bytes decide.
 
 ghost use Rattle.std.specs.Prelude.{◌≡◌, ◌≤◌, ◌<◌, IfSome, length, length as size_of_list, take};
+ghost use Rattle.std.specs.Str.{bytes_eq};
 ghost use Rattle.osdp_frame.specs.Held.{begun, decided, is_checked, packet_at};
 ghost use Rattle.osdp_frame.specs.Reading.{check_at, count_at};
 ghost use Rattle.osdp_frame.specs.Check.{check_of, check_size};
-ghost use Rattle.osdp_frame.specs.First.{part_if, FirstFits, headed, HeadingFits};
+ghost use Rattle.osdp_frame.specs.Packet.{IsPacket};
+ghost use Rattle.osdp_frame.specs.First.{part_if, FirstFits, PacketFits};
 
 use crate::buffer::Buffer;
 use crate::bytes::{HEAD, LARGEST, START_OF_MESSAGE, check_bytes};
-use crate::{Address, CheckKind, FrameFault, Seq};
+use crate::{Address, CheckKind, FrameFault, FrameView, Seq};
 use byteorder::{ByteOrder, LittleEndian};
 
-/// What the head of a packet says.
-#[derive(Clone, Copy, Debug)]
-pub struct Heading {
-    pub reply: bool,
-    pub address: Address,
-    pub seq: Seq,
-    pub check: CheckKind,
-    pub block: bool,
-    pub reserved: u8,
-    /// How many bytes the packet has, from the start to the last byte of the check.
-    pub length: usize,
-}
-
-/// The first item, without the bytes of a packet's body.
+/// The first item, without the bytes that a packet stands in.
 #[derive(Clone, Copy, Debug)]
 pub enum First {
-    Packet(Heading),
+    /// A packet of so many bytes, from the start to the last byte of the check.
+    Packet(usize),
     Skipped(u8),
     Refused(FrameFault),
 }
@@ -66,6 +56,17 @@ fn front_check(rest: &[u8], held: Option<&Buffer>, check: CheckKind, count: usiz
     }
 }
 
+/// Whether these bytes are the expected check. It compares bytes one by one: a comparison of slices takes longer.
+fn is_check(found: &[u8], check: CheckKind, expected: &[u8; 2]) -> bool
+    requires { length found.now ≡ check_size check }
+    ensures { result ≡ bytes_eq found.now (take (check_size check) expected.now) }
+{
+    match check {
+        CheckKind::Sum => found[0] == expected[0],
+        CheckKind::Crc => found[0] == expected[0] && found[1] == expected[1],
+    }
+}
+
 /// Whether the bytes of the packet end with the check of those before it.
 fn is_checked(rest: &[u8], held: Option<&Buffer>, check: CheckKind, length: usize) -> bool
     requires held { IfSome held (λ buffer. buffer.now.bytes ≡ rest.now) }
@@ -77,28 +78,28 @@ fn is_checked(rest: &[u8], held: Option<&Buffer>, check: CheckKind, length: usiz
 {
     let checked = length - check.size();
     let expected = front_check(rest, held, check, checked);
-    rest[checked..length] == expected[..check.size()]
+    is_check(&rest[checked..length], check, &expected)
 }
 
-/// What the head of the rest says, where its count and its check are well.
-fn heading_at(rest: &[u8], check: CheckKind, length: usize) -> Heading
-    requires head { 5 ≤ size_of_list rest.now }
-    requires check { check ≡ check_at rest.now }
-    requires count { length ≡ count_at rest.now }
-    ensures packet { headed result rest.now ≡ packet_at rest.now }
-    ensures check { result.check ≡ check }
-    ensures length { result.length ≡ length }
+/// The packet of so many bytes at the head of the rest.
+pub fn packet_at(rest: &[u8], length: usize) -> FrameView<'_>
+    requires fits { PacketFits rest.now length }
+    requires packet { IsPacket (packet_at rest.now) }
+    ensures { result ≡ packet_at rest.now }
 {
+    let check = check_kind(rest);
     let control = rest[4];
-    Heading {
-        reply: rest[1] > 127,
-        address: Address::of(rest[1]),
-        seq: Seq::of(control),
+    let block = control / 8 % 2 == 1;
+    let body = &rest[HEAD..length - check.size()];
+    FrameView::of(
+        rest[1] > 127,
+        Address::of(rest[1]),
+        Seq::of(control),
         check,
-        block: control / 8 % 2 == 1,
-        reserved: control / 16,
-        length,
-    }
+        block,
+        control / 16,
+        body,
+    )
 }
 
 /// What a start of message begins. A packet's check is computed only where its bytes are there.
@@ -106,7 +107,7 @@ fn begun(rest: &[u8], held: Option<&Buffer>, ended: bool) -> Option<First>
     requires some { 1 ≤ length rest.now }
     requires held { IfSome held (λ buffer. buffer.now.bytes ≡ rest.now) }
     ensures part { part_if result rest.now ≡ begun ended rest.now }
-    ensures fits { FirstFits (length rest.now) result }
+    ensures fits { FirstFits rest.now result }
 {
     let at_end = if ended {
         Some(First::Refused(FrameFault::Ended))
@@ -128,7 +129,7 @@ fn begun(rest: &[u8], held: Option<&Buffer>, ended: bool) -> Option<First>
         return at_end;
     }
     if is_checked(rest, held, check, length) {
-        Some(First::Packet(heading_at(rest, check, length)))
+        Some(First::Packet(length))
     } else {
         Some(First::Refused(FrameFault::BadCheck))
     }
@@ -140,7 +141,7 @@ fn begun(rest: &[u8], held: Option<&Buffer>, ended: bool) -> Option<First>
 pub fn first_item(rest: &[u8], held: Option<&Buffer>, ended: bool) -> Option<First>
     requires { IfSome held (λ buffer. buffer.now.bytes ≡ rest.now) }
     ensures part { part_if result rest.now ≡ decided ended rest.now }
-    ensures fits { FirstFits (length rest.now) result }
+    ensures fits { FirstFits rest.now result }
 {
     match rest {
         [] => None,

@@ -1,6 +1,6 @@
 //! The framer: bytes of the line in any pieces, items one by one.
 
-ghost use Rattle.std.specs.Prelude.{◌≡◌, ◌↔◌, ◌≤◌, ◌+◌, ◌-◌, ◌<◌, Bool, false, true, IsNone, IfSome, length, take, ◌++◌};
+ghost use Rattle.std.specs.Prelude.{◌≡◌, ◌==◌, ◌↔◌, ◌≤◌, ◌+◌, ◌-◌, ◌<◌, Bool, false, true, IsNone, IfSome, length, take, ◌++◌};
 ghost use Rattle.std.specs.Option.{option_map};
 ghost use Rattle.osdp_frame.specs.First.{FirstFits, part_if};
 ghost use Rattle.osdp_frame.specs.Held.{after_advance, after_gap, after_push, decided, new_run, taken_count};
@@ -54,6 +54,13 @@ impl Framer {
             ended: false,
             first: None,
         }
+    }
+
+    /// Whether no byte is held.
+    pub fn is_empty(&self) -> bool
+        ensures { result ≡ (length self.now.bytes == 0) }
+    {
+        self.held.len() == 0
     }
 
     /// The next item, where the bytes held decide it. It changes nothing: `advance` takes the item
@@ -125,7 +132,7 @@ impl Default for Framer {
 fn first_held(held: &mut Buffer, ended: bool) -> Option<First>
     ensures same { held.new.bytes ≡ held.old.bytes }
     ensures part { part_if result held.new.bytes ≡ decided ended held.new.bytes }
-    ensures fits { FirstFits (length held.new.bytes) result }
+    ensures fits { FirstFits held.new.bytes result }
 {
     let count = long_count(held.bytes());
     held.run_to(count);
@@ -157,10 +164,10 @@ fn decided_again(
 ) -> Option<First>
     requires count { count ≤ length held.old.bytes }
     requires first { part_if first (take count held.old.bytes) ≡ decided false (take count held.old.bytes) }
-    requires fits { FirstFits count first }
+    requires fits { FirstFits (take count held.old.bytes) first }
     ensures same { held.new.bytes ≡ held.old.bytes }
     ensures part { part_if result held.new.bytes ≡ decided ended held.new.bytes }
-    ensures fits { FirstFits (length held.new.bytes) result }
+    ensures fits { FirstFits held.new.bytes result }
 {
     are_bytes(held.bytes());
     match first {

@@ -1,13 +1,12 @@
 //! The items of a run's reading, as callers see them.
 
 ghost use Rattle.std.specs.Prelude.{◌≡◌, ◌<◌, ◌≤◌, ℕ, Bool, List, Some, true, length};
-ghost use Rattle.osdp_frame.specs.First.{FirstFits, HeadingFits, headed, part_if, part_in};
-ghost use Rattle.osdp_frame.specs.Packet.{IsPacket};
+ghost use Rattle.osdp_frame.specs.First.{FirstFits, part_if, part_in};
 ghost use Rattle.osdp_frame.specs.Held.{decided};
 ghost use Rattle.osdp_frame.specs.Reading.{part_size};
 
 use crate::bytes::HEAD;
-use crate::first::{First, Heading};
+use crate::first::{First, packet_at};
 use crate::{FrameFault, FrameView};
 
 /// One item of a run: the first of what is left of it.
@@ -40,45 +39,25 @@ impl First {
 
     /// How many bytes it takes of those that it stands in.
     pub(crate) fn size(&self) -> usize
-        ensures size { (rest : List ℕ) → FirstFits (length rest) (Some self.now) → part_size (part_in self.now rest) ≡ result }
-        ensures within { (count : ℕ) → FirstFits count (Some self.now) → result ≤ count }
+        ensures size { (rest : List ℕ) → FirstFits rest (Some self.now) → part_size (part_in self.now rest) ≡ result }
+        ensures within { (rest : List ℕ) → FirstFits rest (Some self.now) → result ≤ length rest }
     {
         match self {
-            First::Packet(heading) => heading.length,
+            First::Packet(length) => *length,
             First::Skipped(_) | First::Refused(_) => 1,
         }
     }
 
     /// The item, shown in the bytes of which it is the first.
     pub(crate) fn shown<'a>(&self, rest: &'a [u8]) -> Item<'a>
-        requires fits { FirstFits (length rest.now) (Some self.now) }
+        requires fits { FirstFits rest.now (Some self.now) }
         requires decided { (ended : Bool) × (Some (part_in self.now rest.now) ≡ decided ended rest.now) }
         ensures { part_of result ≡ part_in self.now rest.now }
     {
         match self {
-            First::Packet(heading) => Item::Packet(heading.shown(rest)),
+            First::Packet(length) => Item::Packet(packet_at(rest, *length)),
             First::Skipped(byte) => Item::Skipped(*byte),
             First::Refused(fault) => Item::Refused(*fault),
         }
-    }
-}
-
-impl Heading {
-    /// The packet of this heading at the head of the bytes.
-    fn shown<'a>(&self, rest: &'a [u8]) -> FrameView<'a>
-        requires fits { HeadingFits (length rest.now) self.now }
-        requires packet { IsPacket (headed self.now rest.now) }
-        ensures { result ≡ headed self.now rest.now }
-    {
-        let body = &rest[HEAD..self.length - self.check.size()];
-        FrameView::of(
-            self.reply,
-            self.address,
-            self.seq,
-            self.check,
-            self.block,
-            self.reserved,
-            body,
-        )
     }
 }

@@ -25,7 +25,7 @@ pub use fault::FrameFault;
 pub use frame::{Burst, Frame};
 pub use framer::Framer;
 pub use item::Item;
-pub use read::{ReadItem, read_at};
+pub use read::{ReadItem, read_at, whole_item};
 pub use seq::Seq;
 pub use view::FrameView;
 

@@ -1,11 +1,13 @@
-//! Items that hold their own packets.
+//! Items of bytes that no framer holds.
 
-ghost use Rattle.std.specs.Prelude.{◌≡◌, ◌<◌, length, drop};
-ghost use Rattle.osdp_frame.specs.Reading.{Stands};
+ghost use Rattle.std.specs.Prelude.{◌≡◌, ◌<◌, false, IfSome, length, take, drop};
+ghost use Rattle.std.specs.Option.{option_map};
+ghost use Rattle.osdp_frame.specs.Held.{by_itself, decided};
+ghost use Rattle.osdp_frame.specs.Reading.{IsFirst, Stands, part_size};
 ghost use Rattle.osdp_frame.specs.Shown.{part_of, part_read};
 
 use crate::bytes::are_bytes;
-use crate::first::first_item;
+use crate::first::{First, first_item};
 use crate::item::Item;
 use crate::{Frame, FrameFault};
 
@@ -30,6 +32,20 @@ pub fn read_at(run: &[u8], place: usize) -> ReadItem
     match first_item(rest, None, true) {
         Some(first) => first.shown(rest).into_owned(),
         None => unreachable!(),
+    }
+}
+
+/// The packet, or the byte that begins none, at the head of `bytes`: the next item of each run that goes on
+/// with its bytes. None where no byte is there, where a refused byte is, or where bytes to come decide.
+pub fn whole_item(bytes: &[u8]) -> Option<Item<'_>>
+    ensures shown { option_map part_of result ≡ by_itself (decided false bytes.now) }
+    ensures first { IfSome result (λ item. IsFirst false (take (part_size (part_of item)) bytes.now) (part_of item)) }
+{
+    are_bytes(bytes);
+    let first = first_item(bytes, None, false)?;
+    match first {
+        First::Packet(_) | First::Skipped(_) => Some(first.shown(bytes)),
+        First::Refused(_) => None,
     }
 }
 

@@ -14,8 +14,19 @@ fn is_blank(byte: u8) -> bool
     byte == b' ' || (byte == b'\t' || byte == b'\r')
 }
 
-/// Adds the characters that count to those of the line.
-pub fn keep(line: &mut Vec<u8>, characters: &[u8]) -> Result<(), AllocError>
+/// Whether a blank stands among the characters. It looks at all of them: that is faster than to stop at one.
+fn has_blank(characters: &[u8]) -> bool
+    ensures { result ≡ false → kept characters.now ≡ characters.now }
+{
+    let mut found = false;
+    for byte in characters {
+        found = is_blank(*byte) | found;
+    }
+    found
+}
+
+/// Adds the characters that count to those of the line, one by one.
+fn keep_each(line: &mut Vec<u8>, characters: &[u8]) -> Result<(), AllocError>
     ensures { OnOk result (line.new.items ≡ line.old.items ++ kept characters.now) }
 {
     for byte in characters {
@@ -24,6 +35,16 @@ pub fn keep(line: &mut Vec<u8>, characters: &[u8]) -> Result<(), AllocError>
         }
     }
     Ok(())
+}
+
+/// Adds the characters that count to those of the line.
+pub fn keep(line: &mut Vec<u8>, characters: &[u8]) -> Result<(), AllocError>
+    ensures { OnOk result (line.new.items ≡ line.old.items ++ kept characters.now) }
+{
+    if has_blank(characters) {
+        return keep_each(line, characters);
+    }
+    line.extend_from_slice(characters)
 }
 
 /// Reads digits into a slice of half as many bytes; false where one of them is no digit.

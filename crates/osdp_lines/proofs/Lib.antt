@@ -1,2 +1,4 @@
 pub mod HexText
 pub mod Lines
+pub mod BareMessages
+pub mod Decimals

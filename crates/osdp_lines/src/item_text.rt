@@ -3,11 +3,11 @@
 ghost use Rattle.std.specs.Prelude.{◌≡◌, ◌++◌, ◌+◌, ◌<◌, ◌^◌, ℕ, true, false, length, OnOk, IfOk, string_bytes, codes};
 ghost use Rattle.std.specs.Fmt.{decimal};
 ghost use Rattle.osdp_frame.specs.Reading.{Whole, Passed, Bad};
-ghost use Rattle.osdp_lines.specs.ItemText.{fault_name, is_refusal, item_line, counts_line};
+ghost use Rattle.osdp_lines.specs.ItemText.{body_text, fault_name, is_refusal, item_line, counts_line};
 ghost use Rattle.osdp_lines.specs.Told.{part_line, end_line};
 
 use crate::hex_text::push_bytes;
-use crate::message_text::{is_refused, push_command, push_reply};
+use crate::message_text::{bare_command, bare_reply, is_refused, push_command, push_reply};
 use crate::number::push_number;
 use crate::packet_text::push_head;
 use crate::tally::Tally;
@@ -28,6 +28,7 @@ fn push_front(text: &mut String, tally: &Tally) -> Result<(), AllocError>
 }
 
 /// Writes the line of a packet whose body is left unread.
+#[inline(never)]
 fn push_unread_packet(
     text: &mut String,
     full: bool,
@@ -50,8 +51,34 @@ fn push_unread_packet(
     Ok(false)
 }
 
-/// Writes the line of a command, and says whether it is refused.
-fn push_command_packet(
+/// Writes the line of a packet of which this is told, in full.
+#[inline(always)]
+fn push_named_packet(
+    text: &mut String,
+    full: bool,
+    tally: &Tally,
+    view: &FrameView<'_>,
+    name: &str,
+) -> Result<(), AllocError>
+    requires room { tally.now.runs + 1 < 2 ^ 64 }
+    requires block { view.now.block ≡ false }
+    requires name { body_text view.now ≡ name.now }
+    requires refused { is_refusal (Whole view.now) ≡ false }
+    ensures { OnOk result (string_bytes text.new ≡ string_bytes text.old ++ part_line full tally.now (Whole view.now)) }
+{
+    if !full {
+        return Ok(());
+    }
+    push_front(text, tally)?;
+    push_head(text, view)?;
+    text.push_str(" ")?;
+    text.push_str(name)?;
+    text.push_str("\n")
+}
+
+/// Writes the line of a command that is read to be told, and says whether it is refused.
+#[inline(never)]
+fn push_read_command(
     text: &mut String,
     full: bool,
     tally: &Tally,
@@ -78,8 +105,30 @@ fn push_command_packet(
     Ok(refused)
 }
 
-/// Writes the line of a reply, and says whether it is refused.
-fn push_reply_packet(
+/// Writes the line of a command, and says whether it is refused.
+#[inline(always)]
+fn push_command_packet(
+    text: &mut String,
+    full: bool,
+    tally: &Tally,
+    view: &FrameView<'_>,
+) -> Result<bool, AllocError>
+    requires room { tally.now.runs + 1 < 2 ^ 64 }
+    requires block { view.now.block ≡ false }
+    requires command { view.now.reply ≡ false }
+    ensures refused { IfOk result (λ refused. refused ≡ is_refusal (Whole view.now)) }
+    ensures line { OnOk result (string_bytes text.new ≡ string_bytes text.old ++ part_line full tally.now (Whole view.now)) }
+{
+    if let Some(name) = bare_command(view.code(), view.payload()) {
+        push_named_packet(text, full, tally, view, name)?;
+        return Ok(false);
+    }
+    push_read_command(text, full, tally, view)
+}
+
+/// Writes the line of a reply that is read to be told, and says whether it is refused.
+#[inline(never)]
+fn push_read_reply(
     text: &mut String,
     full: bool,
     tally: &Tally,
@@ -106,7 +155,29 @@ fn push_reply_packet(
     Ok(refused)
 }
 
+/// Writes the line of a reply, and says whether it is refused.
+#[inline(always)]
+fn push_reply_packet(
+    text: &mut String,
+    full: bool,
+    tally: &Tally,
+    view: &FrameView<'_>,
+) -> Result<bool, AllocError>
+    requires room { tally.now.runs + 1 < 2 ^ 64 }
+    requires block { view.now.block ≡ false }
+    requires reply { view.now.reply ≡ true }
+    ensures refused { IfOk result (λ refused. refused ≡ is_refusal (Whole view.now)) }
+    ensures line { OnOk result (string_bytes text.new ≡ string_bytes text.old ++ part_line full tally.now (Whole view.now)) }
+{
+    if let Some(name) = bare_reply(view.code(), view.payload()) {
+        push_named_packet(text, full, tally, view, name)?;
+        return Ok(false);
+    }
+    push_read_reply(text, full, tally, view)
+}
+
 /// Writes the line of a packet, in full or where its message is refused, and says whether it is.
+#[inline(always)]
 pub(crate) fn push_packet(
     text: &mut String,
     full: bool,
@@ -157,6 +228,7 @@ fn fault_name(fault: FrameFault) -> &'static str
 }
 
 /// Writes the line of a refused byte.
+#[inline(never)]
 pub(crate) fn push_fault(
     text: &mut String,
     full: bool,

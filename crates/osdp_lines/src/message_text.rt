@@ -1,8 +1,10 @@
 //! What is told of a packet's code and data.
 
-ghost use Rattle.std.specs.Prelude.{◌≡◌, ◌++◌, ℕ, List, OnOk, string_bytes, length};
+ghost use Rattle.std.specs.Prelude.{◌≡◌, ◌++◌, ℕ, List, false, IfSome, OnOk, string_bytes, length};
 ghost use Rattle.osdp_lines.specs.ItemText.{data_text, refusal_text, unread_text, told_text, is_refused};
 ghost use Rattle.osdp_msg.specs.CommandText.{command_text};
+ghost use Rattle.osdp_msg.specs.CommandTable.{command_of};
+ghost use Rattle.osdp_msg.specs.ReplyTable.{reply_of};
 ghost use Rattle.osdp_msg.specs.ReplyText.{reply_text};
 
 use crate::hex_text::push_bytes;
@@ -16,6 +18,40 @@ pub(crate) fn is_refused<M>(read: &Result<M, MsgFault>) -> bool
     match read {
         Ok(_) | Err(MsgFault::UnknownCode) => false,
         Err(MsgFault::Length | MsgFault::Count) => true,
+    }
+}
+
+/// What is told of a command without data, where that is its name alone: most packets of a line are such, and
+/// are told without a value of the message.
+pub(crate) fn bare_command(code: u8, bytes: &[u8]) -> Option<&'static str>
+    ensures { IfSome result (λ name. (told_text command_text (command_of code bytes.now) code bytes.now ≡ name.now)
+        × (is_refused (command_of code bytes.now) ≡ false)) }
+{
+    if !bytes.is_empty() {
+        return None;
+    }
+    match code {
+        0x60 => Some("POLL"),
+        0x64 => Some("LSTAT"),
+        0x65 => Some("ISTAT"),
+        0x66 => Some("OSTAT"),
+        0x67 => Some("RSTAT"),
+        _ => None,
+    }
+}
+
+/// What is told of a reply without data, where that is its name alone.
+pub(crate) fn bare_reply(code: u8, bytes: &[u8]) -> Option<&'static str>
+    ensures { IfSome result (λ name. (told_text reply_text (reply_of code bytes.now) code bytes.now ≡ name.now)
+        × (is_refused (reply_of code bytes.now) ≡ false)) }
+{
+    if !bytes.is_empty() {
+        return None;
+    }
+    match code {
+        0x40 => Some("ACK"),
+        0x79 => Some("BUSY"),
+        _ => None,
     }
 }
 

@@ -12,6 +12,7 @@ use osdp_frame::Item;
 use std::alloc::AllocError;
 
 /// Writes the line of an item, where it has one, and counts it.
+#[inline(always)]
 pub fn tell(
     text: &mut String,
     full: bool,

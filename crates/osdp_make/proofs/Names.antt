@@ -1,15 +1,15 @@
 -- No words are of a command and of a reply.
-use Rattle.std.proofs.Common.{◌≡◌, ◌<◌, ◌≤◌, ℕ, Bool, true, false, List, [], ◌∷◌, length, get_or, refl, sym, ap, ◌∙◌, arith, codes}
+use Rattle.std.proofs.Common.{◌≡◌, ℕ, Bool, true, false, List, [], ◌∷◌, refl, sym, ap, ◌∙◌, codes}
 use Rattle.std.proofs.lemmas.Bool.{false≢true}
 use Rattle.std.specs.List.{list_any}
 use Rattle.std.specs.Str.{bytes_eq}
-use Rattle.osdp_words.specs.Word.{Word, plain, AllStandFor}
+use Rattle.osdp_words.specs.Word.{AllStandFor}
 use Rattle.osdp_msg.specs.declared.command.Command.{Command}
 use Rattle.osdp_msg.specs.declared.command.Command.TheVariants as command
 use Rattle.osdp_msg.specs.declared.reply.Reply.{Reply}
 use Rattle.osdp_msg.specs.declared.reply.Reply.TheVariants as reply
-use Rattle.osdp_msg.specs.CommandText.{command_name, command_fields, command_words}
-use Rattle.osdp_msg.specs.ReplyText.{reply_name, reply_fields, reply_words}
+use Rattle.osdp_msg.specs.CommandText.{command_name, command_words}
+use Rattle.osdp_msg.specs.ReplyText.{reply_name, reply_words}
 
 command_names : List (List ℕ)
 command_names =

@@ -1,12 +1,12 @@
 -- What words order, and that it is a packet.
-use Rattle.std.proofs.Common.{◌≡◌, ◌+◌, ◌<◌, ◌≤◌, ℕ, Bool, List, [], ◌∷◌, length, Option, Some, None, refl, sym, ap, subst, ◌∙◌, arith, lit≤}
+use Rattle.std.proofs.Common.{◌≡◌, ◌<◌, ◌≤◌, ℕ, Bool, List, length, Option, Some, None, refl, ap, arith}
 use Rattle.std.specs.Prelude.{IsSome}
 use Rattle.std.specs.Option.{SomeIff}
 use Rattle.osdp_frame.specs.declared.check_kind.CheckKind.{CheckKind}
 use Rattle.osdp_frame.specs.declared.check_kind.CheckKind.TheVariants.{Sum, Crc}
 use Rattle.osdp_frame.specs.Bytes.{AreBytes}
 use Rattle.osdp_frame.specs.Check.{check_size}
-use Rattle.osdp_frame.specs.Packet.{Packet, IsPacket}
+use Rattle.osdp_frame.specs.Packet.{IsPacket}
 use Rattle.osdp_frame.specs.Packed.{packed}
 use Rattle.osdp_words.specs.Word.{AllStandFor}
 use Rattle.osdp_words.specs.Reading.{ReadsWords}
@@ -41,12 +41,12 @@ small_check Sum = omega arith
 small_check Crc = omega arith
 
 -- a message and its fields make a packet
-pub is_packet : (reply : Bool) (address sequence : ℕ) (kind : CheckKind) (m : Message) (body : List ℕ) → address < 128 → sequence < 4 → body ≡ message_body m → AreBytes body → length body ≤ 1433
-    → (block : Bool) → IsPacket (packed reply address sequence kind block 0 body)
-is_packet reply address sequence kind m body a s is bytes short block = record {
+pub is_packet : (reply : Bool) (address sequence : ℕ) (kind : CheckKind) (block : Bool) (reserved : ℕ) (m : Message) (body : List ℕ) → address < 128 → sequence < 4 → reserved < 16 → body ≡ message_body m → AreBytes body → length body ≤ 1433
+    → IsPacket (packed reply address sequence kind block reserved body)
+is_packet reply address sequence kind block reserved m body a s r is bytes short = record {
   address = a;
   sequence = s;
-  reserved = omega arith;
+  reserved = r;
   body = bytes;
   code = omega (arith, some_code m, ap length is);
   room = omega (arith, small_check kind);

@@ -1,5 +1,5 @@
 -- The words of make, and the packet that they order.
-use Rattle.std.specs.Prelude.{◌≡◌, ◌<◌, ℕ, Bool, true, false, List, [], ◌∷◌, ◌++◌, codes}
+use Rattle.std.specs.Prelude.{◌<◌, ℕ, Bool, true, false, List, ◌∷◌, ◌++◌, codes}
 use Rattle.hex.specs.Hex.{encode_upper}
 use Rattle.osdp_frame.specs.declared.check_kind.CheckKind.{CheckKind}
 use Rattle.osdp_frame.specs.declared.check_kind.CheckKind.TheVariants.{Sum, Crc}
@@ -52,6 +52,10 @@ pub record OrderFits (o : PacketOrder) : Type 0 where
 abbrev pub order_packet : PacketOrder → Packet
 order_packet o = packed (message_is_reply o.message) o.address o.seq o.check false 0 (message_body o.message)
 
--- one line of upper case digits
+-- the packet's bytes in upper case digits
+abbrev pub order_digits : PacketOrder → List ℕ
+order_digits o = encode_upper (spelling (order_packet o))
+
+-- one line of them
 abbrev pub order_line : PacketOrder → List ℕ
-order_line o = encode_upper (spelling (order_packet o)) ++ codes "\n"
+order_line o = order_digits o ++ codes "\n"

@@ -4,19 +4,26 @@ ghost use Rattle.std.specs.Prelude.{◌≡◌, false, string_bytes, IfOk};
 ghost use Rattle.osdp_stream.specs.Watched.{inner_of, has_failed};
 ghost use Rattle.osdp_words.specs.Word.{texts};
 ghost use Rattle.osdp_make.specs.Ending.{Ends};
-ghost use Rattle.osdp_make.specs.PacketOrder.{order_line};
+ghost use Rattle.osdp_make.specs.PacketOrder.{order_digits, order_line};
 
 use crate::order::PacketOrder;
 use osdp_stream::{ToolFault, Watched, finish, write_out};
 use std::alloc::{AllocError, Global};
 use std::io::Write;
 
-/// The line of a packet: its bytes in upper case digits.
+/// The bytes of a packet in upper case digits.
+fn digits(alloc: Global, order: &PacketOrder) -> Result<String, AllocError>
+    ensures { IfOk result (λ text. string_bytes text ≡ order_digits order.now) }
+{
+    osdp_frame::laws::one_spelling();
+    hex::encode_upper(alloc, order.packet().encode().as_slice())
+}
+
+/// The line of a packet: its digits, and a line feed.
 fn line(alloc: Global, order: &PacketOrder) -> Result<String, AllocError>
     ensures { IfOk result (λ text. string_bytes text ≡ order_line order.now) }
 {
-    osdp_frame::laws::one_spelling();
-    let mut text = hex::encode_upper(alloc, order.packet().encode().as_slice())?;
+    let mut text = digits(alloc, order)?;
     text.push_str("\n")?;
     Ok(text)
 }

@@ -103,11 +103,12 @@ impl PacketOrder {
     {
         let body = self.message.body();
         let body = with_room(body.as_slice());
-        let _ranges = (self.address.get(), self.seq.get());
+        let (address, seq) = (self.address, self.seq);
+        let _ranges = (address.get(), seq.get());
         let made = Frame::new(
             self.message.is_reply(),
-            self.address,
-            self.seq,
+            address,
+            seq,
             self.check,
             false,
             0,

@@ -131,7 +131,7 @@ impl Text {
     }
 
     /// An equal value.
-    pub fn copy(&self) -> Text
+    pub(crate) fn copy(&self) -> Text
         ensures { result ≡ self.now }
     {
         Text {
@@ -247,7 +247,7 @@ impl MakerMessage {
     }
 
     /// An equal value.
-    pub fn copy(&self) -> MakerMessage
+    pub(crate) fn copy(&self) -> MakerMessage
         ensures { result ≡ self.now }
     {
         MakerMessage {

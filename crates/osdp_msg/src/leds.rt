@@ -192,7 +192,7 @@ impl Leds {
     }
 
     /// An equal value.
-    pub fn copy(&self) -> Leds
+    pub(crate) fn copy(&self) -> Leds
         ensures { result ≡ self.now }
     {
         Leds {

@@ -129,7 +129,7 @@ impl Outputs {
     }
 
     /// An equal value.
-    pub fn copy(&self) -> Outputs
+    pub(crate) fn copy(&self) -> Outputs
         ensures { result ≡ self.now }
     {
         Outputs {

@@ -93,7 +93,7 @@ impl Raw {
     }
 
     /// An equal value.
-    pub fn copy(&self) -> Raw
+    pub(crate) fn copy(&self) -> Raw
         ensures { result ≡ self.now }
     {
         Raw {

@@ -44,7 +44,7 @@ impl Nak {
     }
 
     /// An equal value.
-    pub fn copy(&self) -> Nak
+    pub(crate) fn copy(&self) -> Nak
         ensures { result ≡ self.now }
     {
         Nak {
@@ -261,7 +261,7 @@ impl Formatted {
     }
 
     /// An equal value.
-    pub fn copy(&self) -> Formatted
+    pub(crate) fn copy(&self) -> Formatted
         ensures { result ≡ self.now }
     {
         Formatted {
@@ -322,7 +322,7 @@ impl Keypad {
     }
 
     /// An equal value.
-    pub fn copy(&self) -> Keypad
+    pub(crate) fn copy(&self) -> Keypad
         ensures { result ≡ self.now }
     {
         Keypad {

@@ -1,8 +1,66 @@
-//! Vectors and refusals, worked by hand from the tables.
+//! Vectors and refusals, worked by hand from the tables of the standard.
 use super::*;
-use std::alloc::Global;
+use std::alloc::{AllocError, Global};
 use std::process::Abort;
 use std::test::Fail;
 
 mod commands;
+mod events;
+mod largest;
+mod refusals;
 mod replies;
+mod vectors;
+
+/// The words of a text: what stands between its spaces.
+fn words_of(alloc: Global, text: &str) -> Result<Vec<&str>, AllocError> {
+    let mut words = Vec::new(alloc);
+    for word in text.split(' ') {
+        words.push(word)?;
+    }
+    Ok(words)
+}
+
+/// Whether a message's bytes are this code and data.
+fn is_spelled(message: &[u8], code: u8, data: &[u8]) -> bool {
+    message.first() == Some(&code) && message.get(1..) == Some(data)
+}
+
+/// A code and data are read as the command of this text, and the words of the text as the command of this
+/// code and data.
+fn is_command(
+    rt: &impl Abort,
+    alloc: Global,
+    code: u8,
+    data: &[u8],
+    text: &str,
+) -> Result<(), Fail> {
+    let read = Command::read(code, data)
+        .ok()
+        .ok_or("a code and data of no command")?;
+    assert_eq!(rt; read.to_string(alloc)?.as_str(), text);
+    let words = words_of(alloc, text)?;
+    let parsed = Command::parse(words.as_slice())
+        .ok()
+        .ok_or("the text of no command")?;
+    assert!(rt; is_spelled(parsed.write().as_slice(), code, data), "{text}");
+    assert!(rt; parsed == read, "{text}");
+    assert!(rt; parsed.copy() == read, "{text}");
+    Ok(())
+}
+
+/// A code and data are read as the reply of this text, and the words of the text as the reply of this code
+/// and data.
+fn is_reply(rt: &impl Abort, alloc: Global, code: u8, data: &[u8], text: &str) -> Result<(), Fail> {
+    let read = Reply::read(code, data)
+        .ok()
+        .ok_or("a code and data of no reply")?;
+    assert_eq!(rt; read.to_string(alloc)?.as_str(), text);
+    let words = words_of(alloc, text)?;
+    let parsed = Reply::parse(words.as_slice())
+        .ok()
+        .ok_or("the text of no reply")?;
+    assert!(rt; is_spelled(parsed.write().as_slice(), code, data), "{text}");
+    assert!(rt; parsed == read, "{text}");
+    assert!(rt; parsed.copy() == read, "{text}");
+    Ok(())
+}

@@ -42,6 +42,7 @@ impl Report {
     }
 
     /// Tells of an item.
+    #[inline(always)]
     pub fn tell<W: Write>(
         &mut self,
         item: &Item<'_>,

@@ -1,145 +1,132 @@
 use super::*;
 
-/// The command of a code and data prints as the text, is read back from its words, and spells the same bytes.
-fn is_both_ways(
-    rt: &impl Abort,
-    alloc: Global,
-    code: u8,
-    bytes: &[u8],
-    words: &[&str],
-    text: &str,
-) -> Result<(), Fail> {
-    let command = Command::read(code, bytes)
-        .ok()
-        .ok_or("the data are of the table")?;
-    let spelling = command.write();
-    assert_eq!(rt; spelling.as_slice().first(), Some(&code));
-    assert_eq!(rt; spelling.as_slice().get(1..), Some(bytes));
-    assert_eq!(rt; command.to_string(alloc)?.as_str(), text);
-    let parsed = Command::parse(words).ok().ok_or("the words are a text")?;
-    assert!(rt; parsed == command);
-    assert!(rt; command.copy() == command);
+/// Code, data and text.
+const ROWS: [(u8, &[u8], &str); 24] = [
+    (0x60, &[], "POLL"),
+    (0x61, &[0], "ID 0"),
+    (0x61, &[10], "ID 10"),
+    (0x62, &[0], "CAP 0"),
+    (0x62, &[200], "CAP 200"),
+    (0x64, &[], "LSTAT"),
+    (0x65, &[], "ISTAT"),
+    (0x66, &[], "OSTAT"),
+    (0x67, &[], "RSTAT"),
+    (0x68, &[0, 2, 0, 0], "OUT 0:2:0"),
+    (0x68, &[1, 5, 1, 2], "OUT 1:5:513"),
+    (
+        0x68,
+        &[0, 2, 0, 0, 3, 6, 10, 0, 255, 9, 0, 1],
+        "OUT 0:2:0 3:6:10 255:9:256",
+    ),
+    (
+        0x69,
+        &[1, 2, 3, 4, 5, 6, 7, 8, 9, 10, 11, 12, 13, 14],
+        "LED 1:2:3:4:5:6:7:2312:10:11:12:13:14",
+    ),
+    (
+        0x69,
+        &[
+            0, 0, 2, 5, 5, 1, 0, 0x1E, 0, 1, 1, 0, 2, 0, 1, 3, 1, 0, 0, 0, 0, 0, 0, 0, 0, 0, 0, 7,
+        ],
+        "LED 0:0:2:5:5:1:0:30:1:1:0:2:0 1:3:1:0:0:0:0:0:0:0:0:0:7",
+    ),
+    (0x6A, &[1, 2, 3, 4, 5], "BUZ 1 2 3 4 5"),
+    (0x6B, &[0, 1, 0, 1, 1, 0], "TEXT 0 1 0 1 1 none"),
+    (
+        0x6B,
+        &[1, 3, 20, 2, 9, 2, 0x48, 0x69],
+        "TEXT 1 3 20 2 9 4869",
+    ),
+    (
+        0x6B,
+        &[0, 1, 0, 1, 1, 7, 0x53, 0, 7, 0, 0, 0x60, 0x46],
+        "TEXT 0 1 0 1 1 53000700006046",
+    ),
+    (0x6E, &[7, 0x80, 0x25, 0, 0], "COMSET 7 9600"),
+    (0x6E, &[126, 4, 3, 2, 1], "COMSET 126 16909060"),
+    (0x6E, &[127, 0, 0xC2, 1, 0], "COMSET 127 115200"),
+    (0x80, &[0, 0, 1], "MFG 000001 none"),
+    (0x80, &[0x53, 0x49, 0x4D, 1], "MFG 53494D 01"),
+    (0x80, &[0xCA, 0xFE, 0, 0xA0, 0x0B], "MFG CAFE00 A00B"),
+];
+
+#[test]
+fn rows(rt: HostRuntime) -> Result<(), Fail> {
+    for (code, data, text) in ROWS {
+        is_command(&rt, rt.alloc(), code, data, text)?;
+    }
     Ok(())
 }
 
 #[test]
-fn rows(rt: HostRuntime) -> Result<(), Fail> {
-    is_both_ways(&rt, rt.alloc(), 0x60, &[], &["POLL"], "POLL")?;
-    is_both_ways(&rt, rt.alloc(), 0x61, &[0], &["ID", "0"], "ID 0")?;
-    is_both_ways(&rt, rt.alloc(), 0x62, &[255], &["CAP", "255"], "CAP 255")?;
-    is_both_ways(&rt, rt.alloc(), 0x64, &[], &["LSTAT"], "LSTAT")?;
-    is_both_ways(&rt, rt.alloc(), 0x65, &[], &["ISTAT"], "ISTAT")?;
-    is_both_ways(&rt, rt.alloc(), 0x66, &[], &["OSTAT"], "OSTAT")?;
-    is_both_ways(&rt, rt.alloc(), 0x67, &[], &["RSTAT"], "RSTAT")?;
-    let words = ["OUT", "0:2:0", "1:5:513"];
-    is_both_ways(
-        &rt,
-        rt.alloc(),
-        0x68,
-        &[0, 2, 0, 0, 1, 5, 1, 2],
-        &words,
-        "OUT 0:2:0 1:5:513",
-    )?;
-    let data = [0, 0, 2, 5, 5, 1, 0, 0x1E, 0, 1, 1, 0, 2, 0];
-    let text = "LED 0:0:2:5:5:1:0:30:1:1:0:2:0";
-    is_both_ways(
-        &rt,
-        rt.alloc(),
-        0x69,
-        &data,
-        &["LED", "0:0:2:5:5:1:0:30:1:1:0:2:0"],
-        text,
-    )?;
-    let words = ["BUZ", "0", "2", "5", "5", "1"];
-    is_both_ways(
-        &rt,
-        rt.alloc(),
-        0x6A,
-        &[0, 2, 5, 5, 1],
-        &words,
-        "BUZ 0 2 5 5 1",
-    )?;
-    let data = [0, 1, 0, 1, 1, 7, 0x53, 0, 7, 0, 0, 0x60, 0x46];
-    let words = ["TEXT", "0", "1", "0", "1", "1", "53000700006046"];
-    is_both_ways(
-        &rt,
-        rt.alloc(),
-        0x6B,
-        &data,
-        &words,
-        "TEXT 0 1 0 1 1 53000700006046",
-    )?;
-    is_both_ways(
-        &rt,
-        rt.alloc(),
-        0x6E,
-        &[7, 0x80, 0x25, 0, 0],
-        &["COMSET", "7", "9600"],
-        "COMSET 7 9600",
-    )?;
-    let words = ["MFG", "53494d", "01"];
-    is_both_ways(
-        &rt,
-        rt.alloc(),
-        0x80,
-        &[0x53, 0x49, 0x4D, 1],
-        &words,
-        "MFG 53494D 01",
-    )
+fn either_case(rt: HostRuntime) {
+    let makers = Command::read(0x80, &[0xCA, 0xFE, 0, 0xAB]);
+    assert!(rt; Command::parse(&["MFG", "cafe00", "ab"]) == makers.map_err(|_| BadWords));
+    let makers = Command::read(0x80, &[0xCA, 0xFE, 0, 0xAB]);
+    assert!(rt; Command::parse(&["MFG", "CaFe00", "aB"]) == makers.map_err(|_| BadWords));
 }
 
 #[test]
-fn faults(rt: HostRuntime) {
-    assert_eq!(rt; Command::read(0x60, &[1]), Err(MsgFault::Length));
-    assert_eq!(rt; Command::read(0x61, &[]), Err(MsgFault::Length));
-    assert_eq!(rt; Command::read(0x68, &[0, 2, 0]), Err(MsgFault::Length));
-    assert_eq!(rt; Command::read(0x68, &[]), Err(MsgFault::Length));
-    assert_eq!(rt; Command::read(0x69, &[]), Err(MsgFault::Length));
-    assert_eq!(rt; Command::read(0x6B, &[0; 5]), Err(MsgFault::Length));
-    assert_eq!(rt; Command::read(0x6B, &[0; 7]), Err(MsgFault::Count));
-    assert_eq!(rt; Command::read(0x80, &[0x53, 0x49]), Err(MsgFault::Length));
-    assert_eq!(rt; Command::read(0x00, &[]), Err(MsgFault::UnknownCode));
-    assert_eq!(rt; Command::read(0x40, &[]), Err(MsgFault::UnknownCode));
-    assert_eq!(rt; Command::read(0x80, &[0; 1433]), Err(MsgFault::Length));
-    assert_eq!(rt; Command::read(0x40, &[0; 1433]), Err(MsgFault::UnknownCode));
-}
-
-#[test]
-fn largest(rt: HostRuntime) {
-    for (code, len) in [(0x68, 1432), (0x69, 1428), (0x80, 1432)] {
-        let bytes = [0; 1432];
-        let found = Command::read(code, &bytes[..len]);
-        assert!(rt; matches!(found, Ok(_)), "{code}");
-        assert!(rt;
-            found.map(|command| command.write().len()) == Ok(len + 1),
-            "{code}"
-        );
-    }
-    assert_eq!(rt; Command::read(0x69, &[0; 1432]), Err(MsgFault::Length));
-    let mut text = [0; 261];
-    text[5] = 255;
-    assert!(rt; Command::read(0x6B, &text).is_ok());
-}
-
-#[test]
-fn bad_words(rt: HostRuntime) {
+fn bad_words(rt: HostRuntime) -> Result<(), Fail> {
     assert!(rt; Command::parse(&[]) == Err(BadWords));
-    for word in ["", "poll", "ACK", "POLL ", "MFGREP"] {
-        assert!(rt; Command::parse(&[word]) == Err(BadWords), "{word}");
+    for text in [
+        "",
+        "poll",
+        "Poll",
+        "ACK",
+        "MFGREP",
+        "POLL ",
+        " POLL",
+        "POLL 0",
+        "ID",
+        "ID  0",
+        "ID 0 0",
+        "ID 00",
+        "ID +5",
+        "ID -1",
+        "ID 256",
+        "ID 0x1",
+        "ID none",
+        "CAP",
+        "CAP 01",
+        "LSTAT 0",
+        "ISTAT none",
+        "OUT",
+        "OUT 0:2",
+        "OUT 0:2:0:0",
+        "OUT 0:2:65536",
+        "OUT 0:256:0",
+        "OUT 256:2:0",
+        "OUT 0:2:00",
+        "OUT 0:2:0 ",
+        "OUT 0 2 0",
+        "LED",
+        "LED 0:0:2:5:5:1:0:30:1:1:0:2",
+        "LED 0:0:2:5:5:1:0:30:1:1:0:2:0:0",
+        "LED 0:0:2:5:5:1:0:65536:1:1:0:2:0",
+        "LED 0:0:2:5:5:1:0:30:256:1:0:2:0",
+        "BUZ 0 2 5 5",
+        "BUZ 0 2 5 5 1 0",
+        "BUZ 0 2 5 5 256",
+        "TEXT 0 1 0 1 1",
+        "TEXT 0 1 0 1 1 ",
+        "TEXT 0 1 0 1 1 486",
+        "TEXT 0 1 0 1 1 2 4869",
+        "TEXT 0 1 0 1 256 none",
+        "COMSET 7",
+        "COMSET 7 4294967296",
+        "COMSET 256 9600",
+        "COMSET 7 9600 0",
+        "MFG 53494 none",
+        "MFG 53494D",
+        "MFG none none",
+        "MFG 53494D01 none",
+        "MFG 53494D None",
+        "MFG 53494D 0g",
+        "MFG 53494D 01 02",
+    ] {
+        let words = words_of(rt.alloc(), text)?;
+        assert!(rt; Command::parse(words.as_slice()) == Err(BadWords), "{text}");
     }
-    for number in ["00", "+5", "256", "", "-1", "0x1", "none"] {
-        assert!(rt;
-            Command::parse(&["ID", number]) == Err(BadWords),
-            "{number}"
-        );
-    }
-    assert!(rt; Command::parse(&["ID"]) == Err(BadWords));
-    assert!(rt; Command::parse(&["POLL", "0"]) == Err(BadWords));
-    assert!(rt; Command::parse(&["OUT"]) == Err(BadWords));
-    assert!(rt; Command::parse(&["OUT", "0:2"]) == Err(BadWords));
-    assert!(rt; Command::parse(&["OUT", "0:2:65536"]) == Err(BadWords));
-    assert!(rt; Command::parse(&["OUT", "0:256:0"]) == Err(BadWords));
-    assert!(rt; Command::parse(&["MFG", "53494", "none"]) == Err(BadWords));
-    assert!(rt; Command::parse(&["MFG", "53494D"]) == Err(BadWords));
-    assert!(rt; Command::parse(&["MFG", "53494D", "None"]) == Err(BadWords));
+    Ok(())
 }

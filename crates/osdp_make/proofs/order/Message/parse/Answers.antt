@@ -1,4 +1,3 @@
-use Rattle.std.proofs.Common.{◌≡◌}
 use Rattle.osdp_words.specs.Word.{texts}
 use Rattle.osdp_make.proofs.Orders.{read_command}
 use Rattle.osdp_make.proofs.order.Message.parse.Goals as goal

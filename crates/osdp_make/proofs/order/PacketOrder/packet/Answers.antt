@@ -1,4 +1,4 @@
-use Rattle.std.proofs.Common.{◌≡◌, ◌≤◌, length, arith, ap, sym, ◌∙◌, subst, false}
+use Rattle.std.proofs.Common.{length, arith, ap, sym, ◌∙◌, subst}
 use Rattle.osdp_frame.specs.Bytes.{AreBytes}
 use Rattle.osdp_make.proofs.Orders.{some_if, is_packet}
 use Rattle.osdp_make.proofs.order.PacketOrder.packet.Goals as goal
@@ -9,6 +9,6 @@ unwrap-requires c =
     let body = c.body-body.ensures.body in
     let slice = c.as_slice.ensures in
     some_if c.new-made.result _ _ c.new-made.ensures
-    (is_packet c.is_reply.result c.args.self.now.address c.args.self.now.seq c.args.self.now.check c.args.self.now.message c.with_room-body.result.items
-    c.get.ensures.range c.get-2.ensures.range (bytes.bytes ∙ slice.value ∙ body) (subst (λ l. AreBytes l) (sym bytes.bytes) bytes.are_bytes)
-    (omega (arith, ap length bytes.bytes, slice.fits)) false)
+    (is_packet _ _ _ _ _ _ c.args.self.now.message c.with_room-body.result.items
+    c.get.ensures.range c.get-2.ensures.range (omega arith) (bytes.bytes ∙ slice.value ∙ body) (subst (λ l. AreBytes l) (sym bytes.bytes) bytes.are_bytes)
+    (omega (arith, ap length bytes.bytes, slice.fits)))

@@ -1,0 +1,5 @@
+pub mod Choices
+pub mod Keeping
+pub mod Same
+pub mod Causes
+pub mod Ticks

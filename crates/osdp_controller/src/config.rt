@@ -1,0 +1,77 @@
+//! The settings of a controller.
+
+ghost use Rattle.std.specs.Prelude.{◌≡◌, ◌↔◌, IsTrue, nat_lt};
+ghost use Rattle.osdp_controller.specs.Settings.{IsConfig, IsTime, default_config};
+
+use osdp_frame::{Address, CheckKind};
+
+/// The settings of a controller. Times are in milliseconds, 1 to 3,600,000.
+#[derive(Clone, Copy, Debug, PartialEq, Eq)]
+pub struct ControllerConfig {
+    /// The reader's address, 0 to 126.
+    pub address: Address,
+    /// Which check the frames end with.
+    pub check: CheckKind,
+    /// How long an answer is waited for.
+    pub reply_wait: u32,
+    /// From an answer to the next POLL.
+    pub poll_interval: u32,
+    /// How often a frame is sent while no answer comes, 1 to 255.
+    pub sends: u8,
+    /// From a BUSY to the next send.
+    pub busy_wait: u32,
+    /// How often a reader may answer BUSY in one exchange.
+    pub busy_limit: u8,
+    /// How long the line is left quiet before a session opens.
+    pub quiet_wait: u32,
+}
+
+impl ControllerConfig {
+    /// The longest time of a setting, an hour.
+    pub const LONGEST: u32 = 3_600_000;
+
+    /// The default times: an answer is waited for 200 ms and a frame sent three times; a POLL follows 50 ms
+    /// behind an answer, a send 50 ms behind a BUSY, of which 20 are allowed; a session opens behind 400 ms
+    /// of quiet.
+    pub fn new(address: Address, check: CheckKind) -> ControllerConfig
+        ensures { result ≡ default_config address check }
+    {
+        ControllerConfig {
+            address,
+            check,
+            reply_wait: 200,
+            poll_interval: 50,
+            sends: 3,
+            busy_wait: 50,
+            busy_limit: 20,
+            quiet_wait: 400,
+        }
+    }
+
+    /// Whether each setting is in its range.
+    pub(crate) fn is_in_range(&self) -> bool
+        ensures { IsTrue result ↔ IsConfig self.now }
+    {
+        let _range = self.busy_limit;
+        is_device(self.address)
+            && is_time(self.reply_wait)
+            && is_time(self.poll_interval)
+            && is_time(self.busy_wait)
+            && is_time(self.quiet_wait)
+            && self.sends >= 1
+    }
+}
+
+/// Whether it is the address of a device, and not the configuration address.
+pub(crate) fn is_device(address: Address) -> bool
+    ensures { result ≡ nat_lt address 127 }
+{
+    address.get() < Address::CONFIGURATION
+}
+
+/// Whether a setting may be this long.
+fn is_time(wait: u32) -> bool
+    ensures { IsTrue result ↔ IsTime wait }
+{
+    1 <= wait && wait <= ControllerConfig::LONGEST
+}

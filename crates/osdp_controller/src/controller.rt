@@ -1,0 +1,203 @@
+//! The controller: a session and the commands that wait for it.
+
+ghost use Rattle.circular_buffer.specs.Buffer.{buffer};
+ghost use Rattle.osdp_controller.specs.Ticking.{next_in, rest_in};
+ghost use Rattle.std.specs.Prelude.{◌≡◌, ◌↔◌, ◌*◌, ◌+◌, ◌≤◌, IfErr, None, Some, OnOk};
+
+use crate::config::{ControllerConfig, is_device};
+use crate::exchange::Exchange;
+use crate::fault::ControllerFault;
+use crate::report::Report;
+use crate::session::Session;
+use crate::state::State;
+use crate::step::Step;
+use circular_buffer::HeapCircularBuffer;
+use osdp_frame::{Address, FrameView};
+use osdp_msg::Command;
+use std::alloc::Global;
+use std::marker::Model;
+
+/// The controller's end of a link with one reader.
+///
+/// Moments are milliseconds that the caller hands in, of any clock that doesn't go backwards; one that lies
+/// before the greatest seen counts as that one.
+#[derive(Debug, Drop)]
+pub struct Controller {
+    session: Session,
+    waiting: HeapCircularBuffer<Command>,
+}
+
+impl Model for Controller {
+    ghost use Rattle.osdp_controller.specs.Machine.{IsMachine, Machine};
+
+    ghost Value = { Machine };
+
+    ghost view = { λ c. record { session = c.session; waiting = c.waiting.items; capacity = c.waiting.capacity } };
+
+    ghost invariant = { λ c.
+        IsMachine (record { session = c.session; waiting = c.waiting.items; capacity = c.waiting.capacity }) };
+}
+
+impl Controller {
+    ghost use Rattle.osdp_controller.specs.Machine.{IsMachine, NewEnds, after_begin, after_frame, after_retarget, after_submit, after_tick, begin_refusal, changed_unless, is_due, IsDeadline, is_outstanding, retarget_refusal, sent_in, submit_refusal, unless_refused};
+    ghost use Rattle.osdp_controller.specs.Hearing.{hears};
+    ghost use Rattle.osdp_controller.specs.Ticking.{ticks};
+
+    /// A controller without a session, with room for so many waiting commands, 1 to 1024.
+    ///
+    /// OutOfRange (C2) where the address is the configuration address, or a setting or the room is out of
+    /// its range; else NoMemory (C1) where there is none.
+    pub fn new(
+        alloc: Global,
+        config: ControllerConfig,
+        capacity: usize,
+    ) -> Result<Controller, ControllerFault>
+        ensures { NewEnds config capacity result }
+    {
+        if !config.is_in_range() || capacity < 1 || capacity > 1024 {
+            return Err(ControllerFault::OutOfRange);
+        }
+        match HeapCircularBuffer::with_capacity(alloc, capacity) {
+            Ok(waiting) => Ok(Controller {
+                session: Session::new(config),
+                waiting,
+            }),
+            Err(_) => Err(ControllerFault::NoMemory),
+        }
+    }
+
+    /// The reader's address.
+    pub fn address(&self) -> Address
+        ensures address { result ≡ self.now.session.config.address }
+        ensures machine { IsMachine self.now }
+    {
+        self.session.config.address
+    }
+
+    /// Whether an exchange waits for its answer.
+    pub fn outstanding(&self) -> bool
+        ensures { result ≡ is_outstanding self.now.session.state }
+    {
+        match &self.session.state {
+            State::Closed | State::Quiet { .. } | State::Idle { .. } => false,
+            State::Waiting { .. } | State::Pausing { .. } => true,
+        }
+    }
+
+    /// How many frames the outstanding exchange has sent; 0 where none is outstanding.
+    pub fn sent_in_exchange(&self) -> u32
+        ensures count { result ≡ sent_in self.now.session.state }
+        ensures most { result ≤ self.now.session.config.sends * (self.now.session.config.busy_limit + 1) }
+    {
+        match &self.session.state {
+            State::Closed | State::Quiet { .. } | State::Idle { .. } => 0,
+            State::Waiting { outstanding, .. } => outstanding.sent,
+            State::Pausing { outstanding, .. } => outstanding.sent,
+        }
+    }
+
+    /// Puts a command behind those that wait. It is accepted in every state.
+    ///
+    /// PollSubmitted (C4) for a POLL; else Full (C3) where as many wait as there is room for. The command
+    /// comes back, and nothing has changed.
+    pub fn submit(&mut self, command: Command) -> Result<(), (ControllerFault, Command)>
+        ensures ok { OnOk result (submit_refusal command self.old ≡ None) }
+        ensures accepted { OnOk result (self.new ≡ after_submit command self.old) }
+        ensures err { IfErr result (λ e. submit_refusal command self.old ≡ Some e.0) }
+        ensures back { IfErr result (λ e. (e.1 ≡ command) × (self.new ≡ self.old)) }
+    {
+        if matches!(command, Command::Poll) {
+            return Err((ControllerFault::PollSubmitted, command));
+        }
+        match self.waiting.try_push_back(command) {
+            Ok(()) => Ok(()),
+            Err(command) => Err((ControllerFault::Full, command)),
+        }
+    }
+
+    /// Begins a session: the line is left quiet for the quiet wait, then the opening ID goes out.
+    ///
+    /// NotClosed (C5) where a session has begun; nothing has changed then.
+    pub fn begin(&mut self, now: u64) -> Result<(), ControllerFault>
+        ensures result { result ≡ unless_refused (begin_refusal self.old) }
+        ensures machine { self.new ≡ changed_unless (begin_refusal self.old) self.old (after_begin now self.old) }
+    {
+        if !self.session.state.is_closed() {
+            return Err(ControllerFault::NotClosed);
+        }
+        self.session.see(now);
+        let until = self.session.later(self.session.config.quiet_wait);
+        self.session.state = State::Quiet { until };
+        Ok(())
+    }
+
+    /// Sets the reader's address.
+    ///
+    /// NotClosed (C5) where a session has begun; else OutOfRange (C2) for the configuration address. Nothing
+    /// has changed then.
+    pub fn retarget(&mut self, address: Address) -> Result<(), ControllerFault>
+        ensures result { result ≡ unless_refused (retarget_refusal address self.old) }
+        ensures machine { self.new ≡ changed_unless (retarget_refusal address self.old) self.old (after_retarget address self.old) }
+    {
+        if !self.session.state.is_closed() {
+            return Err(ControllerFault::NotClosed);
+        }
+        if !is_device(address) {
+            return Err(ControllerFault::OutOfRange);
+        }
+        self.session.config.address = address;
+        Ok(())
+    }
+
+    /// What is due at a moment: a frame to send, or a report, or nothing.
+    pub fn tick(&mut self, now: u64) -> Step
+        ensures step { result ≡ (ticks now self.old.session self.old.waiting).step }
+        ensures machine { self.new ≡ after_tick now self.old }
+    {
+        self.session.see(now);
+        match next_command(&self.session.state, &mut self.waiting) {
+            Some(command) => self.session.begin_next(Exchange::Asking(command)),
+            None => self.session.tick(),
+        }
+    }
+
+    /// Takes a frame that came from the line, and tells what it says, if that is to be told.
+    pub fn on_frame(&mut self, frame: &FrameView<'_>, now: u64) -> Option<Report>
+        ensures report { result ≡ (hears frame.now now self.old.session).report }
+        ensures machine { self.new ≡ after_frame frame.now now self.old }
+    {
+        self.session.hear(frame, now)
+    }
+
+    /// Whether a tick at this moment would send or report.
+    pub fn due(&self, now: u64) -> bool
+        ensures { result ≡ is_due now self.now }
+    {
+        match self.next_deadline() {
+            None => false,
+            Some(deadline) => deadline <= self.session.greatest.max(now),
+        }
+    }
+
+    /// The moment from which on a tick is due, or one that lies before it where a tick is due at once. None
+    /// where no tick would send or report at any moment.
+    pub fn next_deadline(&self) -> Option<u64>
+        ensures { IsDeadline self.now result }
+    {
+        if self.session.state.is_idle() && !self.waiting.is_empty() {
+            return Some(self.session.greatest);
+        }
+        self.session.moment()
+    }
+}
+
+/// The front of the waiting commands, which leaves them, where the session is open and nothing is outstanding.
+fn next_command(state: &State, waiting: &mut HeapCircularBuffer<Command>) -> Option<Command>
+    ensures command { result ≡ next_in state.now waiting.old.items }
+    ensures rest { waiting.new ≡ buffer (rest_in state.now waiting.old.items) waiting.old.capacity }
+{
+    if !state.is_idle() {
+        return None;
+    }
+    waiting.pop_front()
+}

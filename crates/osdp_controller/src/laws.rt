@@ -1,0 +1,42 @@
+//! What the tables come to, said apart from their rows. The functions do nothing: their contracts are laws.
+
+ghost use Rattle.std.specs.Prelude.{ℕ, List};
+ghost use Rattle.osdp_msg.specs.declared.command.Command.{Command};
+ghost use Rattle.osdp_controller.specs.declared.session.Session.{Session};
+ghost use Rattle.osdp_controller.specs.Laws.{CountsSends, HearsAnswers, KeepsTime, NumbersTakeTurns, TakesFront, TellsLost, TellsWhy};
+
+/// Whatever frames come: a session opens only by a PDID with number 0 while the opening ID is outstanding, and
+/// a command is settled, or an event told, only by a frame of the own address with the outstanding number.
+pub fn frames_tell_why()
+    ensures { TellsWhy }
+{}
+
+/// The answer with the number of the outstanding exchange does what the table says for the exchange.
+pub fn answers_are_heard()
+    ensures { HearsAnswers }
+{}
+
+/// Each frame that a tick gives counts one more in its exchange.
+pub fn sends_are_counted()
+    ensures { (now : ℕ) (s : Session) (waiting : List Command) → CountsSends now s waiting }
+{}
+
+/// A new exchange takes the front of the waiting commands, or a POLL; else they stay as they are.
+pub fn exchanges_take_the_front()
+    ensures { (now : ℕ) (s : Session) (waiting : List Command) → TakesFront now s waiting }
+{}
+
+/// A session that ends without an answer tells exactly the outstanding command.
+pub fn unsettled_commands_are_told()
+    ensures { TellsLost }
+{}
+
+/// Moments that go backwards count as the greatest seen.
+pub fn moments_never_go_back()
+    ensures { (now : ℕ) (s : Session) → KeepsTime now s }
+{}
+
+/// The numbers of the exchanges of a session take turns.
+pub fn numbers_take_turns()
+    ensures { (k : ℕ) → NumbersTakeTurns k }
+{}

@@ -1,0 +1,29 @@
+//! The controller's end of a link: commands in, frames out at moments that the caller hands in.
+//!
+//! A controller opens a session with its reader, sends it one command after the other and polls it in
+//! between. Each command is settled by its own answer, or told unsettled when the session ends; no command
+//! is sent again by itself then. The tables that it follows are the definitions in `specs/`.
+//! Only `Controller::new` takes memory.
+#![tactic(auto)]
+
+mod answer;
+mod config;
+mod controller;
+mod exchange;
+mod fault;
+mod hearing;
+pub mod laws;
+mod report;
+mod session;
+mod state;
+mod step;
+mod ticking;
+
+pub use config::ControllerConfig;
+pub use controller::Controller;
+pub use fault::ControllerFault;
+pub use report::{LostCause, Report};
+pub use step::Step;
+
+#[cfg(test)]
+mod tests;

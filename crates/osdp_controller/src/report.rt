@@ -1,0 +1,34 @@
+//! What a controller tells its caller.
+
+use osdp_msg::{Command, Communication, Event, PdId, Reply};
+
+/// Why a session ended with its exchange unsettled.
+#[derive(Clone, Copy, Debug, PartialEq, Eq)]
+pub enum LostCause {
+    /// No reply came to the last of the sends.
+    NoReply,
+    /// The reader answered BUSY more often than is allowed.
+    TooBusy,
+    /// The reader did not expect the sequence number: NAK 4.
+    NumberRefused,
+}
+
+/// What happened. Each report comes once.
+#[derive(Debug, Drop, PartialEq)]
+pub enum Report {
+    /// The session is open; the reader said what it is.
+    Opened(PdId),
+    /// A command was answered. The reply may be one that doesn't fit it.
+    Settled(Command, Reply),
+    /// A COMSET was answered by its COM: the reader is at its new address, and the session has ended.
+    Moved(Command, Communication),
+    /// The reader told an event.
+    Event(Event),
+    /// The reader answered a POLL by a reply that is neither ACK nor an event.
+    PollAnswered(Reply),
+    /// The answer to a command, or to a POLL where there is none, cannot be read. Its code.
+    Unread(Option<Command>, u8),
+    /// The session has ended. What became of the outstanding command, if there was one, is unknown; it is
+    /// not sent again.
+    Lost(LostCause, Option<Command>),
+}

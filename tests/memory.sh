@@ -1,0 +1,84 @@
+#!/usr/bin/env bash
+# Refuses each request for memory of the program in turn, by a library preloaded into it: whichever is refused, the
+# program ends with status 4, and all that it has printed is a beginning of what it prints with ample memory. Each
+# is refused twice: alone, and with all that follow it. Takes the path of the program, which is linked with the C
+# library as a shared one; needs a C compiler.
+set -u
+program=$1
+work=$(mktemp -d)
+trap 'rm -rf "$work"' EXIT
+failed=0
+folder=$(cd "$(dirname "$0")" && pwd)
+
+"${CC:-cc}" -O1 -shared -fPIC -o "$work/refuse.so" "$folder/refuse.c" || exit 1
+
+# Runs the program with the request of number $1 refused; the words follow. Standard input is $work/in.
+refused_run() {
+  local number=$1
+  shift
+  rm -f "$work/mark"
+  LD_PRELOAD="$work/refuse.so" REFUSED_REQUEST=$number REFUSED_MARK="$work/mark" \
+    "$program" "$@" <"$work/in" >"$work/out" 2>"$work/err"
+}
+
+# $1: what is tried; $2: the fewest requests that the program must make, so that the library is known to count;
+# the rest: the words. Standard input is the caller's.
+refuse_each() {
+  local name=$1 fewest=$2
+  shift 2
+  cat >"$work/in"
+  "$program" "$@" <"$work/in" >"$work/right_out" 2>"$work/right_err"
+  local right=$? behind number got
+  for behind in '' '+'; do
+    for ((number = 1; ; number++)); do
+      refused_run "$number$behind" "$@"
+      got=$?
+      [ -e "$work/mark" ] || break
+      if [ "$got" -ne 4 ]; then
+        echo "$name: request $number$behind refused: status $got, wanted 4"
+        failed=1
+      fi
+      if [ "$(cat "$work/err")" != 'osdp: no memory' ]; then
+        echo "$name: request $number$behind refused: other text on standard error"
+        failed=1
+      fi
+      if ! head -c "$(stat -c %s "$work/out")" "$work/right_out" | cmp -s - "$work/out"; then
+        echo "$name: request $number$behind refused: other text on standard output"
+        failed=1
+      fi
+    done
+    if [ "$got" -ne "$right" ] || ! cmp -s "$work/out" "$work/right_out" || ! cmp -s "$work/err" "$work/right_err"; then
+      echo "$name: no request refused, and the answer is another one"
+      failed=1
+    fi
+    if [ "$number" -le "$fewest" ]; then
+      echo "$name: only $((number - 1)) requests were refused"
+      failed=1
+    fi
+  done
+  echo "$name: $((number - 1)) requests refused in turn"
+}
+
+# Lines that grow, comments, refusals of frames and of messages, and a packet of 1,440 bytes.
+capture() {
+  printf '# a capture\n53 00 07 00 00 60 46\n'
+  printf 'FFFF53000700006046\n53000700006047\n530009000060000044\n'
+  printf '5300A00500%02868d08\n' 0
+  printf '53850F00015000001A000A0B0C404D\n530008000460EBAA\n'
+}
+
+# The same as bytes.
+bytes() { printf "$(capture | sed 's/^#.*//; s/ //g; s/../\\x&/g' | tr -d '\n')"; }
+
+capture | refuse_each 'show' 3 show
+capture | refuse_each 'show, joined' 3 show --join
+bytes | refuse_each 'show, raw' 3 show --raw
+capture | refuse_each 'check' 3 check
+capture | refuse_each 'check, both options' 3 check --raw --join
+{ capture; echo 5; } | refuse_each 'show, a bad line' 3 show
+refuse_each 'make' 3 make 5 1 crc OUT 0:2:0 </dev/null
+refuse_each 'make, a long text' 3 make 5 1 sum MFG 53494D "$(printf '%02858d' 0)" </dev/null
+refuse_each 'make, bad words' 3 make 5 4 sum POLL </dev/null
+refuse_each 'bad words' 1 show --all </dev/null
+
+exit "$failed"
