@@ -9,7 +9,7 @@
 
 ghost use Rattle.std.specs.Prelude.{◌≡◌};
 ghost use Rattle.osdp_controller.specs.Machine.{IsDeadline, after_tick};
-ghost use Rattle.osdp_frame.specs.Held.{after_gap, after_push, taken_count};
+ghost use Rattle.osdp_frame.specs.Held.{after_gap, after_push, new_run, taken_count};
 
 use osdp_controller::{Controller, Report};
 use osdp_frame::{Framer, Item};
@@ -25,7 +25,8 @@ pub struct Panel {
 impl Panel {
     /// A panel that has heard nothing yet.
     pub fn new(controller: Controller) -> Panel
-        ensures { result.controller ≡ controller }
+        ensures controller { result.controller ≡ controller }
+        ensures framer { result.framer ≡ new_run }
     {
         Panel {
             controller,
