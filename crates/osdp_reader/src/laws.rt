@@ -14,9 +14,7 @@ pub fn acts_once<H: Handler>()
 /// Bytes that spell the same packet are the same, so a repeated reply is the stored one byte for byte.
 pub fn repeats_byte_for_byte()
     ensures { HasOneSpelling }
-{
-    osdp_frame::laws::one_spelling();
-}
+{}
 
 /// At number 0 each command is acted on, however often it comes.
 pub fn acts_at_zero<H: Handler>()
