@@ -1,5 +1,5 @@
 -- Items taken off one by one.
-use Rattle.std.proofs.Common.{◌≡◌, ℕ, zero, suc, ◌+◌, ◌<◌, ◌≤◌, ◌==◌, ◌&&◌, not, Bool, true, false, List, [], ◌∷◌, length, drop, Option, Some, None, is_some, refl, sym, ap, ◌∙◌, arith}
+use Rattle.std.proofs.Common.{◌≡◌, ℕ, zero, suc, ◌<◌, ◌≤◌, ◌==◌, ◌&&◌, not, Bool, true, false, List, [], ◌∷◌, length, drop, Option, Some, None, is_some, refl, sym, ap, ◌∙◌, arith}
 use Rattle.std.specs.Option.{option_map_or}
 use Rattle.std.proofs.lemmas.List.{length-drop}
 use Rattle.std.proofs.lemmas.Bool.{ne_eqb}
@@ -38,7 +38,7 @@ within_same (suc n) (suc m) ended bytes a b =
     by_answer None same = refl
     by_answer (Some part) same = ap (λ l. part ∷ l) (same part)
 
-items_behind : (ended : Bool) (bytes : List ℕ) (part : Part) → decided ended bytes ≡ Some part → items ended bytes ≡ part ∷ items ended (drop (part_size part) bytes)
+pub items_behind : (ended : Bool) (bytes : List ℕ) (part : Part) → decided ended bytes ≡ Some part → items ended bytes ≡ part ∷ items ended (drop (part_size part) bytes)
 unfolding items
 items_behind ended [] part is = absurd (let e = sym (decided_nothing ended) ∙ is in cc)
 items_behind ended (b ∷ bytes) part is =
@@ -46,7 +46,7 @@ items_behind ended (b ∷ bytes) part is =
     ∙ ap (λ l. part ∷ l) (within_same (length bytes) (length (drop (part_size part) (b ∷ bytes))) ended (drop (part_size part) (b ∷ bytes)) (some_goes (length bytes) (b ∷ bytes) part (omega arith)) (omega arith))
 
 -- of a run that has ended nothing but its end is left where no byte is
-still_ended : (ended : Bool) (rest : List ℕ) → items (ended && not (length rest == 0)) rest ≡ items ended rest
+pub still_ended : (ended : Bool) (rest : List ℕ) → items (ended && not (length rest == 0)) rest ≡ items ended rest
 still_ended ended [] = items_undecided (ended && false) [] (decided_nothing (ended && false)) ∙ sym (items_undecided ended [] (decided_nothing ended))
 still_ended true (b ∷ rest) = ap (λ t. items (true && not t) (b ∷ rest)) (ne_eqb (length (b ∷ rest)) 0 (λ h. omega arith))
 still_ended false (b ∷ rest) = refl
@@ -102,11 +102,24 @@ told_of_first now m heard held next part report is advanced told hears =
     ∙ ap (λ h. told_or report h next (next_told now h next)) (sym hears)
 
 -- it tells something
-pub told_here : (now : ℕ) (m heard : Machine) (held next : Held) (part : Part) (report : Option Report)
-    → decided held.ended held.bytes ≡ Some part → next ≡ after_advance held → report ≡ told_of now part m → heard ≡ after_item now part m
-    → is_some report ≡ true → next_told now m held ≡ record { report = report; controller = heard; framer = next }
-told_here now m heard held next part report is advanced told hears some =
-    told_of_first now m heard held next part report is advanced told hears ∙ told_at_once report heard next (next_told now heard next) some
+told_here : (now : ℕ) (m : Machine) (held : Held) (part : Part) → decided held.ended held.bytes ≡ Some part → is_some (told_of now part m) ≡ true
+    → next_told now m held ≡ record { report = told_of now part m; controller = after_item now part m; framer = after_advance held }
+told_here now m held part is some =
+    let heard = after_item now part m in
+    let next = after_advance held in
+    told_of_first now m heard held next part (told_of now part m) is refl refl refl ∙ told_at_once (told_of now part m) heard next (next_told now heard next) some
+
+pub told_report : (now : ℕ) (m : Machine) (held : Held) (part : Part) → decided held.ended held.bytes ≡ Some part → is_some (told_of now part m) ≡ true
+    → (next_told now m held).report ≡ told_of now part m
+told_report now m held part is some = ap (λ (t : Told). t.report) (told_here now m held part is some)
+
+pub told_controller : (now : ℕ) (m : Machine) (held : Held) (part : Part) → decided held.ended held.bytes ≡ Some part → is_some (told_of now part m) ≡ true
+    → (next_told now m held).controller ≡ after_item now part m
+told_controller now m held part is some = ap (λ (t : Told). t.controller) (told_here now m held part is some)
+
+pub told_framer : (now : ℕ) (m : Machine) (held : Held) (part : Part) → decided held.ended held.bytes ≡ Some part → is_some (told_of now part m) ≡ true
+    → (next_told now m held).framer ≡ after_advance held
+told_framer now m held part is some = ap (λ (t : Told). t.framer) (told_here now m held part is some)
 
 -- it tells nothing, and it goes on
 pub told_behind : (now : ℕ) (m heard : Machine) (held next : Held) (part : Part) (report : Option Report)
@@ -114,3 +127,6 @@ pub told_behind : (now : ℕ) (m heard : Machine) (held next : Held) (part : Par
     → is_some report ≡ false → next_told now heard next ≡ next_told now m held
 told_behind now m heard held next part report is advanced told hears none =
     sym (told_of_first now m heard held next part report is advanced told hears ∙ told_later report heard next (next_told now heard next) none)
+
+-- what a call tells, whether its first item tells something, tells nothing or is not there
+pub ruleset taking = (told_report, told_controller, told_framer, told_behind, told_nothing)

@@ -7,6 +7,8 @@
 //! - `tick` at the moment that `sleep_until` gives, whose frame goes to the port.
 #![tactic(auto)]
 
+pub mod laws;
+
 ghost use Rattle.std.specs.Prelude.{◌≡◌, IfOk, IsNone, IsSome, OnErr, OnOk};
 ghost use Rattle.std.specs.Io.KnownBytes.{Appends};
 ghost use Rattle.osdp_controller.specs.Machine.{IsDeadline, after_tick};
@@ -67,10 +69,10 @@ impl Panel {
     /// Hands the packets that were taken to the controller, in their order, up to and including the first that
     /// tells something; other bytes are passed over. What was handed on is held no longer. None where no packet
     /// that has come whole tells anything: then the bytes that are left wait for others.
+    #[tactic(auto, using(crate::proofs::Taking::taking))]
     pub fn next_report(&mut self, now: u64) -> Option<Report>
         ensures report { result ≡ (next_told now self.old.controller self.old.framer).report }
-        ensures controller {
-            self.new.controller ≡ (next_told now self.old.controller self.old.framer).controller }
+        ensures controller { self.new.controller ≡ (next_told now self.old.controller self.old.framer).controller }
         ensures framer { self.new.framer ≡ (next_told now self.old.controller self.old.framer).framer }
     {
         'items: while let Some(item) = self.framer.next() {
