@@ -3,3 +3,5 @@ pub mod Keeping
 pub mod Same
 pub mod Causes
 pub mod Ticks
+pub mod Places
+pub mod Lasting

@@ -7,3 +7,4 @@ pub mod Ticking
 pub mod Hearing
 pub mod Machine
 pub mod Laws
+pub mod Runs

@@ -1,9 +1,12 @@
 //! What the tables come to, said apart from their rows. The functions do nothing: their contracts are laws.
 
-ghost use Rattle.std.specs.Prelude.{ℕ, List};
+ghost use Rattle.std.specs.Prelude.{◌≡◌, ℕ, true, List};
 ghost use Rattle.osdp_msg.specs.declared.command.Command.{Command};
 ghost use Rattle.osdp_controller.specs.declared.session.Session.{Session};
 ghost use Rattle.osdp_controller.specs.Laws.{CountsSends, HearsAnswers, KeepsTime, NumbersTakeTurns, TakesFront, TellsLost, TellsWhy};
+ghost use Rattle.osdp_controller.specs.Runs.{Call, NumbersByPlace, ResendsTheSame};
+ghost use Rattle.osdp_controller.specs.Machine.{Machine};
+ghost use Rattle.osdp_controller.specs.States.{is_closed};
 
 /// Whatever frames come: a session opens only by a PDID with number 0 while the opening ID is outstanding, and
 /// a command is settled, or an event told, only by a frame of the own address with the outstanding number.
@@ -39,4 +42,15 @@ pub fn moments_never_go_back()
 /// The numbers of the exchanges of a session take turns.
 pub fn numbers_take_turns()
     ensures { (k : ℕ) → NumbersTakeTurns k }
+{}
+
+/// Whatever is called: exchange k of a session, counted from 0 for the opening ID, has the sequence number of its
+/// place, and so has each frame that it sends.
+pub fn exchanges_have_their_numbers()
+    ensures { (m : Machine) (calls : List Call) → is_closed m.session.state ≡ true → NumbersByPlace m calls }
+{}
+
+/// As long as an exchange lasts, each frame that goes out behind one of its frames is the same packet.
+pub fn resends_the_same_frame()
+    ensures { ResendsTheSame }
 {}
