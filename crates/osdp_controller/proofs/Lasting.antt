@@ -1,9 +1,7 @@
 -- The frames of an exchange as long as it lasts.
 use Rattle.std.proofs.Common.{◌≡◌, ◌∙◌, ap, sym, subst, ℕ, zero, suc, ◌+◌, ◌*◌, ◌≤◌, Bool, true, false, List, [], ◌∷◌, ◌++◌, length, Option, Some, None, refl, arith}
 use Rattle.std.specs.Prelude.{if◌then◌else◌, All, IfSome, nat_lt, nat_le, option_to_list}
-use Rattle.std.proofs.lemmas.List.Elements.{All-nil, All-cons, All-head}
-use Rattle.std.proofs.lemmas.Nat.{mul-le}
-use Rattle.std.proofs.Math.Nat.{mul-add}
+use Rattle.std.proofs.lemmas.List.Elements.{All-nil, All-cons}
 use Rattle.osdp_frame.specs.Packet.{Packet, next_sequence}
 use Rattle.osdp_msg.specs.declared.command.Command.{Command}
 use Rattle.osdp_msg.specs.declared.command_fields.Communication.{Communication}
@@ -22,29 +20,27 @@ use Rattle.osdp_controller.specs.declared.state.State.{State}
 use Rattle.osdp_controller.specs.declared.state.State.TheVariants.{Closed, Quiet, Idle, Waiting, Pausing}
 use Rattle.osdp_controller.specs.Answers.{answer_of}
 use Rattle.osdp_controller.specs.Hearing.{Heard, answered, answered_unread, com_of, command_answered, comset_of, hears, hears_answer, hears_busy, ignores, is_from_reader, is_numbered, loses, moved_by, numbered_in, opening_answered, pausing_hears, pd_id_of, waiting_hears}
-use Rattle.osdp_controller.specs.Machine.{IsMachine, IsOutstanding, IsSession, IsState, IsSubmitted, Machine, OpensAtZero, after_begin, after_retarget, after_submit, changed_unless, is_outstanding, or_no_device, refused_unless_closed, sent_in, submit_refusal}
-use Rattle.osdp_controller.specs.Runs.{Call, Submit, Begin, Retarget, Tick, Hear, Lasts, ResendsTheSame, SendsFew, after_call, frames, sent_by}
+use Rattle.osdp_controller.specs.Machine.{Machine, after_begin, after_retarget, after_submit, changed_unless, is_outstanding, or_no_device, refused_unless_closed, sent_in, submit_refusal}
+use Rattle.osdp_controller.specs.Runs.{Call, Submit, Begin, Retarget, Tick, Hear, Lasts, ResendsTheSame, after_call, frames, sent_by}
 use Rattle.osdp_controller.specs.Sessions.{frame_of, later, seen}
-use Rattle.osdp_controller.specs.States.{is_idle}
 use Rattle.osdp_controller.specs.Ticking.{Ticked, begins, gives_up, sends_frame, stays, ticks_in, tries_again}
 use Rattle.osdp_controller.proofs.Choices.{either_way}
-use Rattle.osdp_controller.proofs.Keeping.{keeps_begins, keeps_numbered, keeps_seen, keeps_ticks}
 
 -- where an exchange is outstanding: this is its packet, it has sent so many frames, and the settings are these
-abbrev Holds : Packet → ControllerConfig → ℕ → State → Session → Type 0
+abbrev pub Holds : Packet → ControllerConfig → ℕ → State → Session → Type 0
 Holds p c n Closed s = Unit {0}
 Holds p c n (Quiet until) s = Unit {0}
 Holds p c n (Idle due) s = Unit {0}
 Holds p c n (Waiting until sends o) s = (frame_of o.exchange s ≡ p) × (o.sent ≡ n) × (s.config ≡ c)
 Holds p c n (Pausing until o) s = (frame_of o.exchange s ≡ p) × (o.sent ≡ n) × (s.config ≡ c)
 
-abbrev more : ℕ → Option Packet → ℕ
+abbrev pub more : ℕ → Option Packet → ℕ
 more n None = n
 more n (Some q) = n + 1
 
 -- ticks
 
-abbrev SameSent : Packet → Option Packet → Type 0
+abbrev pub SameSent : Packet → Option Packet → Type 0
 SameSent p None = Unit {0}
 SameSent p (Some q) = q ≡ p
 
@@ -147,14 +143,14 @@ holds_hears p c n q now s at =
 
 -- calls that are refused while an exchange is outstanding
 
-not_begun : (state : State) (m new : Machine) → is_outstanding state ≡ true → changed_unless (refused_unless_closed state) m new ≡ m
+pub not_begun : (state : State) (m new : Machine) → is_outstanding state ≡ true → changed_unless (refused_unless_closed state) m new ≡ m
 not_begun Closed m new h = cc
 not_begun (Quiet until) m new h = cc
 not_begun (Idle due) m new h = cc
 not_begun (Waiting until sends o) m new h = refl
 not_begun (Pausing until o) m new h = refl
 
-not_moved : (state : State) (address : ℕ) (m new : Machine) → is_outstanding state ≡ true
+pub not_moved : (state : State) (address : ℕ) (m new : Machine) → is_outstanding state ≡ true
     → changed_unless (or_no_device (refused_unless_closed state) address) m new ≡ m
 not_moved Closed address m new h = cc
 not_moved (Quiet until) address m new h = cc
@@ -162,16 +158,16 @@ not_moved (Idle due) address m new h = cc
 not_moved (Waiting until sends o) address m new h = refl
 not_moved (Pausing until o) address m new h = refl
 
-submit_session : (o : Option ControllerFault) (command : Command) (m : Machine) → (changed_unless o m (after_submit command m)).session ≡ m.session
+pub submit_session : (o : Option ControllerFault) (command : Command) (m : Machine) → (changed_unless o m (after_submit command m)).session ≡ m.session
 submit_session None command m = refl
 submit_session (Some fault) command m = refl
 
 -- each call
 
-abbrev HoldsMachine : Packet → ControllerConfig → ℕ → Machine → Type 0
+abbrev pub HoldsMachine : Packet → ControllerConfig → ℕ → Machine → Type 0
 HoldsMachine p c n m = Holds p c n m.session.state m.session
 
-holds_call : (p : Packet) (c : ControllerConfig) (n : ℕ) (call : Call) (m : Machine) → is_outstanding m.session.state ≡ true → HoldsMachine p c n m
+pub holds_call : (p : Packet) (c : ControllerConfig) (n : ℕ) (call : Call) (m : Machine) → is_outstanding m.session.state ≡ true → HoldsMachine p c n m
     → SameSent p (sent_by call m) × HoldsMachine p c (more n (sent_by call m)) (after_call call m)
 holds_call p c n (Submit command) m h at =
     (tt, subst (λ (s : Session). Holds p c n s.state s) (sym (submit_session (submit_refusal command m) command m)) at)
@@ -209,7 +205,7 @@ holds_first (Waiting until sends o) s w =
 holds_first (Pausing until o) s w =
     either_way (HoldsFirst s.config) (nat_le until s.greatest) (sends_frame 1 o s w) (stays s w) (λ b. ((refl, refl, refl), omega arith)) (λ b. tt)
 
-first_sent : (call : Call) (m : Machine) (p : Packet) → sent_by call m ≡ Some p
+pub first_sent : (call : Call) (m : Machine) (p : Packet) → sent_by call m ≡ Some p
     → HoldsMachine p m.session.config (sent_in (after_call call m).session.state) (after_call call m) × (1 ≤ sent_in (after_call call m).session.state)
 first_sent (Submit command) m p e = cc
 first_sent (Begin now) m p e = cc

@@ -5,3 +5,4 @@ pub mod Causes
 pub mod Ticks
 pub mod Places
 pub mod Lasting
+pub mod Bounded

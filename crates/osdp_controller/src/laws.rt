@@ -4,7 +4,7 @@ ghost use Rattle.std.specs.Prelude.{◌≡◌, ℕ, true, List};
 ghost use Rattle.osdp_msg.specs.declared.command.Command.{Command};
 ghost use Rattle.osdp_controller.specs.declared.session.Session.{Session};
 ghost use Rattle.osdp_controller.specs.Laws.{CountsSends, HearsAnswers, KeepsTime, NumbersTakeTurns, TakesFront, TellsLost, TellsWhy};
-ghost use Rattle.osdp_controller.specs.Runs.{Call, NumbersByPlace, ResendsTheSame};
+ghost use Rattle.osdp_controller.specs.Runs.{Call, NumbersByPlace, ResendsTheSame, SendsFew};
 ghost use Rattle.osdp_controller.specs.Machine.{Machine};
 ghost use Rattle.osdp_controller.specs.States.{is_closed};
 
@@ -53,4 +53,9 @@ pub fn exchanges_have_their_numbers()
 /// As long as an exchange lasts, each frame that goes out behind one of its frames is the same packet.
 pub fn resends_the_same_frame()
     ensures { ResendsTheSame }
+{}
+
+/// As long as an exchange lasts it sends at most `sends * (busy_limit + 1)` frames, whatever is called and comes.
+pub fn exchanges_send_few()
+    ensures { SendsFew }
 {}
