@@ -6,3 +6,4 @@ pub mod Ticks
 pub mod Places
 pub mod Lasting
 pub mod Bounded
+pub mod Stepwise

@@ -8,3 +8,4 @@ pub mod Hearing
 pub mod Machine
 pub mod Laws
 pub mod Runs
+pub mod Steps

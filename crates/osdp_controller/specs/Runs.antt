@@ -2,7 +2,9 @@
 use Rattle.std.specs.Prelude.{◌≡◌, ℕ, ◌+◌, ◌*◌, ◌≤◌, Bool, true, false, ◌&&◌, ◌==◌, if◌then◌else◌, All, List, [], ◌∷◌, ◌++◌, length, Option, Some, None, is_some, option_to_list}
 use Rattle.osdp_frame.specs.Packet.{Packet}
 use Rattle.osdp_msg.specs.declared.command.Command.{Command}
+use Rattle.osdp_controller.specs.declared.report.Report.{Report}
 use Rattle.osdp_controller.specs.Exchanges.{exchange_number}
+use Rattle.osdp_controller.specs.Hearing.{hears}
 use Rattle.osdp_controller.specs.Machine.{IsMachine, Machine, after_begin, after_frame, after_retarget, after_submit, after_tick, begin_refusal, changed_unless, is_outstanding, retarget_refusal, sent_in, submit_refusal}
 use Rattle.osdp_controller.specs.States.{is_closed}
 use Rattle.osdp_controller.specs.Ticking.{ticks}
@@ -32,6 +34,12 @@ after_calls (call ∷ calls) m = after_calls calls (after_call call m)
 abbrev pub sent_by : Call → Machine → Option Packet
 sent_by (Tick now) m = (ticks now m.session m.waiting).step.frame
 sent_by _ m = None
+
+-- what it tells: ticks and frames from the line alone tell something
+abbrev pub told_by : Call → Machine → Option Report
+told_by (Tick now) m = (ticks now m.session m.waiting).step.report
+told_by (Hear p now) m = (hears p now m.session).report
+told_by _ m = None
 
 -- the frames that a list of them sends, in order
 abbrev pub frames : List Call → Machine → List Packet

@@ -7,6 +7,8 @@ ghost use Rattle.osdp_controller.specs.Laws.{CountsSends, HearsAnswers, KeepsTim
 ghost use Rattle.osdp_controller.specs.Runs.{Call, NumbersByPlace, ResendsTheSame, SendsFew};
 ghost use Rattle.osdp_controller.specs.Machine.{Machine};
 ghost use Rattle.osdp_controller.specs.States.{is_closed};
+ghost use Rattle.osdp_controller.specs.Steps.{ExchangesInSteps, FramesInSteps, TicksInSteps};
+ghost use Rattle.osdp_frame.specs.Packet.{Packet};
 
 /// Whatever frames come: a session opens only by a PDID with number 0 while the opening ID is outstanding, and
 /// a command is settled, or an event told, only by a frame of the own address with the outstanding number.
@@ -58,4 +60,19 @@ pub fn resends_the_same_frame()
 /// As long as an exchange lasts it sends at most `sends * (busy_limit + 1)` frames, whatever is called and comes.
 pub fn exchanges_send_few()
     ensures { SendsFew }
+{}
+
+/// What a tick does from each state, as the deadline is ahead or reached.
+pub fn ticks_go_by_the_state()
+    ensures { (now : ℕ) (s : Session) (waiting : List Command) → TicksInSteps now s waiting }
+{}
+
+/// What a frame does from each state, where it isn't a plain answer to the exchange.
+pub fn frames_go_by_the_state()
+    ensures { (p : Packet) (now : ℕ) (s : Session) → FramesInSteps p now s }
+{}
+
+/// A whole exchange: a tick sends its frame, the reply is told, and nothing is outstanding behind it.
+pub fn exchanges_in_steps()
+    ensures { (m : Machine) (now answered_at : ℕ) (q : Packet) → ExchangesInSteps m now answered_at q }
 {}
