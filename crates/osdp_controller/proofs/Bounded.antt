@@ -29,7 +29,7 @@ same_session : (b : Bool) (t u v w : Ticked) → t.session ≡ v.session → u.s
 same_session true t u v w e f = e
 same_session false t u v w e f = f
 
-keeps_tick : (state : State) (s : Session) (w : List Command) → IsSession s → IsState s.config state → OpensAtZero state s.number → All IsSubmitted w
+pub keeps_tick : (state : State) (s : Session) (w : List Command) → IsSession s → IsState s.config state → OpensAtZero state s.number → All IsSubmitted w
     → IsSession (ticks_in state s w).session
 keeps_tick Closed s w same is opening all = same
 keeps_tick (Quiet until) s w same is opening all =
@@ -59,7 +59,7 @@ keeps_out (Waiting until sends o) s w h is =
 keeps_out (Pausing until o) s w h is =
     subst IsSession (same_session (nat_le until s.greatest) (sends_frame 1 o s []) (stays s []) (sends_frame 1 o s w) (stays s w) refl refl) is
 
-keeps_hears : (p : Packet) (now : ℕ) (s : Session) → IsSession s → IsSession (hears p now s).session
+pub keeps_hears : (p : Packet) (now : ℕ) (s : Session) → IsSession s → IsSession (hears p now s).session
 keeps_hears p now s is =
     let after = keeps_seen now s is in
     either_way (λ (h : Heard). IsSession h.session) (is_from_reader p s) (hears_answer p.sequence (answer_of p) (seen now s)) (ignores (seen now s))

@@ -7,3 +7,4 @@ pub mod Places
 pub mod Lasting
 pub mod Bounded
 pub mod Stepwise
+pub mod Well

@@ -14,19 +14,20 @@ use Rattle.osdp_controller.specs.declared.exchange.Exchange.{Exchange}
 use Rattle.osdp_controller.specs.declared.exchange.Exchange.TheVariants.{Opening, Polling, Asking}
 use Rattle.osdp_controller.specs.declared.exchange.Outstanding.{Outstanding}
 use Rattle.osdp_controller.specs.declared.report.Report.{Report}
-use Rattle.osdp_controller.specs.declared.report.Report.TheVariants.{Opened, Settled}
+use Rattle.osdp_controller.specs.declared.report.Report.TheVariants.{Opened, Settled, Moved}
 use Rattle.osdp_controller.specs.declared.session.Session.{Session}
 use Rattle.osdp_controller.specs.declared.state.State.{State}
 use Rattle.osdp_controller.specs.declared.state.State.TheVariants.{Closed, Quiet, Idle, Waiting, Pausing}
 use Rattle.osdp_controller.specs.Answers.{answer_of, is_not_taken}
-use Rattle.osdp_controller.specs.Hearing.{Heard, answered, answered_unread, com_of, command_answered, comset_of, event_in, hears, hears_answer, ignores, is_from_reader, is_numbered, moved_by, numbered_in, poll_told, rests}
+use Rattle.osdp_controller.specs.Hearing.{Heard, answered, answered_unread, com_of, command_answered, comset_of, event_in, hears, hears_answer, ignores, is_from_reader, is_numbered, moved_by, numbered_in, poll_told}
 use Rattle.osdp_controller.specs.Laws.{Comes, ComesNumbered, exchange_in}
 use Rattle.osdp_controller.specs.Machine.{Machine, is_outstanding}
 use Rattle.osdp_controller.specs.Runs.{after_call, after_calls}
-use Rattle.osdp_controller.specs.Sessions.{at_rest, seen}
-use Rattle.osdp_controller.specs.Steps.{Exchanged, ExchangesInSteps, FramesInSteps, IsAheadAt, IsReachedAt, IsReplyTo, TicksInSteps}
+use Rattle.osdp_controller.specs.Sessions.{at_rest, frame_of, seen}
+use Rattle.osdp_controller.specs.Steps.{Exchanged, ExchangesInSteps, FramesInSteps, IsAheadAt, IsReachedAt, IsReplyTo, SendsItsFrame, TicksInSteps, moved_away}
 use Rattle.osdp_controller.specs.Ticking.{Ticked, begins, gives_up, sends_frame, stays, ticks, ticks_in, tries_again}
 use Rattle.osdp_controller.proofs.Causes.{hears_answers}
+use Rattle.osdp_controller.proofs.Choices.{either_way}
 
 if_true : {A : Type 0} (b : Bool) (x y : A) → b ≡ true → (if b then x else y) ≡ x
 if_true true x y h = refl
@@ -207,12 +208,14 @@ behind_tick m t = record m { session = t.session; waiting = t.waiting }
 abbrev behind_frame : Machine → Heard → Machine
 behind_frame m h = record m { session = h.session }
 
-exchanged : (x : Exchange) (number now answered_at : ℕ) (q : Packet) (reply : Reply) (report : Option Report) (m : Machine) (rest : List Command)
-    → ticks now m.session m.waiting ≡ begins x number (seen now m.session) rest → IsReplyTo number m.session q reply
-    → ((s : Session) → answered x reply s ≡ rests report s) → Exchanged x number now answered_at q report m rest
-exchanged x number now answered_at q reply report m rest e is settled =
+exchanged : (x : Exchange) (number now answered_at : ℕ) (q : Packet) (reply : Reply) (report : Option Report) (left : Session → Session) (m : Machine)
+    (rest : List Command) → ticks now m.session m.waiting ≡ begins x number (seen now m.session) rest → IsReplyTo number m.session q reply
+    → answered x reply (seen answered_at (sent x number now m.session))
+    ≡ record { session = left (seen answered_at (seen now (record m.session { number = number }))); report = report }
+    → Exchanged x number now answered_at q report left m rest
+exchanged x number now answered_at q reply report left m rest e is settled =
     let begun = begins x number (seen now m.session) rest in
-    let heard = heard_reply x number now answered_at m.session q reply is ∙ settled (seen answered_at (sent x number now m.session)) in record {
+    let heard = heard_reply x number now answered_at m.session q reply is ∙ settled in record {
   frame = ap (λ (t : Ticked). t.step.frame) e;
   told = ap (λ (t : Ticked). (hears q answered_at t.session).report) e ∙ ap (λ (h : Heard). h.report) heard;
   after =
@@ -220,19 +223,52 @@ exchanged x number now answered_at q reply report m rest e is settled =
     ∙ ap (λ (h : Heard). behind_frame (behind_tick m begun) h) heard;
 }
 
-command_settled : (command : Command) (reply : Reply) (moved : Option Communication) (s : Session) → moved ≡ None
-    → command_answered moved command reply s ≡ rests (Some (Settled command reply)) s
-command_settled command reply moved s e = ap (λ (d : Option Communication). command_answered d command reply s) e
+command_told : (command : Command) (reply : Reply) (moved known : Option Communication) (s : Session) → moved ≡ known
+    → command_answered moved command reply s ≡ command_answered known command reply s
+command_told command reply moved known s e = ap (λ (d : Option Communication). command_answered d command reply s) e
 
 pub exchanges_in_steps : (m : Machine) (now answered_at : ℕ) (q : Packet) → ExchangesInSteps m now answered_at q
 exchanges_in_steps m now answered_at q =
     let steps = ticks_in_steps now m.session m.waiting in record {
   command = λ due command rest reply e f is stays_there.
-    exchanged (Asking command) (next_sequence m.session.number) now answered_at q reply (Some (Settled command reply)) m rest (steps.asks due command rest e f) is
-    (λ s. command_settled command reply (moved_by (comset_of command) (com_of reply)) s stays_there);
+    exchanged (Asking command) (next_sequence m.session.number) now answered_at q reply (Some (Settled command reply)) at_rest m rest
+    (steps.asks due command rest e f) is
+    (command_told command reply (moved_by (comset_of command) (com_of reply)) None
+    (seen answered_at (sent (Asking command) (next_sequence m.session.number) now m.session)) stays_there);
+  moving = λ due command rest reply answered e f is moves.
+    exchanged (Asking command) (next_sequence m.session.number) now answered_at q reply (Some (Moved command answered)) (moved_away answered) m rest
+    (steps.asks due command rest e f) is
+    (command_told command reply (moved_by (comset_of command) (com_of reply)) (Some answered)
+    (seen answered_at (sent (Asking command) (next_sequence m.session.number) now m.session)) moves);
   poll = λ due reply e f h is.
-    exchanged Polling (next_sequence m.session.number) now answered_at q reply (poll_told reply (event_in reply)) m []
-    (steps.polls due e f h ∙ ap (λ (l : List Command). begins Polling (next_sequence m.session.number) (seen now m.session) l) f) is (λ s. refl);
+    exchanged Polling (next_sequence m.session.number) now answered_at q reply (poll_told reply (event_in reply)) at_rest m []
+    (steps.polls due e f h ∙ ap (λ (l : List Command). begins Polling (next_sequence m.session.number) (seen now m.session) l) f) is refl;
   opening = λ until id e h is.
-    exchanged Opening 0 now answered_at q (PdIdReply id) (Some (Opened id)) m m.waiting (steps.opens until e h) is (λ s. refl);
+    exchanged Opening 0 now answered_at q (PdIdReply id) (Some (Opened id)) at_rest m m.waiting (steps.opens until e h) is refl;
 }
+
+-- the frame of the exchange
+
+abbrev SentOf : Ticked → Option Packet → Type 0
+SentOf t None = Unit {0}
+SentOf t (Some p) = (x : Exchange) × (exchange_in t.session.state ≡ Some x) × (p ≡ frame_of x t.session)
+
+abbrev SendsOf : Ticked → Type 0
+SendsOf t = SentOf t t.step.frame
+
+sends_of : (state : State) (s : Session) (w : List Command) → SendsOf (ticks_in state s w)
+sends_of Closed s w = tt
+sends_of (Quiet until) s w =
+    either_way SendsOf (nat_le until s.greatest) (begins Opening 0 s w) (stays s w) (λ b. (Opening, refl, refl)) (λ b. tt)
+sends_of (Idle due) s (command ∷ w) = (Asking command, refl, refl)
+sends_of (Idle due) s [] =
+    either_way SendsOf (nat_le due s.greatest) (begins Polling (next_sequence s.number) s []) (stays s []) (λ b. (Polling, refl, refl)) (λ b. tt)
+sends_of (Waiting until sends o) s w =
+    either_way SendsOf (nat_le until s.greatest) (tries_again sends o s w) (stays s w)
+    (λ b. either_way SendsOf (nat_lt sends s.config.sends) (sends_frame (sends + 1) o s w) (gives_up o s w) (λ c. (o.exchange, refl, refl)) (λ c. tt))
+    (λ b. tt)
+sends_of (Pausing until o) s w =
+    either_way SendsOf (nat_le until s.greatest) (sends_frame 1 o s w) (stays s w) (λ b. (o.exchange, refl, refl)) (λ b. tt)
+
+pub sends_its_frame : (now : ℕ) (s : Session) (w : List Command) → SendsItsFrame now s w
+sends_its_frame now s w p e = subst (SentOf (ticks_in s.state (seen now s) w)) e (sends_of s.state (seen now s) w)

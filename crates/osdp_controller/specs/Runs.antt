@@ -2,10 +2,11 @@
 use Rattle.std.specs.Prelude.{◌≡◌, ℕ, ◌+◌, ◌*◌, ◌≤◌, Bool, true, false, ◌&&◌, ◌==◌, if◌then◌else◌, All, List, [], ◌∷◌, ◌++◌, length, Option, Some, None, is_some, option_to_list}
 use Rattle.osdp_frame.specs.Packet.{Packet}
 use Rattle.osdp_msg.specs.declared.command.Command.{Command}
+use Rattle.osdp_controller.specs.declared.config.ControllerConfig.{ControllerConfig}
 use Rattle.osdp_controller.specs.declared.report.Report.{Report}
 use Rattle.osdp_controller.specs.Exchanges.{exchange_number}
 use Rattle.osdp_controller.specs.Hearing.{hears}
-use Rattle.osdp_controller.specs.Machine.{IsMachine, Machine, after_begin, after_frame, after_retarget, after_submit, after_tick, begin_refusal, changed_unless, is_outstanding, retarget_refusal, sent_in, submit_refusal}
+use Rattle.osdp_controller.specs.Machine.{AreSettings, IsMachine, Machine, after_begin, after_frame, after_retarget, after_submit, after_tick, begin_refusal, changed_unless, is_outstanding, new_machine, retarget_refusal, sent_in, submit_refusal}
 use Rattle.osdp_controller.specs.States.{is_closed}
 use Rattle.osdp_controller.specs.Ticking.{ticks}
 
@@ -93,3 +94,8 @@ ResendsTheSame = (m : Machine) (call : Call) (p : Packet) (calls : List Call) �
 abbrev pub SendsFew : Type 0
 SendsFew = (m : Machine) (call : Call) (p : Packet) (calls : List Call) → IsMachine m → sent_by call m ≡ Some p → Lasts calls (after_call call m)
     → 1 + length (frames calls (after_call call m)) ≤ m.session.config.sends * (m.session.config.busy_limit + 1)
+
+-- what holds of each controller: of a new one, and behind whatever is called
+pub record StaysWell : Type 0 where
+  pub new : (config : ControllerConfig) (capacity : ℕ) → AreSettings config capacity → IsMachine (new_machine config capacity)
+  pub behind : (m : Machine) (calls : List Call) → IsMachine m → IsMachine (after_calls calls m)

@@ -4,10 +4,10 @@ ghost use Rattle.std.specs.Prelude.{◌≡◌, ℕ, true, List};
 ghost use Rattle.osdp_msg.specs.declared.command.Command.{Command};
 ghost use Rattle.osdp_controller.specs.declared.session.Session.{Session};
 ghost use Rattle.osdp_controller.specs.Laws.{CountsSends, HearsAnswers, KeepsTime, NumbersTakeTurns, TakesFront, TellsLost, TellsWhy};
-ghost use Rattle.osdp_controller.specs.Runs.{Call, NumbersByPlace, ResendsTheSame, SendsFew};
+ghost use Rattle.osdp_controller.specs.Runs.{Call, NumbersByPlace, ResendsTheSame, SendsFew, StaysWell};
 ghost use Rattle.osdp_controller.specs.Machine.{Machine};
 ghost use Rattle.osdp_controller.specs.States.{is_closed};
-ghost use Rattle.osdp_controller.specs.Steps.{ExchangesInSteps, FramesInSteps, TicksInSteps};
+ghost use Rattle.osdp_controller.specs.Steps.{ExchangesInSteps, FramesInSteps, SendsItsFrame, TicksInSteps};
 ghost use Rattle.osdp_frame.specs.Packet.{Packet};
 
 /// Whatever frames come: a session opens only by a PDID with number 0 while the opening ID is outstanding, and
@@ -75,4 +75,14 @@ pub fn frames_go_by_the_state()
 /// A whole exchange: a tick sends its frame, the reply is told, and nothing is outstanding behind it.
 pub fn exchanges_in_steps()
     ensures { (m : Machine) (now answered_at : ℕ) (q : Packet) → ExchangesInSteps m now answered_at q }
+{}
+
+/// The frame that a tick gives is that of the exchange that is outstanding then.
+pub fn ticks_send_their_frame()
+    ensures { (now : ℕ) (s : Session) (waiting : List Command) → SendsItsFrame now s waiting }
+{}
+
+/// What holds of a new controller, its settings and counts in their ranges, holds whatever is called and comes.
+pub fn stays_well()
+    ensures { StaysWell }
 {}
