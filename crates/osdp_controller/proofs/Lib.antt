@@ -3,3 +3,8 @@ pub mod Keeping
 pub mod Same
 pub mod Causes
 pub mod Ticks
+pub mod Places
+pub mod Lasting
+pub mod Bounded
+pub mod Stepwise
+pub mod Well

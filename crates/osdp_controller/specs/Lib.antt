@@ -7,3 +7,5 @@ pub mod Ticking
 pub mod Hearing
 pub mod Machine
 pub mod Laws
+pub mod Runs
+pub mod Steps

@@ -1,9 +1,14 @@
 //! What the tables come to, said apart from their rows. The functions do nothing: their contracts are laws.
 
-ghost use Rattle.std.specs.Prelude.{ℕ, List};
+ghost use Rattle.std.specs.Prelude.{◌≡◌, ℕ, true, List};
 ghost use Rattle.osdp_msg.specs.declared.command.Command.{Command};
 ghost use Rattle.osdp_controller.specs.declared.session.Session.{Session};
 ghost use Rattle.osdp_controller.specs.Laws.{CountsSends, HearsAnswers, KeepsTime, NumbersTakeTurns, TakesFront, TellsLost, TellsWhy};
+ghost use Rattle.osdp_controller.specs.Runs.{Call, NumbersByPlace, ResendsTheSame, SendsFew, StaysWell};
+ghost use Rattle.osdp_controller.specs.Machine.{Machine};
+ghost use Rattle.osdp_controller.specs.States.{is_closed};
+ghost use Rattle.osdp_controller.specs.Steps.{ExchangesInSteps, FramesInSteps, SendsItsFrame, TicksInSteps};
+ghost use Rattle.osdp_frame.specs.Packet.{Packet};
 
 /// Whatever frames come: a session opens only by a PDID with number 0 while the opening ID is outstanding, and
 /// a command is settled, or an event told, only by a frame of the own address with the outstanding number.
@@ -39,4 +44,45 @@ pub fn moments_never_go_back()
 /// The numbers of the exchanges of a session take turns.
 pub fn numbers_take_turns()
     ensures { (k : ℕ) → NumbersTakeTurns k }
+{}
+
+/// Whatever is called: exchange k of a session, counted from 0 for the opening ID, has the sequence number of its
+/// place, and so has each frame that it sends.
+pub fn exchanges_have_their_numbers()
+    ensures { (m : Machine) (calls : List Call) → is_closed m.session.state ≡ true → NumbersByPlace m calls }
+{}
+
+/// As long as an exchange lasts, each frame that goes out behind one of its frames is the same packet.
+pub fn resends_the_same_frame()
+    ensures { ResendsTheSame }
+{}
+
+/// As long as an exchange lasts it sends at most `sends * (busy_limit + 1)` frames, whatever is called and comes.
+pub fn exchanges_send_few()
+    ensures { SendsFew }
+{}
+
+/// What a tick does from each state, as the deadline is ahead or reached.
+pub fn ticks_go_by_the_state()
+    ensures { (now : ℕ) (s : Session) (waiting : List Command) → TicksInSteps now s waiting }
+{}
+
+/// What a frame does from each state, where it isn't a plain answer to the exchange.
+pub fn frames_go_by_the_state()
+    ensures { (p : Packet) (now : ℕ) (s : Session) → FramesInSteps p now s }
+{}
+
+/// A whole exchange: a tick sends its frame, the reply is told, and nothing is outstanding behind it.
+pub fn exchanges_in_steps()
+    ensures { (m : Machine) (now answered_at : ℕ) (q : Packet) → ExchangesInSteps m now answered_at q }
+{}
+
+/// The frame that a tick gives is that of the exchange that is outstanding then.
+pub fn ticks_send_their_frame()
+    ensures { (now : ℕ) (s : Session) (waiting : List Command) → SendsItsFrame now s waiting }
+{}
+
+/// What holds of a new controller, its settings and counts in their ranges, holds whatever is called and comes.
+pub fn stays_well()
+    ensures { StaysWell }
 {}
