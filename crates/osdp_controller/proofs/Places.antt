@@ -1,5 +1,5 @@
 -- The numbers of the exchanges over a run of calls.
-use Rattle.std.proofs.Common.{◌≡◌, ◌∙◌, ap, sym, subst, ℕ, zero, suc, ◌+◌, ◌≤◌, Bool, true, false, List, [], ◌∷◌, Option, Some, None, refl, arith}
+use Rattle.std.proofs.Common.{◌≡◌, ◌∙◌, ap, subst, ℕ, suc, ◌+◌, ◌≤◌, true, List, [], ◌∷◌, Option, Some, None, refl, arith}
 use Rattle.std.specs.Prelude.{if◌then◌else◌, ◌&&◌, ◌==◌, nat_lt, nat_le, is_some}
 use Rattle.std.proofs.lemmas.Bool.{ne_eqb}
 use Rattle.osdp_frame.specs.Packet.{Packet, next_sequence}
@@ -18,7 +18,6 @@ use Rattle.osdp_controller.specs.declared.session.Session.{Session}
 use Rattle.osdp_controller.specs.declared.state.State.{State}
 use Rattle.osdp_controller.specs.declared.state.State.TheVariants.{Closed, Quiet, Idle, Waiting, Pausing}
 use Rattle.osdp_controller.specs.Answers.{answer_of}
-use Rattle.osdp_controller.specs.Exchanges.{exchange_number}
 use Rattle.osdp_controller.specs.Hearing.{Heard, answered, answered_unread, com_of, command_answered, comset_of, hears, hears_answer, hears_busy, ignores, is_from_reader, is_numbered, loses, moved_by, numbered_in, opening_answered, pausing_hears, pd_id_of, waiting_hears}
 use Rattle.osdp_controller.specs.Machine.{Machine, after_begin, after_retarget, after_submit, changed_unless, is_outstanding, refused_unless_closed, retarget_refusal, sent_in, submit_refusal}
 use Rattle.osdp_controller.specs.Runs.{Call, Submit, Begin, Retarget, Tick, Hear, HasNumberOfPlace, NumbersByPlace, after_call, after_calls, count_behind, count_from, exchanges_begun, sent_by}
@@ -225,10 +224,10 @@ number_sent count n sequence e at = (at.0, at.1, e ∙ at.2)
 pub numbers_by_place : (m : Machine) (calls : List Call) → is_closed m.session.state ≡ true → NumbersByPlace m calls
 numbers_by_place m calls h =
     let at = placed_calls 0 calls m (closed_placed m.session.state 0 m.session.number h) in record {
-  outstanding = λ out. place_of (after_calls calls m).session.state (exchanges_begun calls m) (after_calls calls m).session.number out at;
-  sent = λ call p e.
-    let is = sent_as call (after_calls calls m) p e in
-    let behind = placed_call (exchanges_begun calls m) call (after_calls calls m) at in
-    number_sent (count_behind call (after_calls calls m) (exchanges_begun calls m)) (after_call call (after_calls calls m)).session.number p.sequence is.0
-    (place_of (after_call call (after_calls calls m)).session.state (count_behind call (after_calls calls m) (exchanges_begun calls m)) (after_call call (after_calls calls m)).session.number is.1 behind);
-}
+      outstanding = λ out. place_of (after_calls calls m).session.state (exchanges_begun calls m) (after_calls calls m).session.number out at;
+      sent = λ call p e.
+          let is = sent_as call (after_calls calls m) p e in
+          let behind = placed_call (exchanges_begun calls m) call (after_calls calls m) at in
+          number_sent (count_behind call (after_calls calls m) (exchanges_begun calls m)) (after_call call (after_calls calls m)).session.number p.sequence is.0
+          (place_of (after_call call (after_calls calls m)).session.state (count_behind call (after_calls calls m) (exchanges_begun calls m)) (after_call call (after_calls calls m)).session.number is.1 behind);
+    }

@@ -1,5 +1,5 @@
 -- What one call does from each state, and what a whole exchange comes to.
-use Rattle.std.proofs.Common.{◌≡◌, ◌∙◌, ap, sym, subst, inl, inr, ℕ, ◌+◌, ◌<◌, ◌≤◌, Bool, true, false, List, [], ◌∷◌, Option, Some, None, refl, arith}
+use Rattle.std.proofs.Common.{◌≡◌, ◌∙◌, ap, sym, subst, inl, inr, ℕ, ◌+◌, Bool, true, false, List, [], ◌∷◌, Option, Some, None, refl}
 use Rattle.std.specs.Prelude.{◌≢◌, ◌⊎◌, ◌&&◌, ◌||◌, ◌==◌, if◌then◌else◌, max, nat_lt, nat_le}
 use Rattle.std.proofs.lemmas.Bool.{le-leb, lt-leb, lt-ltb, le-ltb, eq-eqb, ne_eqb}
 use Rattle.osdp_frame.specs.Packet.{Packet, next_sequence}
@@ -7,9 +7,8 @@ use Rattle.osdp_msg.specs.declared.command.Command.{Command}
 use Rattle.osdp_msg.specs.declared.command_fields.Communication.{Communication}
 use Rattle.osdp_msg.specs.declared.reply.Reply.{Reply}
 use Rattle.osdp_msg.specs.declared.reply.Reply.TheVariants.{PdId as PdIdReply}
-use Rattle.osdp_msg.specs.declared.reply_fields.PdId.{PdId}
 use Rattle.osdp_controller.specs.declared.answer.Answer.{Answer}
-use Rattle.osdp_controller.specs.declared.answer.Answer.TheVariants.{NotTaken, Damaged, NumberRefused, Plain, Unreadable}
+use Rattle.osdp_controller.specs.declared.answer.Answer.TheVariants.{NotTaken, Damaged, NumberRefused, Unreadable}
 use Rattle.osdp_controller.specs.declared.exchange.Exchange.{Exchange}
 use Rattle.osdp_controller.specs.declared.exchange.Exchange.TheVariants.{Opening, Polling, Asking}
 use Rattle.osdp_controller.specs.declared.exchange.Outstanding.{Outstanding}
@@ -22,7 +21,6 @@ use Rattle.osdp_controller.specs.Answers.{answer_of, is_not_taken}
 use Rattle.osdp_controller.specs.Hearing.{Heard, answered, answered_unread, com_of, command_answered, comset_of, event_in, hears, hears_answer, ignores, is_from_reader, is_numbered, moved_by, numbered_in, poll_told}
 use Rattle.osdp_controller.specs.Laws.{Comes, ComesNumbered, exchange_in}
 use Rattle.osdp_controller.specs.Machine.{Machine, is_outstanding}
-use Rattle.osdp_controller.specs.Runs.{after_call, after_calls}
 use Rattle.osdp_controller.specs.Sessions.{at_rest, frame_of, seen}
 use Rattle.osdp_controller.specs.Steps.{Exchanged, ExchangesInSteps, FramesInSteps, IsAheadAt, IsReachedAt, IsReplyTo, SendsItsFrame, TicksInSteps, moved_away}
 use Rattle.osdp_controller.specs.Ticking.{Ticked, begins, gives_up, sends_frame, stays, ticks, ticks_in, tries_again}
@@ -54,22 +52,22 @@ ticks_in_steps now s w = record {
   quiet = λ until e h. by_state now s w (Quiet until) e ∙ ahead until now s (begins Opening 0 (seen now s) w) (stays (seen now s) w) h;
   opens = λ until e h. by_state now s w (Quiet until) e ∙ reached until now s (begins Opening 0 (seen now s) w) (stays (seen now s) w) h;
   asks = λ due command rest e f.
-    by_state now s w (Idle due) e ∙ ap (λ (l : List Command). ticks_in (Idle due) (seen now s) l) f;
+      by_state now s w (Idle due) e ∙ ap (λ (l : List Command). ticks_in (Idle due) (seen now s) l) f;
   rests = λ due e f h.
-    by_state now s w (Idle due) e ∙ (ap (λ (l : List Command). ticks_in (Idle due) (seen now s) l) f
-    ∙ (ahead due now s (begins Polling (next_sequence s.number) (seen now s) []) (stays (seen now s) []) h ∙ ap (λ (l : List Command). stays (seen now s) l) (sym f)));
+      by_state now s w (Idle due) e ∙ (ap (λ (l : List Command). ticks_in (Idle due) (seen now s) l) f
+      ∙ (ahead due now s (begins Polling (next_sequence s.number) (seen now s) []) (stays (seen now s) []) h ∙ ap (λ (l : List Command). stays (seen now s) l) (sym f)));
   polls = λ due e f h.
-    by_state now s w (Idle due) e ∙ (ap (λ (l : List Command). ticks_in (Idle due) (seen now s) l) f
-    ∙ (reached due now s (begins Polling (next_sequence s.number) (seen now s) []) (stays (seen now s) []) h
-    ∙ ap (λ (l : List Command). begins Polling (next_sequence s.number) (seen now s) l) (sym f)));
+      by_state now s w (Idle due) e ∙ (ap (λ (l : List Command). ticks_in (Idle due) (seen now s) l) f
+      ∙ (reached due now s (begins Polling (next_sequence s.number) (seen now s) []) (stays (seen now s) []) h
+      ∙ ap (λ (l : List Command). begins Polling (next_sequence s.number) (seen now s) l) (sym f)));
   waits = λ until sends o e h.
-    by_state now s w (Waiting until sends o) e ∙ ahead until now s (tries_again sends o (seen now s) w) (stays (seen now s) w) h;
+      by_state now s w (Waiting until sends o) e ∙ ahead until now s (tries_again sends o (seen now s) w) (stays (seen now s) w) h;
   repeats = λ until sends o e h less.
-    by_state now s w (Waiting until sends o) e ∙ (reached until now s (tries_again sends o (seen now s) w) (stays (seen now s) w) h
-    ∙ if_true (nat_lt sends s.config.sends) (sends_frame (sends + 1) o (seen now s) w) (gives_up o (seen now s) w) (lt-ltb sends s.config.sends less));
+      by_state now s w (Waiting until sends o) e ∙ (reached until now s (tries_again sends o (seen now s) w) (stays (seen now s) w) h
+      ∙ if_true (nat_lt sends s.config.sends) (sends_frame (sends + 1) o (seen now s) w) (gives_up o (seen now s) w) (lt-ltb sends s.config.sends less));
   ends = λ until sends o e h all.
-    by_state now s w (Waiting until sends o) e ∙ (reached until now s (tries_again sends o (seen now s) w) (stays (seen now s) w) h
-    ∙ if_false (nat_lt sends s.config.sends) (sends_frame (sends + 1) o (seen now s) w) (gives_up o (seen now s) w) (le-ltb sends s.config.sends all));
+      by_state now s w (Waiting until sends o) e ∙ (reached until now s (tries_again sends o (seen now s) w) (stays (seen now s) w) h
+      ∙ if_false (nat_lt sends s.config.sends) (sends_frame (sends + 1) o (seen now s) w) (gives_up o (seen now s) w) (le-ltb sends s.config.sends all));
   pauses = λ until o e h. by_state now s w (Pausing until o) e ∙ ahead until now s (sends_frame 1 o (seen now s) w) (stays (seen now s) w) h;
   goes_on = λ until o e h. by_state now s w (Pausing until o) e ∙ reached until now s (sends_frame 1 o (seen now s) w) (stays (seen now s) w) h;
 }
@@ -180,14 +178,14 @@ frames_in_steps p now s = record {
   not_outstanding = not_outstanding p now s;
   of_another = of_another p now s;
   busy = λ until sends o e is number.
-    numbered p now s (Waiting until sends o) NotTaken is.from_reader (busy_number p s is.says number) e is.says;
+      numbered p now s (Waiting until sends o) NotTaken is.from_reader (busy_number p s is.says number) e is.says;
   busy_again = busy_again p now s;
   damaged = λ until sends o e is. numbered_by p now s (Waiting until sends o) o.exchange Damaged is e;
   damaged_before = λ until o e is. numbered_by p now s (Pausing until o) o.exchange Damaged is e;
   refused = λ until sends o e is. numbered_by p now s (Waiting until sends o) o.exchange NumberRefused is e;
   refused_late = λ until o e is. numbered_by p now s (Pausing until o) o.exchange NumberRefused is e;
   unread = λ x code is.
-    let comes = is.comes in numbered_by p now s s.state x (Unreadable code) is refl ∙ unread_in s.state x code (seen now s) comes.outstanding;
+      let comes = is.comes in numbered_by p now s s.state x (Unreadable code) is refl ∙ unread_in s.state x code (seen now s) comes.outstanding;
 }
 
 -- a whole exchange
@@ -216,12 +214,12 @@ exchanged : (x : Exchange) (number now answered_at : ℕ) (q : Packet) (reply : 
 exchanged x number now answered_at q reply report left m rest e is settled =
     let begun = begins x number (seen now m.session) rest in
     let heard = heard_reply x number now answered_at m.session q reply is ∙ settled in record {
-  frame = ap (λ (t : Ticked). t.step.frame) e;
-  told = ap (λ (t : Ticked). (hears q answered_at t.session).report) e ∙ ap (λ (h : Heard). h.report) heard;
-  after =
-    ap (λ (t : Ticked). behind_frame (behind_tick m t) (hears q answered_at t.session)) e
-    ∙ ap (λ (h : Heard). behind_frame (behind_tick m begun) h) heard;
-}
+      frame = ap (λ (t : Ticked). t.step.frame) e;
+      told = ap (λ (t : Ticked). (hears q answered_at t.session).report) e ∙ ap (λ (h : Heard). h.report) heard;
+      after =
+          ap (λ (t : Ticked). behind_frame (behind_tick m t) (hears q answered_at t.session)) e
+          ∙ ap (λ (h : Heard). behind_frame (behind_tick m begun) h) heard;
+    }
 
 command_told : (command : Command) (reply : Reply) (moved known : Option Communication) (s : Session) → moved ≡ known
     → command_answered moved command reply s ≡ command_answered known command reply s
@@ -230,22 +228,22 @@ command_told command reply moved known s e = ap (λ (d : Option Communication). 
 pub exchanges_in_steps : (m : Machine) (now answered_at : ℕ) (q : Packet) → ExchangesInSteps m now answered_at q
 exchanges_in_steps m now answered_at q =
     let steps = ticks_in_steps now m.session m.waiting in record {
-  command = λ due command rest reply e f is stays_there.
-    exchanged (Asking command) (next_sequence m.session.number) now answered_at q reply (Some (Settled command reply)) at_rest m rest
-    (steps.asks due command rest e f) is
-    (command_told command reply (moved_by (comset_of command) (com_of reply)) None
-    (seen answered_at (sent (Asking command) (next_sequence m.session.number) now m.session)) stays_there);
-  moving = λ due command rest reply answered e f is moves.
-    exchanged (Asking command) (next_sequence m.session.number) now answered_at q reply (Some (Moved command answered)) (moved_away answered) m rest
-    (steps.asks due command rest e f) is
-    (command_told command reply (moved_by (comset_of command) (com_of reply)) (Some answered)
-    (seen answered_at (sent (Asking command) (next_sequence m.session.number) now m.session)) moves);
-  poll = λ due reply e f h is.
-    exchanged Polling (next_sequence m.session.number) now answered_at q reply (poll_told reply (event_in reply)) at_rest m []
-    (steps.polls due e f h ∙ ap (λ (l : List Command). begins Polling (next_sequence m.session.number) (seen now m.session) l) f) is refl;
-  opening = λ until id e h is.
-    exchanged Opening 0 now answered_at q (PdIdReply id) (Some (Opened id)) at_rest m m.waiting (steps.opens until e h) is refl;
-}
+      command = λ due command rest reply e f is stays_there.
+          exchanged (Asking command) (next_sequence m.session.number) now answered_at q reply (Some (Settled command reply)) at_rest m rest
+          (steps.asks due command rest e f) is
+          (command_told command reply (moved_by (comset_of command) (com_of reply)) None
+          (seen answered_at (sent (Asking command) (next_sequence m.session.number) now m.session)) stays_there);
+      moving = λ due command rest reply answered e f is moves.
+          exchanged (Asking command) (next_sequence m.session.number) now answered_at q reply (Some (Moved command answered)) (moved_away answered) m rest
+          (steps.asks due command rest e f) is
+          (command_told command reply (moved_by (comset_of command) (com_of reply)) (Some answered)
+          (seen answered_at (sent (Asking command) (next_sequence m.session.number) now m.session)) moves);
+      poll = λ due reply e f h is.
+          exchanged Polling (next_sequence m.session.number) now answered_at q reply (poll_told reply (event_in reply)) at_rest m []
+          (steps.polls due e f h ∙ ap (λ (l : List Command). begins Polling (next_sequence m.session.number) (seen now m.session) l) f) is refl;
+      opening = λ until id e h is.
+          exchanged Opening 0 now answered_at q (PdIdReply id) (Some (Opened id)) at_rest m m.waiting (steps.opens until e h) is refl;
+    }
 
 -- the frame of the exchange
 

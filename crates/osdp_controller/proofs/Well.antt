@@ -1,5 +1,5 @@
 -- What holds of each controller is kept by each call.
-use Rattle.std.proofs.Common.{◌≡◌, ℕ, ◌+◌, ◌<◌, ◌≤◌, Bool, true, false, List, [], ◌∷◌, ◌++◌, length, Option, Some, None, refl, arith}
+use Rattle.std.proofs.Common.{◌≡◌, ℕ, ◌+◌, ◌<◌, ◌≤◌, Bool, true, false, List, [], ◌∷◌, length, Option, Some, None, refl, arith}
 use Rattle.std.specs.Prelude.{◌≢◌, if◌then◌else◌, All, nat_lt, nat_le}
 use Rattle.std.proofs.lemmas.Bool.{ltb-true}
 use Rattle.std.proofs.lemmas.List.{length_push}
@@ -14,7 +14,7 @@ use Rattle.osdp_controller.specs.declared.fault.ControllerFault.{ControllerFault
 use Rattle.osdp_controller.specs.declared.session.Session.{Session}
 use Rattle.osdp_controller.specs.declared.state.State.{State}
 use Rattle.osdp_controller.specs.declared.state.State.TheVariants.{Closed, Quiet, Idle, Waiting, Pausing}
-use Rattle.osdp_controller.specs.Machine.{AreSettings, IsMachine, IsOutstanding, IsState, IsSubmitted, Machine, after_begin, after_retarget, after_submit, changed_unless, new_machine, or_no_device, refused_unless_closed, retarget_refusal, submit_refusal}
+use Rattle.osdp_controller.specs.Machine.{IsMachine, IsOutstanding, IsState, IsSubmitted, Machine, after_begin, after_retarget, after_submit, changed_unless, or_no_device, refused_unless_closed, retarget_refusal, submit_refusal}
 use Rattle.osdp_controller.specs.Runs.{Call, Submit, Begin, Retarget, Tick, Hear, StaysWell, after_call, after_calls}
 use Rattle.osdp_controller.specs.Sessions.{seen}
 use Rattle.osdp_controller.specs.Settings.{IsConfig}
@@ -38,11 +38,11 @@ keeps_submit : (f : Option ControllerFault) (command : Command) (m : Machine) �
 keeps_submit None command m ok is =
     let room : length m.waiting < m.capacity = (ok refl).1 in
     let long = length_push m.waiting command in record {
-  session = is.session;
-  capacity = is.capacity;
-  waiting = All-push IsSubmitted m.waiting command is.waiting (ok refl).0;
-  room = omega arith;
-}
+      session = is.session;
+      capacity = is.capacity;
+      waiting = All-push IsSubmitted m.waiting command is.waiting (ok refl).0;
+      room = omega arith;
+    }
 keeps_submit (Some fault) command m ok is = is
 
 -- a session begins
@@ -130,12 +130,12 @@ keeps_each (Retarget address) m is =
     keeps_retarget (retarget_refusal address m) address m (is_device (refused_unless_closed m.session.state) address) is
 keeps_each (Tick now) m is =
     let waits = wait_well m.capacity m.session.state (seen now m.session) m.waiting is.waiting is.room in record {
-  session =
-    keeps_tick m.session.state (seen now m.session) m.waiting (keeps_seen now m.session is.session) is.session.state is.session.opening is.waiting;
-  capacity = is.capacity;
-  waiting = waits.0;
-  room = waits.1;
-}
+      session =
+          keeps_tick m.session.state (seen now m.session) m.waiting (keeps_seen now m.session is.session) is.session.state is.session.opening is.waiting;
+      capacity = is.capacity;
+      waiting = waits.0;
+      room = waits.1;
+    }
 keeps_each (Hear p now) m is = record {
   session = keeps_hears p now m.session is.session;
   capacity = is.capacity;

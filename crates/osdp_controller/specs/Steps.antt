@@ -14,13 +14,12 @@ use Rattle.osdp_controller.specs.declared.report.LostCause.TheVariants as causes
 use Rattle.osdp_controller.specs.declared.report.Report.{Report}
 use Rattle.osdp_controller.specs.declared.report.Report.TheVariants.{Opened, Settled, Moved}
 use Rattle.osdp_controller.specs.declared.session.Session.{Session}
-use Rattle.osdp_controller.specs.declared.state.State.{State}
 use Rattle.osdp_controller.specs.declared.state.State.TheVariants.{Closed, Quiet, Idle, Waiting, Pausing}
 use Rattle.osdp_controller.specs.Answers.{answer_of, is_not_taken}
 use Rattle.osdp_controller.specs.Hearing.{answered_unread, com_of, comset_of, event_in, hears, hears_busy, ignores, is_from_reader, loses, moved_by, poll_told}
 use Rattle.osdp_controller.specs.Laws.{Comes, ComesNumbered, exchange_in}
 use Rattle.osdp_controller.specs.Machine.{Machine, is_outstanding}
-use Rattle.osdp_controller.specs.Runs.{Call, Tick, Hear, after_call, after_calls, sent_by, told_by}
+use Rattle.osdp_controller.specs.Runs.{Tick, Hear, after_call, after_calls, sent_by, told_by}
 use Rattle.osdp_controller.specs.Sessions.{at_rest, closed, frame_of, seen}
 use Rattle.osdp_controller.specs.Ticking.{begins, gives_up, sends_frame, stays, ticks}
 
