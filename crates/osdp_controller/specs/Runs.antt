@@ -73,7 +73,8 @@ exchanges_begun calls m = count_from 0 calls m
 abbrev pub HasNumberOfPlace : ℕ → ℕ → Type 0
 HasNumberOfPlace count number = (k : ℕ) × (count ≡ k + 1) × (number ≡ exchange_number k)
 
--- whatever is called: exchange k of a session has number k by the standard, and so has each frame that it sends
+-- whatever is called: while exchange k of a session is outstanding the session has the number of place k, and so has
+-- each frame that a call sends behind them
 pub record NumbersByPlace (m : Machine) (calls : List Call) : Type 0 where
   pub outstanding : is_outstanding (after_calls calls m).session.state ≡ true
       → HasNumberOfPlace (exchanges_begun calls m) (after_calls calls m).session.number
