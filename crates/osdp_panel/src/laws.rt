@@ -1,4 +1,4 @@
-//! What a panel tells in the long run. The function does nothing: its contract is a law.
+//! What a panel that is asked again and again tells. The function does nothing: its contract is a law.
 
 ghost use Rattle.std.specs.Prelude.{ℕ};
 ghost use Rattle.osdp_controller.specs.Machine.{Machine};
@@ -6,8 +6,8 @@ ghost use Rattle.osdp_frame.specs.Held.{Held};
 ghost use Rattle.osdp_panel.specs.Reports.{next_told};
 ghost use Rattle.osdp_panel.specs.Turns.{TellsInTurn};
 
-/// A panel that is asked until it tells nothing tells each report of the packets that have come once, in their
-/// order, and its controller has heard all of them then.
+/// Of the reports of all packets that have come, a call tells the first and leaves the others, in their order and
+/// with the same controller behind them. It tells nothing only where no packet is left that has come.
 pub fn reports_in_turn()
     ensures { (now : ℕ) (m : Machine) (held : Held) → TellsInTurn now m held (next_told now m held) }
 {}
