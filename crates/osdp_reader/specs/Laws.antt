@@ -1,25 +1,54 @@
 -- What holds of the reader's table, whatever the handler does.
-use Rattle.std.specs.Prelude.{◌≡◌, ◌≢◌, ◌⊎◌, ◌≤◌, ◌+◌, ℕ, suc, true, false, List, ◌++◌, length, take, drop, slice_get, Option, Some, None, Ok}
-use Rattle.osdp_frame.specs.Packet.{Packet}
+use Rattle.std.specs.Prelude.{◌≡◌, ◌≢◌, ◌⊎◌, ◌↔◌, [], ◌∷◌, ◌≤◌, ◌+◌, ℕ, suc, true, false, List, ◌++◌, length, take, drop, slice_get, Option, Some, None, Ok}
+use Rattle.osdp_frame.specs.Packet.{Packet, next_sequence}
 use Rattle.osdp_msg.specs.declared.command.Command.{Command}
 use Rattle.osdp_msg.specs.declared.command.Command.TheVariants.{Poll}
 use Rattle.osdp_msg.specs.declared.reply.Reply.{Reply}
 use Rattle.osdp_msg.specs.declared.reply.Reply.TheVariants as reply
 use Rattle.osdp_msg.specs.NakReasons.{reason_number}
+use Rattle.osdp_msg.specs.ReplyTable.{reply_code, reply_data}
 use Rattle.osdp_reader.specs.declared.config.ReaderConfig.{ReaderConfig}
 use Rattle.osdp_reader.specs.declared.handler.Answer.{Answer}
-use Rattle.osdp_reader.specs.declared.kind.Kind.TheVariants.{Zero, Taken}
+use Rattle.osdp_reader.specs.declared.kind.Kind.TheVariants.{Zero, Taken, Wrong}
 use Rattle.osdp_reader.specs.Answering.{answers, handler_behind}
 use Rattle.osdp_reader.specs.Replies.{reply_packet}
 use Rattle.osdp_reader.specs.Spelled.{IsSpelled}
 use Rattle.osdp_reader.specs.State.{ReaderState, new_reader}
-use Rattle.osdp_reader.specs.Table.{answer_to, command_in, hears, kind_of}
+use Rattle.osdp_reader.specs.Table.{answer_to, command_in, hears, kind_of, new_address}
 
 -- neither BUSY nor a NAK 1 or 4, which say that the command wasn't taken
 abbrev pub IsPlain : Reply → Type 0
 IsPlain reply.Busy = ⊥
 IsPlain (reply.Nak n) = (reason_number n.reason ≢ 1) × (reason_number n.reason ≢ 4)
 IsPlain _ = Unit {0}
+
+-- the packet of a reply to a command: to the address and with the kind of check that the command used, with this number, code
+-- and data, and neither a security block nor reserved bits
+pub record RepliesTo (p : Packet) (number : ℕ) (said : List ℕ) (q : Packet) : Type 0 where
+  pub reply : q.reply ≡ true
+  pub address : q.address ≡ p.address
+  pub sequence : q.sequence ≡ number
+  pub check : q.check ≡ p.check
+  pub block : q.block ≡ false
+  pub reserved : q.reserved ≡ 0
+  pub body : q.body ≡ said
+
+-- the packet of each reply
+abbrev pub RepliesToItsCommand : Type 0
+RepliesToItsCommand = (p : Packet) (number : ℕ) (r : Reply)
+    → RepliesTo p number (reply_code r ∷ reply_data r) (reply_packet p number r)
+
+-- there is a reply, and it is this one
+abbrev pub IsAnswered : Option Packet → Packet → ℕ → List ℕ → Type 0
+IsAnswered None p number said = ⊥
+IsAnswered (Some q) p number said = RepliesTo p number said q
+
+-- a code and one byte of data: NAK with its reason; and a code alone: BUSY
+abbrev pub nak_body : ℕ → List ℕ
+nak_body reason = 65 ∷ reason ∷ []
+
+abbrev pub busy_body : List ℕ
+busy_body = 121 ∷ []
 
 -- one packet, or none, is the same bytes each time
 abbrev pub HasOneSpelling : Type 0
@@ -37,6 +66,11 @@ module _ {H : Type 0} where
   -- its address is a device's
   abbrev pub HasDeviceAddress : ReaderState H → Type 0
   HasDeviceAddress r = r.config.address ≤ 126
+
+  -- a command comes to this reader
+  pub record ComesTo (r : ReaderState H) (p : Packet) : Type 0 where
+    pub command : p.reply ≡ false
+    pub here : (p.address ≡ r.config.address) ⊎ (p.address ≡ 127)
 
   module _ (answer_of : H → Command → Answer) (after : H → Command → H) where
     -- a packet with the number of the last command, which isn't 0, changes nothing, so that no command reaches the
@@ -110,3 +144,34 @@ module _ {H : Type 0} where
         → take (k + 1) commands ≡ take (k + 1) others
         → slice_get (answers answer_of after config handler commands) k
         ≡ slice_get (answers answer_of after config handler others) k
+
+    -- a reader that isn't busy takes the number behind the last one, and no other but 0
+    abbrev pub TakesNext : Type 0
+    TakesNext = (r : ReaderState H) (p : Packet) → (kind_of r p ≡ Taken)
+        ↔ (ComesTo r p × (p.block ≡ false) × (r.busy ≡ false) × (p.sequence ≢ 0)
+        × ((n : ℕ) × (r.last ≡ Some n) × (p.sequence ≡ next_sequence n)))
+
+    -- a security block is refused with NAK 5 and its number, and nothing changes
+    abbrev pub RefusesBlocks : Type 0
+    RefusesBlocks = (r : ReaderState H) (p : Packet) → ComesTo r p → p.block ≡ true
+        → IsAnswered (hears answer_of after r p).reply p p.sequence (nak_body 5)
+        × ((hears answer_of after r p).reader ≡ r)
+
+    -- a busy reader answers a command with a number to be taken by BUSY with number 0, and nothing changes
+    abbrev pub SaysBusy : Type 0
+    SaysBusy = (r : ReaderState H) (p : Packet) → ComesTo r p → p.block ≡ false → r.busy ≡ true → p.sequence ≡ 0
+        → IsAnswered (hears answer_of after r p).reply p 0 busy_body
+        × ((hears answer_of after r p).reader ≡ r)
+
+    -- a number out of turn is refused with NAK 4 and that number, and nothing changes
+    abbrev pub RefusesNumbers : Type 0
+    RefusesNumbers = (r : ReaderState H) (p : Packet) → kind_of r p ≡ Wrong
+        → IsAnswered (hears answer_of after r p).reply p p.sequence (nak_body 4)
+        × ((hears answer_of after r p).reader ≡ r)
+
+    -- behind an accepted COMSET to another address nothing that was said before counts
+    abbrev pub ForgetsWhereItMoves : Type 0
+    ForgetsWhereItMoves = (r : ReaderState H) (p : Packet) (address : ℕ) (command : Command)
+        → (hears answer_of after r p).command ≡ Some command → new_address command ≡ Some address → address ≢ r.config.address
+        → ((hears answer_of after r p).reader.config.address ≡ address)
+        × ((hears answer_of after r p).reader.last ≡ None) × ((hears answer_of after r p).reader.stored ≡ None)

@@ -1,7 +1,7 @@
 //! What the reader's table means, said apart from how it is computed. The functions do nothing: their contracts are laws,
 //! and hold whatever the handler does.
 
-ghost use Rattle.osdp_reader.specs.Laws.{ActsAtZero, ActsOnce, AnswersByWhatCame, AnswersInOrder, AnswersPlainly, AnswersTaken, HasOneSpelling, HasRoom, HearsItsAddress, IsKept, KeepsReply, LosesNoEvent, RepeatsItsReply, StaysADevice};
+ghost use Rattle.osdp_reader.specs.Laws.{ActsAtZero, ActsOnce, AnswersByWhatCame, AnswersInOrder, AnswersPlainly, AnswersTaken, ForgetsWhereItMoves, HasOneSpelling, HasRoom, HearsItsAddress, IsKept, KeepsReply, LosesNoEvent, RefusesBlocks, RefusesNumbers, RepeatsItsReply, RepliesToItsCommand, SaysBusy, TakesNext, StaysADevice};
 
 use crate::handler::Handler;
 
@@ -53,4 +53,27 @@ pub fn stays_well<H: Handler>()
 pub fn answers_in_order<H: Handler>()
     ensures order { AnswersInOrder H.answer_of H.after }
     ensures before { AnswersByWhatCame H.answer_of H.after }
+{}
+
+/// Each reply goes to the address and with the kind of check that its command used, without reserved bits.
+pub fn replies_to_its_command()
+    ensures { RepliesToItsCommand }
+{}
+
+/// A reader that isn't busy takes the number behind the last one, and, but for 0, no other.
+pub fn takes_the_next_number<H: Handler>()
+    ensures { TakesNext H.answer_of H.after }
+{}
+
+/// What cannot be taken is answered and changes nothing: a security block by NAK 5, a number out of turn by NAK 4, and
+/// number 0 while the reader is busy by BUSY.
+pub fn refuses_and_keeps_all<H: Handler>()
+    ensures blocks { RefusesBlocks H.answer_of H.after }
+    ensures numbers { RefusesNumbers H.answer_of H.after }
+    ensures busy { SaysBusy H.answer_of H.after }
+{}
+
+/// A reader that a COMSET moves has no last number and no stored reply at its new address.
+pub fn forgets_where_it_moves<H: Handler>()
+    ensures { ForgetsWhereItMoves H.answer_of H.after }
 {}
