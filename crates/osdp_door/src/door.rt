@@ -1,7 +1,8 @@
 //! The door.
 
-ghost use Rattle.std.specs.Prelude.{◌≡◌, ◌<◌, ◌≤◌, IfOk, length};
+ghost use Rattle.std.specs.Prelude.{◌≡◌, ◌↔◌, ◌<◌, ◌≤◌, IfOk, IsErrOf, length};
 ghost use Rattle.osdp_reader.specs.State.{new_reader};
+ghost use Rattle.osdp_reader.specs.declared.fault.ReaderFault.TheVariants.{OutOfRange};
 ghost use Rattle.osdp_door.specs.DoorRules.{all_known, color_behind, closed_door, is_known, outputs_behind, switched};
 
 use arrayvec::ArrayVec;
@@ -141,7 +142,8 @@ impl Handler for Door {
 
 /// A reader at a door, as a device makes it once.
 pub fn new_reader(alloc: Global, config: ReaderConfig) -> Result<Reader<Door>, ReaderFault>
-    ensures { IfOk result (λ r. r ≡ new_reader config closed_door 64) }
+    ensures made { IfOk result (λ r. r ≡ new_reader config closed_door 64) }
+    ensures range { IsErrOf result OutOfRange ↔ (126 < config.address) }
 {
     Reader::new(alloc, config, Door::new(), EVENTS)
 }
