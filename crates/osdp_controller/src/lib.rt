@@ -24,6 +24,3 @@ pub use controller::Controller;
 pub use fault::ControllerFault;
 pub use report::{LostCause, Report};
 pub use step::Step;
-
-#[cfg(test)]
-mod tests;

@@ -28,6 +28,3 @@ pub use item::Item;
 pub use read::{ReadItem, read_at, whole_item};
 pub use seq::Seq;
 pub use view::FrameView;
-
-#[cfg(test)]
-mod tests;

@@ -42,6 +42,3 @@ pub use outputs::{OutputRecord, Outputs};
 pub use raw::Raw;
 pub use reply::Reply;
 pub use reply_fields::{Formatted, Keypad, LocalState, Nak, PdCap, PdId};
-
-#[cfg(test)]
-mod tests;

@@ -22,6 +22,3 @@ pub use handler::{Answer, Handler};
 pub use kind::Kind;
 pub use reader::Reader;
 pub use response::Response;
-
-#[cfg(test)]
-mod tests;

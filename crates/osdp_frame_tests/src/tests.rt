@@ -1,7 +1,7 @@
 //! Vectors from outside, and each call once.
 
-use super::*;
 use arrayvec::ArrayVec;
+use osdp_frame::*;
 use std::process::Abort;
 
 /// A POLL to address 0 with a checksum.

@@ -1,5 +1,5 @@
 //! Vectors and refusals, worked by hand from the tables of the standard.
-use super::*;
+use osdp_msg::*;
 use std::alloc::{AllocError, Global};
 use std::process::Abort;
 use std::test::Fail;

@@ -3,10 +3,10 @@
 mod answers;
 mod damage;
 
-use super::*;
 use arrayvec::ArrayVec;
 use osdp_frame::{Address, Framer, Item, ReadItem, read_at};
 use osdp_msg::{Capability, Event, Keypad, NakReason, PdCap, PdId};
+use osdp_reader::*;
 use std::alloc::Global;
 use std::mem;
 use std::process::Abort;

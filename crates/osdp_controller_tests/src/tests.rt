@@ -1,6 +1,6 @@
 //! Rows from outside, each call with ample memory, and frames of a peer that is not honest.
 
-use super::*;
+use osdp_controller::*;
 use osdp_frame::{Address, CheckKind, Framer, Item};
 use osdp_msg::{Command, Reply};
 use std::alloc::Global;
