@@ -1,8 +1,10 @@
 -- What a line says, in its own words.
-use Rattle.std.specs.Prelude.{◌≡◌, ◌↔◌, ◌⊎◌, ℕ, ◌/◌, ◌%◌, List, [], ◌∷◌, Some}
+use Rattle.std.specs.Prelude.{◌≡◌, ◌≢◌, ◌↔◌, ◌⊎◌, ℕ, ◌+◌, ◌/◌, ◌%◌, List, [], ◌∷◌, ◌++◌, length, Some, None}
+use Rattle.std.specs.List.{AllByRecursion}
 use Rattle.hex.specs.Hex.{hex_digit_value}
 use Rattle.osdp_input.specs.Cut.{IsCut, ended_lines, unended_line}
 use Rattle.osdp_input.specs.Line.{kept, line_bytes}
+use Rattle.osdp_input.specs.Runs.{bad_line}
 
 -- the characters begin with a #
 abbrev pub IsComment : List ℕ → Type 0
@@ -28,3 +30,22 @@ pub record OneCut : Type 0 where
   pub some : (bytes : List ℕ) → IsCut bytes (ended_lines bytes) (unended_line bytes)
   pub one : (bytes : List ℕ) (lines : List (List ℕ)) (rest : List ℕ) → IsCut bytes lines rest
       → (ended_lines bytes ≡ lines) × (unended_line bytes ≡ rest)
+
+-- the line says something
+abbrev pub IsGood : List ℕ → Type 0
+IsGood line = line_bytes line ≢ None
+
+-- the line of this number, counted from 1, is bad, and all above it are good
+pub record IsFirstBad (lines : List (List ℕ)) (number : ℕ) : Type 0 where
+  pub above : List (List ℕ)
+  pub line : List ℕ
+  pub below : List (List ℕ)
+  pub whole : lines ≡ above ++ line ∷ below
+  pub good : AllByRecursion IsGood above
+  pub bad : line_bytes line ≡ None
+  pub place : number ≡ length above + 1
+
+-- the number that is told is that of the first bad line, and none is told where all lines are good
+pub record OneFirstBad : Type 0 where
+  pub some : (lines : List (List ℕ)) (number : ℕ) → (bad_line 1 lines ≡ Some number) ↔ IsFirstBad lines number
+  pub none : (lines : List (List ℕ)) → (bad_line 1 lines ≡ None) ↔ AllByRecursion IsGood lines
