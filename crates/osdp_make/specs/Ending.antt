@@ -17,6 +17,12 @@ Order given o = OrderFits o × AllStandFor (order_words o) given
 abbrev pub OrderNone : List (List ℕ) → Type 0
 OrderNone given = (o : PacketOrder) → Order given o → ⊥
 
+-- the words order a packet, and nothing was printed
+pub record Unprinted (given : List (List ℕ)) (before after : Option (List ℕ)) : Type 0 where
+  pub order : PacketOrder
+  pub ordered : Order given order
+  pub kept : Keeps before after
+
 -- the packet that the words order was printed on one line
 pub record Printed (given : List (List ℕ)) (before after : Option (List ℕ)) : Type 0 where
   pub order : PacketOrder
@@ -28,7 +34,7 @@ abbrev pub Ends : List (List ℕ) → Option (List ℕ) → Option (List ℕ) �
 Ends given before after failed (Ok done) = Printed given before after × (failed ≡ false)
 Ends given before after failed (Err BadWords) = OrderNone given × Keeps before after × (failed ≡ false)
 Ends given before after failed (Err WriteFailed) = failed ≡ true
-Ends given before after failed (Err NoMemory) = Keeps before after × (failed ≡ false)
+Ends given before after failed (Err NoMemory) = Unprinted given before after × (failed ≡ false)
 Ends given before after failed (Err (NotHex line)) = ⊥
 Ends given before after failed (Err TooLong) = ⊥
 Ends given before after failed (Err (BadStep line)) = ⊥

@@ -1,2 +1,3 @@
 pub mod PacketOrder
 pub mod Ending
+pub mod Laws
