@@ -1,7 +1,10 @@
 //! What is printed, in the words of captures. The functions have no code: each states a law for all inputs,
 //! and its proof is the law's.
 
+ghost use Rattle.std.specs.Prelude.{◌≡◌};
 ghost use Rattle.osdp_tool.specs.Told.{ShowsReadings, ShowsDecided};
+
+use crate::commands::LIMIT;
 
 /// The text of an input is that of the readings of its runs, each item one line with the number of its run and
 /// its place; in `check` the refusals alone, and the counts.
@@ -12,4 +15,9 @@ pub fn shows_readings()
 /// The text of an input that is cut off is that of the items which its bytes decide.
 pub fn shows_decided()
     ensures { ShowsDecided }
+{}
+
+/// At most 67,108,864 bytes of an input are read.
+pub fn reads_64_mebibytes()
+    ensures { LIMIT ≡ 67108864 }
 {}

@@ -8,7 +8,7 @@ mod reading;
 mod report;
 mod runs;
 
-pub use commands::{check, show};
+pub use commands::{LIMIT, check, show};
 pub use osdp_job::{Job, Mode, job};
 pub use osdp_make::make;
 pub use osdp_stream::{ToolFault, Watched};

@@ -1,3 +1,4 @@
+mod failures;
 mod rows;
 mod streams;
 mod vectors;

@@ -11,11 +11,11 @@ use std::test::Fail;
 
 /// A reader of these bytes, a few at a time. Its call of one number, counted from 1, fails.
 #[derive(Drop)]
-struct Pieces<'a> {
-    left: &'a [u8],
-    most: usize,
-    calls: u64,
-    failing_call: u64,
+pub struct Pieces<'a> {
+    pub left: &'a [u8],
+    pub most: usize,
+    pub calls: u64,
+    pub failing_call: u64,
 }
 
 impl Read for Pieces<'_> {
@@ -35,8 +35,8 @@ impl Read for Pieces<'_> {
 /// A writer of at most three bytes a call. Its write of one number, counted from 1, takes none, or fails; and
 /// its flushes fail where that is wanted.
 #[derive(Drop)]
-struct Sink {
-    taken: Vec<u8>,
+pub struct Sink {
+    pub taken: Vec<u8>,
     calls: u64,
     failing_call: u64,
     takes_none: bool,
@@ -67,7 +67,7 @@ impl Write for Sink {
     }
 }
 
-fn make_sink(alloc: Global, failing_call: u64, takes_none: bool, flush_fails: bool) -> Sink {
+pub fn make_sink(alloc: Global, failing_call: u64, takes_none: bool, flush_fails: bool) -> Sink {
     Sink {
         taken: Vec::new(alloc),
         calls: 0,
@@ -124,24 +124,6 @@ fn failed_reads_are_told(rt: HostRuntime) -> Result<(), Fail> {
         &shown_until(alloc, LINES, POLL_LINE.as_bytes(), 4, 8),
         Ok(false),
         POLL_TEXT,
-    );
-    Ok(())
-}
-
-#[test]
-fn checks_of_failed_reads_have_no_counts(rt: HostRuntime) -> Result<(), Fail> {
-    let alloc = rt.alloc();
-    let mut input = Pieces {
-        left: b"53000700006047\nFF\n",
-        most: 15,
-        calls: 0,
-        failing_call: 2,
-    };
-    expect(
-        &rt,
-        &checked_from(alloc, LINES, &mut input),
-        Err(ToolFault::ReadFailed),
-        "1:0 refused F3\n",
     );
     Ok(())
 }

@@ -1,0 +1,138 @@
+//! A read and a write that fail at each call in turn, in both commands and all forms of input.
+
+use super::streams::{Pieces, make_sink};
+use super::*;
+use std::io;
+use std::test::Fail;
+
+/// A refused packet, and a byte on a line of its own.
+const REFUSED: &[u8] = b"53000700006047\nFF\n";
+
+const REFUSAL: &str = "1:0 refused F3\n";
+
+const COUNTED: &str = "1:0 refused F3\nruns 2 packets 0 skipped 7 refused 1\n";
+
+/// A byte that is skipped, and a packet.
+const SKIPPED: &[u8] = &[0xFF, 0x53, 0x00, 0x07, 0x00, 0x00, 0x60, 0x46];
+
+/// These parts, one a read, and then a read that fails.
+#[derive(Drop)]
+struct Parts<'a> {
+    left: &'a [&'a [u8]],
+}
+
+impl Read for Parts<'_> {
+    fn read(&mut self, buf: &mut [u8]) -> io::Result<usize> {
+        let [part, left @ ..] = self.left else {
+            return Err(io::Error::other("refused"));
+        };
+        let count = part.len().min(buf.len());
+        buf[..count].copy_from_slice(&part[..count]);
+        self.left = left;
+        Ok(count)
+    }
+}
+
+/// The bytes one a read, until the read of this number fails.
+fn one_a_read(bytes: &[u8], failing_call: u64) -> Pieces<'_> {
+    Pieces {
+        left: bytes,
+        most: 1,
+        calls: 0,
+        failing_call,
+    }
+}
+
+#[test]
+fn a_check_tells_each_failed_read(rt: HostRuntime) -> Result<(), Fail> {
+    let alloc = rt.alloc();
+    // The first line feed is the 15th byte; the 19th read would find the end.
+    for call in 1..20u64 {
+        let shown = checked_from(alloc, LINES, &mut one_a_read(REFUSED, call));
+        let text = if call < 16 { "" } else { REFUSAL };
+        expect(&rt, &shown, Err(ToolFault::ReadFailed), text);
+    }
+    let shown = checked_from(alloc, LINES, &mut one_a_read(REFUSED, 20));
+    expect(&rt, &shown, Ok(true), COUNTED);
+    Ok(())
+}
+
+#[test]
+fn raw_bytes_are_shown_up_to_each_failed_read(rt: HostRuntime) -> Result<(), Fail> {
+    let alloc = rt.alloc();
+    let both = "1:0 skip FF\n1:1 cmd 0 seq 0 sum POLL\n";
+    // The skipped byte is the first, the packet's last byte the eighth.
+    for call in 1..10u64 {
+        let shown = shown_from(alloc, RAW, &mut one_a_read(SKIPPED, call));
+        let text = match call {
+            1 => "",
+            9 => both,
+            _ => "1:0 skip FF\n",
+        };
+        expect(&rt, &shown, Err(ToolFault::ReadFailed), text);
+    }
+    let shown = shown_from(alloc, RAW, &mut one_a_read(SKIPPED, 10));
+    expect(&rt, &shown, Ok(false), both);
+    Ok(())
+}
+
+#[test]
+fn joined_lines_are_shown_up_to_each_failed_read(rt: HostRuntime) -> Result<(), Fail> {
+    let alloc = rt.alloc();
+    let lines = b"5300\n0700006046\n";
+    // The packet is whole once its second line has ended, with the 16th byte.
+    for call in 1..18u64 {
+        let shown = shown_from(alloc, JOINED, &mut one_a_read(lines, call));
+        let text = if call < 17 { "" } else { POLL_TEXT };
+        expect(&rt, &shown, Err(ToolFault::ReadFailed), text);
+    }
+    let shown = shown_from(alloc, JOINED, &mut one_a_read(lines, 18));
+    expect(&rt, &shown, Ok(false), POLL_TEXT);
+    Ok(())
+}
+
+#[test]
+fn parts_are_shown_up_to_a_failed_read(rt: HostRuntime) -> Result<(), Fail> {
+    let alloc = rt.alloc();
+    let parts: [&[u8]; 2] = [&[0xFF], &[0x53, 0x00]];
+    let shown = shown_from(alloc, RAW, &mut Parts { left: &parts });
+    expect(&rt, &shown, Err(ToolFault::ReadFailed), "1:0 skip FF\n");
+    Ok(())
+}
+
+/// The output of a check whose write of this number fails, and what it answers.
+fn checked_to(alloc: Global, failing_call: u64, takes_none: bool) -> Shown {
+    let mut sink = make_sink(alloc, failing_call, takes_none, false);
+    let mut input = REFUSED;
+    let answer = check(
+        alloc,
+        LINES,
+        &mut Watched::new(&mut input),
+        &mut Watched::new(&mut sink),
+    );
+    (answer, sink.taken)
+}
+
+#[test]
+fn a_check_tells_each_failed_write(rt: HostRuntime) -> Result<(), Fail> {
+    let alloc = rt.alloc();
+    // The text has 52 bytes, for which 18 writes of at most three are needed.
+    for call in 1..19u64 {
+        for takes_none in [false, true] {
+            let (answer, taken) = checked_to(alloc, call, takes_none);
+            assert_eq!(rt; answer, Err(ToolFault::WriteFailed));
+            assert!(rt; COUNTED.as_bytes().starts_with(taken.as_slice()));
+        }
+    }
+    expect(&rt, &checked_to(alloc, 19, false), Ok(true), COUNTED);
+    Ok(())
+}
+
+#[test]
+fn a_comment_is_counted_as_a_line(rt: HostRuntime) -> Result<(), Fail> {
+    let alloc = rt.alloc();
+    let lines = b"# a capture\n\n5\n";
+    expect_shown(&rt, alloc, LINES, lines, Err(ToolFault::NotHex(3)), "");
+    expect_shown(&rt, alloc, JOINED, lines, Err(ToolFault::NotHex(3)), "");
+    Ok(())
+}
