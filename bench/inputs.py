@@ -35,8 +35,8 @@ parts = {
     "small": small,
     "large": large,
     "noise": noise,
-    "worst-sum": [bytes.fromhex("5305") * 4],
-    "worst-crc": [bytes.fromhex("53535305050504") * 4],
+    "worst-sum": [bytes.fromhex("5305") * 2100],
+    "worst-crc": [bytes.fromhex("53535305050504") * 600],
 }
 for name, pieces in parts.items():
     raw = bytearray()

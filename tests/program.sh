@@ -55,6 +55,9 @@ expect 'a text that is no text' 2 '' "$bad" make 5 1 sum TEXT 0 1 0 1 1 $'\xff' 
 expect 'a directory as input' 3 '' $'osdp: read failed\n' show </
 expect 'a closed input' 3 '' $'osdp: read failed\n' show <&-
 
+expect 'as many bytes as are read' 0 $'runs 1 packets 0 skipped 67108864 refused 0\n' '' check --raw < <(head -c 67108864 /dev/zero)
+expect 'one byte more' 2 '' $'osdp: input too long\n' check --raw < <(head -c 67108865 /dev/zero)
+
 # $1: what is tried; $2: the status that is wanted; $3: standard error; then the words. The output is the
 # caller's.
 expect_status() {
