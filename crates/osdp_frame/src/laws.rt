@@ -7,7 +7,8 @@ ghost use Rattle.osdp_frame.specs.Bytes.{AreBytes};
 ghost use Rattle.osdp_frame.specs.Packet.{IsPacket, Packet};
 ghost use Rattle.osdp_frame.specs.Spelling.{Spells, spelling};
 ghost use Rattle.osdp_frame.specs.Reading.{IsFirst, IsReading, IsUndecided, Part, Stands, Whole, total_size};
-ghost use Rattle.osdp_frame.specs.Held.{decided};
+ghost use Rattle.osdp_frame.specs.Calls.{Call, IsBehind, ReadsOn, Run, no_bytes};
+ghost use Rattle.osdp_frame.specs.Held.{Held, decided, new_run};
 ghost use Rattle.osdp_frame.specs.Items.{Drains, items, left_over, reading};
 
 /// A packet has one spelling, and what is no packet has none.
@@ -88,4 +89,11 @@ pub fn items_taken_off()
     ensures beginning { (bytes more : List ℕ) (parts all : List Part) → AreBytes (bytes ++ more)
         → Drains false bytes parts → IsReading (bytes ++ more) all
         → (others : List Part) × (all ≡ parts ++ others) }
+{}
+
+/// Whatever is called: what is held stands behind the items that were taken off the run, until the run is over.
+/// Its items are then its one reading, and a new run begins.
+pub fn reads_on()
+    ensures new { IsBehind new_run no_bytes }
+    ensures behind { (call : Call) (held : Held) (run : Run) → IsBehind held run → AreBytes run.bytes → ReadsOn call held run }
 {}
