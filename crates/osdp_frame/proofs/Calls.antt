@@ -1,20 +1,23 @@
 -- Each call of a framer reads on in its run.
-use Rattle.std.specs.Prelude.{IsTrue, if◌then◌else◌, min}
-use Rattle.std.proofs.Common.{◌≡◌, ◌≢◌, ℕ, zero, suc, ◌+◌, ◌-◌, ◌<◌, ◌≤◌, Bool, true, false, not, ◌&&◌, eqb, List, [], ◌∷◌, ◌++◌, length, take, drop, Option, Some, None, option_to_list, refl, sym, ap, subst, ◌∙◌, append_assoc, arith, inl, inr}
+use Rattle.std.specs.List.{flat_map}
+use Rattle.std.specs.Prelude.{All, IsTrue, if◌then◌else◌, min}
+use Rattle.std.proofs.Common.{◌≡◌, ℕ, zero, suc, ◌+◌, ◌-◌, ◌<◌, ◌≤◌, Bool, true, false, not, ◌&&◌, eqb, List, [], ◌∷◌, ◌++◌, length, take, drop, Option, Some, None, option_to_list, refl, sym, ap, subst, ◌∙◌, append_assoc, arith}
 use Rattle.std.proofs.lemmas.Bool.{false≢true, eqb-true, eq-eqb}
 use Rattle.std.proofs.lemmas.Bool.Decides.{nat_tests}
-use Rattle.std.proofs.lemmas.List.{length-append, length-drop, append-nil, drop-append-le, drop-drop}
+use Rattle.std.proofs.lemmas.List.{length-append, length-drop, append-nil, drop-append-le, drop-drop, length-take-le}
+use Rattle.std.proofs.lemmas.List.Elements.{All-nil, All-cons, All-head, All-tail}
 use Rattle.osdp_frame.specs.Bytes.{AreBytes}
 use Rattle.osdp_frame.specs.Packet.{largest}
 use Rattle.osdp_frame.specs.Reading.{Part, part_size, total_size, Stands, IsReading, IsFirst}
 use Rattle.osdp_frame.specs.Items.{reading}
-use Rattle.osdp_frame.specs.Held.{Held, after_advance, after_gap, after_push, behind, behind_first, decided, new_run, taken_count}
-use Rattle.osdp_frame.specs.Calls.{Call, Push, Gap, Advance, IsBehind, ReadsOn, Run, after_call, is_over, no_bytes, run_behind}
-use Rattle.osdp_frame.proofs.Head.{AreBytes-drop}
-use Rattle.osdp_frame.proofs.Decided.{first_decided, stands_first}
-use Rattle.osdp_frame.proofs.Readings.{is_reading, part_size-Stands, sizes_reading}
+use Rattle.osdp_frame.specs.Held.{Held, after_gap, after_push, behind_first, decided, new_run, taken_count}
+use Rattle.osdp_frame.specs.Calls.{Call, Push, Gap, Advance, IsBehind, IsOfBytes, IsRead, ReadsEachRun, ReadsOn, Run, after_call, after_calls, bytes_taken, empty_run, is_over, items_taken, last_run, run_behind, runs_over}
+use Rattle.osdp_frame.proofs.Head.{AreBytes-drop, AreBytes-take}
+use Rattle.osdp_frame.proofs.Decided.{first_decided, stands_first, undecided_none}
+use Rattle.osdp_frame.proofs.LawsOfSpellings.{AreBytes-append, AreBytes-nil}
+use Rattle.osdp_frame.proofs.Readings.{AreBytes-front, is_reading, one_reading, part_size-Stands, sizes_reading, undecided_ended, undecided_small}
 
-pub new_behind : IsBehind new_run no_bytes
+pub new_behind : IsBehind new_run empty_run
 new_behind = record { ended = refl; over = refl; left = refl; reads = λ more others none r. r }
 
 pub total_size-append : (xs ys : List Part) → total_size (xs ++ ys) ≡ total_size xs + total_size ys
@@ -174,3 +177,179 @@ pub reads_on : (call : Call) (held : Held) (run : Run) → IsBehind held run →
 reads_on (Push given) held run b fits = push_reads given held run b fits
 reads_on Gap held run b fits = gap_reads held run b fits
 reads_on Advance held run b fits = advance_reads held run b fits
+
+-- ---- one call behind the other
+
+AreBytes-taken : (call : Call) (held : Held) (run : Run) → IsOfBytes call → AreBytes run.bytes → AreBytes (run_behind call held run).bytes
+AreBytes-taken (Push given) held run given_fit fits =
+    AreBytes-append run.bytes (take (taken_count held given) given) fits (AreBytes-take (taken_count held given) given given_fit)
+AreBytes-taken Gap held run given_fit fits = fits
+AreBytes-taken Advance held run given_fit fits = fits
+
+-- the same from each place
+record ReadsFrom (calls : List Call) (held : Held) (run : Run) : Type 0 where
+  over : All IsRead (runs_over calls held run)
+  last : IsBehind (after_calls calls held) (last_run calls held run)
+
+-- behind the first call the run is over, or goes on
+reads_first : (call : Call) (calls : List Call) (held : Held) (run : Run) → ReadsOn call held run → AreBytes (run_behind call held run).bytes
+    → ((later : Held) (next : Run) → IsBehind later next → AreBytes next.bytes → ReadsFrom calls later next) → ReadsFrom (call ∷ calls) held run
+reads_first call calls held run here fits from =
+    let both = by_end (is_over (run_behind call held run)) refl in
+    record { over = both.0; last = both.1 }
+  where
+    next : Run
+    next = run_behind call held run
+
+    later : Held
+    later = after_call call held
+
+    Reads : Bool → Type 0
+    Reads t =
+        All IsRead ((if t then next ∷ [] else []) ++ runs_over calls later (if t then empty_run else next))
+        × IsBehind (after_calls calls later) (last_run calls later (if t then empty_run else next))
+
+    by_end : (t : Bool) → is_over next ≡ t → Reads t
+    by_end true is =
+        let tail : ReadsFrom calls later empty_run = subst (λ h. ReadsFrom calls h empty_run) (sym (here.new is)) (from new_run empty_run new_behind AreBytes-nil) in
+        (All-cons IsRead next (runs_over calls later empty_run) (here.over is) tail.over, tail.last)
+    by_end false is =
+        let tail = from later next (here.on is) fits in
+        (tail.over, tail.last)
+
+reads_from : (calls : List Call) (held : Held) (run : Run) → All IsOfBytes calls → IsBehind held run → AreBytes run.bytes → ReadsFrom calls held run
+reads_from [] held run of_bytes b fits = record { over = All-nil _; last = b }
+reads_from (call ∷ calls) held run of_bytes b fits =
+    reads_first call calls held run (reads_on call held run b fits) (AreBytes-taken call held run (All-head IsOfBytes call calls of_bytes) fits)
+    (λ later next is fit. reads_from calls later next (All-tail IsOfBytes call calls of_bytes) is fit)
+
+-- what each call adds to its run is what all of them add to their runs
+parts_of_runs : {X : Type 0} (of : Run → List X) (by : Call → Held → List X) (by_calls : List Call → Held → List X)
+    → of empty_run ≡ [] → ((call : Call) (held : Held) (run : Run) → of (run_behind call held run) ≡ of run ++ by call held)
+    → ((held : Held) → by_calls [] held ≡ [])
+    → ((call : Call) (calls : List Call) (held : Held) → by_calls (call ∷ calls) held ≡ by call held ++ by_calls calls (after_call call held))
+    → (calls : List Call) (held : Held) (run : Run) → flat_map of (runs_over calls held run) ++ of (last_run calls held run) ≡ of run ++ by_calls calls held
+parts_of_runs of by by_calls empty step none some [] held run = sym (ap (λ l. of run ++ l) (none held) ∙ append-nil (of run))
+parts_of_runs of by by_calls empty step none some (call ∷ calls) held run =
+    by_end (is_over (run_behind call held run)) (λ next. parts_of_runs of by by_calls empty step none some calls (after_call call held) next)
+    ∙ ap (λ l. l ++ by_calls calls (after_call call held)) (step call held run)
+    ∙ append_assoc (of run) (by call held) (by_calls calls (after_call call held))
+    ∙ ap (λ l. of run ++ l) (sym (some call calls held))
+  where
+    next : Run
+    next = run_behind call held run
+
+    later : Held
+    later = after_call call held
+
+    by_end : (t : Bool) → ((next : Run) → flat_map of (runs_over calls later next) ++ of (last_run calls later next) ≡ of next ++ by_calls calls later)
+        → flat_map of ((if t then next ∷ [] else []) ++ runs_over calls later (if t then empty_run else next)) ++ of (last_run calls later (if t then empty_run else next))
+        ≡ of next ++ by_calls calls later
+    by_end true tail =
+        append_assoc (of next) (flat_map of (runs_over calls later empty_run)) (of (last_run calls later empty_run))
+        ∙ ap (λ l. of next ++ l) (tail empty_run ∙ ap (λ l. l ++ by_calls calls later) empty)
+    by_end false tail = tail next
+
+taken_in : Call → Held → List ℕ
+taken_in (Push given) held = take (taken_count held given) given
+taken_in Gap held = []
+taken_in Advance held = []
+
+taken_in-run : (call : Call) (held : Held) (run : Run) → (run_behind call held run).bytes ≡ run.bytes ++ taken_in call held
+unfolding taken_in
+taken_in-run (Push given) held run = refl
+taken_in-run Gap held run = sym (append-nil run.bytes)
+taken_in-run Advance held run = sym (append-nil run.bytes)
+
+taken_in-calls : (call : Call) (calls : List Call) (held : Held) → bytes_taken (call ∷ calls) held ≡ taken_in call held ++ bytes_taken calls (after_call call held)
+unfolding taken_in
+taken_in-calls (Push given) calls held = refl
+taken_in-calls Gap calls held = refl
+taken_in-calls Advance calls held = refl
+
+taken_off : Call → Held → List Part
+taken_off (Push given) held = []
+taken_off Gap held = []
+taken_off Advance held = option_to_list (decided held.ended held.bytes)
+
+taken_off-run : (call : Call) (held : Held) (run : Run) → (run_behind call held run).parts ≡ run.parts ++ taken_off call held
+unfolding taken_off
+taken_off-run (Push given) held run = sym (append-nil run.parts)
+taken_off-run Gap held run = sym (append-nil run.parts)
+taken_off-run Advance held run = refl
+
+taken_off-calls : (call : Call) (calls : List Call) (held : Held) → items_taken (call ∷ calls) held ≡ taken_off call held ++ items_taken calls (after_call call held)
+unfolding taken_off
+taken_off-calls (Push given) calls held = refl
+taken_off-calls Gap calls held = refl
+taken_off-calls Advance calls held = refl
+
+pub reads_each_run : (calls : List Call) → All IsOfBytes calls → ReadsEachRun calls
+reads_each_run calls of_bytes =
+    let from = reads_from calls new_run empty_run of_bytes new_behind AreBytes-nil in record {
+      bytes = parts_of_runs (λ run. run.bytes) taken_in bytes_taken refl taken_in-run (λ held. refl) taken_in-calls calls new_run empty_run;
+      items = parts_of_runs (λ run. run.parts) taken_off items_taken refl taken_off-run (λ held. refl) taken_off-calls calls new_run empty_run;
+      over = from.over;
+      last = from.last;
+    }
+
+-- ---- what a run may become
+
+pub items_begin : (held : Held) (run : Run) (more : List ℕ) (all : List Part) → IsBehind held run → AreBytes (run.bytes ++ more)
+    → (IsTrue run.ended → more ≡ []) → IsReading (run.bytes ++ more) all
+    → (others : List Part) × (all ≡ run.parts ++ others) × IsReading (held.bytes ++ more) others
+items_begin held run more all b fits nothing r =
+    let front = AreBytes-front run.bytes more fits in
+    let left : drop (total_size run.parts) (run.bytes ++ more) ≡ held.bytes ++ more =
+    drop-append-le (total_size run.parts) run.bytes more (within held run b front) ∙ ap (λ l. l ++ more) (sym b.left) in
+    let bytes : AreBytes (held.bytes ++ more) = subst (λ l. AreBytes l) left (AreBytes-drop (total_size run.parts) (run.bytes ++ more) fits) in
+    let others = reading (held.bytes ++ more) in
+    let there : IsReading (held.bytes ++ more) others = is_reading (held.bytes ++ more) bytes in
+    (others, one_reading (run.bytes ++ more) all (run.parts ++ others) r (b.reads more others nothing there), there)
+
+-- ---- how many bytes are taken
+
+pub count_within : (held : Held) (given : List ℕ) → taken_count held given ≤ length given
+count_within held given = by_end held.ended
+  where
+    by_end : (e : Bool) → (if e then 0 else min (length given) (largest - length held.bytes)) ≤ length given
+    by_end true = omega arith
+    by_end false = omega arith
+
+length-pushed : (held : Held) (given : List ℕ) → length (after_push held given).bytes ≡ length held.bytes + taken_count held given
+length-pushed held given =
+    omega (arith, length-append held.bytes (take (taken_count held given) given), length-take-le (taken_count held given) given (count_within held given))
+
+count_fits : (held : Held) (given : List ℕ) → length held.bytes ≤ largest → length held.bytes + taken_count held given ≤ largest
+count_fits held given room = by_end held.ended
+  where
+    by_end : (e : Bool) → length held.bytes + (if e then 0 else min (length given) (largest - length held.bytes)) ≤ largest
+    by_end true = omega arith
+    by_end false = omega arith
+
+pub keeps_room : (call : Call) (held : Held) → length held.bytes ≤ largest → length (after_call call held).bytes ≤ largest
+keeps_room (Push given) held room = omega (arith, length-pushed held given, count_fits held given room)
+keeps_room Gap held room = room
+keeps_room Advance held room = by_item (decided held.ended held.bytes)
+  where
+    by_item : (o : Option Part) → length (behind_first held o).bytes ≤ largest
+    by_item None = room
+    by_item (Some part) = omega (arith, length-drop (part_size part) held.bytes)
+
+pub takes_all : (held : Held) (given : List ℕ) → held.ended ≡ false → length held.bytes ≤ largest → taken_count held given < length given → length (after_push held given).bytes ≡ largest
+takes_all held given on room fewer =
+    let count : taken_count held given ≡ min (length given) (largest - length held.bytes) =
+    ap (λ e. if e then 0 else min (length given) (largest - length held.bytes)) on in
+    omega (arith, length-pushed held given)
+
+pub takes_some : (held : Held) (run : Run) (b : ℕ) (given : List ℕ) → IsBehind held run → AreBytes run.bytes → decided held.ended held.bytes ≡ None → 0 < taken_count held (b ∷ given)
+takes_some held run b given is fits none = by_end held.ended refl
+  where
+    by_end : (e : Bool) → held.ended ≡ e → 0 < (if e then 0 else min (suc (length given)) (largest - length held.bytes))
+    by_end true ended =
+        let nil = undecided_ended held.bytes (undecided_none true held.bytes (sym (ap (λ e. decided e held.bytes) ended) ∙ none)) in
+        let some = some_left run (length held.bytes) (sym is.ended ∙ ended) is.over (length-held held run is fits) in
+        absurd (omega (arith, ap length nil))
+    by_end false on =
+        let small = undecided_small held.bytes (sym (ap (λ e. decided e held.bytes) on) ∙ none) in
+        omega arith
