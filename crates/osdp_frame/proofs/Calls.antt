@@ -18,7 +18,7 @@ use Rattle.osdp_frame.proofs.LawsOfSpellings.{AreBytes-append, AreBytes-nil}
 use Rattle.osdp_frame.proofs.Readings.{AreBytes-front, is_reading, one_reading, part_size-Stands, sizes_reading, undecided_ended, undecided_small}
 
 pub new_behind : IsBehind new_run empty_run
-new_behind = record { ended = refl; over = refl; left = refl; reads = λ more others none r. r }
+new_behind = record { ended = refl; not_over = refl; left = refl; reads = λ more others none r. r }
 
 pub total_size-append : (xs ys : List Part) → total_size (xs ++ ys) ≡ total_size xs + total_size ys
 total_size-append [] ys = omega arith
@@ -73,7 +73,7 @@ push_never_ends given held run b is =
     let sizes = over_sizes (run_behind (Push given) held run) is in
     let same : run.bytes ++ take (taken_count held given) given ≡ run.bytes =
     ap (λ l. run.bytes ++ l) (nothing_taken held given (b.ended ∙ sizes.0)) ∙ append-nil run.bytes in
-    false≢true (sym b.over ∙ is_over-sizes run sizes.0 (sizes.1 ∙ ap length same))
+    false≢true (sym b.not_over ∙ is_over-sizes run sizes.0 (sizes.1 ∙ ap length same))
 
 push_reads : (given : List ℕ) (held : Held) (run : Run) → IsBehind held run → AreBytes run.bytes → ReadsOn (Push given) held run
 push_reads given held run b fits =
@@ -82,7 +82,7 @@ push_reads given held run b fits =
     record {
       on = λ not_over. record {
         ended = b.ended;
-        over = not_over;
+        not_over = not_over;
         left = ap (λ l. l ++ taken) b.left ∙ sym (drop-append-le (total_size run.parts) run.bytes taken (within held run b fits));
         reads = λ more others none r.
             let whole : IsReading (held.bytes ++ (taken ++ more)) others = subst (λ l. IsReading l others) (append_assoc held.bytes taken more) r in
@@ -112,7 +112,7 @@ gap_reads held run b fits =
     record {
       on = λ not_over. record {
         ended = not_zero (length held.bytes) (some_left next (length held.bytes) refl not_over size);
-        over = not_over;
+        not_over = not_over;
         left = b.left;
         reads = λ more others nothing r. b.reads more others (λ _. nothing refl) r;
       };
@@ -144,7 +144,7 @@ advance_reads held run b fits =
     by_item : (o : Option Part) → decided held.ended held.bytes ≡ o → Reads o
     by_item None is =
         let same : run.parts ++ [] ≡ run.parts = append-nil run.parts in
-        let never : is_over (next None) ≡ true → ⊥ = λ over. false≢true (sym b.over ∙ sym (ap (λ xs. is_over (record run { parts = xs })) same) ∙ over) in (
+        let never : is_over (next None) ≡ true → ⊥ = λ over. false≢true (sym b.not_over ∙ sym (ap (λ xs. is_over (record run { parts = xs })) same) ∙ over) in (
           λ not_over. subst (λ xs. IsBehind held (record run { parts = xs })) (sym same) b,
           λ over. absurd (never over),
           λ over. absurd (never over),
@@ -160,7 +160,7 @@ advance_reads held run b fits =
         let none : is_over (next (Some part)) ≡ true → rest ≡ [] = λ over. nil_of rest (omega (arith, (over_sizes (next (Some part)) over).1)) in (
           λ not_over. record {
             ended = stays_ended held.ended (length rest) (λ e. some_left (next (Some part)) (length rest) (sym b.ended ∙ e) not_over size) ∙ b.ended;
-            over = not_over;
+            not_over = not_over;
             left = ap (drop k) b.left ∙ drop-drop k (total_size run.parts) run.bytes ∙ ap (λ n. drop n run.bytes) total;
             reads = λ more others nothing r.
                 let there : IsReading (drop k (held.bytes ++ more)) others = subst (λ l. IsReading l others) (sym (drop-append-le k held.bytes more short)) r in
@@ -348,7 +348,7 @@ takes_some held run b given is fits none = by_end held.ended refl
     by_end : (e : Bool) → held.ended ≡ e → 0 < (if e then 0 else min (suc (length given)) (largest - length held.bytes))
     by_end true ended =
         let nil = undecided_ended held.bytes (undecided_none true held.bytes (sym (ap (λ e. decided e held.bytes) ended) ∙ none)) in
-        let some = some_left run (length held.bytes) (sym is.ended ∙ ended) is.over (length-held held run is fits) in
+        let some = some_left run (length held.bytes) (sym is.ended ∙ ended) is.not_over (length-held held run is fits) in
         absurd (omega (arith, ap length nil))
     by_end false on =
         let small = undecided_small held.bytes (sym (ap (λ e. decided e held.bytes) on) ∙ none) in

@@ -43,7 +43,7 @@ IsRead run = IsReading run.bytes run.parts
 -- reading is these items and then the reading of what is held with it
 pub record IsBehind (held : Held) (run : Run) : Type 0 where
   pub ended : held.ended ≡ run.ended
-  pub over : is_over run ≡ false
+  pub not_over : is_over run ≡ false
   pub left : held.bytes ≡ drop (total_size run.parts) run.bytes
   pub reads : (more : List ℕ) (others : List Part) → (IsTrue run.ended → more ≡ [])
       → IsReading (held.bytes ++ more) others → IsReading (run.bytes ++ more) (run.parts ++ others)

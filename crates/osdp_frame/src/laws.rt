@@ -95,7 +95,8 @@ pub fn items_taken_off()
 /// Its items are then its one reading, and a new run begins.
 pub fn reads_on()
     ensures new { IsBehind new_run empty_run }
-    ensures behind { (call : Call) (held : Held) (run : Run) → IsBehind held run → AreBytes run.bytes → ReadsOn call held run }
+    ensures behind { (call : Call) (held : Held) (run : Run) → IsBehind held run → AreBytes run.bytes
+        → ReadsOn call held run }
 {}
 
 /// Whatever bytes, gaps and advances come to a new framer: the items of each run that is over are its one reading.
@@ -111,7 +112,8 @@ pub fn reads_each_run()
 /// no item is shown it takes one or more.
 pub fn takes_what_fits()
     ensures count { (held : Held) (given : List ℕ) → taken_count held given ≤ length given }
-    ensures room { (call : Call) (held : Held) → length held.bytes ≤ largest → length (after_call call held).bytes ≤ largest }
+    ensures room { (call : Call) (held : Held) → length held.bytes ≤ largest
+        → length (after_call call held).bytes ≤ largest }
     ensures all { (held : Held) (given : List ℕ) → held.ended ≡ false → length held.bytes ≤ largest
         → taken_count held given < length given → length (after_push held given).bytes ≡ largest }
     ensures some { (held : Held) (run : Run) (b : ℕ) (given : List ℕ) → IsBehind held run → AreBytes run.bytes
