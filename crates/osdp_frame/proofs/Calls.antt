@@ -1,7 +1,7 @@
 -- Each call of a framer reads on in its run.
 use Rattle.std.specs.List.{flat_map}
-use Rattle.std.specs.Prelude.{All, IsTrue, if◌then◌else◌, min}
-use Rattle.std.proofs.Common.{◌≡◌, ℕ, zero, suc, ◌+◌, ◌-◌, ◌<◌, ◌≤◌, Bool, true, false, not, ◌&&◌, eqb, List, [], ◌∷◌, ◌++◌, length, take, drop, Option, Some, None, option_to_list, refl, sym, ap, subst, ◌∙◌, append_assoc, arith}
+use Rattle.std.specs.Prelude.{All, IsTrue, if◌then◌else◌}
+use Rattle.std.proofs.Common.{◌≡◌, ℕ, zero, suc, ◌+◌, ◌<◌, ◌≤◌, Bool, true, false, not, ◌&&◌, eqb, List, [], ◌∷◌, ◌++◌, length, take, drop, Option, Some, None, option_to_list, refl, sym, ap, subst, ◌∙◌, append_assoc, arith}
 use Rattle.std.proofs.lemmas.Bool.{false≢true, eqb-true, eq-eqb}
 use Rattle.std.proofs.lemmas.Bool.Decides.{nat_tests}
 use Rattle.std.proofs.lemmas.List.{length-append, length-drop, append-nil, drop-append-le, drop-drop, length-take-le}
@@ -65,7 +65,7 @@ nil_of (x ∷ l) h = absurd (omega arith)
 -- ---- a push
 
 nothing_taken : (held : Held) (given : List ℕ) → held.ended ≡ true → take (taken_count held given) given ≡ []
-nothing_taken held given is = ap (λ e. take (if e then 0 else min (length given) (largest - length held.bytes)) given) is
+nothing_taken held given is = ap (λ e. take (taken_count (record held { ended = e }) given) given) is
 
 -- it leaves a run that is not over so
 push_never_ends : (given : List ℕ) (held : Held) (run : Run) → IsBehind held run → is_over (run_behind (Push given) held run) ≡ true → ⊥
@@ -312,7 +312,7 @@ items_begin held run more all b fits nothing r =
 pub count_within : (held : Held) (given : List ℕ) → taken_count held given ≤ length given
 count_within held given = by_end held.ended
   where
-    by_end : (e : Bool) → (if e then 0 else min (length given) (largest - length held.bytes)) ≤ length given
+    by_end : (e : Bool) → taken_count (record held { ended = e }) given ≤ length given
     by_end true = omega arith
     by_end false = omega arith
 
@@ -323,7 +323,7 @@ length-pushed held given =
 count_fits : (held : Held) (given : List ℕ) → length held.bytes ≤ largest → length held.bytes + taken_count held given ≤ largest
 count_fits held given room = by_end held.ended
   where
-    by_end : (e : Bool) → length held.bytes + (if e then 0 else min (length given) (largest - length held.bytes)) ≤ largest
+    by_end : (e : Bool) → length held.bytes + taken_count (record held { ended = e }) given ≤ largest
     by_end true = omega arith
     by_end false = omega arith
 
@@ -338,14 +338,13 @@ keeps_room Advance held room = by_item (decided held.ended held.bytes)
 
 pub takes_all : (held : Held) (given : List ℕ) → held.ended ≡ false → length held.bytes ≤ largest → taken_count held given < length given → length (after_push held given).bytes ≡ largest
 takes_all held given on room fewer =
-    let count : taken_count held given ≡ min (length given) (largest - length held.bytes) =
-    ap (λ e. if e then 0 else min (length given) (largest - length held.bytes)) on in
+    let count : taken_count held given ≡ taken_count (record held { ended = false }) given = ap (λ e. taken_count (record held { ended = e }) given) on in
     omega (arith, length-pushed held given)
 
 pub takes_some : (held : Held) (run : Run) (b : ℕ) (given : List ℕ) → IsBehind held run → AreBytes run.bytes → decided held.ended held.bytes ≡ None → 0 < taken_count held (b ∷ given)
 takes_some held run b given is fits none = by_end held.ended refl
   where
-    by_end : (e : Bool) → held.ended ≡ e → 0 < (if e then 0 else min (suc (length given)) (largest - length held.bytes))
+    by_end : (e : Bool) → held.ended ≡ e → 0 < taken_count (record held { ended = e }) (b ∷ given)
     by_end true ended =
         let nil = undecided_ended held.bytes (undecided_none true held.bytes (sym (ap (λ e. decided e held.bytes) ended) ∙ none)) in
         let some = some_left run (length held.bytes) (sym is.ended ∙ ended) is.not_over (length-held held run is fits) in
