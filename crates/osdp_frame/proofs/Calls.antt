@@ -20,22 +20,25 @@ use Rattle.osdp_frame.proofs.Readings.{AreBytes-front, is_reading, one_reading, 
 pub new_behind : IsBehind new_run empty_run
 new_behind = record { ended = refl; not_over = refl; left = refl; reads = λ more others none r. r }
 
-pub total_size-append : (xs ys : List Part) → total_size (xs ++ ys) ≡ total_size xs + total_size ys
+total_size-append : (xs ys : List Part) → total_size (xs ++ ys) ≡ total_size xs + total_size ys
 total_size-append [] ys = omega arith
 total_size-append (x ∷ xs) ys = omega (arith, total_size-append xs ys)
 
-pub AreBytes-held : (held : Held) (run : Run) → IsBehind held run → AreBytes run.bytes → AreBytes held.bytes
+AreBytes-held : (held : Held) (run : Run) → IsBehind held run → AreBytes run.bytes → AreBytes held.bytes
 AreBytes-held held run b fits = subst (λ l. AreBytes l) (sym b.left) (AreBytes-drop (total_size run.parts) run.bytes fits)
 
 -- no more is taken off than has come
-pub within : (held : Held) (run : Run) → IsBehind held run → AreBytes run.bytes → total_size run.parts ≤ length run.bytes
+within : (held : Held) (run : Run) → IsBehind held run → AreBytes run.bytes → total_size run.parts ≤ length run.bytes
 within held run b fits =
     let others = reading (held.bytes ++ []) in
-    let bytes : AreBytes (held.bytes ++ []) = subst (λ l. AreBytes l) (sym (append-nil held.bytes)) (AreBytes-held held run b fits) in
-    let all = sizes_reading (run.bytes ++ []) (run.parts ++ others) (b.reads [] others (λ _. refl) (is_reading (held.bytes ++ []) bytes)) in
+    let bytes : AreBytes (held.bytes ++ []) =
+    subst (λ l. AreBytes l) (sym (append-nil held.bytes)) (AreBytes-held held run b fits) in
+    let whole = b.reads [] others (λ _. refl) (is_reading (held.bytes ++ []) bytes) in
+    let all = sizes_reading (run.bytes ++ []) (run.parts ++ others) whole in
     omega (arith, total_size-append run.parts others, length-append {A = ℕ} run.bytes [])
 
-pub length-held : (held : Held) (run : Run) → IsBehind held run → AreBytes run.bytes → total_size run.parts + length held.bytes ≡ length run.bytes
+length-held : (held : Held) (run : Run) → IsBehind held run → AreBytes run.bytes
+    → total_size run.parts + length held.bytes ≡ length run.bytes
 length-held held run b fits =
     omega (arith, within held run b fits, ap length b.left, length-drop (total_size run.parts) run.bytes)
 
@@ -53,9 +56,11 @@ is_over-sizes : (run : Run) → run.ended ≡ true → total_size run.parts ≡ 
 is_over-sizes run ended sizes = ap (λ e. e && eqb (total_size run.parts) (length run.bytes)) ended ∙ eq-eqb _ _ sizes
 
 -- a run that has ended and is not over has bytes left
-some_left : (run : Run) (left : ℕ) → run.ended ≡ true → is_over run ≡ false → total_size run.parts + left ≡ length run.bytes → 0 < left
+some_left : (run : Run) (left : ℕ) → run.ended ≡ true → is_over run ≡ false → total_size run.parts + left ≡ length run.bytes
+    → 0 < left
 some_left run zero ended not_over size =
-    absurd (false≢true (sym not_over ∙ is_over-sizes run ended (let all : total_size run.parts ≡ length run.bytes = omega arith in all)))
+    let all : total_size run.parts ≡ length run.bytes = omega arith in
+    absurd (false≢true (sym not_over ∙ is_over-sizes run ended all))
 some_left run (suc left) ended not_over size = omega arith
 
 nil_of : (l : List ℕ) → length l ≤ 0 → l ≡ []
@@ -68,7 +73,8 @@ nothing_taken : (held : Held) (given : List ℕ) → held.ended ≡ true → tak
 nothing_taken held given is = ap (λ e. take (taken_count (record held { ended = e }) given) given) is
 
 -- it leaves a run that is not over so
-push_never_ends : (given : List ℕ) (held : Held) (run : Run) → IsBehind held run → is_over (run_behind (Push given) held run) ≡ true → ⊥
+push_never_ends : (given : List ℕ) (held : Held) (run : Run) → IsBehind held run
+    → is_over (run_behind (Push given) held run) ≡ true → ⊥
 push_never_ends given held run b is =
     let sizes = over_sizes (run_behind (Push given) held run) is in
     let same : run.bytes ++ take (taken_count held given) given ≡ run.bytes =
@@ -85,9 +91,11 @@ push_reads given held run b fits =
         not_over = not_over;
         left = ap (λ l. l ++ taken) b.left ∙ sym (drop-append-le (total_size run.parts) run.bytes taken (within held run b fits));
         reads = λ more others none r.
-            let whole : IsReading (held.bytes ++ (taken ++ more)) others = subst (λ l. IsReading l others) (append_assoc held.bytes taken more) r in
+            let whole : IsReading (held.bytes ++ (taken ++ more)) others =
+            subst (λ l. IsReading l others) (append_assoc held.bytes taken more) r in
             let nothing : IsTrue run.ended → taken ++ more ≡ [] = λ h. ap (λ l. l ++ more) (none_taken h) ∙ none h in
-            subst (λ l. IsReading l (run.parts ++ others)) (sym (append_assoc run.bytes taken more)) (b.reads (taken ++ more) others nothing whole);
+            subst (λ l. IsReading l (run.parts ++ others)) (sym (append_assoc run.bytes taken more))
+            (b.reads (taken ++ more) others nothing whole);
       };
       over = λ is. absurd (push_never_ends given held run b is);
       new = λ is. absurd (push_never_ends given held run b is);
@@ -99,7 +107,8 @@ not_zero : (n : ℕ) → 0 < n → not (eqb n 0) ≡ true
 not_zero n h = grind (arith, nat_tests)
 
 -- at the end of what is held the reading is over
-read_whole : (held : Held) (run : Run) (others : List Part) → IsBehind held run → IsReading held.bytes others → IsReading run.bytes (run.parts ++ others)
+read_whole : (held : Held) (run : Run) (others : List Part) → IsBehind held run → IsReading held.bytes others
+    → IsReading run.bytes (run.parts ++ others)
 read_whole held run others b r =
     subst (λ l. IsReading l (run.parts ++ others)) (append-nil run.bytes)
     (b.reads [] others (λ _. refl) (subst (λ l. IsReading l others) (sym (append-nil held.bytes)) r))
@@ -144,7 +153,8 @@ advance_reads held run b fits =
     by_item : (o : Option Part) → decided held.ended held.bytes ≡ o → Reads o
     by_item None is =
         let same : run.parts ++ [] ≡ run.parts = append-nil run.parts in
-        let never : is_over (next None) ≡ true → ⊥ = λ over. false≢true (sym b.not_over ∙ sym (ap (λ xs. is_over (record run { parts = xs })) same) ∙ over) in (
+        let never : is_over (next None) ≡ true → ⊥ =
+        λ over. false≢true (sym b.not_over ∙ sym (ap (λ xs. is_over (record run { parts = xs })) same) ∙ over) in (
           λ not_over. subst (λ xs. IsBehind held (record run { parts = xs })) (sym same) b,
           λ over. absurd (never over),
           λ over. absurd (never over),
@@ -152,18 +162,25 @@ advance_reads held run b fits =
     by_item (Some part) is =
         let k = part_size part in
         let rest = drop k held.bytes in
-        let first : IsFirst held.ended held.bytes part = first_decided held.ended held.bytes part (AreBytes-held held run b fits) is in
+        let first : IsFirst held.ended held.bytes part =
+        first_decided held.ended held.bytes part (AreBytes-held held run b fits) is in
         let stands : Stands held.bytes part = stands_first held.ended held.bytes part first in
         let short : k ≤ length held.bytes = part_size-Stands held.bytes part stands in
-        let total : total_size run.parts + k ≡ total_size (run.parts ++ part ∷ []) = omega (arith, total_size-append run.parts (part ∷ [])) in
-        let size : total_size (run.parts ++ part ∷ []) + length rest ≡ length run.bytes = omega (arith, length-held held run b fits, length-drop k held.bytes) in
-        let none : is_over (next (Some part)) ≡ true → rest ≡ [] = λ over. nil_of rest (omega (arith, (over_sizes (next (Some part)) over).1)) in (
+        let total : total_size run.parts + k ≡ total_size (run.parts ++ part ∷ []) =
+        omega (arith, total_size-append run.parts (part ∷ [])) in
+        let size : total_size (run.parts ++ part ∷ []) + length rest ≡ length run.bytes =
+        omega (arith, length-held held run b fits, length-drop k held.bytes) in
+        let none : is_over (next (Some part)) ≡ true → rest ≡ [] =
+        λ over. nil_of rest (omega (arith, (over_sizes (next (Some part)) over).1)) in (
           λ not_over. record {
-            ended = stays_ended held.ended (length rest) (λ e. some_left (next (Some part)) (length rest) (sym b.ended ∙ e) not_over size) ∙ b.ended;
+            ended =
+                stays_ended held.ended (length rest) (λ e. some_left (next (Some part)) (length rest) (sym b.ended ∙ e) not_over size)
+                ∙ b.ended;
             not_over = not_over;
             left = ap (drop k) b.left ∙ drop-drop k (total_size run.parts) run.bytes ∙ ap (λ n. drop n run.bytes) total;
             reads = λ more others nothing r.
-                let there : IsReading (drop k (held.bytes ++ more)) others = subst (λ l. IsReading l others) (sym (drop-append-le k held.bytes more short)) r in
+                let there : IsReading (drop k (held.bytes ++ more)) others =
+                subst (λ l. IsReading l others) (sym (drop-append-le k held.bytes more short)) r in
                 subst (λ xs. IsReading (run.bytes ++ more) xs) (sym (append_assoc run.parts (part ∷ []) others))
                 (b.reads more (part ∷ others) nothing (first more (λ e. nothing (sym b.ended ∙ e)), there));
           },
@@ -180,7 +197,8 @@ reads_on Advance held run b fits = advance_reads held run b fits
 
 -- ---- one call behind the other
 
-AreBytes-taken : (call : Call) (held : Held) (run : Run) → IsOfBytes call → AreBytes run.bytes → AreBytes (run_behind call held run).bytes
+AreBytes-taken : (call : Call) (held : Held) (run : Run) → IsOfBytes call → AreBytes run.bytes
+    → AreBytes (run_behind call held run).bytes
 AreBytes-taken (Push given) held run given_fit fits =
     AreBytes-append run.bytes (take (taken_count held given) given) fits (AreBytes-take (taken_count held given) given given_fit)
 AreBytes-taken Gap held run given_fit fits = fits
@@ -192,8 +210,10 @@ record ReadsFrom (calls : List Call) (held : Held) (run : Run) : Type 0 where
   last : IsBehind (after_calls calls held) (last_run calls held run)
 
 -- behind the first call the run is over, or goes on
-reads_first : (call : Call) (calls : List Call) (held : Held) (run : Run) → ReadsOn call held run → AreBytes (run_behind call held run).bytes
-    → ((later : Held) (next : Run) → IsBehind later next → AreBytes next.bytes → ReadsFrom calls later next) → ReadsFrom (call ∷ calls) held run
+reads_first : (call : Call) (calls : List Call) (held : Held) (run : Run) → ReadsOn call held run
+    → AreBytes (run_behind call held run).bytes
+    → ((later : Held) (next : Run) → IsBehind later next → AreBytes next.bytes → ReadsFrom calls later next)
+    → ReadsFrom (call ∷ calls) held run
 reads_first call calls held run here fits from =
     let both = by_end (is_over (run_behind call held run)) refl in
     record { over = both.0; last = both.1 }
@@ -211,27 +231,33 @@ reads_first call calls held run here fits from =
 
     by_end : (t : Bool) → is_over next ≡ t → Reads t
     by_end true is =
-        let tail : ReadsFrom calls later empty_run = subst (λ h. ReadsFrom calls h empty_run) (sym (here.new is)) (from new_run empty_run new_behind AreBytes-nil) in
+        let tail : ReadsFrom calls later empty_run =
+        subst (λ h. ReadsFrom calls h empty_run) (sym (here.new is)) (from new_run empty_run new_behind AreBytes-nil) in
         (All-cons IsRead next (runs_over calls later empty_run) (here.over is) tail.over, tail.last)
     by_end false is =
         let tail = from later next (here.on is) fits in
         (tail.over, tail.last)
 
-reads_from : (calls : List Call) (held : Held) (run : Run) → All IsOfBytes calls → IsBehind held run → AreBytes run.bytes → ReadsFrom calls held run
+reads_from : (calls : List Call) (held : Held) (run : Run) → All IsOfBytes calls → IsBehind held run → AreBytes run.bytes
+    → ReadsFrom calls held run
 reads_from [] held run of_bytes b fits = record { over = All-nil _; last = b }
 reads_from (call ∷ calls) held run of_bytes b fits =
-    reads_first call calls held run (reads_on call held run b fits) (AreBytes-taken call held run (All-head IsOfBytes call calls of_bytes) fits)
+    reads_first call calls held run (reads_on call held run b fits)
+    (AreBytes-taken call held run (All-head IsOfBytes call calls of_bytes) fits)
     (λ later next is fit. reads_from calls later next (All-tail IsOfBytes call calls of_bytes) is fit)
 
 -- what each call adds to its run is what all of them add to their runs
 parts_of_runs : {X : Type 0} (of : Run → List X) (by : Call → Held → List X) (by_calls : List Call → Held → List X)
     → of empty_run ≡ [] → ((call : Call) (held : Held) (run : Run) → of (run_behind call held run) ≡ of run ++ by call held)
     → ((held : Held) → by_calls [] held ≡ [])
-    → ((call : Call) (calls : List Call) (held : Held) → by_calls (call ∷ calls) held ≡ by call held ++ by_calls calls (after_call call held))
-    → (calls : List Call) (held : Held) (run : Run) → flat_map of (runs_over calls held run) ++ of (last_run calls held run) ≡ of run ++ by_calls calls held
+    → ((call : Call) (calls : List Call) (held : Held)
+    → by_calls (call ∷ calls) held ≡ by call held ++ by_calls calls (after_call call held))
+    → (calls : List Call) (held : Held) (run : Run)
+    → flat_map of (runs_over calls held run) ++ of (last_run calls held run) ≡ of run ++ by_calls calls held
 parts_of_runs of by by_calls empty step none some [] held run = sym (ap (λ l. of run ++ l) (none held) ∙ append-nil (of run))
 parts_of_runs of by by_calls empty step none some (call ∷ calls) held run =
-    by_end (is_over (run_behind call held run)) (λ next. parts_of_runs of by by_calls empty step none some calls (after_call call held) next)
+    by_end (is_over (run_behind call held run))
+    (λ next. parts_of_runs of by by_calls empty step none some calls (after_call call held) next)
     ∙ ap (λ l. l ++ by_calls calls (after_call call held)) (step call held run)
     ∙ append_assoc (of run) (by call held) (by_calls calls (after_call call held))
     ∙ ap (λ l. of run ++ l) (sym (some call calls held))
@@ -242,8 +268,11 @@ parts_of_runs of by by_calls empty step none some (call ∷ calls) held run =
     later : Held
     later = after_call call held
 
-    by_end : (t : Bool) → ((next : Run) → flat_map of (runs_over calls later next) ++ of (last_run calls later next) ≡ of next ++ by_calls calls later)
-        → flat_map of ((if t then next ∷ [] else []) ++ runs_over calls later (if t then empty_run else next)) ++ of (last_run calls later (if t then empty_run else next))
+    by_end : (t : Bool)
+        → ((next : Run)
+        → flat_map of (runs_over calls later next) ++ of (last_run calls later next) ≡ of next ++ by_calls calls later)
+        → flat_map of ((if t then next ∷ [] else []) ++ runs_over calls later (if t then empty_run else next))
+        ++ of (last_run calls later (if t then empty_run else next))
         ≡ of next ++ by_calls calls later
     by_end true tail =
         append_assoc (of next) (flat_map of (runs_over calls later empty_run)) (of (last_run calls later empty_run))
@@ -261,7 +290,8 @@ taken_in-run (Push given) held run = refl
 taken_in-run Gap held run = sym (append-nil run.bytes)
 taken_in-run Advance held run = sym (append-nil run.bytes)
 
-taken_in-calls : (call : Call) (calls : List Call) (held : Held) → bytes_taken (call ∷ calls) held ≡ taken_in call held ++ bytes_taken calls (after_call call held)
+taken_in-calls : (call : Call) (calls : List Call) (held : Held)
+    → bytes_taken (call ∷ calls) held ≡ taken_in call held ++ bytes_taken calls (after_call call held)
 unfolding taken_in
 taken_in-calls (Push given) calls held = refl
 taken_in-calls Gap calls held = refl
@@ -278,7 +308,8 @@ taken_off-run (Push given) held run = sym (append-nil run.parts)
 taken_off-run Gap held run = sym (append-nil run.parts)
 taken_off-run Advance held run = refl
 
-taken_off-calls : (call : Call) (calls : List Call) (held : Held) → items_taken (call ∷ calls) held ≡ taken_off call held ++ items_taken calls (after_call call held)
+taken_off-calls : (call : Call) (calls : List Call) (held : Held)
+    → items_taken (call ∷ calls) held ≡ taken_off call held ++ items_taken calls (after_call call held)
 unfolding taken_off
 taken_off-calls (Push given) calls held = refl
 taken_off-calls Gap calls held = refl
@@ -287,8 +318,10 @@ taken_off-calls Advance calls held = refl
 pub reads_each_run : (calls : List Call) → All IsOfBytes calls → ReadsEachRun calls
 reads_each_run calls of_bytes =
     let from = reads_from calls new_run empty_run of_bytes new_behind AreBytes-nil in record {
-      bytes = parts_of_runs (λ run. run.bytes) taken_in bytes_taken refl taken_in-run (λ held. refl) taken_in-calls calls new_run empty_run;
-      items = parts_of_runs (λ run. run.parts) taken_off items_taken refl taken_off-run (λ held. refl) taken_off-calls calls new_run empty_run;
+      bytes =
+          parts_of_runs (λ run. run.bytes) taken_in bytes_taken refl taken_in-run (λ held. refl) taken_in-calls calls new_run empty_run;
+      items =
+          parts_of_runs (λ run. run.parts) taken_off items_taken refl taken_off-run (λ held. refl) taken_off-calls calls new_run empty_run;
       over = from.over;
       last = from.last;
     }
@@ -302,7 +335,8 @@ items_begin held run more all b fits nothing r =
     let front = AreBytes-front run.bytes more fits in
     let left : drop (total_size run.parts) (run.bytes ++ more) ≡ held.bytes ++ more =
     drop-append-le (total_size run.parts) run.bytes more (within held run b front) ∙ ap (λ l. l ++ more) (sym b.left) in
-    let bytes : AreBytes (held.bytes ++ more) = subst (λ l. AreBytes l) left (AreBytes-drop (total_size run.parts) (run.bytes ++ more) fits) in
+    let bytes : AreBytes (held.bytes ++ more) =
+    subst (λ l. AreBytes l) left (AreBytes-drop (total_size run.parts) (run.bytes ++ more) fits) in
     let others = reading (held.bytes ++ more) in
     let there : IsReading (held.bytes ++ more) others = is_reading (held.bytes ++ more) bytes in
     (others, one_reading (run.bytes ++ more) all (run.parts ++ others) r (b.reads more others nothing there), there)
@@ -316,9 +350,11 @@ count_within held given = by_end held.ended
     by_end true = omega arith
     by_end false = omega arith
 
-length-pushed : (held : Held) (given : List ℕ) → length (after_push held given).bytes ≡ length held.bytes + taken_count held given
+length-pushed : (held : Held) (given : List ℕ)
+    → length (after_push held given).bytes ≡ length held.bytes + taken_count held given
 length-pushed held given =
-    omega (arith, length-append held.bytes (take (taken_count held given) given), length-take-le (taken_count held given) given (count_within held given))
+    let count = taken_count held given in
+    omega (arith, length-append held.bytes (take count given), length-take-le count given (count_within held given))
 
 count_fits : (held : Held) (given : List ℕ) → length held.bytes ≤ largest → length held.bytes + taken_count held given ≤ largest
 count_fits held given room = by_end held.ended
@@ -336,17 +372,23 @@ keeps_room Advance held room = by_item (decided held.ended held.bytes)
     by_item None = room
     by_item (Some part) = omega (arith, length-drop (part_size part) held.bytes)
 
-pub takes_all : (held : Held) (given : List ℕ) → held.ended ≡ false → length held.bytes ≤ largest → taken_count held given < length given → length (after_push held given).bytes ≡ largest
+pub takes_all : (held : Held) (given : List ℕ) → held.ended ≡ false → length held.bytes ≤ largest
+    → taken_count held given < length given → length (after_push held given).bytes ≡ largest
 takes_all held given on room fewer =
-    let count : taken_count held given ≡ taken_count (record held { ended = false }) given = ap (λ e. taken_count (record held { ended = e }) given) on in
+    let count : taken_count held given ≡ taken_count (record held {
+      ended =
+          false;
+    }) given = ap (λ e. taken_count (record held { ended = e }) given) on in
     omega (arith, length-pushed held given)
 
-pub takes_some : (held : Held) (run : Run) (b : ℕ) (given : List ℕ) → IsBehind held run → AreBytes run.bytes → decided held.ended held.bytes ≡ None → 0 < taken_count held (b ∷ given)
+pub takes_some : (held : Held) (run : Run) (b : ℕ) (given : List ℕ) → IsBehind held run → AreBytes run.bytes
+    → decided held.ended held.bytes ≡ None → 0 < taken_count held (b ∷ given)
 takes_some held run b given is fits none = by_end held.ended refl
   where
     by_end : (e : Bool) → held.ended ≡ e → 0 < taken_count (record held { ended = e }) (b ∷ given)
     by_end true ended =
-        let nil = undecided_ended held.bytes (undecided_none true held.bytes (sym (ap (λ e. decided e held.bytes) ended) ∙ none)) in
+        let undecided : decided true held.bytes ≡ None = sym (ap (λ e. decided e held.bytes) ended) ∙ none in
+        let nil = undecided_ended held.bytes (undecided_none true held.bytes undecided) in
         let some = some_left run (length held.bytes) (sym is.ended ∙ ended) is.not_over (length-held held run is fits) in
         absurd (omega (arith, ap length nil))
     by_end false on =

@@ -99,8 +99,9 @@ pub fn reads_on()
         → ReadsOn call held run }
 {}
 
-/// Whatever bytes, gaps and advances come to a new framer: the items of each run that is over are its one reading.
-/// Of the last run, the items that were taken off begin the reading of all that it may become.
+/// Whatever bytes, gaps and advances come to a new framer: the bytes that it takes in are those of its runs, and the items
+/// of each run that is over are its one reading. Those that were taken off the last run begin the reading of all that it
+/// may become.
 pub fn reads_each_run()
     ensures each { (calls : List Call) → All IsOfBytes calls → ReadsEachRun calls }
     ensures beginning { (held : Held) (run : Run) (more : List ℕ) (all : List Part) → IsBehind held run
