@@ -21,7 +21,7 @@ pub AreBytes-append : (xs ys : List ℕ) → AreBytes xs → AreBytes ys → Are
 AreBytes-append [] ys a b = b
 AreBytes-append (x ∷ xs) ys a b = AreBytes-cons x (xs ++ ys) (a 0) (AreBytes-append xs ys (λ place. a (suc place)) b)
 
-AreBytes-nil : AreBytes []
+pub AreBytes-nil : AreBytes []
 AreBytes-nil place = omega arith
 
 -- the same in the words of the checks

@@ -5,6 +5,7 @@ pub mod Packet
 pub mod Spelling
 pub mod Reading
 pub mod Held
+pub mod Calls
 pub mod Items
 pub mod First
 pub mod Shown

@@ -1,13 +1,14 @@
 //! What packets and readings are, said apart from how they are computed. The functions do nothing:
 //! their contracts are laws.
 
-ghost use Rattle.std.specs.Prelude.{◌≡◌, ◌↔◌, ℕ, Bool, true, false, List, [], ◌∷◌, ◌++◌, length, drop, Option, Some, None};
+ghost use Rattle.std.specs.Prelude.{◌≡◌, ◌↔◌, ℕ, ◌<◌, ◌≤◌, All, Bool, IsTrue, true, false, List, [], ◌∷◌, ◌++◌, length, drop, Option, Some, None};
 ghost use Rattle.byteorder.specs.Endian.{little_number};
 ghost use Rattle.osdp_frame.specs.Bytes.{AreBytes};
-ghost use Rattle.osdp_frame.specs.Packet.{IsPacket, Packet};
+ghost use Rattle.osdp_frame.specs.Packet.{IsPacket, Packet, largest};
 ghost use Rattle.osdp_frame.specs.Spelling.{Spells, spelling};
 ghost use Rattle.osdp_frame.specs.Reading.{IsFirst, IsReading, IsUndecided, Part, Stands, Whole, total_size};
-ghost use Rattle.osdp_frame.specs.Held.{decided};
+ghost use Rattle.osdp_frame.specs.Calls.{Call, IsBehind, IsOfBytes, ReadsEachRun, ReadsOn, Run, after_call, empty_run};
+ghost use Rattle.osdp_frame.specs.Held.{Held, after_push, decided, new_run, taken_count};
 ghost use Rattle.osdp_frame.specs.Items.{Drains, items, left_over, reading};
 
 /// A packet has one spelling, and what is no packet has none.
@@ -88,4 +89,34 @@ pub fn items_taken_off()
     ensures beginning { (bytes more : List ℕ) (parts all : List Part) → AreBytes (bytes ++ more)
         → Drains false bytes parts → IsReading (bytes ++ more) all
         → (others : List Part) × (all ≡ parts ++ others) }
+{}
+
+/// Whatever is called: what is held stands behind the items that were taken off the run, until the run is over.
+/// Its items are then its one reading, and a new run begins.
+pub fn reads_on()
+    ensures new { IsBehind new_run empty_run }
+    ensures behind { (call : Call) (held : Held) (run : Run) → IsBehind held run → AreBytes run.bytes
+        → ReadsOn call held run }
+{}
+
+/// Whatever bytes, gaps and advances come to a new framer: the bytes that it takes in are those of its runs, and the items
+/// of each run that is over are its one reading. Those that were taken off the last run begin the reading of all that it
+/// may become.
+pub fn reads_each_run()
+    ensures each { (calls : List Call) → All IsOfBytes calls → ReadsEachRun calls }
+    ensures beginning { (held : Held) (run : Run) (more : List ℕ) (all : List Part) → IsBehind held run
+        → AreBytes (run.bytes ++ more) → (IsTrue run.ended → more ≡ []) → IsReading (run.bytes ++ more) all
+        → (others : List Part) × (all ≡ run.parts ++ others) × IsReading (held.bytes ++ more) others }
+{}
+
+/// No more bytes than 1440 are held. A push in a run that goes on takes as many bytes as there is room for, and where
+/// no item is shown it takes one or more.
+pub fn takes_what_fits()
+    ensures count { (held : Held) (given : List ℕ) → taken_count held given ≤ length given }
+    ensures room { (call : Call) (held : Held) → length held.bytes ≤ largest
+        → length (after_call call held).bytes ≤ largest }
+    ensures all { (held : Held) (given : List ℕ) → held.ended ≡ false → length held.bytes ≤ largest
+        → taken_count held given < length given → length (after_push held given).bytes ≡ largest }
+    ensures some { (held : Held) (run : Run) (b : ℕ) (given : List ℕ) → IsBehind held run → AreBytes run.bytes
+        → decided held.ended held.bytes ≡ None → 0 < taken_count held (b ∷ given) }
 {}
