@@ -1,5 +1,5 @@
 -- Texts from their fronts: where they part, and what was printed in front.
-use Rattle.std.proofs.Common.{◌≡◌, ℕ, suc, ◌<◌, ◌^◌, ◌⊎◌, false, eqb, List, [], ◌∷◌, ◌++◌, get_or, Result, refl, sym, ap, ◌∙◌, arith}
+use Rattle.std.proofs.Common.{◌≡◌, ℕ, zero, suc, ◌<◌, ◌^◌, ◌⊎◌, false, eqb, List, [], ◌∷◌, ◌++◌, get_or, Result, refl, sym, ap, ◌∙◌, arith}
 use Rattle.std.proofs.lemmas.Bool.{eq-eqb, true≢false}
 use Rattle.std.proofs.lemmas.Fmt.{decimal_injective}
 use Rattle.std.specs.Fmt.{decimal}
@@ -36,3 +36,8 @@ cut_decimal c m n front back other hm hn e =
 pub one_list : (xs ys : List ℕ) → IsBytes xs → IsBytes ys → encode_upper xs ≡ encode_upper ys → xs ≡ ys
 one_list xs ys hx hy e =
     ap (λ (r : Result (List ℕ) FromHexError). result_unwrap_or r []) (sym (decode_of-encode_upper xs hx) ∙ ap decode_of e ∙ decode_of-encode_upper ys hy)
+
+-- one byte is a list of bytes
+pub one_byte : (b : ℕ) → b < 256 → IsBytes (b ∷ [])
+one_byte b h zero = h
+one_byte b h (suc i) = omega arith

@@ -5,3 +5,5 @@ pub mod Decimals
 pub mod Cuts
 pub mod OneMessage
 pub mod OneItem
+pub mod NoFeed
+pub mod OneLine

@@ -1,5 +1,5 @@
 -- A line is that of one item.
-use Rattle.std.proofs.Common.{◌≡◌, ℕ, zero, suc, ◌<◌, ◌^◌, ◌==◌, cond, inl, inr, Bool, true, false, List, [], ◌∷◌, ◌++◌, length, get_or, slice_index, codes, drop, lit<, refl, sym, ap, ◌∙◌, arith, append_assoc}
+use Rattle.std.proofs.Common.{◌≡◌, ℕ, ◌<◌, ◌^◌, ◌==◌, cond, inl, inr, Bool, true, false, List, [], ◌∷◌, ◌++◌, length, get_or, slice_index, codes, drop, lit<, refl, sym, ap, ◌∙◌, arith, append_assoc}
 use Rattle.std.proofs.lemmas.Bool.{eqb-true}
 use Rattle.std.proofs.lemmas.List.{append_cancel_left, append_cancel_right}
 use Rattle.std.specs.Fmt.{decimal}
@@ -15,7 +15,7 @@ use Rattle.osdp_msg.proofs.RowTexts.{differ}
 use Rattle.osdp_msg.proofs.TextWords.{name_word}
 use Rattle.osdp_lines.specs.ItemText.{bits_text, body_text, check_name, direction_name, fault_name, item_line, item_text, message_text}
 use Rattle.osdp_lines.specs.Laws.{HasOneItem, IsItem}
-use Rattle.osdp_lines.proofs.Cuts.{cut, cut_decimal, differ_at, one_list}
+use Rattle.osdp_lines.proofs.Cuts.{cut, cut_decimal, differ_at, one_byte, one_list}
 use Rattle.osdp_lines.proofs.OneMessage.{message_first, one_message}
 
 -- ---- bodies
@@ -127,10 +127,6 @@ not_skipped false front back e = differ_at 0 (codes "cmd" ++ front) (codes "skip
 not_refused : (reply : Bool) (front back : List ℕ) → direction_name reply ++ front ≡ codes "refused " ++ back → ⊥
 not_refused true front back e = differ_at 2 (codes "reply" ++ front) (codes "refused " ++ back) refl e
 not_refused false front back e = differ_at 0 (codes "cmd" ++ front) (codes "refused " ++ back) refl e
-
-one_byte : (b : ℕ) → b < 256 → IsBytes (b ∷ [])
-one_byte b h zero = h
-one_byte b h (suc i) = omega arith
 
 one_text : (a b : Part) → IsItem a → IsItem b → item_text a ≡ item_text b → a ≡ b
 one_text (Whole p) (Whole q) h k e = ap Whole (one_packet p q h k e)

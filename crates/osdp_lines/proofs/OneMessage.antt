@@ -1,5 +1,5 @@
 -- What is told of a code and data is told of no other.
-use Rattle.std.proofs.Common.{◌≡◌, ℕ, zero, suc, ◌<◌, Bool, true, false, List, [], ◌∷◌, ◌++◌, get_or, codes, take, drop, Result, Ok, Err, lit<, refl, ap, subst, arith}
+use Rattle.std.proofs.Common.{◌≡◌, ℕ, suc, ◌<◌, Bool, true, false, List, [], ◌∷◌, ◌++◌, get_or, codes, take, drop, Result, Ok, Err, lit<, refl, ap, subst, arith}
 use Rattle.std.proofs.lemmas.List.{append_cancel_left}
 use Rattle.hex.specs.Hex.{IsBytes, encode_upper, encode_with}
 use Rattle.osdp_msg.specs.declared.command.Command.{Command}
@@ -18,7 +18,7 @@ use Rattle.osdp_msg.proofs.CommandTexts.{command_one_text}
 use Rattle.osdp_msg.proofs.Replies.{replies_one_spelling, reply_reads}
 use Rattle.osdp_msg.proofs.ReplyTexts.{reply_one_text}
 use Rattle.osdp_lines.specs.ItemText.{data_text, message_text, told_text, unread_text}
-use Rattle.osdp_lines.proofs.Cuts.{differ_at, one_list}
+use Rattle.osdp_lines.proofs.Cuts.{differ_at, one_byte, one_list}
 
 -- ---- no message
 
@@ -29,17 +29,13 @@ one_data [] (y ∷ ys) h k e = cc e
 one_data (x ∷ xs) [] h k e = cc e
 one_data (x ∷ xs) (y ∷ ys) h k e = one_list (x ∷ xs) (y ∷ ys) h k (append_cancel_left (codes " ") (encode_upper (x ∷ xs)) (encode_upper (y ∷ ys)) e)
 
-first_byte : (code : ℕ) (bytes : List ℕ) → IsBytes (code ∷ bytes) → IsBytes (code ∷ [])
-first_byte code bytes h zero = h 0
-first_byte code bytes h (suc i) = omega arith
-
 one_code : (code other : ℕ) (bytes others : List ℕ) → IsBytes (code ∷ bytes) → IsBytes (other ∷ others)
     → encode_upper (code ∷ []) ++ data_text bytes ≡ encode_upper (other ∷ []) ++ data_text others → (code ≡ other) × (bytes ≡ others)
 unfolding encode_with
 one_code code other bytes others h k e =
     let digits : encode_upper (code ∷ []) ≡ encode_upper (other ∷ []) = ap (take 2) e in
     let rest : data_text bytes ≡ data_text others = ap (drop 2) e in (
-      ap (λ (list : List ℕ). get_or list 0 0) (one_list (code ∷ []) (other ∷ []) (first_byte code bytes h) (first_byte other others k) digits),
+      ap (λ (list : List ℕ). get_or list 0 0) (one_list (code ∷ []) (other ∷ []) (one_byte code (h 0)) (one_byte other (k 0)) digits),
       one_data bytes others (λ i. h (suc i)) (λ i. k (suc i)) rest,
     )
 
