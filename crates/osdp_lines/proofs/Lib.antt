@@ -2,3 +2,8 @@ pub mod HexText
 pub mod Lines
 pub mod BareMessages
 pub mod Decimals
+pub mod Cuts
+pub mod OneMessage
+pub mod OneItem
+pub mod NoFeed
+pub mod OneLine

@@ -1,3 +1,4 @@
 pub mod ItemText
+pub mod Laws
 pub mod Tally
 pub mod Told

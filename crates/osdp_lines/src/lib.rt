@@ -3,6 +3,7 @@
 
 mod hex_text;
 mod item_text;
+pub mod laws;
 mod message_text;
 mod number;
 mod packet_text;
