@@ -3,3 +3,4 @@ pub mod RunsLemmas
 pub mod FormLemmas
 pub mod Bytes
 pub mod Spelled
+pub mod Lengths

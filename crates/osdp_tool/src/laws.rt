@@ -1,7 +1,7 @@
 //! What is printed, in the words of captures. The functions have no code: each states a law for all inputs,
 //! and its proof is the law's.
 
-ghost use Rattle.osdp_tool.specs.Told.{ShowsReadings, ShowsDecided};
+ghost use Rattle.osdp_tool.specs.Told.{ShowsReadings, ShowsDecided, TellsRuns};
 
 /// The text of an input is that of the readings of its runs, each item one line with the number of its run and
 /// its place; in `check` the refusals alone, and the counts.
@@ -12,4 +12,9 @@ pub fn shows_readings()
 /// The text of an input that is cut off is that of the items which its bytes decide.
 pub fn shows_decided()
     ensures { ShowsDecided }
+{}
+
+/// What `show` prints tells the runs that it read, and of raw bytes each byte: other runs have another text.
+pub fn tells_runs()
+    ensures { TellsRuns }
 {}
