@@ -139,7 +139,7 @@ same_readings run (xs ∷ rs) (ys ∷ ss) room more hr hs e =
     let size = hr.0.size in
     let other = hs.0.size in
     let same = same_items run 0 xs ys rs ss (omega arith) (omega arith) (omega arith) (omega arith) hr.0.items hs.0.items hr.1 hs.1
-        (same_readings (run + 1) rs ss (omega arith) (omega arith) hr.1 hs.1) e in
+    (same_readings (run + 1) rs ss (omega arith) (omega arith) hr.1 hs.1) e in
     λ i. same.0 i ∷ same.1 i
 
 -- ---- inputs
@@ -158,7 +158,7 @@ same_runs form other a b runs others fits more short low has have e =
     let text = shown_is true form a first.0 first.1 fits first.2 first.3 in
     let other_text = shown_is true other b second.0 second.1 more second.2 second.3 in
     let same_text : readings_text true 1 first.1 ≡ readings_text true 1 second.1 =
-        append_cancel_right (readings_text true 1 first.1) (readings_text true 1 second.1) [] (sym text ∙ e ∙ other_text) in
+    append_cancel_right (readings_text true 1 first.1) (readings_text true 1 second.1) [] (sym text ∙ e ∙ other_text) in
     let length_a = runs_short form a in
     let length_b = runs_short other b in
     let f = readings_fit (runs_of form a) first.1 (runs_have_bytes form a fits) (omega arith) r in

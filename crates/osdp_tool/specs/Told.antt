@@ -110,6 +110,8 @@ pub record ShowsDecided : Type 0 where
 -- The full text of an input tells its runs: two inputs, each in its form, have the same text exactly where they have the
 -- same runs. So raw bytes are told byte by byte. Runs and places are numbers of 64 bits.
 pub record TellsRuns : Type 0 where
-  pub runs : (form other : Form) (a b : List ℕ) (first second : List (List ℕ)) → AreBytes a → AreBytes b → length a < 2 ^ 64 → length b < 2 ^ 64
-      → HasRuns form a first → HasRuns other b second → (shown true form a ≡ shown true other b) ↔ (first ≡ second)
-  pub raw : (a b : List ℕ) → AreBytes a → AreBytes b → length a < 2 ^ 64 → length b < 2 ^ 64 → shown true Raw a ≡ shown true Raw b → a ≡ b
+  pub runs : (form other : Form) (a b : List ℕ) (first second : List (List ℕ))
+      → AreBytes a → AreBytes b → length a < 2 ^ 64 → length b < 2 ^ 64 → HasRuns form a first → HasRuns other b second
+      → (shown true form a ≡ shown true other b) ↔ (first ≡ second)
+  pub raw : (a b : List ℕ) → AreBytes a → AreBytes b → length a < 2 ^ 64 → length b < 2 ^ 64
+      → shown true Raw a ≡ shown true Raw b → a ≡ b
