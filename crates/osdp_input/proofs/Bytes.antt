@@ -51,7 +51,7 @@ is_cut bytes =
 no_bytes : IsBytes []
 no_bytes i = omega arith
 
-result_some : (r : Result (List ℕ) FromHexError) (bytes : List ℕ) → result_ok r ≡ Some bytes → r ≡ Ok bytes
+pub result_some : (r : Result (List ℕ) FromHexError) (bytes : List ℕ) → result_ok r ≡ Some bytes → r ≡ Ok bytes
 result_some (Ok x) bytes h = cc
 result_some (Err e) bytes h = cc
 

@@ -4,3 +4,4 @@ pub mod FormLemmas
 pub mod Bytes
 pub mod Spelled
 pub mod BadLines
+pub mod Lengths

@@ -16,7 +16,8 @@ differ_at place xs ys no_match e =
     true≢false (sym (eq-eqb (get_or xs place 0) (get_or ys place 0) (ap (λ (text : List ℕ). get_or text place 0) e)) ∙ no_match)
 
 -- what stands in front of the first c, and behind it
-pub cut : (c : ℕ) (xs ys front back : List ℕ) → LacksByte c xs → LacksByte c ys → xs ++ c ∷ front ≡ ys ++ c ∷ back → (xs ≡ ys) × (front ≡ back)
+pub cut : (c : ℕ) (xs ys front back : List ℕ) → LacksByte c xs → LacksByte c ys → xs ++ c ∷ front ≡ ys ++ c ∷ back
+    → (xs ≡ ys) × (front ≡ back)
 cut c [] [] front back hx hy e = (refl, cc e)
 cut c [] (y ∷ ys) front back hx hy e = absurd (hy 0 (omega arith) (cc e))
 cut c (x ∷ xs) [] front back hx hy e = absurd (hx 0 (omega arith) (cc e))
@@ -35,7 +36,8 @@ cut_decimal c m n front back other hm hn e =
 -- bytes with the same digits
 pub one_list : (xs ys : List ℕ) → IsBytes xs → IsBytes ys → encode_upper xs ≡ encode_upper ys → xs ≡ ys
 one_list xs ys hx hy e =
-    ap (λ (r : Result (List ℕ) FromHexError). result_unwrap_or r []) (sym (decode_of-encode_upper xs hx) ∙ ap decode_of e ∙ decode_of-encode_upper ys hy)
+    ap (λ (r : Result (List ℕ) FromHexError). result_unwrap_or r [])
+    (sym (decode_of-encode_upper xs hx) ∙ ap decode_of e ∙ decode_of-encode_upper ys hy)
 
 -- one byte is a list of bytes
 pub one_byte : (b : ℕ) → b < 256 → IsBytes (b ∷ [])

@@ -7,3 +7,4 @@ pub mod OneMessage
 pub mod OneItem
 pub mod NoFeed
 pub mod OneLine
+pub mod OneCount

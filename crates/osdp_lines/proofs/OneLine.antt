@@ -24,9 +24,11 @@ check_no_feed Crc = literal (codes "crc") refl
 
 bits_no_feed : (reserved : ℕ) (none : Bool) → reserved < 16 → HasNoFeed (cond none [] (codes " bits " ++ decimal reserved))
 bits_no_feed reserved true small = nothing
-bits_no_feed reserved false small = both {xs = codes " bits "} (literal (codes " bits ") refl) (decimal_no_feed reserved (omega arith))
+bits_no_feed reserved false small = both {xs = codes " bits "} (literal (codes " bits ") refl)
+    (decimal_no_feed reserved (omega arith))
 
-unblocked_no_feed : (reply : Bool) (body : List ℕ) → IsBytes body → 0 < length body → HasNoFeed (message_text reply (slice_index body 0) (drop 1 body))
+unblocked_no_feed : (reply : Bool) (body : List ℕ) → IsBytes body → 0 < length body
+    → HasNoFeed (message_text reply (slice_index body 0) (drop 1 body))
 unblocked_no_feed reply [] h some = absurd (omega arith)
 unblocked_no_feed reply (b ∷ body) h some = message_no_feed reply b body (one_byte b (h 0)) (λ i. h (suc i))
 
@@ -56,14 +58,16 @@ fault_named fault = refl
 item_no_feed : (item : Part) → IsItem item → HasNoFeed (item_text item)
 item_no_feed (Whole p) h = packet_no_feed p h
 item_no_feed (Passed b) h = both {xs = codes "skip "} (literal (codes "skip ") refl) (digits_no_feed (b ∷ []) (one_byte b h))
-item_no_feed (Bad fault) h = both {xs = codes "refused "} (literal (codes "refused ") refl) (literal (fault_name fault) (fault_named fault))
+item_no_feed (Bad fault) h = both {xs = codes "refused "} (literal (codes "refused ") refl)
+    (literal (fault_name fault) (fault_named fault))
 
 -- ---- lines
 
 pub one_line : HasOneLine
 one_line run place item small low h =
     let front = decimal run ++ (codes ":" ++ (decimal place ++ codes " ")) in
-    let text = both {xs = front} (both {xs = decimal run} (decimal_no_feed run small) (both {xs = codes ":"} (literal (codes ":") refl)
+    let text = both {xs = front} (both {xs = decimal run} (decimal_no_feed run small)
+    (both {xs = codes ":"} (literal (codes ":") refl)
     (both {xs = decimal place} (decimal_no_feed place low) (literal (codes " ") refl)))) (item_no_feed item h) in
     (front ++ item_text item, sym (append_assoc front (item_text item) (codes "\n")), text.lacks)
 

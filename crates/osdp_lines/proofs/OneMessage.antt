@@ -27,29 +27,38 @@ unfolding encode_with
 one_data [] [] h k e = refl
 one_data [] (y ∷ ys) h k e = cc e
 one_data (x ∷ xs) [] h k e = cc e
-one_data (x ∷ xs) (y ∷ ys) h k e = one_list (x ∷ xs) (y ∷ ys) h k (append_cancel_left (codes " ") (encode_upper (x ∷ xs)) (encode_upper (y ∷ ys)) e)
+one_data (x ∷ xs) (y ∷ ys) h k e = one_list (x ∷ xs) (y ∷ ys) h k
+    (append_cancel_left (codes " ") (encode_upper (x ∷ xs)) (encode_upper (y ∷ ys)) e)
 
 one_code : (code other : ℕ) (bytes others : List ℕ) → IsBytes (code ∷ bytes) → IsBytes (other ∷ others)
-    → encode_upper (code ∷ []) ++ data_text bytes ≡ encode_upper (other ∷ []) ++ data_text others → (code ≡ other) × (bytes ≡ others)
+    → encode_upper (code ∷ []) ++ data_text bytes ≡ encode_upper (other ∷ []) ++ data_text others
+    → (code ≡ other) × (bytes ≡ others)
 unfolding encode_with
 one_code code other bytes others h k e =
     let digits : encode_upper (code ∷ []) ≡ encode_upper (other ∷ []) = ap (take 2) e in
     let rest : data_text bytes ≡ data_text others = ap (drop 2) e in (
-      ap (λ (list : List ℕ). get_or list 0 0) (one_list (code ∷ []) (other ∷ []) (one_byte code (h 0)) (one_byte other (k 0)) digits),
+      ap (λ (list : List ℕ). get_or list 0 0) (one_list (code ∷ []) (other ∷ []) (one_byte code (h 0)) (one_byte other (k 0))
+          digits),
       one_data bytes others (λ i. h (suc i)) (λ i. k (suc i)) rest,
     )
 
 one_unread : (fault wrong : MsgFault) (code other : ℕ) (bytes others : List ℕ) → IsBytes (code ∷ bytes) → IsBytes (other ∷ others)
     → unread_text fault code bytes ≡ unread_text wrong other others → (code ≡ other) × (bytes ≡ others)
 one_unread UnknownCode UnknownCode code other bytes others h k e =
-    one_code code other bytes others h k (append_cancel_left (codes "code ") (encode_upper (code ∷ []) ++ data_text bytes) (encode_upper (other ∷ []) ++ data_text others) e)
+    one_code code other bytes others h k (append_cancel_left (codes "code ") (encode_upper (code ∷ []) ++ data_text bytes)
+    (encode_upper (other ∷ []) ++ data_text others) e)
 one_unread Length Length code other bytes others h k e =
-    one_code code other bytes others h k (append_cancel_left (codes "refused M2 code ") (encode_upper (code ∷ []) ++ data_text bytes) (encode_upper (other ∷ []) ++ data_text others) e)
+    one_code code other bytes others h k (append_cancel_left (codes "refused M2 code ")
+    (encode_upper (code ∷ []) ++ data_text bytes) (encode_upper (other ∷ []) ++ data_text others) e)
 one_unread Count Count code other bytes others h k e =
-    one_code code other bytes others h k (append_cancel_left (codes "refused M3 code ") (encode_upper (code ∷ []) ++ data_text bytes) (encode_upper (other ∷ []) ++ data_text others) e)
-one_unread Length Count code other bytes others h k e = absurd (differ_at 9 (unread_text Length code bytes) (unread_text Count other others) refl e)
-one_unread Count Length code other bytes others h k e = absurd (differ_at 9 (unread_text Count code bytes) (unread_text Length other others) refl e)
-one_unread fault wrong code other bytes others h k e = absurd (differ_at 0 (unread_text fault code bytes) (unread_text wrong other others) refl e)
+    one_code code other bytes others h k (append_cancel_left (codes "refused M3 code ")
+    (encode_upper (code ∷ []) ++ data_text bytes) (encode_upper (other ∷ []) ++ data_text others) e)
+one_unread Length Count code other bytes others h k e =
+    absurd (differ_at 9 (unread_text Length code bytes) (unread_text Count other others) refl e)
+one_unread Count Length code other bytes others h k e =
+    absurd (differ_at 9 (unread_text Count code bytes) (unread_text Length other others) refl e)
+one_unread fault wrong code other bytes others h k e =
+    absurd (differ_at 0 (unread_text fault code bytes) (unread_text wrong other others) refl e)
 
 -- it begins in lower case, and not as a block does
 unread_first : (fault : MsgFault) (code : ℕ) (bytes : List ℕ) → 98 < get_or (unread_text fault code bytes) 0 0
@@ -59,8 +68,10 @@ unread_first fault code bytes = lit< tt
 -- ---- messages of a table
 
 module _ {M : Type 0} (Is : ℕ → List ℕ → M → Type 0) (Fits : M → Type 0) (read : ℕ → List ℕ → Result M MsgFault) (text : M → List ℕ) (reads : ReadsTheTable Is read) (spelling : HasOneSpelling Is) (one_text : HasOneText Fits text) (fits : (code : ℕ) (bytes : List ℕ) (m : M) → Is code bytes m → Fits m) (upper : (m : M) → get_or (text m) 0 0 < 98) where
-  one_reading : (code other : ℕ) (bytes others : List ℕ) (r s : Result M MsgFault) → IsBytes (code ∷ bytes) → IsBytes (other ∷ others)
-      → read code bytes ≡ r → read other others ≡ s → told_text text r code bytes ≡ told_text text s other others → (code ≡ other) × (bytes ≡ others)
+  one_reading : (code other : ℕ) (bytes others : List ℕ) (r s : Result M MsgFault) → IsBytes (code ∷ bytes)
+      → IsBytes (other ∷ others)
+      → read code bytes ≡ r → read other others ≡ s → told_text text r code bytes ≡ told_text text s other others
+      → (code ≡ other) × (bytes ≡ others)
   one_reading code other bytes others (Ok m) (Ok n) h k p q e =
       let first = (reads code bytes m (λ i. h (suc i))).0 p in
       let second = (reads other others n (λ i. k (suc i))).0 q in
@@ -79,8 +90,10 @@ module _ {M : Type 0} (Is : ℕ → List ℕ → M → Type 0) (Fits : M → Typ
   one_reading code other bytes others (Err fault) (Err wrong) h k p q e = one_unread fault wrong code other bytes others h k e
 
   pub one_told : (code other : ℕ) (bytes others : List ℕ) → IsBytes (code ∷ bytes) → IsBytes (other ∷ others)
-      → told_text text (read code bytes) code bytes ≡ told_text text (read other others) other others → (code ≡ other) × (bytes ≡ others)
-  one_told code other bytes others h k e = one_reading code other bytes others (read code bytes) (read other others) h k refl refl e
+      → told_text text (read code bytes) code bytes ≡ told_text text (read other others) other others
+      → (code ≡ other) × (bytes ≡ others)
+  one_told code other bytes others h k e =
+      one_reading code other bytes others (read code bytes) (read other others) h k refl refl e
 
   told_first : (r : Result M MsgFault) (code : ℕ) (bytes : List ℕ) → get_or (told_text text r code bytes) 0 0 ≡ 98 → ⊥
   told_first (Ok m) code bytes e = let low = upper m in omega arith
@@ -101,9 +114,13 @@ reply_first m = lit< tt
 
 pub one_message : (reply : Bool) (code other : ℕ) (bytes others : List ℕ) → IsBytes (code ∷ bytes) → IsBytes (other ∷ others)
     → message_text reply code bytes ≡ message_text reply other others → (code ≡ other) × (bytes ≡ others)
-one_message true = one_told IsReply ReplyFits reply_of reply_text reply_reads replies_one_spelling reply_one_text (λ code bytes m is. is.fits) reply_first
-one_message false = one_told IsCommand CommandFits command_of command_text command_reads commands_one_spelling command_one_text (λ code bytes m is. is.fits) command_first
+one_message true = one_told IsReply ReplyFits reply_of reply_text reply_reads replies_one_spelling reply_one_text
+    (λ code bytes m is. is.fits) reply_first
+one_message false = one_told IsCommand CommandFits command_of command_text command_reads commands_one_spelling
+    command_one_text (λ code bytes m is. is.fits) command_first
 
 pub message_first : (reply : Bool) (code : ℕ) (bytes : List ℕ) → get_or (message_text reply code bytes) 0 0 ≡ 98 → ⊥
-message_first true code bytes = told_first IsReply ReplyFits reply_of reply_text reply_reads replies_one_spelling reply_one_text (λ code bytes m is. is.fits) reply_first (reply_of code bytes) code bytes
-message_first false code bytes = told_first IsCommand CommandFits command_of command_text command_reads commands_one_spelling command_one_text (λ code bytes m is. is.fits) command_first (command_of code bytes) code bytes
+message_first true code bytes = told_first IsReply ReplyFits reply_of reply_text reply_reads replies_one_spelling
+    reply_one_text (λ code bytes m is. is.fits) reply_first (reply_of code bytes) code bytes
+message_first false code bytes = told_first IsCommand CommandFits command_of command_text command_reads commands_one_spelling
+    command_one_text (λ code bytes m is. is.fits) command_first (command_of code bytes) code bytes

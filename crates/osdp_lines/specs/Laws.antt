@@ -1,9 +1,10 @@
 -- What holds of the lines, in the words of their reader.
-use Rattle.std.specs.Prelude.{◌≡◌, ℕ, ◌<◌, ◌^◌, List, ◌++◌, codes}
+use Rattle.std.specs.Prelude.{◌≡◌, ℕ, ◌<◌, ◌^◌, List, [], ◌∷◌, ◌++◌, codes}
+use Rattle.std.specs.List.{AllByRecursion}
 use Rattle.std.specs.Str.Iter.{LacksByte}
 use Rattle.osdp_frame.specs.Packet.{IsPacket}
 use Rattle.osdp_frame.specs.Reading.{Part, Whole, Passed, Bad}
-use Rattle.osdp_lines.specs.ItemText.{item_line}
+use Rattle.osdp_lines.specs.ItemText.{item_line, counts_line}
 
 -- an item that a run of bytes can have
 abbrev pub IsItem : Part → Type 0
@@ -28,3 +29,12 @@ abbrev pub HasOneLine : Type 0
 HasOneLine =
     (run place : ℕ) (item : Part) → IsCount run → IsCount place → IsItem item
     → (text : List ℕ) × (item_line run place item ≡ text ++ codes "\n") × LacksByte 10 text
+
+-- counts with one line are the same counts
+abbrev pub HasOneCount : Type 0
+HasOneCount =
+    (runs packets skipped refused other_runs other_packets other_skipped other_refused : ℕ)
+    → AllByRecursion IsCount (runs ∷ packets ∷ skipped ∷ refused ∷ [])
+    → AllByRecursion IsCount (other_runs ∷ other_packets ∷ other_skipped ∷ other_refused ∷ [])
+    → counts_line runs packets skipped refused ≡ counts_line other_runs other_packets other_skipped other_refused
+    → (runs ≡ other_runs) × (packets ≡ other_packets) × (skipped ≡ other_skipped) × (refused ≡ other_refused)

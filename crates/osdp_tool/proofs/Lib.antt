@@ -6,3 +6,4 @@ pub mod Pieces
 pub mod Works
 pub mod Whole
 pub mod Readings
+pub mod OneInput

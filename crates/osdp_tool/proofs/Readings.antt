@@ -96,7 +96,7 @@ parts_counted tally (part ∷ parts) =
 
 -- ---- run after run
 
-abbrev HasBytes : List ℕ → Type 0
+abbrev pub HasBytes : List ℕ → Type 0
 HasBytes run = (0 < length run) × AreBytes run
 
 count_readings : (fits : Part → Bool) (parts : List Part) (readings : List (List Part)) → count_items fits (parts ∷ readings) ≡ count_by fits parts + count_items fits readings
@@ -218,7 +218,7 @@ good_says bytes = record { lines = ended_lines bytes; rest = unended_line bytes;
 good_says_so_far : (bytes : List ℕ) → SaysSoFar bytes (good_front (ended_lines bytes))
 good_says_so_far bytes = record { lines = ended_lines bytes; rest = unended_line bytes; cut = is_cut bytes; say = good_say (ended_lines bytes) }
 
-runs_are : (form : Form) (bytes : List ℕ) (runs : List (List ℕ)) → HasRuns form bytes runs → runs ≡ runs_of form bytes
+pub runs_are : (form : Form) (bytes : List ℕ) (runs : List (List ℕ)) → HasRuns form bytes runs → runs ≡ runs_of form bytes
 runs_are Raw bytes runs h = h
 runs_are Joined bytes runs h = h.2 ∙ ap (λ good. with_bytes (concat good ∷ [])) (says_good bytes h.0 h.1)
 runs_are Apart bytes runs h = h.2 ∙ ap with_bytes (says_good bytes h.0 h.1)
@@ -228,7 +228,7 @@ are_runs Raw bytes = refl
 are_runs Joined bytes = (good_front (lines_of bytes), good_says bytes, refl)
 are_runs Apart bytes = (good_front (lines_of bytes), good_says bytes, refl)
 
-runs_have_bytes : (form : Form) (bytes : List ℕ) → AreBytes bytes → AllByRecursion HasBytes (runs_of form bytes)
+pub runs_have_bytes : (form : Form) (bytes : List ℕ) → AreBytes bytes → AllByRecursion HasBytes (runs_of form bytes)
 runs_have_bytes Raw bytes fits = some_bytes (bytes ∷ []) (fits, tt)
 runs_have_bytes Joined bytes fits = some_bytes (concat (good_front (lines_of bytes)) ∷ []) (concat_bytes (good_front (lines_of bytes)) (good_front-bytes (lines_of bytes)), tt)
 runs_have_bytes Apart bytes fits = some_bytes (good_front (lines_of bytes)) (good_front-bytes (lines_of bytes))

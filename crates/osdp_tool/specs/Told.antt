@@ -1,5 +1,5 @@
 -- The text of show and check in the words of captures: lines, runs, readings, items.
-use Rattle.std.specs.Prelude.{◌≡◌, ℕ, ◌+◌, ◌||◌, Bool, true, false, nat_lt, if◌then◌else◌, List, [], ◌∷◌, ◌++◌, length, flat_map, count_by, Some, None}
+use Rattle.std.specs.Prelude.{◌≡◌, ◌↔◌, ℕ, ◌+◌, ◌<◌, ◌^◌, ◌||◌, Bool, true, false, nat_lt, if◌then◌else◌, List, [], ◌∷◌, ◌++◌, length, flat_map, count_by, Some, None}
 use Rattle.std.specs.List.{concat}
 use Rattle.osdp_frame.specs.Bytes.{AreBytes}
 use Rattle.osdp_frame.specs.Reading.{Part, Whole, Passed, Bad, part_size, IsReading}
@@ -106,3 +106,12 @@ pub record ShowsDecided : Type 0 where
   pub text : (full : Bool) (form : Form) (bytes : List ℕ) (runs : List (List ℕ)) (open_bytes : List ℕ) (readings : List (List Part)) (parts : List Part)
       → AreBytes bytes → HasRunsSoFar form bytes runs open_bytes → AreReadings runs readings → Drains false open_bytes parts
       → shown_so_far full form bytes ≡ readings_text full 1 readings ++ items_text full (length readings + 1) 0 parts
+
+-- The full text of an input tells its runs: two inputs, each in its form, have the same text exactly where they have the
+-- same runs. So raw bytes are told byte by byte. Runs and places are numbers of 64 bits.
+pub record TellsRuns : Type 0 where
+  pub runs : (form other : Form) (a b : List ℕ) (first second : List (List ℕ))
+      → AreBytes a → AreBytes b → length a < 2 ^ 64 → length b < 2 ^ 64 → HasRuns form a first → HasRuns other b second
+      → (shown true form a ≡ shown true other b) ↔ (first ≡ second)
+  pub raw : (a b : List ℕ) → AreBytes a → AreBytes b → length a < 2 ^ 64 → length b < 2 ^ 64
+      → shown true Raw a ≡ shown true Raw b → a ≡ b

@@ -2,7 +2,7 @@
 //! and its proof is the law's.
 
 ghost use Rattle.std.specs.Prelude.{◌≡◌};
-ghost use Rattle.osdp_tool.specs.Told.{ShowsReadings, ShowsDecided};
+ghost use Rattle.osdp_tool.specs.Told.{ShowsReadings, ShowsDecided, TellsRuns};
 
 use crate::commands::LIMIT;
 
@@ -20,4 +20,9 @@ pub fn shows_decided()
 /// At most 67,108,864 bytes of an input are read.
 pub fn reads_64_mebibytes()
     ensures { LIMIT ≡ 67108864 }
+{}
+
+/// What `show` prints tells the runs that it read, and of raw bytes each byte: other runs have another text.
+pub fn tells_runs()
+    ensures { TellsRuns }
 {}
