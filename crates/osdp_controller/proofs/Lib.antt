@@ -8,3 +8,5 @@ pub mod Lasting
 pub mod Bounded
 pub mod Stepwise
 pub mod Well
+pub mod Endings
+pub mod InOrder

@@ -8,4 +8,5 @@ pub mod Hearing
 pub mod Machine
 pub mod Laws
 pub mod Runs
+pub mod Commands
 pub mod Steps

@@ -3,9 +3,10 @@
 ghost use Rattle.std.specs.Prelude.{◌≡◌, ℕ, true, List};
 ghost use Rattle.osdp_msg.specs.declared.command.Command.{Command};
 ghost use Rattle.osdp_controller.specs.declared.session.Session.{Session};
+ghost use Rattle.osdp_controller.specs.Commands.{CommandsByPlace, TellsEnds};
 ghost use Rattle.osdp_controller.specs.Laws.{CountsSends, HearsAnswers, KeepsTime, NumbersTakeTurns, TakesFront, TellsLost, TellsWhy};
 ghost use Rattle.osdp_controller.specs.Runs.{Call, NumbersByPlace, ResendsTheSame, SendsFew, StaysWell};
-ghost use Rattle.osdp_controller.specs.Machine.{Machine};
+ghost use Rattle.osdp_controller.specs.Machine.{IsMachine, Machine};
 ghost use Rattle.osdp_controller.specs.States.{is_closed};
 ghost use Rattle.osdp_controller.specs.Steps.{ExchangesInSteps, FramesInSteps, SendsItsFrame, TicksInSteps};
 ghost use Rattle.osdp_frame.specs.Packet.{Packet};
@@ -34,6 +35,18 @@ pub fn exchanges_take_the_front()
 /// A session that ends without an answer tells exactly the outstanding command.
 pub fn unsettled_commands_are_told()
     ensures { TellsLost }
+{}
+
+/// Whatever comes: an outstanding exchange goes on untold, or it ends and its command is told; a session ends exactly
+/// where that is told.
+pub fn endings_are_told()
+    ensures { (now : ℕ) (s : Session) → TellsEnds now s }
+{}
+
+/// Whatever is called: each accepted command is asked at most once, in order, and each that is asked is told exactly
+/// once, in order, but for the one that is outstanding.
+pub fn commands_are_told_once()
+    ensures { (m : Machine) (calls : List Call) → IsMachine m → CommandsByPlace m calls }
 {}
 
 /// Moments that go backwards count as the greatest seen.
