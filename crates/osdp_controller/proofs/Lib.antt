@@ -10,3 +10,5 @@ pub mod Stepwise
 pub mod Well
 pub mod Endings
 pub mod InOrder
+pub mod OneCall
+pub mod InRange

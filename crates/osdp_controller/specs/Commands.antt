@@ -50,12 +50,14 @@ pub record IsGivenUp (x : Exchange) (state : State) (report : Option Report) : T
 -- that is told
 pub record TellsEnds (now : ℕ) (s : Session) : Type 0 where
   pub by_tick : (x : Exchange) (waiting : List Command) → exchange_in s.state ≡ Some x
-      → GoesOn x (ticks now s waiting).session.state (ticks now s waiting).step.report ⊎ IsGivenUp x (ticks now s waiting).session.state (ticks now s waiting).step.report
+      → GoesOn x (ticks now s waiting).session.state (ticks now s waiting).step.report
+      ⊎ IsGivenUp x (ticks now s waiting).session.state (ticks now s waiting).step.report
   pub by_frame : (x : Exchange) (p : Packet) → exchange_in s.state ≡ Some x
       → GoesOn x (hears p now s).session.state (hears p now s).report ⊎ IsAnswered x (hears p now s).session.state (hears p now s).report
   pub closed_by_tick : (waiting : List Command)
       → is_closed (ticks now s waiting).session.state ≡ (is_closed s.state || tells_end (ticks now s waiting).step.report)
-  pub closed_by_frame : (p : Packet) → is_closed (hears p now s).session.state ≡ (is_closed s.state || tells_end (hears p now s).report)
+  pub closed_by_frame : (p : Packet)
+      → is_closed (hears p now s).session.state ≡ (is_closed s.state || tells_end (hears p now s).report)
 
 -- the command of an exchange, where one was submitted for it
 abbrev pub command_of : Option Exchange → Option Command

@@ -6,7 +6,8 @@ pub mod Sessions
 pub mod Ticking
 pub mod Hearing
 pub mod Machine
-pub mod Laws
 pub mod Runs
+pub mod Laws
 pub mod Commands
+pub mod Calls
 pub mod Steps
