@@ -14,7 +14,8 @@ use Rattle.osdp_controller.specs.Laws.{exchange_in}
 use Rattle.osdp_controller.specs.Machine.{IsMachine, Machine, is_due, is_outstanding, new_machine, retarget_refusal}
 use Rattle.osdp_controller.specs.Runs.{Call, Retarget, after_call, after_calls, sent_by, told_by}
 use Rattle.osdp_controller.specs.Sessions.{seen}
-use Rattle.osdp_controller.specs.Ticking.{moment_of, stays, ticks}
+use Rattle.osdp_controller.specs.States.{moment_of}
+use Rattle.osdp_controller.specs.Ticking.{stays, ticks}
 
 -- the address of the reader behind a call: another where a COM tells that the reader moved, or it is set
 abbrev pub told_address : Option Report → ℕ → ℕ

@@ -1,5 +1,5 @@
 -- The table of frames: what a frame from the line brings about.
-use Rattle.std.specs.Prelude.{ℕ, ◌+◌, Bool, true, false, not, ◌&&◌, ◌||◌, ◌==◌, nat_lt, if◌then◌else◌, Option, Some, None, is_none}
+use Rattle.std.specs.Prelude.{ℕ, ◌+◌, Bool, true, false, not, ◌&&◌, ◌||◌, ◌==◌, nat_lt, if◌then◌else◌, Option, Some, None}
 use Rattle.osdp_frame.specs.Packet.{Packet}
 use Rattle.osdp_msg.specs.declared.command.Command.{Command}
 use Rattle.osdp_msg.specs.declared.command.Command.TheVariants.{Comset}
@@ -122,18 +122,6 @@ abbrev pub answered_unread : Exchange → ℕ → Session → Heard
 answered_unread Opening code s = ignores s
 answered_unread Polling code s = rests (Some (Unread None code)) s
 answered_unread (Asking command) code s = rests (Some (Unread (Some command) code)) s
-
--- an answer that is none to the exchange: the opening ID is answered by a PDID alone
-abbrev pub is_beside : Exchange → Answer → Bool
-is_beside Opening (Plain reply) = is_none (pd_id_of reply)
-is_beside Opening (Unreadable code) = true
-is_beside _ _ = false
-
--- in a state where no exchange is outstanding nothing is
-abbrev pub is_beside_in : State → Answer → Bool
-is_beside_in (Waiting until sends o) answer = is_beside o.exchange answer
-is_beside_in (Pausing until o) answer = is_beside o.exchange answer
-is_beside_in _ answer = false
 
 -- while the answer is waited for; behind a NAK 1 the next tick repeats or gives up
 abbrev pub waiting_hears : Answer → ℕ → Outstanding → Session → Heard

@@ -5,6 +5,7 @@ pub mod States
 pub mod Sessions
 pub mod Ticking
 pub mod Hearing
+pub mod Private
 pub mod Machine
 pub mod Runs
 pub mod Laws
