@@ -18,7 +18,7 @@ use Rattle.osdp_controller.specs.declared.state.State.{State}
 use Rattle.osdp_controller.specs.declared.state.State.TheVariants.{Waiting, Pausing}
 use Rattle.osdp_controller.specs.Answers.{answer_of}
 use Rattle.osdp_controller.specs.Exchanges.{exchange_number, submitted_command}
-use Rattle.osdp_controller.specs.Hearing.{answered, hears, is_from_reader}
+use Rattle.osdp_controller.specs.Hearing.{answered, hears}
 use Rattle.osdp_controller.specs.Machine.{IsSession, Machine, is_outstanding, sent_in}
 use Rattle.osdp_controller.specs.Runs.{Begin, after_call}
 use Rattle.osdp_controller.specs.Sessions.{seen}
@@ -31,9 +31,15 @@ exchange_in (Waiting until sends o) = Some o.exchange
 exchange_in (Pausing until o) = Some o.exchange
 exchange_in _ = None
 
--- a frame from the own address says this while the exchange is outstanding
+-- a reply from the own address, without a security block
+pub record IsFromReader (p : Packet) (s : Session) : Type 0 where
+  pub reply : p.reply ≡ true
+  pub address : p.address ≡ s.config.address
+  pub without_block : p.block ≡ false
+
+-- it says this while the exchange is outstanding
 pub record Comes (p : Packet) (s : Session) (x : Exchange) (answer : Answer) : Type 0 where
-  pub from_reader : is_from_reader p s ≡ true
+  pub from_reader : IsFromReader p s
   pub outstanding : exchange_in s.state ≡ Some x
   pub says : answer_of p ≡ answer
 

@@ -1,5 +1,5 @@
 -- The table of ticks: what a moment brings about by itself.
-use Rattle.std.specs.Prelude.{ℕ, ◌+◌, nat_le, nat_lt, if◌then◌else◌, List, [], ◌∷◌, Option, Some, None}
+use Rattle.std.specs.Prelude.{ℕ, ◌+◌, nat_le, nat_lt, if◌then◌else◌, List, [], ◌∷◌, Some, None}
 use Rattle.osdp_frame.specs.Packet.{next_sequence}
 use Rattle.osdp_msg.specs.declared.command.Command.{Command}
 use Rattle.osdp_controller.specs.declared.exchange.Exchange.{Exchange}
