@@ -23,11 +23,13 @@ use Rattle.osdp_controller.specs.declared.session.Session.{Session}
 use Rattle.osdp_controller.specs.declared.state.State.{State}
 use Rattle.osdp_controller.specs.declared.state.State.TheVariants.{Closed, Quiet, Idle, Waiting, Pausing}
 use Rattle.osdp_controller.specs.Answers.{answer_of, is_not_taken}
-use Rattle.osdp_controller.specs.Hearing.{Heard, answered, answered_unread, com_of, command_answered, comset_of, event_in, hears, hears_answer, ignores, is_ack, is_from_reader, is_numbered, loses, moved_by, numbered_in, opening_answered, pausing_hears, pd_id_of, poll_told, waiting_hears}
+use Rattle.osdp_controller.specs.Hearing.{Heard, answered, answered_unread, com_of, command_answered, comset_of, event_in, hears, ignores, is_ack, is_from_reader, is_numbered, loses, moved_by, opening_answered, pausing_hears, pd_id_of, poll_told, waiting_hears}
+use Rattle.osdp_controller.specs.Private.{numbered_in}
 use Rattle.osdp_controller.specs.Laws.{Comes, ComesNumbered, HearsAnswers, IsFromReader, TellsWhy, WhyTold, exchange_in}
 use Rattle.osdp_controller.specs.Machine.{IsSession, OpensAtZero}
 use Rattle.osdp_controller.specs.Sessions.{later, seen}
 use Rattle.osdp_controller.proofs.Choices.{either_way}
+use Rattle.osdp_controller.proofs.Frames.{by_number, by_tests, either_frame}
 
 -- where something is told
 abbrev WhyIf : Option Report → Packet → Session → Type 0
@@ -188,10 +190,8 @@ why_numbered (Pausing until o) answer p s t out from says h zero =
 
 why_if : (p : Packet) (now : ℕ) (s : Session) → IsSession s → WhyIf (hears p now s).report p s
 why_if p now s is =
-    either_way (λ (e : Heard). WhyIf e.report p s) (is_from_reader p s) (hears_answer p.sequence (answer_of p) (seen now s)) (ignores (seen now s))
-    (λ from. either_way (λ (e : Heard). WhyIf e.report p s) (is_numbered p.sequence (answer_of p) s) (numbered_in s.state (answer_of p) (seen now s)) (ignores (seen now s))
-    (λ h. why_numbered s.state (answer_of p) p s (seen now s) refl from refl h is.opening) (λ h. tt))
-    (λ from. tt)
+    either_frame (λ (e : Heard). WhyIf e.report p s) p now s
+    (λ from h. why_numbered s.state (answer_of p) p s (seen now s) refl from refl h is.opening) tt
 
 pub tells_why : TellsWhy
 tells_why p now s report is e = subst (λ (o : Option Report). WhyIf o p s) e (why_if p now s is)
@@ -215,7 +215,8 @@ numbered_plain (Pausing until o) x reply t h = cc
 pub hears_answers : HearsAnswers
 hears_answers p now s x reply is =
     let comes = is.comes in
-    if_true (is_from_reader p s) (hears_answer p.sequence (answer_of p) (seen now s)) (ignores (seen now s)) (of_reader p s comes.from_reader)
+    by_tests p now s
+    ∙ (if_true (is_from_reader p s) (by_number p now s) (ignores (seen now s)) (of_reader p s comes.from_reader)
     ∙ (if_true (is_numbered p.sequence (answer_of p) s) (numbered_in s.state (answer_of p) (seen now s)) (ignores (seen now s))
     (same_number p.sequence s.number (p.sequence == 0 && is_not_taken (answer_of p)) is.number)
-    ∙ (ap (λ (a : Answer). numbered_in s.state a (seen now s)) comes.says ∙ numbered_plain s.state x reply (seen now s) comes.outstanding))
+    ∙ (ap (λ (a : Answer). numbered_in s.state a (seen now s)) comes.says ∙ numbered_plain s.state x reply (seen now s) comes.outstanding)))

@@ -21,12 +21,14 @@ use Rattle.osdp_controller.specs.declared.state.State.TheVariants.{Closed, Quiet
 use Rattle.osdp_controller.specs.Answers.{answer_of}
 use Rattle.osdp_controller.specs.Commands.{GoesOn, IsAnswered, IsGivenUp, TellsEnds, tells_end, told_command}
 use Rattle.osdp_controller.specs.Exchanges.{submitted_command}
-use Rattle.osdp_controller.specs.Hearing.{Heard, answered, answered_unread, com_of, command_answered, comset_of, event_in, hears, hears_answer, hears_busy, ignores, is_ack, is_from_reader, is_numbered, loses, moved_by, numbered_in, opening_answered, pausing_hears, pd_id_of, poll_told, waiting_hears}
+use Rattle.osdp_controller.specs.Hearing.{Heard, answered, answered_unread, com_of, command_answered, comset_of, event_in, hears, hears_busy, ignores, is_ack, loses, moved_by, opening_answered, pausing_hears, pd_id_of, poll_told, waiting_hears}
+use Rattle.osdp_controller.specs.Private.{numbered_in}
 use Rattle.osdp_controller.specs.Laws.{exchange_in}
 use Rattle.osdp_controller.specs.Sessions.{later, seen}
 use Rattle.osdp_controller.specs.States.{is_closed}
 use Rattle.osdp_controller.specs.Ticking.{Ticked, begins, gives_up, sends_frame, stays, ticks_in, tries_again}
 use Rattle.osdp_controller.proofs.Choices.{either_way}
+use Rattle.osdp_controller.proofs.Frames.{either_frame}
 
 -- ticks
 
@@ -117,10 +119,8 @@ numbered_ends (Pausing until o) a s x h same =
 
 pub frame_ends : (x : Exchange) (p : Packet) (now : ℕ) (s : Session) → exchange_in s.state ≡ Some x → FrameEnds x (hears p now s)
 frame_ends x p now s h =
-    either_way (FrameEnds x) (is_from_reader p s) (hears_answer p.sequence (answer_of p) (seen now s)) (ignores (seen now s))
-    (λ from. either_way (FrameEnds x) (is_numbered p.sequence (answer_of p) s) (numbered_in s.state (answer_of p) (seen now s)) (ignores (seen now s))
-    (λ k. numbered_ends s.state (answer_of p) (seen now s) x h refl) (λ k. goes_on x (seen now s) h))
-    (λ from. goes_on x (seen now s) h)
+    either_frame (FrameEnds x) p now s
+    (λ from k. numbered_ends s.state (answer_of p) (seen now s) x h refl) (goes_on x (seen now s) h)
 
 -- a session
 
@@ -205,10 +205,8 @@ ignored_closes false s same = same
 frame_closes : (p : Packet) (now : ℕ) (s : Session) → FrameClosesIn (is_closed s.state) (hears p now s)
 frame_closes p now s =
     let same = ignored_closes (is_closed s.state) (seen now s) refl in
-    either_way (FrameClosesIn (is_closed s.state)) (is_from_reader p s) (hears_answer p.sequence (answer_of p) (seen now s)) (ignores (seen now s))
-    (λ from. either_way (FrameClosesIn (is_closed s.state)) (is_numbered p.sequence (answer_of p) s) (numbered_in s.state (answer_of p) (seen now s)) (ignores (seen now s))
-    (λ k. numbered_closes s.state (answer_of p) (seen now s) refl) (λ k. same))
-    (λ from. same)
+    either_frame (FrameClosesIn (is_closed s.state)) p now s
+    (λ from k. numbered_closes s.state (answer_of p) (seen now s) refl) same
 
 pub tells_ends : (now : ℕ) (s : Session) → TellsEnds now s
 tells_ends now s = record {

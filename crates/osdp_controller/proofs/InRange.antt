@@ -25,7 +25,8 @@ use Rattle.osdp_controller.specs.Answers.{answer_of}
 use Rattle.osdp_controller.specs.Calls.{IsInRange, SendsPackets, StaysInRange, longest_wait}
 use Rattle.osdp_controller.specs.Commands.{command_of}
 use Rattle.osdp_controller.specs.Exchanges.{exchange_command, submitted_command}
-use Rattle.osdp_controller.specs.Hearing.{Heard, answered, answered_unread, com_of, command_answered, comset_of, hears, hears_answer, hears_busy, ignores, is_from_reader, is_numbered, loses, moved_by, numbered_in, opening_answered, pausing_hears, pd_id_of, waiting_hears}
+use Rattle.osdp_controller.specs.Hearing.{Heard, answered, answered_unread, com_of, command_answered, comset_of, hears, hears_busy, loses, moved_by, opening_answered, pausing_hears, pd_id_of, waiting_hears}
+use Rattle.osdp_controller.specs.Private.{numbered_in}
 use Rattle.osdp_controller.specs.Laws.{exchange_in}
 use Rattle.osdp_controller.specs.Machine.{IsMachine, Machine, after_begin, after_retarget, after_submit, changed_unless, refused_unless_closed, retarget_refusal, submit_refusal}
 use Rattle.osdp_controller.specs.Runs.{Call, Submit, Begin, Retarget, Tick, Hear, after_call, after_calls, sent_by}
@@ -33,6 +34,7 @@ use Rattle.osdp_controller.specs.Settings.{IsConfig, IsTime}
 use Rattle.osdp_controller.specs.Sessions.{frame_of, later, seen}
 use Rattle.osdp_controller.specs.Ticking.{Ticked, begins, gives_up, sends_frame, stays, ticks_in, tries_again}
 use Rattle.osdp_controller.proofs.Choices.{either_way}
+use Rattle.osdp_controller.proofs.Frames.{either_frame}
 use Rattle.osdp_controller.proofs.Stepwise.{sends_its_frame}
 use Rattle.osdp_controller.proofs.Well.{keeps_each}
 
@@ -202,10 +204,8 @@ numbered_near (Pausing until o) a s config near same = pausing_near a o s config
 frame_near : (p : Packet) (now : ℕ) (s : Session) → IsConfig s.config → Near s.state s.number s.greatest → FrameNear (hears p now s)
 frame_near p now s config near =
     let same = near_seen s.state s.number s.greatest now near in
-    either_way FrameNear (is_from_reader p s) (hears_answer p.sequence (answer_of p) (seen now s)) (ignores (seen now s))
-    (λ from. either_way FrameNear (is_numbered p.sequence (answer_of p) s) (numbered_in s.state (answer_of p) (seen now s)) (ignores (seen now s))
-    (λ h. numbered_near s.state (answer_of p) (seen now s) config same same) (λ h. same))
-    (λ from. same)
+    either_frame FrameNear p now s
+    (λ from h. numbered_near s.state (answer_of p) (seen now s) config same same) same
 
 -- each call
 

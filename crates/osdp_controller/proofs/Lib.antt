@@ -1,4 +1,5 @@
 pub mod Choices
+pub mod Frames
 pub mod Keeping
 pub mod Same
 pub mod Causes

@@ -1,5 +1,5 @@
 -- What one call keeps to.
-use Rattle.std.proofs.Common.{◌≡◌, ap, sym, subst, ℕ, ◌+◌, Bool, true, false, ◌||◌, List, [], ◌∷◌, Option, Some, None, refl}
+use Rattle.std.proofs.Common.{◌≡◌, ap, ℕ, ◌+◌, true, false, List, [], ◌∷◌, Option, Some, None, refl}
 use Rattle.std.specs.Prelude.{if◌then◌else◌, nat_lt, nat_le, is_none, is_some}
 use Rattle.osdp_frame.specs.Packet.{Packet, next_sequence}
 use Rattle.osdp_msg.specs.declared.command.Command.{Command}
@@ -21,13 +21,15 @@ use Rattle.osdp_controller.specs.declared.session.Session.{Session}
 use Rattle.osdp_controller.specs.declared.state.State.{State}
 use Rattle.osdp_controller.specs.declared.state.State.TheVariants.{Closed, Quiet, Idle, Waiting, Pausing}
 use Rattle.osdp_controller.specs.Answers.{answer_of}
-use Rattle.osdp_controller.specs.Calls.{BeginsWithFrame, KeepsSettings, WaitsUntilDue, address_behind, told_address}
-use Rattle.osdp_controller.specs.Hearing.{Heard, answered, answered_unread, com_of, command_answered, comset_of, event_in, hears, hears_answer, hears_busy, ignores, is_ack, is_from_reader, is_numbered, loses, moved_by, numbered_in, opening_answered, pausing_hears, pd_id_of, poll_told, waiting_hears}
+use Rattle.osdp_controller.specs.Calls.{BeginsWithFrame, KeepsSettings, WaitsUntilDue, told_address}
+use Rattle.osdp_controller.specs.Hearing.{Heard, answered, answered_unread, com_of, command_answered, comset_of, event_in, hears, hears_busy, is_ack, loses, moved_by, opening_answered, pausing_hears, pd_id_of, poll_told, waiting_hears}
+use Rattle.osdp_controller.specs.Private.{numbered_in}
 use Rattle.osdp_controller.specs.Machine.{Machine, acts, after_begin, after_retarget, after_submit, changed_unless, is_outstanding, refused_unless_closed, retarget_refusal, submit_refusal}
-use Rattle.osdp_controller.specs.Runs.{Call, Submit, Begin, Retarget, Tick, Hear, after_call, sent_by}
+use Rattle.osdp_controller.specs.Runs.{Call, Submit, Begin, Retarget, Tick, Hear}
 use Rattle.osdp_controller.specs.Sessions.{later, seen}
 use Rattle.osdp_controller.specs.Ticking.{Ticked, begins, gives_up, sends_frame, stays, ticks_in, tries_again}
 use Rattle.osdp_controller.proofs.Choices.{either_way}
+use Rattle.osdp_controller.proofs.Frames.{either_frame}
 use Rattle.osdp_controller.proofs.Stepwise.{frames_in_steps}
 
 -- an exchange begins
@@ -177,10 +179,8 @@ numbered_sets (Pausing until o) a s = pausing_sets a o s
 
 frame_sets : (p : Packet) (now : ℕ) (s : Session) → FrameSets s.config (hears p now s)
 frame_sets p now s =
-    either_way (FrameSets s.config) (is_from_reader p s) (hears_answer p.sequence (answer_of p) (seen now s)) (ignores (seen now s))
-    (λ from. either_way (FrameSets s.config) (is_numbered p.sequence (answer_of p) s) (numbered_in s.state (answer_of p) (seen now s)) (ignores (seen now s))
-    (λ h. numbered_sets s.state (answer_of p) (seen now s)) (λ h. refl))
-    (λ from. refl)
+    either_frame (FrameSets s.config) p now s
+    (λ from h. numbered_sets s.state (answer_of p) (seen now s)) refl
 
 abbrev AddressSet : Machine → ℕ → Machine → Type 0
 AddressSet m address k = k.session.config ≡ record m.session.config { address = address }

@@ -17,8 +17,8 @@ use Rattle.osdp_controller.specs.declared.exchange.Outstanding.{Outstanding}
 use Rattle.osdp_controller.specs.declared.session.Session.{Session}
 use Rattle.osdp_controller.specs.declared.state.State.{State}
 use Rattle.osdp_controller.specs.declared.state.State.TheVariants.{Waiting, Pausing}
-use Rattle.osdp_controller.specs.Hearing.{answered, answered_unread, com_of, command_answered, comset_of, event_in, moved_by, numbered_in, opening_answered, pausing_hears, pd_id_of, waiting_hears}
-use Rattle.osdp_controller.specs.Private.{is_no_answer, is_no_answer_in}
+use Rattle.osdp_controller.specs.Hearing.{answered, answered_unread, com_of, command_answered, comset_of, event_in, moved_by, opening_answered, pausing_hears, pd_id_of, waiting_hears}
+use Rattle.osdp_controller.specs.Private.{is_no_answer, is_no_answer_in, numbered_in}
 
 same_opening : (id : Option PdId) (s : Session) (a b : State) → is_none id ≡ false
     → opening_answered id (record s { state = a }) ≡ opening_answered id (record s { state = b })

@@ -13,7 +13,7 @@ use Rattle.osdp_controller.specs.declared.state.State.{State}
 use Rattle.osdp_controller.specs.declared.state.State.TheVariants.{Closed, Quiet, Idle, Waiting, Pausing}
 use Rattle.osdp_controller.specs.Answers.{answer_of}
 use Rattle.osdp_controller.specs.Exchanges.{submitted_command}
-use Rattle.osdp_controller.specs.Hearing.{hears_answer, ignores, is_from_reader}
+use Rattle.osdp_controller.specs.Hearing.{hears_in, ignores, is_from_reader}
 use Rattle.osdp_controller.specs.Laws.{CountsSends, KeepsTime, NumbersTakeTurns, TakesFront, TellsLost, exchange_in}
 use Rattle.osdp_controller.specs.Machine.{Machine, begin_refusal, begun, changed_unless, is_outstanding, sent_in}
 use Rattle.osdp_controller.specs.Sessions.{seen}
@@ -119,7 +119,7 @@ same_seen now s h = let e : max s.greatest now ≡ max s.greatest s.greatest = o
 pub keeps_time : (now : ℕ) (m : Machine) → KeepsTime now m
 keeps_time now m = record {
   by_tick = λ h. ap (λ (t : Session). ticks_in m.session.state t m.waiting) (same_seen now m.session h);
-  by_frame = λ p h. ap (λ (t : Session). if is_from_reader p m.session then hears_answer p.sequence (answer_of p) t else ignores t) (same_seen now m.session h);
+  by_frame = λ p h. ap (λ (t : Session). if is_from_reader p m.session then hears_in m.session.state p.sequence (answer_of p) t else ignores t) (same_seen now m.session h);
   by_begin = λ h. ap (λ (t : Session). changed_unless (begin_refusal m) m (record m { session = begun t })) (same_seen now m.session h);
 }
 

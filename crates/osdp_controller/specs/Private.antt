@@ -8,8 +8,8 @@ use Rattle.osdp_controller.specs.declared.exchange.Exchange.{Exchange}
 use Rattle.osdp_controller.specs.declared.exchange.Exchange.TheVariants.{Opening}
 use Rattle.osdp_controller.specs.declared.session.Session.{Session}
 use Rattle.osdp_controller.specs.declared.state.State.{State}
-use Rattle.osdp_controller.specs.declared.state.State.TheVariants.{Waiting, Pausing}
-use Rattle.osdp_controller.specs.Hearing.{pd_id_of}
+use Rattle.osdp_controller.specs.declared.state.State.TheVariants.{Closed, Quiet, Idle, Waiting, Pausing}
+use Rattle.osdp_controller.specs.Hearing.{Heard, ignores, pausing_hears, pd_id_of, waiting_hears}
 use Rattle.osdp_controller.specs.States.{is_idle, moment_of}
 
 -- the moment that the state waits for is reached
@@ -34,3 +34,11 @@ abbrev pub is_no_answer_in : State → Answer → Bool
 is_no_answer_in (Waiting until sends o) answer = is_no_answer o.exchange answer
 is_no_answer_in (Pausing until o) answer = is_no_answer o.exchange answer
 is_no_answer_in _ answer = false
+
+-- an answer with the number of the exchange, by the state; where none is outstanding it is ignored
+abbrev pub numbered_in : State → Answer → Session → Heard
+numbered_in Closed answer s = ignores s
+numbered_in (Quiet until) answer s = ignores s
+numbered_in (Idle due) answer s = ignores s
+numbered_in (Waiting until sends o) answer s = waiting_hears answer sends o s
+numbered_in (Pausing until o) answer s = pausing_hears answer o s

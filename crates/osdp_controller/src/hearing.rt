@@ -4,9 +4,9 @@ ghost use Rattle.std.specs.Prelude.{◌≡◌, ◌<◌, true, false, None, Some,
 ghost use Rattle.osdp_controller.specs.declared.answer.Answer.TheVariants.{Plain, Unreadable};
 ghost use Rattle.osdp_controller.specs.declared.report.Report.TheVariants.{Moved};
 ghost use Rattle.osdp_controller.specs.declared.state.State.TheVariants.{Pausing};
-ghost use Rattle.osdp_controller.specs.Hearing.{answered, answered_unread, com_of, command_answered, comset_of, event_in, hears, hears_busy, is_ack, is_from_reader, is_numbered, loses, moved_by, numbered_in, opening_answered, pausing_hears, pd_id_of, poll_told, rests, waiting_hears};
+ghost use Rattle.osdp_controller.specs.Hearing.{answered, answered_unread, com_of, command_answered, comset_of, event_in, hears, hears_busy, is_ack, is_from_reader, is_numbered, loses, moved_by, opening_answered, pausing_hears, pd_id_of, poll_told, rests, waiting_hears};
 ghost use Rattle.osdp_controller.specs.Machine.{IsSession};
-ghost use Rattle.osdp_controller.specs.Private.{is_no_answer, is_no_answer_in};
+ghost use Rattle.osdp_controller.specs.Private.{is_no_answer, is_no_answer_in, numbered_in};
 ghost use Rattle.osdp_controller.specs.Sessions.{closed};
 
 use crate::answer::Answer;
