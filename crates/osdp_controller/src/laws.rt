@@ -122,7 +122,7 @@ pub fn stays_in_range()
     ensures { StaysInRange }
 {}
 
-/// Each frame that goes out is a packet.
+/// Each frame that goes out is a packet, where the command that it asks is in its ranges.
 pub fn sends_packets()
     ensures { SendsPackets }
 {}
