@@ -13,12 +13,12 @@ use Rattle.osdp_controller.specs.declared.session.Session.{Session}
 use Rattle.osdp_controller.specs.declared.state.State.{State}
 use Rattle.osdp_controller.specs.declared.state.State.TheVariants.{Closed, Quiet, Idle, Waiting, Pausing}
 use Rattle.osdp_controller.specs.Answers.{answer_of}
-use Rattle.osdp_controller.specs.Hearing.{Heard, hears, hears_answer, ignores, is_from_reader, is_numbered, numbered_in}
+use Rattle.osdp_controller.specs.Hearing.{Heard, hears}
 use Rattle.osdp_controller.specs.Machine.{IsMachine, IsOutstanding, IsSession, IsState, IsSubmitted, Machine, OpensAtZero, after_begin, after_retarget, is_outstanding, sent_in, submit_refusal}
 use Rattle.osdp_controller.specs.Runs.{Call, Submit, Begin, Retarget, Tick, Hear, Lasts, SendsFew, after_call, frames, sent_by}
 use Rattle.osdp_controller.specs.Sessions.{seen}
 use Rattle.osdp_controller.specs.Ticking.{Ticked, begins, gives_up, sends_frame, stays, ticks_in, tries_again}
-use Rattle.osdp_controller.proofs.Choices.{either_way}
+use Rattle.osdp_controller.proofs.Frames.{either_frame}
 use Rattle.osdp_controller.proofs.Keeping.{keeps_begins, keeps_numbered, keeps_seen, keeps_ticks}
 use Rattle.osdp_controller.proofs.Lasting.{Holds, HoldsMachine, first_sent, holds_call, more, not_begun, not_moved, submit_session}
 
@@ -62,10 +62,8 @@ keeps_out (Pausing until o) s w h is =
 pub keeps_hears : (p : Packet) (now : ℕ) (s : Session) → IsSession s → IsSession (hears p now s).session
 keeps_hears p now s is =
     let after = keeps_seen now s is in
-    either_way (λ (h : Heard). IsSession h.session) (is_from_reader p s) (hears_answer p.sequence (answer_of p) (seen now s)) (ignores (seen now s))
-    (λ from. either_way (λ (h : Heard). IsSession h.session) (is_numbered p.sequence (answer_of p) s) (numbered_in s.state (answer_of p) (seen now s)) (ignores (seen now s))
-    (λ h. keeps_numbered s.state (answer_of p) (seen now s) is.state is.opening after) (λ h. after))
-    (λ from. after)
+    either_frame (λ (h : Heard). IsSession h.session) p now s
+    (λ from h. keeps_numbered s.state (answer_of p) (seen now s) is.state is.opening after) after
 
 keeps_call : (call : Call) (m : Machine) → is_outstanding m.session.state ≡ true → IsSession m.session → IsSession (after_call call m).session
 keeps_call (Submit command) m h is = subst IsSession (sym (submit_session (submit_refusal command m) command m)) is

@@ -1,5 +1,5 @@
 -- What must have come where a frame is told about.
-use Rattle.std.proofs.Common.{◌≡◌, ◌∙◌, ap, subst, ℕ, ◌+◌, Bool, true, false, ◌&&◌, ◌||◌, Option, Some, None, refl}
+use Rattle.std.proofs.Common.{◌≡◌, ◌∙◌, ap, subst, ℕ, ◌+◌, Bool, true, false, not, ◌&&◌, ◌||◌, Option, Some, None, refl}
 use Rattle.std.specs.Prelude.{if◌then◌else◌, nat_lt, ◌==◌}
 use Rattle.std.proofs.lemmas.Bool.{eq-eqb, eqb-true}
 use Rattle.osdp_frame.specs.Packet.{Packet}
@@ -23,11 +23,13 @@ use Rattle.osdp_controller.specs.declared.session.Session.{Session}
 use Rattle.osdp_controller.specs.declared.state.State.{State}
 use Rattle.osdp_controller.specs.declared.state.State.TheVariants.{Closed, Quiet, Idle, Waiting, Pausing}
 use Rattle.osdp_controller.specs.Answers.{answer_of, is_not_taken}
-use Rattle.osdp_controller.specs.Hearing.{Heard, answered, answered_unread, com_of, command_answered, comset_of, event_in, hears, hears_answer, ignores, is_ack, is_from_reader, is_numbered, loses, moved_by, numbered_in, opening_answered, pausing_hears, pd_id_of, poll_told, waiting_hears}
-use Rattle.osdp_controller.specs.Laws.{Comes, ComesNumbered, HearsAnswers, TellsWhy, WhyTold, exchange_in}
+use Rattle.osdp_controller.specs.Hearing.{Heard, answered, answered_unread, com_of, command_answered, comset_of, event_in, hears, ignores, is_ack, is_from_reader, is_numbered, loses, moved_by, opening_answered, pausing_hears, pd_id_of, poll_told, waiting_hears}
+use Rattle.osdp_controller.specs.Private.{numbered_in}
+use Rattle.osdp_controller.specs.Laws.{Comes, ComesNumbered, HearsAnswers, IsFromReader, TellsWhy, WhyTold, exchange_in}
 use Rattle.osdp_controller.specs.Machine.{IsSession, OpensAtZero}
 use Rattle.osdp_controller.specs.Sessions.{later, seen}
 use Rattle.osdp_controller.proofs.Choices.{either_way}
+use Rattle.osdp_controller.proofs.Frames.{by_number, by_tests, either_frame}
 
 -- where something is told
 abbrev WhyIf : Option Report → Packet → Session → Type 0
@@ -153,22 +155,43 @@ why_pausing NumberRefused o p s t comes h zero = (o.exchange, numbered p s o.exc
 why_pausing (Plain reply) o p s t comes h zero = why_answered o.exchange reply p s t (numbered p s o.exchange (Plain reply) refl comes h) zero
 why_pausing (Unreadable code) o p s t comes h zero = why_unread o.exchange code p s t (numbered p s o.exchange (Unreadable code) refl comes h)
 
+-- a frame from the own reader
+
+own_reader : (reply same block : Bool) → (reply && same && not block) ≡ true → (reply ≡ true) × (same ≡ true) × (block ≡ false)
+own_reader true true false h = (refl, refl, refl)
+own_reader true true true h = cc
+own_reader true false block h = cc
+own_reader false same block h = cc
+
+pub is_reader : (p : Packet) (s : Session) → is_from_reader p s ≡ true → IsFromReader p s
+is_reader p s h =
+    let own = own_reader p.reply (p.address == s.config.address) p.block h in
+    record { reply = own.0; address = eqb-true p.address s.config.address own.1; without_block = own.2 }
+
+all_three : (reply same block : Bool) → reply ≡ true → same ≡ true → block ≡ false → (reply && same && not block) ≡ true
+all_three true true false h k l = refl
+all_three true true true h k l = cc
+all_three true false block h k l = cc
+all_three false same block h k l = cc
+
+pub of_reader : (p : Packet) (s : Session) → IsFromReader p s → is_from_reader p s ≡ true
+of_reader p s is =
+    all_three p.reply (p.address == s.config.address) p.block is.reply (eq-eqb p.address s.config.address is.address) is.without_block
+
 why_numbered : (state : State) (answer : Answer) (p : Packet) (s t : Session) → exchange_in s.state ≡ exchange_in state → is_from_reader p s ≡ true → answer_of p ≡ answer
     → is_numbered p.sequence answer s ≡ true → OpensAtZero state s.number → WhyIf (numbered_in state answer t).report p s
 why_numbered Closed answer p s t out from says h zero = tt
 why_numbered (Quiet until) answer p s t out from says h zero = tt
 why_numbered (Idle due) answer p s t out from says h zero = tt
 why_numbered (Waiting until sends o) answer p s t out from says h zero =
-    why_waiting answer sends o p s t (record { from_reader = from; outstanding = out; says = says }) h zero
+    why_waiting answer sends o p s t (record { from_reader = is_reader p s from; outstanding = out; says = says }) h zero
 why_numbered (Pausing until o) answer p s t out from says h zero =
-    why_pausing answer o p s t (record { from_reader = from; outstanding = out; says = says }) h zero
+    why_pausing answer o p s t (record { from_reader = is_reader p s from; outstanding = out; says = says }) h zero
 
 why_if : (p : Packet) (now : ℕ) (s : Session) → IsSession s → WhyIf (hears p now s).report p s
 why_if p now s is =
-    either_way (λ (e : Heard). WhyIf e.report p s) (is_from_reader p s) (hears_answer p.sequence (answer_of p) (seen now s)) (ignores (seen now s))
-    (λ from. either_way (λ (e : Heard). WhyIf e.report p s) (is_numbered p.sequence (answer_of p) s) (numbered_in s.state (answer_of p) (seen now s)) (ignores (seen now s))
-    (λ h. why_numbered s.state (answer_of p) p s (seen now s) refl from refl h is.opening) (λ h. tt))
-    (λ from. tt)
+    either_frame (λ (e : Heard). WhyIf e.report p s) p now s
+    (λ from h. why_numbered s.state (answer_of p) p s (seen now s) refl from refl h is.opening) tt
 
 pub tells_why : TellsWhy
 tells_why p now s report is e = subst (λ (o : Option Report). WhyIf o p s) e (why_if p now s is)
@@ -192,7 +215,8 @@ numbered_plain (Pausing until o) x reply t h = cc
 pub hears_answers : HearsAnswers
 hears_answers p now s x reply is =
     let comes = is.comes in
-    if_true (is_from_reader p s) (hears_answer p.sequence (answer_of p) (seen now s)) (ignores (seen now s)) comes.from_reader
+    by_tests p now s
+    ∙ (if_true (is_from_reader p s) (by_number p now s) (ignores (seen now s)) (of_reader p s comes.from_reader)
     ∙ (if_true (is_numbered p.sequence (answer_of p) s) (numbered_in s.state (answer_of p) (seen now s)) (ignores (seen now s))
     (same_number p.sequence s.number (p.sequence == 0 && is_not_taken (answer_of p)) is.number)
-    ∙ (ap (λ (a : Answer). numbered_in s.state a (seen now s)) comes.says ∙ numbered_plain s.state x reply (seen now s) comes.outstanding))
+    ∙ (ap (λ (a : Answer). numbered_in s.state a (seen now s)) comes.says ∙ numbered_plain s.state x reply (seen now s) comes.outstanding)))

@@ -23,7 +23,8 @@ use Rattle.osdp_controller.specs.Exchanges.{submitted_command}
 use Rattle.osdp_controller.specs.Settings.{IsConfig}
 use Rattle.osdp_controller.specs.Sessions.{after_send, later, seen}
 use Rattle.osdp_controller.specs.Ticking.{Ticked, begins, gives_up, sends_frame, stays, ticks_in, tries_again}
-use Rattle.osdp_controller.specs.Hearing.{Heard, answered, answered_unread, com_of, command_answered, comset_of, hears_busy, loses, moved_by, numbered_in, opening_answered, pausing_hears, pd_id_of, waiting_hears}
+use Rattle.osdp_controller.specs.Hearing.{Heard, answered, answered_unread, com_of, command_answered, comset_of, hears_busy, loses, moved_by, opening_answered, pausing_hears, pd_id_of, waiting_hears}
+use Rattle.osdp_controller.specs.Private.{numbered_in}
 use Rattle.osdp_controller.specs.Machine.{IsOutstanding, IsSession, IsState, IsSubmitted, OpensAtZero}
 use Rattle.osdp_controller.proofs.Choices.{either_way, first_true}
 

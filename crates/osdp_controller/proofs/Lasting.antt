@@ -19,12 +19,14 @@ use Rattle.osdp_controller.specs.declared.session.Session.{Session}
 use Rattle.osdp_controller.specs.declared.state.State.{State}
 use Rattle.osdp_controller.specs.declared.state.State.TheVariants.{Closed, Quiet, Idle, Waiting, Pausing}
 use Rattle.osdp_controller.specs.Answers.{answer_of}
-use Rattle.osdp_controller.specs.Hearing.{Heard, answered, answered_unread, com_of, command_answered, comset_of, hears, hears_answer, hears_busy, ignores, is_from_reader, is_numbered, loses, moved_by, numbered_in, opening_answered, pausing_hears, pd_id_of, waiting_hears}
+use Rattle.osdp_controller.specs.Hearing.{Heard, answered, answered_unread, com_of, command_answered, comset_of, hears, hears_busy, loses, moved_by, opening_answered, pausing_hears, pd_id_of, waiting_hears}
+use Rattle.osdp_controller.specs.Private.{numbered_in}
 use Rattle.osdp_controller.specs.Machine.{Machine, after_begin, after_retarget, after_submit, changed_unless, is_outstanding, or_no_device, refused_unless_closed, sent_in, submit_refusal}
 use Rattle.osdp_controller.specs.Runs.{Call, Submit, Begin, Retarget, Tick, Hear, Lasts, ResendsTheSame, after_call, frames, sent_by}
 use Rattle.osdp_controller.specs.Sessions.{frame_of, later, seen}
 use Rattle.osdp_controller.specs.Ticking.{Ticked, begins, gives_up, sends_frame, stays, ticks_in, tries_again}
 use Rattle.osdp_controller.proofs.Choices.{either_way}
+use Rattle.osdp_controller.proofs.Frames.{either_frame}
 
 -- where an exchange is outstanding: this is its packet, it has sent so many frames, and the settings are these
 abbrev pub Holds : Packet → ControllerConfig → ℕ → State → Session → Type 0
@@ -136,10 +138,8 @@ holds_hears : (p : Packet) (c : ControllerConfig) (n : ℕ) (q : Packet) (now : 
     → HoldsHeard p c n (hears q now s)
 holds_hears p c n q now s at =
     let same = holds_seen p c n now s.state s at in
-    either_way (HoldsHeard p c n) (is_from_reader q s) (hears_answer q.sequence (answer_of q) (seen now s)) (ignores (seen now s))
-    (λ from. either_way (HoldsHeard p c n) (is_numbered q.sequence (answer_of q) s) (numbered_in s.state (answer_of q) (seen now s)) (ignores (seen now s))
-    (λ h. holds_numbered p c n s.state (answer_of q) (seen now s) same same) (λ h. same))
-    (λ from. same)
+    either_frame (HoldsHeard p c n) q now s
+    (λ from h. holds_numbered p c n s.state (answer_of q) (seen now s) same same) same
 
 -- calls that are refused while an exchange is outstanding
 

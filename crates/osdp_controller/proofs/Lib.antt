@@ -1,4 +1,5 @@
 pub mod Choices
+pub mod Frames
 pub mod Keeping
 pub mod Same
 pub mod Causes
@@ -8,3 +9,7 @@ pub mod Lasting
 pub mod Bounded
 pub mod Stepwise
 pub mod Well
+pub mod Endings
+pub mod InOrder
+pub mod OneCall
+pub mod InRange

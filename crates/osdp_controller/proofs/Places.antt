@@ -18,13 +18,15 @@ use Rattle.osdp_controller.specs.declared.session.Session.{Session}
 use Rattle.osdp_controller.specs.declared.state.State.{State}
 use Rattle.osdp_controller.specs.declared.state.State.TheVariants.{Closed, Quiet, Idle, Waiting, Pausing}
 use Rattle.osdp_controller.specs.Answers.{answer_of}
-use Rattle.osdp_controller.specs.Hearing.{Heard, answered, answered_unread, com_of, command_answered, comset_of, hears, hears_answer, hears_busy, ignores, is_from_reader, is_numbered, loses, moved_by, numbered_in, opening_answered, pausing_hears, pd_id_of, waiting_hears}
+use Rattle.osdp_controller.specs.Hearing.{Heard, answered, answered_unread, com_of, command_answered, comset_of, hears, hears_busy, loses, moved_by, opening_answered, pausing_hears, pd_id_of, waiting_hears}
+use Rattle.osdp_controller.specs.Private.{numbered_in}
 use Rattle.osdp_controller.specs.Machine.{Machine, after_begin, after_retarget, after_submit, changed_unless, is_outstanding, refused_unless_closed, retarget_refusal, sent_in, submit_refusal}
 use Rattle.osdp_controller.specs.Runs.{Call, Submit, Begin, Retarget, Tick, Hear, HasNumberOfPlace, NumbersByPlace, after_call, after_calls, count_behind, count_from, exchanges_begun, sent_by}
 use Rattle.osdp_controller.specs.Sessions.{later, seen}
 use Rattle.osdp_controller.specs.States.{is_closed}
 use Rattle.osdp_controller.specs.Ticking.{Ticked, begins, gives_up, sends_frame, stays, ticks_in, tries_again}
 use Rattle.osdp_controller.proofs.Choices.{either_way}
+use Rattle.osdp_controller.proofs.Frames.{either_frame}
 use Rattle.osdp_controller.proofs.Ticks.{numbers_turn}
 
 -- by the state: the latest of so many exchanges has this number, and an outstanding one has sent a frame
@@ -134,10 +136,8 @@ placed_numbered count (Pausing until o) a s at same = placed_pausing count a o s
 
 placed_hears : (count : ℕ) (p : Packet) (now : ℕ) (s : Session) → Placed count s.state s.number → PlacedIn count (hears p now s)
 placed_hears count p now s at =
-    either_way (PlacedIn count) (is_from_reader p s) (hears_answer p.sequence (answer_of p) (seen now s)) (ignores (seen now s))
-    (λ from. either_way (PlacedIn count) (is_numbered p.sequence (answer_of p) s) (numbered_in s.state (answer_of p) (seen now s)) (ignores (seen now s))
-    (λ h. placed_numbered count s.state (answer_of p) (seen now s) at at) (λ h. at))
-    (λ from. at)
+    either_frame (PlacedIn count) p now s
+    (λ from h. placed_numbered count s.state (answer_of p) (seen now s) at at) at
 
 -- calls that may be refused
 

@@ -17,7 +17,8 @@ use Rattle.osdp_controller.specs.declared.exchange.Outstanding.{Outstanding}
 use Rattle.osdp_controller.specs.declared.session.Session.{Session}
 use Rattle.osdp_controller.specs.declared.state.State.{State}
 use Rattle.osdp_controller.specs.declared.state.State.TheVariants.{Waiting, Pausing}
-use Rattle.osdp_controller.specs.Hearing.{answered, answered_unread, com_of, command_answered, comset_of, event_in, is_beside, is_beside_in, moved_by, numbered_in, opening_answered, pausing_hears, pd_id_of, waiting_hears}
+use Rattle.osdp_controller.specs.Hearing.{answered, answered_unread, com_of, command_answered, comset_of, event_in, moved_by, opening_answered, pausing_hears, pd_id_of, waiting_hears}
+use Rattle.osdp_controller.specs.Private.{is_no_answer, is_no_answer_in, numbered_in}
 
 same_opening : (id : Option PdId) (s : Session) (a b : State) → is_none id ≡ false
     → opening_answered id (record s { state = a }) ≡ opening_answered id (record s { state = b })
@@ -29,19 +30,19 @@ same_command : (moved : Option Communication) (command : Command) (reply : Reply
 same_command None command reply s a b = refl
 same_command (Some d) command reply s a b = refl
 
-pub same_answered : (x : Exchange) (reply : Reply) (s : Session) (a b : State) → is_beside x (Plain reply) ≡ false
+pub same_answered : (x : Exchange) (reply : Reply) (s : Session) (a b : State) → is_no_answer x (Plain reply) ≡ false
     → answered x reply (record s { state = a }) ≡ answered x reply (record s { state = b })
 same_answered Opening reply s a b h = same_opening (pd_id_of reply) s a b h
 same_answered Polling reply s a b h = refl
 same_answered (Asking command) reply s a b h = same_command (moved_by (comset_of command) (com_of reply)) command reply s a b
 
-pub same_unread : (x : Exchange) (code : ℕ) (s : Session) (a b : State) → is_beside x (Unreadable code) ≡ false
+pub same_unread : (x : Exchange) (code : ℕ) (s : Session) (a b : State) → is_no_answer x (Unreadable code) ≡ false
     → answered_unread x code (record s { state = a }) ≡ answered_unread x code (record s { state = b })
 same_unread Opening code s a b h = cc
 same_unread Polling code s a b h = refl
 same_unread (Asking command) code s a b h = refl
 
-pub same_waiting : (answer : Answer) (sends : ℕ) (o : Outstanding) (s : Session) (a b : State) → is_beside o.exchange answer ≡ false
+pub same_waiting : (answer : Answer) (sends : ℕ) (o : Outstanding) (s : Session) (a b : State) → is_no_answer o.exchange answer ≡ false
     → waiting_hears answer sends o (record s { state = a }) ≡ waiting_hears answer sends o (record s { state = b })
 same_waiting NotTaken sends o s a b h = refl
 same_waiting Damaged sends o s a b h = refl
@@ -51,11 +52,11 @@ same_waiting (Unreadable code) sends o s a b h = same_unread o.exchange code s a
 
 -- an answer in a state that is put aside before
 pub numbered_waiting : (answer : Answer) (until sends : ℕ) (o : Outstanding) (s : Session) (a state : State) → state ≡ Waiting until sends o
-    → is_beside_in state answer ≡ false
+    → is_no_answer_in state answer ≡ false
     → waiting_hears answer sends o (record s { state = a }) ≡ numbered_in state answer (record s { state = state })
 numbered_waiting answer until sends o s a state e h =
-    let beside = rw e at h in
-    rw e (same_waiting answer sends o s a (Waiting until sends o) beside)
+    let none = rw e at h in
+    rw e (same_waiting answer sends o s a (Waiting until sends o) none)
 
 pub numbered_pausing : (answer : Answer) (until : ℕ) (o : Outstanding) (s : Session) (state : State) → state ≡ Pausing until o
     → pausing_hears answer o (record s { state = Pausing until o }) ≡ numbered_in state answer (record s { state = state })
@@ -93,8 +94,8 @@ event_answer r (Ok e) is only back = rw is (event_in_event e)
 event_answer r (Err x) is only back = (back, no_event r (λ e h. let no = only e h in cc))
 
 -- an answer in a pause
-pub pausing_plain : (answer : Answer) (reply : Reply) (until : ℕ) (o : Outstanding) (s : Session) → answer ≡ Plain reply → is_beside o.exchange answer ≡ false
+pub pausing_plain : (answer : Answer) (reply : Reply) (until : ℕ) (o : Outstanding) (s : Session) → answer ≡ Plain reply → is_no_answer o.exchange answer ≡ false
     → answered o.exchange reply s ≡ pausing_hears answer o (record s { state = Pausing until o })
 pausing_plain answer reply until o s e h =
-    let beside = rw e at h in
-    rw e (same_answered o.exchange reply s s.state (Pausing until o) beside)
+    let none = rw e at h in
+    rw e (same_answered o.exchange reply s s.state (Pausing until o) none)

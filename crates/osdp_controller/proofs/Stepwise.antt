@@ -18,14 +18,16 @@ use Rattle.osdp_controller.specs.declared.session.Session.{Session}
 use Rattle.osdp_controller.specs.declared.state.State.{State}
 use Rattle.osdp_controller.specs.declared.state.State.TheVariants.{Closed, Quiet, Idle, Waiting, Pausing}
 use Rattle.osdp_controller.specs.Answers.{answer_of, is_not_taken}
-use Rattle.osdp_controller.specs.Hearing.{Heard, answered, answered_unread, com_of, command_answered, comset_of, event_in, hears, hears_answer, ignores, is_from_reader, is_numbered, moved_by, numbered_in, poll_told}
-use Rattle.osdp_controller.specs.Laws.{Comes, ComesNumbered, exchange_in}
+use Rattle.osdp_controller.specs.Hearing.{Heard, answered, answered_unread, com_of, command_answered, comset_of, event_in, hears, hears_in, ignores, is_from_reader, is_numbered, moved_by, poll_told}
+use Rattle.osdp_controller.specs.Private.{numbered_in}
+use Rattle.osdp_controller.specs.Laws.{Comes, ComesNumbered, IsFromReader, exchange_in}
 use Rattle.osdp_controller.specs.Machine.{Machine, is_outstanding}
 use Rattle.osdp_controller.specs.Sessions.{at_rest, frame_of, seen}
 use Rattle.osdp_controller.specs.Steps.{Exchanged, ExchangesInSteps, FramesInSteps, IsAheadAt, IsReachedAt, IsReplyTo, SendsItsFrame, TicksInSteps, moved_away}
 use Rattle.osdp_controller.specs.Ticking.{Ticked, begins, gives_up, sends_frame, stays, ticks, ticks_in, tries_again}
-use Rattle.osdp_controller.proofs.Causes.{hears_answers}
+use Rattle.osdp_controller.proofs.Causes.{hears_answers, is_reader, of_reader}
 use Rattle.osdp_controller.proofs.Choices.{either_way}
+use Rattle.osdp_controller.proofs.Frames.{by_number, by_tests}
 
 if_true : {A : Type 0} (b : Bool) (x y : A) → b ≡ true → (if b then x else y) ≡ x
 if_true true x y h = refl
@@ -74,17 +76,25 @@ ticks_in_steps now s w = record {
 
 -- frames
 
-of_others : (p : Packet) (now : ℕ) (s : Session) → is_from_reader p s ≡ false → hears p now s ≡ ignores (seen now s)
-of_others p now s h = if_false (is_from_reader p s) (hears_answer p.sequence (answer_of p) (seen now s)) (ignores (seen now s)) h
+not_true : (b : Bool) → (b ≡ true → ⊥) → b ≡ false
+not_true true h = absurd (h refl)
+not_true false h = refl
 
-from_reader : (p : Packet) (now : ℕ) (s : Session) → is_from_reader p s ≡ true → hears p now s ≡ hears_answer p.sequence (answer_of p) (seen now s)
-from_reader p now s h = if_true (is_from_reader p s) (hears_answer p.sequence (answer_of p) (seen now s)) (ignores (seen now s)) h
+of_others : (p : Packet) (now : ℕ) (s : Session) → (IsFromReader p s → ⊥) → hears p now s ≡ ignores (seen now s)
+of_others p now s h =
+    if_false (is_from_reader p s) (hears_in s.state p.sequence (answer_of p) (seen now s)) (ignores (seen now s))
+    (not_true (is_from_reader p s) (λ from. h (is_reader p s from)))
+
+from_reader : (p : Packet) (now : ℕ) (s : Session) → is_from_reader p s ≡ true → hears p now s ≡ by_number p now s
+from_reader p now s h = by_tests p now s ∙ if_true (is_from_reader p s) (by_number p now s) (ignores (seen now s)) h
+
+either_number : (b : Bool) (x y : Heard) → x ≡ y → (if b then x else y) ≡ y
+either_number true x y e = e
+either_number false x y e = refl
 
 -- what holds whether or not a frame comes from the reader
-either_sender : (p : Packet) (now : ℕ) (s : Session) → hears_answer p.sequence (answer_of p) (seen now s) ≡ ignores (seen now s)
-    → (b : Bool) → (if b then hears_answer p.sequence (answer_of p) (seen now s) else ignores (seen now s)) ≡ ignores (seen now s)
-either_sender p now s e true = e
-either_sender p now s e false = refl
+either_sender : (p : Packet) (now : ℕ) (s : Session) → by_number p now s ≡ ignores (seen now s) → hears p now s ≡ ignores (seen now s)
+either_sender p now s e = by_tests p now s ∙ either_number (is_from_reader p s) (by_number p now s) (ignores (seen now s)) e
 
 ignored_in : (state : State) (a : Answer) (s : Session) → is_outstanding state ≡ false → numbered_in state a s ≡ ignores s
 ignored_in Closed a s h = refl
@@ -93,16 +103,11 @@ ignored_in (Idle due) a s h = refl
 ignored_in (Waiting until sends o) a s h = cc
 ignored_in (Pausing until o) a s h = cc
 
-either_number : (b : Bool) (x y : Heard) → x ≡ y → (if b then x else y) ≡ y
-either_number true x y e = e
-either_number false x y e = refl
-
 not_outstanding : (p : Packet) (now : ℕ) (s : Session) → is_outstanding s.state ≡ false → hears p now s ≡ ignores (seen now s)
 not_outstanding p now s h =
     either_sender p now s
     (either_number (is_numbered p.sequence (answer_of p) s) (numbered_in s.state (answer_of p) (seen now s)) (ignores (seen now s))
     (ignored_in s.state (answer_of p) (seen now s) h))
-    (is_from_reader p s)
 
 neither : (a b c : Bool) → a ≡ false → (b ≡ false) ⊎ (c ≡ false) → (a || b && c) ≡ false
 neither true b c h k = cc
@@ -121,7 +126,6 @@ of_another p now s h k =
     (if_false (is_numbered p.sequence (answer_of p) s) (numbered_in s.state (answer_of p) (seen now s)) (ignores (seen now s))
     (neither (p.sequence == s.number) (p.sequence == 0) (is_not_taken (answer_of p)) (ne_eqb p.sequence s.number h)
     (not_zero p.sequence (is_not_taken (answer_of p)) k)))
-    (is_from_reader p s)
 
 -- an answer with the number of the exchange
 numbered : (p : Packet) (now : ℕ) (s : Session) (state : State) (a : Answer) → is_from_reader p s ≡ true → is_numbered p.sequence (answer_of p) s ≡ true
@@ -154,13 +158,13 @@ own_number p s x a is = has_number p.sequence s.number (p.sequence == 0 && is_no
 numbered_by : (p : Packet) (now : ℕ) (s : Session) (state : State) (x : Exchange) (a : Answer) → ComesNumbered p s x a → s.state ≡ state
     → hears p now s ≡ numbered_in state a (seen now s)
 numbered_by p now s state x a is e =
-    let comes = is.comes in numbered p now s state a comes.from_reader (own_number p s x a is) e comes.says
+    let comes = is.comes in numbered p now s state a (of_reader p s comes.from_reader) (own_number p s x a is) e comes.says
 
 -- a BUSY in a pause is ignored, whatever its number
 busy_again : (p : Packet) (now : ℕ) (s : Session) (until : ℕ) (o : Outstanding) → s.state ≡ Pausing until o → Comes p s o.exchange NotTaken
     → hears p now s ≡ ignores (seen now s)
 busy_again p now s until o e is =
-    from_reader p now s is.from_reader
+    from_reader p now s (of_reader p s is.from_reader)
     ∙ either_number (is_numbered p.sequence (answer_of p) s) (numbered_in s.state (answer_of p) (seen now s)) (ignores (seen now s))
     (ap (λ (t : State). numbered_in t (answer_of p) (seen now s)) e
     ∙ ap (λ (a : Answer). numbered_in (Pausing until o) a (seen now s)) is.says)
@@ -178,7 +182,7 @@ frames_in_steps p now s = record {
   not_outstanding = not_outstanding p now s;
   of_another = of_another p now s;
   busy = λ until sends o e is number.
-      numbered p now s (Waiting until sends o) NotTaken is.from_reader (busy_number p s is.says number) e is.says;
+      numbered p now s (Waiting until sends o) NotTaken (of_reader p s is.from_reader) (busy_number p s is.says number) e is.says;
   busy_again = busy_again p now s;
   damaged = λ until sends o e is. numbered_by p now s (Waiting until sends o) o.exchange Damaged is e;
   damaged_before = λ until o e is. numbered_by p now s (Pausing until o) o.exchange Damaged is e;
@@ -197,8 +201,9 @@ sent x number now s = (begins x number (seen now s) []).session
 heard_reply : (x : Exchange) (number now answered_at : ℕ) (s : Session) (q : Packet) (reply : Reply) → IsReplyTo number s q reply
     → hears q answered_at (sent x number now s) ≡ answered x reply (seen answered_at (sent x number now s))
 heard_reply x number now answered_at s q reply is =
+    let from = is.from_reader in
     hears_answers q answered_at (sent x number now s) x reply
-    (record { comes = record { from_reader = is.from_reader; outstanding = refl; says = is.says }; number = is.sequence })
+    (record { comes = record { from_reader = record { reply = from.reply; address = from.address; without_block = from.without_block }; outstanding = refl; says = is.says }; number = is.sequence })
 
 abbrev behind_tick : Machine → Ticked → Machine
 behind_tick m t = record m { session = t.session; waiting = t.waiting }

@@ -13,9 +13,9 @@ use Rattle.osdp_controller.specs.declared.state.State.{State}
 use Rattle.osdp_controller.specs.declared.state.State.TheVariants.{Closed, Quiet, Idle, Waiting, Pausing}
 use Rattle.osdp_controller.specs.Answers.{answer_of}
 use Rattle.osdp_controller.specs.Exchanges.{submitted_command}
-use Rattle.osdp_controller.specs.Hearing.{hears_answer, ignores, is_from_reader}
+use Rattle.osdp_controller.specs.Hearing.{hears_in, ignores, is_from_reader}
 use Rattle.osdp_controller.specs.Laws.{CountsSends, KeepsTime, NumbersTakeTurns, TakesFront, TellsLost, exchange_in}
-use Rattle.osdp_controller.specs.Machine.{is_outstanding, sent_in}
+use Rattle.osdp_controller.specs.Machine.{Machine, begin_refusal, begun, changed_unless, is_outstanding, sent_in}
 use Rattle.osdp_controller.specs.Sessions.{seen}
 use Rattle.osdp_controller.specs.States.{is_idle}
 use Rattle.osdp_controller.specs.Ticking.{Ticked, begins, gives_up, sends_frame, stays, ticks_in, tries_again}
@@ -116,10 +116,11 @@ tells_lost now s w report e = subst (λ (o : Option Report). LostIf s.state o) e
 same_seen : (now : ℕ) (s : Session) → now ≤ s.greatest → seen now s ≡ seen s.greatest s
 same_seen now s h = let e : max s.greatest now ≡ max s.greatest s.greatest = omega arith in ap (λ (g : ℕ). record s { greatest = g }) e
 
-pub keeps_time : (now : ℕ) (s : Session) → KeepsTime now s
-keeps_time now s = record {
-  ticks = λ w h. ap (λ (t : Session). ticks_in s.state t w) (same_seen now s h);
-  frames = λ p h. ap (λ (t : Session). if is_from_reader p s then hears_answer p.sequence (answer_of p) t else ignores t) (same_seen now s h);
+pub keeps_time : (now : ℕ) (m : Machine) → KeepsTime now m
+keeps_time now m = record {
+  by_tick = λ h. ap (λ (t : Session). ticks_in m.session.state t m.waiting) (same_seen now m.session h);
+  by_frame = λ p h. ap (λ (t : Session). if is_from_reader p m.session then hears_in m.session.state p.sequence (answer_of p) t else ignores t) (same_seen now m.session h);
+  by_begin = λ h. ap (λ (t : Session). changed_unless (begin_refusal m) m (record m { session = begun t })) (same_seen now m.session h);
 }
 
 -- numbers

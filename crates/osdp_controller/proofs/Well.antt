@@ -123,7 +123,7 @@ wait_well capacity (Pausing until o) s w all room =
 
 -- each call
 
-keeps_each : (call : Call) (m : Machine) → IsMachine m → IsMachine (after_call call m)
+pub keeps_each : (call : Call) (m : Machine) → IsMachine m → IsMachine (after_call call m)
 keeps_each (Submit command) m is = keeps_submit (submit_refusal command m) command m (has_room command m) is
 keeps_each (Begin now) m is = keeps_begin now m.session.state m is
 keeps_each (Retarget address) m is =

@@ -1,5 +1,5 @@
 -- The table of frames: what a frame from the line brings about.
-use Rattle.std.specs.Prelude.{ℕ, ◌+◌, Bool, true, false, not, ◌&&◌, ◌||◌, ◌==◌, nat_lt, if◌then◌else◌, Option, Some, None, is_none}
+use Rattle.std.specs.Prelude.{ℕ, ◌+◌, Bool, true, false, not, ◌&&◌, ◌||◌, ◌==◌, nat_lt, if◌then◌else◌, Option, Some, None}
 use Rattle.osdp_frame.specs.Packet.{Packet}
 use Rattle.osdp_msg.specs.declared.command.Command.{Command}
 use Rattle.osdp_msg.specs.declared.command.Command.TheVariants.{Comset}
@@ -123,18 +123,6 @@ answered_unread Opening code s = ignores s
 answered_unread Polling code s = rests (Some (Unread None code)) s
 answered_unread (Asking command) code s = rests (Some (Unread (Some command) code)) s
 
--- an answer that is none to the exchange: the opening ID is answered by a PDID alone
-abbrev pub is_beside : Exchange → Answer → Bool
-is_beside Opening (Plain reply) = is_none (pd_id_of reply)
-is_beside Opening (Unreadable code) = true
-is_beside _ _ = false
-
--- in a state where no exchange is outstanding nothing is
-abbrev pub is_beside_in : State → Answer → Bool
-is_beside_in (Waiting until sends o) answer = is_beside o.exchange answer
-is_beside_in (Pausing until o) answer = is_beside o.exchange answer
-is_beside_in _ answer = false
-
 -- while the answer is waited for; behind a NAK 1 the next tick repeats or gives up
 abbrev pub waiting_hears : Answer → ℕ → Outstanding → Session → Heard
 waiting_hears NotTaken sends o s = hears_busy o s
@@ -151,21 +139,18 @@ pausing_hears NumberRefused o s = loses causes.NumberRefused o s
 pausing_hears (Plain reply) o s = answered o.exchange reply s
 pausing_hears (Unreadable code) o s = answered_unread o.exchange code s
 
--- an answer with the number of the exchange, by the state; where none is outstanding it is ignored
-abbrev pub numbered_in : State → Answer → Session → Heard
-numbered_in Closed answer s = ignores s
-numbered_in (Quiet until) answer s = ignores s
-numbered_in (Idle due) answer s = ignores s
-numbered_in (Waiting until sends o) answer s = waiting_hears answer sends o s
-numbered_in (Pausing until o) answer s = pausing_hears answer o s
-
--- a reply from the reader
-abbrev pub hears_answer : ℕ → Answer → Session → Heard
-hears_answer number answer s =
-    if is_numbered number answer s then numbered_in s.state answer s else ignores s
+-- by the state: where no exchange is outstanding a frame is ignored; else it is heard where it has the number
+abbrev pub hears_in : State → ℕ → Answer → Session → Heard
+hears_in Closed number answer s = ignores s
+hears_in (Quiet until) number answer s = ignores s
+hears_in (Idle due) number answer s = ignores s
+hears_in (Waiting until sends o) number answer s =
+    if is_numbered number answer s then waiting_hears answer sends o s else ignores s
+hears_in (Pausing until o) number answer s =
+    if is_numbered number answer s then pausing_hears answer o s else ignores s
 
 -- a frame at a moment
 abbrev pub hears : Packet → ℕ → Session → Heard
 hears p now s =
-    if is_from_reader p s then hears_answer p.sequence (answer_of p) (seen now s)
+    if is_from_reader p s then hears_in s.state p.sequence (answer_of p) (seen now s)
     else ignores (seen now s)

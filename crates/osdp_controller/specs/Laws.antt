@@ -18,8 +18,9 @@ use Rattle.osdp_controller.specs.declared.state.State.{State}
 use Rattle.osdp_controller.specs.declared.state.State.TheVariants.{Waiting, Pausing}
 use Rattle.osdp_controller.specs.Answers.{answer_of}
 use Rattle.osdp_controller.specs.Exchanges.{exchange_number, submitted_command}
-use Rattle.osdp_controller.specs.Hearing.{answered, hears, is_from_reader}
-use Rattle.osdp_controller.specs.Machine.{IsSession, is_outstanding, sent_in}
+use Rattle.osdp_controller.specs.Hearing.{answered, hears}
+use Rattle.osdp_controller.specs.Machine.{IsSession, Machine, is_outstanding, sent_in}
+use Rattle.osdp_controller.specs.Runs.{Begin, after_call}
 use Rattle.osdp_controller.specs.Sessions.{seen}
 use Rattle.osdp_controller.specs.States.{is_idle}
 use Rattle.osdp_controller.specs.Ticking.{ticks}
@@ -30,9 +31,15 @@ exchange_in (Waiting until sends o) = Some o.exchange
 exchange_in (Pausing until o) = Some o.exchange
 exchange_in _ = None
 
--- a frame from the own address says this while the exchange is outstanding
+-- a reply from the own address, without a security block
+pub record IsFromReader (p : Packet) (s : Session) : Type 0 where
+  pub reply : p.reply ≡ true
+  pub address : p.address ≡ s.config.address
+  pub without_block : p.block ≡ false
+
+-- it says this while the exchange is outstanding
 pub record Comes (p : Packet) (s : Session) (x : Exchange) (answer : Answer) : Type 0 where
-  pub from_reader : is_from_reader p s ≡ true
+  pub from_reader : IsFromReader p s
   pub outstanding : exchange_in s.state ≡ Some x
   pub says : answer_of p ≡ answer
 
@@ -93,10 +100,11 @@ abbrev pub TellsLost : Type 0
 TellsLost = (now : ℕ) (s : Session) (waiting : List Command) (report : Report) → (ticks now s waiting).step.report ≡ Some report
     → (x : Exchange) × (exchange_in s.state ≡ Some x) × (report ≡ Lost causes.NoReply (submitted_command x))
 
--- a moment that goes backwards counts as the greatest seen
-pub record KeepsTime (now : ℕ) (s : Session) : Type 0 where
-  pub ticks : (waiting : List Command) → now ≤ s.greatest → ticks now s waiting ≡ ticks s.greatest s waiting
-  pub frames : (p : Packet) → now ≤ s.greatest → hears p now s ≡ hears p s.greatest s
+-- a moment that goes backwards counts as the greatest seen, in each call that takes one
+pub record KeepsTime (now : ℕ) (m : Machine) : Type 0 where
+  pub by_tick : now ≤ m.session.greatest → ticks now m.session m.waiting ≡ ticks m.session.greatest m.session m.waiting
+  pub by_frame : (p : Packet) → now ≤ m.session.greatest → hears p now m.session ≡ hears p m.session.greatest m.session
+  pub by_begin : now ≤ m.session.greatest → after_call (Begin now) m ≡ after_call (Begin m.session.greatest) m
 
 -- exchange k above 0 has number ((k - 1) mod 3) + 1, and neighbours differ
 pub record NumbersTakeTurns (k : ℕ) : Type 0 where

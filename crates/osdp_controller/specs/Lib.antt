@@ -5,7 +5,10 @@ pub mod States
 pub mod Sessions
 pub mod Ticking
 pub mod Hearing
+pub mod Private
 pub mod Machine
-pub mod Laws
 pub mod Runs
+pub mod Laws
+pub mod Commands
+pub mod Calls
 pub mod Steps

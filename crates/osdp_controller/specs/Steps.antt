@@ -1,5 +1,5 @@
 -- The tables as steps: what one call does from each state, and what a whole exchange comes to.
-use Rattle.std.specs.Prelude.{◌≡◌, ◌≢◌, ℕ, ◌+◌, ◌<◌, ◌≤◌, true, false, max, List, [], ◌∷◌, Option, Some, None, ◌⊎◌}
+use Rattle.std.specs.Prelude.{◌≡◌, ◌≢◌, ℕ, ◌+◌, ◌<◌, ◌≤◌, false, max, List, [], ◌∷◌, Option, Some, None, ◌⊎◌}
 use Rattle.osdp_frame.specs.Packet.{Packet, next_sequence}
 use Rattle.osdp_msg.specs.declared.command.Command.{Command}
 use Rattle.osdp_msg.specs.declared.command_fields.Communication.{Communication}
@@ -16,8 +16,8 @@ use Rattle.osdp_controller.specs.declared.report.Report.TheVariants.{Opened, Set
 use Rattle.osdp_controller.specs.declared.session.Session.{Session}
 use Rattle.osdp_controller.specs.declared.state.State.TheVariants.{Closed, Quiet, Idle, Waiting, Pausing}
 use Rattle.osdp_controller.specs.Answers.{answer_of, is_not_taken}
-use Rattle.osdp_controller.specs.Hearing.{answered_unread, com_of, comset_of, event_in, hears, hears_busy, ignores, is_from_reader, loses, moved_by, poll_told}
-use Rattle.osdp_controller.specs.Laws.{Comes, ComesNumbered, exchange_in}
+use Rattle.osdp_controller.specs.Hearing.{answered_unread, com_of, comset_of, event_in, hears, hears_busy, ignores, loses, moved_by, poll_told}
+use Rattle.osdp_controller.specs.Laws.{Comes, ComesNumbered, IsFromReader, exchange_in}
 use Rattle.osdp_controller.specs.Machine.{Machine, is_outstanding}
 use Rattle.osdp_controller.specs.Runs.{Tick, Hear, after_call, after_calls, sent_by, told_by}
 use Rattle.osdp_controller.specs.Sessions.{at_rest, closed, frame_of, seen}
@@ -63,7 +63,7 @@ SendsItsFrame now s waiting = (p : Packet) → (ticks now s waiting).step.frame 
 -- what a frame does from each state, beside a plain answer, which does what `answered` says
 pub record FramesInSteps (p : Packet) (now : ℕ) (s : Session) : Type 0 where
   -- frames that are not for the exchange change nothing but the moment
-  pub of_others : is_from_reader p s ≡ false → hears p now s ≡ ignores (seen now s)
+  pub of_others : (IsFromReader p s → ⊥) → hears p now s ≡ ignores (seen now s)
   pub not_outstanding : is_outstanding s.state ≡ false → hears p now s ≡ ignores (seen now s)
   pub of_another : p.sequence ≢ s.number → (p.sequence ≢ 0) ⊎ (is_not_taken (answer_of p) ≡ false) → hears p now s ≡ ignores (seen now s)
   -- BUSY, which may have number 0
@@ -85,7 +85,7 @@ pub record FramesInSteps (p : Packet) (now : ℕ) (s : Session) : Type 0 where
 
 -- the reply to an exchange with this number
 pub record IsReplyTo (number : ℕ) (s : Session) (q : Packet) (reply : Reply) : Type 0 where
-  pub from_reader : is_from_reader q s ≡ true
+  pub from_reader : IsFromReader q s
   pub sequence : q.sequence ≡ number
   pub says : answer_of q ≡ Plain reply
 

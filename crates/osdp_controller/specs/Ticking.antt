@@ -1,6 +1,5 @@
 -- The table of ticks: what a moment brings about by itself.
-use Rattle.std.specs.Prelude.{ℕ, ◌+◌, Bool, false, nat_le, nat_lt, if◌then◌else◌, List, [], ◌∷◌, drop, slice_get, Option, Some, None}
-use Rattle.std.specs.Option.{option_map_or}
+use Rattle.std.specs.Prelude.{ℕ, ◌+◌, nat_le, nat_lt, if◌then◌else◌, List, [], ◌∷◌, Some, None}
 use Rattle.osdp_frame.specs.Packet.{next_sequence}
 use Rattle.osdp_msg.specs.declared.command.Command.{Command}
 use Rattle.osdp_controller.specs.declared.exchange.Exchange.{Exchange}
@@ -11,7 +10,6 @@ use Rattle.osdp_controller.specs.declared.session.Session.{Session}
 use Rattle.osdp_controller.specs.declared.state.State.{State}
 use Rattle.osdp_controller.specs.declared.state.State.TheVariants.{Closed, Quiet, Idle, Waiting, Pausing}
 use Rattle.osdp_controller.specs.declared.step.Step.{Step}
-use Rattle.osdp_controller.specs.States.{is_idle}
 use Rattle.osdp_controller.specs.Sessions.{after_send, closed, frame_of, lost, seen}
 
 -- what comes of a tick: the session and the waiting commands after it, and what is sent and told
@@ -56,18 +54,6 @@ abbrev pub tries_again : ℕ → Outstanding → Session → List Command → Ti
 tries_again sends o s waiting =
     if nat_lt sends s.config.sends then sends_frame (sends + 1) o s waiting else gives_up o s waiting
 
--- the moment that a state waits for
-abbrev pub moment_of : State → Option ℕ
-moment_of Closed = None
-moment_of (Quiet until) = Some until
-moment_of (Idle due) = Some due
-moment_of (Waiting until sends o) = Some until
-moment_of (Pausing until o) = Some until
-
--- it is reached
-abbrev pub is_reached : Session → Bool
-is_reached s = option_map_or (λ moment. nat_le moment s.greatest) (moment_of s.state) false
-
 -- by the state; a moment is reached where the greatest seen equals or passes it
 abbrev pub ticks_in : State → Session → List Command → Ticked
 ticks_in Closed s waiting = stays s waiting
@@ -82,10 +68,3 @@ ticks_in (Pausing until o) s waiting =
 -- a tick at a moment
 abbrev pub ticks : ℕ → Session → List Command → Ticked
 ticks now s waiting = ticks_in s.state (seen now s) waiting
-
--- the command that a tick in a state takes from the waiting ones, and those that stay
-abbrev pub next_in : State → List Command → Option Command
-next_in state waiting = if is_idle state then slice_get waiting 0 else None
-
-abbrev pub rest_in : State → List Command → List Command
-rest_in state waiting = if is_idle state then drop 1 waiting else waiting

@@ -52,6 +52,7 @@ impl ControllerConfig {
     pub(crate) fn is_in_range(&self) -> bool
         ensures { IsTrue result ↔ IsConfig self.now }
     {
+        // Reading it brings in that a `u8` is at most 255, which `IsConfig` says of it.
         let _range = self.busy_limit;
         is_device(self.address)
             && is_time(self.reply_wait)

@@ -1,7 +1,7 @@
 //! The controller: a session and the commands that wait for it.
 
 ghost use Rattle.circular_buffer.specs.Buffer.{buffer};
-ghost use Rattle.osdp_controller.specs.Ticking.{next_in, rest_in};
+ghost use Rattle.osdp_controller.specs.Private.{next_in, rest_in};
 ghost use Rattle.std.specs.Prelude.{◌≡◌, ◌↔◌, ◌*◌, ◌+◌, ◌≤◌, IfErr, None, Some, OnOk};
 
 use crate::config::{ControllerConfig, is_device};
@@ -67,6 +67,8 @@ impl Controller {
     }
 
     /// The reader's address.
+    // `machine` says what holds of each controller, and nothing of the address. It stands here because a caller in
+    // another crate learns it from a contract alone, and this call may be made at any time and changes nothing.
     pub fn address(&self) -> Address
         ensures address { result ≡ self.now.session.config.address }
         ensures machine { IsMachine self.now }

@@ -4,8 +4,9 @@ ghost use Rattle.std.specs.Prelude.{◌≡◌, ◌<◌, true, false, None, Some,
 ghost use Rattle.osdp_controller.specs.declared.answer.Answer.TheVariants.{Plain, Unreadable};
 ghost use Rattle.osdp_controller.specs.declared.report.Report.TheVariants.{Moved};
 ghost use Rattle.osdp_controller.specs.declared.state.State.TheVariants.{Pausing};
-ghost use Rattle.osdp_controller.specs.Hearing.{answered, answered_unread, com_of, command_answered, comset_of, event_in, hears, hears_busy, is_ack, is_beside, is_beside_in, is_from_reader, is_numbered, loses, moved_by, numbered_in, opening_answered, pausing_hears, pd_id_of, poll_told, rests, waiting_hears};
+ghost use Rattle.osdp_controller.specs.Hearing.{answered, answered_unread, com_of, command_answered, comset_of, event_in, hears, hears_busy, is_ack, is_from_reader, is_numbered, loses, moved_by, opening_answered, pausing_hears, pd_id_of, poll_told, rests, waiting_hears};
 ghost use Rattle.osdp_controller.specs.Machine.{IsSession};
+ghost use Rattle.osdp_controller.specs.Private.{is_no_answer, is_no_answer_in, numbered_in};
 ghost use Rattle.osdp_controller.specs.Sessions.{closed};
 
 use crate::answer::Answer;
@@ -97,7 +98,7 @@ impl Session {
 
     /// A reply that is neither BUSY, NAK 1 nor NAK 4 answers the exchange.
     fn settle(&mut self, exchange: Exchange, reply: Reply) -> Option<Report>
-        requires { is_beside exchange (Plain reply) ≡ false }
+        requires { is_no_answer exchange (Plain reply) ≡ false }
         ensures report { result ≡ (answered exchange reply self.old).report }
         ensures session { self.new ≡ (answered exchange reply self.old).session }
     {
@@ -120,7 +121,7 @@ impl Session {
 
     /// A reply that cannot be read answers the exchange.
     fn settle_unread(&mut self, exchange: Exchange, code: u8) -> Option<Report>
-        requires { is_beside exchange (Unreadable code) ≡ false }
+        requires { is_no_answer exchange (Unreadable code) ≡ false }
         ensures report { result ≡ (answered_unread exchange code self.old).report }
         ensures session { self.new ≡ (answered_unread exchange code self.old).session }
     {
@@ -134,7 +135,7 @@ impl Session {
         sends: u8,
         outstanding: Outstanding,
     ) -> Option<Report>
-        requires { is_beside outstanding.exchange answer ≡ false }
+        requires { is_no_answer outstanding.exchange answer ≡ false }
         ensures report { result ≡ (waiting_hears answer sends outstanding self.old).report }
         ensures session { self.new ≡ (waiting_hears answer sends outstanding self.old).session }
     {
@@ -161,7 +162,7 @@ impl Session {
         until: u64,
         outstanding: Outstanding,
     ) -> Option<Report>
-        requires { is_beside outstanding.exchange answer ≡ false }
+        requires { is_no_answer outstanding.exchange answer ≡ false }
         ensures report { result ≡ (pausing_hears answer outstanding (record self.old { state = Pausing until outstanding })).report }
         ensures session { self.new ≡ (pausing_hears answer outstanding (record self.old { state = Pausing until outstanding })).session }
     {
@@ -177,19 +178,19 @@ impl Session {
     }
 
     /// Whether an answer is none to the outstanding exchange.
-    fn is_beside(&self, answer: &Answer) -> bool
-        ensures { result ≡ is_beside_in self.now.state answer.now }
+    fn is_no_answer(&self, answer: &Answer) -> bool
+        ensures { result ≡ is_no_answer_in self.now.state answer.now }
     {
         match &self.state {
             State::Closed | State::Quiet { .. } | State::Idle { .. } => false,
-            State::Waiting { outstanding, .. } => is_beside(&outstanding.exchange, answer),
-            State::Pausing { outstanding, .. } => is_beside(&outstanding.exchange, answer),
+            State::Waiting { outstanding, .. } => is_no_answer(&outstanding.exchange, answer),
+            State::Pausing { outstanding, .. } => is_no_answer(&outstanding.exchange, answer),
         }
     }
 
     /// An answer with the number of the exchange comes, where one is outstanding.
     fn hear_numbered(&mut self, answer: Answer) -> Option<Report>
-        requires { is_beside_in self.old.state answer ≡ false }
+        requires { is_no_answer_in self.old.state answer ≡ false }
         ensures report { result ≡ (numbered_in self.old.state answer self.old).report }
         ensures session { self.new ≡ (numbered_in self.old.state answer self.old).session }
     {
@@ -224,7 +225,7 @@ impl Session {
             return None;
         }
         let answer = Answer::of(frame);
-        if !self.is_numbered(frame.seq(), &answer) || self.is_beside(&answer) {
+        if !self.is_numbered(frame.seq(), &answer) || self.is_no_answer(&answer) {
             return None;
         }
         self.hear_numbered(answer)
@@ -232,8 +233,8 @@ impl Session {
 }
 
 /// Whether an answer is none to the exchange: the opening ID is answered by a PDID alone.
-fn is_beside(exchange: &Exchange, answer: &Answer) -> bool
-    ensures { result ≡ is_beside exchange.now answer.now }
+fn is_no_answer(exchange: &Exchange, answer: &Answer) -> bool
+    ensures { result ≡ is_no_answer exchange.now answer.now }
 {
     match (exchange, answer) {
         (Exchange::Opening, Answer::Plain(reply)) => pd_id_of(reply).is_none(),

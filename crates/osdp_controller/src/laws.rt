@@ -3,9 +3,11 @@
 ghost use Rattle.std.specs.Prelude.{◌≡◌, ℕ, true, List};
 ghost use Rattle.osdp_msg.specs.declared.command.Command.{Command};
 ghost use Rattle.osdp_controller.specs.declared.session.Session.{Session};
+ghost use Rattle.osdp_controller.specs.Calls.{BeginsWithFrame, KeepsSettings, SendsPackets, StaysInRange, WaitsUntilDue};
+ghost use Rattle.osdp_controller.specs.Commands.{CommandsByPlace, TellsEnds};
 ghost use Rattle.osdp_controller.specs.Laws.{CountsSends, HearsAnswers, KeepsTime, NumbersTakeTurns, TakesFront, TellsLost, TellsWhy};
 ghost use Rattle.osdp_controller.specs.Runs.{Call, NumbersByPlace, ResendsTheSame, SendsFew, StaysWell};
-ghost use Rattle.osdp_controller.specs.Machine.{Machine};
+ghost use Rattle.osdp_controller.specs.Machine.{IsMachine, Machine};
 ghost use Rattle.osdp_controller.specs.States.{is_closed};
 ghost use Rattle.osdp_controller.specs.Steps.{ExchangesInSteps, FramesInSteps, SendsItsFrame, TicksInSteps};
 ghost use Rattle.osdp_frame.specs.Packet.{Packet};
@@ -36,9 +38,21 @@ pub fn unsettled_commands_are_told()
     ensures { TellsLost }
 {}
 
+/// Whatever comes: an outstanding exchange goes on untold, or it ends and its command is told; a session ends exactly
+/// where that is told.
+pub fn endings_are_told()
+    ensures { (now : ℕ) (s : Session) → TellsEnds now s }
+{}
+
+/// Whatever is called: each accepted command is asked at most once, in order, and each that is asked is told exactly
+/// once, in order, but for the one that is outstanding.
+pub fn commands_are_told_once()
+    ensures { (m : Machine) (calls : List Call) → IsMachine m → CommandsByPlace m calls }
+{}
+
 /// Moments that go backwards count as the greatest seen.
 pub fn moments_never_go_back()
-    ensures { (now : ℕ) (s : Session) → KeepsTime now s }
+    ensures { (now : ℕ) (m : Machine) → KeepsTime now m }
 {}
 
 /// The numbers of the exchanges of a session take turns.
@@ -85,4 +99,30 @@ pub fn ticks_send_their_frame()
 /// What holds of a new controller, its settings and counts in their ranges, holds whatever is called and comes.
 pub fn stays_well()
     ensures { StaysWell }
+{}
+
+/// An exchange begins with a frame that a tick gives, and in no other way.
+pub fn exchanges_begin_with_a_frame()
+    ensures { (call : Call) (m : Machine) → BeginsWithFrame call m }
+{}
+
+/// No setting but the address ever changes: where a COM tells that the reader moved, and where another is set.
+pub fn settings_stay()
+    ensures { (call : Call) (m : Machine) → KeepsSettings call m }
+{}
+
+/// A tick that is not due changes nothing but the greatest moment seen.
+pub fn ticks_wait_until_due()
+    ensures { (now : ℕ) (m : Machine) → WaitsUntilDue now m }
+{}
+
+/// Whatever is called: sequence numbers are below 4, and 0 for the opening ID alone; no deadline is further away than
+/// the longest wait.
+pub fn stays_in_range()
+    ensures { StaysInRange }
+{}
+
+/// Each frame that goes out is a packet, where the command that it asks is in its ranges.
+pub fn sends_packets()
+    ensures { SendsPackets }
 {}

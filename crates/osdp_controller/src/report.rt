@@ -5,7 +5,7 @@ use osdp_msg::{Command, Communication, Event, PdId, Reply};
 /// Why a session ended with its exchange unsettled.
 #[derive(Clone, Copy, Debug, PartialEq, Eq)]
 pub enum LostCause {
-    /// No reply came to the last of the sends.
+    /// No reply that answers came to the last of the sends.
     NoReply,
     /// The reader answered BUSY more often than is allowed.
     TooBusy,

@@ -52,6 +52,7 @@ impl Session {
         ensures { result ≡ frame_of exchange.now self.now }
     {
         let body = exchange.body();
+        // The calls bring in that both are in their ranges, without which the frame might be refused.
         let _ranges = (self.config.address.get(), self.number.get());
         let made = Frame::new(
             false,

@@ -6,7 +6,9 @@ ghost use Rattle.osdp_controller.specs.declared.exchange.Exchange.TheVariants.{O
 ghost use Rattle.osdp_controller.specs.Exchanges.{submitted_command};
 ghost use Rattle.osdp_controller.specs.Machine.{IsSession, IsSubmitted};
 ghost use Rattle.osdp_controller.specs.Settings.{IsConfig};
-ghost use Rattle.osdp_controller.specs.Ticking.{begins, is_reached, moment_of, sends_frame, ticks_in, tries_again};
+ghost use Rattle.osdp_controller.specs.Private.{is_reached};
+ghost use Rattle.osdp_controller.specs.States.{moment_of};
+ghost use Rattle.osdp_controller.specs.Ticking.{begins, sends_frame, ticks_in, tries_again};
 
 use crate::exchange::{Exchange, Outstanding};
 use crate::report::{LostCause, Report};

@@ -1,0 +1,44 @@
+-- What functions inside the crate say of themselves. No row of a table and no law speaks of these.
+use Rattle.std.specs.Prelude.{Bool, true, false, nat_le, if◌then◌else◌, List, drop, slice_get, Option, None, is_none}
+use Rattle.std.specs.Option.{option_map_or}
+use Rattle.osdp_msg.specs.declared.command.Command.{Command}
+use Rattle.osdp_controller.specs.declared.answer.Answer.{Answer}
+use Rattle.osdp_controller.specs.declared.answer.Answer.TheVariants.{Plain, Unreadable}
+use Rattle.osdp_controller.specs.declared.exchange.Exchange.{Exchange}
+use Rattle.osdp_controller.specs.declared.exchange.Exchange.TheVariants.{Opening}
+use Rattle.osdp_controller.specs.declared.session.Session.{Session}
+use Rattle.osdp_controller.specs.declared.state.State.{State}
+use Rattle.osdp_controller.specs.declared.state.State.TheVariants.{Closed, Quiet, Idle, Waiting, Pausing}
+use Rattle.osdp_controller.specs.Hearing.{Heard, ignores, pausing_hears, pd_id_of, waiting_hears}
+use Rattle.osdp_controller.specs.States.{is_idle, moment_of}
+
+-- the moment that the state waits for is reached
+abbrev pub is_reached : Session → Bool
+is_reached s = option_map_or (λ moment. nat_le moment s.greatest) (moment_of s.state) false
+
+-- the command that a tick in a state takes from the waiting ones, and those that stay
+abbrev pub next_in : State → List Command → Option Command
+next_in state waiting = if is_idle state then slice_get waiting 0 else None
+
+abbrev pub rest_in : State → List Command → List Command
+rest_in state waiting = if is_idle state then drop 1 waiting else waiting
+
+-- an answer is none to the exchange: the opening ID is answered by a PDID alone
+abbrev pub is_no_answer : Exchange → Answer → Bool
+is_no_answer Opening (Plain reply) = is_none (pd_id_of reply)
+is_no_answer Opening (Unreadable code) = true
+is_no_answer _ _ = false
+
+-- nor to one that is outstanding in a state
+abbrev pub is_no_answer_in : State → Answer → Bool
+is_no_answer_in (Waiting until sends o) answer = is_no_answer o.exchange answer
+is_no_answer_in (Pausing until o) answer = is_no_answer o.exchange answer
+is_no_answer_in _ answer = false
+
+-- an answer with the number of the exchange, by the state; where none is outstanding it is ignored
+abbrev pub numbered_in : State → Answer → Session → Heard
+numbered_in Closed answer s = ignores s
+numbered_in (Quiet until) answer s = ignores s
+numbered_in (Idle due) answer s = ignores s
+numbered_in (Waiting until sends o) answer s = waiting_hears answer sends o s
+numbered_in (Pausing until o) answer s = pausing_hears answer o s
