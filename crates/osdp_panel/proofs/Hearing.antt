@@ -1,8 +1,8 @@
 -- Bytes that are heard piece by piece.
-use Rattle.std.proofs.Common.{◌≡◌, ◌≢◌, ℕ, ◌+◌, ◌-◌, ◌<◌, ◌≤◌, ◌==◌, not, Bool, true, false, cond, min, List, [], ◌∷◌, ◌++◌, length, take, drop, Option, Some, None, inl, inr, refl, sym, subst, ap, ◌∙◌, arith, append_assoc, append-nil, length-drop, take-append-drop}
+use Rattle.std.proofs.Common.{◌≡◌, ◌≢◌, ℕ, ◌+◌, ◌-◌, ◌<◌, ◌≤◌, ◌==◌, not, Bool, true, false, cond, min, List, [], ◌∷◌, ◌++◌, length, take, drop, Option, Some, None, refl, sym, subst, ap, ◌∙◌, arith, append_assoc, append-nil, length-drop, take-append-drop}
 use Rattle.std.proofs.Math.Seq.{drop-drop}
-use Rattle.std.proofs.lemmas.List.{drop-append-le, take_all, get_or_append_left, get_or-append_right, get_or_past}
-use Rattle.std.proofs.lemmas.Bool.{ne_eqb, cases_lt, false≢true}
+use Rattle.std.proofs.lemmas.List.{drop-append-le, take_all}
+use Rattle.std.proofs.lemmas.Bool.{ne_eqb}
 use Rattle.osdp_frame.specs.Bytes.{AreBytes}
 use Rattle.osdp_frame.specs.Reading.{Part, part_size, total_size, IsReading}
 use Rattle.osdp_frame.specs.Held.{Held, decided, after_gap, after_push, new_run, taken_count}
@@ -14,6 +14,7 @@ use Rattle.osdp_controller.specs.Machine.{Machine}
 use Rattle.osdp_panel.specs.Hearing.{IsRun, after_reports, held_behind, items_heard}
 use Rattle.osdp_panel.specs.Reports.{after_item, told_of}
 use Rattle.osdp_panel.specs.Turns.{after_items, behind_all, items_of, listed, reports_of}
+use Rattle.osdp_panel.proofs.Runs.{AreBytes-append, no_bytes}
 use Rattle.osdp_panel.proofs.Taking.{items_behind, still_ended}
 use Rattle.osdp_panel.proofs.Turning.{splits}
 
@@ -40,21 +41,6 @@ told-append : {H : Type 0} (now : ℕ) (after : H → Report → H) (xs ys : Lis
 told-append now after xs ys m h =
     ap (λ l. after_reports after l h) (reports_of-append now xs ys m)
     ∙ after_reports-append after (reports_of now xs m) (reports_of now ys (after_items now xs m)) h
-
--- ---- bytes
-
-AreBytes-append : (xs ys : List ℕ) → AreBytes xs → AreBytes ys → AreBytes (xs ++ ys)
-AreBytes-append xs ys p q place =
-    elim (cases_lt place (length xs)) [
-      | inl lt ↦ subst (λ (b : ℕ). b < 256) (sym (get_or_append_left xs ys 0 place lt)) (p place)
-      | inr le ↦ subst (λ (b : ℕ). b < 256) (sym (get_or-append_right xs ys (length xs) place 0 refl le)) (q (place - length xs))
-    ]
-
-AreBytes-take : (n : ℕ) (bytes : List ℕ) → AreBytes bytes → AreBytes (take n bytes)
-AreBytes-take n bytes fits = AreBytes-front (take n bytes) (drop n bytes) (subst AreBytes (sym (take-append-drop n bytes)) fits)
-
-pub no_bytes : AreBytes []
-no_bytes place = subst (λ (n : ℕ). n < 256) (sym (get_or_past [] place 0 (omega arith))) (omega arith)
 
 -- ---- what is left of a run
 
@@ -284,13 +270,9 @@ begun held (b ∷ given) run fits some = begun_by held.ended held.bytes b given 
 -- what a panel that has heard all of the bytes is
 pub record Heard {H : Type 0} (now : ℕ) (after : H → Report → H) (m : Machine) (held : Held) (h : H) (given : List ℕ)
     (n : Machine) (next : Held) (k : H) : Type 0 where
-  pub run : IsRun next
   pub controller : n ≡ after_items now (items_heard given held) m
   pub framer : next ≡ held_behind given held
   pub handler : k ≡ after_reports after (reports_of now (items_heard given held) m) h
-
-open_run : (held : Held) → AreBytes held.bytes → held.ended ≡ false → IsRun held
-open_run held fits goes_on = record { bytes = fits; some = λ e. absurd (false≢true (sym goes_on ∙ e)) }
 
 held_is : (held : Held) (bytes : List ℕ) (ended : Bool) → held.bytes ≡ bytes → held.ended ≡ ended → held ≡ record { bytes = bytes; ended = ended }
 held_is held bytes ended a b = (λ i. record { bytes = a i; ended = b i })
@@ -306,7 +288,6 @@ heard_silence now after m held h [] gapped n next k run none gaps hears lefts te
     let parts : items_of gapped ≡ items true held.bytes = ap (λ p. items_of p) gaps ∙ gap_items held.bytes in
     let next_is : next ≡ new_run = lefts ∙ ap (λ p. behind_all p (items_of p)) gaps ∙ gap_left held run.bytes in
     record {
-      run = subst IsRun (sym next_is) (open_run new_run no_bytes refl);
       controller = hears ∙ ap (λ l. after_items now l m) parts;
       framer = next_is;
       handler = tells ∙ ap (λ l. after_reports after (reports_of now l m) h) parts;
@@ -329,9 +310,7 @@ heard_bytes now after m held h (b ∷ bytes) m1 held1 h1 n next k run fits some 
     let xs = items_of held in
     let ys = items false (held1.bytes ++ given) in
     let next_left : next.bytes ≡ (held_behind given held).bytes = left ∙ begins.left in
-    let given_fits : AreBytes (held1.bytes ++ given) = AreBytes-append held1.bytes given begins.bytes fits in
     record {
-      run = open_run next (subst AreBytes (sym left) (left_bytes (held1.bytes ++ given) given_fits)) still;
       controller = hears1 ∙ ap (after_items now ys) hears ∙ sym (after_items-append now xs ys m)
           ∙ ap (λ l. after_items now l m) (sym begins.parts);
       framer = held_is next (held_behind given held).bytes false next_left still;

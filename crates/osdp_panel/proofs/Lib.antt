@@ -1,3 +1,4 @@
 pub mod Hearing
+pub mod Runs
 pub mod Taking
 pub mod Turning

@@ -9,14 +9,17 @@
 //! loop {
 //!     let turn = panel.turn(clock.now(), &mut input, &mut buffer, &mut output, &mut door);
 //!     if turn.read.is_err() || turn.sent.is_err() { .. the port is opened anew .. }
-//!     .. wait 20 ms, or till `turn.sleep_until` where that comes first ..
+//!     match turn.sleep_until {
+//!         Some(moment) => .. sleep 20 ms, and then till that moment or till bytes have come ..
+//!         None => panel.controller.begin(clock.now())?, // the session has ended
+//!     }
 //! }
 //! ```
 //!
 //! `input` and `output` are the two directions of the port, and `door` is the panel's `ReportHandler`, which may
 //! note commands that go to `panel.controller.submit` before the next turn. A read that gives no bytes is taken
-//! for a silence, which ends a run of bytes; so there are to be at least some 20 ms between two reads, or the read
-//! itself waits so long for a first byte.
+//! for a silence, which ends a run of bytes; so some 20 ms are to pass between two reads, or a read waits so long
+//! for a first byte.
 //!
 //! Whoever needs the reports one by one calls the parts: `take` with bytes, or `silence`, and behind both of them
 //! `next_report` until it tells nothing more, since the framer takes no bytes of a new run before the last one is
@@ -24,6 +27,7 @@
 #![tactic(auto)]
 
 pub mod laws;
+mod receiver;
 
 ghost use Rattle.std.specs.Prelude.{◌≡◌, ◌++◌, ◌<◌, [], false, length, IfOk, IsNone, IsSome, OnErr, OnOk};
 ghost use Rattle.std.specs.Io.{ReadsAtMost};
@@ -33,13 +37,14 @@ ghost use Rattle.osdp_frame.specs.Bytes.{AreBytes};
 ghost use Rattle.osdp_frame.specs.Held.{after_gap, after_push, new_run, taken_count};
 ghost use Rattle.osdp_frame.specs.Items.{items, left_over};
 ghost use Rattle.osdp_frame.specs.Shown.{part_of};
-ghost use Rattle.osdp_panel.specs.Hearing.{IsRun, after_reports, after_read, held_behind, held_read, items_heard, reports_read};
+ghost use Rattle.osdp_panel.specs.Hearing.{after_reports, after_read, held_behind, held_read, items_heard, reports_read};
 ghost use Rattle.osdp_panel.specs.Reports.{after_item, next_told, told_of};
 ghost use Rattle.osdp_panel.specs.Sending.{sent_bytes, step_at};
 ghost use Rattle.osdp_panel.specs.Turns.{after_items, behind_all, items_of, listed, reports_of};
 
 use osdp_controller::{Controller, Report, Step};
-use osdp_frame::{Frame, Framer, Item};
+use osdp_frame::{Frame, Item};
+pub use receiver::Receiver;
 use std::io::{self, Read, Write};
 
 /// What a panel does with what its controller reports. Its new state is a function of the old one and the report.
@@ -65,11 +70,11 @@ pub struct Turn {
     pub sleep_until: Option<u64>,
 }
 
-/// A controller and the framer of its line.
+/// A controller, and what has come on its line and isn't read to its end.
 #[derive(Debug, Drop)]
 pub struct Panel {
     pub controller: Controller,
-    pub framer: Framer,
+    pub framer: Receiver,
 }
 
 impl Panel {
@@ -77,11 +82,10 @@ impl Panel {
     pub fn new(controller: Controller) -> Panel
         ensures controller { result.controller ≡ controller }
         ensures framer { result.framer ≡ new_run }
-        ensures run { IsRun result.framer }
     {
         Panel {
             controller,
-            framer: Framer::new(),
+            framer: Receiver::new(),
         }
     }
 
@@ -130,7 +134,7 @@ impl Panel {
         None
     }
 
-    /// Sends what is due to the port, or tells that the session has ended.
+    /// Sends what is due to the port, and flushes it, or tells that the session has ended.
     ///
     /// An error is one of the port, to which a frame was to go; how much of the frame went out is unknown then.
     pub fn tick<W: Write>(&mut self, now: u64, port: &mut W) -> io::Result<Option<Report>>
@@ -182,14 +186,13 @@ impl Panel {
     /// Takes bytes that the port has given, in any pieces, and hands on the reports of the packets that have come
     /// whole, in their order. No bytes are a silence: what was begun is no packet.
     pub fn hear<H: ReportHandler>(&mut self, bytes: &[u8], now: u64, handler: &mut H)
-        requires run { IsRun self.old.framer }
-        ensures run { IsRun self.new.framer }
         ensures controller { self.new.controller
             ≡ after_items now (items_heard bytes.now self.old.framer) self.old.controller }
         ensures framer { self.new.framer ≡ held_behind bytes.now self.old.framer }
         ensures handler { handler.new ≡ after_reports H.after
             (reports_of now (items_heard bytes.now self.old.framer) self.old.controller) handler.old }
     {
+        self.framer.is_run();
         if bytes.is_empty() {
             self.silence();
             self.tell_all(now, handler);
@@ -207,8 +210,6 @@ impl Panel {
         buffer: &mut [u8],
         handler: &mut H,
     ) -> io::Result<usize>
-        requires run { IsRun self.old.framer }
-        ensures run { IsRun self.new.framer }
         ensures bound { ReadsAtMost result buffer.new }
         ensures bytes { ReadConsumes (R.remaining port.old) (R.remaining port.new) result buffer.new }
         ensures controller { self.new.controller
@@ -232,8 +233,6 @@ impl Panel {
         output: &mut W,
         handler: &mut H,
     ) -> Turn
-        requires run { IsRun self.old.framer }
-        ensures run { IsRun self.new.framer }
         ensures bound { ReadsAtMost result.read buffer.new }
         ensures bytes { ReadConsumes (R.remaining input.old) (R.remaining input.new) result.read buffer.new }
         ensures controller { self.new.controller
