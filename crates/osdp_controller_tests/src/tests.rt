@@ -1,5 +1,7 @@
 //! Rows from outside, each call with ample memory, and frames of a peer that is not honest.
 
+mod damage;
+
 use osdp_controller::*;
 use osdp_frame::{Address, CheckKind, Framer, Item};
 use osdp_msg::{Command, Reply};
@@ -295,76 +297,6 @@ fn another_address(rt: HostRuntime) {
         controller.retarget(configuration),
         Err(ControllerFault::OutOfRange)
     );
-}
-
-/// Packets of both ends, as they are shown elsewhere.
-const PACKETS: [&[u8]; 18] = [
-    &[0x53, 0x00, 0x07, 0x00, 0x00, 0x60, 0x46],
-    &[0x53, 0x00, 0x08, 0x00, 0x04, 0x60, 0xeb, 0xaa],
-    &[0x53, 0x80, 0x08, 0x00, 0x05, 0x40, 0x68, 0x9f],
-    &ID,
-    &OUT_1,
-    &[
-        0x53, 0x05, 0x0c, 0x00, 0x05, 0x68, 0x00, 0x02, 0x00, 0x00, 0x51, 0x83,
-    ],
-    &[
-        0x53, 0x05, 0x15, 0x00, 0x02, 0x69, 0x00, 0x00, 0x02, 0x05, 0x05, 0x01, 0x00, 0x1e, 0x00,
-        0x01, 0x01, 0x00, 0x02, 0x00, 0xf9,
-    ],
-    &COMSET_1,
-    &PDID,
-    &[
-        0x53, 0x85, 0x0d, 0x00, 0x01, 0x46, 0x02, 0x01, 0x08, 0x08, 0x01, 0x00, 0xc0,
-    ],
-    &[0x53, 0x85, 0x09, 0x00, 0x02, 0x48, 0x00, 0x01, 0xd4],
-    &[
-        0x53, 0x85, 0x0f, 0x00, 0x01, 0x50, 0x00, 0x00, 0x1a, 0x00, 0x0a, 0x0b, 0x0c, 0x40, 0x4d,
-    ],
-    &KEYPAD_2,
-    &[0x53, 0x85, 0x08, 0x00, 0x03, 0x41, 0x04, 0xd8],
-    &BUSY,
-    &[0x53, 0xff, 0x07, 0x00, 0x00, 0x40, 0x67],
-    &[
-        0x53, 0x05, 0x0b, 0x00, 0x03, 0x80, 0x53, 0x49, 0x4d, 0x01, 0x30,
-    ],
-    &[0x53, 0x85, 0x0a, 0x00, 0x03, 0x90, 0x53, 0x49, 0x4d, 0xa2],
-];
-
-/// Each packet that a run of these bytes has goes to the controller, and a tick follows.
-fn feed(controller: &mut Controller, bytes: &[u8]) {
-    let mut framer = Framer::new();
-    let _ = framer.push(bytes);
-    framer.gap();
-    for _ in 0..bytes.len() {
-        if let Some(Item::Packet(frame)) = framer.next() {
-            let _ = controller.on_frame(&frame, 500);
-        }
-        framer.advance();
-    }
-    let _ = controller.tick(u64::MAX);
-}
-
-/// One byte of the packet is changed in each way, in each place.
-fn feed_changes(controller: &mut Controller, packet: &[u8]) {
-    let mut bytes = [0u8; 32];
-    for place in 0..packet.len().min(32) {
-        for change in 0..=255u8 {
-            let len = packet.len().min(32);
-            bytes[..len].copy_from_slice(&packet[..len]);
-            bytes[place] = change;
-            feed(controller, &bytes[..len]);
-            let _ = controller.begin(0);
-        }
-    }
-}
-
-/// Whatever comes, no call faults: each returns.
-#[test]
-fn packets_with_one_byte_changed(rt: HostRuntime) {
-    for packet in PACKETS {
-        let mut controller = opened(&rt, rt.alloc());
-        feed_changes(&mut controller, packet);
-    }
 }
 
 /// The settings are judged first, and no call but the first asks for memory. A script refuses each allocation in turn.

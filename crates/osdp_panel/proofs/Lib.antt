@@ -1,2 +1,4 @@
+pub mod Hearing
+pub mod Runs
 pub mod Taking
 pub mod Turning

@@ -1,3 +1,4 @@
+pub mod Hearing
 pub mod Reports
 pub mod Sending
 pub mod Turns

@@ -1,31 +1,80 @@
 //! The loop of a panel that runs a controller on a serial line, as an example to start from.
 //!
-//! The panel's own loop stands around three calls, none of which takes memory:
+//! One call of `turn` is one turn of the loop: it reads once from the port, hands the reports of what came to
+//! the panel's own code, and sends what is due. None of it takes memory.
 //!
-//! - `take` with the bytes that the port has given, and then `next_report` until it tells nothing more;
-//! - `silence` where the line has been silent, which ends a run of bytes;
-//! - `tick` at the moment that `sleep_until` gives, whose frame goes to the port.
+//! ```text
+//! let mut panel = Panel::new(Controller::new(alloc, config, 16)?);
+//! panel.controller.begin(clock.now())?;
+//! loop {
+//!     let turn = panel.turn(clock.now(), &mut input, &mut buffer, &mut output, &mut door);
+//!     if turn.read.is_err() || turn.sent.is_err() { .. the port is opened anew .. }
+//!     match turn.sleep_until {
+//!         Some(moment) => .. sleep 20 ms, and then till that moment or till bytes have come ..
+//!         None => panel.controller.begin(clock.now())?, // the session has ended
+//!     }
+//! }
+//! ```
+//!
+//! `input` and `output` are the two directions of the port, and `door` is the panel's `ReportHandler`, which may
+//! note commands that go to `panel.controller.submit` before the next turn. A read that gives no bytes is taken
+//! for a silence, which ends a run of bytes; so some 20 ms are to pass between two reads, or a read waits so long
+//! for a first byte.
+//!
+//! Whoever needs the reports one by one calls the parts: `take` with bytes, or `silence`, and behind both of them
+//! `next_report` until it tells nothing more, since the framer takes no bytes of a new run before the last one is
+//! read to its end; then `tick` at the moment that `sleep_until` gives.
 #![tactic(auto)]
 
 pub mod laws;
+mod receiver;
 
-ghost use Rattle.std.specs.Prelude.{◌≡◌, IfOk, IsNone, IsSome, OnErr, OnOk};
-ghost use Rattle.std.specs.Io.KnownBytes.{Appends};
+ghost use Rattle.std.specs.Prelude.{◌≡◌, ◌++◌, ◌<◌, [], false, length, IfOk, IsNone, IsSome, OnErr, OnOk};
+ghost use Rattle.std.specs.Io.{ReadsAtMost};
+ghost use Rattle.std.specs.Io.KnownBytes.{Appends, ReadConsumes};
 ghost use Rattle.osdp_controller.specs.Machine.{IsDeadline, after_tick};
+ghost use Rattle.osdp_frame.specs.Bytes.{AreBytes};
 ghost use Rattle.osdp_frame.specs.Held.{after_gap, after_push, new_run, taken_count};
+ghost use Rattle.osdp_frame.specs.Items.{items, left_over};
 ghost use Rattle.osdp_frame.specs.Shown.{part_of};
+ghost use Rattle.osdp_panel.specs.Hearing.{after_reports, after_read, held_behind, held_read, items_heard, reports_read};
 ghost use Rattle.osdp_panel.specs.Reports.{after_item, next_told, told_of};
 ghost use Rattle.osdp_panel.specs.Sending.{sent_bytes, step_at};
+ghost use Rattle.osdp_panel.specs.Turns.{after_items, behind_all, items_of, listed, reports_of};
 
-use osdp_controller::{Controller, Report};
-use osdp_frame::{Framer, Item};
-use std::io::{self, Write};
+use osdp_controller::{Controller, Report, Step};
+use osdp_frame::{Frame, Item};
+pub use receiver::Receiver;
+use std::io::{self, Read, Write};
 
-/// A controller and the framer of its line.
+/// What a panel does with what its controller reports. Its new state is a function of the old one and the report.
+pub trait ReportHandler: Drop {
+    ghost use Rattle.osdp_controller.specs.declared.report.Report.{Report};
+
+    /// The state behind a report.
+    ghost after: { Self → Report → Self };
+
+    /// Acts on a report.
+    fn handle(&mut self, report: Report)
+        ensures { self.new ≡ after self.old report };
+}
+
+/// What a turn of the loop came to.
+#[derive(Debug, Drop)]
+pub struct Turn {
+    /// How many bytes were read, which stand at the front of the buffer.
+    pub read: io::Result<usize>,
+    /// Whether what was due has gone out.
+    pub sent: io::Result<()>,
+    /// The moment of the next turn, if no bytes come before: none where nothing is to be done before that.
+    pub sleep_until: Option<u64>,
+}
+
+/// A controller, and what has come on its line and isn't read to its end.
 #[derive(Debug, Drop)]
 pub struct Panel {
     pub controller: Controller,
-    pub framer: Framer,
+    pub framer: Receiver,
 }
 
 impl Panel {
@@ -36,7 +85,7 @@ impl Panel {
     {
         Panel {
             controller,
-            framer: Framer::new(),
+            framer: Receiver::new(),
         }
     }
 
@@ -85,7 +134,7 @@ impl Panel {
         None
     }
 
-    /// Sends what is due to the port, or tells that the session has ended.
+    /// Sends what is due to the port, and flushes it, or tells that the session has ended.
     ///
     /// An error is one of the port, to which a frame was to go; how much of the frame went out is unknown then.
     pub fn tick<W: Write>(&mut self, now: u64, port: &mut W) -> io::Result<Option<Report>>
@@ -98,11 +147,134 @@ impl Panel {
         ensures untouched { IsNone (step_at now self.old.controller).frame → port.new ≡ port.old }
     {
         let step = self.controller.tick(now);
-        if let Some(frame) = &step.frame {
-            port.write_all(frame.encode().as_slice())?;
-        }
+        send(&step.frame, port)?;
         Ok(step.report)
     }
+
+    /// Hands on the reports of all packets that were taken, in their order. What was handed on is held no longer.
+    pub fn tell_all<H: ReportHandler>(&mut self, now: u64, handler: &mut H)
+        ensures controller { self.new.controller ≡ after_items now (items_of self.old.framer) self.old.controller }
+        ensures framer { self.new.framer ≡ behind_all self.old.framer (items_of self.old.framer) }
+        ensures handler { handler.new ≡ after_reports H.after
+            (reports_of now (items_of self.old.framer) self.old.controller) handler.old }
+        ensures told { items_of self.new.framer ≡ [] }
+    {
+        'reports: while let Some(report) = self.next_report(now) {
+            handler.handle(report);
+        }
+    }
+
+    /// Takes all of the bytes of a run that goes on, and hands on their reports.
+    fn take_all<H: ReportHandler>(&mut self, bytes: &[u8], now: u64, handler: &mut H)
+        requires bytes { AreBytes self.old.framer.bytes }
+        requires goes_on { self.old.framer.ended ≡ false }
+        requires told { items_of self.old.framer ≡ [] }
+        ensures controller { self.new.controller
+            ≡ after_items now (items false (self.old.framer.bytes ++ bytes.now)) self.old.controller }
+        ensures handler { handler.new ≡ after_reports H.after
+            (reports_of now (items false (self.old.framer.bytes ++ bytes.now)) self.old.controller) handler.old }
+        ensures left { self.new.framer.bytes ≡ left_over (self.old.framer.bytes ++ bytes.now) }
+        ensures still { self.new.framer.ended ≡ false }
+    {
+        let mut at = 0;
+        'pieces: while at < bytes.len() {
+            at += self.take(&bytes[at..]);
+            self.tell_all(now, handler);
+        }
+    }
+
+    /// Takes bytes that the port has given, in any pieces, and hands on the reports of the packets that have come
+    /// whole, in their order. No bytes are a silence: what was begun is no packet.
+    pub fn hear<H: ReportHandler>(&mut self, bytes: &[u8], now: u64, handler: &mut H)
+        ensures controller { self.new.controller
+            ≡ after_items now (items_heard bytes.now self.old.framer) self.old.controller }
+        ensures framer { self.new.framer ≡ held_behind bytes.now self.old.framer }
+        ensures handler { handler.new ≡ after_reports H.after
+            (reports_of now (items_heard bytes.now self.old.framer) self.old.controller) handler.old }
+    {
+        self.framer.is_run();
+        if bytes.is_empty() {
+            self.silence();
+            self.tell_all(now, handler);
+        } else {
+            self.tell_all(now, handler);
+            self.take_all(bytes, now, handler);
+        }
+    }
+
+    /// Reads once from the port, and hears what it gave. Where it fails nothing is heard.
+    pub fn read<R: Read, H: ReportHandler>(
+        &mut self,
+        now: u64,
+        port: &mut R,
+        buffer: &mut [u8],
+        handler: &mut H,
+    ) -> io::Result<usize>
+        ensures bound { ReadsAtMost result buffer.new }
+        ensures bytes { ReadConsumes (R.remaining port.old) (R.remaining port.new) result buffer.new }
+        ensures controller { self.new.controller
+            ≡ after_read now result buffer.new self.old.framer self.old.controller }
+        ensures framer { self.new.framer ≡ held_read result buffer.new self.old.framer }
+        ensures handler { handler.new ≡ after_reports H.after
+            (reports_read now result buffer.new self.old.framer self.old.controller) handler.old }
+    {
+        let count = port.read(buffer)?;
+        self.hear(&buffer[..count], now, handler);
+        Ok(count)
+    }
+
+    /// One turn of the loop at a moment: reads once, hands on the reports of what came, sends what is due or
+    /// reports that the session has ended, and says when to go on. A direction that fails stops nothing else.
+    pub fn turn<R: Read, W: Write, H: ReportHandler>(
+        &mut self,
+        now: u64,
+        input: &mut R,
+        buffer: &mut [u8],
+        output: &mut W,
+        handler: &mut H,
+    ) -> Turn
+        ensures bound { ReadsAtMost result.read buffer.new }
+        ensures bytes { ReadConsumes (R.remaining input.old) (R.remaining input.new) result.read buffer.new }
+        ensures controller { self.new.controller
+            ≡ after_tick now (after_read now result.read buffer.new self.old.framer self.old.controller) }
+        ensures framer { self.new.framer ≡ held_read result.read buffer.new self.old.framer }
+        ensures handler { let heard = after_read now result.read buffer.new self.old.framer self.old.controller in
+            let reports = reports_read now result.read buffer.new self.old.framer self.old.controller in
+            handler.new ≡ after_reports H.after (reports ++ listed (step_at now heard).report) handler.old }
+        ensures sent { let heard = after_read now result.read buffer.new self.old.framer self.old.controller in
+            OnOk result.sent (Appends (W.contents output.old) (W.contents output.new)
+            (sent_bytes (step_at now heard).frame)) }
+        ensures failed { let heard = after_read now result.read buffer.new self.old.framer self.old.controller in
+            OnErr result.sent (IsSome (step_at now heard).frame) }
+        ensures untouched { let heard = after_read now result.read buffer.new self.old.framer self.old.controller in
+            IsNone (step_at now heard).frame → output.new ≡ output.old }
+        ensures sleep_until { IsDeadline self.new.controller result.sleep_until }
+    {
+        let read = self.read(now, input, buffer, handler);
+        let Step { frame, report } = self.controller.tick(now);
+        let sent = send(&frame, output);
+        if let Some(report) = report {
+            handler.handle(report);
+        }
+        Turn {
+            read,
+            sent,
+            sleep_until: self.sleep_until(),
+        }
+    }
+}
+
+/// Sends a frame, and waits until the port has it; without a frame the port is left alone.
+fn send<W: Write>(frame: &Option<Frame>, port: &mut W) -> io::Result<()>
+    ensures sent { OnOk result (Appends (W.contents port.old) (W.contents port.new) (sent_bytes frame.now)) }
+    ensures failed { OnErr result (IsSome frame.now) }
+    ensures untouched { IsNone frame.now → port.new ≡ port.old }
+{
+    if let Some(frame) = frame {
+        port.write_all(frame.encode().as_slice())?;
+        port.flush()?;
+    }
+    Ok(())
 }
 
 /// A packet is handed to the controller; another item tells nothing.
