@@ -15,7 +15,7 @@ use Rattle.osdp_reader.specs.declared.kind.Kind.TheVariants.{Silent, Secured, Ze
 use Rattle.osdp_reader.specs.Laws.{IsOffered, TellsItsOffer}
 use Rattle.osdp_reader.specs.Queue.{Queue, offering, released}
 use Rattle.osdp_reader.specs.Replies.{reply_packet}
-use Rattle.osdp_reader.specs.State.{ReaderState, behind_submit}
+use Rattle.osdp_reader.specs.State.{ReaderState, after_submit}
 use Rattle.osdp_reader.specs.Table.{begun, command_in, moved, new_address, outcome, taken, told_or_answered}
 
 front_stays : (events more : List Event) (front : Event) → slice_get events 0 ≡ Some front
@@ -35,7 +35,7 @@ module _ {H : Type 0} where
       by_test true = none_offered r none
       by_test false = none_offered _ none
 
-  pub submit_offer : (r : ReaderState H) (event : Event) → TellsItsOffer r → TellsItsOffer (behind_submit event r)
+  pub submit_offer : (r : ReaderState H) (event : Event) → TellsItsOffer r → TellsItsOffer (after_submit event r)
   submit_offer r event tells offered =
       let is = (tells offered).1.1 in (
         (tells offered).0,

@@ -8,7 +8,7 @@ use Rattle.osdp_reader.specs.declared.handler.Answer.{Answer}
 use Rattle.osdp_reader.specs.declared.kind.Kind.{Kind}
 use Rattle.osdp_reader.specs.declared.kind.Kind.TheVariants.{Silent, Secured, Zero, Repeat, Taken, Busy, Wrong}
 use Rattle.osdp_reader.specs.Laws.{HasRoom}
-use Rattle.osdp_reader.specs.State.{ReaderState, behind_submit}
+use Rattle.osdp_reader.specs.State.{ReaderState, after_submit}
 use Rattle.osdp_reader.specs.Table.{begun, command_in, moved, new_address, outcome, taken}
 
 released_room : (offered : Bool) (events : List Event) (capacity : ℕ) → length events ≤ capacity
@@ -30,7 +30,7 @@ module _ {H : Type 0} where
       by_test false = room
 
   pub submit_room : (r : ReaderState H) (event : Event) → length r.queue.events ≢ r.queue.capacity → HasRoom r
-      → HasRoom (behind_submit event r)
+      → HasRoom (after_submit event r)
   submit_room r event other room = one_more r.queue.events event r.queue.capacity other room
 
   module _ (answer_of : H → Command → Answer) (after : H → Command → H) where

@@ -15,7 +15,7 @@ use Rattle.osdp_reader.specs.declared.kind.Kind.TheVariants.{Zero, Taken, Wrong}
 use Rattle.osdp_reader.specs.Answering.{answers, handler_behind}
 use Rattle.osdp_reader.specs.Replies.{reply_packet}
 use Rattle.osdp_reader.specs.Spelled.{IsSpelled}
-use Rattle.osdp_reader.specs.State.{ReaderState, behind_set_busy, behind_submit, new_reader}
+use Rattle.osdp_reader.specs.State.{ReaderState, after_set_busy, after_submit, new_reader}
 use Rattle.osdp_reader.specs.Table.{answer_to, command_in, hears, kind_of, new_address}
 
 -- neither BUSY nor a NAK 1 or 4, which say that the command wasn't taken
@@ -154,8 +154,8 @@ module _ {H : Type 0} where
     abbrev pub IsKeptByCalls : (ReaderState H → Type 0) → Type 0
     IsKeptByCalls P =
         ((r : ReaderState H) (p : Packet) → P r → P (hears answer_of after r p).reader)
-        × ((r : ReaderState H) (event : Event) → length r.queue.events ≢ r.queue.capacity → P r → P (behind_submit event r))
-        × ((r : ReaderState H) (busy : Bool) → P r → P (behind_set_busy busy r))
+        × ((r : ReaderState H) (event : Event) → length r.queue.events ≢ r.queue.capacity → P r → P (after_submit event r))
+        × ((r : ReaderState H) (busy : Bool) → P r → P (after_set_busy busy r))
 
     -- it holds of each new reader too
     abbrev pub IsKept : (ReaderState H → Type 0) → Type 0

@@ -29,9 +29,9 @@ module _ {H : Type 0} where
   }
 
   -- behind an event that was accepted
-  abbrev pub behind_submit : Event → ReaderState H → ReaderState H
-  behind_submit event r = record r { queue = queued event r.queue }
+  abbrev pub after_submit : Event → ReaderState H → ReaderState H
+  after_submit event r = record r { queue = queued event r.queue }
 
   -- behind BUSY on or off
-  abbrev pub behind_set_busy : Bool → ReaderState H → ReaderState H
-  behind_set_busy busy r = record r { busy = busy }
+  abbrev pub after_set_busy : Bool → ReaderState H → ReaderState H
+  after_set_busy busy r = record r { busy = busy }
