@@ -1,10 +1,12 @@
 -- What holds of the reader's table, whatever the handler does.
-use Rattle.std.specs.Prelude.{◌≡◌, ◌≢◌, ◌⊎◌, ◌↔◌, [], ◌∷◌, ◌≤◌, ◌+◌, ℕ, suc, true, false, List, ◌++◌, length, take, drop, slice_get, Option, Some, None, Ok}
+use Rattle.std.specs.Prelude.{◌≡◌, ◌≢◌, ◌⊎◌, ◌↔◌, [], ◌∷◌, ◌≤◌, ◌+◌, ℕ, suc, Bool, true, false, List, ◌++◌, length, take, drop, slice_get, Option, Some, None, Ok}
 use Rattle.osdp_frame.specs.Packet.{Packet, next_sequence}
 use Rattle.osdp_msg.specs.declared.command.Command.{Command}
 use Rattle.osdp_msg.specs.declared.command.Command.TheVariants.{Poll}
+use Rattle.osdp_msg.specs.declared.event.Event.{Event}
 use Rattle.osdp_msg.specs.declared.reply.Reply.{Reply}
 use Rattle.osdp_msg.specs.declared.reply.Reply.TheVariants as reply
+use Rattle.osdp_msg.specs.Events.{event_reply}
 use Rattle.osdp_msg.specs.NakReasons.{reason_number}
 use Rattle.osdp_msg.specs.ReplyTable.{reply_code, reply_data}
 use Rattle.osdp_reader.specs.declared.config.ReaderConfig.{ReaderConfig}
@@ -13,7 +15,7 @@ use Rattle.osdp_reader.specs.declared.kind.Kind.TheVariants.{Zero, Taken, Wrong}
 use Rattle.osdp_reader.specs.Answering.{answers, handler_behind}
 use Rattle.osdp_reader.specs.Replies.{reply_packet}
 use Rattle.osdp_reader.specs.Spelled.{IsSpelled}
-use Rattle.osdp_reader.specs.State.{ReaderState, new_reader}
+use Rattle.osdp_reader.specs.State.{ReaderState, after_set_busy, after_submit, new_reader}
 use Rattle.osdp_reader.specs.Table.{answer_to, command_in, hears, kind_of, new_address}
 
 -- neither BUSY nor a NAK 1 or 4, which say that the command wasn't taken
@@ -63,6 +65,17 @@ module _ {H : Type 0} where
   abbrev pub HasRoom : ReaderState H → Type 0
   HasRoom r = length r.queue.events ≤ r.queue.capacity
 
+  -- the front is this event, and the stored reply, with the last number, is the packet that tells it
+  pub record IsOffered (r : ReaderState H) (event : Event) (p : Packet) : Type 0 where
+    pub front : slice_get r.queue.events 0 ≡ Some event
+    pub stored : r.stored ≡ Some p
+    pub number : r.last ≡ Some p.sequence
+    pub body : p.body ≡ reply_code (event_reply event) ∷ reply_data (event_reply event)
+
+  -- what counts as offered is an event that was told by the stored reply
+  abbrev pub TellsItsOffer : ReaderState H → Type 0
+  TellsItsOffer r = r.queue.offered ≡ true → (event : Event) × ((p : Packet) × IsOffered r event p)
+
   -- its address is a device's
   abbrev pub HasDeviceAddress : ReaderState H → Type 0
   HasDeviceAddress r = r.config.address ≤ 126
@@ -73,17 +86,32 @@ module _ {H : Type 0} where
     pub here : (p.address ≡ r.config.address) ⊎ (p.address ≡ 127)
 
   module _ (answer_of : H → Command → Answer) (after : H → Command → H) where
-    -- a packet with the number of the last command, which isn't 0, changes nothing, so that no command reaches the
-    -- handler twice
+    -- a packet with the number of the last command, which isn't 0, changes nothing, and no command reaches the handler
     abbrev pub ActsOnce : Type 0
     ActsOnce = (r : ReaderState H) (p : Packet) → p.sequence ≢ 0 → r.last ≡ Some p.sequence
         → ((hears answer_of after r p).reader ≡ r) × ((hears answer_of after r p).command ≡ None)
 
-    -- .. and where it is for this reader and has no security block, its answer is the stored reply
+    -- .. and where it comes to this reader and has no security block, its answer is the stored reply
     abbrev pub RepeatsItsReply : Type 0
-    RepeatsItsReply = (r : ReaderState H) (p : Packet) → p.reply ≡ false → p.block ≡ false
-        → (p.address ≡ r.config.address) ⊎ (p.address ≡ 127)
+    RepeatsItsReply = (r : ReaderState H) (p : Packet) → ComesTo r p → p.block ≡ false
         → p.sequence ≢ 0 → r.last ≡ Some p.sequence → (hears answer_of after r p).reply ≡ r.stored
+
+    -- a taken number is the last one then, and its reply is the stored one, but where a COMSET moves the reader
+    abbrev pub KeepsWhatItTook : Type 0
+    KeepsWhatItTook = (r : ReaderState H) (p : Packet) → kind_of r p ≡ Taken
+        → (hears answer_of after r p).reader.config.address ≡ r.config.address
+        → ((hears answer_of after r p).reader.last ≡ Some p.sequence)
+        × ((hears answer_of after r p).reader.stored ≡ (hears answer_of after r p).reply)
+
+    -- behind a taken number, a packet with this number, whatever it holds, has the same packet as its answer, changes nothing,
+    -- and no command reaches the handler
+    abbrev pub AnswersTheSameAgain : Type 0
+    AnswersTheSameAgain = (r : ReaderState H) (p q : Packet) → kind_of r p ≡ Taken
+        → (hears answer_of after r p).reader.config.address ≡ r.config.address
+        → ComesTo r q → q.block ≡ false → q.sequence ≡ p.sequence
+        → let first = hears answer_of after r p in
+        let again = hears answer_of after first.reader q in
+        (again.reply ≡ first.reply) × (again.reader ≡ first.reader) × (again.command ≡ None)
 
     -- at number 0 a reader that isn't busy acts on each command, however often it comes
     abbrev pub ActsAtZero : Type 0
@@ -102,10 +130,12 @@ module _ {H : Type 0} where
         × ((hears answer_of after r p).reader.queue.events ≡ drop 1 r.queue.events))
         ⊎ ((hears answer_of after r p).reader.queue.events ≡ r.queue.events)
 
-    -- a packet with another address changes nothing, and is not answered
+    -- a packet with another address, or from a device, changes nothing and is not answered
     abbrev pub HearsItsAddress : Type 0
-    HearsItsAddress = (r : ReaderState H) (p : Packet) → p.address ≢ r.config.address → p.address ≢ 127
+    HearsItsAddress = (r : ReaderState H) (p : Packet)
+        → (p.reply ≡ true) ⊎ ((p.address ≢ r.config.address) × (p.address ≢ 127))
         → ((hears answer_of after r p).reader ≡ r) × ((hears answer_of after r p).reply ≡ None)
+        × ((hears answer_of after r p).command ≡ None)
 
     -- the reply to a command that is acted on is plain
     abbrev pub AnswersPlainly : Type 0
@@ -120,16 +150,24 @@ module _ {H : Type 0} where
         ((hears answer_of after r p).reply ≡ Some (reply_packet p p.sequence a.reply))
         × ((hears answer_of after r p).reader.handler ≡ a.handler)
 
-    -- a packet keeps what holds of a new reader
+    -- what holds of a reader holds behind each of its calls: a packet, an event where there is room, and BUSY on or off
+    abbrev pub IsKeptByCalls : (ReaderState H → Type 0) → Type 0
+    IsKeptByCalls P =
+        ((r : ReaderState H) (p : Packet) → P r → P (hears answer_of after r p).reader)
+        × ((r : ReaderState H) (event : Event) → length r.queue.events ≢ r.queue.capacity → P r → P (after_submit event r))
+        × ((r : ReaderState H) (busy : Bool) → P r → P (after_set_busy busy r))
+
+    -- it holds of each new reader too
     abbrev pub IsKept : (ReaderState H → Type 0) → Type 0
     IsKept P =
-        ((config : ReaderConfig) (handler : H) (capacity : ℕ) → P (new_reader config handler capacity))
-        × ((r : ReaderState H) (p : Packet) → P r → P (hears answer_of after r p).reader)
+        ((config : ReaderConfig) (handler : H) (capacity : ℕ) → P (new_reader config handler capacity)) × IsKeptByCalls P
 
-    -- a reader with a device's address keeps to such
+    -- a reader that was made with a device's address keeps to such
     abbrev pub StaysADevice : Type 0
-    StaysADevice = (r : ReaderState H) (p : Packet) → HasDeviceAddress r
-        → HasDeviceAddress (hears answer_of after r p).reader
+    StaysADevice =
+        ((config : ReaderConfig) (handler : H) (capacity : ℕ) → config.address ≤ 126
+        → HasDeviceAddress (new_reader config handler capacity))
+        × IsKeptByCalls HasDeviceAddress
 
     -- the answers to the first commands are the first answers, and the others come from the handler behind those
     abbrev pub AnswersInOrder : Type 0
@@ -157,9 +195,10 @@ module _ {H : Type 0} where
         → IsAnswered (hears answer_of after r p).reply p p.sequence (nak_body 5)
         × ((hears answer_of after r p).reader ≡ r)
 
-    -- a busy reader answers a command with a number to be taken by BUSY with number 0, and nothing changes
+    -- a busy reader answers number 0, and the number behind the last one, by BUSY with number 0, and nothing changes
     abbrev pub SaysBusy : Type 0
-    SaysBusy = (r : ReaderState H) (p : Packet) → ComesTo r p → p.block ≡ false → r.busy ≡ true → p.sequence ≡ 0
+    SaysBusy = (r : ReaderState H) (p : Packet) → ComesTo r p → p.block ≡ false → r.busy ≡ true
+        → (p.sequence ≡ 0) ⊎ ((n : ℕ) × (r.last ≡ Some n) × (p.sequence ≡ next_sequence n))
         → IsAnswered (hears answer_of after r p).reply p 0 busy_body
         × ((hears answer_of after r p).reader ≡ r)
 
@@ -169,9 +208,10 @@ module _ {H : Type 0} where
         → IsAnswered (hears answer_of after r p).reply p p.sequence (nak_body 4)
         × ((hears answer_of after r p).reader ≡ r)
 
-    -- behind an accepted COMSET to another address nothing that was said before counts
+    -- behind an accepted COMSET to another address nothing that was said before counts, and the handler stays
     abbrev pub ForgetsWhereItMoves : Type 0
     ForgetsWhereItMoves = (r : ReaderState H) (p : Packet) (address : ℕ) (command : Command)
         → (hears answer_of after r p).command ≡ Some command → new_address command ≡ Some address → address ≢ r.config.address
         → ((hears answer_of after r p).reader.config.address ≡ address)
         × ((hears answer_of after r p).reader.last ≡ None) × ((hears answer_of after r p).reader.stored ≡ None)
+        × ((hears answer_of after r p).reader.handler ≡ r.handler)

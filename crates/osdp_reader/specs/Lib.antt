@@ -6,3 +6,4 @@ pub mod Table
 pub mod Answering
 pub mod Told
 pub mod Laws
+pub mod Steps

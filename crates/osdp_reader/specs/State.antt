@@ -2,7 +2,8 @@
 use Rattle.std.specs.Prelude.{ℕ, Bool, false, Option, None}
 use Rattle.osdp_frame.specs.Packet.{Packet}
 use Rattle.osdp_reader.specs.declared.config.ReaderConfig.{ReaderConfig}
-use Rattle.osdp_reader.specs.Queue.{Queue, empty_queue}
+use Rattle.osdp_msg.specs.declared.event.Event.{Event}
+use Rattle.osdp_reader.specs.Queue.{Queue, empty_queue, queued}
 
 pub record ReaderState (H : Type 0) : Type 0 where
   -- what it is, and the address that it has now
@@ -16,7 +17,7 @@ pub record ReaderState (H : Type 0) : Type 0 where
   pub handler : H
 
 module _ {H : Type 0} where
-  -- nothing has come, nothing is stored, no event waits, and it isn't busy
+  -- no command was acted on yet, nothing is stored, no event waits, and it isn't busy
   abbrev pub new_reader : ReaderConfig → H → ℕ → ReaderState H
   new_reader config handler capacity = record {
     config = config;
@@ -26,3 +27,11 @@ module _ {H : Type 0} where
     busy = false;
     handler = handler;
   }
+
+  -- behind an event that was accepted
+  abbrev pub after_submit : Event → ReaderState H → ReaderState H
+  after_submit event r = record r { queue = queued event r.queue }
+
+  -- behind BUSY on or off
+  abbrev pub after_set_busy : Bool → ReaderState H → ReaderState H
+  after_set_busy busy r = record r { busy = busy }

@@ -1,14 +1,23 @@
 //! What the reader's table means, said apart from how it is computed. The functions do nothing: their contracts are laws,
 //! and hold whatever the handler does.
 
-ghost use Rattle.osdp_reader.specs.Laws.{ActsAtZero, ActsOnce, AnswersByWhatCame, AnswersInOrder, AnswersPlainly, AnswersTaken, ForgetsWhereItMoves, HasOneSpelling, HasRoom, HearsItsAddress, IsKept, KeepsReply, LosesNoEvent, RefusesBlocks, RefusesNumbers, RepeatsItsReply, RepliesToItsCommand, SaysBusy, TakesNext, StaysADevice};
+ghost use Rattle.osdp_reader.specs.Laws.{ActsAtZero, ActsOnce, AnswersByWhatCame, AnswersInOrder, AnswersPlainly, AnswersTaken, AnswersTheSameAgain, ForgetsWhereItMoves, HasOneSpelling, HasRoom, HearsItsAddress, IsKept, KeepsReply, KeepsWhatItTook, LosesNoEvent, RefusesBlocks, RefusesNumbers, RepeatsItsReply, RepliesToItsCommand, SaysBusy, StaysADevice, TakesNext, TellsItsOffer};
+ghost use Rattle.osdp_reader.specs.Steps.{AnswersPolls, BeginsAnew, ChangesByActing, KeepsItsSettings, LetsItsOfferGo, MovesByComsetAlone, OffersToPollsAlone, RefusesUnread, TellsItsCommand};
 
 use crate::handler::Handler;
 
-/// A command that comes again with its number changes nothing and doesn't reach the handler. Its answer is the stored reply.
+/// A packet with the last number, where that isn't 0, changes nothing and doesn't reach the handler. Its answer is the stored
+/// reply.
 pub fn acts_once<H: Handler>()
     ensures nothing { ActsOnce H.answer_of H.after }
     ensures reply { RepeatsItsReply H.answer_of H.after }
+{}
+
+/// A taken number is the last one then, and the reply to it is the stored one. So this number again has the same answer, and
+/// changes nothing.
+pub fn keeps_what_it_took<H: Handler>()
+    ensures kept { KeepsWhatItTook H.answer_of H.after }
+    ensures again { AnswersTheSameAgain H.answer_of H.after }
 {}
 
 /// Bytes that spell the same packet are the same, so a repeated reply is the stored one byte for byte.
@@ -21,12 +30,40 @@ pub fn acts_at_zero<H: Handler>()
     ensures { ActsAtZero H.answer_of H.after }
 {}
 
-/// An event leaves only at a taken number, only if it was offered, and it alone.
-pub fn loses_no_event<H: Handler>()
-    ensures { LosesNoEvent H.answer_of H.after }
+/// Behind number 0 no event is offered, all of them wait, the last number is 0, and the stored reply is the one from before.
+pub fn begins_anew<H: Handler>()
+    ensures { BeginsAnew H.answer_of H.after }
 {}
 
-/// A packet for another address changes nothing, and is not answered.
+/// An event leaves only at a taken number, only if it was offered, and it alone; and then it does.
+pub fn loses_no_event<H: Handler>()
+    ensures stays { LosesNoEvent H.answer_of H.after }
+    ensures leaves { LetsItsOfferGo H.answer_of H.after }
+{}
+
+/// A taken POLL is answered by the front event, which is offered then, or else by ACK. Nothing else is offered an event.
+pub fn answers_polls<H: Handler>()
+    ensures event { AnswersPolls H.answer_of H.after }
+    ensures alone { OffersToPollsAlone H.answer_of H.after }
+{}
+
+/// Only number 0 and a taken number change anything, or reach the handler.
+pub fn changes_by_acting<H: Handler>()
+    ensures { ChangesByActing H.answer_of H.after }
+{}
+
+/// The command that was acted on is told; a packet that holds none is refused, and the handler stays.
+pub fn tells_its_command<H: Handler>()
+    ensures read { TellsItsCommand H.answer_of H.after }
+    ensures unread { RefusesUnread H.answer_of H.after }
+{}
+
+/// No packet changes whether the reader is busy, how many events there may be, or what it answers to ID and CAP.
+pub fn keeps_its_settings<H: Handler>()
+    ensures { KeepsItsSettings H.answer_of H.after }
+{}
+
+/// A packet for another address, or from a device, changes nothing, and is not answered.
 pub fn hears_its_address<H: Handler>()
     ensures { HearsItsAddress H.answer_of H.after }
 {}
@@ -41,10 +78,11 @@ pub fn answers_taken<H: Handler>()
     ensures { AnswersTaken H.answer_of H.after }
 {}
 
-/// A reply is stored wherever the last number is 1 to 3, no more events wait than there is room for, and the address is that of a
-/// device.
+/// Whatever is called: a reply is stored wherever the last number is 1 to 3, what counts as offered is the front, told by that
+/// reply, no more events wait than there is room for, and the address is that of a device.
 pub fn stays_well<H: Handler>()
     ensures reply { IsKept H.answer_of H.after KeepsReply }
+    ensures offer { IsKept H.answer_of H.after TellsItsOffer }
     ensures room { IsKept H.answer_of H.after HasRoom }
     ensures address { StaysADevice H.answer_of H.after }
 {}
@@ -65,15 +103,20 @@ pub fn takes_the_next_number<H: Handler>()
     ensures { TakesNext H.answer_of H.after }
 {}
 
-/// What cannot be taken is answered and changes nothing: a security block by NAK 5, a number out of turn by NAK 4, and
-/// number 0 while the reader is busy by BUSY.
+/// What cannot be taken is answered and changes nothing: a security block by NAK 5, a number out of turn by NAK 4, and, while
+/// the reader is busy, number 0 and the number behind the last one by BUSY.
 pub fn refuses_and_keeps_all<H: Handler>()
     ensures blocks { RefusesBlocks H.answer_of H.after }
     ensures numbers { RefusesNumbers H.answer_of H.after }
     ensures busy { SaysBusy H.answer_of H.after }
 {}
 
-/// A reader that a COMSET moves has no last number and no stored reply at its new address.
+/// The address changes by an accepted COMSET alone, and is the one that it sets.
+pub fn moves_by_comset_alone<H: Handler>()
+    ensures { MovesByComsetAlone H.answer_of H.after }
+{}
+
+/// A reader that a COMSET moves has no last number and no stored reply at its new address. Its handler stays.
 pub fn forgets_where_it_moves<H: Handler>()
     ensures { ForgetsWhereItMoves H.answer_of H.after }
 {}

@@ -1,8 +1,9 @@
 //! The reader's machine: the device end of the link.
 //!
-//! A `Reader` is given the packets of the line and answers each by the reader's table. It acts on each command once, keeps its
-//! last reply for a controller that asks again, and keeps each event until the controller has it. What a command
-//! does is the matter of a `Handler`. Only `Reader::new` takes memory, and no rule depends on time.
+//! A `Reader` is given the packets of the line and answers each by the reader's table. A command that comes again with its
+//! number, if that isn't 0, is answered by the reply that was kept and isn't acted on again; at number 0 each is acted on. Each
+//! event stays until the controller has it. What a command does is the matter of a `Handler`. Only `Reader::new` takes
+//! memory, and no rule depends on time.
 #![tactic(auto)]
 
 mod config;

@@ -2,10 +2,9 @@
 
 ghost use Rattle.std.specs.Prelude.{◌≡◌, ◌↔◌, ◌<◌, ◌≤◌, ◌⊎◌, length, IfOk, IfErr, IsErr, IsErrOf, OnOk, Some};
 ghost use Rattle.osdp_frame.specs.Spelling.{Spells};
-ghost use Rattle.osdp_reader.specs.Queue.{queued};
 ghost use Rattle.osdp_reader.specs.Replies.{reply_packet};
 ghost use Rattle.osdp_reader.specs.Spelled.{IsSpelled};
-ghost use Rattle.osdp_reader.specs.State.{new_reader};
+ghost use Rattle.osdp_reader.specs.State.{after_set_busy, after_submit, new_reader};
 ghost use Rattle.osdp_reader.specs.Table.{begun, command_in, hears, kind_by_number, kind_of, moved, new_address, passes_by, taken};
 ghost use Rattle.osdp_reader.specs.Told.{told_bytes, told_command, told_kind};
 ghost use Rattle.osdp_reader.specs.declared.fault.ReaderFault.TheVariants.{OutOfRange};
@@ -72,7 +71,7 @@ impl<H: Handler> Reader<H> {
     /// Puts an event behind those that wait. N2: where as many wait as there is room for, the event comes back, and nothing
     /// changes.
     pub fn submit_event(&mut self, event: Event) -> Result<(), Event>
-        ensures ok { OnOk result (self.new ≡ record self.old { queue = queued event self.old.queue }) }
+        ensures ok { OnOk result (self.new ≡ after_submit event self.old) }
         ensures full { IsErr result ↔ (length self.old.queue.events ≡ self.old.queue.capacity) }
         ensures back { IfErr result (λ back. (back ≡ event) × (self.new ≡ self.old)) }
     {
@@ -81,7 +80,7 @@ impl<H: Handler> Reader<H> {
 
     /// Sets whether the reader is busy. A busy reader takes nothing, but repeats its last reply.
     pub fn set_busy(&mut self, busy: bool)
-        ensures { self.new ≡ record self.old { busy = busy } }
+        ensures { self.new ≡ after_set_busy busy self.old }
     {
         self.busy = busy;
     }

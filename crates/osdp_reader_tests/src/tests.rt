@@ -41,7 +41,7 @@ const ACK_3: &[u8] = &[0x53, 0x85, 0x07, 0x00, 0x03, 0x40, 0xde];
 /// BUSY from address 5.
 const BUSY: &[u8] = &[0x53, 0x85, 0x07, 0x00, 0x00, 0x79, 0xa8];
 
-/// Keys 12 of reader 0, from address 5 with numbers 1 to 3.
+/// Keys 12 of reader 0, from address 5 with numbers 1 and 2.
 const KEYS_1: &[u8] = &[
     0x53, 0x85, 0x0b, 0x00, 0x01, 0x53, 0x00, 0x02, 0x31, 0x32, 0x64,
 ];
@@ -50,9 +50,8 @@ const KEYS_2: &[u8] = &[
     0x53, 0x85, 0x0b, 0x00, 0x02, 0x53, 0x00, 0x02, 0x31, 0x32, 0x63,
 ];
 
-const KEYS_3: &[u8] = &[
-    0x53, 0x85, 0x0b, 0x00, 0x03, 0x53, 0x00, 0x02, 0x31, 0x32, 0x62,
-];
+/// Key 9 of reader 0, from address 5 with number 3.
+const KEY_9_3: &[u8] = &[0x53, 0x85, 0x0a, 0x00, 0x03, 0x53, 0x00, 0x01, 0x39, 0x8e];
 
 /// A COMSET to address 7 and 9600 baud, number 1.
 const COMSET: &[u8] = &[
@@ -118,7 +117,7 @@ fn reader_with(
     made.ok().expect(rt, "a reader")
 }
 
-/// The event of two pressed keys.
+/// The event of these pressed keys.
 fn keys(rt: &impl Abort, pressed: &[u8]) -> Event {
     let mut digits = ArrayVec::new();
     assert!(rt; digits.try_extend_from_slice(pressed).is_ok());
@@ -210,8 +209,8 @@ fn a_full_queue_gives_the_event_back(rt: HostRuntime) {
         Err(event) => assert!(rt; event == keys(&rt, &[0x39])),
     }
     is_answered(&rt, &mut reader, POLL_2, Kind::Taken, ACK_2);
-    assert!(rt; reader.submit_event(keys(&rt, &[0x31, 0x32])).is_ok());
-    is_answered(&rt, &mut reader, POLL_3, Kind::Taken, KEYS_3);
+    assert!(rt; reader.submit_event(keys(&rt, &[0x39])).is_ok());
+    is_answered(&rt, &mut reader, POLL_3, Kind::Taken, KEY_9_3);
 }
 
 #[test]
@@ -250,6 +249,33 @@ fn comset_moves_the_reader(rt: HostRuntime) {
         &[0x53, 0x07, 0x07, 0x00, 0x02, 0x60, 0x3d],
         Kind::Wrong,
         &[0x53, 0x87, 0x08, 0x00, 0x02, 0x41, 0x04, 0xd7],
+    );
+}
+
+#[test]
+fn comset_at_number_zero_moves_the_reader(rt: HostRuntime) {
+    let mut reader = opened(&rt, rt.alloc(), 4, Answer::Done);
+    is_answered(&rt, &mut reader, POLL_1, Kind::Taken, ACK_1);
+    is_answered(
+        &rt,
+        &mut reader,
+        &[
+            0x53, 0x05, 0x0c, 0x00, 0x00, 0x6e, 0x07, 0x80, 0x25, 0x00, 0x00, 0x82,
+        ],
+        Kind::Zero,
+        &[
+            0x53, 0x85, 0x0c, 0x00, 0x00, 0x54, 0x07, 0x80, 0x25, 0x00, 0x00, 0x1c,
+        ],
+    );
+    assert_eq!(rt; reader.address().get(), 7);
+    assert_eq!(rt; reader.stored().len(), 0);
+    is_answered(&rt, &mut reader, POLL_0, Kind::Silent, &[]);
+    is_answered(
+        &rt,
+        &mut reader,
+        &[0x53, 0x07, 0x07, 0x00, 0x01, 0x60, 0x3e],
+        Kind::Wrong,
+        &[0x53, 0x87, 0x08, 0x00, 0x01, 0x41, 0x04, 0xd8],
     );
 }
 
@@ -359,7 +385,7 @@ fn readers_within_their_ranges(rt: HostRuntime) {
     }
 }
 
-/// Settings are judged before memory is asked for. Where it is refused, as `tests/reader_memory.sh` has it, that is the answer.
+/// Settings are judged before memory is asked for. Where it is refused, as `tests/machines_memory.sh` has it, that is the answer.
 #[test]
 fn want_of_memory_is_told(rt: HostRuntime) {
     for (address, capacity, is_within) in [(127, 1, false), (5, 1025, false), (5, 4, true)] {
@@ -381,12 +407,23 @@ fn want_of_memory_is_told(rt: HostRuntime) {
 #[test]
 fn laws_hold_of_any_handler(_rt: HostRuntime) {
     laws::acts_once::<Bench>();
+    laws::keeps_what_it_took::<Bench>();
     laws::repeats_byte_for_byte();
     laws::acts_at_zero::<Bench>();
+    laws::begins_anew::<Bench>();
     laws::loses_no_event::<Bench>();
+    laws::answers_polls::<Bench>();
+    laws::changes_by_acting::<Bench>();
+    laws::tells_its_command::<Bench>();
+    laws::keeps_its_settings::<Bench>();
     laws::hears_its_address::<Bench>();
     laws::answers_plainly::<Bench>();
     laws::answers_taken::<Bench>();
     laws::stays_well::<Bench>();
     laws::answers_in_order::<Bench>();
+    laws::replies_to_its_command();
+    laws::takes_the_next_number::<Bench>();
+    laws::refuses_and_keeps_all::<Bench>();
+    laws::moves_by_comset_alone::<Bench>();
+    laws::forgets_where_it_moves::<Bench>();
 }
