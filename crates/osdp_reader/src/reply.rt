@@ -253,7 +253,8 @@ pub fn spell_answer<H: Handler>(
     handler: &mut H,
     command: &Command,
 ) -> Burst
-    ensures reply { Spells (reply_packet packet.now seq (answer_to H.answer_of H.after config.now handler.old command.now).reply) result.items }
+    ensures reply { let answer = answer_to H.answer_of H.after config.now handler.old command.now in
+        Spells (reply_packet packet.now seq answer.reply) result.items }
     ensures handler { handler.new ≡ (answer_to H.answer_of H.after config.now handler.old command.now).handler }
 {
     match command {
@@ -281,7 +282,8 @@ pub fn spell_event_or_answer<H: Handler>(
     handler: &mut H,
     command: &Command,
 ) -> Burst
-    ensures reply { Spells (reply_packet packet.now packet.now.sequence (event_or_answer H.answer_of H.after event.now config.now handler.old command.now).reply) result.items }
+    ensures reply { let answer = event_or_answer H.answer_of H.after event.now config.now handler.old command.now in
+        Spells (reply_packet packet.now packet.now.sequence answer.reply) result.items }
     ensures handler { handler.new ≡ (event_or_answer H.answer_of H.after event.now config.now handler.old command.now).handler }
 {
     match event {
