@@ -6,7 +6,7 @@ use Rattle.osdp_frame.specs.Packet.{Packet, next_sequence}
 use Rattle.osdp_reader.specs.declared.kind.Kind.{Kind}
 use Rattle.osdp_reader.specs.declared.kind.Kind.TheVariants.{Silent, Secured, Zero, Repeat, Taken, Busy, Wrong}
 use Rattle.osdp_reader.specs.State.{ReaderState}
-use Rattle.osdp_reader.specs.Table.{kind_by_number, kind_of, passes_by}
+use Rattle.osdp_reader.specs.Table.{kind_by_number, kind_of, is_for_another}
 
 zero_chain : (past block zero : Bool) (first by_number : Kind) → by_number ≢ Zero
     → cond past Silent (cond block Secured (cond zero first by_number)) ≡ Zero → zero ≡ true
@@ -30,7 +30,7 @@ module _ {H : Type 0} where
   -- a Zero has number 0
   pub zero_number : (r : ReaderState H) (p : Packet) → kind_of r p ≡ Zero → p.sequence ≡ 0
   zero_number r p e =
-      let is = zero_chain (passes_by r p) p.block (eqb p.sequence 0) (cond r.busy Busy Zero) (kind_by_number r.last p.sequence r.busy)
+      let is = zero_chain (is_for_another r p) p.block (eqb p.sequence 0) (cond r.busy Busy Zero) (kind_by_number r.last p.sequence r.busy)
       (number_never_zero r.last p.sequence r.busy) e in
       let tells = eqb_tells p.sequence 0 in
       elim tells [ inl same ↦ same.1 | inr other ↦ absurd (false≢true (sym other.0 ∙ is)) ]

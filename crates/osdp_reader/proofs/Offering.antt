@@ -1,8 +1,7 @@
 -- What counts as offered is the front, told by the stored reply.
-use Rattle.std.proofs.Common.{◌≡◌, ℕ, Bool, true, false, cond, eqb, List, [], ◌∷◌, ◌++◌, Option, Some, None, Result, Ok, Err, refl, arith}
+use Rattle.std.proofs.Common.{◌≡◌, ℕ, Bool, true, false, cond, eqb, List, [], ◌∷◌, ◌++◌, Option, Some, None, Result, Ok, Err, refl}
 use Rattle.std.specs.Prelude.{slice_get}
 use Rattle.std.specs.Option.{option_map}
-use Rattle.std.proofs.lemmas.Bool.{false≢true}
 use Rattle.osdp_frame.specs.Packet.{Packet}
 use Rattle.osdp_msg.specs.declared.command.Command.{Command}
 use Rattle.osdp_msg.specs.declared.command.Command.TheVariants as command
@@ -12,11 +11,11 @@ use Rattle.osdp_msg.specs.Events.{event_reply}
 use Rattle.osdp_reader.specs.declared.handler.Answer.{Answer}
 use Rattle.osdp_reader.specs.declared.kind.Kind.{Kind}
 use Rattle.osdp_reader.specs.declared.kind.Kind.TheVariants.{Silent, Secured, Zero, Repeat, Taken, Busy, Wrong}
-use Rattle.osdp_reader.specs.Laws.{IsOffered, TellsItsOffer}
+use Rattle.osdp_reader.specs.Laws.{TellsItsOffer}
 use Rattle.osdp_reader.specs.Queue.{Queue, offering, released}
 use Rattle.osdp_reader.specs.Replies.{reply_packet}
 use Rattle.osdp_reader.specs.State.{ReaderState, after_submit}
-use Rattle.osdp_reader.specs.Table.{begun, command_in, moved, new_address, outcome, taken, told_or_answered}
+use Rattle.osdp_reader.specs.Table.{begun, command_in, moved, new_address, outcome, taken, event_or_answer}
 
 front_stays : (events more : List Event) (front : Event) → slice_get events 0 ≡ Some front
     → slice_get (events ++ more) 0 ≡ Some front
@@ -57,7 +56,7 @@ module _ {H : Type 0} where
     begun_offer (Ok c) r p = moved_none_offered (new_address c) _ refl
 
     poll_offer : (front : Option Event) (queue : Queue) (r : ReaderState H) (p : Packet) → slice_get queue.events 0 ≡ front
-        → let told = told_or_answered answer_of after (option_map event_reply front) r.config r.handler command.Poll in
+        → let told = event_or_answer answer_of after (option_map event_reply front) r.config r.handler command.Poll in
         TellsItsOffer (record r {
           last = Some p.sequence;
           stored = Some (reply_packet p p.sequence told.reply);

@@ -22,7 +22,7 @@ use Rattle.osdp_reader.specs.Laws.{IsPlain}
 use Rattle.osdp_reader.specs.Queue.{event_for, released}
 use Rattle.osdp_reader.specs.Replies.{done_reply, list_reply, local_reply, maker_reply, not_processed, own_reply, refusal_reply, refused, reply_for, reply_packet, unread_reason}
 use Rattle.osdp_reader.specs.State.{ReaderState}
-use Rattle.osdp_reader.specs.Table.{answered, begun, command_in, kind_of, outcome, taken, told_or_answered}
+use Rattle.osdp_reader.specs.Table.{answered, begun, command_in, kind_of, outcome, taken, event_or_answer}
 use Rattle.osdp_reader.proofs.Meeting.{zero_number}
 
 nine : IsPlain not_processed
@@ -176,10 +176,10 @@ module _ {H : Type 0} (answer_of : H → Command → Answer) (after : H → Comm
   answered_plain (Some own) handler c plain = plain
   answered_plain None handler c plain = for_plain (answer_of handler c) c
 
-  told_or_answered_plain : (told : Option Reply) (config : ReaderConfig) (handler : H) (c : Command) → IsPlainIf told
-      → IsPlain (told_or_answered answer_of after told config handler c).reply
-  told_or_answered_plain (Some told) config handler c plain = plain
-  told_or_answered_plain None config handler c plain =
+  event_or_answer_plain : (told : Option Reply) (config : ReaderConfig) (handler : H) (c : Command) → IsPlainIf told
+      → IsPlain (event_or_answer answer_of after told config handler c).reply
+  event_or_answer_plain (Some told) config handler c plain = plain
+  event_or_answer_plain None config handler c plain =
       answered_plain (own_reply config c) handler c (own_plain config c)
 
   begun_plain : (read : Result Command MsgFault) (r : ReaderState H) (p : Packet)
@@ -192,7 +192,7 @@ module _ {H : Type 0} (answer_of : H → Command → Answer) (after : H → Comm
       → (x : Reply) × ((taken answer_of after read r p).reply ≡ Some (reply_packet p p.sequence x)) × IsPlain x
   taken_plain (Err fault) r p = (refused (unread_reason fault), refl, unread_plain fault)
   taken_plain (Ok c) r p =
-      (_, refl, told_or_answered_plain (event_for c (released r.queue).events) r.config r.handler c (event_for_plain c (released r.queue).events))
+      (_, refl, event_or_answer_plain (event_for c (released r.queue).events) r.config r.handler c (event_for_plain c (released r.queue).events))
 
   pub acted_plain : (r : ReaderState H) (p : Packet) → (kind_of r p ≡ Zero) ⊎ (kind_of r p ≡ Taken)
       → (x : Reply) × ((outcome answer_of after (kind_of r p) r p).reply ≡ Some (reply_packet p p.sequence x)) × IsPlain x

@@ -4,6 +4,6 @@ pub mod Replies
 pub mod State
 pub mod Table
 pub mod Answering
-pub mod Told
+pub mod Responses
 pub mod Laws
 pub mod Steps

@@ -47,13 +47,13 @@ pub record Outcome (H : Type 0) : Type 0 where
 
 module _ {H : Type 0} where
   -- whether the packet is for another device, or from one
-  abbrev pub passes_by : ReaderState H → Packet → Bool
-  passes_by r p = p.reply || not (p.address == r.config.address || p.address == 127)
+  abbrev pub is_for_another : ReaderState H → Packet → Bool
+  is_for_another r p = p.reply || not (p.address == r.config.address || p.address == 127)
 
   -- the first test that holds
   abbrev pub kind_of : ReaderState H → Packet → Kind
   kind_of r p =
-      if passes_by r p then Silent
+      if is_for_another r p then Silent
       else if p.block then Secured
       else if p.sequence == 0 then (if r.busy then Busy else Zero)
       else kind_by_number r.last p.sequence r.busy
@@ -80,9 +80,9 @@ module _ {H : Type 0} where
     answer_to config handler command = answered (own_reply config command) handler command
 
     -- a taken command: the front is offered where an event is told, and else it is answered as any command
-    abbrev pub told_or_answered : Option Reply → ReaderConfig → H → Command → Answered H
-    told_or_answered (Some event) config handler command = record { reply = event; handler = handler }
-    told_or_answered None config handler command = answer_to config handler command
+    abbrev pub event_or_answer : Option Reply → ReaderConfig → H → Command → Answered H
+    event_or_answer (Some event) config handler command = record { reply = event; handler = handler }
+    event_or_answer None config handler command = answer_to config handler command
 
     -- number 0: no event is told
     abbrev pub begun : Result Command MsgFault → ReaderState H → Packet → Outcome H
@@ -112,7 +112,7 @@ module _ {H : Type 0} where
     taken (Ok command) r p =
         let queue = released r.queue in
         let event = event_for command queue.events in
-        let a = told_or_answered event r.config r.handler command in
+        let a = event_or_answer event r.config r.handler command in
         let back = reply_packet p p.sequence a.reply in
         record {
           command = Some command;

@@ -1,22 +1,21 @@
 //! The reader.
 
 ghost use Rattle.std.specs.Prelude.{◌≡◌, ◌↔◌, ◌<◌, ◌≤◌, ◌⊎◌, length, IfOk, IfErr, IsErr, IsErrOf, OnOk, Some};
-ghost use Rattle.osdp_frame.specs.Spelling.{Spells};
-ghost use Rattle.osdp_reader.specs.Replies.{reply_packet};
 ghost use Rattle.osdp_reader.specs.Spelled.{IsSpelled};
 ghost use Rattle.osdp_reader.specs.State.{after_set_busy, after_submit, new_reader};
-ghost use Rattle.osdp_reader.specs.Table.{begun, command_in, hears, kind_by_number, kind_of, moved, new_address, passes_by, taken};
-ghost use Rattle.osdp_reader.specs.Told.{told_bytes, told_command, told_kind};
+ghost use Rattle.osdp_reader.specs.Table.{begun, command_in, hears, kind_by_number, kind_of, moved, new_address, is_for_another, taken};
+ghost use Rattle.osdp_reader.specs.Responses.{response_bytes, response_command, response_kind};
 ghost use Rattle.osdp_reader.specs.declared.fault.ReaderFault.TheVariants.{OutOfRange};
+ghost use Rattle.osdp_reader.specs.declared.kind.Kind.TheVariants.{Taken, Zero};
 
 use crate::config::ReaderConfig;
 use crate::events::EventQueue;
 use crate::fault::ReaderFault;
 use crate::handler::Handler;
 use crate::kind::Kind;
-use crate::reply::{answer, nak, spell, tell_or_answer, unread};
+use crate::reply::{nak, spell, spell_answer, spell_event_or_answer, spell_reply, unread};
 use crate::response::Response;
-use crate::stored::{StoredReply, copy_of};
+use crate::stored::StoredReply;
 use osdp_frame::{Address, Burst, FrameView, Seq};
 use osdp_msg::{Command, Event, MsgFault, NakReason, Reply};
 use std::alloc::Global;
@@ -108,9 +107,9 @@ impl<H: Handler> Reader<H> {
 
     /// Takes a packet of the line. What comes of it is the reader's table.
     pub fn on_frame(&mut self, packet: &FrameView) -> Response
-        ensures kind { told_kind result ≡ kind_of self.old packet.now }
-        ensures command { told_command result ≡ (hears H.answer_of H.after self.old packet.now).command }
-        ensures reply { IsSpelled (hears H.answer_of H.after self.old packet.now).reply (told_bytes result) }
+        ensures kind { response_kind result ≡ kind_of self.old packet.now }
+        ensures command { response_command result ≡ (hears H.answer_of H.after self.old packet.now).command }
+        ensures reply { IsSpelled (hears H.answer_of H.after self.old packet.now).reply (response_bytes result) }
         ensures reader { self.new ≡ (hears H.answer_of H.after self.old packet.now).reader }
     {
         match self.kind(packet) {
@@ -118,15 +117,9 @@ impl<H: Handler> Reader<H> {
             Kind::Secured => {
                 Response::Secured(spell(packet, packet.seq(), &nak(NakReason::SecurityBlock)))
             }
-            Kind::Zero => {
-                let (command, burst) = self.begin(packet);
-                Response::Zero(command, burst)
-            }
+            Kind::Zero => self.begin(packet),
             Kind::Repeat => Response::Repeat(self.stored.burst()),
-            Kind::Taken => {
-                let (command, burst) = self.take(packet);
-                Response::Taken(command, burst)
-            }
+            Kind::Taken => self.take(packet),
             Kind::Busy => Response::Busy(spell(packet, zero(), &Reply::Busy)),
             Kind::Wrong => {
                 Response::Wrong(spell(packet, packet.seq(), &nak(NakReason::UnexpectedSequence)))
@@ -135,8 +128,8 @@ impl<H: Handler> Reader<H> {
     }
 
     /// Whether a packet is for another device, or from one.
-    fn passes_by(&self, packet: &FrameView) -> bool
-        ensures { result ≡ passes_by self.now packet.now }
+    fn is_for_another(&self, packet: &FrameView) -> bool
+        ensures { result ≡ is_for_another self.now packet.now }
     {
         let address = packet.address().get();
         packet.is_reply()
@@ -147,7 +140,7 @@ impl<H: Handler> Reader<H> {
     fn kind(&self, packet: &FrameView) -> Kind
         ensures { result ≡ kind_of self.now packet.now }
     {
-        if self.passes_by(packet) {
+        if self.is_for_another(packet) {
             Kind::Silent
         } else if packet.has_block() {
             Kind::Secured
@@ -159,45 +152,51 @@ impl<H: Handler> Reader<H> {
     }
 
     /// Acts on a packet with number 0.
-    fn begin(&mut self, packet: &FrameView) -> (Option<Command>, Burst)
-        ensures command { result.0 ≡ (begun H.answer_of H.after (command_in packet.now) self.old packet.now).command }
-        ensures reply { IsSpelled (begun H.answer_of H.after (command_in packet.now) self.old packet.now).reply result.1.items }
+    fn begin(&mut self, packet: &FrameView) -> Response
+        ensures kind { response_kind result ≡ Zero }
+        ensures command { response_command result ≡ (begun H.answer_of H.after (command_in packet.now) self.old packet.now).command }
+        ensures reply { IsSpelled (begun H.answer_of H.after (command_in packet.now) self.old packet.now).reply (response_bytes result) }
         ensures reader { self.new ≡ (begun H.answer_of H.after (command_in packet.now) self.old packet.now).reader }
     {
         self.last = Some(zero());
         self.queue.withdraw();
         match Command::read(packet.code(), packet.payload()) {
-            Err(fault) => (None, spell(packet, zero(), &nak(unread(fault)))),
+            Err(fault) => Response::Zero(None, spell(packet, zero(), &nak(unread(fault)))),
             Ok(command) => {
-                let reply = answer(&self.config, &mut self.handler, &command);
-                let burst = spell(packet, zero(), &reply);
+                let burst = spell_answer(packet, zero(), &self.config, &mut self.handler, &command);
                 self.move_to(new_address(&command));
-                (Some(command), burst)
+                Response::Zero(Some(command), burst)
             }
         }
     }
 
     /// Acts on a packet with the next number.
-    fn take(&mut self, packet: &FrameView) -> (Option<Command>, Burst)
-        ensures command { result.0 ≡ (taken H.answer_of H.after (command_in packet.now) self.old packet.now).command }
-        ensures reply { IsSpelled (taken H.answer_of H.after (command_in packet.now) self.old packet.now).reply result.1.items }
+    fn take(&mut self, packet: &FrameView) -> Response
+        ensures kind { response_kind result ≡ Taken }
+        ensures command { response_command result ≡ (taken H.answer_of H.after (command_in packet.now) self.old packet.now).command }
+        ensures reply { IsSpelled (taken H.answer_of H.after (command_in packet.now) self.old packet.now).reply (response_bytes result) }
         ensures reader { self.new ≡ (taken H.answer_of H.after (command_in packet.now) self.old packet.now).reader }
     {
         self.last = Some(packet.seq());
         self.queue.release();
         match Command::read(packet.code(), packet.payload()) {
             Err(fault) => {
-                let (burst, stored) = spell_and_store(packet, &nak(unread(fault)));
-                self.stored = stored;
-                (None, burst)
+                let burst = spell_reply(packet, &nak(unread(fault)));
+                self.stored.keep(&burst);
+                Response::Taken(None, burst)
             }
             Ok(command) => {
                 let event = self.queue.offer(&command);
-                let reply = tell_or_answer(event, &self.config, &mut self.handler, &command);
-                let (burst, stored) = spell_and_store(packet, &reply);
-                self.stored = stored;
+                let burst = spell_event_or_answer(
+                    packet,
+                    &event,
+                    &self.config,
+                    &mut self.handler,
+                    &command,
+                );
+                self.stored.keep(&burst);
                 self.move_to(new_address(&command));
-                (Some(command), burst)
+                Response::Taken(Some(command), burst)
             }
         }
     }
@@ -213,18 +212,8 @@ impl<H: Handler> Reader<H> {
         let config = &mut self.config;
         config.address = address;
         self.last = None;
-        self.stored = StoredReply::none();
+        self.stored.forget();
     }
-}
-
-/// The bytes of a reply to a packet, with the packet's number, and once more to be kept.
-fn spell_and_store(packet: &FrameView, reply: &Reply) -> (Burst, StoredReply)
-    ensures sent { Spells (reply_packet packet.now packet.now.sequence reply.now) result.0.items }
-    ensures stored { result.1 ≡ Some (reply_packet packet.now packet.now.sequence reply.now) }
-{
-    let burst = spell(packet, packet.seq(), reply);
-    let stored = StoredReply::new(copy_of(&burst));
-    (burst, stored)
 }
 
 /// The number that begins anew.

@@ -1,10 +1,12 @@
 //! The reply to a command that is acted on, and the bytes of a reply.
 
-ghost use Rattle.std.specs.Prelude.{◌≡◌, ◌≤◌, length};
+ghost use Rattle.std.specs.Prelude.{◌≡◌, ◌<◌, ◌≤◌, true, false, length};
 ghost use Rattle.osdp_frame.specs.Bytes.{AreBytes};
+ghost use Rattle.osdp_frame.specs.Packed.{packed};
 ghost use Rattle.osdp_frame.specs.Spelling.{Spells};
+ghost use Rattle.osdp_msg.specs.declared.reply.Reply.TheVariants.{Ack};
 ghost use Rattle.osdp_reader.specs.Replies.{comset_reply, done_reply, list_reply, local_reply, maker_reply, not_processed, own_reply, refusal_reply, refused, reply_for, reply_packet, unread_reason};
-ghost use Rattle.osdp_reader.specs.Table.{answer_to, told_or_answered};
+ghost use Rattle.osdp_reader.specs.Table.{answer_to, event_or_answer};
 
 use crate::config::ReaderConfig;
 use crate::handler::{Answer, Handler};
@@ -187,29 +189,13 @@ fn handled(answer: Answer, command: &Command) -> Reply
 }
 
 /// What the reader answers to a command: by itself, or else by its handler.
-pub fn answer<H: Handler>(config: &ReaderConfig, handler: &mut H, command: &Command) -> Reply
+fn answer<H: Handler>(config: &ReaderConfig, handler: &mut H, command: &Command) -> Reply
     ensures reply { result ≡ (answer_to H.answer_of H.after config.now handler.old command.now).reply }
     ensures handler { handler.new ≡ (answer_to H.answer_of H.after config.now handler.old command.now).handler }
 {
     match own(config, command) {
         Some(reply) => reply,
         None => handled(handler.answer(command), command),
-    }
-}
-
-/// The event where one is told, or else what the reader answers to the command.
-pub fn tell_or_answer<H: Handler>(
-    event: Option<Reply>,
-    config: &ReaderConfig,
-    handler: &mut H,
-    command: &Command,
-) -> Reply
-    ensures reply { result ≡ (told_or_answered H.answer_of H.after event config.now handler.old command.now).reply }
-    ensures handler { handler.new ≡ (told_or_answered H.answer_of H.after event config.now handler.old command.now).handler }
-{
-    match event {
-        Some(event) => event,
-        None => answer(config, handler, command),
     }
 }
 
@@ -224,14 +210,84 @@ fn with_room(bytes: &[u8]) -> ArrayVec<u8, 1434>
     copy
 }
 
+/// The bytes of a reply with this code and data to a packet, with this number.
+fn spell_body(packet: &FrameView, seq: Seq, body: &[u8]) -> Burst
+    requires code { 0 < length body.now }
+    requires room { length body.now ≤ 1433 }
+    ensures { Spells (packed true packet.now.address seq packet.now.check false 0 body.now) result.items }
+{
+    let body = with_room(body);
+    let address = packet.address();
+    let _ranges = (address.get(), seq.get());
+    let made = Frame::new(true, address, seq, packet.check(), false, 0, body);
+    made.unwrap().encode()
+}
+
 /// The bytes of a reply to a packet, with this number.
 pub fn spell(packet: &FrameView, seq: Seq, reply: &Reply) -> Burst
     ensures { Spells (reply_packet packet.now seq reply.now) result.items }
 {
     let body = reply.write();
-    let body = with_room(body.as_slice());
-    let address = packet.address();
-    let _ranges = (address.get(), seq.get());
-    let made = Frame::new(true, address, seq, packet.check(), false, 0, body);
-    made.unwrap().encode()
+    spell_body(packet, seq, body.as_slice())
+}
+
+/// The bytes of a reply to a packet, with its number.
+pub fn spell_reply(packet: &FrameView, reply: &Reply) -> Burst
+    ensures { Spells (reply_packet packet.now packet.now.sequence reply.now) result.items }
+{
+    spell(packet, packet.seq(), reply)
+}
+
+/// The bytes of an ACK to a packet, with this number.
+fn spell_ack(packet: &FrameView, seq: Seq) -> Burst
+    ensures { Spells (reply_packet packet.now seq Ack) result.items }
+{
+    spell_body(packet, seq, &[0x40])
+}
+
+/// The bytes of what the reader answers to a command, with this number.
+pub fn spell_answer<H: Handler>(
+    packet: &FrameView,
+    seq: Seq,
+    config: &ReaderConfig,
+    handler: &mut H,
+    command: &Command,
+) -> Burst
+    ensures reply { let answer = answer_to H.answer_of H.after config.now handler.old command.now in
+        Spells (reply_packet packet.now seq answer.reply) result.items }
+    ensures handler { handler.new ≡ (answer_to H.answer_of H.after config.now handler.old command.now).handler }
+{
+    match command {
+        Command::Poll => spell_ack(packet, seq),
+        Command::Id(_)
+        | Command::Cap(_)
+        | Command::LocalStatus
+        | Command::InputStatus
+        | Command::OutputStatus
+        | Command::ReaderStatus
+        | Command::Output(_)
+        | Command::Led(_)
+        | Command::Buzzer(_)
+        | Command::Text(_)
+        | Command::Comset(_)
+        | Command::Maker(_) => spell(packet, seq, &answer(config, handler, command)),
+    }
+}
+
+/// The bytes of the event where there is one, or else of what the reader answers to the command.
+pub fn spell_event_or_answer<H: Handler>(
+    packet: &FrameView,
+    event: &Option<Reply>,
+    config: &ReaderConfig,
+    handler: &mut H,
+    command: &Command,
+) -> Burst
+    ensures reply { let answer = event_or_answer H.answer_of H.after event.now config.now handler.old command.now in
+        Spells (reply_packet packet.now packet.now.sequence answer.reply) result.items }
+    ensures handler { handler.new ≡ (event_or_answer H.answer_of H.after event.now config.now handler.old command.now).handler }
+{
+    match event {
+        Some(event) => spell_reply(packet, event),
+        None => spell_answer(packet, packet.seq(), config, handler, command),
+    }
 }

@@ -1,7 +1,7 @@
 //! What a reader makes of a packet.
 
 ghost use Rattle.std.specs.Prelude.{◌≡◌};
-ghost use Rattle.osdp_reader.specs.Told.{told_bytes};
+ghost use Rattle.osdp_reader.specs.Responses.{response_bytes};
 
 use osdp_frame::Burst;
 use osdp_msg::Command;
@@ -29,7 +29,7 @@ pub enum Response {
 impl Response {
     /// The bytes to send, none where the reader is silent.
     pub fn bytes(&self) -> &[u8]
-        ensures { result.now ≡ told_bytes self.now }
+        ensures { result.now ≡ response_bytes self.now }
     {
         match self {
             Response::Silent => &[],

@@ -37,14 +37,22 @@ impl StoredReply {
         }
     }
 
-    /// The reply of these bytes.
-    pub fn new(burst: Burst) -> StoredReply
-        requires { (p : Packet) × Spells p burst.items }
-        ensures { (p : Packet) → Spells p burst.items → result ≡ Some p }
+    /// Keeps the reply of these bytes in place of the one before.
+    pub fn keep(&mut self, burst: &Burst)
+        requires { (p : Packet) × Spells p burst.now.items }
+        ensures { (p : Packet) → Spells p burst.now.items → self.new ≡ Some p }
     {
         laws::spelling_of_bytes();
         laws::first_item_decided();
-        StoredReply { burst }
+        copy_to(&mut self.burst, burst);
+    }
+
+    /// Keeps no reply any more.
+    #[tactic(auto, unfolding(osdp_frame::specs::Held::decided))]
+    pub fn forget(&mut self)
+        ensures { self.new ≡ None }
+    {
+        self.burst.clear();
     }
 
     /// The bytes of the reply; none where there is no reply.
@@ -58,15 +66,16 @@ impl StoredReply {
     pub fn burst(&self) -> Burst
         ensures { IsSpelled self.now result.items }
     {
-        copy_of(&self.burst)
+        let mut copy = Burst::new();
+        copy_to(&mut copy, &self.burst);
+        copy
     }
 }
 
-/// The same bytes once more.
-pub fn copy_of(burst: &Burst) -> Burst
-    ensures { result.items ≡ burst.now.items }
+/// Puts these bytes in place of those.
+fn copy_to(burst: &mut Burst, bytes: &Burst)
+    ensures { burst.new.items ≡ bytes.now.items }
 {
-    let mut copy = Burst::new();
-    let _ = copy.try_extend_from_slice(burst.as_slice());
-    copy
+    burst.clear();
+    let _ = burst.try_extend_from_slice(bytes.as_slice());
 }
