@@ -24,4 +24,4 @@ refuse_each() {
 }
 
 refuse_each osdp_reader_tests an_event_is_told_until_the_next_number damage::no_changed_byte_stops_a_reader
-refuse_each osdp_controller_tests a_session numbers_take_turns
+refuse_each osdp_controller_tests a_session numbers_take_turns another_address
