@@ -1,11 +1,12 @@
 //! A packet whose body is lent.
 
 ghost use Rattle.std.specs.Prelude.{◌≡◌, drop, slice_index};
+ghost use Rattle.std.specs.Option.{SomeIff};
 ghost use Rattle.osdp_frame.specs.Packet.{IsPacket};
 ghost use Rattle.osdp_frame.specs.Packed.{packed};
 ghost use Rattle.osdp_frame.specs.Spelling.{Spells, address_byte, control_byte};
 
-use crate::bytes::{HEAD, START_OF_MESSAGE, append, check_bytes, count_bytes};
+use crate::bytes::{HEAD, LARGEST, START_OF_MESSAGE, append, are_bytes, check_bytes, count_bytes};
 use crate::frame::Burst;
 use crate::{Address, CheckKind, Seq};
 use std::marker::Model;
@@ -35,6 +36,33 @@ impl<'a> Model for FrameView<'a> {
 }
 
 impl<'a> FrameView<'a> {
+    /// The packet with these fields and a body that is lent, by the rules of `Frame::new`: None where the body is empty, the packet
+    /// is larger than 1440 bytes or `reserved` is above 15.
+    pub fn new(
+        reply: bool,
+        address: Address,
+        seq: Seq,
+        check: CheckKind,
+        block: bool,
+        reserved: u8,
+        body: &'a [u8],
+    ) -> Option<FrameView<'a>>
+        ensures { let packet = packed reply address seq check block reserved body.now in
+            SomeIff result (IsPacket packet) packet }
+    {
+        let length = body.len();
+        if length == 0
+            || length > LARGEST
+            || HEAD + length + check.size() > LARGEST
+            || reserved > 15
+        {
+            return None;
+        }
+        are_bytes(body);
+        let _ranges = (address.get(), seq.get());
+        Some(FrameView::of(reply, address, seq, check, block, reserved, body))
+    }
+
     /// The packet with these fields, which make one.
     pub(crate) fn of(
         reply: bool,

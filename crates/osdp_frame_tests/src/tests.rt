@@ -70,11 +70,28 @@ fn made(rt: &impl Abort, fields: &Fields<'_>) -> Option<Frame> {
     )
 }
 
+/// The packet of these fields, with the body lent.
+fn lent<'a>(rt: &impl Abort, fields: &Fields<'a>) -> Option<FrameView<'a>> {
+    let address = Address::new(fields.address).expect(rt, "an address");
+    let seq = Seq::new(fields.seq).expect(rt, "a sequence number");
+    FrameView::new(
+        fields.reply,
+        address,
+        seq,
+        fields.check,
+        fields.block,
+        fields.reserved,
+        fields.body,
+    )
+}
+
 /// The fields make the packet of these bytes, and the bytes are read as these fields.
 fn is_spelled(rt: &impl Abort, fields: &Fields<'_>, bytes: &[u8]) {
     let frame = made(rt, fields).expect(rt, "a packet");
     assert_eq!(rt; frame.encode().as_slice(), bytes);
     assert_eq!(rt; frame.copy().encode().as_slice(), bytes);
+    let lent = lent(rt, fields).expect(rt, "a lent packet");
+    assert_eq!(rt; lent.encode().as_slice(), bytes);
     assert!(rt; !bytes.is_empty());
     let ReadItem::Packet(read) = read_at(bytes, 0) else {
         assert!(rt; false, "no packet");
@@ -139,16 +156,20 @@ fn packets_have_room(rt: HostRuntime) {
     assert_eq!(rt; largest.encode().len(), 1440);
     fields.check = CheckKind::Crc;
     assert!(rt; made(&rt, &fields).is_none());
+    assert!(rt; lent(&rt, &fields).is_none());
     fields.body = &bytes[..1433];
     let largest = made(&rt, &fields).expect(&rt, "1433 bytes with a CRC");
     assert_eq!(rt; largest.encode().len(), 1440);
     fields.body = &[];
     assert!(rt; made(&rt, &fields).is_none());
+    assert!(rt; lent(&rt, &fields).is_none());
     fields.body = &[0x60];
     fields.reserved = 15;
     assert!(rt; made(&rt, &fields).is_some());
+    assert!(rt; lent(&rt, &fields).is_some());
     fields.reserved = 16;
     assert!(rt; made(&rt, &fields).is_none());
+    assert!(rt; lent(&rt, &fields).is_none());
 }
 
 #[test]

@@ -219,7 +219,7 @@ impl Panel {
             (reports_read now result buffer.new self.old.framer self.old.controller) handler.old }
     {
         let count = port.read(buffer)?;
-        self.hear(&buffer[..count / 2], now, handler);
+        self.hear(&buffer[..count], now, handler);
         Ok(count)
     }
 

@@ -11,7 +11,7 @@ ghost use Rattle.osdp_reader.specs.Table.{answer_to, event_or_answer};
 use crate::config::ReaderConfig;
 use crate::handler::{Answer, Handler};
 use arrayvec::ArrayVec;
-use osdp_frame::{Burst, Frame, FrameView, Seq};
+use osdp_frame::{Burst, FrameView, Seq};
 use osdp_msg::{Command, Communication, LocalState, MakerMessage, MsgFault, Nak, NakReason, Reply};
 
 /// A NAK with this reason.
@@ -199,15 +199,11 @@ fn answer<H: Handler>(config: &ReaderConfig, handler: &mut H, command: &Command)
     }
 }
 
-/// The same bytes with room for one more.
-fn with_room(bytes: &[u8]) -> ArrayVec<u8, 1434>
-    requires { length bytes.now ≤ 1433 }
-    ensures bytes { result.items ≡ bytes.now }
-    ensures are_bytes { AreBytes bytes.now }
+/// What a slice of bytes holds is bytes.
+fn are_bytes(bytes: &[u8])
+    ensures { AreBytes bytes.now }
 {
-    let mut copy = ArrayVec::new();
-    let _ = copy.try_extend_from_slice(bytes);
-    copy
+    let _ = bytes;
 }
 
 /// The bytes of a reply with this code and data to a packet, with this number.
@@ -216,10 +212,10 @@ fn spell_body(packet: &FrameView, seq: Seq, body: &[u8]) -> Burst
     requires room { length body.now ≤ 1433 }
     ensures { Spells (packed true packet.now.address seq packet.now.check false 0 body.now) result.items }
 {
-    let body = with_room(body);
+    are_bytes(body);
     let address = packet.address();
     let _ranges = (address.get(), seq.get());
-    let made = Frame::new(true, address, seq, packet.check(), false, 0, body);
+    let made = FrameView::new(true, address, seq, packet.check(), false, 0, body);
     made.unwrap().encode()
 }
 
