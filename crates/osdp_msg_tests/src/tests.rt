@@ -13,11 +13,7 @@ mod vectors;
 
 /// The words of a text: what stands between its spaces.
 fn words_of(alloc: Global, text: &str) -> Result<Vec<&str>, AllocError> {
-    let mut words = Vec::new(alloc);
-    for word in text.split(' ') {
-        words.push(word)?;
-    }
-    Ok(words)
+    text.split(' ').collect(alloc)
 }
 
 /// Whether a message's bytes are this code and data.
