@@ -1,6 +1,5 @@
 -- Words choose a job exactly where they are its words.
-use Rattle.std.proofs.Common.{List, length, ◌==◌, arith, ℕ, false, true, refl, ◌≡◌, ◌⊎◌, Bool, [], ◌∷◌, subst, ap, inl, inr, codes, Ok, Err}
-use Rattle.std.proofs.lemmas.Bool.{ne_eqb}
+use Rattle.std.proofs.Common.{List, ℕ, false, true, refl, ◌≡◌, ◌⊎◌, Bool, [], ◌∷◌, subst, ap, inl, inr, codes, Ok, Err}
 use Rattle.std.specs.Str.{bytes_eq}
 use Rattle.std.proofs.lemmas.Slice.Eq.{bytes_eq-Decides}
 use Rattle.osdp_stream.specs.declared.fault.ToolFault.TheVariants.{BadWords}
