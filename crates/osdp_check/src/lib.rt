@@ -8,8 +8,6 @@ mod crc;
 pub mod laws;
 mod powers;
 mod table;
-#[cfg(test)]
-mod tests;
 
 ghost use Rattle.std.specs.Prelude.{◌≡◌, ℕ, ◌≤◌, ◌<◌, List, [], ◌∷◌, ◌++◌, length, take};
 

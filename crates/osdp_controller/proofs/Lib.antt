@@ -1,15 +1,3 @@
 pub mod Choices
-pub mod Frames
 pub mod Keeping
 pub mod Same
-pub mod Causes
-pub mod Ticks
-pub mod Places
-pub mod Lasting
-pub mod Bounded
-pub mod Stepwise
-pub mod Well
-pub mod Endings
-pub mod InOrder
-pub mod OneCall
-pub mod InRange

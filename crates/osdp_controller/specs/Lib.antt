@@ -7,8 +7,3 @@ pub mod Ticking
 pub mod Hearing
 pub mod Private
 pub mod Machine
-pub mod Runs
-pub mod Laws
-pub mod Commands
-pub mod Calls
-pub mod Steps

@@ -14,7 +14,6 @@ mod controller;
 mod exchange;
 mod fault;
 mod hearing;
-pub mod laws;
 mod report;
 mod session;
 mod state;

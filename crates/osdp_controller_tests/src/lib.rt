@@ -1,7 +1,9 @@
-//! Tests of `osdp_controller` through its public calls.
+//! Tests of `osdp_controller`, and of the example of a panel's loop, through their public calls.
 //!
 //! They stand in a crate of their own since a crate with tests is proved twice.
 #![tactic(auto)]
 
+#[cfg(test)]
+mod panel;
 #[cfg(test)]
 mod tests;

@@ -8,6 +8,3 @@
 mod door;
 
 pub use door::{Door, new_reader};
-
-#[cfg(test)]
-mod tests;

@@ -8,6 +8,3 @@ mod words;
 
 pub use types::{Job, Mode};
 pub use words::job;
-
-#[cfg(test)]
-mod tests;

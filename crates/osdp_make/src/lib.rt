@@ -7,6 +7,3 @@ mod order;
 
 pub use making::make;
 pub use order::{Message, PacketOrder};
-
-#[cfg(test)]
-mod tests;

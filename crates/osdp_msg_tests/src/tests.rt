@@ -18,7 +18,10 @@ fn words_of(alloc: Global, text: &str) -> Result<Vec<&str>, AllocError> {
 
 /// Whether a message's bytes are this code and data.
 fn is_spelled(message: &[u8], code: u8, data: &[u8]) -> bool {
-    message.first() == Some(&code) && message.get(1..) == Some(data)
+    match message {
+        [first, rest @ ..] => *first == code && rest == data,
+        [] => false,
+    }
 }
 
 /// A code and data are read as the command of this text, and the words of the text as the command of this

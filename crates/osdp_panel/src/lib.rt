@@ -287,6 +287,3 @@ fn hear_item(controller: &mut Controller, item: &Item<'_>, now: u64) -> Option<R
         Item::Skipped(_) | Item::Refused(_) => None,
     }
 }
-
-#[cfg(test)]
-mod tests;

@@ -1,10 +1,1 @@
 pub mod Storing
-pub mod Meeting
-pub mod PlainReplies
-pub mod Keeping
-pub mod Offering
-pub mod Room
-pub mod Settings
-pub mod Repeating
-pub mod Sequences
-pub mod Addresses

@@ -3,7 +3,4 @@ pub mod Queue
 pub mod Replies
 pub mod State
 pub mod Table
-pub mod Answering
 pub mod Responses
-pub mod Laws
-pub mod Steps

@@ -11,7 +11,6 @@ mod events;
 mod fault;
 mod handler;
 mod kind;
-pub mod laws;
 mod reader;
 mod reply;
 mod response;

@@ -406,24 +406,24 @@ fn want_of_memory_is_told(rt: HostRuntime) {
 /// The laws hold of a handler of one's own.
 #[test]
 fn laws_hold_of_any_handler(_rt: HostRuntime) {
-    laws::acts_once::<Bench>();
-    laws::keeps_what_it_took::<Bench>();
-    laws::repeats_byte_for_byte();
-    laws::acts_at_zero::<Bench>();
-    laws::begins_anew::<Bench>();
-    laws::loses_no_event::<Bench>();
-    laws::answers_polls::<Bench>();
-    laws::changes_by_acting::<Bench>();
-    laws::tells_its_command::<Bench>();
-    laws::keeps_its_settings::<Bench>();
-    laws::hears_its_address::<Bench>();
-    laws::answers_plainly::<Bench>();
-    laws::answers_taken::<Bench>();
-    laws::stays_well::<Bench>();
-    laws::answers_in_order::<Bench>();
-    laws::replies_to_its_command();
-    laws::takes_the_next_number::<Bench>();
-    laws::refuses_and_keeps_all::<Bench>();
-    laws::moves_by_comset_alone::<Bench>();
-    laws::forgets_where_it_moves::<Bench>();
+    osdp_reader_laws::acts_once::<Bench>();
+    osdp_reader_laws::keeps_what_it_took::<Bench>();
+    osdp_reader_laws::repeats_byte_for_byte();
+    osdp_reader_laws::acts_at_zero::<Bench>();
+    osdp_reader_laws::begins_anew::<Bench>();
+    osdp_reader_laws::loses_no_event::<Bench>();
+    osdp_reader_laws::answers_polls::<Bench>();
+    osdp_reader_laws::changes_by_acting::<Bench>();
+    osdp_reader_laws::tells_its_command::<Bench>();
+    osdp_reader_laws::keeps_its_settings::<Bench>();
+    osdp_reader_laws::hears_its_address::<Bench>();
+    osdp_reader_laws::answers_plainly::<Bench>();
+    osdp_reader_laws::answers_taken::<Bench>();
+    osdp_reader_laws::stays_well::<Bench>();
+    osdp_reader_laws::answers_in_order::<Bench>();
+    osdp_reader_laws::replies_to_its_command();
+    osdp_reader_laws::takes_the_next_number::<Bench>();
+    osdp_reader_laws::refuses_and_keeps_all::<Bench>();
+    osdp_reader_laws::moves_by_comset_alone::<Bench>();
+    osdp_reader_laws::forgets_where_it_moves::<Bench>();
 }

@@ -11,6 +11,3 @@ pub use answer::{final_answer, finish};
 pub use fault::ToolFault;
 pub use transfer::{flush_out, read_some, write_out};
 pub use watch::Watched;
-
-#[cfg(test)]
-mod tests;

@@ -52,7 +52,7 @@ fn work<R: Read, W: Write>(
 }
 
 /// The command over streams of which none may have failed.
-pub(crate) fn command<R: Read, W: Write>(
+pub fn command<R: Read, W: Write>(
     alloc: Global,
     full: bool,
     form: Form,

@@ -8,10 +8,8 @@ mod reading;
 mod report;
 mod runs;
 
-pub use commands::{LIMIT, check, show};
+pub use commands::{LIMIT, check, command, show};
+pub use osdp_input::Form;
 pub use osdp_job::{Job, Mode, job};
 pub use osdp_make::make;
 pub use osdp_stream::{ToolFault, Watched};
-
-#[cfg(test)]
-mod tests;

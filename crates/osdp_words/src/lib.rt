@@ -17,8 +17,6 @@ mod laws;
 mod numbers;
 mod printing;
 mod records;
-#[cfg(test)]
-mod tests;
 
 pub use crate::byte_lists::{byte_list, vendor};
 pub use crate::fields::Fields;

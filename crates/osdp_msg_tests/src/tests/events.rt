@@ -91,7 +91,7 @@ fn fit_as_listed(
         let reply = Reply::parse(words.as_slice()).ok().ok_or("a reply")?;
         let name = *words.as_slice().first().ok_or("a name")?;
         let listed = names.contains(&name);
-        assert_eq!(rt; fits(command, &reply), listed, "{command} with {text}");
+        assert_eq!(rt; fits(command, &reply), listed, "{text}");
     }
     Ok(())
 }

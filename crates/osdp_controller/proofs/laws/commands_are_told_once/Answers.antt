@@ -1,5 +1,0 @@
-use Rattle.osdp_controller.proofs.InOrder.{commands_by_place}
-use Rattle.osdp_controller.proofs.laws.commands_are_told_once.Goals as goal
-
-pub returns : goal.returns
-returns c = commands_by_place

@@ -1,5 +1,0 @@
-use Rattle.osdp_controller.proofs.OneCall.{begins_with_frame}
-use Rattle.osdp_controller.proofs.laws.exchanges_begin_with_a_frame.Goals as goal
-
-pub returns : goal.returns
-returns c = begins_with_frame

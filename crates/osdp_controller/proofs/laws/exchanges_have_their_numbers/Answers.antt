@@ -1,5 +1,0 @@
-use Rattle.osdp_controller.proofs.Places.{numbers_by_place}
-use Rattle.osdp_controller.proofs.laws.exchanges_have_their_numbers.Goals as goal
-
-pub returns : goal.returns
-returns c = numbers_by_place

@@ -1,5 +1,0 @@
-use Rattle.osdp_controller.proofs.Ticks.{takes_front}
-use Rattle.osdp_controller.proofs.laws.exchanges_take_the_front.Goals as goal
-
-pub returns : goal.returns
-returns c = takes_front

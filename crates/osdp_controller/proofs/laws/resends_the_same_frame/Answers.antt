@@ -1,5 +1,0 @@
-use Rattle.osdp_controller.proofs.Lasting.{resends_the_same}
-use Rattle.osdp_controller.proofs.laws.resends_the_same_frame.Goals as goal
-
-pub returns : goal.returns
-returns c = resends_the_same

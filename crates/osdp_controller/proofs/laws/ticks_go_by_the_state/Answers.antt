@@ -1,5 +1,0 @@
-use Rattle.osdp_controller.proofs.Stepwise.{ticks_in_steps}
-use Rattle.osdp_controller.proofs.laws.ticks_go_by_the_state.Goals as goal
-
-pub returns : goal.returns
-returns c = ticks_in_steps

@@ -1,5 +1,0 @@
-use Rattle.osdp_controller.proofs.OneCall.{waits_until_due}
-use Rattle.osdp_controller.proofs.laws.ticks_wait_until_due.Goals as goal
-
-pub returns : goal.returns
-returns c = waits_until_due

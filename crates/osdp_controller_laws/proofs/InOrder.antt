@@ -1,0 +1,173 @@
+-- Each accepted command is asked and told once, by its place.
+use Rattle.std.proofs.Common.{◌≡◌, ◌∙◌, ap, sym, subst, inl, inr, ℕ, ◌+◌, ◌≤◌, false, List, [], ◌∷◌, ◌++◌, Option, Some, None, refl, arith, append_assoc, append-nil}
+use Rattle.std.specs.Prelude.{if◌then◌else◌, ◌&&◌, ◌==◌, nat_lt, nat_le, is_none, is_some, option_to_list, ◌⊎◌}
+use Rattle.std.proofs.lemmas.Bool.{ne_eqb}
+use Rattle.osdp_frame.specs.Packet.{Packet, next_sequence}
+use Rattle.osdp_msg.specs.declared.command.Command.{Command}
+use Rattle.osdp_controller.specs.declared.config.ControllerConfig.{ControllerConfig}
+use Rattle.osdp_controller.specs.declared.exchange.Exchange.{Exchange}
+use Rattle.osdp_controller.specs.declared.exchange.Exchange.TheVariants.{Opening, Polling}
+use Rattle.osdp_controller.specs.declared.exchange.Outstanding.{Outstanding}
+use Rattle.osdp_controller.specs.declared.fault.ControllerFault.{ControllerFault}
+use Rattle.osdp_controller.specs.declared.report.Report.{Report}
+use Rattle.osdp_controller.specs.declared.session.Session.{Session}
+use Rattle.osdp_controller.specs.declared.state.State.{State}
+use Rattle.osdp_controller.specs.declared.state.State.TheVariants.{Closed, Quiet, Idle, Waiting, Pausing}
+use Rattle.osdp_controller_laws.specs.Commands.{CommandsByPlace, GoesOn, IsAnswered, accepted, accepted_by, asked, asked_by, asked_in, command_of, told, told_command}
+use Rattle.osdp_controller.specs.Exchanges.{submitted_command}
+use Rattle.osdp_controller.specs.Hearing.{Heard, hears}
+use Rattle.osdp_controller_laws.specs.Laws.{exchange_in}
+use Rattle.osdp_controller.specs.Machine.{IsMachine, IsState, Machine, after_begin, after_retarget, after_submit, changed_unless, is_outstanding, refused_unless_closed, retarget_refusal, sent_in, submit_refusal}
+use Rattle.osdp_controller_laws.specs.Runs.{Call, Submit, Begin, Retarget, Tick, Hear, after_call, after_calls, told_by}
+use Rattle.osdp_controller.specs.Sessions.{seen}
+use Rattle.osdp_controller.specs.Ticking.{Ticked, begins, gives_up, sends_frame, stays, ticks_in, tries_again}
+use Rattle.osdp_controller.proofs.Choices.{either_way}
+use Rattle.osdp_controller_laws.proofs.Endings.{frame_ends}
+use Rattle.osdp_controller_laws.proofs.Stepwise.{frames_in_steps}
+use Rattle.osdp_controller_laws.proofs.Well.{keeps_each}
+
+abbrev listed : Option Command → List Command
+listed o = option_to_list o
+
+-- one call: what it asks leaves the waiting commands, and what is told was outstanding or is asked
+record OneByPlace (before : Option Command) (w : List Command) (new ask tell after : Option Command) (rest : List Command) : Type 0 where
+  waits : listed ask ++ rest ≡ w ++ listed new
+  tells : listed before ++ listed ask ≡ listed tell ++ listed after
+
+-- a call that asks, accepts and tells nothing
+nothing_new : (before after : Option Command) (w : List Command) → after ≡ before → OneByPlace before w None None None after w
+nothing_new before after w e = record {
+  waits = sym (append-nil w);
+  tells = append-nil (listed before) ∙ ap listed (sym e);
+}
+
+-- ticks
+
+abbrev asked_after : Ticked → Option Command
+asked_after t = if is_some t.step.frame && sent_in t.session.state == 1 then asked_in t.session.state else None
+
+abbrev TickByPlace : Option Command → List Command → Ticked → Type 0
+TickByPlace before w t = OneByPlace before w None (asked_after t) (told_command t.step.report) (asked_in t.session.state) t.waiting
+
+-- a frame that isn't the first asks nothing
+not_first : (sent : ℕ) (o : Option Command) → 1 ≤ sent → (if sent + 1 == 1 then o else None) ≡ None
+not_first sent o some = let no = ne_eqb (sent + 1) 1 (λ e. omega arith) in rw no refl
+
+sends_again : (sends : ℕ) (o : Outstanding) (s : Session) (w : List Command) → 1 ≤ o.sent
+    → TickByPlace (submitted_command o.exchange) w (sends_frame sends o s w)
+sends_again sends o s w some =
+    subst (λ (asks : Option Command). OneByPlace (submitted_command o.exchange) w None asks None (submitted_command o.exchange) w)
+    (sym (not_first o.sent (submitted_command o.exchange) some)) (nothing_new (submitted_command o.exchange) (submitted_command o.exchange) w refl)
+
+gives_back : (o : Outstanding) (s : Session) (w : List Command) → TickByPlace (submitted_command o.exchange) w (gives_up o s w)
+gives_back o s w = record { waits = sym (append-nil w); tells = refl }
+
+tick_by_place : (c : ControllerConfig) (state : State) (s : Session) (w : List Command) → IsState c state → asked_in s.state ≡ asked_in state
+    → TickByPlace (asked_in state) w (ticks_in state s w)
+tick_by_place c Closed s w is same = nothing_new None (asked_in s.state) w same
+tick_by_place c (Quiet until) s w is same =
+    either_way (TickByPlace None w) (nat_le until s.greatest) (begins Opening 0 s w) (stays s w)
+    (λ b. nothing_new None None w refl) (λ b. nothing_new None (asked_in s.state) w same)
+tick_by_place c (Idle due) s (command ∷ w) is same = record { waits = sym (append-nil (command ∷ w)); tells = refl }
+tick_by_place c (Idle due) s [] is same =
+    either_way (TickByPlace None []) (nat_le due s.greatest) (begins Polling (next_sequence s.number) s []) (stays s [])
+    (λ b. nothing_new None None [] refl) (λ b. nothing_new None (asked_in s.state) [] same)
+tick_by_place c (Waiting until sends o) s w is same =
+    either_way (TickByPlace (submitted_command o.exchange) w) (nat_le until s.greatest) (tries_again sends o s w) (stays s w)
+    (λ b. either_way (TickByPlace (submitted_command o.exchange) w) (nat_lt sends s.config.sends) (sends_frame (sends + 1) o s w) (gives_up o s w)
+    (λ f. let out = is.2 in sends_again (sends + 1) o s w out.some) (λ f. gives_back o s w))
+    (λ b. nothing_new (submitted_command o.exchange) (asked_in s.state) w same)
+tick_by_place c (Pausing until o) s w is same =
+    either_way (TickByPlace (submitted_command o.exchange) w) (nat_le until s.greatest) (sends_frame 1 o s w) (stays s w)
+    (λ b. sends_again 1 o s w is.some) (λ b. nothing_new (submitted_command o.exchange) (asked_in s.state) w same)
+
+-- frames
+
+told_of : (x : Exchange) (h : Heard) → GoesOn x h.session.state h.report ⊎ IsAnswered x h.session.state h.report
+    → listed (submitted_command x) ++ [] ≡ listed (told_command h.report) ++ listed (asked_in h.session.state)
+told_of x h (inl on) =
+    append-nil (listed (submitted_command x))
+    ∙ (ap (λ (e : Option Exchange). listed (command_of e)) (sym on.outstanding)
+    ∙ ap (λ (r : Option Report). listed (told_command r) ++ listed (asked_in h.session.state)) (sym on.nothing))
+told_of x h (inr end) =
+    ap (λ (t : Option Command). listed t ++ []) (sym end.told)
+    ∙ ap (λ (e : Option Exchange). listed (told_command h.report) ++ listed (command_of e)) (sym end.ended)
+
+none_outstanding : (state : State) → exchange_in state ≡ None → is_outstanding state ≡ false
+none_outstanding Closed h = refl
+none_outstanding (Quiet until) h = refl
+none_outstanding (Idle due) h = refl
+none_outstanding (Waiting until sends o) h = cc
+none_outstanding (Pausing until o) h = cc
+
+abbrev FrameTells : Option Command → Heard → Type 0
+FrameTells before h = listed before ++ [] ≡ listed (told_command h.report) ++ listed (asked_in h.session.state)
+
+frame_tells : (x : Option Exchange) (p : Packet) (now : ℕ) (s : Session) → exchange_in s.state ≡ x → FrameTells (asked_in s.state) (hears p now s)
+frame_tells None p now s h =
+    let steps = frames_in_steps p now s in
+    subst (FrameTells (asked_in s.state)) (sym (steps.not_outstanding (none_outstanding s.state h))) (append-nil (listed (asked_in s.state)))
+frame_tells (Some x) p now s h =
+    ap (λ (e : Option Exchange). listed (command_of e) ++ []) h ∙ told_of x (hears p now s) (frame_ends x p now s h)
+
+-- calls that may be refused
+
+submit_by_place : (f : Option ControllerFault) (command : Command) (m : Machine)
+    → OneByPlace (asked_in m.session.state) m.waiting (if is_none f then Some command else None) None None
+    (asked_in (changed_unless f m (after_submit command m)).session.state) (changed_unless f m (after_submit command m)).waiting
+submit_by_place None command m = record { waits = refl; tells = append-nil (listed (asked_in m.session.state)) }
+submit_by_place (Some fault) command m = nothing_new (asked_in m.session.state) (asked_in m.session.state) m.waiting refl
+
+abbrev Unchanged : Machine → Machine → Type 0
+Unchanged m k = OneByPlace (asked_in m.session.state) m.waiting None None None (asked_in k.session.state) k.waiting
+
+begin_by_place : (now : ℕ) (state : State) (m : Machine) → asked_in m.session.state ≡ asked_in state
+    → Unchanged m (changed_unless (refused_unless_closed state) m (after_begin now m))
+begin_by_place now Closed m same = nothing_new (asked_in m.session.state) None m.waiting (sym same)
+begin_by_place now (Quiet until) m same = nothing_new (asked_in m.session.state) (asked_in m.session.state) m.waiting refl
+begin_by_place now (Idle due) m same = nothing_new (asked_in m.session.state) (asked_in m.session.state) m.waiting refl
+begin_by_place now (Waiting until sends o) m same = nothing_new (asked_in m.session.state) (asked_in m.session.state) m.waiting refl
+begin_by_place now (Pausing until o) m same = nothing_new (asked_in m.session.state) (asked_in m.session.state) m.waiting refl
+
+retarget_by_place : (f : Option ControllerFault) (address : ℕ) (m : Machine) → Unchanged m (changed_unless f m (after_retarget address m))
+retarget_by_place None address m = nothing_new (asked_in m.session.state) (asked_in m.session.state) m.waiting refl
+retarget_by_place (Some fault) address m = nothing_new (asked_in m.session.state) (asked_in m.session.state) m.waiting refl
+
+-- each call
+
+abbrev CallByPlace : Call → Machine → Type 0
+CallByPlace call m =
+    OneByPlace (asked_in m.session.state) m.waiting (accepted_by call m) (asked_by call m) (told_command (told_by call m))
+    (asked_in (after_call call m).session.state) (after_call call m).waiting
+
+call_by_place : (call : Call) (m : Machine) → IsMachine m → CallByPlace call m
+call_by_place (Submit command) m is = submit_by_place (submit_refusal command m) command m
+call_by_place (Begin now) m is = begin_by_place now m.session.state m refl
+call_by_place (Retarget address) m is = retarget_by_place (retarget_refusal address m) address m
+call_by_place (Tick now) m is = tick_by_place m.session.config m.session.state (seen now m.session) m.waiting is.session.state refl
+call_by_place (Hear p now) m is = record { waits = sym (append-nil m.waiting); tells = frame_tells (exchange_in m.session.state) p now m.session refl }
+
+-- all of them
+
+-- two steps in a row are one
+both_steps : (x a t y b u z : List Command) → x ++ a ≡ t ++ y → y ++ b ≡ u ++ z → x ++ (a ++ b) ≡ (t ++ u) ++ z
+both_steps x a t y b u z e f =
+    sym (append_assoc x a b) ∙ (ap (λ (l : List Command). l ++ b) e ∙ (append_assoc t y b ∙ (ap (λ (l : List Command). t ++ l) f ∙ sym (append_assoc t u z))))
+
+both_waits : (a b last now next w x : List Command) → a ++ next ≡ w ++ now → b ++ last ≡ next ++ x → (a ++ b) ++ last ≡ w ++ (now ++ x)
+both_waits a b last now next w x e f =
+    append_assoc a b last ∙ (ap (λ (l : List Command). a ++ l) f ∙ (sym (append_assoc a next x) ∙ (ap (λ (l : List Command). l ++ x) e ∙ append_assoc w now x)))
+
+pub commands_by_place : (m : Machine) (calls : List Call) → IsMachine m → CommandsByPlace m calls
+commands_by_place m [] is = record { asked_once = sym (append-nil m.waiting); told_once = append-nil (listed (asked_in m.session.state)) }
+commands_by_place m (call ∷ calls) is =
+    let one = call_by_place call m is in
+    let others = commands_by_place (after_call call m) calls (keeps_each call m is) in record {
+      asked_once =
+          both_waits (listed (asked_by call m)) (asked calls (after_call call m)) (after_calls calls (after_call call m)).waiting (listed (accepted_by call m))
+          (after_call call m).waiting m.waiting (accepted calls (after_call call m)) one.waits others.asked_once;
+      told_once =
+          both_steps (listed (asked_in m.session.state)) (listed (asked_by call m)) (listed (told_command (told_by call m)))
+          (listed (asked_in (after_call call m).session.state)) (asked calls (after_call call m)) (told calls (after_call call m))
+          (listed (asked_in (after_calls calls (after_call call m)).session.state)) one.tells others.told_once;
+    }

@@ -1,0 +1,302 @@
+-- Numbers, deadlines and packets stay in their ranges.
+use Rattle.std.proofs.Common.{◌≡◌, ◌∙◌, ap, sym, subst, ℕ, ◌+◌, ◌-◌, ◌^◌, ◌<◌, ◌≤◌, List, [], ◌∷◌, length, Option, Some, None, refl, arith}
+use Rattle.std.specs.Prelude.{◌≢◌, min, max, nat_lt, nat_le, IfSome}
+use Rattle.osdp_frame.specs.declared.check_kind.CheckKind.{CheckKind}
+use Rattle.osdp_frame.specs.declared.check_kind.CheckKind.TheVariants.{Sum, Crc}
+use Rattle.osdp_frame.specs.Check.{check_size}
+use Rattle.osdp_frame.specs.Packet.{IsPacket, Packet, next_sequence}
+use Rattle.osdp_msg.specs.declared.command.Command.{Command}
+use Rattle.osdp_msg.specs.declared.command_fields.Communication.{Communication}
+use Rattle.osdp_msg.specs.declared.reply.Reply.{Reply}
+use Rattle.osdp_msg.specs.declared.reply_fields.PdId.{PdId}
+use Rattle.osdp_msg.specs.CommandTable.{CommandFits, command_code, command_data}
+use Rattle.osdp_msg.proofs.Commands.{commands_fit}
+use Rattle.osdp_controller.specs.declared.answer.Answer.{Answer}
+use Rattle.osdp_controller.specs.declared.answer.Answer.TheVariants.{NotTaken, Damaged, NumberRefused, Plain, Unreadable}
+use Rattle.osdp_controller.specs.declared.exchange.Exchange.{Exchange}
+use Rattle.osdp_controller.specs.declared.exchange.Exchange.TheVariants.{Opening, Polling, Asking}
+use Rattle.osdp_controller.specs.declared.exchange.Outstanding.{Outstanding}
+use Rattle.osdp_controller.specs.declared.fault.ControllerFault.{ControllerFault}
+use Rattle.osdp_controller.specs.declared.report.LostCause.TheVariants as causes
+use Rattle.osdp_controller.specs.declared.session.Session.{Session}
+use Rattle.osdp_controller.specs.declared.state.State.{State}
+use Rattle.osdp_controller.specs.declared.state.State.TheVariants.{Closed, Quiet, Idle, Waiting, Pausing}
+use Rattle.osdp_controller.specs.Answers.{answer_of}
+use Rattle.osdp_controller_laws.specs.Calls.{IsInRange, SendsPackets, StaysInRange, longest_wait}
+use Rattle.osdp_controller_laws.specs.Commands.{command_of}
+use Rattle.osdp_controller.specs.Exchanges.{exchange_command, submitted_command}
+use Rattle.osdp_controller.specs.Hearing.{Heard, answered, answered_unread, com_of, command_answered, comset_of, hears, hears_busy, loses, moved_by, opening_answered, pausing_hears, pd_id_of, waiting_hears}
+use Rattle.osdp_controller.specs.Private.{numbered_in}
+use Rattle.osdp_controller_laws.specs.Laws.{exchange_in}
+use Rattle.osdp_controller.specs.Machine.{IsMachine, Machine, after_begin, after_retarget, after_submit, changed_unless, refused_unless_closed, retarget_refusal, submit_refusal}
+use Rattle.osdp_controller_laws.specs.Runs.{Call, Submit, Begin, Retarget, Tick, Hear, after_call, after_calls, sent_by}
+use Rattle.osdp_controller.specs.Settings.{IsConfig, IsTime}
+use Rattle.osdp_controller.specs.Sessions.{frame_of, later, seen}
+use Rattle.osdp_controller.specs.Ticking.{Ticked, begins, gives_up, sends_frame, stays, ticks_in, tries_again}
+use Rattle.osdp_controller.proofs.Choices.{either_way}
+use Rattle.osdp_controller_laws.proofs.Frames.{either_frame}
+use Rattle.osdp_controller_laws.proofs.Stepwise.{sends_its_frame}
+use Rattle.osdp_controller_laws.proofs.Well.{keeps_each}
+
+-- by the state: the number, the moment that is waited for, and the number of an exchange that isn't the opening
+abbrev Soon : ℕ → ℕ → Type 0
+Soon moment greatest = moment ≤ greatest + longest_wait
+
+abbrev Near : State → ℕ → ℕ → Type 0
+Near Closed number greatest = number < 4
+Near (Quiet until) number greatest = (number < 4) × Soon until greatest
+Near (Idle due) number greatest = (number < 4) × Soon due greatest
+Near (Waiting until sends o) number greatest = (number < 4) × Soon until greatest × (o.exchange ≢ Opening → 0 < number)
+Near (Pausing until o) number greatest = (number < 4) × Soon until greatest × (o.exchange ≢ Opening → 0 < number)
+
+of_near : (s : Session) → IsInRange s → (state : State) → s.state ≡ state → Near state s.number s.greatest
+of_near s is Closed e = is.number
+of_near s is (Quiet until) e = (is.number, rw e at is.deadline)
+of_near s is (Idle due) e = (is.number, rw e at is.deadline)
+of_near s is (Waiting until sends o) e = (is.number, (rw e at is.deadline), λ other. is.above_zero o.exchange (ap exchange_in e) other)
+of_near s is (Pausing until o) e = (is.number, (rw e at is.deadline), λ other. is.above_zero o.exchange (ap exchange_in e) other)
+
+above_zero : (x y : Exchange) (number : ℕ) → (x ≢ Opening → 0 < number) → Some x ≡ Some y → y ≢ Opening → 0 < number
+above_zero x y number above e other = above (λ o. other (let same : x ≡ y = cc in sym same ∙ o))
+
+to_near : (s : Session) → (state : State) → s.state ≡ state → Near state s.number s.greatest → IsInRange s
+to_near s Closed e near = record { number = near; above_zero = λ x h other. cc; deadline = rw e tt }
+to_near s (Quiet until) e near = record { number = near.0; above_zero = λ x h other. cc; deadline = rw e near.1 }
+to_near s (Idle due) e near = record { number = near.0; above_zero = λ x h other. cc; deadline = rw e near.1 }
+to_near s (Waiting until sends o) e near = record {
+  number = near.0;
+  above_zero = λ x h other. above_zero o.exchange x s.number near.2 (sym (ap exchange_in e) ∙ h) other;
+  deadline = rw e near.1;
+}
+to_near s (Pausing until o) e near = record {
+  number = near.0;
+  above_zero = λ x h other. above_zero o.exchange x s.number near.2 (sym (ap exchange_in e) ∙ h) other;
+  deadline = rw e near.1;
+}
+
+-- deadlines
+
+least : (a b : ℕ) → min a b ≤ a
+least a b = omega arith
+
+later_soon : (wait : ℕ) (s : Session) → IsTime wait → Soon (later wait s) s.greatest
+later_soon wait s is =
+    let most : wait ≤ 3600000 = is.1 in
+    let first : min (s.greatest + wait) (2 ^ 64 - 1) ≤ s.greatest + wait = least (s.greatest + wait) (2 ^ 64 - 1) in
+    soon_by (min (s.greatest + wait) (2 ^ 64 - 1)) s.greatest wait first most
+  where
+    soon_by : (m g w : ℕ) → m ≤ g + w → w ≤ 3600000 → m ≤ g + 3600000
+    soon_by m g w h k = omega arith
+
+now_soon : (greatest : ℕ) → Soon greatest greatest
+now_soon greatest = omega arith
+
+-- a moment that is seen
+seen_soon : (moment greatest now : ℕ) → Soon moment greatest → Soon moment (max greatest now)
+seen_soon moment greatest now h = omega arith
+
+near_seen : (state : State) (number greatest now : ℕ) → Near state number greatest → Near state number (max greatest now)
+near_seen Closed number greatest now near = near
+near_seen (Quiet until) number greatest now near = (near.0, seen_soon until greatest now near.1)
+near_seen (Idle due) number greatest now near = (near.0, seen_soon due greatest now near.1)
+near_seen (Waiting until sends o) number greatest now near = (near.0, seen_soon until greatest now near.1, near.2)
+near_seen (Pausing until o) number greatest now near = (near.0, seen_soon until greatest now near.1, near.2)
+
+-- ticks
+
+next_below : (n : ℕ) → next_sequence n < 4
+next_below n = omega arith
+
+next_above : (n : ℕ) → 0 < next_sequence n
+next_above n = omega arith
+
+abbrev TickNear : Ticked → Type 0
+TickNear t = Near t.session.state t.session.number t.session.greatest
+
+begins_near : (x : Exchange) (number : ℕ) (s : Session) (w : List Command) → IsConfig s.config → number < 4 → (x ≢ Opening → 0 < number)
+    → TickNear (begins x number s w)
+begins_near x number s w config below above = (below, later_soon s.config.reply_wait s config.reply_wait, above)
+
+sends_near : (sends : ℕ) (o : Outstanding) (s : Session) (w : List Command) → IsConfig s.config → s.number < 4 → (o.exchange ≢ Opening → 0 < s.number)
+    → TickNear (sends_frame sends o s w)
+sends_near sends o s w config below above = (below, later_soon s.config.reply_wait s config.reply_wait, above)
+
+tick_near : (state : State) (s : Session) (w : List Command) → IsConfig s.config → Near state s.number s.greatest → Near s.state s.number s.greatest
+    → TickNear (ticks_in state s w)
+tick_near Closed s w config near same = same
+tick_near (Quiet until) s w config near same =
+    either_way TickNear (nat_le until s.greatest) (begins Opening 0 s w) (stays s w)
+    (λ b. begins_near Opening 0 s w config (omega arith) (λ other. absurd (other refl))) (λ b. same)
+tick_near (Idle due) s (command ∷ w) config near same =
+    begins_near (Asking command) (next_sequence s.number) s w config (next_below s.number) (λ other. next_above s.number)
+tick_near (Idle due) s [] config near same =
+    either_way TickNear (nat_le due s.greatest) (begins Polling (next_sequence s.number) s []) (stays s [])
+    (λ b. begins_near Polling (next_sequence s.number) s [] config (next_below s.number) (λ other. next_above s.number)) (λ b. same)
+tick_near (Waiting until sends o) s w config near same =
+    either_way TickNear (nat_le until s.greatest) (tries_again sends o s w) (stays s w)
+    (λ b. either_way TickNear (nat_lt sends s.config.sends) (sends_frame (sends + 1) o s w) (gives_up o s w)
+    (λ c. sends_near (sends + 1) o s w config near.0 near.2) (λ c. near.0))
+    (λ b. same)
+tick_near (Pausing until o) s w config near same =
+    either_way TickNear (nat_le until s.greatest) (sends_frame 1 o s w) (stays s w)
+    (λ b. sends_near 1 o s w config near.0 near.2) (λ b. same)
+
+-- frames
+
+abbrev FrameNear : Heard → Type 0
+FrameNear h = Near h.session.state h.session.number h.session.greatest
+
+rest_near : (s : Session) → IsConfig s.config → s.number < 4 → Near (Idle (later s.config.poll_interval s)) s.number s.greatest
+rest_near s config below = (below, later_soon s.config.poll_interval s config.poll_interval)
+
+busy_near : (o : Outstanding) (s : Session) → IsConfig s.config → s.number < 4 → (o.exchange ≢ Opening → 0 < s.number) → FrameNear (hears_busy o s)
+busy_near o s config below above =
+    either_way FrameNear (nat_lt s.config.busy_limit (o.busies + 1)) (loses causes.TooBusy o s)
+    (record { session = record s { state = Pausing (later s.config.busy_wait s) (record o { busies = o.busies + 1 }) }; report = None })
+    (λ b. below) (λ b. (below, later_soon s.config.busy_wait s config.busy_wait, above))
+
+opening_near : (id : Option PdId) (s : Session) → IsConfig s.config → s.number < 4 → Near s.state s.number s.greatest → FrameNear (opening_answered id s)
+opening_near None s config below same = same
+opening_near (Some id) s config below same = rest_near s config below
+
+command_near : (moved : Option Communication) (command : Command) (reply : Reply) (s : Session) → IsConfig s.config → s.number < 4
+    → FrameNear (command_answered moved command reply s)
+command_near None command reply s config below = rest_near s config below
+command_near (Some d) command reply s config below = below
+
+answer_near : (x : Exchange) (reply : Reply) (s : Session) → IsConfig s.config → s.number < 4 → Near s.state s.number s.greatest
+    → FrameNear (answered x reply s)
+answer_near Opening reply s config below same = opening_near (pd_id_of reply) s config below same
+answer_near Polling reply s config below same = rest_near s config below
+answer_near (Asking command) reply s config below same =
+    command_near (moved_by (comset_of command) (com_of reply)) command reply s config below
+
+unread_near : (x : Exchange) (code : ℕ) (s : Session) → IsConfig s.config → s.number < 4 → Near s.state s.number s.greatest
+    → FrameNear (answered_unread x code s)
+unread_near Opening code s config below same = same
+unread_near Polling code s config below same = rest_near s config below
+unread_near (Asking command) code s config below same = rest_near s config below
+
+waiting_near : (a : Answer) (sends : ℕ) (o : Outstanding) (s : Session) → IsConfig s.config → s.number < 4 → (o.exchange ≢ Opening → 0 < s.number)
+    → Near s.state s.number s.greatest → FrameNear (waiting_hears a sends o s)
+waiting_near NotTaken sends o s config below above same = busy_near o s config below above
+waiting_near Damaged sends o s config below above same = (below, now_soon s.greatest, above)
+waiting_near NumberRefused sends o s config below above same = below
+waiting_near (Plain reply) sends o s config below above same = answer_near o.exchange reply s config below same
+waiting_near (Unreadable code) sends o s config below above same = unread_near o.exchange code s config below same
+
+pausing_near : (a : Answer) (o : Outstanding) (s : Session) → IsConfig s.config → s.number < 4 → Near s.state s.number s.greatest
+    → FrameNear (pausing_hears a o s)
+pausing_near NotTaken o s config below same = same
+pausing_near Damaged o s config below same = same
+pausing_near NumberRefused o s config below same = below
+pausing_near (Plain reply) o s config below same = answer_near o.exchange reply s config below same
+pausing_near (Unreadable code) o s config below same = unread_near o.exchange code s config below same
+
+numbered_near : (state : State) (a : Answer) (s : Session) → IsConfig s.config → Near state s.number s.greatest → Near s.state s.number s.greatest
+    → FrameNear (numbered_in state a s)
+numbered_near Closed a s config near same = same
+numbered_near (Quiet until) a s config near same = same
+numbered_near (Idle due) a s config near same = same
+numbered_near (Waiting until sends o) a s config near same = waiting_near a sends o s config near.0 near.2 same
+numbered_near (Pausing until o) a s config near same = pausing_near a o s config near.0 same
+
+frame_near : (p : Packet) (now : ℕ) (s : Session) → IsConfig s.config → Near s.state s.number s.greatest → FrameNear (hears p now s)
+frame_near p now s config near =
+    let same = near_seen s.state s.number s.greatest now near in
+    either_frame FrameNear p now s
+    (λ from h. numbered_near s.state (answer_of p) (seen now s) config same same) same
+
+-- each call
+
+abbrev MachineNear : Machine → Type 0
+MachineNear m = Near m.session.state m.session.number m.session.greatest
+
+number_below : (state : State) (number greatest : ℕ) → Near state number greatest → number < 4
+number_below Closed number greatest near = near
+number_below (Quiet until) number greatest near = near.0
+number_below (Idle due) number greatest near = near.0
+number_below (Waiting until sends o) number greatest near = near.0
+number_below (Pausing until o) number greatest near = near.0
+
+submit_near : (f : Option ControllerFault) (command : Command) (m : Machine) → MachineNear m → MachineNear (changed_unless f m (after_submit command m))
+submit_near None command m near = near
+submit_near (Some fault) command m near = near
+
+begin_near : (now : ℕ) (f : Option ControllerFault) (m : Machine) → IsConfig m.session.config → MachineNear m
+    → MachineNear (changed_unless f m (after_begin now m))
+begin_near now None m config near =
+    (number_below m.session.state m.session.number m.session.greatest near, later_soon m.session.config.quiet_wait (seen now m.session) config.quiet_wait)
+begin_near now (Some fault) m config near = near
+
+retarget_near : (f : Option ControllerFault) (address : ℕ) (m : Machine) → MachineNear m → MachineNear (changed_unless f m (after_retarget address m))
+retarget_near None address m near = near
+retarget_near (Some fault) address m near = near
+
+call_near : (call : Call) (m : Machine) → IsConfig m.session.config → MachineNear m → MachineNear (after_call call m)
+call_near (Submit command) m config near = submit_near (submit_refusal command m) command m near
+call_near (Begin now) m config near = begin_near now (refused_unless_closed m.session.state) m config near
+call_near (Retarget address) m config near = retarget_near (retarget_refusal address m) address m near
+call_near (Tick now) m config near =
+    let same = near_seen m.session.state m.session.number m.session.greatest now near in
+    tick_near m.session.state (seen now m.session) m.waiting config same same
+call_near (Hear p now) m config near = frame_near p now m.session config near
+
+near_behind : (m : Machine) (call : Call) → IsMachine m → IsInRange m.session → IsInRange (after_call call m).session
+near_behind m call is near =
+    let session = is.session in
+    to_near (after_call call m).session (after_call call m).session.state refl
+    (call_near call m session.config (of_near m.session near m.session.state refl))
+
+near_all : (m : Machine) (calls : List Call) → IsMachine m → IsInRange m.session → IsInRange (after_calls calls m).session
+near_all m [] is near = near
+near_all m (call ∷ calls) is near = near_all (after_call call m) calls (keeps_each call m is) (near_behind m call is near)
+
+pub stays_near : StaysInRange
+stays_near = record {
+  new = λ config capacity. record { number = omega arith; above_zero = λ x h other. cc; deadline = tt };
+  behind = near_all;
+}
+
+-- packets
+
+small_check : (kind : CheckKind) → check_size kind ≤ 2
+small_check Sum = omega arith
+small_check Crc = omega arith
+
+exchange_fits : (x : Exchange) → IfSome (submitted_command x) CommandFits → CommandFits (exchange_command x)
+exchange_fits Opening fits = omega arith
+exchange_fits Polling fits = tt
+exchange_fits (Asking command) fits = fits
+
+frame_is_packet : (x : Exchange) (s : Session) → s.config.address < 127 → s.number < 4 → CommandFits (exchange_command x) → IsPacket (frame_of x s)
+frame_is_packet x s address number fits =
+    let body = commands_fit (command_code (exchange_command x)) (command_data (exchange_command x)) (exchange_command x)
+    (record { code_is = refl; data_is = refl; fits = fits }) in
+    let room : 1 + length (command_data (exchange_command x)) ≤ 1433 = body.1 in
+    let check : check_size s.config.check ≤ 2 = small_check s.config.check in record {
+      address = omega arith;
+      sequence = number;
+      reserved = omega arith;
+      body = body.0;
+      code = omega arith;
+      room = omega arith;
+    }
+
+frame_sent : (call : Call) (m : Machine) (p : Packet) → sent_by call m ≡ Some p
+    → (x : Exchange) × (exchange_in (after_call call m).session.state ≡ Some x) × (p ≡ frame_of x (after_call call m).session)
+frame_sent (Submit command) m p e = cc
+frame_sent (Begin now) m p e = cc
+frame_sent (Retarget address) m p e = cc
+frame_sent (Tick now) m p e = sends_its_frame now m.session m.waiting p e
+frame_sent (Hear q now) m p e = cc
+
+pub sends_packets : SendsPackets
+sends_packets m call p is near e fits =
+    let behind = keeps_each call m is in
+    let session = behind.session in
+    let config = session.config in
+    let ranges = near_behind m call is near in
+    let frame = frame_sent call m p e in
+    let asked = subst (λ (o : Option Exchange). IfSome (command_of o) CommandFits) frame.1 fits in
+    subst IsPacket (sym frame.2) (frame_is_packet frame.0 (after_call call m).session config.address ranges.number (exchange_fits frame.0 asked))

@@ -1,0 +1,237 @@
+-- The frames of an exchange as long as it lasts.
+use Rattle.std.proofs.Common.{◌≡◌, ap, sym, subst, ℕ, ◌+◌, ◌≤◌, true, List, [], ◌∷◌, ◌++◌, Option, Some, None, refl, arith}
+use Rattle.std.specs.Prelude.{All, nat_lt, nat_le, option_to_list}
+use Rattle.std.proofs.lemmas.List.Elements.{All-nil, All-cons}
+use Rattle.osdp_frame.specs.Packet.{Packet, next_sequence}
+use Rattle.osdp_msg.specs.declared.command.Command.{Command}
+use Rattle.osdp_msg.specs.declared.command_fields.Communication.{Communication}
+use Rattle.osdp_msg.specs.declared.reply.Reply.{Reply}
+use Rattle.osdp_msg.specs.declared.reply_fields.PdId.{PdId}
+use Rattle.osdp_controller.specs.declared.answer.Answer.{Answer}
+use Rattle.osdp_controller.specs.declared.answer.Answer.TheVariants.{NotTaken, Damaged, NumberRefused, Plain, Unreadable}
+use Rattle.osdp_controller.specs.declared.config.ControllerConfig.{ControllerConfig}
+use Rattle.osdp_controller.specs.declared.exchange.Exchange.{Exchange}
+use Rattle.osdp_controller.specs.declared.exchange.Exchange.TheVariants.{Opening, Polling, Asking}
+use Rattle.osdp_controller.specs.declared.exchange.Outstanding.{Outstanding}
+use Rattle.osdp_controller.specs.declared.fault.ControllerFault.{ControllerFault}
+use Rattle.osdp_controller.specs.declared.report.LostCause.TheVariants as causes
+use Rattle.osdp_controller.specs.declared.session.Session.{Session}
+use Rattle.osdp_controller.specs.declared.state.State.{State}
+use Rattle.osdp_controller.specs.declared.state.State.TheVariants.{Closed, Quiet, Idle, Waiting, Pausing}
+use Rattle.osdp_controller.specs.Answers.{answer_of}
+use Rattle.osdp_controller.specs.Hearing.{Heard, answered, answered_unread, com_of, command_answered, comset_of, hears, hears_busy, loses, moved_by, opening_answered, pausing_hears, pd_id_of, waiting_hears}
+use Rattle.osdp_controller.specs.Private.{numbered_in}
+use Rattle.osdp_controller.specs.Machine.{Machine, after_begin, after_retarget, after_submit, changed_unless, is_outstanding, or_no_device, refused_unless_closed, sent_in, submit_refusal}
+use Rattle.osdp_controller_laws.specs.Runs.{Call, Submit, Begin, Retarget, Tick, Hear, Lasts, ResendsTheSame, after_call, frames, sent_by}
+use Rattle.osdp_controller.specs.Sessions.{frame_of, later, seen}
+use Rattle.osdp_controller.specs.Ticking.{Ticked, begins, gives_up, sends_frame, stays, ticks_in, tries_again}
+use Rattle.osdp_controller.proofs.Choices.{either_way}
+use Rattle.osdp_controller_laws.proofs.Frames.{either_frame}
+
+-- where an exchange is outstanding: this is its packet, it has sent so many frames, and the settings are these
+abbrev pub Holds : Packet → ControllerConfig → ℕ → State → Session → Type 0
+Holds p c n Closed s = Unit {0}
+Holds p c n (Quiet until) s = Unit {0}
+Holds p c n (Idle due) s = Unit {0}
+Holds p c n (Waiting until sends o) s = (frame_of o.exchange s ≡ p) × (o.sent ≡ n) × (s.config ≡ c)
+Holds p c n (Pausing until o) s = (frame_of o.exchange s ≡ p) × (o.sent ≡ n) × (s.config ≡ c)
+
+abbrev pub more : ℕ → Option Packet → ℕ
+more n None = n
+more n (Some q) = n + 1
+
+-- ticks
+
+abbrev pub SameSent : Packet → Option Packet → Type 0
+SameSent p None = Unit {0}
+SameSent p (Some q) = q ≡ p
+
+abbrev HoldsTicked : Packet → ControllerConfig → ℕ → Ticked → Type 0
+HoldsTicked p c n t = SameSent p t.step.frame × Holds p c (more n t.step.frame) t.session.state t.session
+
+one_sent : (sent n : ℕ) → sent ≡ n → sent + 1 ≡ n + 1
+one_sent sent n e = ap (λ (k : ℕ). k + 1) e
+
+holds_ticks : (p : Packet) (c : ControllerConfig) (n : ℕ) (state : State) (s : Session) (w : List Command) → is_outstanding state ≡ true
+    → Holds p c n state s → Holds p c n s.state s → HoldsTicked p c n (ticks_in state s w)
+holds_ticks p c n Closed s w h at same = cc
+holds_ticks p c n (Quiet until) s w h at same = cc
+holds_ticks p c n (Idle due) s w h at same = cc
+holds_ticks p c n (Waiting until sends o) s w h at same =
+    either_way (HoldsTicked p c n) (nat_le until s.greatest) (tries_again sends o s w) (stays s w)
+    (λ b. either_way (HoldsTicked p c n) (nat_lt sends s.config.sends) (sends_frame (sends + 1) o s w) (gives_up o s w)
+    (λ f. (at.0, (at.0, one_sent o.sent n at.1, at.2))) (λ f. (tt, tt)))
+    (λ b. (tt, same))
+holds_ticks p c n (Pausing until o) s w h at same =
+    either_way (HoldsTicked p c n) (nat_le until s.greatest) (sends_frame 1 o s w) (stays s w)
+    (λ b. (at.0, (at.0, one_sent o.sent n at.1, at.2))) (λ b. (tt, same))
+
+-- frames from the line
+
+abbrev HoldsHeard : Packet → ControllerConfig → ℕ → Heard → Type 0
+HoldsHeard p c n h = Holds p c n h.session.state h.session
+
+abbrev Out : Packet → ControllerConfig → ℕ → Outstanding → Session → Type 0
+Out p c n o s = (frame_of o.exchange s ≡ p) × (o.sent ≡ n) × (s.config ≡ c)
+
+holds_busy : (p : Packet) (c : ControllerConfig) (n : ℕ) (o : Outstanding) (s : Session) → Out p c n o s → HoldsHeard p c n (hears_busy o s)
+holds_busy p c n o s at =
+    either_way (HoldsHeard p c n) (nat_lt s.config.busy_limit (o.busies + 1)) (loses causes.TooBusy o s)
+    (record { session = record s { state = Pausing (later s.config.busy_wait s) (record o { busies = o.busies + 1 }) }; report = None })
+    (λ b. tt) (λ b. at)
+
+holds_opening : (p : Packet) (c : ControllerConfig) (n : ℕ) (id : Option PdId) (s : Session) → Holds p c n s.state s → HoldsHeard p c n (opening_answered id s)
+holds_opening p c n None s same = same
+holds_opening p c n (Some id) s same = tt
+
+holds_command : (p : Packet) (c : ControllerConfig) (n : ℕ) (moved : Option Communication) (command : Command) (reply : Reply) (s : Session)
+    → HoldsHeard p c n (command_answered moved command reply s)
+holds_command p c n None command reply s = tt
+holds_command p c n (Some d) command reply s = tt
+
+holds_answered : (p : Packet) (c : ControllerConfig) (n : ℕ) (x : Exchange) (reply : Reply) (s : Session) → Holds p c n s.state s
+    → HoldsHeard p c n (answered x reply s)
+holds_answered p c n Opening reply s same = holds_opening p c n (pd_id_of reply) s same
+holds_answered p c n Polling reply s same = tt
+holds_answered p c n (Asking command) reply s same =
+    holds_command p c n (moved_by (comset_of command) (com_of reply)) command reply s
+
+holds_unread : (p : Packet) (c : ControllerConfig) (n : ℕ) (x : Exchange) (code : ℕ) (s : Session) → Holds p c n s.state s
+    → HoldsHeard p c n (answered_unread x code s)
+holds_unread p c n Opening code s same = same
+holds_unread p c n Polling code s same = tt
+holds_unread p c n (Asking command) code s same = tt
+
+holds_waiting : (p : Packet) (c : ControllerConfig) (n : ℕ) (a : Answer) (sends : ℕ) (o : Outstanding) (s : Session) → Out p c n o s
+    → Holds p c n s.state s → HoldsHeard p c n (waiting_hears a sends o s)
+holds_waiting p c n NotTaken sends o s at same = holds_busy p c n o s at
+holds_waiting p c n Damaged sends o s at same = at
+holds_waiting p c n NumberRefused sends o s at same = tt
+holds_waiting p c n (Plain reply) sends o s at same = holds_answered p c n o.exchange reply s same
+holds_waiting p c n (Unreadable code) sends o s at same = holds_unread p c n o.exchange code s same
+
+holds_pausing : (p : Packet) (c : ControllerConfig) (n : ℕ) (a : Answer) (o : Outstanding) (s : Session) → Holds p c n s.state s
+    → HoldsHeard p c n (pausing_hears a o s)
+holds_pausing p c n NotTaken o s same = same
+holds_pausing p c n Damaged o s same = same
+holds_pausing p c n NumberRefused o s same = tt
+holds_pausing p c n (Plain reply) o s same = holds_answered p c n o.exchange reply s same
+holds_pausing p c n (Unreadable code) o s same = holds_unread p c n o.exchange code s same
+
+holds_numbered : (p : Packet) (c : ControllerConfig) (n : ℕ) (state : State) (a : Answer) (s : Session) → Holds p c n state s
+    → Holds p c n s.state s → HoldsHeard p c n (numbered_in state a s)
+holds_numbered p c n Closed a s at same = same
+holds_numbered p c n (Quiet until) a s at same = same
+holds_numbered p c n (Idle due) a s at same = same
+holds_numbered p c n (Waiting until sends o) a s at same = holds_waiting p c n a sends o s at same
+holds_numbered p c n (Pausing until o) a s at same = holds_pausing p c n a o s same
+
+-- a moment that is seen changes none of it
+holds_seen : (p : Packet) (c : ControllerConfig) (n now : ℕ) (state : State) (s : Session) → Holds p c n state s → Holds p c n state (seen now s)
+holds_seen p c n now Closed s at = tt
+holds_seen p c n now (Quiet until) s at = tt
+holds_seen p c n now (Idle due) s at = tt
+holds_seen p c n now (Waiting until sends o) s at = at
+holds_seen p c n now (Pausing until o) s at = at
+
+holds_hears : (p : Packet) (c : ControllerConfig) (n : ℕ) (q : Packet) (now : ℕ) (s : Session) → Holds p c n s.state s
+    → HoldsHeard p c n (hears q now s)
+holds_hears p c n q now s at =
+    let same = holds_seen p c n now s.state s at in
+    either_frame (HoldsHeard p c n) q now s
+    (λ from h. holds_numbered p c n s.state (answer_of q) (seen now s) same same) same
+
+-- calls that are refused while an exchange is outstanding
+
+pub not_begun : (state : State) (m new : Machine) → is_outstanding state ≡ true → changed_unless (refused_unless_closed state) m new ≡ m
+not_begun Closed m new h = cc
+not_begun (Quiet until) m new h = cc
+not_begun (Idle due) m new h = cc
+not_begun (Waiting until sends o) m new h = refl
+not_begun (Pausing until o) m new h = refl
+
+pub not_moved : (state : State) (address : ℕ) (m new : Machine) → is_outstanding state ≡ true
+    → changed_unless (or_no_device (refused_unless_closed state) address) m new ≡ m
+not_moved Closed address m new h = cc
+not_moved (Quiet until) address m new h = cc
+not_moved (Idle due) address m new h = cc
+not_moved (Waiting until sends o) address m new h = refl
+not_moved (Pausing until o) address m new h = refl
+
+pub submit_session : (o : Option ControllerFault) (command : Command) (m : Machine) → (changed_unless o m (after_submit command m)).session ≡ m.session
+submit_session None command m = refl
+submit_session (Some fault) command m = refl
+
+-- each call
+
+abbrev pub HoldsMachine : Packet → ControllerConfig → ℕ → Machine → Type 0
+HoldsMachine p c n m = Holds p c n m.session.state m.session
+
+pub holds_call : (p : Packet) (c : ControllerConfig) (n : ℕ) (call : Call) (m : Machine) → is_outstanding m.session.state ≡ true → HoldsMachine p c n m
+    → SameSent p (sent_by call m) × HoldsMachine p c (more n (sent_by call m)) (after_call call m)
+holds_call p c n (Submit command) m h at =
+    (tt, subst (λ (s : Session). Holds p c n s.state s) (sym (submit_session (submit_refusal command m) command m)) at)
+holds_call p c n (Begin now) m h at =
+    (tt, subst (HoldsMachine p c n) (sym (not_begun m.session.state m (after_begin now m) h)) at)
+holds_call p c n (Retarget address) m h at =
+    (tt, subst (HoldsMachine p c n) (sym (not_moved m.session.state address m (after_retarget address m) h)) at)
+holds_call p c n (Tick now) m h at =
+    let same = holds_seen p c n now m.session.state m.session at in
+    holds_ticks p c n m.session.state (seen now m.session) m.waiting h same same
+holds_call p c n (Hear q now) m h at = (tt, holds_hears p c n q now m.session at)
+
+-- the first of the frames
+
+abbrev HoldsSent : ControllerConfig → Ticked → Option Packet → Type 0
+HoldsSent c t None = Unit {0}
+HoldsSent c t (Some p) = Holds p c (sent_in t.session.state) t.session.state t.session × (1 ≤ sent_in t.session.state)
+
+abbrev HoldsFirst : ControllerConfig → Ticked → Type 0
+HoldsFirst c t = HoldsSent c t t.step.frame
+
+holds_first : (state : State) (s : Session) (w : List Command) → HoldsFirst s.config (ticks_in state s w)
+holds_first Closed s w = tt
+holds_first (Quiet until) s w =
+    either_way (HoldsFirst s.config) (nat_le until s.greatest) (begins Opening 0 s w) (stays s w) (λ b. ((refl, refl, refl), omega arith)) (λ b. tt)
+holds_first (Idle due) s (command ∷ w) = ((refl, refl, refl), omega arith)
+holds_first (Idle due) s [] =
+    either_way (HoldsFirst s.config) (nat_le due s.greatest) (begins Polling (next_sequence s.number) s []) (stays s [])
+    (λ b. ((refl, refl, refl), omega arith)) (λ b. tt)
+holds_first (Waiting until sends o) s w =
+    either_way (HoldsFirst s.config) (nat_le until s.greatest) (tries_again sends o s w) (stays s w)
+    (λ b. either_way (HoldsFirst s.config) (nat_lt sends s.config.sends) (sends_frame (sends + 1) o s w) (gives_up o s w)
+    (λ f. ((refl, refl, refl), omega arith)) (λ f. tt))
+    (λ b. tt)
+holds_first (Pausing until o) s w =
+    either_way (HoldsFirst s.config) (nat_le until s.greatest) (sends_frame 1 o s w) (stays s w) (λ b. ((refl, refl, refl), omega arith)) (λ b. tt)
+
+pub first_sent : (call : Call) (m : Machine) (p : Packet) → sent_by call m ≡ Some p
+    → HoldsMachine p m.session.config (sent_in (after_call call m).session.state) (after_call call m) × (1 ≤ sent_in (after_call call m).session.state)
+first_sent (Submit command) m p e = cc
+first_sent (Begin now) m p e = cc
+first_sent (Retarget address) m p e = cc
+first_sent (Tick now) m p e =
+    subst (HoldsSent m.session.config (ticks_in m.session.state (seen now m.session) m.waiting)) e (holds_first m.session.state (seen now m.session) m.waiting)
+first_sent (Hear q now) m p e = cc
+
+-- all of the frames
+
+join_all : (p : Packet) (o : Option Packet) (rest : List Packet) → SameSent p o → All (λ q. q ≡ p) rest → All (λ q. q ≡ p) (option_to_list o ++ rest)
+join_all p None rest same all = all
+join_all p (Some q) rest same all = All-cons (λ (r : Packet). r ≡ p) q rest same all
+
+lasts_now : (calls : List Call) (m : Machine) → Lasts calls m → is_outstanding m.session.state ≡ true
+lasts_now [] m h = h
+lasts_now (call ∷ calls) m h = h.0
+
+same_frames : (p : Packet) (c : ControllerConfig) (n : ℕ) (calls : List Call) (m : Machine) → Lasts calls m → HoldsMachine p c n m
+    → All (λ q. q ≡ p) (frames calls m)
+same_frames p c n [] m h at = All-nil (λ (q : Packet). q ≡ p)
+same_frames p c n (call ∷ calls) m h at =
+    let next = holds_call p c n call m h.0 at in
+    join_all p (sent_by call m) (frames calls (after_call call m)) next.0
+    (same_frames p c (more n (sent_by call m)) calls (after_call call m) h.1 next.1)
+
+pub resends_the_same : ResendsTheSame
+resends_the_same m call p calls e h =
+    same_frames p m.session.config (sent_in (after_call call m).session.state) calls (after_call call m) h (first_sent call m p e).0

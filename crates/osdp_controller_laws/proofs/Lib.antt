@@ -1,0 +1,12 @@
+pub mod Frames
+pub mod Causes
+pub mod Ticks
+pub mod Places
+pub mod Lasting
+pub mod Bounded
+pub mod Stepwise
+pub mod Well
+pub mod Endings
+pub mod InOrder
+pub mod OneCall
+pub mod InRange

@@ -1,0 +1,5 @@
+use Rattle.osdp_controller_laws.proofs.Causes.{hears_answers}
+use Rattle.osdp_controller_laws.proofs.answers_are_heard.Goals as goal
+
+pub returns : goal.returns
+returns c = hears_answers

@@ -1,0 +1,5 @@
+use Rattle.osdp_controller_laws.proofs.Bounded.{sends_few}
+use Rattle.osdp_controller_laws.proofs.exchanges_send_few.Goals as goal
+
+pub returns : goal.returns
+returns c = sends_few

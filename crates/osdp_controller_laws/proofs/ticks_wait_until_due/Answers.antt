@@ -1,0 +1,5 @@
+use Rattle.osdp_controller_laws.proofs.OneCall.{waits_until_due}
+use Rattle.osdp_controller_laws.proofs.ticks_wait_until_due.Goals as goal
+
+pub returns : goal.returns
+returns c = waits_until_due

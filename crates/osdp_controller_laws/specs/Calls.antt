@@ -1,0 +1,60 @@
+-- What each call keeps to: when exchanges begin, what changes the settings, and the ranges of numbers, deadlines and
+-- packets.
+use Rattle.std.specs.Prelude.{◌≡◌, ◌≢◌, ℕ, ◌+◌, ◌<◌, ◌≤◌, true, false, if◌then◌else◌, is_none, is_some, List, Option, Some, IfSome}
+use Rattle.osdp_frame.specs.Packet.{IsPacket, Packet}
+use Rattle.osdp_msg.specs.CommandTable.{CommandFits}
+use Rattle.osdp_controller.specs.declared.config.ControllerConfig.{ControllerConfig}
+use Rattle.osdp_controller.specs.declared.exchange.Exchange.{Exchange}
+use Rattle.osdp_controller.specs.declared.exchange.Exchange.TheVariants.{Opening}
+use Rattle.osdp_controller.specs.declared.report.Report.{Report}
+use Rattle.osdp_controller.specs.declared.report.Report.TheVariants.{Moved}
+use Rattle.osdp_controller.specs.declared.session.Session.{Session}
+use Rattle.osdp_controller_laws.specs.Commands.{asked_in}
+use Rattle.osdp_controller_laws.specs.Laws.{exchange_in}
+use Rattle.osdp_controller.specs.Machine.{IsMachine, Machine, is_due, is_outstanding, new_machine, retarget_refusal}
+use Rattle.osdp_controller_laws.specs.Runs.{Call, Retarget, after_call, after_calls, sent_by, told_by}
+use Rattle.osdp_controller.specs.Sessions.{seen}
+use Rattle.osdp_controller.specs.States.{moment_of}
+use Rattle.osdp_controller.specs.Ticking.{stays, ticks}
+
+-- the address of the reader behind a call: another where a COM tells that the reader moved, or it is set
+abbrev pub told_address : Option Report → ℕ → ℕ
+told_address (Some (Moved command answered)) old = answered.address
+told_address _ old = old
+
+abbrev pub address_behind : Call → Machine → ℕ
+address_behind (Retarget address) m = if is_none (retarget_refusal address m) then address else m.session.config.address
+address_behind call m = told_address (told_by call m) m.session.config.address
+
+-- an exchange begins with a frame, and with nothing else
+abbrev pub BeginsWithFrame : Call → Machine → Type 0
+BeginsWithFrame call m = is_outstanding m.session.state ≡ false → is_outstanding (after_call call m).session.state ≡ true
+    → is_some (sent_by call m) ≡ true
+
+-- no other setting changes than the address
+abbrev pub KeepsSettings : Call → Machine → Type 0
+KeepsSettings call m = (after_call call m).session.config ≡ record m.session.config { address = address_behind call m }
+
+-- a tick that is not due changes nothing but the greatest moment seen
+abbrev pub WaitsUntilDue : ℕ → Machine → Type 0
+WaitsUntilDue now m = is_due now m ≡ false → ticks now m.session m.waiting ≡ stays (seen now m.session) m.waiting
+
+-- the longest that a session waits, an hour
+abbrev pub longest_wait : ℕ
+longest_wait = 3600000
+
+-- the number of an exchange, 0 for the opening ID alone, and the moment that is waited for
+pub record IsInRange (s : Session) : Type 0 where
+  pub number : s.number < 4
+  pub above_zero : (x : Exchange) → exchange_in s.state ≡ Some x → x ≢ Opening → 0 < s.number
+  pub deadline : IfSome (moment_of s.state) (λ moment. moment ≤ s.greatest + longest_wait)
+
+-- these hold of a new controller, and behind whatever is called
+pub record StaysInRange : Type 0 where
+  pub new : (config : ControllerConfig) (capacity : ℕ) → IsInRange (new_machine config capacity).session
+  pub behind : (m : Machine) (calls : List Call) → IsMachine m → IsInRange m.session → IsInRange (after_calls calls m).session
+
+-- and then each frame that goes out is a packet, where the command that it asks is in its ranges
+abbrev pub SendsPackets : Type 0
+SendsPackets = (m : Machine) (call : Call) (p : Packet) → IsMachine m → IsInRange m.session → sent_by call m ≡ Some p
+    → IfSome (asked_in (after_call call m).session.state) CommandFits → IsPacket p

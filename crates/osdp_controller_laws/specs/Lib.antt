@@ -1,0 +1,5 @@
+pub mod Laws
+pub mod Runs
+pub mod Commands
+pub mod Calls
+pub mod Steps

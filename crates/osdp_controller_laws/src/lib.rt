@@ -1,0 +1,129 @@
+//! What the tables come to, said apart from their rows. The functions do nothing: their contracts are laws.
+#![tactic(auto)]
+
+ghost use Rattle.std.specs.Prelude.{◌≡◌, ℕ, true, List};
+ghost use Rattle.osdp_msg.specs.declared.command.Command.{Command};
+ghost use Rattle.osdp_controller.specs.declared.session.Session.{Session};
+ghost use Rattle.osdp_controller_laws.specs.Calls.{BeginsWithFrame, KeepsSettings, SendsPackets, StaysInRange, WaitsUntilDue};
+ghost use Rattle.osdp_controller_laws.specs.Commands.{CommandsByPlace, TellsEnds};
+ghost use Rattle.osdp_controller_laws.specs.Laws.{CountsSends, HearsAnswers, KeepsTime, NumbersTakeTurns, TakesFront, TellsLost, TellsWhy};
+ghost use Rattle.osdp_controller_laws.specs.Runs.{Call, NumbersByPlace, ResendsTheSame, SendsFew, StaysWell};
+ghost use Rattle.osdp_controller.specs.Machine.{IsMachine, Machine};
+ghost use Rattle.osdp_controller.specs.States.{is_closed};
+ghost use Rattle.osdp_controller_laws.specs.Steps.{ExchangesInSteps, FramesInSteps, SendsItsFrame, TicksInSteps};
+ghost use Rattle.osdp_frame.specs.Packet.{Packet};
+
+/// Whatever frames come: a session opens only by a PDID with number 0 while the opening ID is outstanding, and
+/// a command is settled, or an event told, only by a frame of the own address with the outstanding number.
+pub fn frames_tell_why()
+    ensures { TellsWhy }
+{}
+
+/// The answer with the number of the outstanding exchange does what the table says for the exchange.
+pub fn answers_are_heard()
+    ensures { HearsAnswers }
+{}
+
+/// Each frame that a tick gives counts one more in its exchange.
+pub fn sends_are_counted()
+    ensures { (now : ℕ) (s : Session) (waiting : List Command) → CountsSends now s waiting }
+{}
+
+/// A new exchange takes the front of the waiting commands, or a POLL; else they stay as they are.
+pub fn exchanges_take_the_front()
+    ensures { (now : ℕ) (s : Session) (waiting : List Command) → TakesFront now s waiting }
+{}
+
+/// A session that ends without an answer tells exactly the outstanding command.
+pub fn unsettled_commands_are_told()
+    ensures { TellsLost }
+{}
+
+/// Whatever comes: an outstanding exchange goes on untold, or it ends and its command is told; a session ends exactly
+/// where that is told.
+pub fn endings_are_told()
+    ensures { (now : ℕ) (s : Session) → TellsEnds now s }
+{}
+
+/// Whatever is called: each accepted command is asked at most once, in order, and each that is asked is told exactly
+/// once, in order, but for the one that is outstanding.
+pub fn commands_are_told_once()
+    ensures { (m : Machine) (calls : List Call) → IsMachine m → CommandsByPlace m calls }
+{}
+
+/// Moments that go backwards count as the greatest seen.
+pub fn moments_never_go_back()
+    ensures { (now : ℕ) (m : Machine) → KeepsTime now m }
+{}
+
+/// The numbers of the exchanges of a session take turns.
+pub fn numbers_take_turns()
+    ensures { (k : ℕ) → NumbersTakeTurns k }
+{}
+
+/// Whatever is called: exchange k of a session, counted from 0 for the opening ID, has the sequence number of its
+/// place, and so has each frame that it sends.
+pub fn exchanges_have_their_numbers()
+    ensures { (m : Machine) (calls : List Call) → is_closed m.session.state ≡ true → NumbersByPlace m calls }
+{}
+
+/// As long as an exchange lasts, each frame that goes out behind one of its frames is the same packet.
+pub fn resends_the_same_frame()
+    ensures { ResendsTheSame }
+{}
+
+/// As long as an exchange lasts it sends at most `sends * (busy_limit + 1)` frames, whatever is called and comes.
+pub fn exchanges_send_few()
+    ensures { SendsFew }
+{}
+
+/// What a tick does from each state, as the deadline is ahead or reached.
+pub fn ticks_go_by_the_state()
+    ensures { (now : ℕ) (s : Session) (waiting : List Command) → TicksInSteps now s waiting }
+{}
+
+/// What a frame does from each state, where it isn't a plain answer to the exchange.
+pub fn frames_go_by_the_state()
+    ensures { (p : Packet) (now : ℕ) (s : Session) → FramesInSteps p now s }
+{}
+
+/// A whole exchange: a tick sends its frame, the reply is told, and nothing is outstanding behind it.
+pub fn exchanges_in_steps()
+    ensures { (m : Machine) (now answered_at : ℕ) (q : Packet) → ExchangesInSteps m now answered_at q }
+{}
+
+/// The frame that a tick gives is that of the exchange that is outstanding then.
+pub fn ticks_send_their_frame()
+    ensures { (now : ℕ) (s : Session) (waiting : List Command) → SendsItsFrame now s waiting }
+{}
+
+/// What holds of a new controller, its settings and counts in their ranges, holds whatever is called and comes.
+pub fn stays_well()
+    ensures { StaysWell }
+{}
+
+/// An exchange begins with a frame that a tick gives, and in no other way.
+pub fn exchanges_begin_with_a_frame()
+    ensures { (call : Call) (m : Machine) → BeginsWithFrame call m }
+{}
+
+/// No setting but the address ever changes: where a COM tells that the reader moved, and where another is set.
+pub fn settings_stay()
+    ensures { (call : Call) (m : Machine) → KeepsSettings call m }
+{}
+
+/// A tick that is not due changes nothing but the greatest moment seen.
+pub fn ticks_wait_until_due()
+    ensures { (now : ℕ) (m : Machine) → WaitsUntilDue now m }
+{}
+
+/// Whatever is called: sequence numbers are below 4, and 0 for the opening ID alone; no deadline is further away than
+/// the longest wait.
+pub fn stays_in_range()
+    ensures { StaysInRange }
+{}
+
+/// Each frame that goes out is a packet, where the command that it asks is in its ranges.
+pub fn sends_packets()
+    ensures { SendsPackets }
+{}

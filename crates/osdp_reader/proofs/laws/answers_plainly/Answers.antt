@@ -1,5 +1,0 @@
-use Rattle.osdp_reader.proofs.PlainReplies.{acted_plain}
-use Rattle.osdp_reader.proofs.laws.answers_plainly.Goals as goal
-
-pub returns : goal.returns
-returns g c r p acted = acted_plain g.H.Handler.answer_of g.H.Handler.after r p acted

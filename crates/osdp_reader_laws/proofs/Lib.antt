@@ -1,0 +1,9 @@
+pub mod Meeting
+pub mod PlainReplies
+pub mod Keeping
+pub mod Offering
+pub mod Room
+pub mod Settings
+pub mod Repeating
+pub mod Sequences
+pub mod Addresses

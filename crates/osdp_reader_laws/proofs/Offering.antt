@@ -1,0 +1,94 @@
+-- What counts as offered is the front, told by the stored reply.
+use Rattle.std.proofs.Common.{◌≡◌, ℕ, Bool, true, false, cond, eqb, List, [], ◌∷◌, ◌++◌, Option, Some, None, Result, Ok, Err, refl}
+use Rattle.std.specs.Prelude.{slice_get}
+use Rattle.std.specs.Option.{option_map}
+use Rattle.osdp_frame.specs.Packet.{Packet}
+use Rattle.osdp_msg.specs.declared.command.Command.{Command}
+use Rattle.osdp_msg.specs.declared.command.Command.TheVariants as command
+use Rattle.osdp_msg.specs.declared.event.Event.{Event}
+use Rattle.osdp_msg.specs.declared.fault.MsgFault.{MsgFault}
+use Rattle.osdp_msg.specs.Events.{event_reply}
+use Rattle.osdp_reader.specs.declared.handler.Answer.{Answer}
+use Rattle.osdp_reader.specs.declared.kind.Kind.{Kind}
+use Rattle.osdp_reader.specs.declared.kind.Kind.TheVariants.{Silent, Secured, Zero, Repeat, Taken, Busy, Wrong}
+use Rattle.osdp_reader_laws.specs.Laws.{TellsItsOffer}
+use Rattle.osdp_reader.specs.Queue.{Queue, offering, released}
+use Rattle.osdp_reader.specs.Replies.{reply_packet}
+use Rattle.osdp_reader.specs.State.{ReaderState, after_submit}
+use Rattle.osdp_reader.specs.Table.{begun, command_in, moved, new_address, outcome, taken, event_or_answer}
+
+front_stays : (events more : List Event) (front : Event) → slice_get events 0 ≡ Some front
+    → slice_get (events ++ more) 0 ≡ Some front
+front_stays [] more front is = absurd cc
+front_stays (x ∷ xs) more front is = is
+
+module _ {H : Type 0} where
+  pub none_offered : (r : ReaderState H) → r.queue.offered ≡ false → TellsItsOffer r
+  none_offered r none = λ offered. absurd cc
+
+  moved_none_offered : (o : Option ℕ) (r : ReaderState H) → r.queue.offered ≡ false → TellsItsOffer (moved o r)
+  moved_none_offered None r none = none_offered r none
+  moved_none_offered (Some a) r none = by_test (eqb a r.config.address)
+    where
+      by_test : (here : Bool) → TellsItsOffer (cond here r (record r { config = record r.config { address = a }; last = None; stored = None }))
+      by_test true = none_offered r none
+      by_test false = none_offered _ none
+
+  pub submit_offer : (r : ReaderState H) (event : Event) → TellsItsOffer r → TellsItsOffer (after_submit event r)
+  submit_offer r event tells offered =
+      let is = (tells offered).1.1 in (
+        (tells offered).0,
+        (
+          (tells offered).1.0,
+          record {
+            front = front_stays r.queue.events (event ∷ []) (tells offered).0 is.front;
+            stored = is.stored;
+            number = is.number;
+            body = is.body;
+          },
+        ),
+      )
+
+  module _ (answer_of : H → Command → Answer) (after : H → Command → H) where
+    begun_offer : (read : Result Command MsgFault) (r : ReaderState H) (p : Packet)
+        → TellsItsOffer (begun answer_of after read r p).reader
+    begun_offer (Err fault) r p = none_offered _ refl
+    begun_offer (Ok c) r p = moved_none_offered (new_address c) _ refl
+
+    poll_offer : (front : Option Event) (queue : Queue) (r : ReaderState H) (p : Packet) → slice_get queue.events 0 ≡ front
+        → let told = event_or_answer answer_of after (option_map event_reply front) r.config r.handler command.Poll in
+        TellsItsOffer (record r {
+          last = Some p.sequence;
+          stored = Some (reply_packet p p.sequence told.reply);
+          queue = offering (option_map event_reply front) queue;
+          handler = told.handler;
+        })
+    poll_offer None queue r p is = none_offered _ refl
+    poll_offer (Some event) queue r p is = λ offered. (event, (_, record { front = is; stored = refl; number = refl; body = refl }))
+
+    taken_offer : (read : Result Command MsgFault) (r : ReaderState H) (p : Packet)
+        → TellsItsOffer (taken answer_of after read r p).reader
+    taken_offer (Err fault) r p = none_offered _ refl
+    taken_offer (Ok command.Poll) r p = poll_offer (slice_get (released r.queue).events 0) (released r.queue) r p refl
+    taken_offer (Ok (command.Id kept)) r p = none_offered _ refl
+    taken_offer (Ok (command.Cap kept)) r p = none_offered _ refl
+    taken_offer (Ok command.LocalStatus) r p = none_offered _ refl
+    taken_offer (Ok command.InputStatus) r p = none_offered _ refl
+    taken_offer (Ok command.OutputStatus) r p = none_offered _ refl
+    taken_offer (Ok command.ReaderStatus) r p = none_offered _ refl
+    taken_offer (Ok (command.Output records)) r p = none_offered _ refl
+    taken_offer (Ok (command.Led records)) r p = none_offered _ refl
+    taken_offer (Ok (command.Buzzer b)) r p = none_offered _ refl
+    taken_offer (Ok (command.Text t)) r p = none_offered _ refl
+    taken_offer (Ok (command.Comset c)) r p = moved_none_offered (new_address (command.Comset c)) _ refl
+    taken_offer (Ok (command.Maker m)) r p = none_offered _ refl
+
+    pub outcome_offer : (k : Kind) (r : ReaderState H) (p : Packet) → TellsItsOffer r
+        → TellsItsOffer (outcome answer_of after k r p).reader
+    outcome_offer Silent r p tells = tells
+    outcome_offer Secured r p tells = tells
+    outcome_offer Repeat r p tells = tells
+    outcome_offer Busy r p tells = tells
+    outcome_offer Wrong r p tells = tells
+    outcome_offer Zero r p tells = begun_offer (command_in p) r p
+    outcome_offer Taken r p tells = taken_offer (command_in p) r p

@@ -1,0 +1,205 @@
+-- The replies of commands that are acted on: never BUSY, NAK 1 or NAK 4.
+use Rattle.std.proofs.Common.{◌≡◌, ◌⊎◌, ℕ, Bool, true, false, cond, nat_le, List, Option, Some, None, Result, Ok, Err, refl, sym, subst, inl, inr, arith}
+use Rattle.std.specs.Prelude.{slice_get}
+use Rattle.std.specs.Option.{option_map}
+use Rattle.osdp_frame.specs.Packet.{Packet}
+use Rattle.osdp_msg.specs.declared.command.Command.{Command}
+use Rattle.osdp_msg.specs.declared.command.Command.TheVariants as command
+use Rattle.osdp_msg.specs.declared.event.Event.{Event}
+use Rattle.osdp_msg.specs.declared.event.Event.TheVariants as event
+use Rattle.osdp_msg.specs.declared.fault.MsgFault.{MsgFault}
+use Rattle.osdp_msg.specs.declared.fault.MsgFault.TheVariants.{UnknownCode, Length, Count}
+use Rattle.osdp_msg.specs.declared.nak.NakReason.{NakReason}
+use Rattle.osdp_msg.specs.declared.nak.NakReason.TheVariants.{CheckCharacters, CommandLength, UnknownCommand, UnexpectedSequence, SecurityBlock, SecurityConditions, BiometricType, BiometricFormat, RecordNotProcessed, Other}
+use Rattle.osdp_msg.specs.declared.reply.Reply.{Reply}
+use Rattle.osdp_msg.specs.declared.reply.Reply.TheVariants as reply
+use Rattle.osdp_msg.specs.Events.{event_reply}
+use Rattle.osdp_reader.specs.declared.config.ReaderConfig.{ReaderConfig}
+use Rattle.osdp_reader.specs.declared.handler.Answer.{Answer}
+use Rattle.osdp_reader.specs.declared.handler.Answer.TheVariants as answer
+use Rattle.osdp_reader.specs.declared.kind.Kind.TheVariants.{Zero, Taken}
+use Rattle.osdp_reader_laws.specs.Laws.{IsPlain}
+use Rattle.osdp_reader.specs.Queue.{event_for, released}
+use Rattle.osdp_reader.specs.Replies.{done_reply, list_reply, local_reply, maker_reply, not_processed, own_reply, refusal_reply, refused, reply_for, reply_packet, unread_reason}
+use Rattle.osdp_reader.specs.State.{ReaderState}
+use Rattle.osdp_reader.specs.Table.{answered, begun, command_in, kind_of, outcome, taken, event_or_answer}
+use Rattle.osdp_reader_laws.proofs.Meeting.{zero_number}
+
+nine : IsPlain not_processed
+nine = ((λ e. omega (arith, e)), (λ e. omega (arith, e)))
+
+two : IsPlain (refused CommandLength)
+two = ((λ e. omega (arith, e)), (λ e. omega (arith, e)))
+
+three : IsPlain (refused UnknownCommand)
+three = ((λ e. omega (arith, e)), (λ e. omega (arith, e)))
+
+unread_plain : (fault : MsgFault) → IsPlain (refused (unread_reason fault))
+unread_plain UnknownCode = three
+unread_plain Length = two
+unread_plain Count = two
+
+done_plain : (c : Command) → IsPlain (done_reply c)
+done_plain command.Poll = nine
+done_plain (command.Id kept) = nine
+done_plain (command.Cap kept) = nine
+done_plain command.LocalStatus = nine
+done_plain command.InputStatus = nine
+done_plain command.OutputStatus = nine
+done_plain command.ReaderStatus = nine
+done_plain (command.Output records) = tt
+done_plain (command.Led records) = tt
+done_plain (command.Buzzer b) = tt
+done_plain (command.Text t) = tt
+done_plain (command.Comset c) = nine
+done_plain (command.Maker m) = tt
+
+local_plain : (c : Command) (tamper power : ℕ) → IsPlain (local_reply c tamper power)
+local_plain command.Poll tamper power = nine
+local_plain (command.Id kept) tamper power = nine
+local_plain (command.Cap kept) tamper power = nine
+local_plain command.LocalStatus tamper power = tt
+local_plain command.InputStatus tamper power = nine
+local_plain command.OutputStatus tamper power = nine
+local_plain command.ReaderStatus tamper power = nine
+local_plain (command.Output records) tamper power = nine
+local_plain (command.Led records) tamper power = nine
+local_plain (command.Buzzer b) tamper power = nine
+local_plain (command.Text t) tamper power = nine
+local_plain (command.Comset c) tamper power = nine
+local_plain (command.Maker m) tamper power = nine
+
+list_plain : (c : Command) (states : List ℕ) → IsPlain (list_reply c states)
+list_plain command.Poll states = nine
+list_plain (command.Id kept) states = nine
+list_plain (command.Cap kept) states = nine
+list_plain command.LocalStatus states = nine
+list_plain command.InputStatus states = tt
+list_plain command.OutputStatus states = tt
+list_plain command.ReaderStatus states = tt
+list_plain (command.Output records) states = nine
+list_plain (command.Led records) states = nine
+list_plain (command.Buzzer b) states = nine
+list_plain (command.Text t) states = nine
+list_plain (command.Comset c) states = nine
+list_plain (command.Maker m) states = nine
+
+maker_plain : (c : Command) (vendor bytes : List ℕ) → IsPlain (maker_reply c vendor bytes)
+maker_plain command.Poll vendor bytes = nine
+maker_plain (command.Id kept) vendor bytes = nine
+maker_plain (command.Cap kept) vendor bytes = nine
+maker_plain command.LocalStatus vendor bytes = nine
+maker_plain command.InputStatus vendor bytes = nine
+maker_plain command.OutputStatus vendor bytes = nine
+maker_plain command.ReaderStatus vendor bytes = nine
+maker_plain (command.Output records) vendor bytes = nine
+maker_plain (command.Led records) vendor bytes = nine
+maker_plain (command.Buzzer b) vendor bytes = nine
+maker_plain (command.Text t) vendor bytes = nine
+maker_plain (command.Comset c) vendor bytes = nine
+maker_plain (command.Maker m) vendor bytes = tt
+
+refusal_plain : (reason : NakReason) → IsPlain (refusal_reply reason)
+refusal_plain CheckCharacters = nine
+refusal_plain CommandLength = two
+refusal_plain UnknownCommand = three
+refusal_plain UnexpectedSequence = nine
+refusal_plain SecurityBlock = nine
+refusal_plain SecurityConditions = nine
+refusal_plain BiometricType = nine
+refusal_plain BiometricFormat = nine
+refusal_plain RecordNotProcessed = nine
+refusal_plain (Other n) = nine
+
+for_plain : (a : Answer) (c : Command) → IsPlain (reply_for a c)
+for_plain answer.Done c = done_plain c
+for_plain (answer.Local tamper power) c = local_plain c tamper power
+for_plain (answer.List states) c = list_plain c states.items
+for_plain (answer.Refuse reason) c = refusal_plain reason
+for_plain (answer.Maker vendor bytes) c = maker_plain c vendor bytes.items
+
+-- plain, where there is one
+abbrev pub IsPlainIf : Option Reply → Type 0
+IsPlainIf None = Unit {0}
+IsPlainIf (Some r) = IsPlain r
+
+own_plain : (config : ReaderConfig) (c : Command) → IsPlainIf (own_reply config c)
+own_plain config command.Poll = tt
+own_plain config (command.Id kept) = tt
+own_plain config (command.Cap kept) = tt
+own_plain config command.LocalStatus = tt
+own_plain config command.InputStatus = tt
+own_plain config command.OutputStatus = tt
+own_plain config command.ReaderStatus = tt
+own_plain config (command.Output records) = tt
+own_plain config (command.Led records) = tt
+own_plain config (command.Buzzer b) = tt
+own_plain config (command.Text t) = tt
+own_plain config (command.Comset c) = by_range (nat_le c.address 126)
+  where
+    by_range : (within : Bool) → IsPlain (cond within (reply.Com c) not_processed)
+    by_range true = tt
+    by_range false = nine
+own_plain config (command.Maker m) = tt
+
+event_plain : (e : Event) → IsPlain (event_reply e)
+event_plain (event.LocalState s) = tt
+event_plain (event.Inputs states) = tt
+event_plain (event.Outputs states) = tt
+event_plain (event.Readers states) = tt
+event_plain (event.Raw r) = tt
+event_plain (event.Formatted f) = tt
+event_plain (event.Keypad k) = tt
+
+told_plain : (o : Option Event) → IsPlainIf (option_map event_reply o)
+told_plain None = tt
+told_plain (Some e) = event_plain e
+
+event_for_plain : (c : Command) (events : List Event) → IsPlainIf (event_for c events)
+event_for_plain command.Poll events = told_plain (slice_get events 0)
+event_for_plain (command.Id kept) events = tt
+event_for_plain (command.Cap kept) events = tt
+event_for_plain command.LocalStatus events = tt
+event_for_plain command.InputStatus events = tt
+event_for_plain command.OutputStatus events = tt
+event_for_plain command.ReaderStatus events = tt
+event_for_plain (command.Output records) events = tt
+event_for_plain (command.Led records) events = tt
+event_for_plain (command.Buzzer b) events = tt
+event_for_plain (command.Text t) events = tt
+event_for_plain (command.Comset c) events = tt
+event_for_plain (command.Maker m) events = tt
+
+module _ {H : Type 0} (answer_of : H → Command → Answer) (after : H → Command → H) where
+  answered_plain : (own : Option Reply) (handler : H) (c : Command) → IsPlainIf own
+      → IsPlain (answered answer_of after own handler c).reply
+  answered_plain (Some own) handler c plain = plain
+  answered_plain None handler c plain = for_plain (answer_of handler c) c
+
+  event_or_answer_plain : (told : Option Reply) (config : ReaderConfig) (handler : H) (c : Command) → IsPlainIf told
+      → IsPlain (event_or_answer answer_of after told config handler c).reply
+  event_or_answer_plain (Some told) config handler c plain = plain
+  event_or_answer_plain None config handler c plain =
+      answered_plain (own_reply config c) handler c (own_plain config c)
+
+  begun_plain : (read : Result Command MsgFault) (r : ReaderState H) (p : Packet)
+      → (x : Reply) × ((begun answer_of after read r p).reply ≡ Some (reply_packet p 0 x)) × IsPlain x
+  begun_plain (Err fault) r p = (refused (unread_reason fault), refl, unread_plain fault)
+  begun_plain (Ok c) r p =
+      (_, refl, answered_plain (own_reply r.config c) r.handler c (own_plain r.config c))
+
+  taken_plain : (read : Result Command MsgFault) (r : ReaderState H) (p : Packet)
+      → (x : Reply) × ((taken answer_of after read r p).reply ≡ Some (reply_packet p p.sequence x)) × IsPlain x
+  taken_plain (Err fault) r p = (refused (unread_reason fault), refl, unread_plain fault)
+  taken_plain (Ok c) r p =
+      (_, refl, event_or_answer_plain (event_for c (released r.queue).events) r.config r.handler c (event_for_plain c (released r.queue).events))
+
+  pub acted_plain : (r : ReaderState H) (p : Packet) → (kind_of r p ≡ Zero) ⊎ (kind_of r p ≡ Taken)
+      → (x : Reply) × ((outcome answer_of after (kind_of r p) r p).reply ≡ Some (reply_packet p p.sequence x)) × IsPlain x
+  acted_plain r p (inl zero) =
+      subst (λ k. (x : Reply) × ((outcome answer_of after k r p).reply ≡ Some (reply_packet p p.sequence x)) × IsPlain x) (sym zero)
+      (subst (λ (n : ℕ). (x : Reply) × ((begun answer_of after (command_in p) r p).reply ≡ Some (reply_packet p n x)) × IsPlain x)
+      (sym (zero_number r p zero)) (begun_plain (command_in p) r p))
+  acted_plain r p (inr next) =
+      subst (λ k. (x : Reply) × ((outcome answer_of after k r p).reply ≡ Some (reply_packet p p.sequence x)) × IsPlain x) (sym next)
+      (taken_plain (command_in p) r p)

@@ -1,0 +1,123 @@
+//! What the reader's table means, said apart from how it is computed. The functions do nothing: their contracts are laws,
+//! and hold whatever the handler does.
+#![tactic(auto)]
+
+ghost use Rattle.osdp_reader_laws.specs.Laws.{ActsAtZero, ActsOnce, AnswersByWhatCame, AnswersInOrder, AnswersPlainly, AnswersTaken, AnswersTheSameAgain, ForgetsWhereItMoves, HasOneSpelling, HasRoom, HearsItsAddress, IsKept, KeepsReply, KeepsWhatItTook, LosesNoEvent, RefusesBlocks, RefusesNumbers, RepeatsItsReply, RepliesToItsCommand, SaysBusy, StaysADevice, TakesNext, TellsItsOffer};
+ghost use Rattle.osdp_reader_laws.specs.Steps.{AnswersPolls, BeginsAnew, ChangesByActing, KeepsItsSettings, LetsItsOfferGo, MovesByComsetAlone, OffersToPollsAlone, RefusesUnread, TellsItsCommand};
+
+use osdp_reader::Handler;
+
+/// A packet with the last number, where that isn't 0, changes nothing and doesn't reach the handler. Its answer is the stored
+/// reply.
+pub fn acts_once<H: Handler>()
+    ensures nothing { ActsOnce H.answer_of H.after }
+    ensures reply { RepeatsItsReply H.answer_of H.after }
+{}
+
+/// A taken number is the last one then, and the reply to it is the stored one. So this number again has the same answer, and
+/// changes nothing.
+pub fn keeps_what_it_took<H: Handler>()
+    ensures kept { KeepsWhatItTook H.answer_of H.after }
+    ensures again { AnswersTheSameAgain H.answer_of H.after }
+{}
+
+/// Bytes that spell the same packet are the same, so a repeated reply is the stored one byte for byte.
+pub fn repeats_byte_for_byte()
+    ensures { HasOneSpelling }
+{}
+
+/// At number 0 each command is acted on, however often it comes.
+pub fn acts_at_zero<H: Handler>()
+    ensures { ActsAtZero H.answer_of H.after }
+{}
+
+/// Behind number 0 no event is offered, all of them wait, the last number is 0, and the stored reply is the one from before.
+pub fn begins_anew<H: Handler>()
+    ensures { BeginsAnew H.answer_of H.after }
+{}
+
+/// An event leaves only at a taken number, only if it was offered, and it alone; and then it does.
+pub fn loses_no_event<H: Handler>()
+    ensures stays { LosesNoEvent H.answer_of H.after }
+    ensures leaves { LetsItsOfferGo H.answer_of H.after }
+{}
+
+/// A taken POLL is answered by the front event, which is offered then, or else by ACK. Nothing else is offered an event.
+pub fn answers_polls<H: Handler>()
+    ensures event { AnswersPolls H.answer_of H.after }
+    ensures alone { OffersToPollsAlone H.answer_of H.after }
+{}
+
+/// Only number 0 and a taken number change anything, or reach the handler.
+pub fn changes_by_acting<H: Handler>()
+    ensures { ChangesByActing H.answer_of H.after }
+{}
+
+/// The command that was acted on is told; a packet that holds none is refused, and the handler stays.
+pub fn tells_its_command<H: Handler>()
+    ensures read { TellsItsCommand H.answer_of H.after }
+    ensures unread { RefusesUnread H.answer_of H.after }
+{}
+
+/// No packet changes whether the reader is busy, how many events there may be, or what it answers to ID and CAP.
+pub fn keeps_its_settings<H: Handler>()
+    ensures { KeepsItsSettings H.answer_of H.after }
+{}
+
+/// A packet for another address, or from a device, changes nothing, and is not answered.
+pub fn hears_its_address<H: Handler>()
+    ensures { HearsItsAddress H.answer_of H.after }
+{}
+
+/// No command that is acted on is answered BUSY, NAK 1 or NAK 4: these say that nothing was taken.
+pub fn answers_plainly<H: Handler>()
+    ensures { AnswersPlainly H.answer_of H.after }
+{}
+
+/// A taken command other than POLL has the answer that a list of commands has at its place.
+pub fn answers_taken<H: Handler>()
+    ensures { AnswersTaken H.answer_of H.after }
+{}
+
+/// Whatever is called: a reply is stored wherever the last number is 1 to 3, what counts as offered is the front, told by that
+/// reply, no more events wait than there is room for, and the address is that of a device.
+pub fn stays_well<H: Handler>()
+    ensures reply { IsKept H.answer_of H.after KeepsReply }
+    ensures offer { IsKept H.answer_of H.after TellsItsOffer }
+    ensures room { IsKept H.answer_of H.after HasRoom }
+    ensures address { StaysADevice H.answer_of H.after }
+{}
+
+/// Each command of a list is answered behind those before it, and whatever comes later changes no answer.
+pub fn answers_in_order<H: Handler>()
+    ensures order { AnswersInOrder H.answer_of H.after }
+    ensures before { AnswersByWhatCame H.answer_of H.after }
+{}
+
+/// Each reply goes to the address and with the kind of check that its command used, without reserved bits.
+pub fn replies_to_its_command()
+    ensures { RepliesToItsCommand }
+{}
+
+/// A reader that isn't busy takes the number behind the last one, and, but for 0, no other.
+pub fn takes_the_next_number<H: Handler>()
+    ensures { TakesNext H.answer_of H.after }
+{}
+
+/// What cannot be taken is answered and changes nothing: a security block by NAK 5, a number out of turn by NAK 4, and, while
+/// the reader is busy, number 0 and the number behind the last one by BUSY.
+pub fn refuses_and_keeps_all<H: Handler>()
+    ensures blocks { RefusesBlocks H.answer_of H.after }
+    ensures numbers { RefusesNumbers H.answer_of H.after }
+    ensures busy { SaysBusy H.answer_of H.after }
+{}
+
+/// The address changes by an accepted COMSET alone, and is the one that it sets.
+pub fn moves_by_comset_alone<H: Handler>()
+    ensures { MovesByComsetAlone H.answer_of H.after }
+{}
+
+/// A reader that a COMSET moves has no last number and no stored reply at its new address. Its handler stays.
+pub fn forgets_where_it_moves<H: Handler>()
+    ensures { ForgetsWhereItMoves H.answer_of H.after }
+{}

@@ -1,0 +1,17 @@
+//! Tests of the tool and of the crates below it through their public calls.
+//!
+//! They stand in a crate of their own since a crate with tests is proved twice. Frames and messages have crates for theirs.
+#![tactic(auto)]
+
+#[cfg(test)]
+mod check;
+#[cfg(test)]
+mod job;
+#[cfg(test)]
+mod make;
+#[cfg(test)]
+mod stream;
+#[cfg(test)]
+mod tool;
+#[cfg(test)]
+mod words;
