@@ -52,6 +52,23 @@ expect 'a packet made' 0 $'53050C000568000200005183\n' '' make 5 1 crc OUT 0:2:0
 expect 'no packet' 2 '' "$bad" make 5 4 sum POLL </dev/null
 expect 'a text that is no text' 2 '' "$bad" make 5 1 sum TEXT 0 1 0 1 1 $'\xff' </dev/null
 
+capture=$(dirname "$0")/../examples/door.hex
+expect 'a capture in a file' 1 '1:0 cmd 5 seq 0 sum ID 0
+2:0 reply 5 seq 0 sum PDID 53494D 1 1 1 1 0 0
+3:0 cmd 5 seq 1 sum POLL
+4:0 skip FF
+4:1 skip FF
+4:2 reply 5 seq 1 sum ACK
+5:0 cmd 5 seq 2 sum POLL
+6:0 refused F3
+6:1 skip 85
+6:2 skip 07
+6:3 skip 00
+6:4 skip 02
+6:5 skip 40
+6:6 skip E0
+' '' show <"$capture"
+
 expect 'a directory as input' 3 '' $'osdp: read failed\n' show </
 expect 'a closed input' 3 '' $'osdp: read failed\n' show <&-
 
@@ -79,7 +96,7 @@ expect_status 'a full device, counted' 3 "$write_failed" check </dev/null >/dev/
 expect_status 'a full device for a packet' 3 "$write_failed" make 5 0 sum BUSY </dev/null >/dev/full
 expect_status 'a full device for many lines' 3 "$write_failed" show < <(yes 53000700006046 | head -n 100000) >/dev/full
 expect_status 'a closed output' 3 "$write_failed" show <<<'53000700006046' >&-
-expect_status 'a closed output that is not written to' 0 '' show </dev/null >/dev/null
+expect_status 'a closed output that is not written to' 0 '' show </dev/null >&-
 
 # A reader that stops after the first line.
 yes 53000700006046 | head -n 100000 | "$program" show 2>"$work/err" | head -n 1 >"$work/out"

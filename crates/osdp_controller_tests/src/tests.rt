@@ -4,7 +4,7 @@ mod damage;
 
 use osdp_controller::*;
 use osdp_frame::{Address, CheckKind, Framer, Item};
-use osdp_msg::{Command, Reply};
+use osdp_msg::{Command, PdId, Reply};
 use std::alloc::Global;
 use std::process::Abort;
 
@@ -14,6 +14,17 @@ const PDID: [u8; 19] = [
     0x53, 0x85, 0x13, 0x00, 0x00, 0x45, 0x53, 0x49, 0x4d, 0x01, 0x01, 0x01, 0x00, 0x00, 0x00, 0x01,
     0x00, 0x00, 0xe3,
 ];
+
+/// What it tells of the reader.
+const OPENED: PdId = PdId {
+    vendor: [0x53, 0x49, 0x4d],
+    model: 1,
+    version: 1,
+    serial: 1,
+    firmware_major: 1,
+    firmware_minor: 0,
+    firmware_build: 0,
+};
 
 /// The same with sequence number 1, and from address 6.
 const PDID_1: [u8; 19] = [
@@ -113,7 +124,7 @@ fn opened(rt: &impl Abort, alloc: Global) -> Controller {
         assert!(rt; controller.outstanding());
     }
     match hear(rt, &mut controller, &PDID, 410) {
-        Some(Report::Opened(id)) => assert_eq!(rt; id.serial, 1),
+        Some(Report::Opened(id)) => assert!(rt; id == OPENED, "another device"),
         _ => assert!(rt; false, "opened"),
     }
     assert!(rt; !controller.outstanding());

@@ -205,20 +205,30 @@ fn faults_in_their_order(rt: HostRuntime) {
     }
 }
 
+/// What is shown is the POLL, and nothing beside it.
+fn is_poll(rt: &impl Abort, framer: &Framer) {
+    match framer.next() {
+        Some(Item::Packet(view)) => {
+            assert!(rt; !view.is_reply() && !view.has_block());
+            assert_eq!(rt; view.address().get(), 0);
+            assert_eq!(rt; view.seq().get(), 0);
+            assert_eq!(rt; view.check(), CheckKind::Sum);
+            assert_eq!(rt; view.reserved(), 0);
+            assert_eq!(rt; view.body(), [0x60].as_slice());
+            assert_eq!(rt; view.encode().as_slice(), POLL.as_slice());
+        }
+        _ => assert!(rt; false, "no packet"),
+    }
+}
+
 #[test]
 fn pieces_cut_anywhere(rt: HostRuntime) {
-    for cut in 1..POLL.len() {
+    for cut in 1..=POLL.len() {
         let mut framer = Framer::new();
         assert_eq!(rt; framer.push(&POLL[..cut]), cut);
-        assert!(rt; framer.next().is_none());
+        assert_eq!(rt; framer.next().is_none(), cut < POLL.len());
         assert_eq!(rt; framer.push(&POLL[cut..]), POLL.len() - cut);
-        match framer.next() {
-            Some(item) => {
-                assert!(rt; matches!(&item, Item::Packet(_)));
-                assert_eq!(rt; item.size(), 7);
-            }
-            None => assert!(rt; false, "no item"),
-        }
+        is_poll(&rt, &framer);
         framer.advance();
         assert!(rt; framer.next().is_none());
     }

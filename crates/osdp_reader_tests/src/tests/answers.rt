@@ -53,6 +53,7 @@ fn answer_at(place: usize) -> Answer {
         4 => Answer::Refuse(NakReason::CommandLength),
         5 => Answer::Refuse(NakReason::UnknownCommand),
         6 => Answer::Refuse(NakReason::UnexpectedSequence),
+        8 => Answer::Refuse(NakReason::RecordNotProcessed),
         _ => Answer::Refuse(NakReason::from(77)),
     }
 }
@@ -66,11 +67,14 @@ const MFG: &[u8] = &[
     0x53, 0x05, 0x0b, 0x00, 0x01, 0x80, 0x53, 0x49, 0x4d, 0x01, 0x32,
 ];
 
+/// MFG of vendor 000001 to address 5 with number 1, without bytes.
+const MFG_OF_1: &[u8] = &[0x53, 0x05, 0x0a, 0x00, 0x01, 0x80, 0x00, 0x00, 0x01, 0x1c];
+
 /// NAK 9 from address 5 with number 1.
 const NAK_9: &[u8] = &[0x53, 0x85, 0x08, 0x00, 0x01, 0x41, 0x09, 0xd5];
 
 /// A command, the place of the handler's answer, and what is sent.
-const ANSWERS: [(&[u8], usize, &[u8]); 19] = [
+const ANSWERS: [(&[u8], usize, &[u8]); 20] = [
     (
         &[0x53, 0x05, 0x07, 0x00, 0x01, 0x64, 0x3c],
         0,
@@ -131,6 +135,7 @@ const ANSWERS: [(&[u8], usize, &[u8]); 19] = [
     (&[0x53, 0x05, 0x07, 0x00, 0x01, 0x65, 0x3b], 0, NAK_9),
     (OUT, 3, NAK_9),
     (MFG, 1, NAK_9),
+    (MFG_OF_1, 8, NAK_9),
 ];
 
 #[test]

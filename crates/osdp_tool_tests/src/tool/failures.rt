@@ -100,9 +100,9 @@ fn parts_are_shown_up_to_a_failed_read(rt: HostRuntime) -> Result<(), Fail> {
     Ok(())
 }
 
-/// The output of a check whose write of this number fails, and what it answers.
-fn checked_to(alloc: Global, failing_call: u64, takes_none: bool) -> Shown {
-    let mut sink = make_sink(alloc, failing_call, takes_none, false);
+/// The output of a check whose write of this number fails, or each flush, and what it answers.
+fn checked_to(alloc: Global, failing_call: u64, takes_none: bool, flush_fails: bool) -> Shown {
+    let mut sink = make_sink(alloc, failing_call, takes_none, flush_fails);
     let mut input = REFUSED;
     let answer = check(
         alloc,
@@ -119,12 +119,14 @@ fn a_check_tells_each_failed_write(rt: HostRuntime) -> Result<(), Fail> {
     // The text has 52 bytes, for which 18 writes of at most three are needed.
     for call in 1..19u64 {
         for takes_none in [false, true] {
-            let (answer, taken) = checked_to(alloc, call, takes_none);
+            let (answer, taken) = checked_to(alloc, call, takes_none, false);
             assert_eq!(rt; answer, Err(ToolFault::WriteFailed));
             assert!(rt; COUNTED.as_bytes().starts_with(taken.as_slice()));
         }
     }
-    expect(&rt, &checked_to(alloc, 19, false), Ok(true), COUNTED);
+    expect(&rt, &checked_to(alloc, 19, false, false), Ok(true), COUNTED);
+    let unflushed = checked_to(alloc, 0, false, true);
+    expect(&rt, &unflushed, Err(ToolFault::WriteFailed), COUNTED);
     Ok(())
 }
 

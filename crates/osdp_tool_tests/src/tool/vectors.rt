@@ -1,6 +1,8 @@
 //! Packets with messages of both tables, each as one line.
 
 use super::*;
+use std::alloc::AllocError;
+use std::test::Fail;
 
 /// `show` prints this line, and meets no refusal.
 fn is_read(rt: &impl Abort, alloc: Global, digits: &[u8], line: &str) {
@@ -145,4 +147,189 @@ fn refused_messages_are_shown(rt: HostRuntime) {
         b"530509000380534980",
         "1:0 cmd 5 seq 3 sum refused M2 code 80 5349\n",
     );
+}
+
+/// Messages that the packets above leave out.
+const OTHERS: [(&[u8], &str); 12] = [
+    (b"530508000162003D", "1:0 cmd 5 seq 1 sum CAP 0\n"),
+    (b"5305070001643C", "1:0 cmd 5 seq 1 sum LSTAT\n"),
+    (b"5305070001653B", "1:0 cmd 5 seq 1 sum ISTAT\n"),
+    (b"5305070001663A", "1:0 cmd 5 seq 1 sum OSTAT\n"),
+    (b"53050700016739", "1:0 cmd 5 seq 1 sum RSTAT\n"),
+    (
+        b"53050C00016A000205050124",
+        "1:0 cmd 5 seq 1 sum BUZ 0 2 5 5 1\n",
+    ),
+    (b"5385090001490100D4", "1:0 reply 5 seq 1 sum ISTATR 0100\n"),
+    (b"53850700014AD6", "1:0 reply 5 seq 1 sum OSTATR none\n"),
+    (b"53850800014B00D4", "1:0 reply 5 seq 1 sum RSTATR 00\n"),
+    (
+        b"53850C000151010002313264",
+        "1:0 reply 5 seq 1 sum FMT 1 0 3132\n",
+    ),
+    (
+        b"53850C00015407802500001B",
+        "1:0 reply 5 seq 1 sum COM 7 9600\n",
+    ),
+    (
+        b"53850A000141090AB019",
+        "1:0 reply 5 seq 1 sum NAK 9 0AB0\n",
+    ),
+];
+
+#[test]
+fn other_messages_are_shown(rt: HostRuntime) {
+    for (digits, line) in OTHERS {
+        is_read(&rt, rt.alloc(), digits, line);
+    }
+}
+
+/// The digits before the bytes FF, how many these are, and the check; the text before what is repeated, this, and
+/// how often it stands.
+type Large = (
+    &'static str,
+    usize,
+    &'static str,
+    &'static str,
+    &'static str,
+    usize,
+);
+
+const RECORD: &str = " 255:255:255:255:255:255:255:65535:255:255:255:255:255";
+
+/// The largest message of each room, every number in it the largest but for the count of bits: 11424 is 2CA0.
+const LARGEST: [Large; 13] = [
+    (
+        "53059F050168",
+        1432,
+        "33",
+        "cmd 5 seq 1 sum OUT",
+        " 255:255:65535",
+        358,
+    ),
+    (
+        "53059B050169",
+        1428,
+        "32",
+        "cmd 5 seq 1 sum LED",
+        RECORD,
+        102,
+    ),
+    (
+        "53050C01016BFFFFFFFFFFFF",
+        255,
+        "34",
+        "cmd 5 seq 1 sum TEXT 255 255 255 255 255 ",
+        "FF",
+        255,
+    ),
+    (
+        "53059F050180FFFFFF",
+        1429,
+        "1B",
+        "cmd 5 seq 1 sum MFG FFFFFF ",
+        "FF",
+        1429,
+    ),
+    (
+        "53859F050141FF",
+        1431,
+        "DA",
+        "reply 5 seq 1 sum NAK 255 ",
+        "FF",
+        1431,
+    ),
+    (
+        "53859E050146",
+        1431,
+        "D5",
+        "reply 5 seq 1 sum PDCAP",
+        " 255:255:255",
+        477,
+    ),
+    (
+        "53859F050149",
+        1432,
+        "D2",
+        "reply 5 seq 1 sum ISTATR ",
+        "FF",
+        1432,
+    ),
+    (
+        "53859F05014A",
+        1432,
+        "D1",
+        "reply 5 seq 1 sum OSTATR ",
+        "FF",
+        1432,
+    ),
+    (
+        "53859F05014B",
+        1432,
+        "D0",
+        "reply 5 seq 1 sum RSTATR ",
+        "FF",
+        1432,
+    ),
+    (
+        "53859F050150FFFFA02C",
+        1428,
+        "FD",
+        "reply 5 seq 1 sum RAW 255 255 11424 ",
+        "FF",
+        1428,
+    ),
+    (
+        "538509010151FFFFFF",
+        255,
+        "CE",
+        "reply 5 seq 1 sum FMT 255 255 ",
+        "FF",
+        255,
+    ),
+    (
+        "538508010153FFFF",
+        255,
+        "CC",
+        "reply 5 seq 1 sum KEYPAD 255 ",
+        "FF",
+        255,
+    ),
+    (
+        "53859F050190FFFFFF",
+        1429,
+        "8B",
+        "reply 5 seq 1 sum MFGREP FFFFFF ",
+        "FF",
+        1429,
+    ),
+];
+
+/// A text, `count` times another behind it, and a last one.
+fn repeated(
+    alloc: Global,
+    front: &str,
+    item: &str,
+    count: usize,
+    back: &str,
+) -> Result<String, AllocError> {
+    let mut text = String::new(alloc);
+    text.push_str(front)?;
+    for _ in 0..count {
+        text.push_str(item)?;
+    }
+    text.push_str(back)?;
+    Ok(text)
+}
+
+#[test]
+fn largest_messages_are_shown(rt: HostRuntime) -> Result<(), Fail> {
+    let alloc = rt.alloc();
+    for (head, bytes, check, front, item, items) in LARGEST {
+        let digits = repeated(alloc, head, "FF", bytes, check)?;
+        let text = repeated(alloc, front, item, items, "\n")?;
+        let line = repeated(alloc, "1:0 ", text.as_str(), 1, "")?;
+        is_read(&rt, alloc, digits.as_bytes(), line.as_str());
+    }
+    Ok(())
 }
