@@ -99,7 +99,7 @@ power_moved m i h =
     ∙ remainder_above (16 - i) i (power m * 2 ^ i) (subst (λ k. power m * 2 ^ i < 2 ^ k) place (shl_below (power m) 16 i (power-lt m)))
     ∙ sym (power-add m i)
 
--- so does what one bit of a number adds to the product
+-- what one bit of a number adds to the product moves that bit
 bit_divided : (d m i : ℕ) → d < 2 → i < 16 → remainder 16 (d * (power m * 2 ^ i)) ≡ moved_by m (d * 2 ^ i)
 bit_divided zero m i b h =
     ap (remainder 16) (zero-mul (power m * 2 ^ i)) ∙ remainder_small 16 0 (pow_pos 16)

@@ -1,7 +1,7 @@
 //! Powers of x after division, by which a CRC is moved over many bytes at once.
 
-ghost use Rattle.std.specs.Prelude.{◌≡◌, ℕ, ◌+◌, ◌*◌, ◌/◌, ◌%◌, ◌^◌, ◌<◌, slice_index};
-ghost use Rattle.osdp_check.specs.Crc.{power, product, remainder};
+ghost use Rattle.std.specs.Prelude.{◌≡◌, ◌*◌, ◌^◌, ◌<◌, slice_index};
+ghost use Rattle.osdp_check.specs.Crc.{product, remainder};
 
 use crate::crc::entry;
 use crate::power_table::POWERS;
@@ -14,7 +14,7 @@ fn power_over(count: usize) -> u16
     POWERS[count]
 }
 
-/// The product of two polynomials, by a whole multiplication for each place: a factor of one bit makes no carries.
+/// The product of two polynomials, bit by bit of `number`: a multiplication by one bit makes no carries.
 fn multiplied(number: u16, factor: u16) -> u32
     ensures { result ≡ product 16 number factor }
 {
@@ -32,7 +32,7 @@ fn over_byte(state: u16) -> u16
     (state << 8) ^ entry((state >> 8) as u8)
 }
 
-/// What the division leaves of `dividend`, whose upper half goes on over two bytes.
+/// What the division leaves of `dividend`: its upper half goes on over two bytes.
 fn divided(dividend: u32) -> u16
     ensures { result ≡ remainder 16 dividend }
 {
