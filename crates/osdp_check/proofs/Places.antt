@@ -1,15 +1,17 @@
 -- Powers of x, and numbers that are moved by so many places.
-use Rattle.std.proofs.Common.{◌≡◌, ℕ, zero, suc, ◌+◌, ◌-◌, ◌*◌, ◌/◌, ◌%◌, ◌^◌, ◌<◌, ◌≤◌, List, [], ◌∷◌, map, refl, sym, ap, ◌∙◌, arith, zero-add, add-zero, get_or, slice_index, lit<}
-use Rattle.std.proofs.Math.Nat.{pow-le-pow_right, zero-mul, one-mul, mul_assoc, mod-eq_of_lt}
-use Rattle.std.proofs.lemmas.Nat.{pow-add, pow_pos, pow_below, xor_comm, mod_below}
-use Rattle.std.specs.List.{range_with_len}
-use Rattle.std.proofs.lemmas.List.FromFn.{get_or-map-range_with_len}
-use Rattle.std.specs.Int.Bits.{bit_xor, xor_zero_r}
+use Rattle.std.proofs.Common.{◌≡◌, ℕ, zero, suc, ◌+◌, ◌-◌, ◌*◌, ◌/◌, ◌%◌, ◌^◌, ◌<◌, ◌≤◌, List, [], ◌∷◌, refl, sym, ap, subst, ◌∙◌, arith, zero-add, add-zero, get_or, slice_index, lit<}
+use Rattle.std.proofs.Math.Nat.{pow-le-pow_right, zero-mul, one-mul, mul_assoc, mul_comm, mod-eq_of_lt}
+use Rattle.std.proofs.lemmas.Nat.{pow-add, pow_pos, pow_below, xor_comm, mod_below, shl_below}
+use Rattle.std.proofs.lemmas.Nat.Bits.{and_pow, bit_at-lt}
+use Rattle.std.specs.Int.{bit_at}
+use Rattle.std.specs.Int.Bits.{bit_and, bit_xor, xor_zero_l, xor_zero_r}
 use Rattle.std.proofs.lemmas.Nat.{mod-pow-add}
-use Rattle.osdp_check.specs.declared.powers.TheConstants.{LOW_POWERS, HIGH_POWERS}
-use Rattle.osdp_check.specs.Crc.{power, remainder}
+use Rattle.osdp_check.specs.declared.table.TheConstants.{CRC_TABLE}
+use Rattle.osdp_check.specs.declared.power_table.TheConstants.{POWERS}
+use Rattle.osdp_check.specs.Crc.{bits_of, crc_from, dividend_from, power, product, remainder}
 use Rattle.osdp_check.proofs.Xor.{xor-shl, xor_parts}
-use Rattle.osdp_check.proofs.Remainder.{remainder-xor, remainder-shl, remainder_top, remainder_small}
+use Rattle.osdp_check.proofs.Entries.{table_step}
+use Rattle.osdp_check.proofs.Remainder.{remainder-lt, remainder-xor, remainder-shl, remainder_top, remainder_small}
 
 -- ---- a number is moved by so many places in two goes
 
@@ -38,28 +40,25 @@ power-moved m = ap (remainder m) (sym (one-mul (2 ^ m)))
 pub power-add : (k m : ℕ) → power (k + m) ≡ moved_by m (power k)
 power-add k m = power-moved (k + m) ∙ moved_twice k m 1 ∙ ap (moved_by m) (sym (power-moved k))
 
--- ---- one place
+-- ---- one byte
 
-moved_low : (n : ℕ) → n < 2 ^ 15 → moved_by 1 n ≡ n * 2
-moved_low n h = remainder_small 1 (n * 2 ^ 1) (omega arith)
+-- the step of the table with a byte of zeros
+pub byte_moved : (state : ℕ) → state < 2 ^ 16 → bit_xor (state * 2 ^ 8 % 2 ^ 16) (slice_index CRC_TABLE (state / 2 ^ 8)) ≡ moved_by 8 state
+unfolding crc_from dividend_from bits_of
+byte_moved state h =
+    ap (λ i. bit_xor (state * 2 ^ 8 % 2 ^ 16) (slice_index CRC_TABLE i)) (sym (xor_zero_r (state / 2 ^ 8)))
+    ∙ table_step state 0 h (omega arith) ∙ ap (remainder 8) (xor_zero_l (state * 2 ^ 8))
 
-top_moved : remainder 1 (2 ^ 16) ≡ 0x1021
-unfolding remainder
-top_moved = refl
-
-moved_high : (n : ℕ) → 2 ^ 15 ≤ n → n < 2 ^ 16 → moved_by 1 n ≡ bit_xor ((n - 2 ^ 15) * 2) 0x1021
-moved_high n low high =
-    let r = (n - 2 ^ 15) * 2 in
-    let fits : r < 2 ^ 16 = omega arith in
-    let parts : n * 2 ^ 1 ≡ bit_xor (1 * 2 ^ 16) r = (let e : n * 2 ^ 1 ≡ 1 * 2 ^ 16 + r = omega arith in e) ∙ sym (xor_parts 16 1 r fits) in
-    ap (remainder 1) parts ∙ remainder-xor 1 (2 ^ 16) r
-    ∙ ap (λ t. bit_xor t (remainder 1 r)) top_moved ∙ ap (bit_xor 0x1021) (remainder_small 1 r fits) ∙ xor_comm 0x1021 r
-
-pub next_low : (state m : ℕ) → state < 2 ^ 15 → state ≡ power m → state * 2 ≡ power (m + 1)
-next_low state m h e = sym (power-add m 1 ∙ ap (moved_by 1) (sym e) ∙ moved_low state h)
-
-pub next_high : (state m : ℕ) → 2 ^ 15 ≤ state → state < 2 ^ 16 → state ≡ power m → bit_xor ((state - 2 ^ 15) * 2) 0x1021 ≡ power (m + 1)
-next_high state m low high e = sym (power-add m 1 ∙ ap (moved_by 1) (sym e) ∙ moved_high state low high)
+-- what stands above sixteen places goes on over two bytes
+pub halves_divided : (n : ℕ) → bit_xor (moved_by 8 (moved_by 8 (n / 2 ^ 16))) (n % 2 ^ 16) ≡ remainder 16 n
+halves_divided n =
+    let high = n / 2 ^ 16 in
+    let low = n % 2 ^ 16 in
+    let fits : low < 2 ^ 16 = omega arith in
+    let parts : n ≡ high * 2 ^ 16 + low = omega arith in
+    sym (ap (remainder 16) (parts ∙ sym (xor_parts 16 high low fits)) ∙ remainder-xor 16 (high * 2 ^ 16) low
+    ∙ ap (λ r. bit_xor r (remainder 16 low)) (moved_twice 8 8 high)
+    ∙ ap (bit_xor (moved_by 8 (moved_by 8 high))) (remainder_small 16 low fits))
 
 -- ---- a product, place by place
 
@@ -84,63 +83,80 @@ place_moved m i h =
     ap (remainder m) e ∙ sym (remainder_above i m (2 ^ (m + i)) fits)
 
 -- the low places of a number, with one more
-low_more : (n i : ℕ) → n % 2 ^ (i + 1) ≡ n / 2 ^ i % 2 * 2 ^ i + n % 2 ^ i
-low_more n i = ap (λ k. n % 2 ^ k) (let e : i + 1 ≡ 1 + i = omega arith in e) ∙ mod-pow-add n 1 i
+low_more : (n i : ℕ) → n % 2 ^ suc i ≡ n / 2 ^ i % 2 * 2 ^ i + n % 2 ^ i
+low_more n i = ap (λ k. n % 2 ^ k) (let e : suc i ≡ 1 + i = omega arith in e) ∙ mod-pow-add n 1 i
 
-pub product_more : (m n i product factor : ℕ) → i < 16 → n / 2 ^ i % 2 ≡ 1 → product ≡ moved_by m (n % 2 ^ i) → factor ≡ power (m + i) → bit_xor product factor ≡ moved_by m (n % 2 ^ (i + 1))
-product_more m n i product factor h one is at =
-    let low : n % 2 ^ i < 2 ^ i = mod_below n (2 ^ i) (pow_pos i) in
-    let parts : n % 2 ^ (i + 1) ≡ bit_xor (2 ^ i) (n % 2 ^ i) =
-    low_more n i ∙ ap (λ b. b * 2 ^ i + n % 2 ^ i) one ∙ sym (xor_parts i 1 (n % 2 ^ i) low) ∙ ap (λ b. bit_xor b (n % 2 ^ i)) (one-mul (2 ^ i)) in
-    sym (ap (moved_by m) parts ∙ moved_by-xor m (2 ^ i) (n % 2 ^ i) ∙ ap (λ b. bit_xor b (moved_by m (n % 2 ^ i))) (place_moved m i h ∙ sym at)
-    ∙ ap (bit_xor factor) (sym is) ∙ xor_comm factor product)
+power-lt : (m : ℕ) → power m < 2 ^ 16
+unfolding power
+power-lt m = remainder-lt m (2 ^ m) (pow_below m (m + 16) (omega arith))
 
-pub product_same : (m n i product : ℕ) → n / 2 ^ i % 2 ≡ 0 → product ≡ moved_by m (n % 2 ^ i) → product ≡ moved_by m (n % 2 ^ (i + 1))
-product_same m n i product none is =
-    is ∙ ap (moved_by m) (sym (low_more n i ∙ ap (λ b. b * 2 ^ i + n % 2 ^ i) none ∙ ap (λ b. b + n % 2 ^ i) (zero-mul (2 ^ i)) ∙ zero-add (n % 2 ^ i)))
+-- a power at a place is a higher power
+power_moved : (m i : ℕ) → i < 16 → remainder 16 (power m * 2 ^ i) ≡ power (m + i)
+power_moved m i h =
+    let whole : 16 ≡ i + (16 - i) = omega arith in
+    let place : 16 + i ≡ i + 16 = omega arith in
+    ap (λ k. remainder k (power m * 2 ^ i)) whole
+    ∙ remainder_above (16 - i) i (power m * 2 ^ i) (subst (λ k. power m * 2 ^ i < 2 ^ k) place (shl_below (power m) 16 i (power-lt m)))
+    ∙ sym (power-add m i)
 
-pub product_whole : (m n product : ℕ) → n < 2 ^ 16 → product ≡ moved_by m (n % 2 ^ 16) → product ≡ moved_by m n
-product_whole m n product h is = is ∙ ap (moved_by m) (mod-eq_of_lt h)
+-- what one bit of a number adds to the product moves that bit
+bit_divided : (d m i : ℕ) → d < 2 → i < 16 → remainder 16 (d * (power m * 2 ^ i)) ≡ moved_by m (d * 2 ^ i)
+bit_divided zero m i b h =
+    ap (remainder 16) (zero-mul (power m * 2 ^ i)) ∙ remainder_small 16 0 (pow_pos 16)
+    ∙ sym (ap (moved_by m) (zero-mul (2 ^ i)) ∙ moved_by-zero m)
+bit_divided (suc zero) m i b h =
+    ap (remainder 16) (one-mul (power m * 2 ^ i)) ∙ power_moved m i h ∙ sym (ap (moved_by m) (one-mul (2 ^ i)) ∙ place_moved m i h)
+bit_divided (suc (suc d)) m i b h = absurd (omega arith)
 
--- ---- the tables
+-- a product with a power moves the low places of the number
+product_divided : (i m n : ℕ) → i ≤ 16 → remainder 16 (product i n (power m)) ≡ moved_by m (n % 2 ^ i)
+unfolding product
+product_divided zero m n h =
+    let none : n % 1 ≡ 0 = omega arith in
+    remainder_small 16 0 (pow_pos 16) ∙ sym (ap (moved_by m) none ∙ moved_by-zero m)
+product_divided (suc i) m n h =
+    let bit = bit_at n i in
+    let low = n % 2 ^ i in
+    remainder-xor 16 (product i n (power m)) (bit * (power m * 2 ^ i))
+    ∙ ap (λ r. bit_xor r (remainder 16 (bit * (power m * 2 ^ i)))) (product_divided i m n (omega arith))
+    ∙ ap (bit_xor (moved_by m low)) (bit_divided bit m i (bit_at-lt n i) (omega arith))
+    ∙ sym (moved_by-xor m low (bit * 2 ^ i))
+    ∙ ap (moved_by m) (xor_comm low (bit * 2 ^ i) ∙ xor_parts i bit low (mod_below n (2 ^ i) (pow_pos i)) ∙ sym (low_more n i))
 
-all_low : LOW_POWERS ≡ map (λ i. power (8 * i)) (range_with_len 0 32)
-unfolding power remainder
-all_low = refl
+pub product_moved : (m n : ℕ) → n < 2 ^ 16 → remainder 16 (product 16 n (power m)) ≡ moved_by m n
+product_moved m n h = product_divided 16 m n (omega arith) ∙ ap (moved_by m) (mod-eq_of_lt h)
 
--- powers, each a step of 256 places from the one before
+-- one place more, by a multiplication with the bit there
+pub product_more : (n f i sum : ℕ) → sum ≡ product i n f → bit_xor sum (bit_and n (2 ^ i) * f) ≡ product (i + 1) n f
+unfolding product
+product_more n f i sum e =
+    let more : i + 1 ≡ suc i = omega arith in
+    ap (λ s. bit_xor s (bit_and n (2 ^ i) * f)) e
+    ∙ ap (λ b. bit_xor (product i n f) (b * f)) (and_pow n i)
+    ∙ ap (bit_xor (product i n f)) (mul_assoc (bit_at n i) (2 ^ i) f ∙ ap (λ p. bit_at n i * p) (mul_comm (2 ^ i) f))
+    ∙ sym (ap (λ k. product k n f) more)
+
+-- ---- the table
+
+-- powers, each a byte further on than the one before
 abbrev powers_from : ℕ → ℕ → List ℕ
 powers_from zero state = []
-powers_from (suc n) state = state ∷ powers_from n (moved_by 256 state)
+powers_from (suc n) state = state ∷ powers_from n (moved_by 8 state)
 
-all_high : HIGH_POWERS ≡ powers_from 64 1
+all_powers : POWERS ≡ powers_from 2048 1
 unfolding remainder
-all_high = refl
+all_powers = refl
 
-high_from : (n i m state : ℕ) → i < n → state ≡ power m → get_or (powers_from n state) i 0 ≡ power (m + 256 * i)
-high_from zero i m state h e = absurd (omega arith)
-high_from (suc n) zero m state h e = e ∙ ap power (let z : m ≡ m + 256 * 0 = omega arith in z)
-high_from (suc n) (suc i) m state h e =
-    high_from n i (m + 256) (moved_by 256 state) (omega arith) (ap (moved_by 256) e ∙ sym (power-add m 256))
-    ∙ ap power (let z : m + 256 + 256 * i ≡ m + 256 * suc i = omega arith in z)
+power_from : (n i m state : ℕ) → i < n → state ≡ power m → get_or (powers_from n state) i 0 ≡ power (m + 8 * i)
+power_from zero i m state h e = absurd (omega arith)
+power_from (suc n) zero m state h e = e ∙ ap power (let z : m ≡ m + 8 * 0 = omega arith in z)
+power_from (suc n) (suc i) m state h e =
+    power_from n i (m + 8) (moved_by 8 state) (omega arith) (ap (moved_by 8) e ∙ sym (power-add m 8))
+    ∙ ap power (let z : m + 8 + 8 * i ≡ m + 8 * suc i = omega arith in z)
 
 power-zero : 1 ≡ power 0
 unfolding power remainder
 power-zero = refl
 
-pub low_power : (i : ℕ) → i < 32 → slice_index LOW_POWERS i ≡ power (8 * i)
-low_power i h =
-    ap (λ table. slice_index table i) all_low
-    ∙ get_or-map-range_with_len (λ n. power (8 * n)) 0 32 i i 0 h (zero-add i)
-
-pub high_power : (i : ℕ) → i < 64 → slice_index HIGH_POWERS i ≡ power (256 * i)
-high_power i h =
-    ap (λ table. slice_index table i) all_high ∙ high_from 64 i 0 1 h power-zero ∙ ap power (zero-add (256 * i))
-
--- over whole bytes, the last 32 times so many by the second table
-pub moved_over : (change count : ℕ) → moved_by (256 * (count / 32)) (moved_by (8 * (count % 32)) change) ≡ moved_by (8 * count) change
-moved_over change count =
-    let low = 8 * (count % 32) in
-    let high = 256 * (count / 32) in
-    let all : low + high ≡ 8 * count = omega arith in
-    sym (moved_twice low high change) ∙ ap (λ k. moved_by k change) all
+pub power_entry : (i : ℕ) → i < 2048 → slice_index POWERS i ≡ power (8 * i)
+power_entry i h = ap (λ table. slice_index table i) all_powers ∙ power_from 2048 i 0 1 h power-zero ∙ ap power (zero-add (8 * i))

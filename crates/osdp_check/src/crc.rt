@@ -56,7 +56,7 @@ impl Check for Crc16 {
 }
 
 /// The state that `byte` leaves when the start is 0.
-fn entry(byte: u8) -> u16
+pub(crate) fn entry(byte: u8) -> u16
     ensures { result ≡ slice_index CRC_TABLE byte }
 {
     CRC_TABLE[usize::from(byte)]

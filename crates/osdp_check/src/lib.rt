@@ -6,6 +6,7 @@
 mod checksum;
 mod crc;
 pub mod laws;
+mod power_table;
 mod powers;
 mod table;
 

@@ -1,10 +1,10 @@
-use Rattle.std.proofs.Common.{ap, ◌∙◌, arith, ◌*◌, ◌/◌, ◌%◌}
-use Rattle.osdp_check.proofs.Places.{moved_by, moved_over, low_power, high_power}
+use Rattle.std.proofs.Common.{ap, ◌∙◌, ◌*◌}
+use Rattle.osdp_check.specs.Crc.{product, remainder}
+use Rattle.osdp_check.proofs.Places.{power_entry, product_moved}
 use Rattle.osdp_check.proofs.powers.moved.Goals as goal
 
 pub returns : goal.returns
 returns c =
-    let count = c.args.count in
-    c.times-2.ensures (256 * (count / 32)) (c.high_power.ensures ∙ high_power (count / 32) (omega arith))
-    ∙ ap (moved_by (256 * (count / 32))) (c.times.ensures (8 * (count % 32)) (c.low_power.ensures ∙ low_power (count % 32) (omega arith)))
-    ∙ moved_over c.args.change count
+    c.divided.ensures
+    ∙ ap (remainder 16) (c.multiplied.ensures ∙ ap (product 16 c.args.change) (c.power_over.ensures ∙ power_entry c.args.count c.requires))
+    ∙ product_moved (8 * c.args.count) c.args.change c.ranges.change.fits

@@ -1,0 +1,6 @@
+use Rattle.std.proofs.Common.{◌≡◌}
+use Rattle.osdp_check.specs.Crc.{product}
+use Rattle.osdp_check.proofs.powers.multiplied.Given as goal
+
+abbrev pub invariant-loop-place : goal.invariant-loop-place
+invariant-loop-place l = l.sum ≡ product l.place l.number l.factor
