@@ -3,149 +3,143 @@
 use super::*;
 use std::test::Fail;
 
-#[test]
-fn packet_is_shown(rt: HostRuntime) -> Result<(), Fail> {
-    let alloc = rt.alloc();
-    expect_shown(
-        &rt,
-        alloc,
-        LINES,
-        POLL_LINE.as_bytes(),
-        Ok(false),
-        POLL_TEXT,
-    );
-    expect_shown(
-        &rt,
-        alloc,
-        LINES,
-        b"53 00 07 00 00 60 46",
-        Ok(false),
-        POLL_TEXT,
-    );
-    expect_shown(&rt, alloc, LINES, b"", Ok(false), "");
-    Ok(())
-}
+const BOTH: Mode = Mode {
+    raw: true,
+    join: true,
+};
 
-#[test]
-fn each_line_is_a_run(rt: HostRuntime) -> Result<(), Fail> {
-    let alloc = rt.alloc();
-    expect_shown(
-        &rt,
-        alloc,
+/// How the input is read, the input, the answer and what is printed.
+type Row = (Mode, &'static [u8], Result<bool, ToolFault>, &'static str);
+
+/// What `show` does: a packet, runs, noise, lines that are joined, lengths that are refused, a packet within a refused one, security
+/// blocks and reserved bits, bad lines.
+const SHOWN: [Row; 19] = [
+    (LINES, b"53 00 07 00 00 60 46\n", Ok(false), POLL_TEXT),
+    (LINES, b"53 00 07 00 00 60 46", Ok(false), POLL_TEXT),
+    (LINES, b"", Ok(false), ""),
+    (
         LINES,
         b"530008000460EBAA\n538008000540689F\n",
         Ok(false),
         "1:0 cmd 0 seq 0 crc POLL\n2:0 reply 0 seq 1 crc ACK\n",
-    );
-    expect_shown(
-        &rt,
-        alloc,
+    ),
+    (
         LINES,
         b"# a capture\n\n \t\r\n53ff0700004067\r\n  # the end\n",
         Ok(false),
         "1:0 reply 127 seq 0 sum ACK\n",
-    );
-    Ok(())
-}
-
-#[test]
-fn noise_is_skipped(rt: HostRuntime) -> Result<(), Fail> {
-    expect_shown(
-        &rt,
-        rt.alloc(),
+    ),
+    (
         LINES,
         b"FFFF53000700006046\n",
         Ok(false),
         "1:0 skip FF\n1:1 skip FF\n1:2 cmd 0 seq 0 sum POLL\n",
-    );
-    Ok(())
-}
-
-#[test]
-fn lines_are_joined(rt: HostRuntime) -> Result<(), Fail> {
-    let alloc = rt.alloc();
-    expect_shown(
-        &rt,
-        alloc,
-        JOINED,
-        b"530007\n00006046\n",
-        Ok(false),
-        POLL_TEXT,
-    );
-    expect_shown(
-        &rt,
-        alloc,
+    ),
+    (JOINED, b"530007\n00006046\n", Ok(false), POLL_TEXT),
+    (
         LINES,
         b"530007\n00006046\n",
         Ok(true),
         "1:0 refused F4\n1:1 skip 00\n1:2 skip 07\n2:0 skip 00\n2:1 skip 00\n2:2 skip 60\n2:3 skip 46\n",
-    );
-    let both = Mode {
-        raw: true,
-        join: true,
-    };
-    expect_shown(&rt, alloc, both, &[0xFF], Ok(false), "1:0 skip FF\n");
-    Ok(())
-}
-
-#[test]
-fn refusals_are_counted(rt: HostRuntime) -> Result<(), Fail> {
-    let alloc = rt.alloc();
-    expect_checked(
-        &rt,
-        alloc,
-        LINES,
-        b"53000700006047\n",
-        Ok(true),
-        "1:0 refused F3\nruns 1 packets 0 skipped 6 refused 1\n",
-    );
-    expect_checked(
-        &rt,
-        alloc,
-        LINES,
-        b"",
-        Ok(false),
-        "runs 0 packets 0 skipped 0 refused 0\n",
-    );
-    expect_checked(
-        &rt,
-        alloc,
-        LINES,
-        b"\n53000700006046\n#\n5300080000600144\n",
-        Ok(true),
-        "2:0 cmd 0 seq 0 sum refused M2 code 60 01\nruns 2 packets 2 skipped 0 refused 1\n",
-    );
-    Ok(())
-}
-
-#[test]
-fn short_lengths_are_refused(rt: HostRuntime) -> Result<(), Fail> {
-    let alloc = rt.alloc();
-    expect_shown(
-        &rt,
-        alloc,
+    ),
+    (BOTH, b"\xFF", Ok(false), "1:0 skip FF\n"),
+    (
         LINES,
         b"53000600006047\n",
         Ok(true),
         "1:0 refused F1\n1:1 skip 00\n1:2 skip 06\n1:3 skip 00\n1:4 skip 00\n1:5 skip 60\n1:6 skip 47\n",
-    );
-    expect_shown(
-        &rt,
-        alloc,
+    ),
+    (
         LINES,
         b"53000700046042\n",
         Ok(true),
         "1:0 refused F1\n1:1 skip 00\n1:2 skip 07\n1:3 skip 00\n1:4 skip 04\n1:5 skip 60\n1:6 skip 42\n",
-    );
-    expect_shown(
-        &rt,
-        alloc,
+    ),
+    (
         LINES,
         b"530007000060\n",
         Ok(true),
         "1:0 refused F4\n1:1 skip 00\n1:2 skip 07\n1:3 skip 00\n1:4 skip 00\n1:5 skip 60\n",
-    );
-    Ok(())
+    ),
+    (
+        LINES,
+        b"530014 00016B 000100010107 53000700006046 24\n",
+        Ok(true),
+        "1:0 refused F3\n1:1 skip 00\n1:2 skip 14\n1:3 skip 00\n1:4 skip 01\n1:5 skip 6B\n1:6 skip 00\n1:7 skip 01\n1:8 skip 00\n1:9 skip 01\n1:10 skip 01\n1:11 skip 07\n1:12 cmd 0 seq 0 sum POLL\n1:19 skip 24\n",
+    ),
+    (
+        LINES,
+        b"530009000802156025\n",
+        Ok(false),
+        "1:0 cmd 0 seq 0 sum block 021560\n",
+    ),
+    (
+        LINES,
+        b"53000700106036\n",
+        Ok(false),
+        "1:0 cmd 0 seq 0 sum bits 1 POLL\n",
+    ),
+    (
+        LINES,
+        b"5300080000600144\n",
+        Ok(true),
+        "1:0 cmd 0 seq 0 sum refused M2 code 60 01\n",
+    ),
+    (LINES, b"5", Err(ToolFault::NotHex(1)), ""),
+    (
+        LINES,
+        b"\nFF\n5G\nFE\n",
+        Err(ToolFault::NotHex(3)),
+        "1:0 skip FF\n",
+    ),
+    (
+        JOINED,
+        b"53\nx\n00\n",
+        Err(ToolFault::NotHex(2)),
+        "1:0 refused F4\n",
+    ),
+];
+
+/// What `check` does: refusals and counts, an empty input, a bad line.
+const CHECKED: [Row; 4] = [
+    (
+        LINES,
+        b"53000700006047\n",
+        Ok(true),
+        "1:0 refused F3\nruns 1 packets 0 skipped 6 refused 1\n",
+    ),
+    (
+        LINES,
+        b"",
+        Ok(false),
+        "runs 0 packets 0 skipped 0 refused 0\n",
+    ),
+    (
+        LINES,
+        b"\n53000700006046\n#\n5300080000600144\n",
+        Ok(true),
+        "2:0 cmd 0 seq 0 sum refused M2 code 60 01\nruns 2 packets 2 skipped 0 refused 1\n",
+    ),
+    (
+        LINES,
+        b"FF\nFF FF F\n",
+        Err(ToolFault::NotHex(2)),
+        "runs 1 packets 0 skipped 1 refused 0\n",
+    ),
+];
+
+#[test]
+fn inputs_are_shown(rt: HostRuntime) {
+    for (mode, input, answer, text) in SHOWN {
+        expect_shown(&rt, rt.alloc(), mode, input, answer, text);
+    }
+}
+
+#[test]
+fn inputs_are_checked(rt: HostRuntime) {
+    for (mode, input, answer, text) in CHECKED {
+        expect_checked(&rt, rt.alloc(), mode, input, answer, text);
+    }
 }
 
 /// The largest packet, of 1440 bytes, with this byte as the low one of its length.
@@ -179,80 +173,6 @@ fn largest_packet_is_shown(rt: HostRuntime) -> Result<(), Fail> {
         line.as_bytes(),
         Ok(true),
         "1:0 refused F2\nruns 1 packets 0 skipped 1439 refused 1\n",
-    );
-    Ok(())
-}
-
-#[test]
-fn packet_inside_a_refused_one_is_found(rt: HostRuntime) -> Result<(), Fail> {
-    expect_shown(
-        &rt,
-        rt.alloc(),
-        LINES,
-        b"530014 00016B 000100010107 53000700006046 24\n",
-        Ok(true),
-        "1:0 refused F3\n1:1 skip 00\n1:2 skip 14\n1:3 skip 00\n1:4 skip 01\n1:5 skip 6B\n1:6 skip 00\n1:7 skip 01\n1:8 skip 00\n1:9 skip 01\n1:10 skip 01\n1:11 skip 07\n1:12 cmd 0 seq 0 sum POLL\n1:19 skip 24\n",
-    );
-    Ok(())
-}
-
-#[test]
-fn blocks_and_reserved_bits_are_shown(rt: HostRuntime) -> Result<(), Fail> {
-    let alloc = rt.alloc();
-    expect_shown(
-        &rt,
-        alloc,
-        LINES,
-        b"530009000802156025\n",
-        Ok(false),
-        "1:0 cmd 0 seq 0 sum block 021560\n",
-    );
-    expect_shown(
-        &rt,
-        alloc,
-        LINES,
-        b"53000700106036\n",
-        Ok(false),
-        "1:0 cmd 0 seq 0 sum bits 1 POLL\n",
-    );
-    expect_shown(
-        &rt,
-        alloc,
-        LINES,
-        b"5300080000600144\n",
-        Ok(true),
-        "1:0 cmd 0 seq 0 sum refused M2 code 60 01\n",
-    );
-    Ok(())
-}
-
-#[test]
-fn bad_line_ends_the_input(rt: HostRuntime) -> Result<(), Fail> {
-    let alloc = rt.alloc();
-    expect_shown(&rt, alloc, LINES, b"5", Err(ToolFault::NotHex(1)), "");
-    expect_shown(
-        &rt,
-        alloc,
-        LINES,
-        b"\nFF\n5G\nFE\n",
-        Err(ToolFault::NotHex(3)),
-        "1:0 skip FF\n",
-    );
-    expect_checked(
-        &rt,
-        alloc,
-        LINES,
-        b"FF\nFF FF F\n",
-        Err(ToolFault::NotHex(2)),
-        "runs 1 packets 0 skipped 1 refused 0\n",
-    );
-    expect_shown(
-        &rt,
-        alloc,
-        JOINED,
-        b"53\nx\n00\n",
-        Err(ToolFault::NotHex(2)),
-        "1:0 refused F4\n",
     );
     Ok(())
 }
