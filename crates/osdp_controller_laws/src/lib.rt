@@ -1,4 +1,4 @@
-//! What the tables come to, said apart from their rows. The functions do nothing: their contracts are laws.
+//! What the controller's tables come to, said apart from their rows. The functions do nothing: their contracts are laws.
 #![tactic(auto)]
 
 ghost use Rattle.std.specs.Prelude.{◌≡◌, ℕ, true, List};

@@ -51,7 +51,10 @@ fn work<R: Read, W: Write>(
     answer
 }
 
-/// The command over streams of which none may have failed.
+/// Either command over an input of this form, with a limit of the caller's own.
+///
+/// With `full` it prints as `show` does, else as `check`. At most `limit` bytes are read, below 2^40; more than these are
+/// `TooLong`. A stream that has failed before is told, the input first, and nothing is read or printed.
 pub fn command<R: Read, W: Write>(
     alloc: Global,
     full: bool,
