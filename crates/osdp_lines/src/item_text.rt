@@ -16,15 +16,14 @@ use osdp_msg::{Command, Reply};
 use std::alloc::AllocError;
 
 /// Writes the number of the run, from 1, and the place in it.
-fn push_front(text: &mut String, tally: &Tally) -> Result<(), AllocError>
+fn push_place(text: &mut String, tally: &Tally) -> Result<(), AllocError>
     requires { tally.now.runs + 1 < 2 ^ 64 }
     ensures { OnOk result (string_bytes text.new ≡ string_bytes text.old
-        ++ (decimal (tally.now.runs + 1) ++ (codes ":" ++ (decimal tally.now.place ++ codes " ")))) }
+        ++ (decimal (tally.now.runs + 1) ++ (codes ":" ++ decimal tally.now.place))) }
 {
     push_number(text, tally.runs + 1)?;
     text.push_str(":")?;
-    push_number(text, tally.place)?;
-    text.push_str(" ")
+    push_number(text, tally.place)
 }
 
 /// Writes the line of a packet whose body is left unread.
@@ -43,7 +42,7 @@ fn push_unread_packet(
     if !full {
         return Ok(false);
     }
-    push_front(text, tally)?;
+    push_place(text, tally)?;
     push_head(text, view)?;
     text.push_str(" block ")?;
     push_bytes(text, view.body())?;
@@ -69,7 +68,7 @@ fn push_named_packet(
     if !full {
         return Ok(());
     }
-    push_front(text, tally)?;
+    push_place(text, tally)?;
     push_head(text, view)?;
     text.push_str(" ")?;
     text.push_str(name)?;
@@ -97,7 +96,7 @@ fn push_read_command(
     if !full && !refused {
         return Ok(false);
     }
-    push_front(text, tally)?;
+    push_place(text, tally)?;
     push_head(text, view)?;
     text.push_str(" ")?;
     push_command(text, &read, code, bytes)?;
@@ -147,7 +146,7 @@ fn push_read_reply(
     if !full && !refused {
         return Ok(false);
     }
-    push_front(text, tally)?;
+    push_place(text, tally)?;
     push_head(text, view)?;
     text.push_str(" ")?;
     push_reply(text, &read, code, bytes)?;
@@ -210,20 +209,23 @@ pub(crate) fn push_skipped(
     if !full {
         return Ok(());
     }
-    push_front(text, tally)?;
-    text.push_str("skip ")?;
+    push_place(text, tally)?;
+    text.push_str(" skip ")?;
     push_bytes(text, &[byte])?;
     text.push_str("\n")
 }
 
-fn fault_name(fault: FrameFault) -> &'static str
-    ensures { result.now ≡ fault_name fault }
+/// Writes what is told of a refused byte, and the line's end. Each text is pushed where it stands, since a push
+/// of one that is known takes no call.
+fn push_refused(text: &mut String, fault: FrameFault) -> Result<(), AllocError>
+    ensures { OnOk result (string_bytes text.new ≡ string_bytes text.old
+        ++ (codes " refused " ++ (fault_name fault ++ codes "\n"))) }
 {
     match fault {
-        FrameFault::TooShort => "F1",
-        FrameFault::TooLong => "F2",
-        FrameFault::BadCheck => "F3",
-        FrameFault::Ended => "F4",
+        FrameFault::TooShort => text.push_str(" refused F1\n"),
+        FrameFault::TooLong => text.push_str(" refused F2\n"),
+        FrameFault::BadCheck => text.push_str(" refused F3\n"),
+        FrameFault::Ended => text.push_str(" refused F4\n"),
     }
 }
 
@@ -238,10 +240,8 @@ pub(crate) fn push_fault(
     requires { tally.now.runs + 1 < 2 ^ 64 }
     ensures { OnOk result (string_bytes text.new ≡ string_bytes text.old ++ part_line full tally.now (Bad fault)) }
 {
-    push_front(text, tally)?;
-    text.push_str("refused ")?;
-    text.push_str(fault_name(fault))?;
-    text.push_str("\n")
+    push_place(text, tally)?;
+    push_refused(text, fault)
 }
 
 /// Writes the line of counts, where not all items have one.

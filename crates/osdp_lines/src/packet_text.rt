@@ -10,18 +10,26 @@ use crate::number::push_number;
 use osdp_frame::{CheckKind, FrameView};
 use std::alloc::AllocError;
 
-fn direction_name(reply: bool) -> &'static str
-    ensures { result.now ≡ direction_name reply }
+/// Writes where the packet comes from, between spaces. Each text is pushed where it stands, since a push of one
+/// that is known takes no call.
+fn push_direction(text: &mut String, reply: bool) -> Result<(), AllocError>
+    ensures { OnOk result (string_bytes text.new ≡ string_bytes text.old
+        ++ (codes " " ++ (direction_name reply ++ codes " "))) }
 {
-    if reply { "reply" } else { "cmd" }
+    if reply {
+        text.push_str(" reply ")
+    } else {
+        text.push_str(" cmd ")
+    }
 }
 
-fn check_name(check: CheckKind) -> &'static str
-    ensures { result.now ≡ check_name check }
+/// Writes the kind of the check, behind a space.
+fn push_check(text: &mut String, check: CheckKind) -> Result<(), AllocError>
+    ensures { OnOk result (string_bytes text.new ≡ string_bytes text.old ++ (codes " " ++ check_name check)) }
 {
     match check {
-        CheckKind::Sum => "sum",
-        CheckKind::Crc => "crc",
+        CheckKind::Sum => text.push_str(" sum"),
+        CheckKind::Crc => text.push_str(" crc"),
     }
 }
 
@@ -35,24 +43,23 @@ fn push_bits(text: &mut String, reserved: u8) -> Result<(), AllocError>
     write!(text, " bits {reserved}")
 }
 
-/// Writes where the packet comes from or goes to, and its number.
-fn push_direction(text: &mut String, view: &FrameView<'_>) -> Result<(), AllocError>
+/// Writes where the packet comes from or goes to, and its number, behind a space.
+fn push_peer(text: &mut String, view: &FrameView<'_>) -> Result<(), AllocError>
     ensures { OnOk result (string_bytes text.new ≡ string_bytes text.old
-        ++ (direction_name view.now.reply ++ (codes " " ++ (decimal view.now.address ++ (codes " seq " ++ decimal view.now.sequence))))) }
+        ++ (codes " " ++ (direction_name view.now.reply
+        ++ (codes " " ++ (decimal view.now.address ++ (codes " seq " ++ decimal view.now.sequence)))))) }
 {
-    text.push_str(direction_name(view.is_reply()))?;
-    text.push_str(" ")?;
+    push_direction(text, view.is_reply())?;
     push_number(text, u64::from(view.address().get()))?;
     text.push_str(" seq ")?;
     push_number(text, u64::from(view.seq().get()))
 }
 
-/// Writes the fields in front of the body.
+/// Writes the fields in front of the body, behind a space.
 pub(crate) fn push_head(text: &mut String, view: &FrameView<'_>) -> Result<(), AllocError>
-    ensures { OnOk result (string_bytes text.new ≡ string_bytes text.old ++ head_text view.now) }
+    ensures { OnOk result (string_bytes text.new ≡ string_bytes text.old ++ (codes " " ++ head_text view.now)) }
 {
-    push_direction(text, view)?;
-    text.push_str(" ")?;
-    text.push_str(check_name(view.check()))?;
+    push_peer(text, view)?;
+    push_check(text, view.check())?;
     push_bits(text, view.reserved())
 }
