@@ -16,6 +16,11 @@ fn words_of(alloc: Global, text: &str) -> Result<Vec<&str>, AllocError> {
     text.split(' ').collect(alloc)
 }
 
+/// The number that a word says.
+fn number(word: &str) -> Result<usize, Fail> {
+    Ok(word.parse::<usize>().ok().ok_or("a number")?)
+}
+
 /// Whether a message's bytes are this code and data.
 fn is_spelled(message: &[u8], code: u8, data: &[u8]) -> bool {
     match message {
@@ -47,6 +52,14 @@ fn is_command(
     Ok(())
 }
 
+/// So are the digits of a row, which are a code and data, and its text behind them.
+fn is_command_row(rt: &impl Abort, alloc: Global, row: &str) -> Result<(), Fail> {
+    let (digits, text) = row.split_once(' ').ok_or("digits and a text")?;
+    let message = hex::decode(alloc, digits)?;
+    let (code, data) = message.as_slice().split_first().ok_or("a code")?;
+    is_command(rt, alloc, *code, data, text)
+}
+
 /// A code and data are read as the reply of this text, and the words of the text as the reply of this code
 /// and data.
 fn is_reply(rt: &impl Abort, alloc: Global, code: u8, data: &[u8], text: &str) -> Result<(), Fail> {
@@ -62,4 +75,12 @@ fn is_reply(rt: &impl Abort, alloc: Global, code: u8, data: &[u8], text: &str) -
     assert!(rt; parsed == read, "{text}");
     assert!(rt; parsed.copy() == read, "{text}");
     Ok(())
+}
+
+/// So are the digits of a row, which are a code and data, and its text behind them.
+fn is_reply_row(rt: &impl Abort, alloc: Global, row: &str) -> Result<(), Fail> {
+    let (digits, text) = row.split_once(' ').ok_or("digits and a text")?;
+    let message = hex::decode(alloc, digits)?;
+    let (code, data) = message.as_slice().split_first().ok_or("a code")?;
+    is_reply(rt, alloc, *code, data, text)
 }

@@ -22,27 +22,22 @@ const OTHERS: [&str; 7] = [
     "MFGREP 53494D 01",
 ];
 
-/// A command, and the names of the replies that fit it.
-const FITTING: [(&str, &[&str]); 13] = [
-    (
-        "POLL",
-        &[
-            "ACK", "NAK", "RAW", "FMT", "KEYPAD", "LSTATR", "ISTATR", "OSTATR", "RSTATR",
-        ],
-    ),
-    ("ID 0", &["NAK", "PDID"]),
-    ("CAP 0", &["NAK", "PDCAP"]),
-    ("LSTAT", &["NAK", "LSTATR"]),
-    ("ISTAT", &["NAK", "ISTATR"]),
-    ("OSTAT", &["NAK", "OSTATR"]),
-    ("RSTAT", &["NAK", "RSTATR"]),
-    ("OUT 0:2:0", &["NAK", "ACK", "OSTATR"]),
-    ("LED 0:0:2:5:5:1:0:30:1:1:0:2:0", &["NAK", "ACK"]),
-    ("BUZ 0 2 5 5 1", &["NAK", "ACK"]),
-    ("TEXT 0 1 0 1 1 none", &["NAK", "ACK"]),
-    ("COMSET 7 9600", &["NAK", "COM"]),
-    ("MFG 53494D 01", &["NAK", "ACK", "MFGREP"]),
-];
+/// A command, and behind a bar the names of the replies that fit it.
+const FITTING: &str = "\
+POLL|ACK NAK RAW FMT KEYPAD LSTATR ISTATR OSTATR RSTATR
+ID 0|NAK PDID
+CAP 0|NAK PDCAP
+LSTAT|NAK LSTATR
+ISTAT|NAK ISTATR
+OSTAT|NAK OSTATR
+RSTAT|NAK RSTATR
+OUT 0:2:0|NAK ACK OSTATR
+LED 0:0:2:5:5:1:0:30:1:1:0:2:0|NAK ACK
+BUZ 0 2 5 5 1|NAK ACK
+TEXT 0 1 0 1 1 none|NAK ACK
+COMSET 7 9600|NAK COM
+MFG 53494D 01|NAK ACK MFGREP
+";
 
 /// The words are an event's text, and the reply of this text tells that event.
 fn is_event(rt: &impl Abort, alloc: Global, words: &[&str], text: &str) -> Result<(), Fail> {
@@ -98,11 +93,13 @@ fn fit_as_listed(
 
 #[test]
 fn fitting(rt: HostRuntime) -> Result<(), Fail> {
-    for (text, names) in FITTING {
+    for row in FITTING.lines() {
+        let (text, names) = row.split_once('|').ok_or("a command and names")?;
         let words = words_of(rt.alloc(), text)?;
+        let names = words_of(rt.alloc(), names)?;
         let command = Command::parse(words.as_slice()).ok().ok_or("a command")?;
-        fit_as_listed(&rt, rt.alloc(), &command, &EVENTS, names)?;
-        fit_as_listed(&rt, rt.alloc(), &command, &OTHERS, names)?;
+        fit_as_listed(&rt, rt.alloc(), &command, &EVENTS, names.as_slice())?;
+        fit_as_listed(&rt, rt.alloc(), &command, &OTHERS, names.as_slice())?;
     }
     Ok(())
 }

@@ -1,63 +1,49 @@
 use super::*;
 
-/// Code, data and text.
-const ROWS: [(u8, &[u8], &str); 35] = [
-    (0x40, &[], "ACK"),
-    (0x41, &[0], "NAK 0"),
-    (0x41, &[4], "NAK 4"),
-    (0x41, &[9, 0x0A, 0xB0], "NAK 9 0AB0"),
-    (0x41, &[200, 0], "NAK 200 00"),
-    (
-        0x45,
-        &[0x53, 0x49, 0x4D, 1, 2, 4, 3, 2, 1, 5, 6, 7],
-        "PDID 53494D 1 2 16909060 5 6 7",
-    ),
-    (0x46, &[], "PDCAP"),
-    (0x46, &[1, 2, 3], "PDCAP 1:2:3"),
-    (0x46, &[2, 1, 8, 8, 1, 0], "PDCAP 2:1:8 8:1:0"),
-    (0x48, &[1, 2], "LSTATR 1 2"),
-    (0x49, &[], "ISTATR none"),
-    (0x49, &[1, 0, 255], "ISTATR 0100FF"),
-    (0x4A, &[], "OSTATR none"),
-    (0x4A, &[0], "OSTATR 00"),
-    (0x4B, &[], "RSTATR none"),
-    (0x4B, &[2, 10], "RSTATR 020A"),
-    (0x50, &[0, 0, 0, 0], "RAW 0 0 0 none"),
-    (0x50, &[0, 0, 1, 0, 0x80], "RAW 0 0 1 80"),
-    (0x50, &[0, 0, 1, 0, 0xFF], "RAW 0 0 1 FF"),
-    (0x50, &[1, 2, 8, 0, 0xA5], "RAW 1 2 8 A5"),
-    (0x50, &[1, 0, 9, 0, 0xA5, 0x80], "RAW 1 0 9 A580"),
-    (
-        0x50,
-        &[0, 0, 0x1A, 0, 0x0A, 0x0B, 0x0C, 0x40],
-        "RAW 0 0 26 0A0B0C40",
-    ),
-    (
-        0x50,
-        &[
-            0, 0, 1, 1, 0, 0, 0, 0, 0, 0, 0, 0, 0, 0, 0, 0, 0, 0, 0, 0, 0, 0, 0, 0, 0, 0, 0, 0, 0,
-            0, 0, 0, 0, 0, 0, 0, 0x80,
-        ],
-        "RAW 0 0 257 000000000000000000000000000000000000000000000000000000000000000080",
-    ),
-    (0x51, &[1, 2, 0], "FMT 1 2 none"),
-    (0x51, &[1, 0, 3, 0x31, 0x32, 0x33], "FMT 1 0 313233"),
-    (0x53, &[1, 0], "KEYPAD 1 none"),
-    (0x53, &[0, 2, 0x31, 0x32], "KEYPAD 0 3132"),
-    (0x53, &[2, 1, 0x0D], "KEYPAD 2 0D"),
-    (0x54, &[7, 0x80, 0x25, 0, 0], "COM 7 9600"),
-    (0x54, &[126, 4, 3, 2, 1], "COM 126 16909060"),
-    (0x79, &[], "BUSY"),
-    (0x90, &[0x53, 0x49, 0x4D], "MFGREP 53494D none"),
-    (0x90, &[0x53, 0x49, 0x4D, 1], "MFGREP 53494D 01"),
-    (0x90, &[0, 0, 1, 0xAB, 0xC], "MFGREP 000001 AB0C"),
-    (0x41, &[255], "NAK 255"),
-];
+/// The digits of a code and data, and the text.
+const ROWS: &str = "\
+40 ACK
+4100 NAK 0
+4104 NAK 4
+41090AB0 NAK 9 0AB0
+41C800 NAK 200 00
+4553494D010204030201050607 PDID 53494D 1 2 16909060 5 6 7
+46 PDCAP
+46010203 PDCAP 1:2:3
+46020108080100 PDCAP 2:1:8 8:1:0
+480102 LSTATR 1 2
+49 ISTATR none
+490100FF ISTATR 0100FF
+4A OSTATR none
+4A00 OSTATR 00
+4B RSTATR none
+4B020A RSTATR 020A
+5000000000 RAW 0 0 0 none
+500000010080 RAW 0 0 1 80
+5000000100FF RAW 0 0 1 FF
+5001020800A5 RAW 1 2 8 A5
+5001000900A580 RAW 1 0 9 A580
+5000001A000A0B0C40 RAW 0 0 26 0A0B0C40
+5000000101000000000000000000000000000000000000000000000000000000000000000080 \
+    RAW 0 0 257 000000000000000000000000000000000000000000000000000000000000000080
+51010200 FMT 1 2 none
+51010003313233 FMT 1 0 313233
+530100 KEYPAD 1 none
+5300023132 KEYPAD 0 3132
+5302010D KEYPAD 2 0D
+540780250000 COM 7 9600
+547E04030201 COM 126 16909060
+79 BUSY
+9053494D MFGREP 53494D none
+9053494D01 MFGREP 53494D 01
+90000001AB0C MFGREP 000001 AB0C
+41FF NAK 255
+";
 
 #[test]
 fn rows(rt: HostRuntime) -> Result<(), Fail> {
-    for (code, data, text) in ROWS {
-        is_reply(&rt, rt.alloc(), code, data, text)?;
+    for row in ROWS.lines() {
+        is_reply_row(&rt, rt.alloc(), row)?;
     }
     Ok(())
 }
@@ -72,64 +58,21 @@ fn either_case(rt: HostRuntime) {
     assert!(rt; Reply::parse(&words) == refusal.map_err(|_| BadWords));
 }
 
-/// Texts of no reply.
-const NO_REPLIES: [&str; 50] = [
-    "",
-    "busy",
-    "POLL",
-    "MFG",
-    "ACK 0",
-    "ACK none",
-    "NAK",
-    "NAK 4 none",
-    "NAK 04",
-    "NAK 4 ",
-    "NAK 4 AB CD",
-    "NAK 256",
-    "PDID 53494D 1 1 1 1 0",
-    "PDID 53494D 1 1 1 1 0 0 0",
-    "PDID 5349 1 1 1 1 0 0",
-    "PDID 53494D 1 1 4294967296 1 0 0",
-    "PDID 53494D 1 256 1 1 0 0",
-    "PDCAP none",
-    "PDCAP 1:2",
-    "PDCAP 1:2:256",
-    "PDCAP 1:2:3:4",
-    "PDCAP 1:2:3 ",
-    "LSTATR 0",
-    "LSTATR 0 0 0",
-    "ISTATR",
-    "ISTATR nonE",
-    "ISTATR None",
-    "ISTATR 0",
-    "ISTATR 00 00",
-    "OSTATR",
-    "RSTATR",
-    "RAW 0 0 0",
-    "RAW 0 0 26 0A0B0C",
-    "RAW 0 0 26 0A0B0C4000",
-    "RAW 0 0 26 none",
-    "RAW 0 0 0 00",
-    "RAW 0 0 1 none",
-    "RAW 0 0 65536 none",
-    "RAW 0 0 026 0A0B0C40",
-    "FMT 0 0",
-    "FMT 0 0 1 31",
-    "FMT 0 256 none",
-    "KEYPAD 0",
-    "KEYPAD 0 1 31",
-    "KEYPAD 0 3",
-    "COM 7",
-    "COM 7 09600",
-    "BUSY 0",
-    "MFGREP 53494D",
-    "MFGREP 53494 none",
-];
+/// Texts of no reply, between bars.
+const NO_REPLIES: &str = "\
+    |busy|POLL|MFG|ACK 0|ACK none|NAK|NAK 4 none|NAK 04|NAK 4 |NAK 4 AB CD|NAK 256|\
+    PDID 53494D 1 1 1 1 0|PDID 53494D 1 1 1 1 0 0 0|PDID 5349 1 1 1 1 0 0|\
+    PDID 53494D 1 1 4294967296 1 0 0|PDID 53494D 1 256 1 1 0 0|PDCAP none|PDCAP 1:2|\
+    PDCAP 1:2:256|PDCAP 1:2:3:4|PDCAP 1:2:3 |LSTATR 0|LSTATR 0 0 0|ISTATR|ISTATR nonE|\
+    ISTATR None|ISTATR 0|ISTATR 00 00|OSTATR|RSTATR|RAW 0 0 0|RAW 0 0 26 0A0B0C|\
+    RAW 0 0 26 0A0B0C4000|RAW 0 0 26 none|RAW 0 0 0 00|RAW 0 0 1 none|RAW 0 0 65536 none|\
+    RAW 0 0 026 0A0B0C40|FMT 0 0|FMT 0 0 1 31|FMT 0 256 none|KEYPAD 0|KEYPAD 0 1 31|\
+    KEYPAD 0 3|COM 7|COM 7 09600|BUSY 0|MFGREP 53494D|MFGREP 53494 none";
 
 #[test]
 fn bad_words(rt: HostRuntime) -> Result<(), Fail> {
     assert!(rt; Reply::parse(&[]) == Err(BadWords));
-    for text in NO_REPLIES {
+    for text in NO_REPLIES.split('|') {
         let words = words_of(rt.alloc(), text)?;
         assert!(rt; Reply::parse(words.as_slice()) == Err(BadWords), "{text}");
     }

@@ -2,39 +2,39 @@
 use super::*;
 
 /// A packet's digits, and the text of its message.
-const COMMANDS: [(&str, &str); 9] = [
-    ("53000700006046", "POLL"),
-    ("530008000460EBAA", "POLL"),
-    ("530508000061003F", "ID 0"),
-    ("53050B0001680002000032", "OUT 0:2:0"),
-    ("53050C000568000200005183", "OUT 0:2:0"),
-    (
-        "530515000269000002050501001E000101000200F9",
-        "LED 0:0:2:5:5:1:0:30:1:1:0:2:0",
-    ),
-    ("53050C00016E078025000081", "COMSET 7 9600"),
-    ("53050B00038053494D0130", "MFG 53494D 01"),
-    (
-        "53001400016B0001000101075300070000604623",
-        "TEXT 0 1 0 1 1 53000700006046",
-    ),
-];
+const COMMANDS: &str = "\
+53000700006046 POLL
+530008000460EBAA POLL
+530508000061003F ID 0
+53050B0001680002000032 OUT 0:2:0
+53050C000568000200005183 OUT 0:2:0
+530515000269000002050501001E000101000200F9 LED 0:0:2:5:5:1:0:30:1:1:0:2:0
+53050C00016E078025000081 COMSET 7 9600
+53050B00038053494D0130 MFG 53494D 01
+53001400016B0001000101075300070000604623 TEXT 0 1 0 1 1 53000700006046
+";
 
-const REPLIES: [(&str, &str); 11] = [
-    ("538008000540689F", "ACK"),
-    (
-        "53851300004553494D010101000000010000E3",
-        "PDID 53494D 1 1 1 1 0 0",
-    ),
-    ("53850D000146020108080100C0", "PDCAP 2:1:8 8:1:0"),
-    ("5385090002480001D4", "LSTATR 0 1"),
-    ("53850F00015000001A000A0B0C404D", "RAW 0 0 26 0A0B0C40"),
-    ("53850B00015000000000CC", "RAW 0 0 0 none"),
-    ("53850B0002530002313263", "KEYPAD 0 3132"),
-    ("53850800034104D8", "NAK 4"),
-    ("538507000079A8", "BUSY"),
-    ("53FF0700004067", "ACK"),
-    ("53850A00039053494DA2", "MFGREP 53494D none"),
+const REPLIES: &str = "\
+538008000540689F ACK
+53851300004553494D010101000000010000E3 PDID 53494D 1 1 1 1 0 0
+53850D000146020108080100C0 PDCAP 2:1:8 8:1:0
+5385090002480001D4 LSTATR 0 1
+53850F00015000001A000A0B0C404D RAW 0 0 26 0A0B0C40
+53850B00015000000000CC RAW 0 0 0 none
+53850B0002530002313263 KEYPAD 0 3132
+53850800034104D8 NAK 4
+538507000079A8 BUSY
+53FF0700004067 ACK
+53850A00039053494DA2 MFGREP 53494D none
+";
+
+/// Packets whose data have a length that their code doesn't allow.
+const COMMANDS_OF_OTHER_LENGTHS: [&str; 2] = ["53000A00006800020039", "530509000380534980"];
+
+/// Packets with a count that disagrees.
+const REPLIES_OF_OTHER_COUNTS: [&str; 2] = [
+    "53850B0002530003313262",
+    "53850E00015000001A000A0B0C8E",
 ];
 
 /// A packet's code and data: what stands between its five bytes in front and its check of one or two.
@@ -48,7 +48,8 @@ fn message_of(packet: &[u8]) -> Option<(u8, &[u8])> {
 
 #[test]
 fn commands(rt: HostRuntime) -> Result<(), Fail> {
-    for (digits, text) in COMMANDS {
+    for row in COMMANDS.lines() {
+        let (digits, text) = row.split_once(' ').ok_or("digits and a text")?;
         let packet = hex::decode(rt.alloc(), digits)?;
         let (code, data) = message_of(packet.as_slice()).ok_or("a packet")?;
         is_command(&rt, rt.alloc(), code, data, text)?;
@@ -58,7 +59,8 @@ fn commands(rt: HostRuntime) -> Result<(), Fail> {
 
 #[test]
 fn replies(rt: HostRuntime) -> Result<(), Fail> {
-    for (digits, text) in REPLIES {
+    for row in REPLIES.lines() {
+        let (digits, text) = row.split_once(' ').ok_or("digits and a text")?;
         let packet = hex::decode(rt.alloc(), digits)?;
         let (code, data) = message_of(packet.as_slice()).ok_or("a packet")?;
         is_reply(&rt, rt.alloc(), code, data, text)?;
@@ -67,22 +69,25 @@ fn replies(rt: HostRuntime) -> Result<(), Fail> {
 }
 
 #[test]
-fn refusals(rt: HostRuntime) -> Result<(), Fail> {
-    for (digits, fault) in [
-        ("53000A00006800020039", MsgFault::Length),
-        ("530509000380534980", MsgFault::Length),
-    ] {
+fn refused_commands(rt: HostRuntime) -> Result<(), Fail> {
+    for digits in COMMANDS_OF_OTHER_LENGTHS {
         let packet = hex::decode(rt.alloc(), digits)?;
         let (code, data) = message_of(packet.as_slice()).ok_or("a packet")?;
-        assert_eq!(rt; Command::read(code, data), Err(fault), "{digits}");
+        assert_eq!(rt;
+            Command::read(code, data),
+            Err(MsgFault::Length),
+            "{digits}"
+        );
     }
-    for (digits, fault) in [
-        ("53850B0002530003313262", MsgFault::Count),
-        ("53850E00015000001A000A0B0C8E", MsgFault::Count),
-    ] {
+    Ok(())
+}
+
+#[test]
+fn refused_replies(rt: HostRuntime) -> Result<(), Fail> {
+    for digits in REPLIES_OF_OTHER_COUNTS {
         let packet = hex::decode(rt.alloc(), digits)?;
         let (code, data) = message_of(packet.as_slice()).ok_or("a packet")?;
-        assert_eq!(rt; Reply::read(code, data), Err(fault), "{digits}");
+        assert_eq!(rt; Reply::read(code, data), Err(MsgFault::Count), "{digits}");
     }
     Ok(())
 }
