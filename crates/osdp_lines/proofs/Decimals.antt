@@ -57,3 +57,7 @@ four_digits n large small =
     ∙ ap (λ l. l ++ ((48 + n % 100 % 10) ∷ [])) (
     step (n / 10) (n / 100) (n % 100 / 10) (omega arith) (omega arith) (omega arith) (omega arith)
     ∙ ap (λ l. l ++ ((48 + n % 100 / 10) ∷ [])) (two_digits (n / 100) (omega arith) (omega arith)))
+
+-- the number of the first run
+pub first_run : (runs : ℕ) → runs ≡ 0 → decimal (runs + 1) ≡ 49 ∷ []
+first_run runs none = ap (λ n. decimal (n + 1)) none ∙ decimal_digit 1 (omega arith)

@@ -15,14 +15,28 @@ use osdp_frame::{FrameFault, FrameView};
 use osdp_msg::{Command, Reply};
 use std::alloc::AllocError;
 
+/// Writes the number of the run, from 1, and a colon. Raw bytes are one run.
+#[inline(always)]
+#[tactic(auto, using(crate::proofs::Decimals::first_run))]
+fn push_run(text: &mut String, runs: u64) -> Result<(), AllocError>
+    requires { runs + 1 < 2 ^ 64 }
+    ensures { OnOk result (string_bytes text.new ≡ string_bytes text.old ++ (decimal (runs + 1) ++ codes ":")) }
+{
+    if runs == 0 {
+        return text.push_str("1:");
+    }
+    push_number(text, runs + 1)?;
+    text.push_str(":")
+}
+
 /// Writes the number of the run, from 1, and the place in it.
+#[inline(always)]
 fn push_place(text: &mut String, tally: &Tally) -> Result<(), AllocError>
     requires { tally.now.runs + 1 < 2 ^ 64 }
     ensures { OnOk result (string_bytes text.new ≡ string_bytes text.old
         ++ (decimal (tally.now.runs + 1) ++ (codes ":" ++ decimal tally.now.place))) }
 {
-    push_number(text, tally.runs + 1)?;
-    text.push_str(":")?;
+    push_run(text, tally.runs)?;
     push_number(text, tally.place)
 }
 

@@ -14,7 +14,7 @@ use osdp_stream::{ToolFault, Watched, write_out};
 use std::io::Write;
 
 /// So much text is written out at once.
-const GATHERED: usize = 32768;
+const GATHERED: usize = 65536;
 
 /// The text of the items told so far that is not written yet, and what they count for.
 #[derive(Debug, Drop)]
