@@ -6,4 +6,6 @@
 #[cfg(test)]
 mod door;
 #[cfg(test)]
+mod packets;
+#[cfg(test)]
 mod tests;

@@ -1,65 +1,22 @@
 //! The reader's rows, each with bytes from outside.
+//!
+//! A row has a packet to the reader, the line of the reader's table that it meets, and what is sent. Where the row goes on, the number
+//! of events that wait then follows, and what is stored.
 
 mod answers;
 mod damage;
 
+use crate::packets::{bytes_of, is_spelled, response_to, response_to_digits};
 use arrayvec::ArrayVec;
-use osdp_frame::{Address, Framer, Item, ReadItem, read_at};
+use osdp_frame::{Address, Framer, Item};
 use osdp_msg::{Capability, Event, Keypad, NakReason, PdCap, PdId};
 use osdp_reader::*;
 use std::alloc::Global;
 use std::mem;
 use std::process::Abort;
 
-/// An ID to address 5 with number 0.
-const ID: &[u8] = &[0x53, 0x05, 0x08, 0x00, 0x00, 0x61, 0x00, 0x3f];
-
-/// What it is answered.
-const PD_ID: &[u8] = &[
-    0x53, 0x85, 0x13, 0x00, 0x00, 0x45, 0x53, 0x49, 0x4d, 0x01, 0x01, 0x01, 0x00, 0x00, 0x00, 0x01,
-    0x00, 0x00, 0xe3,
-];
-
-/// POLLs to address 5 with numbers 0 to 3.
-const POLL_0: &[u8] = &[0x53, 0x05, 0x07, 0x00, 0x00, 0x60, 0x41];
-
-const POLL_1: &[u8] = &[0x53, 0x05, 0x07, 0x00, 0x01, 0x60, 0x40];
-
-const POLL_2: &[u8] = &[0x53, 0x05, 0x07, 0x00, 0x02, 0x60, 0x3f];
-
-const POLL_3: &[u8] = &[0x53, 0x05, 0x07, 0x00, 0x03, 0x60, 0x3e];
-
-/// ACKs from address 5 with numbers 0 to 3.
-const ACK_0: &[u8] = &[0x53, 0x85, 0x07, 0x00, 0x00, 0x40, 0xe1];
-
-const ACK_1: &[u8] = &[0x53, 0x85, 0x07, 0x00, 0x01, 0x40, 0xe0];
-
-const ACK_2: &[u8] = &[0x53, 0x85, 0x07, 0x00, 0x02, 0x40, 0xdf];
-
-const ACK_3: &[u8] = &[0x53, 0x85, 0x07, 0x00, 0x03, 0x40, 0xde];
-
-/// BUSY from address 5.
-const BUSY: &[u8] = &[0x53, 0x85, 0x07, 0x00, 0x00, 0x79, 0xa8];
-
-/// Keys 12 of reader 0, from address 5 with numbers 1 and 2.
-const KEYS_1: &[u8] = &[
-    0x53, 0x85, 0x0b, 0x00, 0x01, 0x53, 0x00, 0x02, 0x31, 0x32, 0x64,
-];
-
-const KEYS_2: &[u8] = &[
-    0x53, 0x85, 0x0b, 0x00, 0x02, 0x53, 0x00, 0x02, 0x31, 0x32, 0x63,
-];
-
-/// Key 9 of reader 0, from address 5 with number 3.
-const KEY_9_3: &[u8] = &[0x53, 0x85, 0x0a, 0x00, 0x03, 0x53, 0x00, 0x01, 0x39, 0x8e];
-
-/// A COMSET to address 7 and 9600 baud, number 1.
-const COMSET: &[u8] = &[
-    0x53, 0x05, 0x0c, 0x00, 0x01, 0x6e, 0x07, 0x80, 0x25, 0x00, 0x00, 0x81,
-];
-
-/// NAK 4 from address 5 with number 3.
-const NAK4_3: &[u8] = &[0x53, 0x85, 0x08, 0x00, 0x03, 0x41, 0x04, 0xd8];
+/// The row of an ID to address 5 with number 0.
+const ID: &str = "530508000061003F Zero 53851300004553494D010101000000010000E3";
 
 /// A device that gives one answer to the first command that reaches it, and is done with all others.
 #[derive(Drop)]
@@ -137,269 +94,274 @@ fn line(response: &Response) -> Kind {
     }
 }
 
-/// The packet of these bytes is answered so.
-fn is_answered(rt: &impl Abort, reader: &mut Reader<Bench>, given: &[u8], kind: Kind, sent: &[u8]) {
-    assert!(rt; !given.is_empty());
-    let ReadItem::Packet(frame) = read_at(given, 0) else {
-        assert!(rt; false, "no packet");
-        return;
-    };
-    let response = reader.on_frame(&frame.view());
-    assert_eq!(rt; line(&response), kind);
-    assert_eq!(rt; response.bytes(), sent);
+/// How a row names a line of the table.
+fn name_of(kind: Kind) -> &'static str {
+    match kind {
+        Kind::Silent => "Silent",
+        Kind::Secured => "Secured",
+        Kind::Zero => "Zero",
+        Kind::Repeat => "Repeat",
+        Kind::Taken => "Taken",
+        Kind::Busy => "Busy",
+        Kind::Wrong => "Wrong",
+    }
+}
+
+/// The packet of this row is answered as the row has it.
+fn is_answered(rt: &impl Abort, reader: &mut Reader<Bench>, row: &str) {
+    let mut words = row.split(' ');
+    let given = words.next().expect(rt, "a packet");
+    let kind = words.next().expect(rt, "a line of the table");
+    let sent = words.next().expect(rt, "a reply");
+    let response = response_to_digits(rt, reader, given);
+    assert_eq!(rt; name_of(line(&response)), kind, "{row}");
+    is_spelled(rt, response.bytes(), sent);
+    if let Some(waiting) = words.next() {
+        assert_eq!(rt; waiting.parse(), Ok(reader.waiting()), "{row}");
+    }
+    if let Some(stored) = words.next() {
+        is_spelled(rt, reader.stored(), stored);
+    }
+}
+
+/// The packets of these rows are answered one behind the other.
+fn are_answered(rt: &impl Abort, reader: &mut Reader<Bench>, rows: &str) {
+    for row in rows.lines() {
+        is_answered(rt, reader, row);
+    }
 }
 
 /// A reader at 5 that was opened by ID.
 fn opened(rt: &impl Abort, alloc: Global, capacity: usize, first: Answer) -> Reader<Bench> {
     let mut reader = reader_with(rt, alloc, 5, capacity, first);
-    is_answered(rt, &mut reader, ID, Kind::Zero, PD_ID);
+    is_answered(rt, &mut reader, ID);
     reader
 }
+
+/// Keys are pressed, and there is room for the event.
+fn press(rt: &impl Abort, reader: &mut Reader<Bench>, pressed: &[u8]) {
+    assert!(rt; reader.submit_event(keys(rt, pressed)).is_ok());
+}
+
+/// Keys 12 are told to POLL 1 and its repeat. POLL 3 is not the next, and POLL 2 says that they were heard.
+const TOLD: &str = "\
+53050700016040 Taken 53850B0001530002313264 1 53850B0001530002313264
+53050700016040 Repeat 53850B0001530002313264 1 53850B0001530002313264
+5305070003603E Wrong 53850800034104D8 1
+5305070002603F Taken 538507000240DF 0 538507000240DF
+5305070003603E Taken 538507000340DE
+53050700016040 Taken 538507000140E0
+";
 
 #[test]
 fn an_event_is_told_until_the_next_number(rt: HostRuntime) {
     let mut reader = opened(&rt, rt.alloc(), 4, Answer::Done);
-    assert_eq!(rt; reader.stored().len(), 0);
-    assert!(rt; reader.submit_event(keys(&rt, &[0x31, 0x32])).is_ok());
-    is_answered(&rt, &mut reader, POLL_1, Kind::Taken, KEYS_1);
-    assert_eq!(rt; reader.waiting(), 1);
-    assert_eq!(rt; reader.stored(), KEYS_1);
-    is_answered(&rt, &mut reader, POLL_1, Kind::Repeat, KEYS_1);
-    assert_eq!(rt; reader.waiting(), 1);
-    assert_eq!(rt; reader.stored(), KEYS_1);
-    is_answered(&rt, &mut reader, POLL_3, Kind::Wrong, NAK4_3);
-    assert_eq!(rt; reader.waiting(), 1);
-    is_answered(&rt, &mut reader, POLL_2, Kind::Taken, ACK_2);
-    assert_eq!(rt; reader.waiting(), 0);
-    assert_eq!(rt; reader.stored(), ACK_2);
-    is_answered(&rt, &mut reader, POLL_3, Kind::Taken, ACK_3);
-    is_answered(&rt, &mut reader, POLL_1, Kind::Taken, ACK_1);
+    is_spelled(&rt, reader.stored(), "none");
+    press(&rt, &mut reader, b"12");
+    are_answered(&rt, &mut reader, TOLD);
 }
+
+/// POLL 3 to a new reader, ID, and POLL 0 to the configuration address.
+const OPENING: &str = "\
+5305070003603E Wrong 53850800034104D8
+530508000061003F Zero 53851300004553494D010101000000010000E3
+537F07000060C7 Zero 53FF0700004067
+";
+
+/// POLL 0 tells no event and ends none: keys 12 are told to each POLL 1 until POLL 2 comes.
+const ANEW: &str = "\
+53050700006041 Zero 538507000040E1
+53050700016040 Taken 53850B0001530002313264
+53050700006041 Zero 538507000040E1 1 53850B0001530002313264
+53050700016040 Taken 53850B0001530002313264 1
+5305070002603F Taken 538507000240DF 0
+";
 
 #[test]
 fn number_zero_begins_anew(rt: HostRuntime) {
     let mut reader = reader_with(&rt, rt.alloc(), 5, 4, Answer::Done);
-    is_answered(&rt, &mut reader, POLL_3, Kind::Wrong, NAK4_3);
-    is_answered(&rt, &mut reader, ID, Kind::Zero, PD_ID);
-    is_answered(
-        &rt,
-        &mut reader,
-        &[0x53, 0x7f, 0x07, 0x00, 0x00, 0x60, 0xc7],
-        Kind::Zero,
-        &[0x53, 0xff, 0x07, 0x00, 0x00, 0x40, 0x67],
-    );
-    assert!(rt; reader.submit_event(keys(&rt, &[0x31, 0x32])).is_ok());
-    is_answered(&rt, &mut reader, POLL_0, Kind::Zero, ACK_0);
-    is_answered(&rt, &mut reader, POLL_1, Kind::Taken, KEYS_1);
-    is_answered(&rt, &mut reader, POLL_0, Kind::Zero, ACK_0);
-    assert_eq!(rt; reader.stored(), KEYS_1);
-    is_answered(&rt, &mut reader, POLL_1, Kind::Taken, KEYS_1);
-    assert_eq!(rt; reader.waiting(), 1);
-    is_answered(&rt, &mut reader, POLL_2, Kind::Taken, ACK_2);
-    assert_eq!(rt; reader.waiting(), 0);
+    are_answered(&rt, &mut reader, OPENING);
+    press(&rt, &mut reader, b"12");
+    are_answered(&rt, &mut reader, ANEW);
 }
 
 #[test]
 fn a_full_queue_gives_the_event_back(rt: HostRuntime) {
     let mut reader = opened(&rt, rt.alloc(), 1, Answer::Done);
-    assert!(rt; reader.submit_event(keys(&rt, &[0x31, 0x32])).is_ok());
-    is_answered(&rt, &mut reader, POLL_1, Kind::Taken, KEYS_1);
-    match reader.submit_event(keys(&rt, &[0x39])) {
+    press(&rt, &mut reader, b"12");
+    is_answered(
+        &rt,
+        &mut reader,
+        "53050700016040 Taken 53850B0001530002313264",
+    );
+    match reader.submit_event(keys(&rt, b"9")) {
         Ok(()) => assert!(rt; false, "the queue is full"),
-        Err(event) => assert!(rt; event == keys(&rt, &[0x39])),
+        Err(event) => assert!(rt; event == keys(&rt, b"9")),
     }
-    is_answered(&rt, &mut reader, POLL_2, Kind::Taken, ACK_2);
-    assert!(rt; reader.submit_event(keys(&rt, &[0x39])).is_ok());
-    is_answered(&rt, &mut reader, POLL_3, Kind::Taken, KEY_9_3);
+    is_answered(&rt, &mut reader, "5305070002603F Taken 538507000240DF");
+    press(&rt, &mut reader, b"9");
+    is_answered(
+        &rt,
+        &mut reader,
+        "5305070003603E Taken 53850A0003530001398E",
+    );
 }
+
+/// POLL 2 and ID to a busy reader, POLL 1 once more, and POLL 3.
+const AT_WORK: &str = "\
+5305070002603F Busy 538507000079A8
+530508000061003F Busy 538507000079A8
+53050700016040 Repeat 53850B0001530002313264
+5305070003603E Wrong 53850800034104D8 1
+";
 
 #[test]
 fn a_busy_reader_takes_nothing_but_repeats(rt: HostRuntime) {
     let mut reader = opened(&rt, rt.alloc(), 4, Answer::Done);
-    assert!(rt; reader.submit_event(keys(&rt, &[0x31, 0x32])).is_ok());
-    is_answered(&rt, &mut reader, POLL_1, Kind::Taken, KEYS_1);
+    press(&rt, &mut reader, b"12");
+    is_answered(
+        &rt,
+        &mut reader,
+        "53050700016040 Taken 53850B0001530002313264",
+    );
     reader.set_busy(true);
-    is_answered(&rt, &mut reader, POLL_2, Kind::Busy, BUSY);
-    is_answered(&rt, &mut reader, ID, Kind::Busy, BUSY);
-    is_answered(&rt, &mut reader, POLL_1, Kind::Repeat, KEYS_1);
-    is_answered(&rt, &mut reader, POLL_3, Kind::Wrong, NAK4_3);
-    assert_eq!(rt; reader.waiting(), 1);
+    are_answered(&rt, &mut reader, AT_WORK);
     reader.set_busy(false);
-    is_answered(&rt, &mut reader, POLL_2, Kind::Taken, ACK_2);
+    is_answered(&rt, &mut reader, "5305070002603F Taken 538507000240DF");
 }
+
+/// The row of a COMSET to address 7 moves a reader, which is silent to the row behind it, and hears the last one.
+fn is_moved(rt: &impl Abort, reader: &mut Reader<Bench>, comset: &str, behind: &str) {
+    is_answered(rt, reader, comset);
+    assert_eq!(rt; reader.address().get(), 7);
+    is_spelled(rt, reader.stored(), "none");
+    are_answered(rt, reader, behind);
+}
+
+/// POLL 2 to address 5, and to 7.
+const AFTER_1: &str = "\
+5305070002603F Silent none
+5307070002603D Wrong 53870800024104D7
+";
 
 #[test]
 fn comset_moves_the_reader(rt: HostRuntime) {
     let mut reader = opened(&rt, rt.alloc(), 4, Answer::Done);
-    is_answered(
-        &rt,
-        &mut reader,
-        COMSET,
-        Kind::Taken,
-        &[
-            0x53, 0x85, 0x0c, 0x00, 0x01, 0x54, 0x07, 0x80, 0x25, 0x00, 0x00, 0x1b,
-        ],
-    );
-    assert_eq!(rt; reader.address().get(), 7);
-    assert_eq!(rt; reader.stored().len(), 0);
-    is_answered(&rt, &mut reader, POLL_2, Kind::Silent, &[]);
-    is_answered(
-        &rt,
-        &mut reader,
-        &[0x53, 0x07, 0x07, 0x00, 0x02, 0x60, 0x3d],
-        Kind::Wrong,
-        &[0x53, 0x87, 0x08, 0x00, 0x02, 0x41, 0x04, 0xd7],
-    );
+    let comset = "53050C00016E078025000081 Taken 53850C00015407802500001B";
+    is_moved(&rt, &mut reader, comset, AFTER_1);
 }
+
+/// POLL 0 to address 5, and POLL 1 to 7.
+const AFTER_0: &str = "\
+53050700006041 Silent none
+5307070001603E Wrong 53870800014104D8
+";
 
 #[test]
 fn comset_at_number_zero_moves_the_reader(rt: HostRuntime) {
     let mut reader = opened(&rt, rt.alloc(), 4, Answer::Done);
-    is_answered(&rt, &mut reader, POLL_1, Kind::Taken, ACK_1);
-    is_answered(
-        &rt,
-        &mut reader,
-        &[
-            0x53, 0x05, 0x0c, 0x00, 0x00, 0x6e, 0x07, 0x80, 0x25, 0x00, 0x00, 0x82,
-        ],
-        Kind::Zero,
-        &[
-            0x53, 0x85, 0x0c, 0x00, 0x00, 0x54, 0x07, 0x80, 0x25, 0x00, 0x00, 0x1c,
-        ],
-    );
-    assert_eq!(rt; reader.address().get(), 7);
-    assert_eq!(rt; reader.stored().len(), 0);
-    is_answered(&rt, &mut reader, POLL_0, Kind::Silent, &[]);
-    is_answered(
-        &rt,
-        &mut reader,
-        &[0x53, 0x07, 0x07, 0x00, 0x01, 0x60, 0x3e],
-        Kind::Wrong,
-        &[0x53, 0x87, 0x08, 0x00, 0x01, 0x41, 0x04, 0xd8],
-    );
+    is_answered(&rt, &mut reader, "53050700016040 Taken 538507000140E0");
+    let comset = "53050C00006E078025000082 Zero 53850C00005407802500001C";
+    is_moved(&rt, &mut reader, comset, AFTER_0);
 }
+
+/// COMSETs to addresses 5 and 127.
+const KEPT: &str = "\
+53050C00016E058025000083 Taken 53850C00015405802500001D 0 53850C00015405802500001D
+53050C00026E7F8025000008 Taken 53850800024109D4
+";
 
 #[test]
 fn comset_to_its_own_address_or_none_keeps_all(rt: HostRuntime) {
     let mut reader = opened(&rt, rt.alloc(), 4, Answer::Done);
-    let confirmed: &[u8] = &[
-        0x53, 0x85, 0x0c, 0x00, 0x01, 0x54, 0x05, 0x80, 0x25, 0x00, 0x00, 0x1d,
-    ];
-    is_answered(
-        &rt,
-        &mut reader,
-        &[
-            0x53, 0x05, 0x0c, 0x00, 0x01, 0x6e, 0x05, 0x80, 0x25, 0x00, 0x00, 0x83,
-        ],
-        Kind::Taken,
-        confirmed,
-    );
-    assert_eq!(rt; reader.stored(), confirmed);
-    is_answered(
-        &rt,
-        &mut reader,
-        &[
-            0x53, 0x05, 0x0c, 0x00, 0x02, 0x6e, 0x7f, 0x80, 0x25, 0x00, 0x00, 0x08,
-        ],
-        Kind::Taken,
-        &[0x53, 0x85, 0x08, 0x00, 0x02, 0x41, 0x09, 0xd4],
-    );
+    are_answered(&rt, &mut reader, KEPT);
     assert_eq!(rt; reader.address().get(), 5);
-    is_answered(&rt, &mut reader, POLL_3, Kind::Taken, ACK_3);
+    is_answered(&rt, &mut reader, "5305070003603E Taken 538507000340DE");
 }
+
+/// A POLL with a security block to a new reader at address 0, and POLL 1, which shows that it opened nothing.
+const SECURED: &str = "\
+530009000802156025 Secured 53800800004105DF 0 none
+53000700016045 Wrong 53800800014104DF
+";
 
 #[test]
 fn a_security_block_is_refused(rt: HostRuntime) {
     let mut reader = reader_with(&rt, rt.alloc(), 0, 4, Answer::Done);
-    is_answered(
-        &rt,
-        &mut reader,
-        &[0x53, 0x00, 0x09, 0x00, 0x08, 0x02, 0x15, 0x60, 0x25],
-        Kind::Secured,
-        &[0x53, 0x80, 0x08, 0x00, 0x00, 0x41, 0x05, 0xdf],
-    );
-    assert_eq!(rt; reader.stored().len(), 0);
-    is_answered(
-        &rt,
-        &mut reader,
-        &[0x53, 0x00, 0x07, 0x00, 0x01, 0x60, 0x45],
-        Kind::Wrong,
-        &[0x53, 0x80, 0x08, 0x00, 0x01, 0x41, 0x04, 0xdf],
-    );
+    are_answered(&rt, &mut reader, SECURED);
 }
+
+/// A POLL to another address, and replies from its own.
+const OTHERS: &str = "\
+53000700016045 Silent none
+538507000140E0 Silent none
+53850B0002530002313263 Silent none
+53050700016040 Taken 538507000140E0
+";
 
 #[test]
 fn packets_of_others_are_passed_by(rt: HostRuntime) {
     let mut reader = opened(&rt, rt.alloc(), 4, Answer::Done);
-    let others: [&[u8]; 3] = [&[0x53, 0x00, 0x07, 0x00, 0x01, 0x60, 0x45], ACK_1, KEYS_2];
-    for given in others {
-        is_answered(&rt, &mut reader, given, Kind::Silent, &[]);
-    }
-    is_answered(&rt, &mut reader, POLL_1, Kind::Taken, ACK_1);
+    are_answered(&rt, &mut reader, OTHERS);
 }
+
+/// POLL 1 with a CRC, and its repeat with a checksum, which is answered by the same bytes.
+const CHECKS: &str = "\
+5305080005608DBA Taken 5385080005403FBC
+53050700016040 Repeat 5385080005403FBC
+";
 
 #[test]
 fn a_reply_has_the_check_of_its_command(rt: HostRuntime) {
     let mut reader = opened(&rt, rt.alloc(), 4, Answer::Done);
-    is_answered(
-        &rt,
-        &mut reader,
-        &[0x53, 0x05, 0x08, 0x00, 0x05, 0x60, 0x8d, 0xba],
-        Kind::Taken,
-        &[0x53, 0x85, 0x08, 0x00, 0x05, 0x40, 0x3f, 0xbc],
-    );
-    is_answered(
-        &rt,
-        &mut reader,
-        POLL_1,
-        Kind::Repeat,
-        &[0x53, 0x85, 0x08, 0x00, 0x05, 0x40, 0x3f, 0xbc],
-    );
+    are_answered(&rt, &mut reader, CHECKS);
+}
+
+/// What the making of a reader with these settings gives.
+fn made(
+    rt: &impl Abort,
+    alloc: Global,
+    address: u8,
+    capacity: usize,
+) -> Result<Reader<Bench>, ReaderFault> {
+    let bench = Bench {
+        first: Answer::Done,
+    };
+    Reader::new(alloc, config_at(rt, address).copy(), bench, capacity)
+}
+
+/// Nothing waits in a new reader with these settings, and nothing is stored.
+fn is_made(rt: &impl Abort, alloc: Global, address: u8, capacity: usize) {
+    let made = made(rt, alloc, address, capacity);
+    let reader = made.ok().expect(rt, "a reader");
+    assert_eq!(rt; reader.address().get(), address);
+    assert_eq!(rt; reader.waiting(), 0);
+    is_spelled(rt, reader.stored(), "none");
+}
+
+/// No reader is made with these settings, whether there is memory or not.
+fn is_out_of_range(rt: &impl Abort, alloc: Global, address: u8, capacity: usize) {
+    let fault = made(rt, alloc, address, capacity).err();
+    assert_eq!(rt; fault, Some(ReaderFault::OutOfRange));
 }
 
 #[test]
 fn readers_within_their_ranges(rt: HostRuntime) {
-    for (address, capacity, is_made) in [
-        (0, 1, true),
-        (126, 1024, true),
-        (127, 1, false),
-        (5, 0, false),
-        (5, 1025, false),
-    ] {
-        let config = config_at(&rt, address);
-        let bench = Bench {
-            first: Answer::Done,
-        };
-        match Reader::new(rt.alloc(), config.copy(), bench, capacity) {
-            Ok(reader) => {
-                assert!(rt; is_made);
-                assert_eq!(rt; reader.address().get(), address);
-                assert_eq!(rt; reader.waiting(), 0);
-                assert_eq!(rt; reader.stored().len(), 0);
-            }
-            Err(fault) => {
-                assert!(rt; !is_made);
-                assert_eq!(rt; fault, ReaderFault::OutOfRange);
-            }
-        }
-    }
+    is_made(&rt, rt.alloc(), 0, 1);
+    is_made(&rt, rt.alloc(), 126, 1024);
+    is_out_of_range(&rt, rt.alloc(), 127, 1);
+    is_out_of_range(&rt, rt.alloc(), 5, 0);
+    is_out_of_range(&rt, rt.alloc(), 5, 1025);
 }
 
 /// Settings are judged before memory is asked for. Where it is refused, as `tests/machines_memory.sh` has it, that is the answer.
 #[test]
 fn want_of_memory_is_told(rt: HostRuntime) {
-    for (address, capacity, is_within) in [(127, 1, false), (5, 1025, false), (5, 4, true)] {
-        let bench = Bench {
-            first: Answer::Done,
-        };
-        match Reader::new(rt.alloc(), config_at(&rt, address), bench, capacity) {
-            Ok(reader) => {
-                assert!(rt; is_within);
-                assert_eq!(rt; reader.waiting(), 0);
-            }
-            Err(ReaderFault::NoMemory) => assert!(rt; is_within),
-            Err(ReaderFault::OutOfRange) => assert!(rt; !is_within),
-        }
+    is_out_of_range(&rt, rt.alloc(), 127, 1);
+    is_out_of_range(&rt, rt.alloc(), 5, 1025);
+    match made(&rt, rt.alloc(), 5, 4) {
+        Ok(reader) => assert_eq!(rt; reader.waiting(), 0),
+        Err(fault) => assert_eq!(rt; fault, ReaderFault::NoMemory),
     }
 }
 

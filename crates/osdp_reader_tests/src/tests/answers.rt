@@ -2,38 +2,31 @@
 
 use super::*;
 
+/// A code that no command has, data of other lengths than its code allows, and a command that is answered: with number 1.
+const NO_COMMANDS: &str = "\
+5305070001A1FF Taken 53850800014103DB 0 53850800014103DB
+530509000180534982 Taken 53850800014102DC 0 53850800014102DC
+530508000162003D Taken 53850D000146020108080100C0 0 53850D000146020108080100C0
+";
+
 #[test]
 fn what_is_no_command_is_refused(rt: HostRuntime) {
-    let rows: [(&[u8], &[u8]); 3] = [
-        (
-            &[0x53, 0x05, 0x07, 0x00, 0x01, 0xa1, 0xff],
-            &[0x53, 0x85, 0x08, 0x00, 0x01, 0x41, 0x03, 0xdb],
-        ),
-        (
-            &[0x53, 0x05, 0x09, 0x00, 0x01, 0x80, 0x53, 0x49, 0x82],
-            &[0x53, 0x85, 0x08, 0x00, 0x01, 0x41, 0x02, 0xdc],
-        ),
-        (
-            &[0x53, 0x05, 0x08, 0x00, 0x01, 0x62, 0x00, 0x3d],
-            &[
-                0x53, 0x85, 0x0d, 0x00, 0x01, 0x46, 0x02, 0x01, 0x08, 0x08, 0x01, 0x00, 0xc0,
-            ],
-        ),
-    ];
-    for (given, sent) in rows {
+    for row in NO_COMMANDS.lines() {
         let mut reader = opened(&rt, rt.alloc(), 4, Answer::Done);
-        is_answered(&rt, &mut reader, given, Kind::Taken, sent);
-        assert_eq!(rt; reader.stored(), sent);
+        is_answered(&rt, &mut reader, row);
     }
+}
+
+/// The same code with number 0, and a POLL.
+const NO_COMMAND_AT_ZERO: &str = "\
+5305070000A100 Zero 53850800004103DC
+53050700016040 Taken 538507000140E0
+";
+
+#[test]
+fn what_is_no_command_begins_anew(rt: HostRuntime) {
     let mut reader = reader_with(&rt, rt.alloc(), 5, 4, Answer::Done);
-    is_answered(
-        &rt,
-        &mut reader,
-        &[0x53, 0x05, 0x07, 0x00, 0x00, 0xa1, 0x00],
-        Kind::Zero,
-        &[0x53, 0x85, 0x08, 0x00, 0x00, 0x41, 0x03, 0xdc],
-    );
-    is_answered(&rt, &mut reader, POLL_1, Kind::Taken, ACK_1);
+    are_answered(&rt, &mut reader, NO_COMMAND_AT_ZERO);
 }
 
 /// One byte of this value.
@@ -43,136 +36,75 @@ fn one_byte<const N: usize>(value: u8) -> ArrayVec<u8, N> {
     bytes
 }
 
-/// The answer of the handler that has this place in the table below.
-fn answer_at(place: usize) -> Answer {
-    match place {
-        0 => Answer::Local(1, 0),
-        1 => Answer::List(one_byte(1)),
-        2 => Answer::Done,
-        3 => Answer::Maker([0x53, 0x49, 0x4d], one_byte(1)),
-        4 => Answer::Refuse(NakReason::CommandLength),
-        5 => Answer::Refuse(NakReason::UnknownCommand),
-        6 => Answer::Refuse(NakReason::UnexpectedSequence),
-        8 => Answer::Refuse(NakReason::RecordNotProcessed),
+/// The handler's answer that has this name in the table below.
+fn answer_of(name: &str) -> Answer {
+    match name {
+        "local" => Answer::Local(1, 0),
+        "list" => Answer::List(one_byte(1)),
+        "done" => Answer::Done,
+        "maker" => Answer::Maker([0x53, 0x49, 0x4d], one_byte(1)),
+        "length" => Answer::Refuse(NakReason::CommandLength),
+        "code" => Answer::Refuse(NakReason::UnknownCommand),
+        "number" => Answer::Refuse(NakReason::UnexpectedSequence),
+        "record" => Answer::Refuse(NakReason::RecordNotProcessed),
         _ => Answer::Refuse(NakReason::from(77)),
     }
 }
 
-/// OUT and MFG to address 5 with number 1.
-const OUT: &[u8] = &[
-    0x53, 0x05, 0x0b, 0x00, 0x01, 0x68, 0x00, 0x02, 0x00, 0x00, 0x32,
-];
+/// The handler's answer, a command to address 5 with number 1, and what is sent. Where the answer is none of that command, NAK 9 is.
+const ANSWERS: &str = "\
+local 5305070001643C 5385090001480100D5
+list 5305070001653B 53850800014901D5
+list 5305070001663A 53850800014A01D4
+list 53050700016739 53850800014B01D3
+done 53050B0001680002000032 538507000140E0
+done 530515000169000002050501001E000101000200FA 538507000140E0
+done 53050C00016A000205050124 538507000140E0
+done 53050E00016B00010001010141E9 538507000140E0
+done 53050B00018053494D0132 538507000140E0
+maker 53050B00018053494D0132 53850B00019053494D01A2
+length 53050B0001680002000032 53850800014102DC
+code 53050B0001680002000032 53850800014103DB
+number 53050B0001680002000032 53850800014109D5
+77 53050B0001680002000032 53850800014109D5
+local 53050B0001680002000032 53850800014109D5
+done 5305070001643C 53850800014109D5
+local 5305070001653B 53850800014109D5
+maker 53050B0001680002000032 53850800014109D5
+list 53050B00018053494D0132 53850800014109D5
+record 53050A0001800000011C 53850800014109D5
+";
 
-const MFG: &[u8] = &[
-    0x53, 0x05, 0x0b, 0x00, 0x01, 0x80, 0x53, 0x49, 0x4d, 0x01, 0x32,
-];
-
-/// MFG of vendor 000001 to address 5 with number 1, without bytes.
-const MFG_OF_1: &[u8] = &[0x53, 0x05, 0x0a, 0x00, 0x01, 0x80, 0x00, 0x00, 0x01, 0x1c];
-
-/// NAK 9 from address 5 with number 1.
-const NAK_9: &[u8] = &[0x53, 0x85, 0x08, 0x00, 0x01, 0x41, 0x09, 0xd5];
-
-/// A command, the place of the handler's answer, and what is sent.
-const ANSWERS: [(&[u8], usize, &[u8]); 20] = [
-    (
-        &[0x53, 0x05, 0x07, 0x00, 0x01, 0x64, 0x3c],
-        0,
-        &[0x53, 0x85, 0x09, 0x00, 0x01, 0x48, 0x01, 0x00, 0xd5],
-    ),
-    (
-        &[0x53, 0x05, 0x07, 0x00, 0x01, 0x65, 0x3b],
-        1,
-        &[0x53, 0x85, 0x08, 0x00, 0x01, 0x49, 0x01, 0xd5],
-    ),
-    (
-        &[0x53, 0x05, 0x07, 0x00, 0x01, 0x66, 0x3a],
-        1,
-        &[0x53, 0x85, 0x08, 0x00, 0x01, 0x4a, 0x01, 0xd4],
-    ),
-    (
-        &[0x53, 0x05, 0x07, 0x00, 0x01, 0x67, 0x39],
-        1,
-        &[0x53, 0x85, 0x08, 0x00, 0x01, 0x4b, 0x01, 0xd3],
-    ),
-    (OUT, 2, ACK_1),
-    (
-        &[
-            0x53, 0x05, 0x15, 0x00, 0x01, 0x69, 0x00, 0x00, 0x02, 0x05, 0x05, 0x01, 0x00, 0x1e,
-            0x00, 0x01, 0x01, 0x00, 0x02, 0x00, 0xfa,
-        ],
-        2,
-        ACK_1,
-    ),
-    (
-        &[
-            0x53, 0x05, 0x0c, 0x00, 0x01, 0x6a, 0x00, 0x02, 0x05, 0x05, 0x01, 0x24,
-        ],
-        2,
-        ACK_1,
-    ),
-    (
-        &[
-            0x53, 0x05, 0x0e, 0x00, 0x01, 0x6b, 0x00, 0x01, 0x00, 0x01, 0x01, 0x01, 0x41, 0xe9,
-        ],
-        2,
-        ACK_1,
-    ),
-    (MFG, 2, ACK_1),
-    (
-        MFG,
-        3,
-        &[
-            0x53, 0x85, 0x0b, 0x00, 0x01, 0x90, 0x53, 0x49, 0x4d, 0x01, 0xa2,
-        ],
-    ),
-    (OUT, 4, &[0x53, 0x85, 0x08, 0x00, 0x01, 0x41, 0x02, 0xdc]),
-    (OUT, 5, &[0x53, 0x85, 0x08, 0x00, 0x01, 0x41, 0x03, 0xdb]),
-    (OUT, 6, NAK_9),
-    (OUT, 7, NAK_9),
-    (OUT, 0, NAK_9),
-    (&[0x53, 0x05, 0x07, 0x00, 0x01, 0x64, 0x3c], 2, NAK_9),
-    (&[0x53, 0x05, 0x07, 0x00, 0x01, 0x65, 0x3b], 0, NAK_9),
-    (OUT, 3, NAK_9),
-    (MFG, 1, NAK_9),
-    (MFG_OF_1, 8, NAK_9),
-];
-
-#[test]
-fn answers_are_told_to_their_commands(rt: HostRuntime) {
-    for (given, place, sent) in ANSWERS {
-        let mut reader = opened(&rt, rt.alloc(), 4, answer_at(place));
-        is_answered(&rt, &mut reader, given, Kind::Taken, sent);
-        is_answered(&rt, &mut reader, given, Kind::Repeat, sent);
+/// A reader whose handler gives the answer of this row sends what stands there, and sends it again.
+fn is_told(rt: &impl Abort, alloc: Global, row: &str) {
+    let (name, exchange) = row.split_once(' ').expect(rt, "an answer");
+    let (given, sent) = exchange.split_once(' ').expect(rt, "a reply");
+    let mut reader = opened(rt, alloc, 4, answer_of(name));
+    for kind in [Kind::Taken, Kind::Repeat] {
+        let response = response_to_digits(rt, &mut reader, given);
+        assert_eq!(rt; line(&response), kind, "{row}");
+        is_spelled(rt, response.bytes(), sent);
     }
 }
 
 #[test]
+fn answers_are_told_to_their_commands(rt: HostRuntime) {
+    for row in ANSWERS.lines() {
+        is_told(&rt, rt.alloc(), row);
+    }
+}
+
+/// A POLL, and an OUT with its number, with the next one and with 0.
+const REPEAT: &str = "\
+53050700016040 Taken 538507000140E0
+53050B0001680002000032 Repeat 538507000140E0
+53050B0002680002000031 Taken 53850800024103DA
+53050B0000680002000033 Zero 538507000040E1
+";
+
+#[test]
 fn a_repeat_does_not_reach_the_handler(rt: HostRuntime) {
-    let mut reader = opened(
-        &rt,
-        rt.alloc(),
-        4,
-        Answer::Refuse(NakReason::UnknownCommand),
-    );
-    is_answered(&rt, &mut reader, POLL_1, Kind::Taken, ACK_1);
-    is_answered(&rt, &mut reader, OUT, Kind::Repeat, ACK_1);
-    is_answered(
-        &rt,
-        &mut reader,
-        &[
-            0x53, 0x05, 0x0b, 0x00, 0x02, 0x68, 0x00, 0x02, 0x00, 0x00, 0x31,
-        ],
-        Kind::Taken,
-        &[0x53, 0x85, 0x08, 0x00, 0x02, 0x41, 0x03, 0xda],
-    );
-    is_answered(
-        &rt,
-        &mut reader,
-        &[
-            0x53, 0x05, 0x0b, 0x00, 0x00, 0x68, 0x00, 0x02, 0x00, 0x00, 0x33,
-        ],
-        Kind::Zero,
-        ACK_0,
-    );
+    let refusal = Answer::Refuse(NakReason::UnknownCommand);
+    let mut reader = opened(&rt, rt.alloc(), 4, refusal);
+    are_answered(&rt, &mut reader, REPEAT);
 }

@@ -24,61 +24,41 @@ fn hand_over(rt: &impl Abort, reader: &mut Reader<Bench>, run: &[u8]) -> (usize,
     (count, answer)
 }
 
+/// A TEXT with a wrong checksum, which holds a POLL.
+const DAMAGED: &str = "53001400016B0001000101075300070000604624";
+
 #[test]
 fn a_packet_within_a_damaged_one_is_answered(rt: HostRuntime) {
     let mut reader = reader_with(&rt, rt.alloc(), 0, 4, Answer::Done);
-    let run = &[
-        0x53, 0x00, 0x14, 0x00, 0x01, 0x6b, 0x00, 0x01, 0x00, 0x01, 0x01, 0x07, 0x53, 0x00, 0x07,
-        0x00, 0x00, 0x60, 0x46, 0x24,
-    ];
+    let mut buffer = [0; 32];
+    let run = bytes_of(&rt, DAMAGED, &mut buffer);
     let (count, answer) = hand_over(&rt, &mut reader, run);
     assert_eq!(rt; count, 1);
     assert_eq!(rt; line(&answer), Kind::Zero);
-    let sent: &[u8] = &[0x53, 0x80, 0x07, 0x00, 0x00, 0x40, 0xe6];
-    assert_eq!(rt; answer.bytes(), sent);
+    is_spelled(&rt, answer.bytes(), "538007000040E6");
 }
 
 /// Packets of our tables, each as published.
-const PACKETS: [&[u8]; 18] = [
-    &[0x53, 0x00, 0x07, 0x00, 0x00, 0x60, 0x46],
-    &[0x53, 0x00, 0x08, 0x00, 0x04, 0x60, 0xeb, 0xaa],
-    &[0x53, 0x80, 0x08, 0x00, 0x05, 0x40, 0x68, 0x9f],
-    &[0x53, 0x05, 0x08, 0x00, 0x00, 0x61, 0x00, 0x3f],
-    &[
-        0x53, 0x05, 0x0b, 0x00, 0x01, 0x68, 0x00, 0x02, 0x00, 0x00, 0x32,
-    ],
-    &[
-        0x53, 0x05, 0x0c, 0x00, 0x05, 0x68, 0x00, 0x02, 0x00, 0x00, 0x51, 0x83,
-    ],
-    &[
-        0x53, 0x05, 0x15, 0x00, 0x02, 0x69, 0x00, 0x00, 0x02, 0x05, 0x05, 0x01, 0x00, 0x1e, 0x00,
-        0x01, 0x01, 0x00, 0x02, 0x00, 0xf9,
-    ],
-    &[
-        0x53, 0x05, 0x0c, 0x00, 0x01, 0x6e, 0x07, 0x80, 0x25, 0x00, 0x00, 0x81,
-    ],
-    &[
-        0x53, 0x85, 0x13, 0x00, 0x00, 0x45, 0x53, 0x49, 0x4d, 0x01, 0x01, 0x01, 0x00, 0x00, 0x00,
-        0x01, 0x00, 0x00, 0xe3,
-    ],
-    &[
-        0x53, 0x85, 0x0d, 0x00, 0x01, 0x46, 0x02, 0x01, 0x08, 0x08, 0x01, 0x00, 0xc0,
-    ],
-    &[0x53, 0x85, 0x09, 0x00, 0x02, 0x48, 0x00, 0x01, 0xd4],
-    &[
-        0x53, 0x85, 0x0f, 0x00, 0x01, 0x50, 0x00, 0x00, 0x1a, 0x00, 0x0a, 0x0b, 0x0c, 0x40, 0x4d,
-    ],
-    &[
-        0x53, 0x85, 0x0b, 0x00, 0x02, 0x53, 0x00, 0x02, 0x31, 0x32, 0x63,
-    ],
-    &[0x53, 0x85, 0x08, 0x00, 0x03, 0x41, 0x04, 0xd8],
-    &[0x53, 0x85, 0x07, 0x00, 0x00, 0x79, 0xa8],
-    &[0x53, 0xff, 0x07, 0x00, 0x00, 0x40, 0x67],
-    &[
-        0x53, 0x05, 0x0b, 0x00, 0x03, 0x80, 0x53, 0x49, 0x4d, 0x01, 0x30,
-    ],
-    &[0x53, 0x85, 0x0a, 0x00, 0x03, 0x90, 0x53, 0x49, 0x4d, 0xa2],
-];
+const PACKETS: &str = "\
+53000700006046
+530008000460EBAA
+538008000540689F
+530508000061003F
+53050B0001680002000032
+53050C000568000200005183
+530515000269000002050501001E000101000200F9
+53050C00016E078025000081
+53851300004553494D010101000000010000E3
+53850D000146020108080100C0
+5385090002480001D4
+53850F00015000001A000A0B0C404D
+53850B0002530002313263
+53850800034104D8
+538507000079A8
+53FF0700004067
+53050B00038053494D0130
+53850A00039053494DA2
+";
 
 /// A packet with this change of the byte at this place, in as many first bytes as it has.
 fn changed(rt: &impl Abort, packet: &[u8], place: usize, change: u8) -> [u8; 32] {
@@ -103,19 +83,27 @@ fn changes_at(rt: &impl Abort, reader: &mut Reader<Bench>, packet: &[u8], place:
     count
 }
 
+/// Each change of each byte of the packet likewise.
+fn changes_of(rt: &impl Abort, reader: &mut Reader<Bench>, digits: &str) -> usize {
+    let mut buffer = [0; 32];
+    let packet = bytes_of(rt, digits, &mut buffer);
+    let mut count: usize = 0;
+    for place in 0..packet.len() {
+        count = count.saturating_add(changes_at(rt, reader, packet, place));
+    }
+    count
+}
+
 /// One changed byte leaves no packet but `53000800B060EBAA`: with another kind of check the byte EB is data, and AA the checksum.
 #[test]
 fn no_changed_byte_stops_a_reader(rt: HostRuntime) {
     let mut reader = opened(&rt, rt.alloc(), 4, Answer::Done);
     let mut count: usize = 0;
-    for packet in PACKETS {
-        for place in 0..packet.len() {
-            let packets = changes_at(&rt, &mut reader, packet, place);
-            count = count.saturating_add(packets);
-        }
+    for digits in PACKETS.lines() {
+        count = count.saturating_add(changes_of(&rt, &mut reader, digits));
     }
     assert_eq!(rt; count, 1);
-    is_answered(&rt, &mut reader, POLL_1, Kind::Taken, ACK_1);
+    is_answered(&rt, &mut reader, "53050700016040 Taken 538507000140E0");
 }
 
 /// Spells the check of a packet anew, of the kind that its control byte names.
@@ -140,10 +128,9 @@ fn id_to(rt: &impl Abort, address: u8) -> [u8; 8] {
 
 /// The line that the packet which stands first in these bytes meets; where none does, silence.
 fn meets(rt: &impl Abort, reader: &mut Reader<Bench>, run: &[u8]) -> Kind {
-    assert!(rt; !run.is_empty());
-    match read_at(run, 0) {
-        ReadItem::Packet(frame) => line(&reader.on_frame(&frame.view())),
-        ReadItem::Skipped(_) | ReadItem::Refused(_) => Kind::Silent,
+    match response_to(rt, reader, run) {
+        Some(response) => line(&response),
+        None => Kind::Silent,
     }
 }
 
@@ -183,36 +170,72 @@ impl Met {
     }
 }
 
+/// A reader, and what the packets to it have met.
+#[derive(Drop)]
+struct Trial {
+    reader: Reader<Bench>,
+    met: Met,
+}
+
+impl Trial {
+    /// The packet reaches the reader at its address, and the next ID is answered. A reader at another address is opened first.
+    fn meet(&mut self, rt: &impl Abort, alloc: Global, packet: &[u8]) {
+        assert!(rt; packet.len() >= 7);
+        let named = packet[1] & 127;
+        if self.reader.address().get() != named {
+            self.reader = opened_at(rt, alloc, named);
+        }
+        self.met.count(rt, meets(rt, &mut self.reader, packet));
+        let id = id_to(rt, self.reader.address().get());
+        assert_eq!(rt; meets(rt, &mut self.reader, &id), Kind::Zero);
+    }
+
+    /// Each change of the byte at this place, with the check spelled anew.
+    fn meet_changes_at(&mut self, rt: &impl Abort, alloc: Global, packet: &[u8], place: usize) {
+        let count = packet.len();
+        for change in 1..=255u8 {
+            let mut run = changed(rt, packet, place, change);
+            assert!(rt; count <= 32);
+            check_anew(rt, &mut run[..count]);
+            self.meet(rt, alloc, &run[..count]);
+        }
+    }
+
+    /// Each change of each byte before the check.
+    fn meet_changes(&mut self, rt: &impl Abort, alloc: Global, digits: &str) {
+        let mut buffer = [0; 32];
+        let packet = bytes_of(rt, digits, &mut buffer);
+        assert!(rt; packet.len() >= 7);
+        let check = if packet[4] & 4 == 0 { 1 } else { 2 };
+        for place in 0..packet.len() - check {
+            self.meet_changes_at(rt, alloc, packet, place);
+        }
+    }
+}
+
+/// A new reader at address 5.
+fn new_trial(rt: &impl Abort, alloc: Global) -> Trial {
+    Trial {
+        reader: opened_at(rt, alloc, 5),
+        met: Met {
+            silent: 0,
+            secured: 0,
+            zero: 0,
+            taken: 0,
+            wrong: 0,
+        },
+    }
+}
+
 /// Each change of a byte before the check, with the check spelled anew, reaches a reader at its address that was just opened by an
 /// ID, and the next ID is answered. The counts were found by a program of another language.
 #[test]
 fn no_changed_packet_stops_a_reader(rt: HostRuntime) {
-    let mut met = Met {
-        silent: 0,
-        secured: 0,
-        zero: 0,
-        taken: 0,
-        wrong: 0,
-    };
-    let mut reader = opened_at(&rt, rt.alloc(), 5);
-    for packet in PACKETS {
-        let count = packet.len();
-        assert!(rt; count >= 7 && count <= 32);
-        let check = if packet[4] & 4 == 0 { 1 } else { 2 };
-        for place in 0..count - check {
-            for change in 1..=255u8 {
-                let mut run = changed(&rt, packet, place, change);
-                check_anew(&rt, &mut run[..count]);
-                let named = run[1] & 127;
-                if reader.address().get() != named {
-                    reader = opened_at(&rt, rt.alloc(), named);
-                }
-                met.count(&rt, meets(&rt, &mut reader, &run[..count]));
-                let id = id_to(&rt, reader.address().get());
-                assert_eq!(rt; meets(&rt, &mut reader, &id), Kind::Zero);
-            }
-        }
+    let mut trial = new_trial(&rt, rt.alloc());
+    for digits in PACKETS.lines() {
+        trial.meet_changes(&rt, rt.alloc(), digits);
     }
+    let met = trial.met;
     assert_eq!(rt; (met.silent, met.secured, met.zero), (30472, 960, 2022));
     assert_eq!(rt; (met.taken, met.wrong), (5082, 6344));
 }
