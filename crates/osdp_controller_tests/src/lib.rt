@@ -4,6 +4,8 @@
 #![tactic(auto)]
 
 #[cfg(test)]
+mod packets;
+#[cfg(test)]
 mod panel;
 #[cfg(test)]
 mod tests;

@@ -2,18 +2,16 @@
 
 mod damage;
 
+use crate::packets::{bytes_of, is_spelled};
 use osdp_controller::*;
 use osdp_frame::{Address, CheckKind, Framer, Item};
 use osdp_msg::{Command, PdId, Reply};
 use std::alloc::Global;
 use std::process::Abort;
 
-const ID: [u8; 8] = [0x53, 0x05, 0x08, 0x00, 0x00, 0x61, 0x00, 0x3f];
+const ID: &str = "530508000061003F";
 
-const PDID: [u8; 19] = [
-    0x53, 0x85, 0x13, 0x00, 0x00, 0x45, 0x53, 0x49, 0x4d, 0x01, 0x01, 0x01, 0x00, 0x00, 0x00, 0x01,
-    0x00, 0x00, 0xe3,
-];
+const PDID: &str = "53851300004553494D010101000000010000E3";
 
 /// What it tells of the reader.
 const OPENED: PdId = PdId {
@@ -27,61 +25,57 @@ const OPENED: PdId = PdId {
 };
 
 /// The same with sequence number 1, and from address 6.
-const PDID_1: [u8; 19] = [
-    0x53, 0x85, 0x13, 0x00, 0x01, 0x45, 0x53, 0x49, 0x4d, 0x01, 0x01, 0x01, 0x00, 0x00, 0x00, 0x01,
-    0x00, 0x00, 0xe2,
-];
+const PDID_1: &str = "53851300014553494D010101000000010000E2";
 
-const PDID_OF_6: [u8; 19] = [
-    0x53, 0x86, 0x13, 0x00, 0x00, 0x45, 0x53, 0x49, 0x4d, 0x01, 0x01, 0x01, 0x00, 0x00, 0x00, 0x01,
-    0x00, 0x00, 0xe2,
-];
+const PDID_OF_6: &str = "53861300004553494D010101000000010000E2";
 
-const OUT_1: [u8; 11] = [
-    0x53, 0x05, 0x0b, 0x00, 0x01, 0x68, 0x00, 0x02, 0x00, 0x00, 0x32,
-];
+const OUT_1: &str = "53050B0001680002000032";
 
-const ACK_1: [u8; 7] = [0x53, 0x85, 0x07, 0x00, 0x01, 0x40, 0xe0];
+const ACK_1: &str = "538507000140E0";
 
-const ACK_2: [u8; 7] = [0x53, 0x85, 0x07, 0x00, 0x02, 0x40, 0xdf];
+const ACK_2: &str = "538507000240DF";
 
-const ACK_3: [u8; 7] = [0x53, 0x85, 0x07, 0x00, 0x03, 0x40, 0xde];
+const ACK_3: &str = "538507000340DE";
 
-const POLL_1: [u8; 7] = [0x53, 0x05, 0x07, 0x00, 0x01, 0x60, 0x40];
+const POLL_1: &str = "53050700016040";
 
-const POLL_2: [u8; 7] = [0x53, 0x05, 0x07, 0x00, 0x02, 0x60, 0x3f];
+const POLL_2: &str = "5305070002603F";
 
-const POLL_3: [u8; 7] = [0x53, 0x05, 0x07, 0x00, 0x03, 0x60, 0x3e];
+const POLL_3: &str = "5305070003603E";
 
-const KEYPAD_2: [u8; 11] = [
-    0x53, 0x85, 0x0b, 0x00, 0x02, 0x53, 0x00, 0x02, 0x31, 0x32, 0x63,
-];
+const KEYPAD_2: &str = "53850B0002530002313263";
 
-const BUSY: [u8; 7] = [0x53, 0x85, 0x07, 0x00, 0x00, 0x79, 0xa8];
+const BUSY: &str = "538507000079A8";
 
-const NAK_1: [u8; 8] = [0x53, 0x85, 0x08, 0x00, 0x01, 0x41, 0x01, 0xdd];
+const NAK_1: &str = "53850800014101DD";
 
-const NAK_4: [u8; 8] = [0x53, 0x85, 0x08, 0x00, 0x01, 0x41, 0x04, 0xda];
+const NAK_4: &str = "53850800014104DA";
 
 fn config(rt: &impl Abort) -> ControllerConfig {
     let address = Address::new(5).expect(rt, "an address");
     ControllerConfig::new(address, CheckKind::Sum)
 }
 
-fn command(rt: &impl Abort, words: &[&str]) -> Command {
-    match Command::parse(words) {
-        Ok(command) => command,
-        Err(_) => {
-            assert!(rt; false, "a command");
-            Command::Poll
-        }
-    }
+fn new_controller(rt: &impl Abort, alloc: Global, capacity: usize) -> Controller {
+    let made = Controller::new(alloc, config(rt), capacity);
+    made.ok().expect(rt, "a controller")
 }
 
-/// The report on the one packet of these bytes.
-fn hear(rt: &impl Abort, controller: &mut Controller, bytes: &[u8], now: u64) -> Option<Report> {
+fn command(rt: &impl Abort, words: &[&str]) -> Command {
+    Command::parse(words).ok().expect(rt, "a command")
+}
+
+/// A framer of these bytes.
+fn framer_of(rt: &impl Abort, bytes: &[u8]) -> Framer {
     let mut framer = Framer::new();
     assert_eq!(rt; framer.push(bytes), bytes.len());
+    framer
+}
+
+/// The report on the one packet of these digits.
+fn hear(rt: &impl Abort, controller: &mut Controller, digits: &str, now: u64) -> Option<Report> {
+    let mut buffer = [0; 32];
+    let mut framer = framer_of(rt, bytes_of(rt, digits, &mut buffer));
     match framer.next() {
         Some(Item::Packet(frame)) => controller.on_frame(&frame, now),
         _ => {
@@ -91,13 +85,18 @@ fn hear(rt: &impl Abort, controller: &mut Controller, bytes: &[u8], now: u64) ->
     }
 }
 
-/// A tick at this moment sends these bytes and tells nothing.
-fn sends(rt: &impl Abort, controller: &mut Controller, now: u64, bytes: &[u8]) {
+/// Nothing is told of the one packet of these digits.
+fn passes_by(rt: &impl Abort, controller: &mut Controller, digits: &str, now: u64) {
+    assert!(rt; hear(rt, controller, digits, now).is_none());
+}
+
+/// A tick at this moment sends the packet of these digits and tells nothing.
+fn sends(rt: &impl Abort, controller: &mut Controller, now: u64, digits: &str) {
     assert!(rt; controller.due(now));
     let step = controller.tick(now);
     assert!(rt; step.report.is_none());
     let frame = step.frame.expect(rt, "a frame");
-    assert_eq!(rt; frame.encode().as_slice(), bytes);
+    is_spelled(rt, frame.encode().as_slice(), digits);
     assert!(rt; controller.outstanding());
 }
 
@@ -105,28 +104,52 @@ fn sends(rt: &impl Abort, controller: &mut Controller, now: u64, bytes: &[u8]) {
 fn stays(rt: &impl Abort, controller: &mut Controller, now: u64) {
     assert!(rt; !controller.due(now));
     let step = controller.tick(now);
-    assert!(rt; step.report.is_none());
-    assert!(rt; step.frame.is_none());
+    assert!(rt; step.report.is_none() && step.frame.is_none());
+}
+
+/// A tick at this moment ends the session for want of a reply, with this command unsettled.
+fn ends(rt: &impl Abort, controller: &mut Controller, now: u64, command: &Option<Command>) {
+    let step = controller.tick(now);
+    assert!(rt; step.frame.is_none() && is_lost(&step.report, LostCause::NoReply, command));
+}
+
+/// The next tick is due at this moment.
+fn is_due(rt: &impl Abort, controller: &Controller, moment: Option<u64>) {
+    assert_eq!(rt; controller.next_deadline(), moment);
+}
+
+/// So many frames of the exchange went out.
+fn has_sent(rt: &impl Abort, controller: &Controller, frames: u32) {
+    assert_eq!(rt; controller.sent_in_exchange(), frames);
+}
+
+/// Whether it is what an opened session tells.
+fn is_opened(report: &Option<Report>) -> bool {
+    match report {
+        Some(Report::Opened(id)) => *id == OPENED,
+        _ => false,
+    }
+}
+
+/// Neither the number nor the address of these replies is right, and the session stays closed.
+fn hears_no_other(rt: &impl Abort, controller: &mut Controller) {
+    passes_by(rt, controller, PDID_1, 405);
+    assert!(rt; controller.outstanding());
+    passes_by(rt, controller, PDID_OF_6, 405);
+    assert!(rt; controller.outstanding());
 }
 
 /// A controller of a session that was opened at 410.
 fn opened(rt: &impl Abort, alloc: Global) -> Controller {
-    let made = Controller::new(alloc, config(rt), 4);
-    let mut controller = made.ok().expect(rt, "a controller");
-    assert_eq!(rt; controller.next_deadline(), None);
+    let mut controller = new_controller(rt, alloc, 4);
+    is_due(rt, &controller, None);
     assert_eq!(rt; controller.begin(0), Ok(()));
-    assert_eq!(rt; controller.next_deadline(), Some(400));
+    is_due(rt, &controller, Some(400));
     stays(rt, &mut controller, 399);
-    sends(rt, &mut controller, 400, &ID);
-    assert_eq!(rt; controller.sent_in_exchange(), 1);
-    for bytes in [PDID_1, PDID_OF_6] {
-        assert!(rt; hear(rt, &mut controller, &bytes, 405).is_none());
-        assert!(rt; controller.outstanding());
-    }
-    match hear(rt, &mut controller, &PDID, 410) {
-        Some(Report::Opened(id)) => assert!(rt; id == OPENED, "another device"),
-        _ => assert!(rt; false, "opened"),
-    }
+    sends(rt, &mut controller, 400, ID);
+    has_sent(rt, &controller, 1);
+    hears_no_other(rt, &mut controller);
+    assert!(rt; is_opened(&hear(rt, &mut controller, PDID, 410)));
     assert!(rt; !controller.outstanding());
     controller
 }
@@ -147,186 +170,234 @@ fn is_lost(report: &Option<Report>, cause: LostCause, command: &Option<Command>)
     }
 }
 
+/// An OUT waits.
+fn submits_output(rt: &impl Abort, controller: &mut Controller) -> Command {
+    let output = command(rt, &["OUT", "0:2:0"]);
+    assert!(rt; controller.submit(output.copy()).is_ok());
+    output
+}
+
+/// An OUT goes out at 411, and is settled at 420.
+fn settles_output(rt: &impl Abort, controller: &mut Controller) {
+    let output = submits_output(rt, controller);
+    is_due(rt, controller, Some(410));
+    sends(rt, controller, 411, OUT_1);
+    let report = hear(rt, controller, ACK_1, 420);
+    assert!(rt; is_settled(&report, &output, &Reply::Ack));
+}
+
+/// The event of a report is spelled so.
+fn tells_event(rt: &impl Abort, report: Option<Report>, digits: &str) {
+    match report {
+        Some(Report::Event(event)) => {
+            is_spelled(rt, event.to_reply().write().as_slice(), digits);
+        }
+        _ => assert!(rt; false, "an event"),
+    }
+}
+
+/// POLL 2 goes out at 470, and its reply of 480 tells keys 12.
+fn tells_keys(rt: &impl Abort, controller: &mut Controller) {
+    is_due(rt, controller, Some(470));
+    stays(rt, controller, 469);
+    sends(rt, controller, 470, POLL_2);
+    tells_event(rt, hear(rt, controller, KEYPAD_2, 480), "5300023132");
+}
+
+/// POLL 3 goes out three times, and the session ends at 1130.
+fn loses_reader(rt: &impl Abort, controller: &mut Controller) {
+    sends(rt, controller, 530, POLL_3);
+    stays(rt, controller, 729);
+    sends(rt, controller, 730, POLL_3);
+    sends(rt, controller, 930, POLL_3);
+    has_sent(rt, controller, 3);
+    ends(rt, controller, 1130, &None);
+}
+
 #[test]
 fn a_session(rt: HostRuntime) {
     let mut controller = opened(&rt, rt.alloc());
-    let output = command(&rt, &["OUT", "0:2:0"]);
-    assert!(rt; controller.submit(output.copy()).is_ok());
-    assert_eq!(rt; controller.next_deadline(), Some(410));
-    sends(&rt, &mut controller, 411, &OUT_1);
-    let report = hear(&rt, &mut controller, &ACK_1, 420);
-    assert!(rt; is_settled(&report, &output, &Reply::Ack));
-    assert_eq!(rt; controller.next_deadline(), Some(470));
-    stays(&rt, &mut controller, 469);
-    sends(&rt, &mut controller, 470, &POLL_2);
-    match hear(&rt, &mut controller, &KEYPAD_2, 480) {
-        Some(Report::Event(event)) => assert_eq!(rt;
-            event.to_reply().write().as_slice(),
-            &KEYPAD_2[5..10]
-        ),
-        _ => assert!(rt; false, "an event"),
-    }
-    sends(&rt, &mut controller, 530, &POLL_3);
-    stays(&rt, &mut controller, 729);
-    sends(&rt, &mut controller, 730, &POLL_3);
-    sends(&rt, &mut controller, 930, &POLL_3);
-    assert_eq!(rt; controller.sent_in_exchange(), 3);
-    let step = controller.tick(1130);
-    assert!(rt; step.frame.is_none());
-    assert!(rt; is_lost(&step.report, LostCause::NoReply, &None));
+    settles_output(&rt, &mut controller);
+    tells_keys(&rt, &mut controller);
+    loses_reader(&rt, &mut controller);
     assert_eq!(rt; controller.begin(1130), Ok(()));
     assert_eq!(rt; controller.begin(1130), Err(ControllerFault::NotClosed));
+}
+
+/// At this moment a POLL goes out, and an ACK comes.
+fn polls(rt: &impl Abort, controller: &mut Controller, now: u64, poll: &str, ack: &str) {
+    sends(rt, controller, now, poll);
+    passes_by(rt, controller, ack, now);
 }
 
 /// The fourth exchange behind the opening goes by number 1 again.
 #[test]
 fn numbers_take_turns(rt: HostRuntime) {
     let mut controller = opened(&rt, rt.alloc());
-    let rows: [([u8; 7], [u8; 7]); 3] = [(POLL_1, ACK_1), (POLL_2, ACK_2), (POLL_3, ACK_3)];
-    let mut now = 410;
-    for (poll, ack) in rows {
-        assert!(rt; now < 1000);
-        now += 50;
-        sends(&rt, &mut controller, now, &poll);
-        assert!(rt; hear(&rt, &mut controller, &ack, now).is_none());
-    }
-    sends(&rt, &mut controller, 1000, &POLL_1);
+    polls(&rt, &mut controller, 460, POLL_1, ACK_1);
+    polls(&rt, &mut controller, 510, POLL_2, ACK_2);
+    polls(&rt, &mut controller, 560, POLL_3, ACK_3);
+    sends(&rt, &mut controller, 1000, POLL_1);
+}
+
+/// An OUT goes out for this time, and the replies of a busy reader tell nothing.
+fn asks_busy_reader(rt: &impl Abort, controller: &mut Controller, now: u64, frames: u32) {
+    sends(rt, controller, now, OUT_1);
+    has_sent(rt, controller, frames);
+    passes_by(rt, controller, BUSY, now);
+    passes_by(rt, controller, BUSY, now);
+    passes_by(rt, controller, NAK_1, now);
 }
 
 /// Twenty-one frames go out, and the twenty-first BUSY ends the session.
 #[test]
 fn a_reader_that_is_always_busy(rt: HostRuntime) {
     let mut controller = opened(&rt, rt.alloc());
-    let output = command(&rt, &["OUT", "0:2:0"]);
-    assert!(rt; controller.submit(output.copy()).is_ok());
+    let output = submits_output(&rt, &mut controller);
     for count in 1..=20u32 {
         let now = 400 + 50 * u64::from(count);
-        sends(&rt, &mut controller, now, &OUT_1);
-        assert_eq!(rt; controller.sent_in_exchange(), count);
-        assert!(rt; hear(&rt, &mut controller, &BUSY, now).is_none());
-        assert!(rt; hear(&rt, &mut controller, &BUSY, now).is_none());
-        assert!(rt; hear(&rt, &mut controller, &NAK_1, now).is_none());
+        asks_busy_reader(&rt, &mut controller, now, count);
     }
-    sends(&rt, &mut controller, 1450, &OUT_1);
-    assert_eq!(rt; controller.sent_in_exchange(), 21);
-    let report = hear(&rt, &mut controller, &BUSY, 1450);
+    sends(&rt, &mut controller, 1450, OUT_1);
+    has_sent(&rt, &controller, 21);
+    let report = hear(&rt, &mut controller, BUSY, 1450);
     assert!(rt; is_lost(&report, LostCause::TooBusy, &Some(output)));
-    assert_eq!(rt; controller.sent_in_exchange(), 0);
+    has_sent(&rt, &controller, 0);
 }
 
 /// Three frames go out, and the tick behind the third NAK 1 ends the session.
 #[test]
 fn a_reader_that_finds_damage(rt: HostRuntime) {
     let mut controller = opened(&rt, rt.alloc());
-    let output = command(&rt, &["OUT", "0:2:0"]);
-    assert!(rt; controller.submit(output.copy()).is_ok());
+    let output = submits_output(&rt, &mut controller);
     for _ in 0..3 {
-        sends(&rt, &mut controller, 500, &OUT_1);
-        assert!(rt; hear(&rt, &mut controller, &NAK_1, 500).is_none());
+        polls(&rt, &mut controller, 500, OUT_1, NAK_1);
     }
-    let step = controller.tick(500);
-    assert!(rt; step.frame.is_none());
-    assert!(rt; is_lost(&step.report, LostCause::NoReply, &Some(output)));
+    ends(&rt, &mut controller, 500, &Some(output));
 }
 
 #[test]
 fn a_number_that_is_refused(rt: HostRuntime) {
     let mut controller = opened(&rt, rt.alloc());
-    let output = command(&rt, &["OUT", "0:2:0"]);
-    assert!(rt; controller.submit(output.copy()).is_ok());
-    sends(&rt, &mut controller, 411, &OUT_1);
-    let report = hear(&rt, &mut controller, &NAK_4, 412);
+    let output = submits_output(&rt, &mut controller);
+    sends(&rt, &mut controller, 411, OUT_1);
+    let report = hear(&rt, &mut controller, NAK_4, 412);
     assert!(rt; is_lost(&report, LostCause::NumberRefused, &Some(output)));
     stays(&rt, &mut controller, u64::MAX);
 }
 
+/// No controller is made with this capacity, whether there is memory or not.
+fn is_out_of_range(rt: &impl Abort, alloc: Global, capacity: usize) {
+    let made = Controller::new(alloc, config(rt), capacity);
+    assert_eq!(rt; made.err(), Some(ControllerFault::OutOfRange));
+}
+
+/// A controller is made with this capacity.
+fn is_made(rt: &impl Abort, alloc: Global, capacity: usize) {
+    assert!(rt; Controller::new(alloc, config(rt), capacity).is_ok());
+}
+
 #[test]
-fn refusals(rt: HostRuntime) {
+fn settings_in_their_ranges(rt: HostRuntime) {
+    is_out_of_range(&rt, rt.alloc(), 0);
+    is_made(&rt, rt.alloc(), 1);
+    is_made(&rt, rt.alloc(), 1024);
+    is_out_of_range(&rt, rt.alloc(), 1025);
+}
+
+#[test]
+fn settings_with_no_frame_to_send(rt: HostRuntime) {
     let mut config = config(&rt);
-    for (capacity, made) in [(0, false), (1, true), (1024, true), (1025, false)] {
-        assert_eq!(rt; Controller::new(rt.alloc(), config, capacity).is_ok(), made);
-    }
     config.sends = 0;
-    assert!(rt;
-        matches!(
-            Controller::new(rt.alloc(), config, 1),
-            Err(ControllerFault::OutOfRange)
-        )
-    );
+    let made = Controller::new(rt.alloc(), config, 1);
+    assert_eq!(rt; made.err(), Some(ControllerFault::OutOfRange));
+}
+
+/// The command comes back with this fault.
+fn refuses(
+    rt: &impl Abort,
+    controller: &mut Controller,
+    command: &Command,
+    fault: ControllerFault,
+) {
+    match controller.submit(command.copy()) {
+        Ok(()) => assert!(rt; false, "taken"),
+        Err((told, back)) => assert!(rt; told == fault && back == *command),
+    }
+}
+
+#[test]
+fn commands_that_are_refused(rt: HostRuntime) {
     let mut controller = opened(&rt, rt.alloc());
-    assert!(rt;
-        matches!(
-            controller.submit(Command::Poll),
-            Err((ControllerFault::PollSubmitted, Command::Poll))
-        )
+    refuses(
+        &rt,
+        &mut controller,
+        &Command::Poll,
+        ControllerFault::PollSubmitted,
     );
     for _ in 0..4 {
         assert!(rt; controller.submit(Command::LocalStatus).is_ok());
     }
-    assert!(rt;
-        matches!(
-            controller.submit(Command::LocalStatus),
-            Err((ControllerFault::Full, Command::LocalStatus))
-        )
+    refuses(
+        &rt,
+        &mut controller,
+        &Command::LocalStatus,
+        ControllerFault::Full,
     );
-    assert!(rt;
-        matches!(
-            controller.submit(Command::Poll),
-            Err((ControllerFault::PollSubmitted, _))
-        )
+    refuses(
+        &rt,
+        &mut controller,
+        &Command::Poll,
+        ControllerFault::PollSubmitted,
     );
-    let seven = Address::new(7).expect(&rt, "an address");
-    assert_eq!(rt; controller.retarget(seven), Err(ControllerFault::NotClosed));
+    retargets(&rt, &mut controller, 7, Err(ControllerFault::NotClosed));
     assert_eq!(rt; controller.address().get(), 5);
 }
 
-const COMSET_1: [u8; 12] = [
-    0x53, 0x05, 0x0c, 0x00, 0x01, 0x6e, 0x07, 0x80, 0x25, 0x00, 0x00, 0x81,
-];
+/// A change to this address is answered so.
+fn retargets(
+    rt: &impl Abort,
+    controller: &mut Controller,
+    address: u8,
+    answer: Result<(), ControllerFault>,
+) {
+    let address = Address::new(address).expect(rt, "an address");
+    assert_eq!(rt; controller.retarget(address), answer);
+}
+
+const COMSET_1: &str = "53050C00016E078025000081";
 
 /// COM 7 9600 from 5, with number 1.
-const COM_1: [u8; 12] = [
-    0x53, 0x85, 0x0c, 0x00, 0x01, 0x54, 0x07, 0x80, 0x25, 0x00, 0x00, 0x1b,
-];
+const COM_1: &str = "53850C00015407802500001B";
 
-#[test]
-fn another_address(rt: HostRuntime) {
-    let mut controller = opened(&rt, rt.alloc());
-    let comset = command(&rt, &["COMSET", "7", "9600"]);
+/// A COMSET to address 7 is settled, and the session ends.
+fn moves(rt: &impl Abort, controller: &mut Controller) {
+    let comset = command(rt, &["COMSET", "7", "9600"]);
     assert!(rt; controller.submit(comset).is_ok());
-    sends(&rt, &mut controller, 411, &COMSET_1);
-    match hear(&rt, &mut controller, &COM_1, 412) {
+    sends(rt, controller, 411, COMSET_1);
+    match hear(rt, controller, COM_1, 412) {
         Some(Report::Moved(_, answered)) => assert_eq!(rt; answered.baud_rate, 9600),
         _ => assert!(rt; false, "moved"),
     }
     assert_eq!(rt; controller.address().get(), 7);
-    let six = Address::new(6).expect(&rt, "an address");
-    assert_eq!(rt; controller.retarget(six), Ok(()));
+}
+
+#[test]
+fn another_address(rt: HostRuntime) {
+    let mut controller = opened(&rt, rt.alloc());
+    moves(&rt, &mut controller);
+    retargets(&rt, &mut controller, 6, Ok(()));
     assert_eq!(rt; controller.address().get(), 6);
-    let configuration = Address::new(127).expect(&rt, "an address");
-    assert_eq!(rt;
-        controller.retarget(configuration),
-        Err(ControllerFault::OutOfRange)
-    );
+    retargets(&rt, &mut controller, 127, Err(ControllerFault::OutOfRange));
 }
 
 /// The settings are judged first, and no call but the first asks for memory. A script refuses each allocation in turn.
 #[test]
 fn want_of_memory_is_told(rt: HostRuntime) {
-    for (capacity, is_within) in [(0, false), (1025, false), (4, true)] {
-        match Controller::new(rt.alloc(), config(&rt), capacity) {
-            Ok(controller) => {
-                assert!(rt; is_within);
-                assert!(rt; !controller.outstanding());
-            }
-            Err(fault) => {
-                let wanted = if is_within {
-                    ControllerFault::NoMemory
-                } else {
-                    ControllerFault::OutOfRange
-                };
-                assert_eq!(rt; fault, wanted);
-            }
-        }
+    is_out_of_range(&rt, rt.alloc(), 0);
+    is_out_of_range(&rt, rt.alloc(), 1025);
+    match Controller::new(rt.alloc(), config(&rt), 4) {
+        Ok(controller) => assert!(rt; !controller.outstanding()),
+        Err(fault) => assert_eq!(rt; fault, ControllerFault::NoMemory),
     }
 }

@@ -107,20 +107,40 @@ fn name_of(kind: Kind) -> &'static str {
     }
 }
 
+/// The packet of these digits meets this line of the table and is answered so.
+fn meets_line(rt: &impl Abort, reader: &mut Reader<Bench>, given: &str, kind: &str, sent: &str) {
+    let response = response_to_digits(rt, reader, given);
+    assert!(rt; name_of(line(&response)) == kind, "{given}");
+    is_spelled(rt, response.bytes(), sent);
+}
+
+/// So many events wait.
+fn has_waiting(rt: &impl Abort, reader: &Reader<Bench>, count: &str) {
+    let count: usize = count.parse().ok().expect(rt, "a number of events");
+    assert!(rt; reader.waiting() == count);
+}
+
+/// The state of the reader is what the end of a row says.
+fn stands(rt: &impl Abort, reader: &Reader<Bench>, state: &str) {
+    match state.split_once(' ') {
+        None => has_waiting(rt, reader, state),
+        Some((waiting, stored)) => {
+            has_waiting(rt, reader, waiting);
+            is_spelled(rt, reader.stored(), stored);
+        }
+    }
+}
+
 /// The packet of this row is answered as the row has it.
 fn is_answered(rt: &impl Abort, reader: &mut Reader<Bench>, row: &str) {
-    let mut words = row.split(' ');
-    let given = words.next().expect(rt, "a packet");
-    let kind = words.next().expect(rt, "a line of the table");
-    let sent = words.next().expect(rt, "a reply");
-    let response = response_to_digits(rt, reader, given);
-    assert_eq!(rt; name_of(line(&response)), kind, "{row}");
-    is_spelled(rt, response.bytes(), sent);
-    if let Some(waiting) = words.next() {
-        assert_eq!(rt; waiting.parse(), Ok(reader.waiting()), "{row}");
-    }
-    if let Some(stored) = words.next() {
-        is_spelled(rt, reader.stored(), stored);
+    let (given, rest) = row.split_once(' ').expect(rt, "a line of the table");
+    let (kind, rest) = rest.split_once(' ').expect(rt, "a reply");
+    match rest.split_once(' ') {
+        None => meets_line(rt, reader, given, kind, rest),
+        Some((sent, state)) => {
+            meets_line(rt, reader, given, kind, sent);
+            stands(rt, reader, state);
+        }
     }
 }
 

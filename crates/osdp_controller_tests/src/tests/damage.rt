@@ -6,37 +6,26 @@ use osdp_frame::FrameView;
 use osdp_msg::NakReason;
 
 /// Packets of both ends, as they are shown elsewhere.
-const PACKETS: [&[u8]; 18] = [
-    &[0x53, 0x00, 0x07, 0x00, 0x00, 0x60, 0x46],
-    &[0x53, 0x00, 0x08, 0x00, 0x04, 0x60, 0xeb, 0xaa],
-    &[0x53, 0x80, 0x08, 0x00, 0x05, 0x40, 0x68, 0x9f],
-    &ID,
-    &OUT_1,
-    &[
-        0x53, 0x05, 0x0c, 0x00, 0x05, 0x68, 0x00, 0x02, 0x00, 0x00, 0x51, 0x83,
-    ],
-    &[
-        0x53, 0x05, 0x15, 0x00, 0x02, 0x69, 0x00, 0x00, 0x02, 0x05, 0x05, 0x01, 0x00, 0x1e, 0x00,
-        0x01, 0x01, 0x00, 0x02, 0x00, 0xf9,
-    ],
-    &COMSET_1,
-    &PDID,
-    &[
-        0x53, 0x85, 0x0d, 0x00, 0x01, 0x46, 0x02, 0x01, 0x08, 0x08, 0x01, 0x00, 0xc0,
-    ],
-    &[0x53, 0x85, 0x09, 0x00, 0x02, 0x48, 0x00, 0x01, 0xd4],
-    &[
-        0x53, 0x85, 0x0f, 0x00, 0x01, 0x50, 0x00, 0x00, 0x1a, 0x00, 0x0a, 0x0b, 0x0c, 0x40, 0x4d,
-    ],
-    &KEYPAD_2,
-    &[0x53, 0x85, 0x08, 0x00, 0x03, 0x41, 0x04, 0xd8],
-    &BUSY,
-    &[0x53, 0xff, 0x07, 0x00, 0x00, 0x40, 0x67],
-    &[
-        0x53, 0x05, 0x0b, 0x00, 0x03, 0x80, 0x53, 0x49, 0x4d, 0x01, 0x30,
-    ],
-    &[0x53, 0x85, 0x0a, 0x00, 0x03, 0x90, 0x53, 0x49, 0x4d, 0xa2],
-];
+const PACKETS: &str = "\
+53000700006046
+530008000460EBAA
+538008000540689F
+530508000061003F
+53050B0001680002000032
+53050C000568000200005183
+530515000269000002050501001E000101000200F9
+53050C00016E078025000081
+53851300004553494D010101000000010000E3
+53850D000146020108080100C0
+5385090002480001D4
+53850F00015000001A000A0B0C404D
+53850B0002530002313263
+53850800034104D8
+538507000079A8
+53FF0700004067
+53050B00038053494D0130
+53850A00039053494DA2
+";
 
 /// Each packet that a run of these bytes has goes to the controller, and a tick follows.
 fn feed(controller: &mut Controller, bytes: &[u8]) {
@@ -52,26 +41,34 @@ fn feed(controller: &mut Controller, bytes: &[u8]) {
     let _ = controller.tick(u64::MAX);
 }
 
-/// One byte of the packet is changed in each way, in each place.
-fn feed_changes(controller: &mut Controller, packet: &[u8]) {
+/// The byte of the packet at this place is changed in each way.
+fn feed_changes_at(rt: &impl Abort, controller: &mut Controller, packet: &[u8], place: usize) {
     let mut bytes = [0u8; 32];
-    for place in 0..packet.len().min(32) {
-        for change in 0..=255u8 {
-            let len = packet.len().min(32);
-            bytes[..len].copy_from_slice(&packet[..len]);
-            bytes[place] = change;
-            feed(controller, &bytes[..len]);
-            let _ = controller.begin(0);
-        }
+    let len = packet.len();
+    assert!(rt; len <= 32 && place < len);
+    for change in 0..=255u8 {
+        bytes[..len].copy_from_slice(packet);
+        bytes[place] = change;
+        feed(controller, &bytes[..len]);
+        let _ = controller.begin(0);
+    }
+}
+
+/// Each byte of the packet is changed in each way.
+fn feed_changes(rt: &impl Abort, controller: &mut Controller, digits: &str) {
+    let mut buffer = [0; 32];
+    let packet = bytes_of(rt, digits, &mut buffer);
+    for place in 0..packet.len() {
+        feed_changes_at(rt, controller, packet, place);
     }
 }
 
 /// Whatever comes, no call faults: each returns.
 #[test]
 fn packets_with_one_byte_changed(rt: HostRuntime) {
-    for packet in PACKETS {
+    for digits in PACKETS.lines() {
         let mut controller = opened(&rt, rt.alloc());
-        feed_changes(&mut controller, packet);
+        feed_changes(&rt, &mut controller, digits);
     }
 }
 
@@ -89,6 +86,35 @@ fn spell_check(rt: &impl Abort, bytes: &mut [u8]) {
     check.copy_from_slice(&spelled[..size]);
 }
 
+/// Whether it is told that a number was refused while this command was outstanding.
+fn is_number_refused(report: &Option<Report>, command: &Command) -> bool {
+    match report {
+        Some(Report::Lost(LostCause::NumberRefused, Some(told))) => told == command,
+        _ => false,
+    }
+}
+
+/// Whether it is told that the reply to this command has this code and cannot be read.
+fn is_unread(report: &Option<Report>, command: &Command, code: u8) -> bool {
+    match report {
+        Some(Report::Unread(Some(told), told_code)) => told == command && *told_code == code,
+        _ => false,
+    }
+}
+
+/// Whether the report is what this reply to the command has to bring about.
+fn is_due_to(report: &Option<Report>, reply: &Reply, command: &Command) -> bool {
+    match reply {
+        Reply::Busy => report.is_none(),
+        Reply::Nak(nak) => match nak.reason {
+            NakReason::CheckCharacters => report.is_none(),
+            NakReason::UnexpectedSequence => is_number_refused(report, command),
+            _ => is_settled(report, command, reply),
+        },
+        _ => is_settled(report, command, reply),
+    }
+}
+
 /// Whether the report is what a frame has to bring about while this command of 5 is outstanding with this number.
 fn is_due_report(
     report: &Option<Report>,
@@ -101,54 +127,73 @@ fn is_due_report(
         return report.is_none();
     }
     match Reply::read(frame.code(), frame.payload()) {
-        Ok(Reply::Busy) => report.is_none(),
-        Ok(Reply::Nak(nak)) if nak.reason == NakReason::CheckCharacters => report.is_none(),
-        Ok(Reply::Nak(nak)) if nak.reason == NakReason::UnexpectedSequence => match report {
-            Some(Report::Lost(LostCause::NumberRefused, Some(told))) => told == command,
-            _ => false,
-        },
-        Ok(reply) => is_settled(report, command, &reply),
-        Err(_) => match report {
-            Some(Report::Unread(Some(told), code)) => told == command && *code == frame.code(),
-            _ => false,
-        },
+        Ok(reply) => is_due_to(report, &reply, command),
+        Err(_) => is_unread(report, command, frame.code()),
+    }
+}
+
+/// Opens a session where none stands.
+fn open(rt: &impl Abort, controller: &mut Controller) {
+    if controller.begin(0).is_ok() {
+        let now = controller.next_deadline().expect(rt, "a deadline");
+        sends(rt, controller, now, ID);
+        let report = hear(rt, controller, PDID, now);
+        assert!(rt; matches!(report, Some(Report::Opened(_))));
     }
 }
 
 /// Sends the command, in a new session where none stands, and gives the number that it goes by.
 fn ask(rt: &impl Abort, controller: &mut Controller, command: &Command) -> u8 {
-    if controller.begin(0).is_ok() {
-        let now = controller.next_deadline().expect(rt, "a deadline");
-        sends(rt, controller, now, &ID);
-        let report = hear(rt, controller, &PDID, now);
-        assert!(rt; matches!(report, Some(Report::Opened(_))));
-    }
+    open(rt, controller);
     assert!(rt; controller.submit(command.copy()).is_ok());
     let now = controller.next_deadline().expect(rt, "a deadline");
     let frame = controller.tick(now).frame.expect(rt, "a frame");
-    assert_eq!(rt; frame.view().body(), &OUT_1[5..10]);
+    is_spelled(rt, frame.view().body(), "6800020000");
     frame.view().seq().get()
 }
 
-/// Whether the bytes begin with a packet. It brings about what it has to while this command is outstanding.
+/// The frame brings about what it has to while this command is outstanding.
+fn answer_with_frame(
+    rt: &impl Abort,
+    controller: &mut Controller,
+    command: &Command,
+    number: u8,
+    frame: &FrameView<'_>,
+) {
+    let report = controller.on_frame(frame, 0);
+    assert!(rt; is_due_report(&report, frame, command, number));
+    assert!(rt; controller.outstanding() == report.is_none());
+}
+
+/// How many packets the bytes begin with, one or none. It brings about what it has to while this command is outstanding.
 fn answer_with(
     rt: &impl Abort,
     controller: &mut Controller,
     command: &Command,
     number: u8,
     bytes: &[u8],
-) -> bool {
-    let mut framer = Framer::new();
-    assert_eq!(rt; framer.push(bytes), bytes.len());
+) -> usize {
+    let mut framer = framer_of(rt, bytes);
     match framer.next() {
         Some(Item::Packet(frame)) => {
-            let report = controller.on_frame(&frame, 0);
-            assert!(rt; is_due_report(&report, &frame, command, number));
-            assert_eq!(rt; controller.outstanding(), report.is_none());
-            true
+            answer_with_frame(rt, controller, command, number, &frame);
+            1
         }
-        _ => false,
+        _ => 0,
     }
+}
+
+/// The packet as a reply from 5 with this number, the byte at one place changed, and the check spelled anew.
+fn changed(rt: &impl Abort, packet: &[u8], number: u8, place: usize, change: u8) -> [u8; 32] {
+    let len = packet.len();
+    assert!(rt; 7 <= len && len <= 32 && place < len && number <= 3);
+    let mut bytes = [0u8; 32];
+    bytes[..len].copy_from_slice(packet);
+    bytes[1] = 0x85;
+    bytes[4] = packet[4] / 4 * 4 + number;
+    bytes[place] = change;
+    spell_check(rt, &mut bytes[..len]);
+    bytes
 }
 
 /// The byte at this place of a reply from 5 with the outstanding number is changed in each way, and the check spelled
@@ -161,23 +206,16 @@ fn answer_with_changes(
     place: usize,
 ) -> usize {
     let len = packet.len();
-    assert!(rt; 7 <= len && len <= 32 && place < len);
-    let mut bytes = [0u8; 32];
+    assert!(rt; len <= 32);
     let mut packets = 0usize;
     let mut number = 0;
     for change in 0..=255u8 {
         if !controller.outstanding() {
             number = ask(rt, controller, command);
         }
-        assert!(rt; number <= 3);
-        bytes[..len].copy_from_slice(packet);
-        bytes[1] = 0x85;
-        bytes[4] = packet[4] / 4 * 4 + number;
-        bytes[place] = change;
-        spell_check(rt, &mut bytes[..len]);
-        if answer_with(rt, controller, command, number, &bytes[..len]) {
-            packets = packets.saturating_add(1);
-        }
+        let bytes = changed(rt, packet, number, place, change);
+        let count = answer_with(rt, controller, command, number, &bytes[..len]);
+        packets = packets.saturating_add(count);
     }
     packets
 }
@@ -189,29 +227,41 @@ fn opens_again(rt: &impl Abort, controller: &mut Controller, command: &Command) 
             let _ = controller.tick(deadline);
         }
     }
-    assert_eq!(rt; controller.next_deadline(), None);
+    is_due(rt, controller, None);
     assert_eq!(rt; ask(rt, controller, command), 1);
 }
 
-/// Each frame that comes with a right check has its one effect, and behind each a session opens. The bytes of the
-/// length aside, each change is a packet, or, of the kind of check, may be.
+/// The bytes of the length aside, each change is a packet, or, of the kind of check, may be. A session opens behind all.
+fn changes_are_answered(rt: &impl Abort, alloc: Global, packet: &[u8], place: usize) {
+    let output = command(rt, &["OUT", "0:2:0"]);
+    let mut controller = new_controller(rt, alloc, 1);
+    let packets = answer_with_changes(rt, &mut controller, &output, packet, place);
+    assert!(rt; packets == 256 || place == 4 && packets >= 128);
+    opens_again(rt, &mut controller, &output);
+}
+
+/// Each byte of a reply is changed but those of its length and its check. Tells how many replies the digits are: one or none.
+fn reply_is_answered(rt: &impl Abort, alloc: Global, digits: &str) -> usize {
+    let mut buffer = [0; 32];
+    let packet = bytes_of(rt, digits, &mut buffer);
+    assert!(rt; packet.len() >= 7);
+    if packet[1] < 128 {
+        return 0;
+    }
+    let size = if packet[4] / 4 % 2 == 1 { 2 } else { 1 };
+    changes_are_answered(rt, alloc, packet, 1);
+    for place in 4..packet.len() - size {
+        changes_are_answered(rt, alloc, packet, place);
+    }
+    1
+}
+
+/// Each frame that comes with a right check has its one effect, and behind each a session opens.
 #[test]
 fn replies_with_one_byte_changed(rt: HostRuntime) {
-    let output = command(&rt, &["OUT", "0:2:0"]);
     let mut replies = 0usize;
-    for packet in PACKETS {
-        assert!(rt; packet.len() >= 7);
-        if packet[1] >= 128 {
-            replies = replies.saturating_add(1);
-            let size = if packet[4] / 4 % 2 == 1 { 2 } else { 1 };
-            for place in [1].into_iter().chain(4..packet.len() - size) {
-                let made = Controller::new(rt.alloc(), config(&rt), 1);
-                let mut controller = made.ok().expect(&rt, "a controller");
-                let packets = answer_with_changes(&rt, &mut controller, &output, packet, place);
-                assert!(rt; packets == 256 || place == 4 && packets >= 128);
-                opens_again(&rt, &mut controller, &output);
-            }
-        }
+    for digits in PACKETS.lines() {
+        replies = replies.saturating_add(reply_is_answered(&rt, rt.alloc(), digits));
     }
     assert_eq!(rt; replies, 10);
 }
