@@ -1,5 +1,8 @@
 use osdp_job::*;
 use osdp_stream::ToolFault;
+use std::alloc::{AllocError, Global};
+use std::process::Abort;
+use std::test::Fail;
 
 const LINES: Mode = Mode {
     raw: false,
@@ -21,86 +24,58 @@ const RAW_JOIN: Mode = Mode {
     join: true,
 };
 
-#[test]
-fn options_stand_in_any_order(rt: HostRuntime) {
-    let lists: [(&[&str], Mode); 5] = [
-        (&[], LINES),
-        (&["--raw"], RAW),
-        (&["--join"], JOIN),
-        (&["--raw", "--join"], RAW_JOIN),
-        (&["--join", "--raw"], RAW_JOIN),
-    ];
-    for (options, mode) in lists {
-        let first = options.first().copied().unwrap_or("");
-        let second = options.get(1).copied().unwrap_or("");
-        let count = options.len().min(2) + 1;
-        let show = ["show", first, second];
-        assert_eq!(rt; job(rt.alloc(), &show[..count]), Ok(Job::Show(mode)));
-        let check = ["check", first, second];
-        assert_eq!(rt; job(rt.alloc(), &check[..count]), Ok(Job::Check(mode)));
-    }
+/// The job of a text's words: what stands between its bars.
+fn job_of(alloc: Global, text: &str) -> Result<Result<Job, ToolFault>, AllocError> {
+    let words: Vec<&str> = text.split('|').collect(alloc)?;
+    Ok(job(alloc, words.as_slice()))
+}
+
+/// The options, each behind a bar, make this mode of both commands that have one.
+fn is_mode(rt: &impl Abort, alloc: Global, options: &str, mode: Mode) -> Result<(), Fail> {
+    let mut text = String::from_str(alloc, "show")?;
+    text.push_str(options)?;
+    assert_eq!(rt; job_of(alloc, text.as_str())?, Ok(Job::Show(mode)));
+    let mut text = String::from_str(alloc, "check")?;
+    text.push_str(options)?;
+    assert_eq!(rt; job_of(alloc, text.as_str())?, Ok(Job::Check(mode)));
+    Ok(())
 }
 
 #[test]
-fn other_words_are_bad(rt: HostRuntime) {
-    let lists: [&[&str]; 32] = [
-        &[],
-        &[""],
-        &["SHOW"],
-        &["Show"],
-        &["shows"],
-        &["sho"],
-        &["show "],
-        &["--raw"],
-        &["--raw", "show"],
-        &["show", ""],
-        &["show", "x"],
-        &["show", "-"],
-        &["show", "--"],
-        &["show", "-r"],
-        &["show", "-h"],
-        &["show", "--help"],
-        &["show", "--version"],
-        &["show", "help"],
-        &["show", "--ra"],
-        &["show", "--RAW"],
-        &["show", "--raw=1"],
-        &["show", "--raw="],
-        &["show", "--raw", "--raw"],
-        &["show", "--join", "--join"],
-        &["show", "--raw", "--join", "--raw"],
-        &["show", "--raw", "x"],
-        &["show", "show"],
-        &["check", "--join", "x"],
-        &["check", "--join", "--raw", "--join"],
-        &["help"],
-        &["makes"],
-        &["simulate"],
-    ];
-    for words in lists {
+fn options_stand_in_any_order(rt: HostRuntime) -> Result<(), Fail> {
+    is_mode(&rt, rt.alloc(), "", LINES)?;
+    is_mode(&rt, rt.alloc(), "|--raw", RAW)?;
+    is_mode(&rt, rt.alloc(), "|--join", JOIN)?;
+    is_mode(&rt, rt.alloc(), "|--raw|--join", RAW_JOIN)?;
+    is_mode(&rt, rt.alloc(), "|--join|--raw", RAW_JOIN)
+}
+
+/// Words of no job: a bar between each two, and a semicolon between lists.
+const BAD: &str = "\
+    ;SHOW;Show;shows;sho;show ;--raw;--raw|show;show|;show|x;show|-;show|--;show|-r;show|-h;\
+    show|--help;show|--version;show|help;show|--ra;show|--RAW;show|--raw=1;show|--raw=;\
+    show|--raw|--raw;show|--join|--join;show|--raw|--join|--raw;show|--raw|x;show|show;\
+    check|--join|x;check|--join|--raw|--join;help;makes;simulate;\
+    sim;sim|x;sim|--raw";
+
+/// Simulations are not there yet.
+#[test]
+fn other_words_are_bad(rt: HostRuntime) -> Result<(), Fail> {
+    assert_eq!(rt; job(rt.alloc(), &[]), Err(ToolFault::BadWords));
+    for words in BAD.split(';') {
         assert_eq!(rt;
-            job(rt.alloc(), words),
+            job_of(rt.alloc(), words)?,
             Err(ToolFault::BadWords),
-            "{words:?}"
+            "{words}"
         );
     }
+    Ok(())
 }
 
 #[test]
-fn make_takes_any_words_and_sim_is_not_there_yet(rt: HostRuntime) {
-    let lists: [&[&str]; 4] = [
-        &["make"],
-        &["make", "5", "1", "sum", "POLL"],
-        &["make", "--raw", "--raw"],
-        &["make", "sim"],
-    ];
-    for words in lists {
-        assert_eq!(rt; job(rt.alloc(), words), Ok(Job::Make), "{words:?}");
+fn make_takes_any_words(rt: HostRuntime) -> Result<(), Fail> {
+    for words in "make;make|5|1|sum|POLL;make|--raw|--raw;make|sim".split(';') {
+        assert_eq!(rt; job_of(rt.alloc(), words)?, Ok(Job::Make), "{words}");
     }
-    assert_eq!(rt; job(rt.alloc(), &["sim"]), Err(ToolFault::BadWords));
-    assert_eq!(rt; job(rt.alloc(), &["sim", "x"]), Err(ToolFault::BadWords));
-    assert_eq!(rt;
-        job(rt.alloc(), &["sim", "--raw"]),
-        Err(ToolFault::BadWords)
-    );
+    Ok(())
 }

@@ -6,6 +6,8 @@
 #[cfg(test)]
 mod check;
 #[cfg(test)]
+mod faulty;
+#[cfg(test)]
 mod job;
 #[cfg(test)]
 mod make;

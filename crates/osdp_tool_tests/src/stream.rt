@@ -1,97 +1,11 @@
+use crate::faulty::{Pieces, Refusal, make_pieces, make_sink};
 use osdp_stream::*;
 use std::alloc::{AllocError, Global};
-use std::io;
 use std::io::{ErrorKind, Read, Write};
+use std::process::Abort;
 use std::test::Fail;
 
 const DIGITS: [u8; 10] = *b"0123456789";
-
-/// A reader of the ten digits, in pieces of at most four. Its call of one number, counted from 1,
-/// fails.
-#[derive(Drop)]
-struct Pieces {
-    place: usize,
-    calls: u64,
-    failing_call: u64,
-    kind: ErrorKind,
-}
-
-impl Read for Pieces {
-    fn read(&mut self, buf: &mut [u8]) -> io::Result<usize> {
-        self.calls = self.calls.saturating_add(1);
-        if self.calls == self.failing_call {
-            return Err(io::Error::new(self.kind, "refused"));
-        }
-        let start = self.place.min(10);
-        let count = (10 - start).min(4).min(buf.len());
-        buf[..count].copy_from_slice(&DIGITS[start..start + count]);
-        self.place = start + count;
-        Ok(count)
-    }
-}
-
-/// How a writer refuses a write.
-#[derive(Clone, Copy)]
-enum Refusal {
-    Error(ErrorKind),
-    TakesNone,
-}
-
-/// A writer that takes at most three bytes a call. Its write of one number, counted from 1, is
-/// refused, and its flushes fail where that is wanted.
-#[derive(Drop)]
-struct Sink {
-    taken: [u8; 16],
-    count: usize,
-    writes: u64,
-    flushes: u64,
-    failing_write: u64,
-    refusal: Refusal,
-    flush_fails: bool,
-}
-
-impl Sink {
-    fn new(failing_write: u64, refusal: Refusal, flush_fails: bool) -> Sink {
-        Sink {
-            taken: [0; 16],
-            count: 0,
-            writes: 0,
-            flushes: 0,
-            failing_write,
-            refusal,
-            flush_fails,
-        }
-    }
-
-    fn taken(&self) -> &[u8] {
-        &self.taken[..self.count.min(16)]
-    }
-}
-
-impl Write for Sink {
-    fn write(&mut self, buf: &[u8]) -> io::Result<usize> {
-        self.writes = self.writes.saturating_add(1);
-        if self.writes == self.failing_write {
-            return match self.refusal {
-                Refusal::Error(kind) => Err(io::Error::new(kind, "refused")),
-                Refusal::TakesNone => Ok(0),
-            };
-        }
-        let start = self.count.min(16);
-        let count = (16 - start).min(3).min(buf.len());
-        self.taken[start..start + count].copy_from_slice(&buf[..count]);
-        self.count = start + count;
-        Ok(count)
-    }
-
-    fn flush(&mut self) -> io::Result<()> {
-        self.flushes = self.flushes.saturating_add(1);
-        if self.flush_fails {
-            return Err(io::Error::other("refused"));
-        }
-        Ok(())
-    }
-}
 
 /// Reads to the end of the input, or to its first fault.
 fn read_to_end<R: Read>(
@@ -110,84 +24,82 @@ fn read_to_end<R: Read>(
     Ok((all, None))
 }
 
+/// The digits, in pieces of at most four, are read up to this many calls, of which the last finds the end or fails.
+fn reads_digits(
+    rt: &impl Abort,
+    alloc: Global,
+    mut pieces: Pieces<'_>,
+    calls: u64,
+    count: usize,
+) -> Result<(), Fail> {
+    let failing = pieces.failing_call > 0;
+    let mut input = Watched::new(&mut pieces);
+    let (all, fault) = read_to_end(&mut input, alloc)?;
+    assert_eq!(rt; fault, failing.then_some(ToolFault::ReadFailed));
+    assert_eq!(rt; input.failed(), failing);
+    assert_eq!(rt; pieces.calls, calls, "nothing is tried again");
+    assert_eq!(rt; all.len(), count);
+    assert!(rt; DIGITS.starts_with(all.as_slice()));
+    Ok(())
+}
+
 #[test]
 fn input_is_read_to_its_end(rt: HostRuntime) -> Result<(), Fail> {
-    let mut pieces = Pieces {
-        place: 0,
-        calls: 0,
-        failing_call: 0,
-        kind: ErrorKind::Other,
-    };
-    let mut input = Watched::new(&mut pieces);
-    let (all, fault) = read_to_end(&mut input, rt.alloc())?;
-    assert_eq!(rt; all.as_slice(), DIGITS.as_slice());
-    assert_eq!(rt; fault, None);
-    assert!(rt; !input.failed());
-    assert_eq!(rt; pieces.calls, 4);
+    let digits = make_pieces(&DIGITS, 4, 0, ErrorKind::Other);
+    reads_digits(&rt, rt.alloc(), digits, 4, 10)
+}
+
+/// Each read fails in turn.
+fn each_read_fails(rt: &impl Abort, alloc: Global, kind: ErrorKind) -> Result<(), Fail> {
+    for (call, count) in [(1, 0), (2, 4), (3, 8), (4, 10)] {
+        reads_digits(rt, alloc, make_pieces(&DIGITS, 4, call, kind), call, count)?;
+    }
     Ok(())
 }
 
 #[test]
 fn each_failed_read_ends_the_input(rt: HostRuntime) -> Result<(), Fail> {
-    for kind in [ErrorKind::Other, ErrorKind::Interrupted] {
-        for failing_call in 1..5 {
-            let mut pieces = Pieces {
-                place: 0,
-                calls: 0,
-                failing_call,
-                kind,
-            };
-            let mut input = Watched::new(&mut pieces);
-            let (all, fault) = read_to_end(&mut input, rt.alloc())?;
-            assert_eq!(rt; fault, Some(ToolFault::ReadFailed));
-            assert!(rt; input.failed());
-            assert_eq!(rt; pieces.calls, failing_call, "nothing is tried again");
-            let count = [0, 4, 8, 10][failing_call as usize - 1];
-            assert_eq!(rt; all.as_slice(), &DIGITS[..count]);
-        }
-    }
-    Ok(())
+    each_read_fails(&rt, rt.alloc(), ErrorKind::Other)?;
+    each_read_fails(&rt, rt.alloc(), ErrorKind::Interrupted)
 }
 
 #[test]
 fn output_is_written_whole(rt: HostRuntime) {
-    let mut sink = Sink::new(0, Refusal::TakesNone, false);
+    let mut sink = make_sink(rt.alloc(), 3, 0, None, false);
     let mut output = Watched::new(&mut sink);
     assert_eq!(rt; write_out(&mut output, &DIGITS), Ok(()));
     assert_eq!(rt; write_out(&mut output, b""), Ok(()));
     assert_eq!(rt; flush_out(&mut output), Ok(()));
     assert!(rt; !output.failed());
-    assert_eq!(rt; sink.taken(), DIGITS.as_slice());
-    assert_eq!(rt; sink.writes, 4);
-    assert_eq!(rt; sink.flushes, 1);
+    assert_eq!(rt; sink.taken.as_slice(), DIGITS.as_slice());
+    assert_eq!(rt; (sink.writes, sink.flushes), (4, 1));
 }
 
-#[test]
-fn each_failed_write_ends_the_output(rt: HostRuntime) {
-    let refusals = [
-        Refusal::Error(ErrorKind::Other),
-        Refusal::Error(ErrorKind::Interrupted),
-        Refusal::TakesNone,
-    ];
-    for refusal in refusals {
-        for failing_write in 1..5 {
-            let mut sink = Sink::new(failing_write, refusal, false);
-            let mut output = Watched::new(&mut sink);
-            assert_eq!(rt;
-                write_out(&mut output, &DIGITS),
-                Err(ToolFault::WriteFailed)
-            );
-            assert!(rt; output.failed());
-            assert_eq!(rt; sink.writes, failing_write, "nothing is tried again");
-            let count = 3 * (failing_write as usize - 1);
-            assert_eq!(rt; sink.taken(), &DIGITS[..count]);
-        }
+/// Each write of the digits is refused in turn, three bytes a write.
+fn each_write_fails(rt: &impl Abort, alloc: Global, refusal: Refusal) {
+    for (failing_write, count) in [(1, 0), (2, 3), (3, 6), (4, 9)] {
+        let mut sink = make_sink(alloc, 3, failing_write, refusal, false);
+        let mut output = Watched::new(&mut sink);
+        assert_eq!(rt;
+            write_out(&mut output, &DIGITS),
+            Err(ToolFault::WriteFailed)
+        );
+        assert!(rt; output.failed());
+        assert_eq!(rt; sink.writes, failing_write, "nothing is tried again");
+        assert_eq!(rt; sink.taken.as_slice(), &DIGITS[..count]);
     }
 }
 
 #[test]
+fn each_failed_write_ends_the_output(rt: HostRuntime) {
+    each_write_fails(&rt, rt.alloc(), Some(ErrorKind::Other));
+    each_write_fails(&rt, rt.alloc(), Some(ErrorKind::Interrupted));
+    each_write_fails(&rt, rt.alloc(), None);
+}
+
+#[test]
 fn an_empty_write_may_take_none(rt: HostRuntime) -> Result<(), Fail> {
-    let mut sink = Sink::new(1, Refusal::TakesNone, false);
+    let mut sink = make_sink(rt.alloc(), 3, 1, None, false);
     let mut output = Watched::new(&mut sink);
     assert_eq!(rt; output.write(b"")?, 0);
     assert!(rt; !output.failed());
@@ -196,80 +108,96 @@ fn an_empty_write_may_take_none(rt: HostRuntime) -> Result<(), Fail> {
 
 #[test]
 fn a_failed_flush_is_noted(rt: HostRuntime) {
-    let mut sink = Sink::new(0, Refusal::TakesNone, true);
+    let mut sink = make_sink(rt.alloc(), 3, 0, None, true);
     let mut output = Watched::new(&mut sink);
     assert_eq!(rt; flush_out(&mut output), Err(ToolFault::WriteFailed));
     assert!(rt; output.failed());
 }
 
+/// What is told of streams of which each failed or not, with this answer of the command itself.
+fn told_first(rt: &impl Abort, own: Result<bool, ToolFault>) {
+    assert_eq!(rt; final_answer(false, false, own), own);
+    assert_eq!(rt; final_answer(false, true, own), Err(ToolFault::WriteFailed));
+    assert_eq!(rt; final_answer(true, false, own), Err(ToolFault::ReadFailed));
+    assert_eq!(rt; final_answer(true, true, own), Err(ToolFault::ReadFailed));
+}
+
 #[test]
 fn failed_streams_are_told_first(rt: HostRuntime) {
-    let read_failed: Result<bool, ToolFault> = Err(ToolFault::ReadFailed);
-    let write_failed: Result<bool, ToolFault> = Err(ToolFault::WriteFailed);
-    for own in [
-        Ok(true),
-        Ok(false),
-        Err(ToolFault::NotHex(3)),
-        Err(ToolFault::NoMemory),
-    ] {
-        assert_eq!(rt; final_answer(false, false, own), own);
-        assert_eq!(rt; final_answer(false, true, own), write_failed);
-        assert_eq!(rt; final_answer(true, false, own), read_failed);
-        assert_eq!(rt; final_answer(true, true, own), read_failed);
-    }
+    told_first(&rt, Ok(true));
+    told_first(&rt, Ok(false));
+    told_first(&rt, Err(ToolFault::NotHex(3)));
+    told_first(&rt, Err(ToolFault::NoMemory));
+}
+
+fn flushed_before(rt: &impl Abort, alloc: Global, own: Result<bool, ToolFault>) {
+    let mut well = make_sink(alloc, 3, 0, None, false);
+    assert_eq!(rt; finish(false, &mut Watched::new(&mut well), own), own);
+    assert_eq!(rt; well.flushes, 1);
+    let mut unflushed = make_sink(alloc, 3, 0, None, true);
+    let answer = finish(false, &mut Watched::new(&mut unflushed), own);
+    assert_eq!(rt; answer, Err(ToolFault::WriteFailed));
+}
+
+fn left_unflushed(rt: &impl Abort, alloc: Global, own: Result<bool, ToolFault>) {
+    let mut sink = make_sink(alloc, 3, 1, None, false);
+    let mut output = Watched::new(&mut sink);
+    let _ = write_out(&mut output, &DIGITS);
+    assert_eq!(rt;
+        finish(false, &mut output, own),
+        Err(ToolFault::WriteFailed)
+    );
+    assert_eq!(rt;
+        sink.flushes,
+        0,
+        "nothing more goes out after a failed write"
+    );
 }
 
 #[test]
 fn output_is_flushed_before_the_answer(rt: HostRuntime) {
-    for own in [Ok(true), Err(ToolFault::NotHex(3))] {
-        let mut sink = Sink::new(0, Refusal::TakesNone, false);
-        assert_eq!(rt; finish(false, &mut Watched::new(&mut sink), own), own);
-        assert_eq!(rt; sink.flushes, 1);
+    flushed_before(&rt, rt.alloc(), Ok(true));
+    flushed_before(&rt, rt.alloc(), Err(ToolFault::NotHex(3)));
+    left_unflushed(&rt, rt.alloc(), Ok(true));
+    left_unflushed(&rt, rt.alloc(), Err(ToolFault::NotHex(3)));
+}
 
-        let mut sink = Sink::new(0, Refusal::TakesNone, true);
-        let answer = finish(false, &mut Watched::new(&mut sink), own);
-        assert_eq!(rt; answer, Err(ToolFault::WriteFailed));
-
-        let mut sink = Sink::new(1, Refusal::TakesNone, false);
-        let mut output = Watched::new(&mut sink);
-        let _ = write_out(&mut output, &DIGITS);
-        assert_eq!(rt;
-            finish(false, &mut output, own),
-            Err(ToolFault::WriteFailed)
-        );
-        assert_eq!(rt;
-            sink.flushes,
-            0,
-            "nothing more goes out after a failed write"
-        );
-    }
+/// The fault has this exit status and text.
+fn is_told(
+    rt: &impl Abort,
+    alloc: Global,
+    fault: ToolFault,
+    status: u8,
+    text: &str,
+) -> Result<(), Fail> {
+    assert_eq!(rt; fault.status(), status);
+    assert_eq!(rt; fault.to_string(alloc)?.as_str(), text);
+    Ok(())
 }
 
 #[test]
-fn faults_have_their_texts_and_statuses(rt: HostRuntime) -> Result<(), Fail> {
-    let faults = [
-        (ToolFault::NotHex(7), 2, "osdp: line 7: not hex"),
-        (ToolFault::TooLong, 2, "osdp: input too long"),
-        (ToolFault::BadWords, 2, "osdp: bad words"),
-        (ToolFault::BadStep(12), 2, "osdp: line 12: bad step"),
-        (
-            ToolFault::HoldsPacket(0),
-            2,
-            "osdp: step 0: damage holds a packet",
-        ),
-        (
-            ToolFault::NotQuiet(67108864),
-            2,
-            "osdp: step 67108864: line not quiet",
-        ),
-        (ToolFault::ReadFailed, 3, "osdp: read failed"),
-        (ToolFault::WriteFailed, 3, "osdp: write failed"),
-        (ToolFault::NoMemory, 4, "osdp: no memory"),
-    ];
-    for (fault, status, text) in faults {
-        assert_eq!(rt; fault.status(), status);
-        let shown = format!(in rt.alloc(); "{fault}")?;
-        assert_eq!(rt; shown.as_str(), text);
-    }
-    Ok(())
+fn faults_of_the_input_are_told(rt: HostRuntime) -> Result<(), Fail> {
+    let alloc = rt.alloc();
+    is_told(&rt, alloc, ToolFault::NotHex(7), 2, "osdp: line 7: not hex")?;
+    is_told(&rt, alloc, ToolFault::TooLong, 2, "osdp: input too long")?;
+    is_told(&rt, alloc, ToolFault::BadWords, 2, "osdp: bad words")?;
+    is_told(
+        &rt,
+        alloc,
+        ToolFault::BadStep(12),
+        2,
+        "osdp: line 12: bad step",
+    )?;
+    let holds = ToolFault::HoldsPacket(0);
+    is_told(&rt, alloc, holds, 2, "osdp: step 0: damage holds a packet")?;
+    let loud = ToolFault::NotQuiet(67108864);
+    is_told(&rt, alloc, loud, 2, "osdp: step 67108864: line not quiet")
+}
+
+#[test]
+fn faults_of_the_host_are_told(rt: HostRuntime) -> Result<(), Fail> {
+    let alloc = rt.alloc();
+    is_told(&rt, alloc, ToolFault::ReadFailed, 3, "osdp: read failed")?;
+    is_told(&rt, alloc, ToolFault::WriteFailed, 3, "osdp: write failed")?;
+    is_told(&rt, alloc, ToolFault::NoMemory, 4, "osdp: no memory")
 }

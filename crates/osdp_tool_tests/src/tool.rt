@@ -84,3 +84,12 @@ fn expect_checked(
     let mut input = input;
     expect(rt, &checked_from(alloc, mode, &mut input), answer, text);
 }
+
+/// `show` of each row's input, its lines apart, prints the row's text, and answers so. A bar stands between the
+/// two, and a semicolon between rows.
+fn expect_rows(rt: &impl Abort, alloc: Global, rows: &str, answer: Result<bool, ToolFault>) {
+    for row in rows.split(';') {
+        let (input, text) = row.split_once('|').expect(rt, "a bar");
+        expect_shown(rt, alloc, LINES, input.as_bytes(), answer, text);
+    }
+}

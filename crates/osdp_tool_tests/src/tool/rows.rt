@@ -8,138 +8,109 @@ const BOTH: Mode = Mode {
     join: true,
 };
 
-/// How the input is read, the input, the answer and what is printed.
-type Row = (Mode, &'static [u8], Result<bool, ToolFault>, &'static str);
+/// A packet with and without a line's end, no input, packets with a CRC, comments, noise, a security block,
+/// a reserved bit.
+const SHOWN: &str = "\
+    53 00 07 00 00 60 46\n|1:0 cmd 0 seq 0 sum POLL\n;\
+    53 00 07 00 00 60 46|1:0 cmd 0 seq 0 sum POLL\n;\
+    |;\
+    530008000460EBAA\n538008000540689F\n|\
+    1:0 cmd 0 seq 0 crc POLL\n2:0 reply 0 seq 1 crc ACK\n;\
+    # a capture\n\n \t\r\n53ff0700004067\r\n  # the end\n|\
+    1:0 reply 127 seq 0 sum ACK\n;\
+    FFFF53000700006046\n|1:0 skip FF\n1:1 skip FF\n1:2 cmd 0 seq 0 sum POLL\n;\
+    530009000802156025\n|1:0 cmd 0 seq 0 sum block 021560\n;\
+    53000700106036\n|1:0 cmd 0 seq 0 sum bits 1 POLL\n";
 
-/// What `show` does: a packet, runs, noise, lines that are joined, lengths that are refused, a packet within a refused one, security
-/// blocks and reserved bits, bad lines.
-const SHOWN: [Row; 19] = [
-    (LINES, b"53 00 07 00 00 60 46\n", Ok(false), POLL_TEXT),
-    (LINES, b"53 00 07 00 00 60 46", Ok(false), POLL_TEXT),
-    (LINES, b"", Ok(false), ""),
-    (
-        LINES,
-        b"530008000460EBAA\n538008000540689F\n",
-        Ok(false),
-        "1:0 cmd 0 seq 0 crc POLL\n2:0 reply 0 seq 1 crc ACK\n",
-    ),
-    (
-        LINES,
-        b"# a capture\n\n \t\r\n53ff0700004067\r\n  # the end\n",
-        Ok(false),
-        "1:0 reply 127 seq 0 sum ACK\n",
-    ),
-    (
-        LINES,
-        b"FFFF53000700006046\n",
-        Ok(false),
-        "1:0 skip FF\n1:1 skip FF\n1:2 cmd 0 seq 0 sum POLL\n",
-    ),
-    (JOINED, b"530007\n00006046\n", Ok(false), POLL_TEXT),
-    (
-        LINES,
-        b"530007\n00006046\n",
-        Ok(true),
-        "1:0 refused F4\n1:1 skip 00\n1:2 skip 07\n2:0 skip 00\n2:1 skip 00\n2:2 skip 60\n2:3 skip 46\n",
-    ),
-    (BOTH, b"\xFF", Ok(false), "1:0 skip FF\n"),
-    (
-        LINES,
-        b"53000600006047\n",
-        Ok(true),
-        "1:0 refused F1\n1:1 skip 00\n1:2 skip 06\n1:3 skip 00\n1:4 skip 00\n1:5 skip 60\n1:6 skip 47\n",
-    ),
-    (
-        LINES,
-        b"53000700046042\n",
-        Ok(true),
-        "1:0 refused F1\n1:1 skip 00\n1:2 skip 07\n1:3 skip 00\n1:4 skip 04\n1:5 skip 60\n1:6 skip 42\n",
-    ),
-    (
-        LINES,
-        b"530007000060\n",
-        Ok(true),
-        "1:0 refused F4\n1:1 skip 00\n1:2 skip 07\n1:3 skip 00\n1:4 skip 00\n1:5 skip 60\n",
-    ),
-    (
-        LINES,
-        b"530014 00016B 000100010107 53000700006046 24\n",
-        Ok(true),
-        "1:0 refused F3\n1:1 skip 00\n1:2 skip 14\n1:3 skip 00\n1:4 skip 01\n1:5 skip 6B\n1:6 skip 00\n1:7 skip 01\n1:8 skip 00\n1:9 skip 01\n1:10 skip 01\n1:11 skip 07\n1:12 cmd 0 seq 0 sum POLL\n1:19 skip 24\n",
-    ),
-    (
-        LINES,
-        b"530009000802156025\n",
-        Ok(false),
-        "1:0 cmd 0 seq 0 sum block 021560\n",
-    ),
-    (
-        LINES,
-        b"53000700106036\n",
-        Ok(false),
-        "1:0 cmd 0 seq 0 sum bits 1 POLL\n",
-    ),
-    (
-        LINES,
-        b"5300080000600144\n",
-        Ok(true),
-        "1:0 cmd 0 seq 0 sum refused M2 code 60 01\n",
-    ),
-    (LINES, b"5", Err(ToolFault::NotHex(1)), ""),
-    (
-        LINES,
-        b"\nFF\n5G\nFE\n",
-        Err(ToolFault::NotHex(3)),
-        "1:0 skip FF\n",
-    ),
-    (
-        JOINED,
-        b"53\nx\n00\n",
-        Err(ToolFault::NotHex(2)),
-        "1:0 refused F4\n",
-    ),
-];
-
-/// What `check` does: refusals and counts, an empty input, a bad line.
-const CHECKED: [Row; 4] = [
-    (
-        LINES,
-        b"53000700006047\n",
-        Ok(true),
-        "1:0 refused F3\nruns 1 packets 0 skipped 6 refused 1\n",
-    ),
-    (
-        LINES,
-        b"",
-        Ok(false),
-        "runs 0 packets 0 skipped 0 refused 0\n",
-    ),
-    (
-        LINES,
-        b"\n53000700006046\n#\n5300080000600144\n",
-        Ok(true),
-        "2:0 cmd 0 seq 0 sum refused M2 code 60 01\nruns 2 packets 2 skipped 0 refused 1\n",
-    ),
-    (
-        LINES,
-        b"FF\nFF FF F\n",
-        Err(ToolFault::NotHex(2)),
-        "runs 1 packets 0 skipped 1 refused 0\n",
-    ),
-];
+/// A packet cut by a line's end, lengths that are refused, a packet within a refused one, a refused message.
+const REFUSED: &str = "\
+    530007\n00006046\n|\
+    1:0 refused F4\n1:1 skip 00\n1:2 skip 07\n\
+    2:0 skip 00\n2:1 skip 00\n2:2 skip 60\n2:3 skip 46\n;\
+    53000600006047\n|\
+    1:0 refused F1\n1:1 skip 00\n1:2 skip 06\n1:3 skip 00\n1:4 skip 00\n1:5 skip 60\n1:6 skip 47\n;\
+    53000700046042\n|\
+    1:0 refused F1\n1:1 skip 00\n1:2 skip 07\n1:3 skip 00\n1:4 skip 04\n1:5 skip 60\n1:6 skip 42\n;\
+    530007000060\n|\
+    1:0 refused F4\n1:1 skip 00\n1:2 skip 07\n1:3 skip 00\n1:4 skip 00\n1:5 skip 60\n;\
+    530014 00016B 000100010107 53000700006046 24\n|\
+    1:0 refused F3\n1:1 skip 00\n1:2 skip 14\n1:3 skip 00\n1:4 skip 01\n1:5 skip 6B\n1:6 skip 00\n\
+    1:7 skip 01\n1:8 skip 00\n1:9 skip 01\n1:10 skip 01\n1:11 skip 07\n\
+    1:12 cmd 0 seq 0 sum POLL\n1:19 skip 24\n;\
+    5300080000600144\n|1:0 cmd 0 seq 0 sum refused M2 code 60 01\n";
 
 #[test]
 fn inputs_are_shown(rt: HostRuntime) {
-    for (mode, input, answer, text) in SHOWN {
-        expect_shown(&rt, rt.alloc(), mode, input, answer, text);
-    }
+    expect_rows(&rt, rt.alloc(), SHOWN, Ok(false));
 }
 
 #[test]
-fn inputs_are_checked(rt: HostRuntime) {
-    for (mode, input, answer, text) in CHECKED {
-        expect_checked(&rt, rt.alloc(), mode, input, answer, text);
-    }
+fn refused_inputs_are_shown(rt: HostRuntime) {
+    expect_rows(&rt, rt.alloc(), REFUSED, Ok(true));
+}
+
+#[test]
+fn joined_inputs_are_shown(rt: HostRuntime) {
+    expect_shown(
+        &rt,
+        rt.alloc(),
+        JOINED,
+        b"530007\n00006046\n",
+        Ok(false),
+        POLL_TEXT,
+    );
+    expect_shown(&rt, rt.alloc(), BOTH, b"\xFF", Ok(false), "1:0 skip FF\n");
+}
+
+#[test]
+fn bad_lines_are_told(rt: HostRuntime) {
+    let not_hex = Err(ToolFault::NotHex(1));
+    expect_shown(&rt, rt.alloc(), LINES, b"5", not_hex, "");
+    let not_hex = Err(ToolFault::NotHex(3));
+    expect_shown(
+        &rt,
+        rt.alloc(),
+        LINES,
+        b"\nFF\n5G\nFE\n",
+        not_hex,
+        "1:0 skip FF\n",
+    );
+    let not_hex = Err(ToolFault::NotHex(2));
+    expect_shown(
+        &rt,
+        rt.alloc(),
+        JOINED,
+        b"53\nx\n00\n",
+        not_hex,
+        "1:0 refused F4\n",
+    );
+}
+
+/// The line of counts stands behind the refusals, and behind what came before a bad line.
+#[test]
+fn refusals_and_counts_are_told(rt: HostRuntime) {
+    let counts = "1:0 refused F3\nruns 1 packets 0 skipped 6 refused 1\n";
+    expect_checked(
+        &rt,
+        rt.alloc(),
+        LINES,
+        b"53000700006047\n",
+        Ok(true),
+        counts,
+    );
+    let counts =
+        "2:0 cmd 0 seq 0 sum refused M2 code 60 01\nruns 2 packets 2 skipped 0 refused 1\n";
+    let input = b"\n53000700006046\n#\n5300080000600144\n";
+    expect_checked(&rt, rt.alloc(), LINES, input, Ok(true), counts);
+}
+
+#[test]
+fn inputs_are_counted(rt: HostRuntime) {
+    let counts = "runs 0 packets 0 skipped 0 refused 0\n";
+    expect_checked(&rt, rt.alloc(), LINES, b"", Ok(false), counts);
+    let counts = "runs 1 packets 0 skipped 1 refused 0\n";
+    let not_hex = Err(ToolFault::NotHex(2));
+    expect_checked(&rt, rt.alloc(), LINES, b"FF\nFF FF F\n", not_hex, counts);
 }
 
 /// The largest packet, of 1440 bytes, with this byte as the low one of its length.
@@ -177,32 +148,31 @@ fn largest_packet_is_shown(rt: HostRuntime) -> Result<(), Fail> {
     Ok(())
 }
 
+const CRC_PACKET: [u8; 8] = [0x53, 0x00, 0x08, 0x00, 0x04, 0x60, 0xEB, 0xAA];
+
+/// What is shown for all but the last byte of the packet.
+const CUT_TEXT: &str = "1:0 refused F4\n1:1 skip 00\n1:2 skip 08\n1:3 skip 00\n1:4 skip 04\n\
+    1:5 skip 60\n1:6 skip EB\n";
+
+/// Each beginning has one line more: a refusal, and then what is skipped.
 #[test]
 fn beginnings_of_a_raw_packet(rt: HostRuntime) -> Result<(), Fail> {
     let alloc = rt.alloc();
-    let packet = [0x53, 0x00, 0x08, 0x00, 0x04, 0x60, 0xEB, 0xAA];
-    let skipped = [
-        "1:1 skip 00\n",
-        "1:2 skip 08\n",
-        "1:3 skip 00\n",
-        "1:4 skip 04\n",
-        "1:5 skip 60\n",
-        "1:6 skip EB\n",
-    ];
-    let mut text = String::from_str(alloc, "1:0 refused F4\n")?;
-    expect_shown(&rt, alloc, RAW, &packet[..1], Ok(true), text.as_str());
-    for (i, line) in skipped.iter().enumerate() {
-        text.push_str(line)?;
-        expect_shown(&rt, alloc, RAW, &packet[..i + 2], Ok(true), text.as_str());
+    let mut lines = CUT_TEXT.split_inclusive('\n');
+    let mut text = String::new(alloc);
+    for count in 1..8 {
+        text.push_str(lines.next().ok_or("a line")?)?;
+        expect_shown(
+            &rt,
+            alloc,
+            RAW,
+            &CRC_PACKET[..count],
+            Ok(true),
+            text.as_str(),
+        );
     }
-    expect_shown(
-        &rt,
-        alloc,
-        RAW,
-        &packet,
-        Ok(false),
-        "1:0 cmd 0 seq 0 crc POLL\n",
-    );
+    let packet = "1:0 cmd 0 seq 0 crc POLL\n";
+    expect_shown(&rt, alloc, RAW, &CRC_PACKET, Ok(false), packet);
     Ok(())
 }
 

@@ -3,192 +3,109 @@
 ghost use Rattle.std.specs.Prelude.{◌<◌};
 
 use super::*;
+use crate::faulty::{Pieces, Refusal, Sink, make_pieces, make_sink};
 use osdp_tool::{Form, command};
-use std::io;
-use std::io::Write;
-use std::test::Fail;
+use std::io::{ErrorKind, Write};
 
-/// A reader of these bytes, a few at a time. Its call of one number, counted from 1, fails.
-#[derive(Drop)]
-pub struct Pieces<'a> {
-    pub left: &'a [u8],
-    pub most: usize,
-    pub calls: u64,
-    pub failing_call: u64,
+/// A reader of the packet's line, a few bytes at a time.
+fn poll_pieces<'a>(most: usize, failing_call: u64) -> Pieces<'a> {
+    make_pieces(POLL_LINE.as_bytes(), most, failing_call, ErrorKind::Other)
 }
 
-impl Read for Pieces<'_> {
-    fn read(&mut self, buf: &mut [u8]) -> io::Result<usize> {
-        self.calls = self.calls.saturating_add(1);
-        if self.calls == self.failing_call {
-            return Err(io::Error::other("refused"));
-        }
-        let count = self.left.len().min(self.most).min(buf.len());
-        let (piece, left) = self.left.split_at(count);
-        buf[..count].copy_from_slice(piece);
-        self.left = left;
-        Ok(count)
-    }
-}
-
-/// A writer of at most three bytes a call. Its write of one number, counted from 1, takes none, or fails; and
-/// its flushes fail where that is wanted.
-#[derive(Drop)]
-pub struct Sink {
-    pub taken: Vec<u8>,
-    calls: u64,
-    failing_call: u64,
-    takes_none: bool,
-    flush_fails: bool,
-}
-
-impl Write for Sink {
-    fn write(&mut self, buf: &[u8]) -> io::Result<usize> {
-        self.calls = self.calls.saturating_add(1);
-        if self.calls == self.failing_call {
-            if self.takes_none {
-                return Ok(0);
-            }
-            return Err(io::Error::other("refused"));
-        }
-        let count = buf.len().min(3);
-        if self.taken.extend_from_slice(&buf[..count]).is_err() {
-            return Err(io::Error::other("full"));
-        }
-        Ok(count)
-    }
-
-    fn flush(&mut self) -> io::Result<()> {
-        if self.flush_fails {
-            return Err(io::Error::other("refused"));
-        }
-        Ok(())
-    }
-}
-
-pub fn make_sink(alloc: Global, failing_call: u64, takes_none: bool, flush_fails: bool) -> Sink {
-    Sink {
-        taken: Vec::new(alloc),
-        calls: 0,
-        failing_call,
-        takes_none,
-        flush_fails,
-    }
+/// A writer of three bytes a call.
+fn threes(alloc: Global, failing_write: u64, refusal: Refusal) -> Sink {
+    make_sink(alloc, 3, failing_write, refusal, false)
 }
 
 /// Shows the bytes, which come a few at a time until the call of this number fails.
-fn shown_until(alloc: Global, mode: Mode, bytes: &[u8], most: usize, failing_call: u64) -> Shown {
-    let mut input = Pieces {
-        left: bytes,
-        most,
-        calls: 0,
-        failing_call,
-    };
-    shown_from(alloc, mode, &mut input)
+fn expect_failed(
+    rt: &impl Abort,
+    alloc: Global,
+    bytes: &[u8],
+    most: usize,
+    failing_call: u64,
+    text: &str,
+) {
+    let mut input = make_pieces(bytes, most, failing_call, ErrorKind::Other);
+    let shown = shown_from(alloc, RAW, &mut input);
+    expect(rt, &shown, Err(ToolFault::ReadFailed), text);
 }
 
 #[test]
-fn failed_reads_are_told(rt: HostRuntime) -> Result<(), Fail> {
+fn failed_raw_reads_are_told(rt: HostRuntime) {
+    expect_failed(&rt, rt.alloc(), &[0x53, 0x00, 0x07, 0x00], 4, 2, "");
+    expect_failed(&rt, rt.alloc(), &[0xFF, 0x53, 0x00], 1, 4, "1:0 skip FF\n");
+}
+
+#[test]
+fn failed_reads_are_told(rt: HostRuntime) {
     let alloc = rt.alloc();
     let failed = Err(ToolFault::ReadFailed);
-    expect(
-        &rt,
-        &shown_until(alloc, RAW, &[0x53, 0x00, 0x07, 0x00], 4, 2),
-        failed,
-        "",
-    );
-    expect(
-        &rt,
-        &shown_until(alloc, RAW, &[0xFF, 0x53, 0x00], 1, 4),
-        failed,
-        "1:0 skip FF\n",
-    );
     // The line feed is the 21st byte: five reads of four bytes come before the one that has it.
     for call in 1..7 {
-        expect(
-            &rt,
-            &shown_until(alloc, LINES, POLL_LINE.as_bytes(), 4, call),
-            failed,
-            "",
-        );
+        let shown = shown_from(alloc, LINES, &mut poll_pieces(4, call));
+        expect(&rt, &shown, failed, "");
     }
-    expect(
-        &rt,
-        &shown_until(alloc, LINES, POLL_LINE.as_bytes(), 4, 7),
-        failed,
-        POLL_TEXT,
-    );
-    expect(
-        &rt,
-        &shown_until(alloc, LINES, POLL_LINE.as_bytes(), 4, 8),
-        Ok(false),
-        POLL_TEXT,
-    );
-    Ok(())
+    let shown = shown_from(alloc, LINES, &mut poll_pieces(4, 7));
+    expect(&rt, &shown, failed, POLL_TEXT);
+    let shown = shown_from(alloc, LINES, &mut poll_pieces(4, 8));
+    expect(&rt, &shown, Ok(false), POLL_TEXT);
 }
 
 /// Shows the line of a packet to the sink.
 fn shown_to(alloc: Global, sink: &mut Sink, failing_read: u64) -> Result<bool, ToolFault> {
-    let mut input = Pieces {
-        left: POLL_LINE.as_bytes(),
-        most: 100,
-        calls: 0,
-        failing_call: failing_read,
-    };
     show(
         alloc,
         LINES,
-        &mut Watched::new(&mut input),
+        &mut Watched::new(&mut poll_pieces(100, failing_read)),
         &mut Watched::new(sink),
     )
 }
 
 #[test]
-fn failed_writes_are_told(rt: HostRuntime) -> Result<(), Fail> {
+fn failed_writes_are_told(rt: HostRuntime) {
     let alloc = rt.alloc();
+    let failed = Err(ToolFault::WriteFailed);
     // The text has 25 bytes, for which nine writes are needed.
     for call in 1..10u64 {
-        let mut refusing = make_sink(alloc, call, false, false);
-        assert_eq!(rt;
-            shown_to(alloc, &mut refusing, 0),
-            Err(ToolFault::WriteFailed)
-        );
-        assert_eq!(rt;
-            refusing.calls,
-            call,
-            "nothing is written behind a failed write"
-        );
-        let mut full = make_sink(alloc, call, true, false);
-        assert_eq!(rt; shown_to(alloc, &mut full, 0), Err(ToolFault::WriteFailed));
-        let mut both = make_sink(alloc, call, false, false);
-        assert_eq!(rt; shown_to(alloc, &mut both, 2), Err(ToolFault::ReadFailed));
+        let mut refusing = threes(alloc, call, Some(ErrorKind::Other));
+        assert_eq!(rt; shown_to(alloc, &mut refusing, 0), failed);
+        assert_eq!(rt; refusing.writes, call, "nothing is written behind it");
+        let mut full = threes(alloc, call, None);
+        assert_eq!(rt; shown_to(alloc, &mut full, 0), failed);
     }
-    let mut well = make_sink(alloc, 10, false, false);
-    assert_eq!(rt; shown_to(alloc, &mut well, 0), Ok(false));
-    assert_eq!(rt; well.taken.as_slice(), POLL_TEXT.as_bytes());
-    let mut unflushed = make_sink(alloc, 0, false, true);
-    assert_eq!(rt;
-        shown_to(alloc, &mut unflushed, 0),
-        Err(ToolFault::WriteFailed)
-    );
-    Ok(())
+}
+
+/// A failed read is told before a failed write, or flush.
+#[test]
+fn failed_reads_are_told_before_writes(rt: HostRuntime) {
+    for call in 1..10u64 {
+        let mut both = threes(rt.alloc(), call, Some(ErrorKind::Other));
+        let answer = shown_to(rt.alloc(), &mut both, 2);
+        assert_eq!(rt; answer, Err(ToolFault::ReadFailed));
+    }
 }
 
 #[test]
-fn streams_that_failed_before_are_told(rt: HostRuntime) -> Result<(), Fail> {
+fn a_failed_flush_is_told(rt: HostRuntime) {
+    let mut well = threes(rt.alloc(), 10, Some(ErrorKind::Other));
+    assert_eq!(rt; shown_to(rt.alloc(), &mut well, 0), Ok(false));
+    assert_eq!(rt; well.taken.as_slice(), POLL_TEXT.as_bytes());
+    let mut unflushed = make_sink(rt.alloc(), 3, 0, None, true);
+    let answer = shown_to(rt.alloc(), &mut unflushed, 0);
+    assert_eq!(rt; answer, Err(ToolFault::WriteFailed));
+}
+
+#[test]
+fn streams_that_failed_before_are_told(rt: HostRuntime) {
     let alloc = rt.alloc();
-    let mut bytes = POLL_LINE.as_bytes();
-    let mut refusing = make_sink(alloc, 1, false, false);
+    let mut refusing = threes(alloc, 1, Some(ErrorKind::Other));
     let mut output = Watched::new(&mut refusing);
     let _ = output.write(b"x");
-    let answer = show(alloc, LINES, &mut Watched::new(&mut bytes), &mut output);
+    let mut line = POLL_LINE.as_bytes();
+    let answer = show(alloc, LINES, &mut Watched::new(&mut line), &mut output);
     assert_eq!(rt; answer, Err(ToolFault::WriteFailed));
-    let mut failing = Pieces {
-        left: POLL_LINE.as_bytes(),
-        most: 100,
-        calls: 0,
-        failing_call: 1,
-    };
+    let mut failing = poll_pieces(100, 1);
     let mut input = Watched::new(&mut failing);
     let _ = input.read(&mut [0]);
     let answer = show(alloc, LINES, &mut input, &mut output);
@@ -196,7 +113,6 @@ fn streams_that_failed_before_are_told(rt: HostRuntime) -> Result<(), Fail> {
     let mut printed = Vec::new(alloc);
     let answer = show(alloc, LINES, &mut input, &mut Watched::new(&mut printed));
     expect(&rt, &(answer, printed), Err(ToolFault::ReadFailed), "");
-    Ok(())
 }
 
 /// Shows the bytes with a limit of this many.
@@ -216,49 +132,31 @@ fn shown_within(alloc: Global, form: Form, limit: usize, bytes: &[u8]) -> Shown
     (answer, output)
 }
 
+const THREE: &str = "1:0 skip FF\n1:1 skip FE\n1:2 skip FD\n";
+
+const ONE: &str = "1:0 skip FF\n";
+
 #[test]
-fn inputs_past_the_limit_are_told(rt: HostRuntime) -> Result<(), Fail> {
+fn raw_inputs_past_the_limit_are_told(rt: HostRuntime) {
     let alloc = rt.alloc();
-    let three = "1:0 skip FF\n1:1 skip FE\n1:2 skip FD\n";
-    let bytes = [0xFF, 0xFE, 0xFD, 0xFC];
-    expect(
-        &rt,
-        &shown_within(alloc, Form::Raw, 3, &bytes),
-        Err(ToolFault::TooLong),
-        three,
-    );
-    expect(
-        &rt,
-        &shown_within(alloc, Form::Raw, 3, &bytes[..3]),
-        Ok(false),
-        three,
-    );
+    let too_long = Err(ToolFault::TooLong);
+    let shown = shown_within(alloc, Form::Raw, 3, &[0xFF, 0xFE, 0xFD, 0xFC]);
+    expect(&rt, &shown, too_long, THREE);
+    let shown = shown_within(alloc, Form::Raw, 3, &[0xFF, 0xFE, 0xFD]);
+    expect(&rt, &shown, Ok(false), THREE);
+    let shown = shown_within(alloc, Form::Raw, 3, &[0xFF, 0x53, 0x00, 0x07]);
+    expect(&rt, &shown, too_long, ONE);
+}
+
+#[test]
+fn lines_past_the_limit_are_told(rt: HostRuntime) {
+    let alloc = rt.alloc();
     let lines = b"FF\nFE\n5\n";
-    let one = "1:0 skip FF\n";
-    expect(
-        &rt,
-        &shown_within(alloc, Form::Apart, 5, lines),
-        Err(ToolFault::TooLong),
-        one,
-    );
-    expect(
-        &rt,
-        &shown_within(alloc, Form::Apart, 7, lines),
-        Err(ToolFault::TooLong),
-        "1:0 skip FF\n2:0 skip FE\n",
-    );
-    expect(
-        &rt,
-        &shown_within(alloc, Form::Apart, 8, lines),
-        Err(ToolFault::NotHex(3)),
-        "1:0 skip FF\n2:0 skip FE\n",
-    );
-    let begun = [0xFF, 0x53, 0x00, 0x07];
-    expect(
-        &rt,
-        &shown_within(alloc, Form::Raw, 3, &begun),
-        Err(ToolFault::TooLong),
-        one,
-    );
-    Ok(())
+    let two = "1:0 skip FF\n2:0 skip FE\n";
+    let shown = shown_within(alloc, Form::Apart, 5, lines);
+    expect(&rt, &shown, Err(ToolFault::TooLong), ONE);
+    let shown = shown_within(alloc, Form::Apart, 7, lines);
+    expect(&rt, &shown, Err(ToolFault::TooLong), two);
+    let shown = shown_within(alloc, Form::Apart, 8, lines);
+    expect(&rt, &shown, Err(ToolFault::NotHex(3)), two);
 }

@@ -1,273 +1,116 @@
 //! Packets with messages of both tables, each as one line.
 
 use super::*;
-use std::alloc::AllocError;
+use osdp_words::number_u16;
 use std::test::Fail;
 
 /// Digits of packets, and the line of each.
-const READ: [(&[u8], &str); 28] = [
-    (b"530508000061003F", "1:0 cmd 5 seq 0 sum ID 0\n"),
-    (b"53050B0001680002000032", "1:0 cmd 5 seq 1 sum OUT 0:2:0\n"),
-    (
-        b"53050C000568000200005183",
-        "1:0 cmd 5 seq 1 crc OUT 0:2:0\n",
-    ),
-    (
-        b"530515000269000002050501001E000101000200F9",
-        "1:0 cmd 5 seq 2 sum LED 0:0:2:5:5:1:0:30:1:1:0:2:0\n",
-    ),
-    (
-        b"53050C00016E078025000081",
-        "1:0 cmd 5 seq 1 sum COMSET 7 9600\n",
-    ),
-    (
-        b"53050B00038053494D0130",
-        "1:0 cmd 5 seq 3 sum MFG 53494D 01\n",
-    ),
-    (
-        b"53001400016B0001000101075300070000604623",
-        "1:0 cmd 0 seq 1 sum TEXT 0 1 0 1 1 53000700006046\n",
-    ),
-    (
-        b"538513000045 53494D010101000000010000 E3",
-        "1:0 reply 5 seq 0 sum PDID 53494D 1 1 1 1 0 0\n",
-    ),
-    (
-        b"53850D000146020108080100C0",
-        "1:0 reply 5 seq 1 sum PDCAP 2:1:8 8:1:0\n",
-    ),
-    (b"5385090002480001D4", "1:0 reply 5 seq 2 sum LSTATR 0 1\n"),
-    (
-        b"53850F00015000001A000A0B0C404D",
-        "1:0 reply 5 seq 1 sum RAW 0 0 26 0A0B0C40\n",
-    ),
-    (
-        b"53850B00015000000000CC",
-        "1:0 reply 5 seq 1 sum RAW 0 0 0 none\n",
-    ),
-    (
-        b"53850B0002530002313263",
-        "1:0 reply 5 seq 2 sum KEYPAD 0 3132\n",
-    ),
-    (b"53850800034104D8", "1:0 reply 5 seq 3 sum NAK 4\n"),
-    (b"538507000079A8", "1:0 reply 5 seq 0 sum BUSY\n"),
-    (
-        b"53850A00039053494DA2",
-        "1:0 reply 5 seq 3 sum MFGREP 53494D none\n",
-    ),
-    (b"530508000162003D", "1:0 cmd 5 seq 1 sum CAP 0\n"),
-    (b"5305070001643C", "1:0 cmd 5 seq 1 sum LSTAT\n"),
-    (b"5305070001653B", "1:0 cmd 5 seq 1 sum ISTAT\n"),
-    (b"5305070001663A", "1:0 cmd 5 seq 1 sum OSTAT\n"),
-    (b"53050700016739", "1:0 cmd 5 seq 1 sum RSTAT\n"),
-    (
-        b"53050C00016A000205050124",
-        "1:0 cmd 5 seq 1 sum BUZ 0 2 5 5 1\n",
-    ),
-    (b"5385090001490100D4", "1:0 reply 5 seq 1 sum ISTATR 0100\n"),
-    (b"53850700014AD6", "1:0 reply 5 seq 1 sum OSTATR none\n"),
-    (b"53850800014B00D4", "1:0 reply 5 seq 1 sum RSTATR 00\n"),
-    (
-        b"53850C000151010002313264",
-        "1:0 reply 5 seq 1 sum FMT 1 0 3132\n",
-    ),
-    (
-        b"53850C00015407802500001B",
-        "1:0 reply 5 seq 1 sum COM 7 9600\n",
-    ),
-    (
-        b"53850A000141090AB019",
-        "1:0 reply 5 seq 1 sum NAK 9 0AB0\n",
-    ),
-];
+const READ: &str = "\
+    530508000061003F|1:0 cmd 5 seq 0 sum ID 0\n;\
+    53050B0001680002000032|1:0 cmd 5 seq 1 sum OUT 0:2:0\n;\
+    53050C000568000200005183|1:0 cmd 5 seq 1 crc OUT 0:2:0\n;\
+    530515000269000002050501001E000101000200F9|\
+    1:0 cmd 5 seq 2 sum LED 0:0:2:5:5:1:0:30:1:1:0:2:0\n;\
+    53050C00016E078025000081|1:0 cmd 5 seq 1 sum COMSET 7 9600\n;\
+    53050B00038053494D0130|1:0 cmd 5 seq 3 sum MFG 53494D 01\n;\
+    53001400016B0001000101075300070000604623|1:0 cmd 0 seq 1 sum TEXT 0 1 0 1 1 53000700006046\n;\
+    538513000045 53494D010101000000010000 E3|1:0 reply 5 seq 0 sum PDID 53494D 1 1 1 1 0 0\n;\
+    53850D000146020108080100C0|1:0 reply 5 seq 1 sum PDCAP 2:1:8 8:1:0\n;\
+    5385090002480001D4|1:0 reply 5 seq 2 sum LSTATR 0 1\n;\
+    53850F00015000001A000A0B0C404D|1:0 reply 5 seq 1 sum RAW 0 0 26 0A0B0C40\n;\
+    53850B00015000000000CC|1:0 reply 5 seq 1 sum RAW 0 0 0 none\n;\
+    53850B0002530002313263|1:0 reply 5 seq 2 sum KEYPAD 0 3132\n;\
+    53850800034104D8|1:0 reply 5 seq 3 sum NAK 4\n;\
+    538507000079A8|1:0 reply 5 seq 0 sum BUSY\n;\
+    53850A00039053494DA2|1:0 reply 5 seq 3 sum MFGREP 53494D none\n;\
+    530508000162003D|1:0 cmd 5 seq 1 sum CAP 0\n;\
+    5305070001643C|1:0 cmd 5 seq 1 sum LSTAT\n;\
+    5305070001653B|1:0 cmd 5 seq 1 sum ISTAT\n;\
+    5305070001663A|1:0 cmd 5 seq 1 sum OSTAT\n;\
+    53050700016739|1:0 cmd 5 seq 1 sum RSTAT\n;\
+    53050C00016A000205050124|1:0 cmd 5 seq 1 sum BUZ 0 2 5 5 1\n;\
+    5385090001490100D4|1:0 reply 5 seq 1 sum ISTATR 0100\n;\
+    53850700014AD6|1:0 reply 5 seq 1 sum OSTATR none\n;\
+    53850800014B00D4|1:0 reply 5 seq 1 sum RSTATR 00\n;\
+    53850C000151010002313264|1:0 reply 5 seq 1 sum FMT 1 0 3132\n;\
+    53850C00015407802500001B|1:0 reply 5 seq 1 sum COM 7 9600\n;\
+    53850A000141090AB019|1:0 reply 5 seq 1 sum NAK 9 0AB0\n";
 
 /// Digits of packets whose messages are refused, and the line of each.
-const REFUSED: [(&[u8], &str); 4] = [
-    (
-        b"53850B0002530003313262",
-        "1:0 reply 5 seq 2 sum refused M3 code 53 00033132\n",
-    ),
-    (
-        b"53850E00015000001A000A0B0C8E",
-        "1:0 reply 5 seq 1 sum refused M3 code 50 00001A000A0B0C\n",
-    ),
-    (
-        b"53000A00006800020039",
-        "1:0 cmd 0 seq 0 sum refused M2 code 68 000200\n",
-    ),
-    (
-        b"530509000380534980",
-        "1:0 cmd 5 seq 3 sum refused M2 code 80 5349\n",
-    ),
-];
+const REFUSED: &str = "\
+    53850B0002530003313262|1:0 reply 5 seq 2 sum refused M3 code 53 00033132\n;\
+    53850E00015000001A000A0B0C8E|1:0 reply 5 seq 1 sum refused M3 code 50 00001A000A0B0C\n;\
+    53000A00006800020039|1:0 cmd 0 seq 0 sum refused M2 code 68 000200\n;\
+    530509000380534980|1:0 cmd 5 seq 3 sum refused M2 code 80 5349\n";
 
 #[test]
 fn messages_are_shown(rt: HostRuntime) {
-    for (digits, line) in READ {
-        expect_shown(&rt, rt.alloc(), LINES, digits, Ok(false), line);
-    }
+    expect_rows(&rt, rt.alloc(), READ, Ok(false));
 }
 
 #[test]
 fn refused_messages_are_shown(rt: HostRuntime) {
-    for (digits, line) in REFUSED {
-        expect_shown(&rt, rt.alloc(), LINES, digits, Ok(true), line);
-    }
+    expect_rows(&rt, rt.alloc(), REFUSED, Ok(true));
 }
 
-/// The digits before the bytes FF, how many these are, and the check; the text before what is repeated, this, and
-/// how often it stands.
-type Large = (
-    &'static str,
-    usize,
-    &'static str,
-    &'static str,
-    &'static str,
-    usize,
-);
+/// The largest message of each room, every number in it the largest but for the count of bits: 11424 is 2CA0. The
+/// digits before the bytes FF, how many these are, and the check; the text before what is repeated, this, and how
+/// often it stands.
+const LARGEST: &str = "\
+    53059F050168|1432|33|1:0 cmd 5 seq 1 sum OUT| 255:255:65535|358;\
+    53059B050169|1428|32|1:0 cmd 5 seq 1 sum LED| 255:255:255:255:255:255:255:65535\
+    :255:255:255:255:255|102;\
+    53050C01016BFFFFFFFFFFFF|255|34|1:0 cmd 5 seq 1 sum TEXT 255 255 255 255 255 |FF|255;\
+    53059F050180FFFFFF|1429|1B|1:0 cmd 5 seq 1 sum MFG FFFFFF |FF|1429;\
+    53859F050141FF|1431|DA|1:0 reply 5 seq 1 sum NAK 255 |FF|1431;\
+    53859E050146|1431|D5|1:0 reply 5 seq 1 sum PDCAP| 255:255:255|477;\
+    53859F050149|1432|D2|1:0 reply 5 seq 1 sum ISTATR |FF|1432;\
+    53859F05014A|1432|D1|1:0 reply 5 seq 1 sum OSTATR |FF|1432;\
+    53859F05014B|1432|D0|1:0 reply 5 seq 1 sum RSTATR |FF|1432;\
+    53859F050150FFFFA02C|1428|FD|1:0 reply 5 seq 1 sum RAW 255 255 11424 |FF|1428;\
+    538509010151FFFFFF|255|CE|1:0 reply 5 seq 1 sum FMT 255 255 |FF|255;\
+    538508010153FFFF|255|CC|1:0 reply 5 seq 1 sum KEYPAD 255 |FF|255;\
+    53859F050190FFFFFF|1429|8B|1:0 reply 5 seq 1 sum MFGREP FFFFFF |FF|1429";
 
-const RECORD: &str = " 255:255:255:255:255:255:255:65535:255:255:255:255:255";
-
-/// The largest message of each room, every number in it the largest but for the count of bits: 11424 is 2CA0.
-const LARGEST: [Large; 13] = [
-    (
-        "53059F050168",
-        1432,
-        "33",
-        "cmd 5 seq 1 sum OUT",
-        " 255:255:65535",
-        358,
-    ),
-    (
-        "53059B050169",
-        1428,
-        "32",
-        "cmd 5 seq 1 sum LED",
-        RECORD,
-        102,
-    ),
-    (
-        "53050C01016BFFFFFFFFFFFF",
-        255,
-        "34",
-        "cmd 5 seq 1 sum TEXT 255 255 255 255 255 ",
-        "FF",
-        255,
-    ),
-    (
-        "53059F050180FFFFFF",
-        1429,
-        "1B",
-        "cmd 5 seq 1 sum MFG FFFFFF ",
-        "FF",
-        1429,
-    ),
-    (
-        "53859F050141FF",
-        1431,
-        "DA",
-        "reply 5 seq 1 sum NAK 255 ",
-        "FF",
-        1431,
-    ),
-    (
-        "53859E050146",
-        1431,
-        "D5",
-        "reply 5 seq 1 sum PDCAP",
-        " 255:255:255",
-        477,
-    ),
-    (
-        "53859F050149",
-        1432,
-        "D2",
-        "reply 5 seq 1 sum ISTATR ",
-        "FF",
-        1432,
-    ),
-    (
-        "53859F05014A",
-        1432,
-        "D1",
-        "reply 5 seq 1 sum OSTATR ",
-        "FF",
-        1432,
-    ),
-    (
-        "53859F05014B",
-        1432,
-        "D0",
-        "reply 5 seq 1 sum RSTATR ",
-        "FF",
-        1432,
-    ),
-    (
-        "53859F050150FFFFA02C",
-        1428,
-        "FD",
-        "reply 5 seq 1 sum RAW 255 255 11424 ",
-        "FF",
-        1428,
-    ),
-    (
-        "538509010151FFFFFF",
-        255,
-        "CE",
-        "reply 5 seq 1 sum FMT 255 255 ",
-        "FF",
-        255,
-    ),
-    (
-        "538508010153FFFF",
-        255,
-        "CC",
-        "reply 5 seq 1 sum KEYPAD 255 ",
-        "FF",
-        255,
-    ),
-    (
-        "53859F050190FFFFFF",
-        1429,
-        "8B",
-        "reply 5 seq 1 sum MFGREP FFFFFF ",
-        "FF",
-        1429,
-    ),
-];
-
-/// A text, `count` times another behind it, and a last one.
+/// A text, as many times another behind it as a number tells, and a last one.
 fn repeated(
     alloc: Global,
     front: &str,
     item: &str,
-    count: usize,
+    count: &str,
     back: &str,
-) -> Result<String, AllocError> {
-    let mut text = String::new(alloc);
-    text.push_str(front)?;
-    for _ in 0..count {
+) -> Result<String, Fail> {
+    let mut text = String::from_str(alloc, front)?;
+    for _ in 0..number_u16(count).ok_or("a count")? {
         text.push_str(item)?;
     }
     text.push_str(back)?;
     Ok(text)
 }
 
+/// A row of the largest messages is shown as it tells.
+fn expect_large(rt: &impl Abort, alloc: Global, row: &str) -> Result<(), Fail> {
+    let parts: Vec<&str> = row.split('|').collect(alloc)?;
+    let [head, bytes, check, front, item, items] = parts.as_slice() else {
+        return Err(Fail::from("a row of six parts"));
+    };
+    let digits = repeated(alloc, head, "FF", bytes, check)?;
+    let text = repeated(alloc, front, item, items, "\n")?;
+    expect_shown(
+        rt,
+        alloc,
+        LINES,
+        digits.as_bytes(),
+        Ok(false),
+        text.as_str(),
+    );
+    Ok(())
+}
+
 #[test]
 fn largest_messages_are_shown(rt: HostRuntime) -> Result<(), Fail> {
-    let alloc = rt.alloc();
-    for (head, bytes, check, front, item, items) in LARGEST {
-        let digits = repeated(alloc, head, "FF", bytes, check)?;
-        let text = repeated(alloc, front, item, items, "\n")?;
-        let line = repeated(alloc, "1:0 ", text.as_str(), 1, "")?;
-        expect_shown(
-            &rt,
-            alloc,
-            LINES,
-            digits.as_bytes(),
-            Ok(false),
-            line.as_str(),
-        );
+    for row in LARGEST.split(';') {
+        expect_large(&rt, rt.alloc(), row)?;
     }
     Ok(())
 }
