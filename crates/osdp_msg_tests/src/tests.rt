@@ -2,7 +2,6 @@
 use osdp_msg::*;
 use std::alloc::{AllocError, Global};
 use std::process::Abort;
-use std::test::Fail;
 
 mod commands;
 mod events;
@@ -12,75 +11,81 @@ mod replies;
 mod vectors;
 
 /// The words of a text: what stands between its spaces.
-fn words_of(alloc: Global, text: &str) -> Result<Vec<&str>, AllocError> {
-    text.split(' ').collect(alloc)
+fn words_of<'a>(rt: &impl Abort, alloc: Global, text: &'a str) -> Vec<&'a str> {
+    let words: Result<Vec<&str>, AllocError> = text.split(' ').collect(alloc);
+    words.ok().expect(rt, "memory for words")
+}
+
+/// The bytes of digits.
+fn bytes_of(rt: &impl Abort, alloc: Global, digits: &str) -> Vec<u8> {
+    hex::decode(alloc, digits).ok().expect(rt, "digits")
 }
 
 /// The number that a word says.
-fn number(word: &str) -> Result<usize, Fail> {
-    Ok(word.parse::<usize>().ok().ok_or("a number")?)
+fn number(rt: &impl Abort, word: &str) -> usize {
+    word.parse::<usize>().ok().expect(rt, "a number")
 }
 
-/// Whether a message's bytes are this code and data.
-fn is_spelled(message: &[u8], code: u8, data: &[u8]) -> bool {
-    match message {
-        [first, rest @ ..] => *first == code && rest == data,
-        [] => false,
-    }
+/// The text that was printed is this one.
+fn is_text(rt: &impl Abort, printed: &str, text: &str) {
+    assert_eq!(rt; printed, text);
+}
+
+/// A message's bytes are this code and data.
+fn is_spelled(rt: &impl Abort, message: &[u8], code: u8, data: &[u8]) {
+    let (first, rest) = message.split_first().expect(rt, "a code");
+    assert_eq!(rt; *first, code);
+    assert_eq!(rt; rest, data);
+}
+
+/// A command and its copy are the same as another.
+fn is_command_again(rt: &impl Abort, command: &Command, other: &Command) {
+    assert!(rt; command == other);
+    assert!(rt; command.copy() == *other);
 }
 
 /// A code and data are read as the command of this text, and the words of the text as the command of this
 /// code and data.
-fn is_command(
-    rt: &impl Abort,
-    alloc: Global,
-    code: u8,
-    data: &[u8],
-    text: &str,
-) -> Result<(), Fail> {
-    let read = Command::read(code, data)
-        .ok()
-        .ok_or("a code and data of no command")?;
-    assert_eq!(rt; read.to_string(alloc)?.as_str(), text);
-    let words = words_of(alloc, text)?;
-    let parsed = Command::parse(words.as_slice())
-        .ok()
-        .ok_or("the text of no command")?;
-    assert!(rt; is_spelled(parsed.write().as_slice(), code, data), "{text}");
-    assert!(rt; parsed == read, "{text}");
-    assert!(rt; parsed.copy() == read, "{text}");
-    Ok(())
+fn is_command(rt: &impl Abort, alloc: Global, code: u8, data: &[u8], text: &str) {
+    let read = Command::read(code, data).ok().expect(rt, text);
+    let printed = read.to_string(alloc).ok().expect(rt, "memory for a text");
+    is_text(rt, printed.as_str(), text);
+    let words = words_of(rt, alloc, text);
+    let parsed = Command::parse(words.as_slice()).ok().expect(rt, text);
+    is_spelled(rt, parsed.write().as_slice(), code, data);
+    is_command_again(rt, &parsed, &read);
 }
 
 /// So are the digits of a row, which are a code and data, and its text behind them.
-fn is_command_row(rt: &impl Abort, alloc: Global, row: &str) -> Result<(), Fail> {
-    let (digits, text) = row.split_once(' ').ok_or("digits and a text")?;
-    let message = hex::decode(alloc, digits)?;
-    let (code, data) = message.as_slice().split_first().ok_or("a code")?;
-    is_command(rt, alloc, *code, data, text)
+fn is_command_row(rt: &impl Abort, alloc: Global, row: &str) {
+    let (digits, text) = row.split_once(' ').expect(rt, "digits and a text");
+    let message = bytes_of(rt, alloc, digits);
+    let (code, data) = message.as_slice().split_first().expect(rt, "a code");
+    is_command(rt, alloc, *code, data, text);
+}
+
+/// A reply and its copy are the same as another.
+fn is_reply_again(rt: &impl Abort, reply: &Reply, other: &Reply) {
+    assert!(rt; reply == other);
+    assert!(rt; reply.copy() == *other);
 }
 
 /// A code and data are read as the reply of this text, and the words of the text as the reply of this code
 /// and data.
-fn is_reply(rt: &impl Abort, alloc: Global, code: u8, data: &[u8], text: &str) -> Result<(), Fail> {
-    let read = Reply::read(code, data)
-        .ok()
-        .ok_or("a code and data of no reply")?;
-    assert_eq!(rt; read.to_string(alloc)?.as_str(), text);
-    let words = words_of(alloc, text)?;
-    let parsed = Reply::parse(words.as_slice())
-        .ok()
-        .ok_or("the text of no reply")?;
-    assert!(rt; is_spelled(parsed.write().as_slice(), code, data), "{text}");
-    assert!(rt; parsed == read, "{text}");
-    assert!(rt; parsed.copy() == read, "{text}");
-    Ok(())
+fn is_reply(rt: &impl Abort, alloc: Global, code: u8, data: &[u8], text: &str) {
+    let read = Reply::read(code, data).ok().expect(rt, text);
+    let printed = read.to_string(alloc).ok().expect(rt, "memory for a text");
+    is_text(rt, printed.as_str(), text);
+    let words = words_of(rt, alloc, text);
+    let parsed = Reply::parse(words.as_slice()).ok().expect(rt, text);
+    is_spelled(rt, parsed.write().as_slice(), code, data);
+    is_reply_again(rt, &parsed, &read);
 }
 
 /// So are the digits of a row, which are a code and data, and its text behind them.
-fn is_reply_row(rt: &impl Abort, alloc: Global, row: &str) -> Result<(), Fail> {
-    let (digits, text) = row.split_once(' ').ok_or("digits and a text")?;
-    let message = hex::decode(alloc, digits)?;
-    let (code, data) = message.as_slice().split_first().ok_or("a code")?;
-    is_reply(rt, alloc, *code, data, text)
+fn is_reply_row(rt: &impl Abort, alloc: Global, row: &str) {
+    let (digits, text) = row.split_once(' ').expect(rt, "digits and a text");
+    let message = bytes_of(rt, alloc, digits);
+    let (code, data) = message.as_slice().split_first().expect(rt, "a code");
+    is_reply(rt, alloc, *code, data, text);
 }

@@ -39,67 +39,77 @@ COMSET 7 9600|NAK COM
 MFG 53494D 01|NAK ACK MFGREP
 ";
 
-/// The words are an event's text, and the reply of this text tells that event.
-fn is_event(rt: &impl Abort, alloc: Global, words: &[&str], text: &str) -> Result<(), Fail> {
-    let event = Event::parse(words).ok().ok_or("an event")?;
-    let reply = Reply::parse(words).ok().ok_or("a reply")?;
-    assert_eq!(rt; event.to_string(alloc)?.as_str(), text);
+/// An event and its copy are the event that this reply tells, and tell it.
+fn is_told_by(rt: &impl Abort, event: Event, reply: Reply) {
     assert!(rt; event.copy() == event);
     assert!(rt; event.to_reply() == reply);
     assert!(rt; reply.to_event() == Ok(event));
-    Ok(())
+}
+
+/// The words are an event's text, and the reply of this text tells that event.
+fn is_event(rt: &impl Abort, alloc: Global, words: &[&str], text: &str) {
+    let event = Event::parse(words).ok().expect(rt, text);
+    let reply = Reply::parse(words).ok().expect(rt, text);
+    let printed = event.to_string(alloc).ok().expect(rt, "memory for a text");
+    is_text(rt, printed.as_str(), text);
+    is_told_by(rt, event, reply);
 }
 
 #[test]
-fn events_are_replies(rt: HostRuntime) -> Result<(), Fail> {
+fn events_are_replies(rt: HostRuntime) {
     for text in EVENTS {
-        let words = words_of(rt.alloc(), text)?;
-        is_event(&rt, rt.alloc(), words.as_slice(), text)?;
+        let words = words_of(&rt, rt.alloc(), text);
+        is_event(&rt, rt.alloc(), words.as_slice(), text);
     }
-    Ok(())
+}
+
+/// The words are no event's, and the reply of this text tells none and comes back.
+fn is_no_event(rt: &impl Abort, words: &[&str], text: &str) {
+    assert!(rt; Event::parse(words) == Err(BadWords), "{text}");
+    let reply = Reply::parse(words).ok().expect(rt, text);
+    let same = reply.copy();
+    assert!(rt; reply.to_event() == Err(same), "{text}");
 }
 
 #[test]
-fn others_are_none(rt: HostRuntime) -> Result<(), Fail> {
+fn others_are_none(rt: HostRuntime) {
     for text in OTHERS {
-        let words = words_of(rt.alloc(), text)?;
-        assert!(rt; Event::parse(words.as_slice()) == Err(BadWords), "{text}");
-        let reply = Reply::parse(words.as_slice()).ok().ok_or("a reply")?;
-        let same = reply.copy();
-        assert!(rt; reply.to_event() == Err(same), "{text}");
+        let words = words_of(&rt, rt.alloc(), text);
+        is_no_event(&rt, words.as_slice(), text);
     }
+}
+
+#[test]
+fn bad_words(rt: HostRuntime) {
     assert!(rt; Event::parse(&[]) == Err(BadWords));
     assert!(rt; Event::parse(&["KEYPAD", "0"]) == Err(BadWords));
-    Ok(())
 }
 
-/// Of these replies those fit the command whose names are listed.
-fn fit_as_listed(
-    rt: &impl Abort,
-    alloc: Global,
-    command: &Command,
-    replies: &[&str],
-    names: &[&str],
-) -> Result<(), Fail> {
-    for text in replies {
-        let words = words_of(alloc, text)?;
-        let reply = Reply::parse(words.as_slice()).ok().ok_or("a reply")?;
-        let name = *words.as_slice().first().ok_or("a name")?;
-        let listed = names.contains(&name);
-        assert_eq!(rt; fits(command, &reply), listed, "{text}");
+/// The reply of this text fits the command exactly where its name is listed.
+fn fits_as_listed(rt: &impl Abort, alloc: Global, command: &Command, text: &str, names: &[&str]) {
+    let words = words_of(rt, alloc, text);
+    let reply = Reply::parse(words.as_slice()).ok().expect(rt, text);
+    let name = *words.as_slice().first().expect(rt, "a name");
+    assert_eq!(rt; fits(command, &reply), names.contains(&name), "{text}");
+}
+
+/// Of the replies of both lists those fit the command whose names are listed.
+fn fit_as_listed(rt: &impl Abort, alloc: Global, command: &Command, names: &[&str]) {
+    for text in EVENTS {
+        fits_as_listed(rt, alloc, command, text, names);
     }
-    Ok(())
+    for text in OTHERS {
+        fits_as_listed(rt, alloc, command, text, names);
+    }
 }
 
 #[test]
-fn fitting(rt: HostRuntime) -> Result<(), Fail> {
+fn fitting(rt: HostRuntime) {
     for row in FITTING.lines() {
-        let (text, names) = row.split_once('|').ok_or("a command and names")?;
-        let words = words_of(rt.alloc(), text)?;
-        let names = words_of(rt.alloc(), names)?;
-        let command = Command::parse(words.as_slice()).ok().ok_or("a command")?;
-        fit_as_listed(&rt, rt.alloc(), &command, &EVENTS, names.as_slice())?;
-        fit_as_listed(&rt, rt.alloc(), &command, &OTHERS, names.as_slice())?;
+        let (text, names) = row.split_once('|').expect(&rt, "a command and names");
+        let words = words_of(&rt, rt.alloc(), text);
+        let names = words_of(&rt, rt.alloc(), names);
+        let command = Command::parse(words.as_slice()).ok().expect(&rt, text);
+        fit_as_listed(&rt, rt.alloc(), &command, names.as_slice());
     }
-    Ok(())
 }

@@ -1,22 +1,22 @@
 use super::*;
 
 /// A text, and behind it `count` times another.
-fn text_of(alloc: Global, front: &str, item: &str, count: usize) -> Result<String, AllocError> {
+fn text_of(rt: &impl Abort, alloc: Global, front: &str, item: &str, count: usize) -> String {
     let mut text = String::new(alloc);
-    text.push_str(front)?;
+    text.push_str(front).ok().expect(rt, "memory for a text");
     for _ in 0..count {
-        text.push_str(item)?;
+        text.push_str(item).ok().expect(rt, "memory for a text");
     }
-    Ok(text)
+    text
 }
 
 /// The bytes of these digits, and behind them `count` times the byte FF.
-fn bytes_of(alloc: Global, digits: &str, count: usize) -> Result<Vec<u8>, Fail> {
-    let mut bytes = hex::decode(alloc, digits)?;
+fn filled(rt: &impl Abort, alloc: Global, digits: &str, count: usize) -> Vec<u8> {
+    let mut bytes = bytes_of(rt, alloc, digits);
     for _ in 0..count {
-        bytes.push(255)?;
+        bytes.push(255).ok().expect(rt, "memory for bytes");
     }
-    Ok(bytes)
+    bytes
 }
 
 /// Commands of the largest numbers and of as many records, characters or bytes as there may be, with bars
@@ -69,64 +69,60 @@ KEYPAD 255 |FF|256
 MFGREP FFFFFF |FF|1430
 ";
 
-/// The message and the text of a row.
-fn large(alloc: Global, row: &str) -> Result<(Vec<u8>, String), Fail> {
-    let parts: Vec<&str> = row.split('|').collect(alloc)?;
-    let [digits, bytes, front, item, count] = parts.as_slice() else {
-        return Err("five parts".into());
-    };
-    let message = bytes_of(alloc, digits, number(bytes)?)?;
-    let text = text_of(alloc, front, item, number(count)?)?;
-    Ok((message, text))
+/// The message of the first two parts of a row, and the rest of the row.
+fn message_of<'a>(rt: &impl Abort, alloc: Global, row: &'a str) -> (Vec<u8>, &'a str) {
+    let (digits, rest) = row.split_once('|').expect(rt, "digits");
+    let (count, rest) = rest.split_once('|').expect(rt, "a count");
+    (filled(rt, alloc, digits, number(rt, count)), rest)
+}
+
+/// The text of the last three parts of a row.
+fn large_text(rt: &impl Abort, alloc: Global, parts: &str) -> String {
+    let (front, rest) = parts.split_once('|').expect(rt, "how the text begins");
+    let (item, count) = rest.split_once('|').expect(rt, "what it goes on with");
+    text_of(rt, alloc, front, item, number(rt, count))
 }
 
 #[test]
-fn largest_commands(rt: HostRuntime) -> Result<(), Fail> {
+fn largest_commands(rt: HostRuntime) {
     for row in COMMANDS.lines() {
-        let (message, text) = large(rt.alloc(), row)?;
-        let (code, data) = message.as_slice().split_first().ok_or("a code")?;
-        is_command(&rt, rt.alloc(), *code, data, text.as_str())?;
+        let (message, rest) = message_of(&rt, rt.alloc(), row);
+        let text = large_text(&rt, rt.alloc(), rest);
+        let (code, data) = message.as_slice().split_first().expect(&rt, "a code");
+        is_command(&rt, rt.alloc(), *code, data, text.as_str());
     }
-    Ok(())
 }
 
 #[test]
-fn largest_replies(rt: HostRuntime) -> Result<(), Fail> {
+fn largest_replies(rt: HostRuntime) {
     for row in REPLIES.lines() {
-        let (message, text) = large(rt.alloc(), row)?;
-        let (code, data) = message.as_slice().split_first().ok_or("a code")?;
-        is_reply(&rt, rt.alloc(), *code, data, text.as_str())?;
+        let (message, rest) = message_of(&rt, rt.alloc(), row);
+        let text = large_text(&rt, rt.alloc(), rest);
+        let (code, data) = message.as_slice().split_first().expect(&rt, "a code");
+        is_reply(&rt, rt.alloc(), *code, data, text.as_str());
     }
-    Ok(())
 }
 
-/// The text of a row is no command's, and no reply's.
-fn is_too_large(rt: &impl Abort, alloc: Global, row: &str) -> Result<(), Fail> {
-    let parts: Vec<&str> = row.split('|').collect(alloc)?;
-    let [front, item, count] = parts.as_slice() else {
-        return Err("three parts".into());
-    };
-    let text = text_of(alloc, front, item, number(count)?)?;
-    let words = words_of(alloc, text.as_str())?;
-    assert!(rt; Command::parse(words.as_slice()) == Err(BadWords), "{row}");
-    assert!(rt; Reply::parse(words.as_slice()) == Err(BadWords), "{row}");
-    Ok(())
+/// The words are no command's, and no reply's.
+fn are_refused(rt: &impl Abort, words: &[&str], row: &str) {
+    assert!(rt; Command::parse(words) == Err(BadWords), "{row}");
+    assert!(rt; Reply::parse(words) == Err(BadWords), "{row}");
 }
 
 #[test]
-fn too_large_texts(rt: HostRuntime) -> Result<(), Fail> {
+fn too_large_texts(rt: HostRuntime) {
     for row in TOO_LARGE.lines() {
-        is_too_large(&rt, rt.alloc(), row)?;
+        let text = large_text(&rt, rt.alloc(), row);
+        let words = words_of(&rt, rt.alloc(), text.as_str());
+        are_refused(&rt, words.as_slice(), row);
     }
-    Ok(())
 }
 
 /// The bits of 11425 need a byte more than there is room for, and so do those of 65535.
 #[test]
-fn too_many_bits(rt: HostRuntime) -> Result<(), Fail> {
+fn too_many_bits(rt: HostRuntime) {
     for digits in ["0000A12C", "0000FFFF"] {
-        let data = bytes_of(rt.alloc(), digits, 1428)?;
+        let data = filled(&rt, rt.alloc(), digits, 1428);
         assert_eq!(rt; Reply::read(0x50, data.as_slice()), Err(MsgFault::Count));
     }
-    Ok(())
 }

@@ -68,61 +68,66 @@ fn fault_of(table: &str, code: u8, data: &[u8]) -> Option<MsgFault> {
     }
 }
 
+/// The table of this name refuses a code and data so.
+fn is_refused(rt: &impl Abort, table: &str, code: u8, data: &[u8], fault: MsgFault) {
+    assert_eq!(rt; fault_of(table, code, data), Some(fault), "{table} {code}");
+}
+
 /// A table has none of these codes, whatever the number of data bytes.
-fn has_none_of(rt: &impl Abort, alloc: Global, table: &str, codes: &str) -> Result<(), Fail> {
-    let too_many = vec![in alloc; 0; 1433]?;
-    for code in hex::decode(alloc, codes)?.as_slice() {
-        for data in [[].as_slice(), [0, 0].as_slice(), too_many.as_slice()] {
-            let fault = fault_of(table, *code, data);
-            assert_eq!(rt; fault, Some(MsgFault::UnknownCode), "{table} {code}");
-        }
+fn has_none_of(rt: &impl Abort, alloc: Global, table: &str, digits: &str) {
+    let codes = bytes_of(rt, alloc, digits);
+    let too_many = [0; 1433];
+    for code in codes.as_slice() {
+        is_refused(rt, table, *code, &[], MsgFault::UnknownCode);
+        is_refused(rt, table, *code, &[0, 0], MsgFault::UnknownCode);
+        is_refused(rt, table, *code, &too_many, MsgFault::UnknownCode);
     }
-    Ok(())
 }
 
 #[test]
-fn other_codes(rt: HostRuntime) -> Result<(), Fail> {
-    has_none_of(&rt, rt.alloc(), "command", OTHER_COMMANDS)?;
-    has_none_of(&rt, rt.alloc(), "reply", OTHER_REPLIES)
+fn other_codes(rt: HostRuntime) {
+    has_none_of(&rt, rt.alloc(), "command", OTHER_COMMANDS);
+    has_none_of(&rt, rt.alloc(), "reply", OTHER_REPLIES);
+}
+
+/// A table refuses a code with this many data bytes.
+fn refuses_length(rt: &impl Abort, table: &str, code: u8, length: usize) {
+    let data = [0; 1442];
+    assert!(rt; length <= 1442);
+    is_refused(rt, table, code, &data[..length], MsgFault::Length);
 }
 
 /// The table of a row refuses its code with each of its numbers of data bytes.
-fn refuses_lengths(rt: &impl Abort, alloc: Global, row: &str) -> Result<(), Fail> {
-    let words = words_of(alloc, row)?;
-    let [table, code, lengths @ ..] = words.as_slice() else {
-        return Err("a table and a code".into());
-    };
-    let code = *hex::decode(alloc, code)?
+fn refuses_lengths(rt: &impl Abort, alloc: Global, row: &str) {
+    let (table, rest) = row.split_once(' ').expect(rt, "a table");
+    let (digits, lengths) = rest.split_once(' ').expect(rt, "a code");
+    let code = *bytes_of(rt, alloc, digits)
         .as_slice()
         .first()
-        .ok_or("a code")?;
-    for length in lengths {
-        let data = vec![in alloc; 0; number(length)?]?;
-        let fault = fault_of(table, code, data.as_slice());
-        assert_eq!(rt; fault, Some(MsgFault::Length), "{row}");
+        .expect(rt, "a code");
+    for length in lengths.split(' ') {
+        refuses_length(rt, table, code, number(rt, length));
     }
-    Ok(())
 }
 
 #[test]
-fn other_lengths(rt: HostRuntime) -> Result<(), Fail> {
+fn other_lengths(rt: HostRuntime) {
     for row in OTHER_LENGTHS.lines() {
-        refuses_lengths(&rt, rt.alloc(), row)?;
+        refuses_lengths(&rt, rt.alloc(), row);
     }
-    Ok(())
+}
+
+/// The table of a row refuses its code and data for a count.
+fn refuses_count(rt: &impl Abort, alloc: Global, row: &str) {
+    let (table, digits) = row.split_once(' ').expect(rt, "a table and digits");
+    let message = bytes_of(rt, alloc, digits);
+    let (code, data) = message.as_slice().split_first().expect(rt, "a code");
+    is_refused(rt, table, *code, data, MsgFault::Count);
 }
 
 #[test]
-fn other_counts(rt: HostRuntime) -> Result<(), Fail> {
+fn other_counts(rt: HostRuntime) {
     for row in OTHER_COUNTS.lines() {
-        let (table, digits) = row.split_once(' ').ok_or("a table and digits")?;
-        let message = hex::decode(rt.alloc(), digits)?;
-        let (code, data) = message.as_slice().split_first().ok_or("a code")?;
-        assert_eq!(rt;
-            fault_of(table, *code, data),
-            Some(MsgFault::Count),
-            "{row}"
-        );
+        refuses_count(&rt, rt.alloc(), row);
     }
-    Ok(())
 }

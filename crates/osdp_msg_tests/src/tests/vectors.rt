@@ -47,47 +47,39 @@ fn message_of(packet: &[u8]) -> Option<(u8, &[u8])> {
 }
 
 #[test]
-fn commands(rt: HostRuntime) -> Result<(), Fail> {
+fn commands(rt: HostRuntime) {
     for row in COMMANDS.lines() {
-        let (digits, text) = row.split_once(' ').ok_or("digits and a text")?;
-        let packet = hex::decode(rt.alloc(), digits)?;
-        let (code, data) = message_of(packet.as_slice()).ok_or("a packet")?;
-        is_command(&rt, rt.alloc(), code, data, text)?;
+        let (digits, text) = row.split_once(' ').expect(&rt, "digits and a text");
+        let packet = bytes_of(&rt, rt.alloc(), digits);
+        let (code, data) = message_of(packet.as_slice()).expect(&rt, "a packet");
+        is_command(&rt, rt.alloc(), code, data, text);
     }
-    Ok(())
 }
 
 #[test]
-fn replies(rt: HostRuntime) -> Result<(), Fail> {
+fn replies(rt: HostRuntime) {
     for row in REPLIES.lines() {
-        let (digits, text) = row.split_once(' ').ok_or("digits and a text")?;
-        let packet = hex::decode(rt.alloc(), digits)?;
-        let (code, data) = message_of(packet.as_slice()).ok_or("a packet")?;
-        is_reply(&rt, rt.alloc(), code, data, text)?;
+        let (digits, text) = row.split_once(' ').expect(&rt, "digits and a text");
+        let packet = bytes_of(&rt, rt.alloc(), digits);
+        let (code, data) = message_of(packet.as_slice()).expect(&rt, "a packet");
+        is_reply(&rt, rt.alloc(), code, data, text);
     }
-    Ok(())
 }
 
 #[test]
-fn refused_commands(rt: HostRuntime) -> Result<(), Fail> {
+fn refused_commands(rt: HostRuntime) {
     for digits in COMMANDS_OF_OTHER_LENGTHS {
-        let packet = hex::decode(rt.alloc(), digits)?;
-        let (code, data) = message_of(packet.as_slice()).ok_or("a packet")?;
-        assert_eq!(rt;
-            Command::read(code, data),
-            Err(MsgFault::Length),
-            "{digits}"
-        );
+        let packet = bytes_of(&rt, rt.alloc(), digits);
+        let (code, data) = message_of(packet.as_slice()).expect(&rt, "a packet");
+        assert_eq!(rt; Command::read(code, data), Err(MsgFault::Length));
     }
-    Ok(())
 }
 
 #[test]
-fn refused_replies(rt: HostRuntime) -> Result<(), Fail> {
+fn refused_replies(rt: HostRuntime) {
     for digits in REPLIES_OF_OTHER_COUNTS {
-        let packet = hex::decode(rt.alloc(), digits)?;
-        let (code, data) = message_of(packet.as_slice()).ok_or("a packet")?;
-        assert_eq!(rt; Reply::read(code, data), Err(MsgFault::Count), "{digits}");
+        let packet = bytes_of(&rt, rt.alloc(), digits);
+        let (code, data) = message_of(packet.as_slice()).expect(&rt, "a packet");
+        assert_eq!(rt; Reply::read(code, data), Err(MsgFault::Count));
     }
-    Ok(())
 }
