@@ -85,50 +85,67 @@ fn lent<'a>(rt: &impl Abort, fields: &Fields<'a>) -> Option<FrameView<'a>> {
     )
 }
 
-/// The fields make the packet of these bytes, and the bytes are read as these fields.
-fn is_spelled(rt: &impl Abort, fields: &Fields<'_>, bytes: &[u8]) {
+/// The packet's parts are these fields.
+fn has_fields(rt: &impl Abort, view: &FrameView<'_>, fields: &Fields<'_>) {
+    let head = view.is_reply() == fields.reply
+        && view.address().get() == fields.address
+        && view.seq().get() == fields.seq
+        && view.check() == fields.check
+        && view.has_block() == fields.block
+        && view.reserved() == fields.reserved;
+    assert!(rt; head && view.body() == fields.body);
+    assert!(rt; fields.body.split_first() == Some((&view.code(), view.payload())));
+}
+
+/// The fields make the packet of these bytes.
+fn is_encoded(rt: &impl Abort, fields: &Fields<'_>, bytes: &[u8]) {
     let frame = made(rt, fields).expect(rt, "a packet");
     assert_eq!(rt; frame.encode().as_slice(), bytes);
     assert_eq!(rt; frame.copy().encode().as_slice(), bytes);
     let lent = lent(rt, fields).expect(rt, "a lent packet");
     assert_eq!(rt; lent.encode().as_slice(), bytes);
+}
+
+/// The fields make the packet of these bytes, and the bytes are read as these fields.
+fn is_spelled(rt: &impl Abort, fields: &Fields<'_>, bytes: &[u8]) {
+    is_encoded(rt, fields, bytes);
     assert!(rt; !bytes.is_empty());
-    let ReadItem::Packet(read) = read_at(bytes, 0) else {
-        assert!(rt; false, "no packet");
-        return;
-    };
-    let view = read.view();
-    assert_eq!(rt; view.is_reply(), fields.reply);
-    assert_eq!(rt; view.address().get(), fields.address);
-    assert_eq!(rt; view.seq().get(), fields.seq);
-    assert_eq!(rt; view.check(), fields.check);
-    assert_eq!(rt; view.has_block(), fields.block);
-    assert_eq!(rt; view.reserved(), fields.reserved);
-    assert_eq!(rt; view.body(), fields.body);
-    assert_eq!(rt; view.code(), fields.body[0]);
-    assert_eq!(rt; view.payload(), &fields.body[1..]);
-    assert_eq!(rt; view.encode().as_slice(), bytes);
-    assert_eq!(rt; view.to_frame().encode().as_slice(), bytes);
+    match read_at(bytes, 0) {
+        ReadItem::Packet(read) => {
+            let view = read.view();
+            has_fields(rt, &view, fields);
+            assert_eq!(rt; view.encode().as_slice(), bytes);
+            assert_eq!(rt; view.to_frame().encode().as_slice(), bytes);
+        }
+        ReadItem::Refused(_) | ReadItem::Skipped(_) => assert!(rt; false, "no packet"),
+    }
 }
 
 #[test]
-fn packets_are_spelled(rt: HostRuntime) {
-    is_spelled(&rt, &plain(&[0x60]), &POLL);
+fn commands_are_spelled(rt: HostRuntime) {
     let mut fields = plain(&[0x60]);
+    is_spelled(&rt, &fields, &POLL);
     fields.check = CheckKind::Crc;
     is_spelled(&rt, &fields, &POLL_CRC);
-    let mut fields = plain(&[0x40]);
-    fields.reply = true;
-    fields.seq = 1;
-    fields.check = CheckKind::Crc;
-    is_spelled(&rt, &fields, &ACK_CRC);
     let mut fields = plain(&[0x61, 0x00]);
     fields.address = 5;
     is_spelled(&rt, &fields, &ID);
+}
+
+#[test]
+fn replies_are_spelled(rt: HostRuntime) {
     let mut fields = plain(&[0x40]);
     fields.reply = true;
     fields.address = 127;
     is_spelled(&rt, &fields, &ACK_CONFIGURATION);
+    fields.address = 0;
+    fields.seq = 1;
+    fields.check = CheckKind::Crc;
+    is_spelled(&rt, &fields, &ACK_CRC);
+}
+
+#[test]
+fn blocks_and_reserved_bits_are_spelled(rt: HostRuntime) {
     let mut fields = plain(&[0x02, 0x15, 0x60]);
     fields.block = true;
     is_spelled(&rt, &fields, &BLOCK);
@@ -172,49 +189,45 @@ fn packets_have_room(rt: HostRuntime) {
     assert!(rt; lent(&rt, &fields).is_none());
 }
 
-#[test]
-fn faults_in_their_order(rt: HostRuntime) {
-    let cases: [(&[u8], FrameFault); 8] = [
-        (
-            &[0x53, 0x00, 0x06, 0x00, 0x00, 0x60, 0x47],
-            FrameFault::TooShort,
-        ),
-        (
-            &[0x53, 0x00, 0x07, 0x00, 0x04, 0x60, 0x42],
-            FrameFault::TooShort,
-        ),
-        (&[0x53, 0x00, 0xa1, 0x05, 0x00], FrameFault::TooLong),
-        (&[0x53, 0x00, 0x07, 0x00, 0x00, 0x60], FrameFault::Ended),
-        (&[0x53], FrameFault::Ended),
-        (&[0x53, 0x00, 0x00, 0x00], FrameFault::Ended),
-        (
-            &[0x53, 0x00, 0x07, 0x00, 0x00, 0x60, 0x47],
-            FrameFault::BadCheck,
-        ),
-        (
-            &[0x53, 0x00, 0x08, 0x00, 0x04, 0x60, 0xaa, 0xeb],
-            FrameFault::BadCheck,
-        ),
-    ];
-    for (run, fault) in cases {
-        assert!(rt; !run.is_empty());
-        match read_at(run, 0) {
-            ReadItem::Refused(met) => assert_eq!(rt; met, fault),
-            ReadItem::Packet(_) | ReadItem::Skipped(_) => assert!(rt; false, "not refused"),
-        }
+fn is_refused(rt: &impl Abort, run: &[u8], fault: FrameFault) {
+    assert!(rt; !run.is_empty());
+    match read_at(run, 0) {
+        ReadItem::Refused(met) => assert_eq!(rt; met, fault),
+        ReadItem::Packet(_) | ReadItem::Skipped(_) => assert!(rt; false, "not refused"),
     }
+}
+
+#[test]
+fn lengths_are_refused(rt: HostRuntime) {
+    let short = FrameFault::TooShort;
+    is_refused(&rt, &[0x53, 0x00, 0x06, 0x00, 0x00, 0x60, 0x47], short);
+    is_refused(&rt, &[0x53, 0x00, 0x07, 0x00, 0x04, 0x60, 0x42], short);
+    is_refused(&rt, &[0x53, 0x00, 0xa1, 0x05, 0x00], FrameFault::TooLong);
+}
+
+#[test]
+fn ended_runs_are_refused(rt: HostRuntime) {
+    is_refused(
+        &rt,
+        &[0x53, 0x00, 0x07, 0x00, 0x00, 0x60],
+        FrameFault::Ended,
+    );
+    is_refused(&rt, &[0x53], FrameFault::Ended);
+    is_refused(&rt, &[0x53, 0x00, 0x00, 0x00], FrameFault::Ended);
+}
+
+#[test]
+fn bad_checks_are_refused(rt: HostRuntime) {
+    let bad = FrameFault::BadCheck;
+    is_refused(&rt, &[0x53, 0x00, 0x07, 0x00, 0x00, 0x60, 0x47], bad);
+    is_refused(&rt, &[0x53, 0x00, 0x08, 0x00, 0x04, 0x60, 0xaa, 0xeb], bad);
 }
 
 /// What is shown is the POLL, and nothing beside it.
 fn is_poll(rt: &impl Abort, framer: &Framer) {
     match framer.next() {
         Some(Item::Packet(view)) => {
-            assert!(rt; !view.is_reply() && !view.has_block());
-            assert_eq!(rt; view.address().get(), 0);
-            assert_eq!(rt; view.seq().get(), 0);
-            assert_eq!(rt; view.check(), CheckKind::Sum);
-            assert_eq!(rt; view.reserved(), 0);
-            assert_eq!(rt; view.body(), [0x60].as_slice());
+            has_fields(rt, &view, &plain(&[0x60]));
             assert_eq!(rt; view.encode().as_slice(), POLL.as_slice());
         }
         _ => assert!(rt; false, "no packet"),
