@@ -7,7 +7,7 @@ use osdp_frame::FrameView;
 use osdp_msg::{MsgFault, Nak, NakReason, Reply};
 
 /// What a reply says to a controller that waits for one.
-#[derive(Debug, Drop, PartialEq)]
+#[derive(Drop)]
 pub enum Answer {
     /// BUSY: this delivery wasn't taken.
     NotTaken,

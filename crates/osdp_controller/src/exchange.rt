@@ -8,7 +8,7 @@ use arrayvec::ArrayVec;
 use osdp_msg::Command;
 
 /// What an exchange asks.
-#[derive(Debug, Drop, PartialEq)]
+#[derive(Debug, Drop)]
 pub enum Exchange {
     /// The opening ID.
     Opening,
@@ -56,7 +56,7 @@ fn with_room(bytes: &[u8]) -> ArrayVec<u8, 1434>
 }
 
 /// An exchange that waits for its answer.
-#[derive(Debug, Drop, PartialEq)]
+#[derive(Debug, Drop)]
 pub struct Outstanding {
     pub exchange: Exchange,
     /// How often the reader answered BUSY.

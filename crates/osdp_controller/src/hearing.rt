@@ -239,7 +239,8 @@ fn is_no_answer(exchange: &Exchange, answer: &Answer) -> bool
     match (exchange, answer) {
         (Exchange::Opening, Answer::Plain(reply)) => pd_id_of(reply).is_none(),
         (Exchange::Opening, Answer::Unreadable(_)) => true,
-        _ => false,
+        (Exchange::Opening, Answer::NotTaken | Answer::Damaged | Answer::NumberRefused)
+        | (Exchange::Polling | Exchange::Asking(_), _) => false,
     }
 }
 

@@ -10,7 +10,7 @@ use crate::ticking::first_number;
 use osdp_frame::{Frame, Seq};
 
 /// A session with one reader.
-#[derive(Debug, Drop, PartialEq)]
+#[derive(Debug, Drop)]
 pub struct Session {
     pub config: ControllerConfig,
     pub state: State,

@@ -6,7 +6,7 @@ ghost use Rattle.osdp_controller.specs.States.{is_closed, is_idle};
 use crate::exchange::Outstanding;
 
 /// Where a session stands. Moments are in milliseconds.
-#[derive(Debug, Drop, PartialEq)]
+#[derive(Debug, Drop)]
 pub enum State {
     /// There is no session.
     Closed,

@@ -1,9 +1,10 @@
 -- What must have come where a frame is told about.
-use Rattle.std.proofs.Common.{◌≡◌, ◌∙◌, ap, subst, ℕ, ◌+◌, Bool, true, false, not, ◌&&◌, ◌||◌, Option, Some, None, refl}
+use Rattle.std.proofs.Common.{◌≡◌, ◌≤◌, ◌∙◌, ap, arith, subst, ℕ, ◌+◌, Bool, true, false, not, ◌&&◌, ◌||◌, Option, Some, None, refl}
 use Rattle.std.specs.Prelude.{if◌then◌else◌, nat_lt, ◌==◌}
-use Rattle.std.proofs.lemmas.Bool.{eq-eqb, eqb-true}
+use Rattle.std.proofs.lemmas.Bool.{and_parts, eq-eqb, eqb-true, ltb-true}
 use Rattle.osdp_frame.specs.Packet.{Packet}
 use Rattle.osdp_msg.specs.declared.command.Command.{Command}
+use Rattle.osdp_msg.specs.declared.command.Command.TheVariants as commands
 use Rattle.osdp_msg.specs.declared.command_fields.Communication.{Communication}
 use Rattle.osdp_msg.specs.declared.event.Event.{Event as EventOfReader}
 use Rattle.osdp_msg.specs.declared.event.Event.TheVariants as events
@@ -18,7 +19,7 @@ use Rattle.osdp_controller.specs.declared.exchange.Exchange.TheVariants.{Opening
 use Rattle.osdp_controller.specs.declared.exchange.Outstanding.{Outstanding}
 use Rattle.osdp_controller.specs.declared.report.LostCause.TheVariants as causes
 use Rattle.osdp_controller.specs.declared.report.Report.{Report}
-use Rattle.osdp_controller.specs.declared.report.Report.TheVariants.{PollAnswered}
+use Rattle.osdp_controller.specs.declared.report.Report.TheVariants.{Moved, PollAnswered}
 use Rattle.osdp_controller.specs.declared.session.Session.{Session}
 use Rattle.osdp_controller.specs.declared.state.State.{State}
 use Rattle.osdp_controller.specs.declared.state.State.TheVariants.{Closed, Quiet, Idle, Waiting, Pausing}
@@ -84,12 +85,39 @@ event_is (replies.Com c) e h = cc
 event_is replies.Busy e h = cc
 event_is (replies.MakerReply m) e h = cc
 
-moved_is : (asked answered : Option Communication) (d : Communication) → moved_by asked answered ≡ Some d → answered ≡ Some d
-moved_is None answered d h = cc
-moved_is (Some a) None d h = cc
+comset_is : (command : Command) (a : Communication) → comset_of command ≡ Some a → command ≡ commands.Comset a
+comset_is commands.Poll a h = cc
+comset_is (commands.Id kept) a h = cc
+comset_is (commands.Cap kept) a h = cc
+comset_is commands.LocalStatus a h = cc
+comset_is commands.InputStatus a h = cc
+comset_is commands.OutputStatus a h = cc
+comset_is commands.ReaderStatus a h = cc
+comset_is (commands.Output records) a h = cc
+comset_is (commands.Led records) a h = cc
+comset_is (commands.Buzzer b) a h = cc
+comset_is (commands.Text t) a h = cc
+comset_is (commands.Comset c) a h = cc
+comset_is (commands.Maker m) a h = cc
+
+-- both are there, with one device's address
+MovesTo : Option Communication → Option Communication → Communication → Type 0
+MovesTo asked answered d =
+    (a : Communication) × (asked ≡ Some a) × (answered ≡ Some d) × (d.address ≡ a.address) × (a.address ≤ 126)
+
+moved_is : (asked answered : Option Communication) (d : Communication) → moved_by asked answered ≡ Some d → MovesTo asked answered d
+unfolding MovesTo
+moved_is None answered d h = absurd cc
+moved_is (Some a) None d h = absurd cc
 moved_is (Some a) (Some b) d h =
-    either_way (λ (o : Option Communication). o ≡ Some d → Some b ≡ Some d) (nat_lt b.address 127 && b.address == a.address) (Some b) None
-    (λ t e. e) (λ t e. cc) h
+    either_way (λ (o : Option Communication). o ≡ Some d → MovesTo (Some a) (Some b) d) (nat_lt b.address 127 && b.address == a.address) (Some b) None
+    (λ t e.
+    let parts = and_parts (nat_lt b.address 127) (b.address == a.address) t in
+    let below = ltb-true b.address 127 parts.0 in
+    let same = eqb-true b.address a.address parts.1 in
+    let is : b ≡ d = cc in
+    (a, refl, e, subst (λ (c : Communication). c.address ≡ a.address) is same, omega (arith, below, same)))
+    (λ t e. absurd cc) h
 
 why_opening : (id : Option PdId) (reply : Reply) (p : Packet) (s t : Session) → pd_id_of reply ≡ id → ComesNumbered p s Opening (Plain reply) → s.number ≡ 0
     → WhyIf (opening_answered id t).report p s
@@ -104,18 +132,25 @@ why_poll (Some event) reply p s e comes =
 why_poll None reply p s e comes =
     either_way (λ (o : Option Report). WhyIf o p s) (is_ack reply) None (Some (PollAnswered reply)) (λ h. tt) (λ h. comes)
 
-why_command : (moved asked : Option Communication) (command : Command) (reply : Reply) (p : Packet) (s t : Session) → moved_by asked (com_of reply) ≡ moved
+why_moved : (command : Command) (reply : Reply) (d : Communication) (p : Packet) (s : Session) → MovesTo (comset_of command) (com_of reply) d
+    → ComesNumbered p s (Asking command) (Plain reply) → WhyTold (Moved command d) p s
+unfolding MovesTo
+why_moved command reply d p s (a, asked, answered, same, device) comes =
+    (subst (λ (r : Reply). ComesNumbered p s (Asking command) (Plain r)) (com_is reply d answered) comes, (a, comset_is command a asked, same, device))
+
+why_command : (moved : Option Communication) (command : Command) (reply : Reply) (p : Packet) (s t : Session)
+    → moved_by (comset_of command) (com_of reply) ≡ moved
     → ComesNumbered p s (Asking command) (Plain reply) → WhyIf (command_answered moved command reply t).report p s
-why_command None asked command reply p s t e comes = comes
-why_command (Some d) asked command reply p s t e comes =
-    subst (λ (r : Reply). ComesNumbered p s (Asking command) (Plain r)) (com_is reply d (moved_is asked (com_of reply) d e)) comes
+why_command None command reply p s t e comes = comes
+why_command (Some d) command reply p s t e comes =
+    why_moved command reply d p s (moved_is (comset_of command) (com_of reply) d e) comes
 
 why_answered : (x : Exchange) (reply : Reply) (p : Packet) (s t : Session) → ComesNumbered p s x (Plain reply) → (x ≡ Opening → s.number ≡ 0)
     → WhyIf (answered x reply t).report p s
 why_answered Opening reply p s t comes zero = why_opening (pd_id_of reply) reply p s t refl comes (zero refl)
 why_answered Polling reply p s t comes zero = why_poll (event_in reply) reply p s refl comes
 why_answered (Asking command) reply p s t comes zero =
-    why_command (moved_by (comset_of command) (com_of reply)) (comset_of command) command reply p s t refl comes
+    why_command (moved_by (comset_of command) (com_of reply)) command reply p s t refl comes
 
 why_unread : (x : Exchange) (code : ℕ) (p : Packet) (s t : Session) → ComesNumbered p s x (Unreadable code)
     → WhyIf (answered_unread x code t).report p s

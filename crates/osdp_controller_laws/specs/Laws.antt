@@ -2,6 +2,8 @@
 use Rattle.std.specs.Prelude.{◌≡◌, ◌≢◌, ℕ, suc, ◌+◌, ◌≤◌, true, false, List, [], ◌∷◌, Option, Some, None, is_some}
 use Rattle.osdp_frame.specs.Packet.{Packet, next_sequence}
 use Rattle.osdp_msg.specs.declared.command.Command.{Command}
+use Rattle.osdp_msg.specs.declared.command.Command.TheVariants.{Comset}
+use Rattle.osdp_msg.specs.declared.command_fields.Communication.{Communication}
 use Rattle.osdp_msg.specs.declared.reply.Reply.{Reply}
 use Rattle.osdp_msg.specs.declared.reply.Reply.TheVariants as replies
 use Rattle.osdp_msg.specs.Events.{event_reply}
@@ -58,12 +60,17 @@ abbrev pub WhyUnread : Option Command → ℕ → Packet → Session → Type 0
 WhyUnread None code p s = ComesNumbered p s Polling (Unreadable code)
 WhyUnread (Some command) code p s = ComesNumbered p s (Asking command) (Unreadable code)
 
+-- the command is a COMSET to a device's address, and the COM confirms this address
+abbrev pub ConfirmsMove : Command → Communication → Type 0
+ConfirmsMove command answered =
+    (asked : Communication) × (command ≡ Comset asked) × (answered.address ≡ asked.address) × (asked.address ≤ 126)
+
 -- by what is told: only the PDID of the opening ID opens, with number 0; a command is settled by the answer with its
 -- own number, an event told by the answer to a POLL
 abbrev pub WhyTold : Report → Packet → Session → Type 0
 WhyTold (Opened id) p s = ComesNumbered p s Opening (Plain (replies.PdId id)) × (p.sequence ≡ 0)
 WhyTold (Settled command reply) p s = ComesNumbered p s (Asking command) (Plain reply)
-WhyTold (Moved command answered) p s = ComesNumbered p s (Asking command) (Plain (replies.Com answered))
+WhyTold (Moved command answered) p s = ComesNumbered p s (Asking command) (Plain (replies.Com answered)) × ConfirmsMove command answered
 WhyTold (Event event) p s = ComesNumbered p s Polling (Plain (event_reply event))
 WhyTold (PollAnswered reply) p s = ComesNumbered p s Polling (Plain reply)
 WhyTold (Unread command code) p s = WhyUnread command code p s

@@ -13,7 +13,7 @@ use std::alloc::Global;
 /// How many events wait until the controller has them.
 const EVENTS: usize = 64;
 
-/// A reader at a door. The device's program reads these fields and drives the hardware by them.
+/// A reader at a door. The device's program reads these fields, by `Reader::handler`, and drives the hardware by them.
 #[derive(Clone, Copy, Debug, PartialEq, Eq)]
 pub struct Door {
     /// For each output 1 where it is on, and else 0.

@@ -137,6 +137,7 @@ fn begun(rest: &[u8], held: Option<&Buffer>, ended: bool) -> Option<First>
 
 /// The first item of the rest of a run, where these bytes of it decide it. `held` is the buffer that they
 /// are in, if any.
+#[inline(always)]
 #[tactic(auto, unfolding(crate::specs::Held::decided))]
 pub fn first_item(rest: &[u8], held: Option<&Buffer>, ended: bool) -> Option<First>
     requires { IfSome held (λ buffer. buffer.now.bytes ≡ rest.now) }

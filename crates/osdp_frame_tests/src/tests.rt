@@ -230,7 +230,7 @@ fn is_poll(rt: &impl Abort, framer: &Framer) {
             has_fields(rt, &view, &plain(&[0x60]));
             assert_eq!(rt; view.encode().as_slice(), POLL.as_slice());
         }
-        _ => assert!(rt; false, "no packet"),
+        Some(Item::Skipped(_) | Item::Refused(_)) | None => assert!(rt; false, "no packet"),
     }
 }
 
@@ -247,20 +247,34 @@ fn pieces_cut_anywhere(rt: HostRuntime) {
     }
 }
 
+/// What is shown is this byte, which begins no packet.
+fn is_skipped(rt: &impl Abort, framer: &Framer, byte: u8) {
+    match framer.next() {
+        Some(Item::Skipped(skipped)) => assert_eq!(rt; skipped, byte),
+        Some(Item::Packet(_) | Item::Refused(_)) | None => {
+            assert!(rt; false, "no skipped byte");
+        }
+    }
+}
+
+/// This byte is skipped so many times.
+fn skips(rt: &impl Abort, framer: &mut Framer, byte: u8, count: usize) {
+    for _ in 0..count {
+        is_skipped(rt, framer, byte);
+        framer.advance();
+    }
+}
+
 #[test]
 fn room_for_1440(rt: HostRuntime) {
     let bytes = [0xff; 2000];
     let mut framer = Framer::new();
     assert_eq!(rt; framer.push(&bytes), 1440);
-    for _ in 0..2 {
-        assert!(rt; matches!(framer.next(), Some(Item::Skipped(0xff))));
-    }
+    is_skipped(&rt, &framer, 0xff);
+    is_skipped(&rt, &framer, 0xff);
     framer.advance();
     assert_eq!(rt; framer.push(&bytes[1440..]), 1);
-    for _ in 0..1440 {
-        assert!(rt; matches!(framer.next(), Some(Item::Skipped(0xff))));
-        framer.advance();
-    }
+    skips(&rt, &mut framer, 0xff, 1440);
     assert!(rt; framer.next().is_none());
     framer.advance();
     assert_eq!(rt; framer.push(&bytes), 1440);
@@ -277,13 +291,25 @@ fn a_gap_ends_the_run(rt: HostRuntime) {
     assert_eq!(rt; framer.push(&[0x60]), 0);
     assert!(rt; matches!(framer.next(), Some(Item::Refused(FrameFault::Ended))));
     framer.advance();
-    assert!(rt; matches!(framer.next(), Some(Item::Skipped(0x00))));
-    framer.advance();
-    assert!(rt; matches!(framer.next(), Some(Item::Skipped(0x07))));
-    framer.advance();
+    skips(&rt, &mut framer, 0x00, 1);
+    skips(&rt, &mut framer, 0x07, 1);
     assert!(rt; framer.next().is_none());
     assert_eq!(rt; framer.push(&[0x60]), 1);
-    assert!(rt; matches!(framer.next(), Some(Item::Skipped(0x60))));
+    is_skipped(&rt, &framer, 0x60);
+}
+
+/// So many items are taken off.
+fn takes_off(framer: &mut Framer, count: usize) {
+    for _ in 0..count {
+        framer.advance();
+    }
+}
+
+/// What is shown is a packet of so many bytes.
+fn is_packet_of(rt: &impl Abort, framer: &Framer, size: usize) {
+    let item = framer.next().expect(rt, "an item");
+    assert!(rt; matches!(&item, Item::Packet(_)));
+    assert_eq!(rt; item.size(), size);
 }
 
 /// A packet of 100 bytes within the 300 that a bad one speaks of, so many times that bytes are moved to
@@ -298,21 +324,10 @@ fn long_packets_behind_bad_checks(rt: HostRuntime) {
     for _ in 0..20 {
         assert_eq!(rt; framer.push(&run), 300);
         assert!(rt; matches!(framer.next(), Some(Item::Refused(FrameFault::BadCheck))));
-        for _ in 0..10 {
-            framer.advance();
-        }
-        match framer.next() {
-            Some(item) => {
-                assert!(rt; matches!(&item, Item::Packet(_)));
-                assert_eq!(rt; item.size(), 100);
-            }
-            None => assert!(rt; false, "no item"),
-        }
+        takes_off(&mut framer, 10);
+        is_packet_of(&rt, &framer, 100);
         framer.advance();
-        for _ in 0..190 {
-            assert!(rt; matches!(framer.next(), Some(Item::Skipped(0))));
-            framer.advance();
-        }
+        skips(&rt, &mut framer, 0, 190);
         assert!(rt; framer.next().is_none());
     }
 }

@@ -8,7 +8,8 @@ use Rattle.osdp_frame.specs.declared.fault.FrameFault.{FrameFault}
 use Rattle.osdp_frame.specs.declared.fault.FrameFault.TheVariants.{TooShort}
 use Rattle.osdp_frame.specs.Packet.{IsPacket, Packet}
 use Rattle.osdp_frame.specs.Reading.{Part, Whole, Passed, Bad}
-use Rattle.osdp_lines.specs.ItemText.{check_name, direction_name, fault_name, item_line, item_text, message_text}
+use Rattle.osdp_frame.specs.Check.{check_name}
+use Rattle.osdp_lines.specs.ItemText.{direction_name, fault_name, item_line, item_text, message_text}
 use Rattle.osdp_lines.specs.Laws.{HasOneLine, IsCount, IsItem}
 use Rattle.osdp_lines.proofs.Cuts.{cut, one_byte}
 use Rattle.osdp_lines.proofs.OneItem.{one_item}

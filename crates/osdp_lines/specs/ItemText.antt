@@ -2,8 +2,7 @@
 use Rattle.std.specs.Prelude.{ℕ, ◌==◌, Bool, true, false, if◌then◌else◌, List, [], ◌∷◌, ◌++◌, codes, drop, slice_index, Result, Ok, Err}
 use Rattle.std.specs.Fmt.{decimal}
 use Rattle.hex.specs.Hex.{encode_upper}
-use Rattle.osdp_frame.specs.declared.check_kind.CheckKind.{CheckKind}
-use Rattle.osdp_frame.specs.declared.check_kind.CheckKind.TheVariants.{Sum, Crc}
+use Rattle.osdp_frame.specs.Check.{check_name}
 use Rattle.osdp_frame.specs.declared.fault.FrameFault.{FrameFault}
 use Rattle.osdp_frame.specs.declared.fault.FrameFault.TheVariants.{TooShort, TooLong, BadCheck, Ended}
 use Rattle.osdp_frame.specs.Packet.{Packet}
@@ -58,10 +57,6 @@ is_refused_message false code bytes = is_refused (command_of code bytes)
 abbrev pub direction_name : Bool → List ℕ
 direction_name true = codes "reply"
 direction_name false = codes "cmd"
-
-abbrev pub check_name : CheckKind → List ℕ
-check_name Sum = codes "sum"
-check_name Crc = codes "crc"
 
 -- the reserved bits, where they aren't zero
 abbrev pub bits_text : ℕ → List ℕ

@@ -4,7 +4,8 @@ ghost use Rattle.std.specs.Prelude.{◌≡◌, ◌++◌, ◌<◌, ◌^◌, ℕ, 
 ghost use Rattle.std.specs.Fmt.{decimal};
 ghost use Rattle.osdp_frame.specs.Packet.{Packet};
 ghost use Rattle.osdp_frame.specs.Reading.{Whole};
-ghost use Rattle.osdp_lines.specs.ItemText.{direction_name, check_name, bits_text, head_text, is_refusal};
+ghost use Rattle.osdp_frame.specs.Check.{check_name};
+ghost use Rattle.osdp_lines.specs.ItemText.{direction_name, bits_text, head_text, is_refusal};
 
 use crate::number::push_number;
 use osdp_frame::{CheckKind, FrameView};

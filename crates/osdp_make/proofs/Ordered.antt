@@ -20,7 +20,8 @@ use Rattle.osdp_msg.proofs.ReplyTexts.{reply_one_meaning}
 use Rattle.osdp_make.specs.declared.order.Message.{Message}
 use Rattle.osdp_make.specs.declared.order.Message.TheVariants.{Command, Reply}
 use Rattle.osdp_make.specs.declared.order.PacketOrder.{PacketOrder}
-use Rattle.osdp_make.specs.PacketOrder.{MessageFits, check_name, message_body, message_is_reply, message_words, order_packet}
+use Rattle.osdp_frame.specs.Check.{check_name}
+use Rattle.osdp_make.specs.PacketOrder.{MessageFits, message_body, message_is_reply, message_words, order_packet}
 use Rattle.osdp_make.specs.Laws.{HasOneOrder, IsReadAs, ReadsBack}
 use Rattle.osdp_make.proofs.Names.{not_both}
 use Rattle.osdp_make.proofs.Orders.{is_packet}

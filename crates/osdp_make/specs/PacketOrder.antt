@@ -1,8 +1,7 @@
 -- The words of make, and the packet that they order.
 use Rattle.std.specs.Prelude.{◌<◌, ℕ, Bool, true, false, List, ◌∷◌, ◌++◌, codes}
 use Rattle.hex.specs.Hex.{encode_upper}
-use Rattle.osdp_frame.specs.declared.check_kind.CheckKind.{CheckKind}
-use Rattle.osdp_frame.specs.declared.check_kind.CheckKind.TheVariants.{Sum, Crc}
+use Rattle.osdp_frame.specs.Check.{check_name}
 use Rattle.osdp_frame.specs.Packet.{Packet}
 use Rattle.osdp_frame.specs.Packed.{packed}
 use Rattle.osdp_frame.specs.Spelling.{spelling}
@@ -33,10 +32,6 @@ message_body (Reply m) = reply_code m ∷ reply_data m
 abbrev pub MessageFits : Message → Type 0
 MessageFits (Command m) = CommandFits m
 MessageFits (Reply m) = ReplyFits m
-
-abbrev pub check_name : CheckKind → List ℕ
-check_name Sum = codes "sum"
-check_name Crc = codes "crc"
 
 -- an address, a sequence number, the check's name and the words of the message
 abbrev pub order_words : PacketOrder → List Word

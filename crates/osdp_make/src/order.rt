@@ -4,7 +4,8 @@ ghost use Rattle.std.specs.Prelude.{◌≡◌, ◌≤◌, ◌∷◌, [], ⊤, le
 ghost use Rattle.osdp_frame.specs.Bytes.{AreBytes};
 ghost use Rattle.osdp_words.specs.Reading.{ReadsWords};
 ghost use Rattle.osdp_words.specs.Word.{plain, texts};
-ghost use Rattle.osdp_make.specs.PacketOrder.{MessageFits, OrderFits, check_name, message_body, message_is_reply, message_words, order_packet, order_words};
+ghost use Rattle.osdp_frame.specs.Check.{check_name};
+ghost use Rattle.osdp_make.specs.PacketOrder.{MessageFits, OrderFits, message_body, message_is_reply, message_words, order_packet, order_words};
 
 use arrayvec::ArrayVec;
 use osdp_frame::{Address, CheckKind, Frame, Seq};

@@ -4,7 +4,7 @@ ghost use Rattle.std.specs.Prelude.{◌≡◌, ◌↔◌, ◌<◌, ◌≤◌, �
 ghost use Rattle.osdp_reader.specs.Spelled.{IsSpelled};
 ghost use Rattle.osdp_reader.specs.State.{after_set_busy, after_submit, new_reader};
 ghost use Rattle.osdp_reader.specs.Table.{begun, command_in, hears, kind_by_number, kind_of, moved, new_address, is_for_another, taken};
-ghost use Rattle.osdp_reader.specs.Responses.{response_bytes, response_command, response_kind};
+ghost use Rattle.osdp_reader.specs.Responses.{HasReply, IsOfTable, response_bytes, response_command, response_kind};
 ghost use Rattle.osdp_reader.specs.declared.fault.ReaderFault.TheVariants.{OutOfRange};
 ghost use Rattle.osdp_reader.specs.declared.kind.Kind.TheVariants.{Taken, Zero};
 
@@ -105,12 +105,20 @@ impl<H: Handler> Reader<H> {
         self.stored.bytes()
     }
 
+    /// The handler, by which the device's program sees what the commands have set.
+    pub fn handler(&self) -> &H
+        ensures { result.now ≡ self.now.handler }
+    {
+        &self.handler
+    }
+
     /// Takes a packet of the line. What comes of it is the reader's table.
     pub fn on_frame(&mut self, packet: &FrameView) -> Response
         ensures kind { response_kind result ≡ kind_of self.old packet.now }
         ensures command { response_command result ≡ (hears H.answer_of H.after self.old packet.now).command }
         ensures reply { IsSpelled (hears H.answer_of H.after self.old packet.now).reply (response_bytes result) }
         ensures reader { self.new ≡ (hears H.answer_of H.after self.old packet.now).reader }
+        ensures fits { IsOfTable (kind_of self.old packet.now) packet.now (hears H.answer_of H.after self.old packet.now).reply }
     {
         match self.kind(packet) {
             Kind::Silent => Response::Silent,
@@ -157,6 +165,7 @@ impl<H: Handler> Reader<H> {
         ensures command { response_command result ≡ (begun H.answer_of H.after (command_in packet.now) self.old packet.now).command }
         ensures reply { IsSpelled (begun H.answer_of H.after (command_in packet.now) self.old packet.now).reply (response_bytes result) }
         ensures reader { self.new ≡ (begun H.answer_of H.after (command_in packet.now) self.old packet.now).reader }
+        ensures fits { HasReply packet.now 0 (begun H.answer_of H.after (command_in packet.now) self.old packet.now).reply }
     {
         self.last = Some(zero());
         self.queue.withdraw();
@@ -176,6 +185,7 @@ impl<H: Handler> Reader<H> {
         ensures command { response_command result ≡ (taken H.answer_of H.after (command_in packet.now) self.old packet.now).command }
         ensures reply { IsSpelled (taken H.answer_of H.after (command_in packet.now) self.old packet.now).reply (response_bytes result) }
         ensures reader { self.new ≡ (taken H.answer_of H.after (command_in packet.now) self.old packet.now).reader }
+        ensures fits { HasReply packet.now packet.now.sequence (taken H.answer_of H.after (command_in packet.now) self.old packet.now).reply }
     {
         self.last = Some(packet.seq());
         self.queue.release();

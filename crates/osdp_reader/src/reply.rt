@@ -5,6 +5,7 @@ ghost use Rattle.osdp_frame.specs.Bytes.{AreBytes};
 ghost use Rattle.osdp_frame.specs.Packed.{packed};
 ghost use Rattle.osdp_frame.specs.Spelling.{Spells};
 ghost use Rattle.osdp_msg.specs.declared.reply.Reply.TheVariants.{Ack};
+ghost use Rattle.osdp_msg.specs.ReplyTable.{ReplyFits};
 ghost use Rattle.osdp_reader.specs.Replies.{comset_reply, done_reply, list_reply, local_reply, maker_reply, not_processed, own_reply, refusal_reply, refused, reply_for, reply_packet, unread_reason};
 ghost use Rattle.osdp_reader.specs.Table.{answer_to, event_or_answer};
 
@@ -221,7 +222,8 @@ fn spell_body(packet: &FrameView, seq: Seq, body: &[u8]) -> Burst
 
 /// The bytes of a reply to a packet, with this number.
 pub fn spell(packet: &FrameView, seq: Seq, reply: &Reply) -> Burst
-    ensures { Spells (reply_packet packet.now seq reply.now) result.items }
+    ensures spelled { Spells (reply_packet packet.now seq reply.now) result.items }
+    ensures fits { ReplyFits reply.now }
 {
     let body = reply.write();
     spell_body(packet, seq, body.as_slice())
@@ -229,7 +231,8 @@ pub fn spell(packet: &FrameView, seq: Seq, reply: &Reply) -> Burst
 
 /// The bytes of a reply to a packet, with its number.
 pub fn spell_reply(packet: &FrameView, reply: &Reply) -> Burst
-    ensures { Spells (reply_packet packet.now packet.now.sequence reply.now) result.items }
+    ensures spelled { Spells (reply_packet packet.now packet.now.sequence reply.now) result.items }
+    ensures fits { ReplyFits reply.now }
 {
     spell(packet, packet.seq(), reply)
 }
@@ -252,6 +255,7 @@ pub fn spell_answer<H: Handler>(
     ensures reply { let answer = answer_to H.answer_of H.after config.now handler.old command.now in
         Spells (reply_packet packet.now seq answer.reply) result.items }
     ensures handler { handler.new ≡ (answer_to H.answer_of H.after config.now handler.old command.now).handler }
+    ensures fits { ReplyFits (answer_to H.answer_of H.after config.now handler.old command.now).reply }
 {
     match command {
         Command::Poll => spell_ack(packet, seq),
@@ -281,6 +285,7 @@ pub fn spell_event_or_answer<H: Handler>(
     ensures reply { let answer = event_or_answer H.answer_of H.after event.now config.now handler.old command.now in
         Spells (reply_packet packet.now packet.now.sequence answer.reply) result.items }
     ensures handler { handler.new ≡ (event_or_answer H.answer_of H.after event.now config.now handler.old command.now).handler }
+    ensures fits { ReplyFits (event_or_answer H.answer_of H.after event.now config.now handler.old command.now).reply }
 {
     match event {
         Some(event) => spell_reply(packet, event),

@@ -1,8 +1,9 @@
 //! What a reader makes of a packet.
 
 ghost use Rattle.std.specs.Prelude.{◌≡◌};
-ghost use Rattle.osdp_reader.specs.Responses.{response_bytes};
+ghost use Rattle.osdp_reader.specs.Responses.{response_bytes, response_kind};
 
+use crate::kind::Kind;
 use osdp_frame::Burst;
 use osdp_msg::Command;
 
@@ -27,6 +28,21 @@ pub enum Response {
 }
 
 impl Response {
+    /// The line of the table that answered.
+    pub fn kind(&self) -> Kind
+        ensures { result ≡ response_kind self.now }
+    {
+        match self {
+            Response::Silent => Kind::Silent,
+            Response::Secured(_) => Kind::Secured,
+            Response::Zero(..) => Kind::Zero,
+            Response::Repeat(_) => Kind::Repeat,
+            Response::Taken(..) => Kind::Taken,
+            Response::Busy(_) => Kind::Busy,
+            Response::Wrong(_) => Kind::Wrong,
+        }
+    }
+
     /// The bytes to send, none where the reader is silent.
     pub fn bytes(&self) -> &[u8]
         ensures { result.now ≡ response_bytes self.now }

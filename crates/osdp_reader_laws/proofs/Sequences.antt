@@ -2,16 +2,45 @@
 use Rattle.std.proofs.Common.{◌≡◌, ℕ, zero, suc, List, [], ◌∷◌, ◌++◌, take, Some, refl, ap, ◌∙◌}
 use Rattle.std.specs.Prelude.{slice_get}
 use Rattle.osdp_msg.specs.declared.command.Command.{Command}
+use Rattle.osdp_msg.specs.declared.command.Command.TheVariants as command
+use Rattle.osdp_msg.specs.declared.reply.Reply.TheVariants as reply
 use Rattle.osdp_reader.specs.declared.config.ReaderConfig.{ReaderConfig}
 use Rattle.osdp_reader.specs.declared.handler.Answer.{Answer}
 use Rattle.osdp_reader_laws.specs.Answering.{answers, handler_behind}
-use Rattle.osdp_reader.specs.Table.{answer_to}
+use Rattle.osdp_reader.specs.Replies.{own_reply}
+use Rattle.osdp_reader.specs.Table.{answer_to, answered}
 
 same_first : (c d : Command) (cs ds : List Command) → c ∷ cs ≡ d ∷ ds → c ≡ d
 same_first c d cs ds e = cc
 
 same_rest : (c d : Command) (cs ds : List Command) → c ∷ cs ≡ d ∷ ds → cs ≡ ds
 same_rest c d cs ds e = cc
+
+-- what is answered without the handler doesn't depend on the address
+same_own : (c d : ReaderConfig) (asked : Command) → c.id ≡ d.id → c.caps ≡ d.caps → own_reply c asked ≡ own_reply d asked
+same_own c d command.Poll id caps = refl
+same_own c d (command.Id kept) id caps = ap (λ i. Some (reply.PdId i)) id
+same_own c d (command.Cap kept) id caps = ap (λ k. Some (reply.PdCap k)) caps
+same_own c d command.LocalStatus id caps = refl
+same_own c d command.InputStatus id caps = refl
+same_own c d command.OutputStatus id caps = refl
+same_own c d command.ReaderStatus id caps = refl
+same_own c d (command.Output records) id caps = refl
+same_own c d (command.Led records) id caps = refl
+same_own c d (command.Buzzer b) id caps = refl
+same_own c d (command.Text t) id caps = refl
+same_own c d (command.Comset asked) id caps = refl
+same_own c d (command.Maker m) id caps = refl
+
+module _ {H : Type 0} (answer_of : H → Command → Answer) (after : H → Command → H) where
+  pub answers_anywhere : (c d : ReaderConfig) (handler : H) (commands : List Command) → c.id ≡ d.id → c.caps ≡ d.caps
+      → answers answer_of after c handler commands ≡ answers answer_of after d handler commands
+  answers_anywhere c d handler [] id caps = refl
+  answers_anywhere c d handler (x ∷ xs) id caps =
+      let a = answer_to answer_of after d handler x in
+      ap (λ own. (answered answer_of after own handler x).reply ∷ answers answer_of after c (answered answer_of after own handler x).handler xs)
+      (same_own c d x id caps)
+      ∙ ap (λ rest. a.reply ∷ rest) (answers_anywhere c d a.handler xs id caps)
 
 module _ {H : Type 0} (answer_of : H → Command → Answer) (after : H → Command → H) (config : ReaderConfig) where
   pub answers-append : (handler : H) (first more : List Command)

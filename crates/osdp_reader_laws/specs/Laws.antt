@@ -2,7 +2,8 @@
 use Rattle.std.specs.Prelude.{◌≡◌, ◌≢◌, ◌⊎◌, ◌↔◌, [], ◌∷◌, ◌≤◌, ◌+◌, ℕ, suc, Bool, true, false, List, ◌++◌, length, take, drop, slice_get, Option, Some, None, Ok}
 use Rattle.osdp_frame.specs.Packet.{Packet, next_sequence}
 use Rattle.osdp_msg.specs.declared.command.Command.{Command}
-use Rattle.osdp_msg.specs.declared.command.Command.TheVariants.{Poll}
+use Rattle.osdp_msg.specs.declared.command.Command.TheVariants.{Comset, Poll}
+use Rattle.osdp_msg.specs.declared.command_fields.Communication.{Communication}
 use Rattle.osdp_msg.specs.declared.event.Event.{Event}
 use Rattle.osdp_msg.specs.declared.reply.Reply.{Reply}
 use Rattle.osdp_msg.specs.declared.reply.Reply.TheVariants as reply
@@ -11,12 +12,12 @@ use Rattle.osdp_msg.specs.NakReasons.{reason_number}
 use Rattle.osdp_msg.specs.ReplyTable.{reply_code, reply_data}
 use Rattle.osdp_reader.specs.declared.config.ReaderConfig.{ReaderConfig}
 use Rattle.osdp_reader.specs.declared.handler.Answer.{Answer}
-use Rattle.osdp_reader.specs.declared.kind.Kind.TheVariants.{Zero, Taken, Wrong}
+use Rattle.osdp_reader.specs.declared.kind.Kind.TheVariants.{Zero, Taken}
 use Rattle.osdp_reader_laws.specs.Answering.{answers, handler_behind}
 use Rattle.osdp_reader.specs.Replies.{reply_packet}
 use Rattle.osdp_reader.specs.Spelled.{IsSpelled}
 use Rattle.osdp_reader.specs.State.{ReaderState, after_set_busy, after_submit, new_reader}
-use Rattle.osdp_reader.specs.Table.{answer_to, command_in, hears, kind_of, new_address}
+use Rattle.osdp_reader.specs.Table.{answer_to, command_in, hears, kind_of}
 
 -- neither BUSY nor a NAK 1 or 4, which say that the command wasn't taken
 abbrev pub IsPlain : Reply → Type 0
@@ -183,6 +184,12 @@ module _ {H : Type 0} where
         → slice_get (answers answer_of after config handler commands) k
         ≡ slice_get (answers answer_of after config handler others) k
 
+    -- .. and, of the settings, on what is answered to ID and CAP alone: a COMSET that moves the reader changes no answer
+    abbrev pub AnswersWhereverItIs : Type 0
+    AnswersWhereverItIs = (config other : ReaderConfig) (handler : H) (commands : List Command)
+        → config.id ≡ other.id → config.caps ≡ other.caps
+        → answers answer_of after config handler commands ≡ answers answer_of after other handler commands
+
     -- a reader that isn't busy takes the number behind the last one, and no other but 0
     abbrev pub TakesNext : Type 0
     TakesNext = (r : ReaderState H) (p : Packet) → (kind_of r p ≡ Taken)
@@ -202,16 +209,18 @@ module _ {H : Type 0} where
         → IsAnswered (hears answer_of after r p).reply p 0 busy_body
         × ((hears answer_of after r p).reader ≡ r)
 
-    -- a number out of turn is refused with NAK 4 and that number, and nothing changes
+    -- a number out of turn, neither the last one nor the next, is refused with NAK 4 and that number, and nothing changes; where no
+    -- number is the last one each is out of turn but 0
     abbrev pub RefusesNumbers : Type 0
-    RefusesNumbers = (r : ReaderState H) (p : Packet) → kind_of r p ≡ Wrong
+    RefusesNumbers = (r : ReaderState H) (p : Packet) → ComesTo r p → p.block ≡ false → p.sequence ≢ 0
+        → ((n : ℕ) → r.last ≡ Some n → (p.sequence ≢ n) × (p.sequence ≢ next_sequence n))
         → IsAnswered (hears answer_of after r p).reply p p.sequence (nak_body 4)
         × ((hears answer_of after r p).reader ≡ r)
 
     -- behind an accepted COMSET to another address nothing that was said before counts, and the handler stays
     abbrev pub ForgetsWhereItMoves : Type 0
-    ForgetsWhereItMoves = (r : ReaderState H) (p : Packet) (address : ℕ) (command : Command)
-        → (hears answer_of after r p).command ≡ Some command → new_address command ≡ Some address → address ≢ r.config.address
-        → ((hears answer_of after r p).reader.config.address ≡ address)
+    ForgetsWhereItMoves = (r : ReaderState H) (p : Packet) (asked : Communication)
+        → (hears answer_of after r p).command ≡ Some (Comset asked) → asked.address ≤ 126 → asked.address ≢ r.config.address
+        → ((hears answer_of after r p).reader.config.address ≡ asked.address)
         × ((hears answer_of after r p).reader.last ≡ None) × ((hears answer_of after r p).reader.stored ≡ None)
         × ((hears answer_of after r p).reader.handler ≡ r.handler)

@@ -1,8 +1,9 @@
 -- What a packet does to what a reader keeps, line by line of its table.
-use Rattle.std.specs.Prelude.{◌≡◌, ◌≢◌, ◌⊎◌, [], ◌∷◌, true, false, List, drop, Some, None, Ok, Err}
+use Rattle.std.specs.Prelude.{◌≡◌, ◌≢◌, ◌≤◌, ◌⊎◌, [], ◌∷◌, true, false, List, drop, Some, None, Ok, Err}
 use Rattle.osdp_frame.specs.Packet.{Packet}
 use Rattle.osdp_msg.specs.declared.command.Command.{Command}
-use Rattle.osdp_msg.specs.declared.command.Command.TheVariants.{Poll}
+use Rattle.osdp_msg.specs.declared.command.Command.TheVariants.{Comset, Poll}
+use Rattle.osdp_msg.specs.declared.command_fields.Communication.{Communication}
 use Rattle.osdp_msg.specs.declared.event.Event.{Event}
 use Rattle.osdp_msg.specs.declared.fault.MsgFault.{MsgFault}
 use Rattle.osdp_msg.specs.declared.reply.Reply.TheVariants as reply
@@ -11,7 +12,7 @@ use Rattle.osdp_reader.specs.declared.handler.Answer.{Answer}
 use Rattle.osdp_reader.specs.declared.kind.Kind.TheVariants.{Zero, Taken}
 use Rattle.osdp_reader.specs.Replies.{refused, reply_packet, unread_reason}
 use Rattle.osdp_reader.specs.State.{ReaderState}
-use Rattle.osdp_reader.specs.Table.{command_in, hears, kind_of, new_address}
+use Rattle.osdp_reader.specs.Table.{command_in, hears, kind_of}
 
 module _ {H : Type 0} (answer_of : H → Command → Answer) (after : H → Command → H) where
   -- only number 0 and a taken number change anything, or reach the handler
@@ -69,9 +70,9 @@ module _ {H : Type 0} (answer_of : H → Command → Answer) (after : H → Comm
       (next.busy ≡ r.busy) × (next.queue.capacity ≡ r.queue.capacity)
       × (next.config.id ≡ r.config.id) × (next.config.caps ≡ r.config.caps)
 
-  -- the address changes by an accepted COMSET alone, and to the one that it sets
+  -- the address changes by a COMSET to a device's address alone, and to that address
   abbrev pub MovesByComsetAlone : Type 0
   MovesByComsetAlone = (r : ReaderState H) (p : Packet)
       → (hears answer_of after r p).reader.config.address ≢ r.config.address
-      → (command : Command) × ((hears answer_of after r p).command ≡ Some command)
-      × (new_address command ≡ Some (hears answer_of after r p).reader.config.address)
+      → (asked : Communication) × ((hears answer_of after r p).command ≡ Some (Comset asked)) × (asked.address ≤ 126)
+      × ((hears answer_of after r p).reader.config.address ≡ asked.address)

@@ -2,7 +2,7 @@
 //! and hold whatever the handler does.
 #![tactic(auto)]
 
-ghost use Rattle.osdp_reader_laws.specs.Laws.{ActsAtZero, ActsOnce, AnswersByWhatCame, AnswersInOrder, AnswersPlainly, AnswersTaken, AnswersTheSameAgain, ForgetsWhereItMoves, HasOneSpelling, HasRoom, HearsItsAddress, IsKept, KeepsReply, KeepsWhatItTook, LosesNoEvent, RefusesBlocks, RefusesNumbers, RepeatsItsReply, RepliesToItsCommand, SaysBusy, StaysADevice, TakesNext, TellsItsOffer};
+ghost use Rattle.osdp_reader_laws.specs.Laws.{ActsAtZero, ActsOnce, AnswersByWhatCame, AnswersInOrder, AnswersPlainly, AnswersTaken, AnswersTheSameAgain, AnswersWhereverItIs, ForgetsWhereItMoves, HasOneSpelling, HasRoom, HearsItsAddress, IsKept, KeepsReply, KeepsWhatItTook, LosesNoEvent, RefusesBlocks, RefusesNumbers, RepeatsItsReply, RepliesToItsCommand, SaysBusy, StaysADevice, TakesNext, TellsItsOffer};
 ghost use Rattle.osdp_reader_laws.specs.Steps.{AnswersPolls, BeginsAnew, ChangesByActing, KeepsItsSettings, LetsItsOfferGo, MovesByComsetAlone, OffersToPollsAlone, RefusesUnread, TellsItsCommand};
 
 use osdp_reader::Handler;
@@ -88,10 +88,11 @@ pub fn stays_well<H: Handler>()
     ensures address { StaysADevice H.answer_of H.after }
 {}
 
-/// Each command of a list is answered behind those before it, and whatever comes later changes no answer.
+/// Each command of a list is answered behind those before it. Whatever comes later changes no answer, nor does the address.
 pub fn answers_in_order<H: Handler>()
     ensures order { AnswersInOrder H.answer_of H.after }
     ensures before { AnswersByWhatCame H.answer_of H.after }
+    ensures anywhere { AnswersWhereverItIs H.answer_of H.after }
 {}
 
 /// Each reply goes to the address and with the kind of check that its command used, without reserved bits.

@@ -1,8 +1,9 @@
 -- How a watched stream comes to have failed.
-use Rattle.std.proofs.Common.{◌≡◌, ◌||◌, ◌⊎◌, zero, suc, Bool, true, false, List, [], ◌∷◌, refl, sym, inl, inr, arith, ◌∙◌}
+use Rattle.std.proofs.Common.{◌≡◌, ◌↔◌, ◌||◌, ◌⊎◌, zero, suc, Bool, true, false, List, [], ◌∷◌, refl, sym, inl, inr, arith, ◌∙◌}
+use Rattle.std.specs.Prelude.{map}
 use Rattle.std.specs.List.{Contains}
 use Rattle.osdp_stream.specs.declared.watch.Watched.{Watched}
-use Rattle.osdp_stream.specs.Watched.{has_failed, WentThrough, FailedBySomeCall}
+use Rattle.osdp_stream.specs.Watched.{Call, FailedBySomeCall, WentThrough, has_failed, is_failed_call}
 
 either_failed : (before now after : Bool) → after ≡ (before || now) → after ≡ true → (before ≡ true) ⊎ (now ≡ true)
 either_failed true now after is failed = inl refl
@@ -21,10 +22,15 @@ Contains-first : (call : Bool) (calls : List Bool) → Contains (call ∷ calls)
 Contains-first call calls (zero, below, is) = inl is
 Contains-first call calls (suc k, below, is) = inr (k, omega arith, is)
 
+-- of calls that are known only by whether they failed
+FailedByOne : {T : Type 0} → Watched T → List Bool → Watched T → Type 0
+FailedByOne old calls new = (has_failed new ≡ true) ↔ ((has_failed old ≡ true) ⊎ Contains calls true)
+
 -- one call, and then calls of which this holds
-FailedBySomeCall-first : {T : Type 0} (old next new : Watched T) (call : Bool) (calls : List Bool) → has_failed next ≡ (has_failed old || call)
-    → FailedBySomeCall next calls new → FailedBySomeCall old (call ∷ calls) new
-FailedBySomeCall-first old next new call calls noted later = (cause, effect)
+FailedByOne-first : {T : Type 0} (old next new : Watched T) (call : Bool) (calls : List Bool) → has_failed next ≡ (has_failed old || call)
+    → FailedByOne next calls new → FailedByOne old (call ∷ calls) new
+unfolding FailedByOne
+FailedByOne-first old next new call calls noted later = (cause, effect)
   where
     cause : has_failed new ≡ true → (has_failed old ≡ true) ⊎ Contains (call ∷ calls) true
     cause failed = elim (later.0 failed) [
@@ -42,14 +48,16 @@ FailedBySomeCall-first old next new call calls noted later = (cause, effect)
       | inr behind ↦ later.1 (inr behind)
     ]
 
-FailedBySomeCall-none : {T : Type 0} (old new : Watched T) → has_failed new ≡ has_failed old → FailedBySomeCall old [] new
-FailedBySomeCall-none old new same = (λ failed. inl (sym same ∙ failed), effect)
+FailedByOne-none : {T : Type 0} (old new : Watched T) → has_failed new ≡ has_failed old → FailedByOne old [] new
+unfolding FailedByOne
+FailedByOne-none old new same = (λ failed. inl (sym same ∙ failed), effect)
   where
     effect : (has_failed old ≡ true) ⊎ Contains [] true → has_failed new ≡ true
     effect (inl failed) = same ∙ failed
     effect (inr (k, below, is)) = absurd (omega arith)
 
-pub WentThrough-fails : {T : Type 0} (old new : Watched T) (calls : List Bool) → WentThrough old calls new → FailedBySomeCall old calls new
-WentThrough-fails old new [] same = FailedBySomeCall-none old new same
+pub WentThrough-fails : {T E : Type 0} (old new : Watched T) (calls : List (Call E)) → WentThrough old calls new → FailedBySomeCall old calls new
+unfolding FailedByOne
+WentThrough-fails old new [] same = FailedByOne-none old new same
 WentThrough-fails old new (call ∷ calls) (next, noted, through) =
-    FailedBySomeCall-first old next new call calls noted (WentThrough-fails next new calls through)
+    FailedByOne-first old next new (is_failed_call call) (map is_failed_call calls) noted (WentThrough-fails next new calls through)

@@ -1,5 +1,5 @@
 -- A stream that is watched for failures.
-use Rattle.std.specs.Prelude.{◌≡◌, ◌==◌, ◌&&◌, ◌||◌, ◌↔◌, ◌⊎◌, ◌<◌, ℕ, Bool, true, List, [], ◌∷◌, Option, Result, Ok, Err, length, nat_lt, take, Contains}
+use Rattle.std.specs.Prelude.{◌≡◌, ◌==◌, ◌&&◌, ◌||◌, ◌↔◌, ◌⊎◌, ◌<◌, ℕ, Bool, true, List, [], ◌∷◌, Option, Result, Ok, Err, is_err, length, map, nat_lt, take, Contains}
 use Rattle.std.specs.Io.KnownBytes.{Appends}
 use Rattle.osdp_stream.specs.declared.watch.Watched.{Watched}
 
@@ -20,11 +20,24 @@ is_failed_write (Err error) bytes = true
 abbrev pub AppendsPart : Option (List ℕ) → Option (List ℕ) → List ℕ → Type 0
 AppendsPart old new bytes = (taken : ℕ) × (taken < length bytes) × Appends old new (take taken bytes)
 
--- from old to new the stream went through these calls in turn, each of which failed or did not
-abbrev pub WentThrough : {T : Type 0} → Watched T → List Bool → Watched T → Type 0
+-- a call on a stream, by its answer; a write has its bytes too
+pub data Call (E : Type 0) : Type 0 where
+  ReadCall : Result ℕ E → Call E
+  WriteCall : List ℕ → Result ℕ E → Call E
+  FlushCall : Result (Unit {0}) E → Call E
+
+-- the call failed: it answered an error, or was a write of one or more bytes that took none
+abbrev pub is_failed_call : {E : Type 0} → Call E → Bool
+is_failed_call (ReadCall answer) = is_err answer
+is_failed_call (WriteCall bytes answer) = is_failed_write answer bytes
+is_failed_call (FlushCall answer) = is_err answer
+
+-- from old to new the stream went through these calls in turn, each as its contract has it
+abbrev pub WentThrough : {T E : Type 0} → Watched T → List (Call E) → Watched T → Type 0
 WentThrough old [] new = has_failed new ≡ has_failed old
-WentThrough {T} old (call_failed ∷ calls) new = (next : Watched T) × (has_failed next ≡ (has_failed old || call_failed)) × WentThrough next calls new
+WentThrough {T} old (call ∷ calls) new =
+    (next : Watched T) × (has_failed next ≡ (has_failed old || is_failed_call call)) × WentThrough next calls new
 
 -- after any calls a stream has failed exactly where it had before them, or one of them failed
-abbrev pub FailedBySomeCall : {T : Type 0} → Watched T → List Bool → Watched T → Type 0
-FailedBySomeCall old calls new = (has_failed new ≡ true) ↔ ((has_failed old ≡ true) ⊎ Contains calls true)
+abbrev pub FailedBySomeCall : {T E : Type 0} → Watched T → List (Call E) → Watched T → Type 0
+FailedBySomeCall old calls new = (has_failed new ≡ true) ↔ ((has_failed old ≡ true) ⊎ Contains (map is_failed_call calls) true)

@@ -1,10 +1,10 @@
 //! What the crate's definitions say, in the subject's words. The functions have no code: each
 //! states a law for all values, and its proof is the law's.
 
-ghost use Rattle.std.specs.Prelude.{Bool, List};
+ghost use Rattle.std.specs.Prelude.{List};
 ghost use Rattle.osdp_stream.specs.FinalAnswer.{TellsTruly, TellsStreamsFirst};
 ghost use Rattle.osdp_stream.specs.ToolFault.{StatusTellsCause};
-ghost use Rattle.osdp_stream.specs.Watched.{WentThrough, FailedBySomeCall};
+ghost use Rattle.osdp_stream.specs.Watched.{Call, FailedBySomeCall, WentThrough};
 ghost use Rattle.osdp_stream.specs.declared.watch.Watched.{Watched};
 
 use crate::fault::ToolFault;
@@ -14,9 +14,10 @@ pub fn status_tells_cause(fault: ToolFault)
     ensures { StatusTellsCause fault }
 {}
 
-/// After any calls a watched stream has failed exactly where it had before, or one of them failed.
-pub fn failed_by_some_call<T>()
-    ensures { (old new : Watched T) (calls : List Bool) → WentThrough old calls new
+/// After any reads, writes and flushes a watched stream has failed exactly where it had before, or one of them answered an error,
+/// or a write of one or more bytes took none.
+pub fn failed_by_some_call<T, E>()
+    ensures { (old new : Watched T) (calls : List (Call E)) → WentThrough old calls new
         → FailedBySomeCall old calls new }
 {}
 

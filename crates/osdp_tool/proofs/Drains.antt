@@ -12,8 +12,18 @@ use Rattle.osdp_frame.proofs.Readings.{part_size-positive, part_size-decided, de
 use Rattle.osdp_lines.specs.Tally.{after_part, counted}
 use Rattle.osdp_lines.proofs.Lines.{after_parts-nil, after_parts-cons, counted-behind}
 use Rattle.osdp_tool.specs.declared.report.Report.{Report}
-use Rattle.osdp_tool.specs.Machine.{Tells, Draining, Drained}
+use Rattle.osdp_tool.specs.Machine.{Tells, Drained}
 use Rattle.osdp_tool.proofs.Reports.{tells_none, tells_more}
+
+-- some of the items that the held bytes decide have been told and taken off
+pub record Draining (start now : Held) (old new : Report) (before after : Option (List ℕ)) : Type 0 where
+  pub parts : List Part
+  pub tells : Tells old new before after parts
+  pub whole : items start.ended start.bytes ≡ parts ++ items now.ended now.bytes
+  pub rest : drop (total_size (items now.ended now.bytes)) now.bytes ≡ drop (total_size (items start.ended start.bytes)) start.bytes
+  pub bytes : AreBytes now.bytes
+  pub some : now.ended ≡ true → 0 < length now.bytes
+  pub counts : counted new.tally + 5 * length now.bytes ≤ counted old.tally + 5 * length start.bytes
 
 -- of a run that has ended nothing but its end is left where no byte is
 still_ended : (ended : Bool) (rest : List ℕ) → items (ended && not (length rest == 0)) rest ≡ items ended rest

@@ -1,5 +1,5 @@
 -- A capture that is read to its end.
-use Rattle.std.proofs.Common.{◌≡◌, ℕ, ◌-◌, ◌≤◌, Bool, true, false, List, [], ◌∷◌, ◌++◌, length, take, drop, take-append-drop, Option, Some, None, Result, Ok, Err, OnOk, IfErr, ◌⊎◌, inl, inr, refl, sym, subst, ap, ◌∙◌, arith, append_assoc, append-nil, length-append}
+use Rattle.std.proofs.Common.{◌≡◌, ℕ, ◌+◌, ◌-◌, ◌≤◌, Bool, true, false, List, [], ◌∷◌, ◌++◌, length, take, drop, take-append-drop, Option, Some, None, Result, Ok, Err, OnOk, IfErr, ◌⊎◌, inl, inr, refl, sym, subst, ap, ◌∙◌, arith, append_assoc, append-nil, length-append}
 use Rattle.std.specs.Io.KnownBytes.{Appends, Consumes, Keeps}
 use Rattle.std.proofs.KnownBytes.{Consumes-nil, Consumes-trans}
 use Rattle.std.proofs.KnownBytes.{Appends-trans, Appends-kept}
@@ -24,10 +24,17 @@ use Rattle.osdp_tool.specs.Machine.{IsSettled, IsStep, EndedRun}
 use Rattle.osdp_tool.specs.Shown.{shown}
 use Rattle.osdp_tool.specs.Ending.{streamed, EndsAtBadLine, EndsAtFailedRead}
 use Rattle.osdp_tool.specs.Capture.{Follows, FollowsIf, TookPiece, TookPart}
-use Rattle.osdp_tool.specs.Works.{Works, Answered, Closed, EndedInput, EndsLine, HasRead, ReadToEnd, ReadToBadLine, ReadToLimit, ReadToFailure}
+use Rattle.osdp_tool.specs.Works.{Works, Answered, Closed, EndedInput, EndsLine, ReadToEnd, ReadToBadLine, ReadToLimit, ReadToFailure}
 use Rattle.osdp_tool.proofs.Pieces.{took_both, nothing_bad, told_nothing}
 
 -- ---- reading
+
+-- the bytes read so far, within the limit
+pub record HasRead (limit left : ℕ) (old new : Capture) (input_before input_after before after : Option (List ℕ)) : Type 0 where
+  pub read : List ℕ
+  pub taken : Consumes input_before input_after read
+  pub count : length read + left ≡ limit
+  pub took : TookPiece read true old new before after
 
 pub read_more : (limit left count : ℕ) (piece : List ℕ) (old mid new : Capture) (a b c : Option (List ℕ)) (x y z : Option (List ℕ))
     → length piece ≡ count → count ≤ left → HasRead limit left old mid a b x y → Consumes b c piece → TookPiece piece true mid new y z

@@ -50,16 +50,6 @@ pub record Drained (start now : Held) (old new : Report) (before after : Option 
   pub settled : decided false now.bytes ≡ None
   pub counts : counted new.tally + 5 * length now.bytes ≤ counted old.tally + 5 * length start.bytes
 
--- some of them have been
-pub record Draining (start now : Held) (old new : Report) (before after : Option (List ℕ)) : Type 0 where
-  pub parts : List Part
-  pub tells : Tells old new before after parts
-  pub whole : items start.ended start.bytes ≡ parts ++ items now.ended now.bytes
-  pub rest : drop (total_size (items now.ended now.bytes)) now.bytes ≡ drop (total_size (items start.ended start.bytes)) start.bytes
-  pub bytes : AreBytes now.bytes
-  pub some : now.ended ≡ true → 0 < length now.bytes
-  pub counts : counted new.tally + 5 * length now.bytes ≤ counted old.tally + 5 * length start.bytes
-
 -- a run goes on, and none of the held bytes is decided
 pub record IsSettled (held : Held) : Type 0 where
   pub bytes : AreBytes held.bytes

@@ -42,13 +42,6 @@ pub record EndsLine (good : Bool) (old new : Capture) (before after : Option (Li
   pub settled : IsSettled new.framer
   pub load_is : load new ≤ load old + 5
 
--- the bytes read so far, within the limit
-pub record HasRead (limit left : ℕ) (old new : Capture) (input_before input_after before after : Option (List ℕ)) : Type 0 where
-  pub read : List ℕ
-  pub taken : Consumes input_before input_after read
-  pub count : length read + left ≡ limit
-  pub took : TookPiece read true old new before after
-
 -- the end of the input
 pub record ReadToEnd (limit : ℕ) (old new : Capture) (input_before input_after before after : Option (List ℕ)) : Type 0 where
   pub read : List ℕ

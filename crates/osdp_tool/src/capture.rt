@@ -16,10 +16,10 @@ use std::alloc::Global;
 use std::io::Write;
 
 /// Room for the text that is gathered and the longest line behind it, so that no line needs memory.
-const ROOM: usize = 49152;
+const ROOM: usize = 73728;
 
 /// A capture that is read.
-#[derive(Debug, Drop)]
+#[derive(Drop)]
 pub struct Capture {
     pub form: Form,
     /// The characters that count of the line that has not ended.

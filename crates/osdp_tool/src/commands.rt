@@ -14,7 +14,7 @@ use osdp_stream::{ToolFault, Watched, finish};
 use std::alloc::Global;
 use std::io::{Read, Write};
 
-/// At most so many bytes of an input are read.
+/// What an input holds behind so many bytes is not shown. One byte of it is read to tell.
 pub const LIMIT: usize = 67_108_864;
 
 /// How the input of a mode stands in runs.
@@ -53,8 +53,8 @@ fn work<R: Read, W: Write>(
 
 /// Either command over an input of this form, with a limit of the caller's own.
 ///
-/// With `full` it prints as `show` does, else as `check`. At most `limit` bytes are read, below 2^40; more than these are
-/// `TooLong`. A stream that has failed before is told, the input first, and nothing is read or printed.
+/// With `full` it prints as `show` does, else as `check`. An input of more than `limit` bytes, below 2^40, is `TooLong`, and what
+/// it holds behind them is not shown. A stream that has failed before is told, the input first, and nothing is read or printed.
 pub fn command<R: Read, W: Write>(
     alloc: Global,
     full: bool,
@@ -64,7 +64,10 @@ pub fn command<R: Read, W: Write>(
     output: &mut Watched<W>,
 ) -> Result<bool, ToolFault>
     requires { limit < 2 ^ 40 }
-    ensures { Ends full form limit
+    ensures ends { Ends full form limit
+        (streamed (R.remaining (inner_of input.old)) (R.remaining (inner_of input.new)) (has_failed input.new))
+        (streamed (W.contents (inner_of output.old)) (W.contents (inner_of output.new)) (has_failed output.new)) result }
+    ensures whole { EndsWhole full form limit
         (streamed (R.remaining (inner_of input.old)) (R.remaining (inner_of input.new)) (has_failed input.new))
         (streamed (W.contents (inner_of output.old)) (W.contents (inner_of output.new)) (has_failed output.new)) result }
 {

@@ -17,7 +17,7 @@ pub fn shows_decided()
     ensures { ShowsDecided }
 {}
 
-/// At most 67,108,864 bytes of an input are read.
+/// The limit of an input is 67,108,864 bytes. One more is read to tell that an input is longer.
 pub fn reads_64_mebibytes()
     ensures { LIMIT ≡ 67108864 }
 {}

@@ -14,7 +14,7 @@ use std::io::{Read, Write};
 const PIECE: usize = 65536;
 
 /// Why no more is read.
-#[derive(Clone, Copy, Debug, PartialEq, Eq)]
+#[derive(Clone, Copy)]
 pub enum Ending {
     AtEnd,
     AtBadLine,

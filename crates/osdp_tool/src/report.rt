@@ -17,7 +17,7 @@ use std::io::Write;
 const GATHERED: usize = 65536;
 
 /// The text of the items told so far that is not written yet, and what they count for.
-#[derive(Debug, Drop)]
+#[derive(Drop)]
 pub struct Report {
     /// Each item has a line, and not refusals alone.
     pub full: bool,

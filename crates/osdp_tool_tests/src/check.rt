@@ -25,6 +25,13 @@ fn spells_checks_of_no_bytes(rt: HostRuntime) {
     assert_eq!(rt; check_of::<Crc16>(&[]), [0x0f, 0x1d]);
 }
 
+/// Adds these bytes.
+fn add_all(check: &mut impl Check, bytes: &[u8]) {
+    for byte in bytes {
+        check.add(*byte);
+    }
+}
+
 /// A check that was spelled can go on.
 #[test]
 fn goes_on_behind_a_spelling(rt: HostRuntime) {
@@ -34,9 +41,7 @@ fn goes_on_behind_a_spelling(rt: HostRuntime) {
     sum.add(0xff);
     assert_eq!(rt; sum.spell(), [2, 0]);
     let mut crc = Crc16::start();
-    for byte in b"123456789" {
-        crc.add(*byte);
-    }
+    add_all(&mut crc, b"123456789");
     assert_eq!(rt; crc.spell(), [0xcc, 0xe5]);
     assert_eq!(rt; (Sum8::SIZE, Crc16::SIZE), (1, 2));
 }
@@ -52,20 +57,14 @@ fn has_known_table_entries(rt: HostRuntime) {
 #[test]
 fn spells_checks_of_last_bytes(rt: HostRuntime) {
     let mut crc = Crc16::start();
-    for byte in b"osdp" {
-        crc.add(*byte);
-    }
+    add_all(&mut crc, b"osdp");
     let front = crc;
-    for byte in b"123456789" {
-        crc.add(*byte);
-    }
+    add_all(&mut crc, b"123456789");
     assert_eq!(rt; crc.spell_since(&front, 9), [0xcc, 0xe5]);
     assert_eq!(rt; crc.spell_since(&crc, 0), [0x0f, 0x1d]);
     let mut sum = Sum8::start();
     sum.add(0x99);
     let front = sum;
-    for byte in [0x53, 0x00, 0x07, 0x00, 0x00, 0x60] {
-        sum.add(byte);
-    }
+    add_all(&mut sum, &[0x53, 0x00, 0x07, 0x00, 0x00, 0x60]);
     assert_eq!(rt; sum.spell_since(&front, 6), [0x46, 0]);
 }

@@ -12,6 +12,10 @@ fn reads_numbers(rt: HostRuntime) {
     for (word, number) in "0 7 10 255".split(' ').zip([0, 7, 10, 255]) {
         assert_eq!(rt; number_u8(word), Some(number), "at {word}");
     }
+}
+
+#[test]
+fn other_words_are_no_numbers(rt: HostRuntime) {
     for word in NO_NUMBERS.split('|') {
         assert_eq!(rt; number_u8(word), None, "at {word}");
     }
@@ -21,9 +25,8 @@ fn reads_numbers(rt: HostRuntime) {
 fn reads_wide_numbers(rt: HostRuntime) {
     assert_eq!(rt; number_u16("26"), Some(26));
     assert_eq!(rt; number_u16("65535"), Some(65535));
-    for word in "65536 065535".split(' ') {
-        assert_eq!(rt; number_u16(word), None, "at {word}");
-    }
+    assert_eq!(rt; number_u16("65536"), None);
+    assert_eq!(rt; number_u16("065535"), None);
     assert_eq!(rt; number_u32("9600"), Some(9600));
     assert_eq!(rt; number_u32("4294967295"), Some(4_294_967_295));
     for word in "4294967296 99999999999999999999999 +9600".split(' ') {

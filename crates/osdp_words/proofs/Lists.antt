@@ -3,7 +3,7 @@ use Rattle.std.proofs.Common.{◌≡◌, ℕ, ◌+◌, ◌<◌, ◌≤◌, List,
 use Rattle.std.proofs.lemmas.List.{append-nil, append_assoc}
 use Rattle.std.specs.List.{AllByRecursion, flat_map}
 use Rattle.arrayvec.specs.ArrayVec.{ArrayVec, array_vec_len}
-use Rattle.osdp_words.specs.Reading.{IsListOf, ReadsWords, Takes}
+use Rattle.osdp_words.specs.Reading.{ReadsWords, Takes}
 use Rattle.osdp_words.specs.Word.{AllStandFor, StandsFor, Word, printed}
 
 -- one value alone has the word for which a given one stands
@@ -121,6 +121,12 @@ module _ {A : Type 0} (word : A → Word) (Allowed : A → Type 0) where
     }
 
 -- ---- lists in an `ArrayVec`
+
+-- a list of `low` to `high` allowed values
+pub record IsListOf {A : Type 0} (Allowed : A → Type 0) (low high : ℕ) (list : ArrayVec A) : Type 0 where
+  pub enough : low ≤ array_vec_len list
+  pub room : array_vec_len list ≤ high
+  pub each : AllByRecursion Allowed list.items
 
 module _ {A : Type 0} (word : A → Word) (Allowed : A → Type 0) (one : HasOneValue word Allowed) (low high : ℕ) where
   -- reading such a list

@@ -1,7 +1,5 @@
 -- What reading gives: the one value that stands behind what was given, and none where there is none.
-use Rattle.std.specs.Prelude.{◌≡◌, ◌≤◌, ◌++◌, List, ℕ, Option, Some, IfSome}
-use Rattle.std.specs.List.{AllByRecursion}
-use Rattle.arrayvec.specs.ArrayVec.{ArrayVec, array_vec_len}
+use Rattle.std.specs.Prelude.{◌≡◌, ◌++◌, List, ℕ, Option, Some, IfSome}
 use Rattle.osdp_words.specs.Word.{Word, StandsFor, AllStandFor}
 
 -- of the values that are allowed, the one for whose word the given one stands
@@ -18,9 +16,3 @@ pub record ReadsWords {A : Type 0} (words : A → List Word) (Allowed : A → Ty
 pub record Takes {A : Type 0} (words : A → List Word) (Allowed : A → Type 0) (given left : List (List ℕ)) (result : Option A) : Type 0 where
   pub value : IfSome result (λ a. (first : List (List ℕ)) × (given ≡ first ++ left) × AllStandFor (words a) first × Allowed a)
   pub only : (a : A) (first rest : List (List ℕ)) → Allowed a → given ≡ first ++ rest → AllStandFor (words a) first → (result ≡ Some a) × (left ≡ rest)
-
--- a list of `low` to `high` allowed values
-pub record IsListOf {A : Type 0} (Allowed : A → Type 0) (low high : ℕ) (list : ArrayVec A) : Type 0 where
-  pub enough : low ≤ array_vec_len list
-  pub room : array_vec_len list ≤ high
-  pub each : AllByRecursion Allowed list.items

@@ -93,12 +93,15 @@ fn fits_as_listed(rt: &impl Abort, alloc: Global, command: &Command, text: &str,
     assert_eq!(rt; fits(command, &reply), names.contains(&name), "{text}");
 }
 
-/// Of the replies of both lists those fit the command whose names are listed.
-fn fit_as_listed(rt: &impl Abort, alloc: Global, command: &Command, names: &[&str]) {
-    for text in EVENTS {
-        fits_as_listed(rt, alloc, command, text, names);
-    }
-    for text in OTHERS {
+/// Of these replies those fit the command whose names are listed.
+fn fit_as_listed(
+    rt: &impl Abort,
+    alloc: Global,
+    command: &Command,
+    texts: &[&str],
+    names: &[&str],
+) {
+    for text in texts {
         fits_as_listed(rt, alloc, command, text, names);
     }
 }
@@ -110,6 +113,7 @@ fn fitting(rt: HostRuntime) {
         let words = words_of(&rt, rt.alloc(), text);
         let names = words_of(&rt, rt.alloc(), names);
         let command = Command::parse(words.as_slice()).ok().expect(&rt, text);
-        fit_as_listed(&rt, rt.alloc(), &command, names.as_slice());
+        fit_as_listed(&rt, rt.alloc(), &command, &EVENTS, names.as_slice());
+        fit_as_listed(&rt, rt.alloc(), &command, &OTHERS, names.as_slice());
     }
 }

@@ -98,6 +98,10 @@ fn reasons(rt: HostRuntime) {
         assert!(rt; NakReason::from(number) == reason, "{number}");
         assert_eq!(rt; reason.number(), number);
     }
+}
+
+#[test]
+fn other_reasons(rt: HostRuntime) {
     for number in [0, 10, 255] {
         let NakReason::Other(other) = NakReason::from(number) else {
             assert!(rt; false, "{number} has no name");

@@ -82,7 +82,7 @@ fn is_told(rt: &impl Abort, alloc: Global, row: &str) {
     let mut reader = opened(rt, alloc, 4, answer_of(name));
     for kind in [Kind::Taken, Kind::Repeat] {
         let response = response_to_digits(rt, &mut reader, given);
-        assert_eq!(rt; line(&response), kind, "{row}");
+        assert_eq!(rt; response.kind(), kind, "{row}");
         is_spelled(rt, response.bytes(), sent);
     }
 }

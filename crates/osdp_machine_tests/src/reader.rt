@@ -6,7 +6,8 @@
 mod answers;
 mod damage;
 
-use crate::packets::{bytes_of, is_spelled, response_to, response_to_digits};
+use crate::packets::{bytes_of, is_spelled};
+use crate::responses::{response_to, response_to_digits};
 use arrayvec::ArrayVec;
 use osdp_frame::{Address, Framer, Item};
 use osdp_msg::{Capability, Event, Keypad, NakReason, PdCap, PdId};
@@ -81,19 +82,6 @@ fn keys(rt: &impl Abort, pressed: &[u8]) -> Event {
     Event::Keypad(Keypad { reader: 0, digits })
 }
 
-/// The line of the table that answered.
-fn line(response: &Response) -> Kind {
-    match response {
-        Response::Silent => Kind::Silent,
-        Response::Secured(_) => Kind::Secured,
-        Response::Zero(..) => Kind::Zero,
-        Response::Repeat(_) => Kind::Repeat,
-        Response::Taken(..) => Kind::Taken,
-        Response::Busy(_) => Kind::Busy,
-        Response::Wrong(_) => Kind::Wrong,
-    }
-}
-
 /// How a row names a line of the table.
 fn name_of(kind: Kind) -> &'static str {
     match kind {
@@ -110,7 +98,7 @@ fn name_of(kind: Kind) -> &'static str {
 /// The packet of these digits meets this line of the table and is answered so.
 fn meets_line(rt: &impl Abort, reader: &mut Reader<Bench>, given: &str, kind: &str, sent: &str) {
     let response = response_to_digits(rt, reader, given);
-    assert!(rt; name_of(line(&response)) == kind, "{given}");
+    assert!(rt; name_of(response.kind()) == kind, "{given}");
     is_spelled(rt, response.bytes(), sent);
 }
 

@@ -1,7 +1,7 @@
 //! Damaged packets.
 
 use super::*;
-use osdp_check::{Crc16, Sum8, check_of};
+use crate::damage::{PACKETS, changed, check_anew, checked_count};
 
 /// Hands the packets in a run to a reader, and answers how many there were and the last answer.
 fn hand_over(rt: &impl Abort, reader: &mut Reader<Bench>, run: &[u8]) -> (usize, Response) {
@@ -34,40 +34,8 @@ fn a_packet_within_a_damaged_one_is_answered(rt: HostRuntime) {
     let run = bytes_of(&rt, DAMAGED, &mut buffer);
     let (count, answer) = hand_over(&rt, &mut reader, run);
     assert_eq!(rt; count, 1);
-    assert_eq!(rt; line(&answer), Kind::Zero);
+    assert_eq!(rt; answer.kind(), Kind::Zero);
     is_spelled(&rt, answer.bytes(), "538007000040E6");
-}
-
-/// Packets of our tables, each as published.
-const PACKETS: &str = "\
-53000700006046
-530008000460EBAA
-538008000540689F
-530508000061003F
-53050B0001680002000032
-53050C000568000200005183
-530515000269000002050501001E000101000200F9
-53050C00016E078025000081
-53851300004553494D010101000000010000E3
-53850D000146020108080100C0
-5385090002480001D4
-53850F00015000001A000A0B0C404D
-53850B0002530002313263
-53850800034104D8
-538507000079A8
-53FF0700004067
-53050B00038053494D0130
-53850A00039053494DA2
-";
-
-/// A packet with this change of the byte at this place, in as many first bytes as it has.
-fn changed(rt: &impl Abort, packet: &[u8], place: usize, change: u8) -> [u8; 32] {
-    let mut run = [0; 32];
-    let count = packet.len();
-    assert!(rt; count <= 32 && place < count);
-    run[..count].copy_from_slice(packet);
-    run[place] ^= change;
-    run
 }
 
 /// Each change of the byte at this place reaches a reader, which says nothing. Answers how many packets there were.
@@ -77,7 +45,7 @@ fn changes_at(rt: &impl Abort, reader: &mut Reader<Bench>, packet: &[u8], place:
         let run = changed(rt, packet, place, change);
         assert!(rt; packet.len() <= 32);
         let (packets, answer) = hand_over(rt, reader, &run[..packet.len()]);
-        assert_eq!(rt; line(&answer), Kind::Silent);
+        assert_eq!(rt; answer.kind(), Kind::Silent);
         count = count.saturating_add(packets);
     }
     count
@@ -106,19 +74,6 @@ fn no_changed_byte_stops_a_reader(rt: HostRuntime) {
     is_answered(&rt, &mut reader, "53050700016040 Taken 538507000140E0");
 }
 
-/// Spells the check of a packet anew, of the kind that its control byte names.
-fn check_anew(rt: &impl Abort, packet: &mut [u8]) {
-    let count = packet.len();
-    assert!(rt; count >= 7);
-    if packet[4] & 4 == 0 {
-        packet[count - 1] = check_of::<Sum8>(&packet[..count - 1])[0];
-    } else {
-        let check = check_of::<Crc16>(&packet[..count - 2]);
-        packet[count - 2] = check[0];
-        packet[count - 1] = check[1];
-    }
-}
-
 /// The packet of an ID with number 0 to this address.
 fn id_to(rt: &impl Abort, address: u8) -> [u8; 8] {
     let mut packet = [0x53, address, 0x08, 0x00, 0x00, 0x61, 0x00, 0x00];
@@ -129,7 +84,7 @@ fn id_to(rt: &impl Abort, address: u8) -> [u8; 8] {
 /// The line that the packet which stands first in these bytes meets; where none does, silence.
 fn meets(rt: &impl Abort, reader: &mut Reader<Bench>, run: &[u8]) -> Kind {
     match response_to(rt, reader, run) {
-        Some(response) => line(&response),
+        Some(response) => response.kind(),
         None => Kind::Silent,
     }
 }
@@ -205,9 +160,7 @@ impl Trial {
     fn meet_changes(&mut self, rt: &impl Abort, alloc: Global, digits: &str) {
         let mut buffer = [0; 32];
         let packet = bytes_of(rt, digits, &mut buffer);
-        assert!(rt; packet.len() >= 7);
-        let check = if packet[4] & 4 == 0 { 1 } else { 2 };
-        for place in 0..packet.len() - check {
+        for place in 0..checked_count(rt, packet) {
             self.meet_changes_at(rt, alloc, packet, place);
         }
     }

@@ -1,31 +1,9 @@
 //! Packets with one byte changed.
 
 use super::*;
-use osdp_check::{Crc16, Sum8, check_of};
+use crate::damage::{PACKETS, changed, check_anew, checked_count};
 use osdp_frame::FrameView;
 use osdp_msg::NakReason;
-
-/// Packets of both ends, as they are shown elsewhere.
-const PACKETS: &str = "\
-53000700006046
-530008000460EBAA
-538008000540689F
-530508000061003F
-53050B0001680002000032
-53050C000568000200005183
-530515000269000002050501001E000101000200F9
-53050C00016E078025000081
-53851300004553494D010101000000010000E3
-53850D000146020108080100C0
-5385090002480001D4
-53850F00015000001A000A0B0C404D
-53850B0002530002313263
-53850800034104D8
-538507000079A8
-53FF0700004067
-53050B00038053494D0130
-53850A00039053494DA2
-";
 
 /// Each packet that a run of these bytes has goes to the controller, and a tick follows.
 fn feed(controller: &mut Controller, bytes: &[u8]) {
@@ -43,12 +21,10 @@ fn feed(controller: &mut Controller, bytes: &[u8]) {
 
 /// The byte of the packet at this place is changed in each way.
 fn feed_changes_at(rt: &impl Abort, controller: &mut Controller, packet: &[u8], place: usize) {
-    let mut bytes = [0u8; 32];
     let len = packet.len();
-    assert!(rt; len <= 32 && place < len);
     for change in 0..=255u8 {
-        bytes[..len].copy_from_slice(packet);
-        bytes[place] = change;
+        let bytes = changed(rt, packet, place, change);
+        assert!(rt; len <= 32);
         feed(controller, &bytes[..len]);
         let _ = controller.begin(0);
     }
@@ -70,20 +46,6 @@ fn packets_with_one_byte_changed(rt: HostRuntime) {
         let mut controller = opened(&rt, rt.alloc());
         feed_changes(&rt, &mut controller, digits);
     }
-}
-
-/// The check at the end of these bytes is that of the others, of the kind that they name.
-fn spell_check(rt: &impl Abort, bytes: &mut [u8]) {
-    assert!(rt; bytes.len() >= 7);
-    let is_crc = bytes[4] / 4 % 2 == 1;
-    let size = if is_crc { 2 } else { 1 };
-    let (checked, check) = bytes.split_at_mut(bytes.len() - size);
-    let spelled = if is_crc {
-        check_of::<Crc16>(checked)
-    } else {
-        check_of::<Sum8>(checked)
-    };
-    check.copy_from_slice(&spelled[..size]);
 }
 
 /// Whether it is told that a number was refused while this command was outstanding.
@@ -184,15 +146,15 @@ fn answer_with(
 }
 
 /// The packet as a reply from 5 with this number, the byte at one place changed, and the check spelled anew.
-fn changed(rt: &impl Abort, packet: &[u8], number: u8, place: usize, change: u8) -> [u8; 32] {
+fn changed_reply(rt: &impl Abort, packet: &[u8], number: u8, place: usize, change: u8) -> [u8; 32] {
     let len = packet.len();
-    assert!(rt; 7 <= len && len <= 32 && place < len && number <= 3);
-    let mut bytes = [0u8; 32];
-    bytes[..len].copy_from_slice(packet);
-    bytes[1] = 0x85;
-    bytes[4] = packet[4] / 4 * 4 + number;
-    bytes[place] = change;
-    spell_check(rt, &mut bytes[..len]);
+    assert!(rt; 7 <= len && len <= 32 && number <= 3);
+    let mut reply = [0; 32];
+    reply[..len].copy_from_slice(packet);
+    reply[1] = 0x85;
+    reply[4] = packet[4] / 4 * 4 + number;
+    let mut bytes = changed(rt, &reply[..len], place, change);
+    check_anew(rt, &mut bytes[..len]);
     bytes
 }
 
@@ -213,7 +175,7 @@ fn answer_with_changes(
         if !controller.outstanding() {
             number = ask(rt, controller, command);
         }
-        let bytes = changed(rt, packet, number, place, change);
+        let bytes = changed_reply(rt, packet, number, place, change);
         let count = answer_with(rt, controller, command, number, &bytes[..len]);
         packets = packets.saturating_add(count);
     }
@@ -248,9 +210,8 @@ fn reply_is_answered(rt: &impl Abort, alloc: Global, digits: &str) -> usize {
     if packet[1] < 128 {
         return 0;
     }
-    let size = if packet[4] / 4 % 2 == 1 { 2 } else { 1 };
     changes_are_answered(rt, alloc, packet, 1);
-    for place in 4..packet.len() - size {
+    for place in 4..checked_count(rt, packet) {
         changes_are_answered(rt, alloc, packet, place);
     }
     1

@@ -4,8 +4,9 @@
 
 use std::process::Abort;
 
-/// The bytes that these digits spell.
+/// The bytes that these digits spell. The word `none` spells none.
 pub fn bytes_of<'a>(rt: &impl Abort, digits: &str, buffer: &'a mut [u8; 32]) -> &'a [u8] {
+    let digits = if digits == "none" { "" } else { digits };
     let count = digits.len() / 2;
     assert!(rt; count <= 32, "{digits}");
     let bytes = &mut buffer[..count];

@@ -1,6 +1,7 @@
 //! The door behind a reader, by packets.
 
-use crate::packets::{is_spelled, response_to_digits};
+use crate::packets::is_spelled;
+use crate::responses::response_to_digits;
 use arrayvec::ArrayVec;
 use osdp_door::*;
 use osdp_frame::Address;
@@ -54,6 +55,12 @@ fn is_answered(rt: &impl Abort, reader: &mut Reader<Door>, row: &str) {
     is_spelled(rt, response.bytes(), sent);
 }
 
+/// The last output is on, the LED is green, and the buzzer sounds.
+fn is_green_and_sounds(rt: &impl Abort, door: &Door) {
+    assert_eq!(rt; door.outputs, [0, 0, 0, 0, 0, 0, 0, 1]);
+    assert!(rt; door.color == 2 && door.sounds);
+}
+
 #[test]
 fn a_door_is_switched(rt: HostRuntime) {
     let made = new_reader(rt.alloc(), config(&rt));
@@ -61,4 +68,5 @@ fn a_door_is_switched(rt: HostRuntime) {
     for row in EXCHANGES.lines() {
         is_answered(&rt, &mut reader, row);
     }
+    is_green_and_sounds(&rt, reader.handler());
 }

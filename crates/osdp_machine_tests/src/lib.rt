@@ -1,0 +1,19 @@
+//! Tests of `osdp_reader` and `osdp_controller`, and of the examples of a handler and of a panel's loop, through their public calls.
+//!
+//! They stand in a crate of their own since a crate with tests is proved twice.
+#![tactic(auto)]
+
+#[cfg(test)]
+mod controller;
+#[cfg(test)]
+mod damage;
+#[cfg(test)]
+mod door;
+#[cfg(test)]
+mod packets;
+#[cfg(test)]
+mod panel;
+#[cfg(test)]
+mod reader;
+#[cfg(test)]
+mod responses;
