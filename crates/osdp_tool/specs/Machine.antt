@@ -1,5 +1,5 @@
 -- The state of a capture that is read, step by step.
-use Rattle.std.specs.Prelude.{◌≡◌, ℕ, ◌+◌, ◌*◌, ◌<◌, ◌≤◌, Bool, true, false, List, [], ◌++◌, length, drop, string_bytes, Option, None, Result, Ok, Err}
+use Rattle.std.specs.Prelude.{◌≡◌, ℕ, ◌+◌, ◌*◌, ◌≤◌, Bool, true, false, List, [], ◌++◌, length, drop, string_bytes, Option, None, Result, Ok, Err}
 use Rattle.std.specs.Io.KnownBytes.{Appends, append_known}
 use Rattle.osdp_frame.specs.Reading.{Part, total_size}
 use Rattle.osdp_frame.specs.Held.{Held, decided}
