@@ -2,27 +2,17 @@
 
 mod damage;
 
+use crate::identity::IDENTITY;
 use crate::packets::{bytes_of, is_spelled};
 use osdp_controller::*;
 use osdp_frame::{Address, CheckKind, Framer, Item};
-use osdp_msg::{Command, PdId, Reply};
+use osdp_msg::{Command, Reply};
 use std::alloc::Global;
 use std::process::Abort;
 
 const ID: &str = "530508000061003F";
 
 const PDID: &str = "53851300004553494D010101000000010000E3";
-
-/// What it tells of the reader.
-const OPENED: PdId = PdId {
-    vendor: [0x53, 0x49, 0x4d],
-    model: 1,
-    version: 1,
-    serial: 1,
-    firmware_major: 1,
-    firmware_minor: 0,
-    firmware_build: 0,
-};
 
 /// The same with sequence number 1, and from address 6.
 const PDID_1: &str = "53851300014553494D010101000000010000E2";
@@ -126,7 +116,7 @@ fn has_sent(rt: &impl Abort, controller: &Controller, frames: u32) {
 /// Whether it is what an opened session tells.
 fn is_opened(report: &Option<Report>) -> bool {
     match report {
-        Some(Report::Opened(id)) => *id == OPENED,
+        Some(Report::Opened(id)) => *id == IDENTITY,
         _ => false,
     }
 }

@@ -1,11 +1,12 @@
 //! The door behind a reader, by packets.
 
+use crate::identity::IDENTITY;
 use crate::packets::is_spelled;
 use crate::responses::response_to_digits;
 use arrayvec::ArrayVec;
 use osdp_door::*;
 use osdp_frame::Address;
-use osdp_msg::{PdCap, PdId};
+use osdp_msg::PdCap;
 use osdp_reader::{Reader, ReaderConfig};
 use std::process::Abort;
 
@@ -13,15 +14,7 @@ use std::process::Abort;
 fn config(rt: &impl Abort) -> ReaderConfig {
     ReaderConfig {
         address: Address::new(5).expect(rt, "an address"),
-        id: PdId {
-            vendor: [0x53, 0x49, 0x4d],
-            model: 1,
-            version: 1,
-            serial: 1,
-            firmware_major: 1,
-            firmware_minor: 0,
-            firmware_build: 0,
-        },
+        id: IDENTITY,
         caps: PdCap {
             capabilities: ArrayVec::new(),
         },

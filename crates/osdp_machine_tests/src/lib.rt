@@ -10,6 +10,8 @@ mod damage;
 #[cfg(test)]
 mod door;
 #[cfg(test)]
+mod identity;
+#[cfg(test)]
 mod packets;
 #[cfg(test)]
 mod panel;

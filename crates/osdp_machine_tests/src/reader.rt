@@ -6,11 +6,12 @@
 mod answers;
 mod damage;
 
+use crate::identity::IDENTITY;
 use crate::packets::{bytes_of, is_spelled};
 use crate::responses::{response_to, response_to_digits};
 use arrayvec::ArrayVec;
 use osdp_frame::{Address, Framer, Item};
-use osdp_msg::{Capability, Event, Keypad, NakReason, PdCap, PdId};
+use osdp_msg::{Capability, Event, Keypad, NakReason, PdCap};
 use osdp_reader::*;
 use std::alloc::Global;
 use std::mem;
@@ -50,15 +51,7 @@ fn config_at(rt: &impl Abort, address: u8) -> ReaderConfig {
     }
     ReaderConfig {
         address: Address::new(address).expect(rt, "an address"),
-        id: PdId {
-            vendor: [0x53, 0x49, 0x4d],
-            model: 1,
-            version: 1,
-            serial: 1,
-            firmware_major: 1,
-            firmware_minor: 0,
-            firmware_build: 0,
-        },
+        id: IDENTITY,
         caps: PdCap { capabilities },
     }
 }
@@ -388,6 +381,7 @@ fn laws_hold_of_any_handler(_rt: HostRuntime) {
     osdp_reader_laws::keeps_its_settings::<Bench>();
     osdp_reader_laws::hears_its_address::<Bench>();
     osdp_reader_laws::answers_plainly::<Bench>();
+    osdp_reader_laws::sends_what_it_says::<Bench>();
     osdp_reader_laws::answers_taken::<Bench>();
     osdp_reader_laws::stays_well::<Bench>();
     osdp_reader_laws::answers_in_order::<Bench>();

@@ -1,14 +1,10 @@
 -- What a response tells.
-use Rattle.std.specs.Prelude.{◌≡◌, ℕ, List, [], Option, Some, None}
-use Rattle.osdp_frame.specs.Packet.{Packet}
+use Rattle.std.specs.Prelude.{ℕ, List, [], Option, None}
 use Rattle.osdp_msg.specs.declared.command.Command.{Command}
-use Rattle.osdp_msg.specs.declared.reply.Reply.{Reply}
-use Rattle.osdp_msg.specs.ReplyTable.{ReplyFits}
 use Rattle.osdp_reader.specs.declared.kind.Kind.{Kind}
 use Rattle.osdp_reader.specs.declared.kind.Kind.TheVariants as kind
 use Rattle.osdp_reader.specs.declared.response.Response.{Response}
 use Rattle.osdp_reader.specs.declared.response.Response.TheVariants.{Silent, Secured, Zero, Repeat, Taken, Busy, Wrong}
-use Rattle.osdp_reader.specs.Replies.{reply_packet}
 
 -- which line of the table answered
 abbrev pub response_kind : Response → Kind
@@ -39,13 +35,3 @@ response_bytes (Repeat burst) = burst.items
 response_bytes (Taken command burst) = burst.items
 response_bytes (Busy burst) = burst.items
 response_bytes (Wrong burst) = burst.items
-
--- a reply is sent with this number, and the table of replies has it: so who hears the packet can read it
-abbrev pub HasReply : Packet → ℕ → Option Packet → Type 0
-HasReply p number sent = (r : Reply) × (sent ≡ Some (reply_packet p number r)) × ReplyFits r
-
--- .. wherever a command is acted on
-abbrev pub IsOfTable : Kind → Packet → Option Packet → Type 0
-IsOfTable kind.Zero p sent = HasReply p 0 sent
-IsOfTable kind.Taken p sent = HasReply p p.sequence sent
-IsOfTable _ p sent = Unit {0}

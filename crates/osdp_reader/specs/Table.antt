@@ -38,10 +38,11 @@ pub record Answered (H : Type 0) : Type 0 where
   pub reply : Reply
   pub handler : H
 
--- what comes of a packet: the command that was acted on and could be read, the packet that is sent back, and the
--- reader behind it
+-- what comes of a packet: the command that was acted on and could be read, the reply that is said anew, the packet that is
+-- sent back, and the reader behind it
 pub record Outcome (H : Type 0) : Type 0 where
   pub command : Option Command
+  pub said : Option Reply
   pub reply : Option Packet
   pub reader : ReaderState H
 
@@ -65,9 +66,14 @@ module _ {H : Type 0} where
       if address == r.config.address then r
       else record r { config = record r.config { address = address }; last = None; stored = None }
 
-  -- nothing changes
+  -- nothing changes, and nothing is said but what was said before
   abbrev pub unchanged : ReaderState H → Option Packet → Outcome H
-  unchanged r p = record { command = None; reply = p; reader = r }
+  unchanged r p = record { command = None; said = None; reply = p; reader = r }
+
+  -- nothing changes, and this reply goes out with this number
+  abbrev pub refuses : ReaderState H → Packet → ℕ → Reply → Outcome H
+  refuses r p sequence reply =
+      record { command = None; said = Some reply; reply = Some (reply_packet p sequence reply); reader = r }
 
   module _ (answer_of : H → Command → Answer) (after : H → Command → H) where
     -- what the reader answers by itself, or else its handler
@@ -88,6 +94,7 @@ module _ {H : Type 0} where
     abbrev pub begun : Result Command MsgFault → ReaderState H → Packet → Outcome H
     begun (Err fault) r p = record {
       command = None;
+      said = Some (refused (unread_reason fault));
       reply = Some (reply_packet p 0 (refused (unread_reason fault)));
       reader = record r { last = Some 0; queue = withdrawn r.queue };
     }
@@ -95,6 +102,7 @@ module _ {H : Type 0} where
         let a = answer_to r.config r.handler command in
         record {
           command = Some command;
+          said = Some a.reply;
           reply = Some (reply_packet p 0 a.reply);
           reader = moved (new_address command)
               (record r { last = Some 0; queue = withdrawn r.queue; handler = a.handler });
@@ -106,6 +114,7 @@ module _ {H : Type 0} where
         let back = reply_packet p p.sequence (refused (unread_reason fault)) in
         record {
           command = None;
+          said = Some (refused (unread_reason fault));
           reply = Some back;
           reader = record r { last = Some p.sequence; stored = Some back; queue = released r.queue };
         }
@@ -116,6 +125,7 @@ module _ {H : Type 0} where
         let back = reply_packet p p.sequence a.reply in
         record {
           command = Some command;
+          said = Some a.reply;
           reply = Some back;
           reader = moved (new_address command)
               (record r { last = Some p.sequence; stored = Some back; queue = offering event queue; handler = a.handler });
@@ -124,12 +134,12 @@ module _ {H : Type 0} where
     -- one effect for each kind
     abbrev pub outcome : Kind → ReaderState H → Packet → Outcome H
     outcome Silent r p = unchanged r None
-    outcome Secured r p = unchanged r (Some (reply_packet p p.sequence (refused SecurityBlock)))
+    outcome Secured r p = refuses r p p.sequence (refused SecurityBlock)
     outcome Zero r p = begun (command_in p) r p
     outcome Repeat r p = unchanged r r.stored
     outcome Taken r p = taken (command_in p) r p
-    outcome Busy r p = unchanged r (Some (reply_packet p 0 reply.Busy))
-    outcome Wrong r p = unchanged r (Some (reply_packet p p.sequence (refused UnexpectedSequence)))
+    outcome Busy r p = refuses r p 0 reply.Busy
+    outcome Wrong r p = refuses r p p.sequence (refused UnexpectedSequence)
 
     -- what a packet does to a reader
     abbrev pub hears : ReaderState H → Packet → Outcome H

@@ -1,10 +1,11 @@
 //! The reader.
 
-ghost use Rattle.std.specs.Prelude.{◌≡◌, ◌↔◌, ◌<◌, ◌≤◌, ◌⊎◌, length, IfOk, IfErr, IsErr, IsErrOf, OnOk, Some};
+ghost use Rattle.std.specs.Prelude.{◌≡◌, ◌↔◌, ◌<◌, ◌≤◌, ◌⊎◌, length, IfOk, IfErr, IfSome, IsErr, IsErrOf, OnOk, Some};
+ghost use Rattle.osdp_msg.specs.ReplyTable.{ReplyFits};
 ghost use Rattle.osdp_reader.specs.Spelled.{IsSpelled};
 ghost use Rattle.osdp_reader.specs.State.{after_set_busy, after_submit, new_reader};
 ghost use Rattle.osdp_reader.specs.Table.{begun, command_in, hears, kind_by_number, kind_of, moved, new_address, is_for_another, taken};
-ghost use Rattle.osdp_reader.specs.Responses.{HasReply, IsOfTable, response_bytes, response_command, response_kind};
+ghost use Rattle.osdp_reader.specs.Responses.{response_bytes, response_command, response_kind};
 ghost use Rattle.osdp_reader.specs.declared.fault.ReaderFault.TheVariants.{OutOfRange};
 ghost use Rattle.osdp_reader.specs.declared.kind.Kind.TheVariants.{Taken, Zero};
 
@@ -118,7 +119,7 @@ impl<H: Handler> Reader<H> {
         ensures command { response_command result ≡ (hears H.answer_of H.after self.old packet.now).command }
         ensures reply { IsSpelled (hears H.answer_of H.after self.old packet.now).reply (response_bytes result) }
         ensures reader { self.new ≡ (hears H.answer_of H.after self.old packet.now).reader }
-        ensures fits { IsOfTable (kind_of self.old packet.now) packet.now (hears H.answer_of H.after self.old packet.now).reply }
+        ensures fits { IfSome (hears H.answer_of H.after self.old packet.now).said ReplyFits }
     {
         match self.kind(packet) {
             Kind::Silent => Response::Silent,
@@ -165,7 +166,7 @@ impl<H: Handler> Reader<H> {
         ensures command { response_command result ≡ (begun H.answer_of H.after (command_in packet.now) self.old packet.now).command }
         ensures reply { IsSpelled (begun H.answer_of H.after (command_in packet.now) self.old packet.now).reply (response_bytes result) }
         ensures reader { self.new ≡ (begun H.answer_of H.after (command_in packet.now) self.old packet.now).reader }
-        ensures fits { HasReply packet.now 0 (begun H.answer_of H.after (command_in packet.now) self.old packet.now).reply }
+        ensures fits { IfSome (begun H.answer_of H.after (command_in packet.now) self.old packet.now).said ReplyFits }
     {
         self.last = Some(zero());
         self.queue.withdraw();
@@ -185,7 +186,7 @@ impl<H: Handler> Reader<H> {
         ensures command { response_command result ≡ (taken H.answer_of H.after (command_in packet.now) self.old packet.now).command }
         ensures reply { IsSpelled (taken H.answer_of H.after (command_in packet.now) self.old packet.now).reply (response_bytes result) }
         ensures reader { self.new ≡ (taken H.answer_of H.after (command_in packet.now) self.old packet.now).reader }
-        ensures fits { HasReply packet.now packet.now.sequence (taken H.answer_of H.after (command_in packet.now) self.old packet.now).reply }
+        ensures fits { IfSome (taken H.answer_of H.after (command_in packet.now) self.old packet.now).said ReplyFits }
     {
         self.last = Some(packet.seq());
         self.queue.release();

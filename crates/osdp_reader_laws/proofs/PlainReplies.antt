@@ -22,7 +22,7 @@ use Rattle.osdp_reader_laws.specs.Laws.{IsPlain}
 use Rattle.osdp_reader.specs.Queue.{event_for, released}
 use Rattle.osdp_reader.specs.Replies.{done_reply, list_reply, local_reply, maker_reply, not_processed, own_reply, refusal_reply, refused, reply_for, reply_packet, unread_reason}
 use Rattle.osdp_reader.specs.State.{ReaderState}
-use Rattle.osdp_reader.specs.Table.{answered, begun, command_in, kind_of, outcome, taken, event_or_answer}
+use Rattle.osdp_reader.specs.Table.{Outcome, answered, begun, command_in, kind_of, outcome, taken, event_or_answer}
 use Rattle.osdp_reader_laws.proofs.Meeting.{zero_number}
 
 nine : IsPlain not_processed
@@ -182,24 +182,29 @@ module _ {H : Type 0} (answer_of : H → Command → Answer) (after : H → Comm
   event_or_answer_plain None config handler c plain =
       answered_plain (own_reply config c) handler c (own_plain config c)
 
+  -- the reply said, which is sent with this number, is plain
+  abbrev SaysPlainly : Outcome H → Packet → ℕ → Type 0
+  SaysPlainly o p number =
+      (x : Reply) × (o.said ≡ Some x) × (o.reply ≡ Some (reply_packet p number x)) × IsPlain x
+
   begun_plain : (read : Result Command MsgFault) (r : ReaderState H) (p : Packet)
-      → (x : Reply) × ((begun answer_of after read r p).reply ≡ Some (reply_packet p 0 x)) × IsPlain x
-  begun_plain (Err fault) r p = (refused (unread_reason fault), refl, unread_plain fault)
+      → SaysPlainly (begun answer_of after read r p) p 0
+  begun_plain (Err fault) r p = (refused (unread_reason fault), refl, refl, unread_plain fault)
   begun_plain (Ok c) r p =
-      (_, refl, answered_plain (own_reply r.config c) r.handler c (own_plain r.config c))
+      (_, refl, refl, answered_plain (own_reply r.config c) r.handler c (own_plain r.config c))
 
   taken_plain : (read : Result Command MsgFault) (r : ReaderState H) (p : Packet)
-      → (x : Reply) × ((taken answer_of after read r p).reply ≡ Some (reply_packet p p.sequence x)) × IsPlain x
-  taken_plain (Err fault) r p = (refused (unread_reason fault), refl, unread_plain fault)
+      → SaysPlainly (taken answer_of after read r p) p p.sequence
+  taken_plain (Err fault) r p = (refused (unread_reason fault), refl, refl, unread_plain fault)
   taken_plain (Ok c) r p =
-      (_, refl, event_or_answer_plain (event_for c (released r.queue).events) r.config r.handler c (event_for_plain c (released r.queue).events))
+      (_, refl, refl, event_or_answer_plain (event_for c (released r.queue).events) r.config r.handler c (event_for_plain c (released r.queue).events))
 
   pub acted_plain : (r : ReaderState H) (p : Packet) → (kind_of r p ≡ Zero) ⊎ (kind_of r p ≡ Taken)
-      → (x : Reply) × ((outcome answer_of after (kind_of r p) r p).reply ≡ Some (reply_packet p p.sequence x)) × IsPlain x
+      → SaysPlainly (outcome answer_of after (kind_of r p) r p) p p.sequence
   acted_plain r p (inl zero) =
-      subst (λ k. (x : Reply) × ((outcome answer_of after k r p).reply ≡ Some (reply_packet p p.sequence x)) × IsPlain x) (sym zero)
-      (subst (λ (n : ℕ). (x : Reply) × ((begun answer_of after (command_in p) r p).reply ≡ Some (reply_packet p n x)) × IsPlain x)
+      subst (λ k. SaysPlainly (outcome answer_of after k r p) p p.sequence) (sym zero)
+      (subst (λ (n : ℕ). SaysPlainly (begun answer_of after (command_in p) r p) p n)
       (sym (zero_number r p zero)) (begun_plain (command_in p) r p))
   acted_plain r p (inr next) =
-      subst (λ k. (x : Reply) × ((outcome answer_of after k r p).reply ≡ Some (reply_packet p p.sequence x)) × IsPlain x) (sym next)
+      subst (λ k. SaysPlainly (outcome answer_of after k r p) p p.sequence) (sym next)
       (taken_plain (command_in p) r p)

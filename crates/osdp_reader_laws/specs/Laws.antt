@@ -53,6 +53,12 @@ nak_body reason = 65 ∷ reason ∷ []
 abbrev pub busy_body : List ℕ
 busy_body = 121 ∷ []
 
+-- a reply goes out with the number of the command, BUSY with number 0; where none is said, nothing or what is stored
+abbrev pub IsSent : Packet → Option Packet → Option Reply → Option Packet → Type 0
+IsSent p stored None sent = (sent ≡ None) ⊎ (sent ≡ stored)
+IsSent p stored (Some reply.Busy) sent = sent ≡ Some (reply_packet p 0 reply.Busy)
+IsSent p stored (Some r) sent = sent ≡ Some (reply_packet p p.sequence r)
+
 -- one packet, or none, is the same bytes each time
 abbrev pub HasOneSpelling : Type 0
 HasOneSpelling = (o : Option Packet) (a b : List ℕ) → IsSpelled o a → IsSpelled o b → a ≡ b
@@ -141,7 +147,13 @@ module _ {H : Type 0} where
     -- the reply to a command that is acted on is plain
     abbrev pub AnswersPlainly : Type 0
     AnswersPlainly = (r : ReaderState H) (p : Packet) → (kind_of r p ≡ Zero) ⊎ (kind_of r p ≡ Taken)
-        → (reply : Reply) × ((hears answer_of after r p).reply ≡ Some (reply_packet p p.sequence reply)) × IsPlain reply
+        → (reply : Reply) × ((hears answer_of after r p).said ≡ Some reply)
+        × ((hears answer_of after r p).reply ≡ Some (reply_packet p p.sequence reply)) × IsPlain reply
+
+    -- what is said anew is sent, and else nothing is, or what is stored
+    abbrev pub SendsWhatItSays : Type 0
+    SendsWhatItSays = (r : ReaderState H) (p : Packet) →
+        let o = hears answer_of after r p in IsSent p r.stored o.said o.reply
 
     -- a taken command other than POLL is answered as any command is
     abbrev pub AnswersTaken : Type 0

@@ -2,7 +2,7 @@
 //! and hold whatever the handler does.
 #![tactic(auto)]
 
-ghost use Rattle.osdp_reader_laws.specs.Laws.{ActsAtZero, ActsOnce, AnswersByWhatCame, AnswersInOrder, AnswersPlainly, AnswersTaken, AnswersTheSameAgain, AnswersWhereverItIs, ForgetsWhereItMoves, HasOneSpelling, HasRoom, HearsItsAddress, IsKept, KeepsReply, KeepsWhatItTook, LosesNoEvent, RefusesBlocks, RefusesNumbers, RepeatsItsReply, RepliesToItsCommand, SaysBusy, StaysADevice, TakesNext, TellsItsOffer};
+ghost use Rattle.osdp_reader_laws.specs.Laws.{ActsAtZero, ActsOnce, AnswersByWhatCame, AnswersInOrder, AnswersPlainly, AnswersTaken, AnswersTheSameAgain, AnswersWhereverItIs, ForgetsWhereItMoves, HasOneSpelling, HasRoom, HearsItsAddress, IsKept, KeepsReply, KeepsWhatItTook, LosesNoEvent, RefusesBlocks, RefusesNumbers, RepeatsItsReply, RepliesToItsCommand, SaysBusy, SendsWhatItSays, StaysADevice, TakesNext, TellsItsOffer};
 ghost use Rattle.osdp_reader_laws.specs.Steps.{AnswersPolls, BeginsAnew, ChangesByActing, KeepsItsSettings, LetsItsOfferGo, MovesByComsetAlone, OffersToPollsAlone, RefusesUnread, TellsItsCommand};
 
 use osdp_reader::Handler;
@@ -72,6 +72,12 @@ pub fn hears_its_address<H: Handler>()
 /// No command that is acted on is answered BUSY, NAK 1 or NAK 4: these say that nothing was taken.
 pub fn answers_plainly<H: Handler>()
     ensures { AnswersPlainly H.answer_of H.after }
+{}
+
+/// A reply is sent as it is said, with the number of its command, and BUSY with number 0. Where none is said anew, nothing is sent, or
+/// what is stored.
+pub fn sends_what_it_says<H: Handler>()
+    ensures { SendsWhatItSays H.answer_of H.after }
 {}
 
 /// A taken command other than POLL has the answer that a list of commands has at its place.
