@@ -1,0 +1,32 @@
+-- The account behind what happens.
+use Rattle.std.proofs.Common.{◌≡◌, List, [], ◌∷◌, ◌++◌, refl, ap}
+use Rattle.osdp_msg.specs.declared.command.Command.{Command}
+use Rattle.osdp_reader.specs.declared.config.ReaderConfig.{ReaderConfig}
+use Rattle.osdp_reader.specs.declared.handler.Answer.{Answer}
+use Rattle.osdp_reader.specs.Table.{answer_to}
+use Rattle.osdp_reader_laws.specs.Answering.{handler_behind}
+use Rattle.osdp_link.specs.Headline.{with_answers}
+
+pub assoc : {A : Type 0} (xs ys zs : List A) → (xs ++ ys) ++ zs ≡ xs ++ (ys ++ zs)
+assoc [] ys zs = refl
+assoc (x ∷ xs) ys zs = ap (λ l. x ∷ l) (assoc xs ys zs)
+
+pub nil_right : {A : Type 0} (xs : List A) → xs ++ [] ≡ xs
+nil_right [] = refl
+nil_right (x ∷ xs) = ap (λ ys. x ∷ ys) (nil_right xs)
+
+module _ {H : Type 0} (answer_of : H → Command → Answer) (after : H → Command → H) (settings : ReaderConfig) where
+  pub one_more_answer : (h : H) (cs : List Command) (c : Command)
+      → with_answers answer_of after settings h (cs ++ c ∷ [])
+      ≡ with_answers answer_of after settings h cs
+      ++ (c, (answer_to answer_of after settings (handler_behind answer_of after settings h cs) c).reply) ∷ []
+  one_more_answer h [] c = refl
+  one_more_answer h (d ∷ ds) c =
+      ap (λ l. (d, (answer_to answer_of after settings h d).reply) ∷ l)
+      (one_more_answer (answer_to answer_of after settings h d).handler ds c)
+
+  pub one_more_command : (h : H) (cs : List Command) (c : Command)
+      → handler_behind answer_of after settings h (cs ++ c ∷ [])
+      ≡ (answer_to answer_of after settings (handler_behind answer_of after settings h cs) c).handler
+  one_more_command h [] c = refl
+  one_more_command h (d ∷ ds) c = one_more_command (answer_to answer_of after settings h d).handler ds c

@@ -1,0 +1,13 @@
+pub mod Tables
+pub mod Stages
+pub mod Lines
+pub mod Numbers
+pub mod Ticks
+pub mod Hearing
+pub mod Accounts
+pub mod Acting
+pub mod Taking
+pub mod Advancing
+pub mod Moves
+pub mod Deliveries
+pub mod Once

@@ -1,0 +1,135 @@
+-- A frame comes to the reader: how far the session has come then.
+use Rattle.std.proofs.Common.{◌≡◌, ◌≢◌, ◌<◌, ℕ, zero, suc, [], ◌∷◌, ◌++◌, Some, Ok, refl, sym, subst, ap, ◌∙◌, inl, inr}
+use Rattle.std.specs.Prelude.{option_to_list}
+use Rattle.std.proofs.lemmas.Bool.Decides.{eqb_tells}
+use Rattle.osdp_frame.specs.Packet.{Packet}
+use Rattle.osdp_msg.specs.declared.command.Command.{Command}
+use Rattle.osdp_msg.specs.declared.command.Command.TheVariants as command
+use Rattle.osdp_msg.specs.declared.reply.Reply.{Reply}
+use Rattle.osdp_msg.specs.declared.reply.Reply.TheVariants as reply
+use Rattle.osdp_controller.specs.declared.config.ControllerConfig.{ControllerConfig}
+use Rattle.osdp_controller.specs.declared.exchange.Exchange.{Exchange}
+use Rattle.osdp_controller.specs.declared.exchange.Exchange.TheVariants.{Opening, Polling, Asking}
+use Rattle.osdp_reader.specs.declared.config.ReaderConfig.{ReaderConfig}
+use Rattle.osdp_reader.specs.declared.handler.Answer.{Answer}
+use Rattle.osdp_reader.specs.declared.kind.Kind.{Kind}
+use Rattle.osdp_reader.specs.declared.kind.Kind.TheVariants.{Zero, Busy}
+use Rattle.osdp_reader.specs.State.{ReaderState}
+use Rattle.osdp_reader.specs.Table.{begun, command_in, kind_of, outcome}
+use Rattle.osdp_link.specs.Link as link
+use Rattle.osdp_link.specs.Link.{Link}
+use Rattle.osdp_link.proofs.Accounts.{nil_right}
+use Rattle.osdp_link.proofs.Acting.{kind_again, kind_away, kind_zero}
+use Rattle.osdp_link.proofs.Lines.{both}
+use Rattle.osdp_link.proofs.Stages.{Acted, HasActed, Holds, ReaderAt, Says, Stage, ToControllerAt, answer, frame}
+
+module _ (fixed : ControllerConfig) {H : Type 0} (answer_of : H → Command → Answer) (after : H → Command → H) (settings : ReaderConfig) (first : H) where
+  abbrev pub At : Stage → Link H → Type 0
+  At at l = Holds fixed answer_of after settings first settings.id at l
+
+  -- what comes of a packet that meets this line of the reader's table
+  abbrev pub gets_by : Kind → Packet → Link H → Link H
+  gets_by kind p l =
+      let o = outcome answer_of after kind l.reader p in
+      record l {
+        reader = o.reader;
+        to_controller = l.to_controller ++ option_to_list o.reply;
+        account = link.taken kind o.command l.account;
+      }
+
+  -- the reader stays as it is, and says this
+  pub says : (at : Stage) (l : Link H) (q : Packet) → At at l → ToControllerAt fixed at (l.to_controller ++ q ∷ [])
+      → At at (record l { to_controller = l.to_controller ++ q ∷ [] })
+  says at l q h line = record {
+    stage = h.stage;
+    controller = h.controller;
+    waiting = h.waiting;
+    reader = h.reader;
+    answering = h.answering;
+    to_reader = h.to_reader;
+    to_controller = line;
+    account = h.account;
+  }
+
+  -- .. or nothing
+  says_nothing : (at : Stage) (l : Link H) → At at l → At at (record l { to_controller = l.to_controller ++ [] })
+  says_nothing at l h = record {
+    stage = h.stage;
+    controller = h.controller;
+    waiting = h.waiting;
+    reader = h.reader;
+    answering = h.answering;
+    to_reader = h.to_reader;
+    to_controller = subst (ToControllerAt fixed at) (sym (nil_right l.to_controller)) h.to_controller;
+    account = h.account;
+  }
+
+  pub away : (at : Stage) (x : Exchange) (n : ℕ) (l : Link H) → fixed.address < 127 → l.reader.config.address ≢ fixed.address
+      → At at l → At at (gets_by (kind_of l.reader (frame fixed x n)) (frame fixed x n) l)
+  away at x n l device differ h =
+      subst (λ k. At at (gets_by k (frame fixed x n) l)) (sym (kind_away fixed l.reader x n differ device)) (says_nothing at l h)
+
+  Grows : Stage → ℕ → Reply → Link H → Type 0
+  Grows at n a l = (q : Packet) → Says fixed n a q → ToControllerAt fixed at (l.to_controller ++ q ∷ [])
+
+  Puts : Stage → ℕ → Exchange → Reply → Type 0
+  Puts at n x a = (r : ReaderState H) → HasActed fixed n x a r → ReaderAt fixed at r
+
+  -- the command at number 0 again
+  zero_again : (at : Stage) (a : Reply) (l : Link H) → command_in (frame fixed Opening 0) ≡ Ok (command.Id 0) → At at l
+      → HasActed fixed 0 Opening a l.reader → a ≡ reply.PdId settings.id
+      → ((q : Packet) → Says fixed 0 a q → ToControllerAt fixed at (l.to_controller ++ q ∷ []))
+      → ((r : ReaderState H) → HasActed fixed 0 Opening a r → ReaderAt fixed at r)
+      → At at (gets_by Zero (frame fixed Opening 0) l)
+  zero_again at a l reads h acted is grows puts =
+      let p = frame fixed Opening 0 in
+      subst (λ c. At at (record l {
+        reader = (begun answer_of after c l.reader p).reader;
+        to_controller = l.to_controller ++ option_to_list (begun answer_of after c l.reader p).reply;
+        account = link.taken Zero (begun answer_of after c l.reader p).command l.account;
+      })) (sym reads) (record {
+        stage = h.stage;
+        controller = h.controller;
+        waiting = h.waiting;
+        reader = puts _ (record { here = λ e. (refl, tt); offer = refl });
+        answering = record { id = h.answering.id; caps = h.answering.caps; handler = h.answering.handler };
+        to_reader = h.to_reader;
+        to_controller = grows _ (inr (ap (λ i. answer fixed 0 (reply.PdId i)) h.answering.id ∙ sym (ap (answer fixed 0) is)));
+        account = h.account;
+      })
+
+  -- the frame of an exchange that the reader has acted on
+  pub again : (at : Stage) (n : ℕ) (x : Exchange) (a : Reply) (l : Link H) → fixed.address < 127
+      → command_in (frame fixed Opening 0) ≡ Ok (command.Id 0) → At at l
+      → HasActed fixed n x a l.reader → Acted settings.id n x a
+      → ((q : Packet) → Says fixed n a q → ToControllerAt fixed at (l.to_controller ++ q ∷ []))
+      → ((r : ReaderState H) → HasActed fixed n x a r → ReaderAt fixed at r)
+      → At at (gets_by (kind_of l.reader (frame fixed x n)) (frame fixed x n) l)
+  again at n x a l device reads h acted is grows puts =
+      elim (eqb_tells l.reader.config.address fixed.address) [
+        | inl same ↦ by_exchange n x acted is grows puts same.1
+        | inr other ↦ away at x n l device other.1 h
+      ]
+    where
+      repeated : (n : ℕ) (x : Exchange) → n ≢ 0 → l.reader.config.address ≡ fixed.address
+          → (l.reader.last ≡ Some n) × (l.reader.stored ≡ Some (answer fixed n a))
+          → ((q : Packet) → Says fixed n a q → ToControllerAt fixed at (l.to_controller ++ q ∷ []))
+          → At at (gets_by (kind_of l.reader (frame fixed x n)) (frame fixed x n) l)
+      repeated n x above same kept grows =
+          subst (λ k. At at (gets_by k (frame fixed x n) l)) (sym (kind_again fixed l.reader x n same above kept.0))
+          (subst (λ o. At at (record l { to_controller = l.to_controller ++ option_to_list o })) (sym kept.1)
+          (says at l (answer fixed n a) h (grows (answer fixed n a) (inr refl))))
+
+      by_exchange : (n : ℕ) (x : Exchange) → HasActed fixed n x a l.reader → Acted settings.id n x a
+          → ((q : Packet) → Says fixed n a q → ToControllerAt fixed at (l.to_controller ++ q ∷ []))
+          → ((r : ReaderState H) → HasActed fixed n x a r → ReaderAt fixed at r)
+          → l.reader.config.address ≡ fixed.address
+          → At at (gets_by (kind_of l.reader (frame fixed x n)) (frame fixed x n) l)
+      by_exchange zero Opening acted is grows puts same =
+          subst (λ k. At at (gets_by k (frame fixed Opening 0) l)) (sym (kind_zero fixed l.reader Opening same))
+          (both (λ k. At at (gets_by k (frame fixed Opening 0) l)) l.reader.busy Busy Zero
+          (says at l (answer fixed 0 reply.Busy) h (grows (answer fixed 0 reply.Busy) (inl refl)))
+          (zero_again at a l reads h acted is.1 grows puts))
+      by_exchange (suc n) Opening acted is grows puts same = absurd is.1
+      by_exchange n Polling acted is grows puts same = repeated n Polling is.1 same (acted.here same) grows
+      by_exchange n (Asking c) acted is grows puts same = repeated n (Asking c) is.1 same (acted.here same) grows

@@ -1,0 +1,3 @@
+pub mod Peers
+pub mod Link
+pub mod Headline

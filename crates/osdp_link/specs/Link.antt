@@ -1,0 +1,141 @@
+-- One link: a controller, a reader, and the packets that are on the way between them.
+use Rattle.std.specs.Prelude.{ℕ, Bool, true, false, ◌==◌, List, [], ◌∷◌, ◌++◌, length, Option, Some, None, option_to_list}
+use Rattle.osdp_frame.specs.Packet.{Packet}
+use Rattle.osdp_msg.specs.declared.command.Command.{Command}
+use Rattle.osdp_msg.specs.declared.command.Command.TheVariants.{Poll}
+use Rattle.osdp_msg.specs.declared.event.Event.{Event}
+use Rattle.osdp_msg.specs.declared.reply.Reply.{Reply}
+use Rattle.osdp_msg.specs.declared.reply.Reply.TheVariants as reply
+use Rattle.osdp_controller.specs.declared.fault.ControllerFault.{ControllerFault}
+use Rattle.osdp_controller.specs.declared.report.Report.{Report}
+use Rattle.osdp_controller.specs.declared.report.Report.TheVariants as report
+use Rattle.osdp_controller.specs.Hearing as controller
+use Rattle.osdp_controller.specs.Machine as controllers
+use Rattle.osdp_controller.specs.Machine.{Machine}
+use Rattle.osdp_controller.specs.Ticking.{Ticked, ticks}
+use Rattle.osdp_reader.specs.declared.handler.Answer.{Answer}
+use Rattle.osdp_reader.specs.declared.kind.Kind.{Kind}
+use Rattle.osdp_reader.specs.declared.kind.Kind.TheVariants as kind
+use Rattle.osdp_reader.specs.State as readers
+use Rattle.osdp_reader.specs.State.{ReaderState}
+use Rattle.osdp_reader.specs.Table as reader
+
+-- what a session comes to: the commands that waited when it began and those accepted since, the events likewise, the commands
+-- other than POLL that the reader has taken, those settled, each with its answer, and the events reported
+pub record Account : Type 0 where
+  pub issued : List Command
+  pub queued : List Event
+  pub taken : List Command
+  pub settled : List (Command × Reply)
+  pub reported : List Event
+
+-- both ends, what either has sent and the other has not had yet, the oldest first, and the account
+pub record Link (H : Type 0) : Type 0 where
+  pub controller : Machine
+  pub reader : ReaderState H
+  pub to_reader : List Packet
+  pub to_controller : List Packet
+  pub account : Account
+
+-- what the line does with the packet in front: it comes through, is lost, or comes through and will come again. Damage that is
+-- detected is a loss.
+pub data Delivery : Type 0 where
+  Delivered : Delivery
+  Lost : Delivery
+  Repeated : Delivery
+
+-- what may happen to a link, at any moment
+pub data Move : Type 0 where
+  Submit : Command → Move
+  Queue : Event → Move
+  SetBusy : Bool → Move
+  Tick : ℕ → Move
+  ToReader : Delivery → Move
+  ToController : Delivery → ℕ → Move
+
+-- the account behind a report: a COMSET that moves the reader is settled by its COM
+abbrev pub told : Option Report → Account → Account
+told None t = t
+told (Some (report.Opened id)) t = t
+told (Some (report.Settled command answer)) t = record t { settled = t.settled ++ (command, answer) ∷ [] }
+told (Some (report.Moved command answered)) t = record t { settled = t.settled ++ (command, reply.Com answered) ∷ [] }
+told (Some (report.Event event)) t = record t { reported = t.reported ++ event ∷ [] }
+told (Some (report.PollAnswered answer)) t = t
+told (Some (report.Unread command code)) t = t
+told (Some (report.Lost cause command)) t = t
+
+-- .. and behind a command with a number that is taken
+abbrev pub taken_command : Command → Account → Account
+taken_command Poll t = t
+taken_command command t = record t { taken = t.taken ++ command ∷ [] }
+
+abbrev pub taken : Kind → Option Command → Account → Account
+taken kind.Taken (Some command) t = taken_command command t
+taken _ _ t = t
+
+module _ {H : Type 0} where
+  abbrev pub submits : Option ControllerFault → Command → Link H → Link H
+  submits (Some fault) command l = l
+  submits None command l = record l {
+    controller = controllers.after_submit command l.controller;
+    account = record l.account { issued = l.account.issued ++ command ∷ [] };
+  }
+
+  abbrev pub queues : Bool → Event → Link H → Link H
+  queues true event l = l
+  queues false event l = record l {
+    reader = readers.after_submit event l.reader;
+    account = record l.account { queued = l.account.queued ++ event ∷ [] };
+  }
+
+  -- the controller's frame goes behind those that are on the way
+  abbrev pub ticked : Ticked → Link H → Link H
+  ticked t l = record l {
+    controller = record l.controller { session = t.session; waiting = t.waiting };
+    to_reader = l.to_reader ++ option_to_list t.step.frame;
+    account = told t.step.report l.account;
+  }
+
+  abbrev pub controller_gets : Packet → ℕ → Link H → Link H
+  controller_gets p now l =
+      let heard = controller.hears p now l.controller.session in
+      record l {
+        controller = record l.controller { session = heard.session };
+        account = told heard.report l.account;
+      }
+
+  abbrev pub to_controller : List Packet → Delivery → ℕ → Link H → Link H
+  to_controller [] delivery now l = l
+  to_controller (p ∷ rest) Delivered now l = controller_gets p now (record l { to_controller = rest })
+  to_controller (p ∷ rest) Lost now l = record l { to_controller = rest }
+  to_controller (p ∷ rest) Repeated now l = controller_gets p now l
+
+  module _ (answer_of : H → Command → Answer) (after : H → Command → H) where
+    -- the reader's answer goes behind those that are on the way
+    abbrev pub reader_gets : Packet → Link H → Link H
+    reader_gets p l =
+        let outcome = reader.hears answer_of after l.reader p in
+        record l {
+          reader = outcome.reader;
+          to_controller = l.to_controller ++ option_to_list outcome.reply;
+          account = taken (reader.kind_of l.reader p) outcome.command l.account;
+        }
+
+    abbrev pub to_reader : List Packet → Delivery → Link H → Link H
+    to_reader [] delivery l = l
+    to_reader (p ∷ rest) Delivered l = reader_gets p (record l { to_reader = rest })
+    to_reader (p ∷ rest) Lost l = record l { to_reader = rest }
+    to_reader (p ∷ rest) Repeated l = reader_gets p l
+
+    abbrev pub moved : Move → Link H → Link H
+    moved (Submit command) l = submits (controllers.submit_refusal command l.controller) command l
+    moved (Queue event) l = queues (length l.reader.queue.events == l.reader.queue.capacity) event l
+    moved (SetBusy busy) l = record l { reader = readers.after_set_busy busy l.reader }
+    moved (Tick now) l = ticked (ticks now l.controller.session l.controller.waiting) l
+    moved (ToReader delivery) l = to_reader l.to_reader delivery l
+    moved (ToController delivery now) l = to_controller l.to_controller delivery now l
+
+    -- the link behind a list of moves
+    abbrev pub run : List Move → Link H → Link H
+    run [] l = l
+    run (move ∷ moves) l = run moves (moved move l)

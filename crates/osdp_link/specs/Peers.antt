@@ -1,0 +1,36 @@
+-- What each end reads of the packets that the other one sends.
+use Rattle.std.specs.Prelude.{◌≡◌, ℕ, Some, Ok}
+use Rattle.osdp_frame.specs.Packet.{Packet}
+use Rattle.osdp_msg.specs.CommandTable.{CommandFits}
+use Rattle.osdp_msg.specs.Events.{event_reply}
+use Rattle.osdp_msg.specs.ReplyTable.{ReplyFits}
+use Rattle.osdp_msg.specs.declared.event.Event.{Event}
+use Rattle.osdp_msg.specs.declared.reply.Reply.{Reply}
+use Rattle.osdp_controller.specs.Answers.{answer_by_reply, answer_of}
+use Rattle.osdp_controller.specs.Exchanges.{exchange_command}
+use Rattle.osdp_controller.specs.Hearing.{event_in}
+use Rattle.osdp_controller.specs.Sessions.{frame_of}
+use Rattle.osdp_controller.specs.declared.answer.Answer.TheVariants.{Plain}
+use Rattle.osdp_controller.specs.declared.exchange.Exchange.{Exchange}
+use Rattle.osdp_controller.specs.declared.session.Session.{Session}
+use Rattle.osdp_reader.specs.Replies.{reply_packet}
+use Rattle.osdp_reader.specs.Table.{command_in}
+use Rattle.osdp_reader_laws.specs.Laws.{IsPlain}
+
+-- the reader reads the command that the exchange asks
+abbrev pub ReadsWhatIsAsked : Type 0
+ReadsWhatIsAsked = (x : Exchange) (s : Session) → CommandFits (exchange_command x)
+    → command_in (frame_of x s) ≡ Ok (exchange_command x)
+
+-- the controller reads the reply
+abbrev pub ReadsWhatIsAnswered : Type 0
+ReadsWhatIsAnswered = (p : Packet) (number : ℕ) (r : Reply) → ReplyFits r
+    → answer_of (reply_packet p number r) ≡ answer_by_reply r
+
+-- a plain reply is the answer
+abbrev pub TakesPlainReplies : Type 0
+TakesPlainReplies = (r : Reply) → IsPlain r → answer_by_reply r ≡ Plain r
+
+-- the reply that tells an event tells this event
+abbrev pub TellsItsEvent : Type 0
+TellsItsEvent = (e : Event) → event_in (event_reply e) ≡ Some e

@@ -1,0 +1,41 @@
+//! The theory of one link: a controller, a reader, and the two directions of the line between them. The functions do nothing:
+//! their contracts are laws.
+#![tactic(auto)]
+
+ghost use Rattle.osdp_link.specs.Peers.{ReadsWhatIsAsked, ReadsWhatIsAnswered, TakesPlainReplies, TellsItsEvent};
+ghost use Rattle.osdp_link.specs.Headline.{HoldsOnce};
+
+use osdp_reader::Handler;
+
+/// A reader reads, of the frame of an exchange, the command that the exchange asks.
+pub fn reads_what_is_asked()
+    ensures { ReadsWhatIsAsked }
+{
+    osdp_msg::command_of_reads_the_table();
+    osdp_msg::commands_fit_a_packet();
+}
+
+/// A controller reads, of the packet of a reply, that reply.
+pub fn reads_what_is_answered()
+    ensures { ReadsWhatIsAnswered }
+{
+    osdp_msg::reply_of_reads_the_table();
+    osdp_msg::replies_fit_a_packet();
+}
+
+/// A reply that is neither BUSY nor NAK 1 or 4 answers the exchange, and one that tells an event is read as that event.
+pub fn takes_plain_replies()
+    ensures plain { TakesPlainReplies }
+    ensures event { TellsItsEvent }
+{}
+
+/// Within one session, opened by ID on a quiet line, over every list of losses, repeats and detected damage: commands are taken once
+/// and in order, settled with their own answers, and events are reported once and in order.
+pub fn holds_once<H: Handler>()
+    ensures { HoldsOnce H.answer_of H.after }
+{
+    reads_what_is_asked();
+    reads_what_is_answered();
+    takes_plain_replies();
+    osdp_reader_laws::answers_plainly::<H>();
+}
