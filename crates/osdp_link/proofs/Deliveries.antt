@@ -129,9 +129,9 @@ module _ (fixed : ControllerConfig) {H : Type 0} (answer_of : H → Command → 
     account = h.account;
   }
 
-  pub coming_to_reader : Assumed → (delivery : Delivery) (ps : List Packet) (l : Link H) → l.to_reader ≡ ps → AtSomeStage l
-      → SaysWhatFitsIf answer_of after delivery ps l.reader → AtSomeStage (link.to_reader answer_of after ps delivery l)
-  coming_to_reader given delivery [] l is h fits = h
+  pub coming_to_reader : Assumed → (how : Delivery) (ps : List Packet) (l : Link H) → l.to_reader ≡ ps → AtSomeStage l
+      → SaysWhatFitsIf answer_of after how ps l.reader → AtSomeStage (link.to_reader answer_of after ps how l)
+  coming_to_reader given how [] l is h fits = h
   coming_to_reader given Delivered (p ∷ ps) l is (at, h) fits =
       reader_gets given at p (record l { to_reader = ps }) (losing_to_reader at p ps l is h)
       (front_to_reader at p ps ps (record l { to_reader = ps }) refl (inl refl) (subst (ToReaderAt fixed at) is h.to_reader)) fits
@@ -345,9 +345,9 @@ module _ (fixed : ControllerConfig) {H : Type 0} (answer_of : H → Command → 
     account = h.account;
   }
 
-  pub coming_to_controller : Assumed → (delivery : Delivery) (now : ℕ) (ps : List Packet) (l : Link H) → l.to_controller ≡ ps → AtSomeStage l
-      → AtSomeStage (link.to_controller ps delivery now l)
-  coming_to_controller given delivery now [] l is h = h
+  pub coming_to_controller : Assumed → (how : Delivery) (now : ℕ) (ps : List Packet) (l : Link H) → l.to_controller ≡ ps → AtSomeStage l
+      → AtSomeStage (link.to_controller ps how now l)
+  coming_to_controller given how now [] l is h = h
   coming_to_controller given Delivered now (p ∷ ps) l is (at, h) =
       controller_gets given at now p (record l { to_controller = ps }) (losing_to_controller at p ps l is h)
       (front_to_controller at p ps ps (record l { to_controller = ps }) refl (inl refl) (subst (ToControllerAt fixed at) is h.to_controller))

@@ -71,9 +71,9 @@ module _ (fixed : ControllerConfig) {H : Type 0} (answer_of : H → Command → 
       queueing fixed answer_of after settings first (length l.reader.queue.events == l.reader.queue.capacity) e l h
   moving given (SetBusy busy) l fits h = being_busy fixed answer_of after settings first busy l h
   moving given (Tick now) l fits (at, h) = ticking fixed answer_of after settings first at now l h
-  moving given (ToReader delivery) l fits h = coming_to_reader fixed answer_of after settings first given delivery l.to_reader l refl h fits
-  moving given (ToController delivery now) l fits h =
-      coming_to_controller fixed answer_of after settings first given delivery now l.to_controller l refl h
+  moving given (ToReader how) l fits h = coming_to_reader fixed answer_of after settings first given how l.to_reader l refl h fits
+  moving given (ToController how now) l fits h =
+      coming_to_controller fixed answer_of after settings first given how now l.to_controller l refl h
 
   running : Premises fixed answer_of after settings first → (moves : List Move) (l : Link H) → AreMoves answer_of after moves l
       → HoldsAtSomeStage fixed answer_of after settings first l → HoldsAtSomeStage fixed answer_of after settings first (run answer_of after moves l)

@@ -61,8 +61,8 @@ module _ {H : Type 0} where
     IsMove (Queue event) l = Unit {0}
     IsMove (SetBusy busy) l = Unit {0}
     IsMove (Tick now) l = Unit {0}
-    IsMove (ToReader delivery) l = SaysWhatFitsIf delivery l.to_reader l.reader
-    IsMove (ToController delivery now) l = Unit {0}
+    IsMove (ToReader how) l = SaysWhatFitsIf how l.to_reader l.reader
+    IsMove (ToController how now) l = Unit {0}
 
     abbrev pub AreMoves : List Move → Link H → Type 0
     AreMoves [] l = Unit {0}

@@ -105,7 +105,7 @@ module _ {H : Type 0} where
       }
 
   abbrev pub to_controller : List Packet → Delivery → ℕ → Link H → Link H
-  to_controller [] delivery now l = l
+  to_controller [] how now l = l
   to_controller (p ∷ rest) Delivered now l = controller_gets p now (record l { to_controller = rest })
   to_controller (p ∷ rest) Lost now l = record l { to_controller = rest }
   to_controller (p ∷ rest) Repeated now l = controller_gets p now l
@@ -122,7 +122,7 @@ module _ {H : Type 0} where
         }
 
     abbrev pub to_reader : List Packet → Delivery → Link H → Link H
-    to_reader [] delivery l = l
+    to_reader [] how l = l
     to_reader (p ∷ rest) Delivered l = reader_gets p (record l { to_reader = rest })
     to_reader (p ∷ rest) Lost l = record l { to_reader = rest }
     to_reader (p ∷ rest) Repeated l = reader_gets p l
@@ -132,8 +132,8 @@ module _ {H : Type 0} where
     moved (Queue event) l = queues (length l.reader.queue.events == l.reader.queue.capacity) event l
     moved (SetBusy busy) l = record l { reader = readers.after_set_busy busy l.reader }
     moved (Tick now) l = ticked (ticks now l.controller.session l.controller.waiting) l
-    moved (ToReader delivery) l = to_reader l.to_reader delivery l
-    moved (ToController delivery now) l = to_controller l.to_controller delivery now l
+    moved (ToReader how) l = to_reader l.to_reader how l
+    moved (ToController how now) l = to_controller l.to_controller how now l
 
     -- the link behind a list of moves
     abbrev pub run : List Move → Link H → Link H
