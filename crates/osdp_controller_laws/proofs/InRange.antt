@@ -10,7 +10,7 @@ use Rattle.osdp_msg.specs.declared.command_fields.Communication.{Communication}
 use Rattle.osdp_msg.specs.declared.reply.Reply.{Reply}
 use Rattle.osdp_msg.specs.declared.reply_fields.PdId.{PdId}
 use Rattle.osdp_msg.specs.CommandTable.{CommandFits, command_code, command_data}
-use Rattle.osdp_msg.proofs.Commands.{commands_fit}
+use Rattle.osdp_msg_laws.proofs.CommandLaws.{commands_fit}
 use Rattle.osdp_controller.specs.declared.answer.Answer.{Answer}
 use Rattle.osdp_controller.specs.declared.answer.Answer.TheVariants.{NotTaken, Damaged, NumberRefused, Plain, Unreadable}
 use Rattle.osdp_controller.specs.declared.exchange.Exchange.{Exchange}

@@ -1,7 +1,7 @@
 -- What decides the first item is which item stands first.
 use Rattle.std.proofs.Common.{◌≡◌, ◌≢◌, ℕ, ◌<◌, ◌≤◌, Bool, true, false, cond, eqb, ltb, List, [], ◌∷◌, ◌++◌, length, drop, get_or, Option, Some, None, replicate, refl, sym, ap, subst, ◌∙◌, append_assoc, arith, inl, inr, ◌⊎◌}
-use Rattle.std.proofs.lemmas.Bool.{ltb-true, ltb-false, false≢true, eqb-true, eqb-false}
-use Rattle.std.proofs.lemmas.List.{length-append, append-nil, length-replicate}
+use Rattle.std.proofs.lemmas.Bool.{cases_lt, ltb-true, ltb-false, false≢true, eqb-true, eqb-false}
+use Rattle.std.proofs.lemmas.List.{length-append, append-nil, get_or_append_left, get_or_past, length-replicate}
 use Rattle.osdp_frame.specs.declared.fault.FrameFault.{FrameFault}
 use Rattle.osdp_frame.specs.declared.fault.FrameFault.TheVariants.{TooShort, TooLong, BadCheck, Ended}
 use Rattle.osdp_frame.specs.Bytes.{AreBytes}
@@ -285,3 +285,27 @@ none_undecided ended bytes fits wants = by_answer (decided ended bytes) refl
     by_answer : (o : Option Part) → decided ended bytes ≡ o → o ≡ None
     by_answer None is = refl
     by_answer (Some other) is = absurd (undecided_first ended bytes other wants (first_decided ended bytes other fits is))
+
+-- ---- in a run that has ended, and with more behind
+
+pub undecided_ended : (bytes : List ℕ) → IsUndecided true bytes → bytes ≡ []
+undecided_ended bytes u = elim u [
+  | inl nil ↦ nil
+  | inr w ↦ absurd (false≢true (sym w.0))
+]
+
+pub AreBytes-front : (bytes more : List ℕ) → AreBytes (bytes ++ more) → AreBytes bytes
+AreBytes-front bytes more fits place =
+    elim (cases_lt place (length bytes)) [
+      | inl lt ↦ subst (λ (b : ℕ). b < 256) (get_or_append_left bytes more 0 place lt) (fits place)
+      | inr le ↦ subst (λ (b : ℕ). b < 256) (sym (get_or_past bytes place 0 le)) (omega arith)
+    ]
+
+-- what is first whatever comes is first with more behind it
+pub first_more : (ended : Bool) (bytes more : List ℕ) (part : Part) → IsFirst false bytes part → IsFirst ended (bytes ++ more) part
+first_more ended bytes more part first = λ later none.
+    subst (λ l. Stands l part) (sym (append_assoc bytes more later)) (first (more ++ later) (λ t. absurd (false≢true t)))
+
+pub decided_more : (ended : Bool) (bytes more : List ℕ) (part : Part) → AreBytes (bytes ++ more) → decided false bytes ≡ Some part → decided ended (bytes ++ more) ≡ Some part
+decided_more ended bytes more part fits is =
+    decided_first ended (bytes ++ more) part fits (first_more ended bytes more part (first_decided false bytes part (AreBytes-front bytes more fits) is))

@@ -14,9 +14,8 @@ use Rattle.osdp_frame.specs.Reading.{Part, Whole, Passed, Bad, Begins, IsFirst, 
 use Rattle.osdp_frame.specs.Held.{begun, by_itself, decided, is_checked, packet_at}
 use Rattle.osdp_frame.specs.First.{part_in, part_if, PacketFits, FirstFits}
 use Rattle.osdp_frame.proofs.Head.{AreBytes-take, count_at-append, check_at-append}
-use Rattle.osdp_frame.proofs.Decided.{decided_first, first_decided, stands_first}
+use Rattle.osdp_frame.proofs.Decided.{decided_first, first_decided, stands_first, decided_more}
 use Rattle.osdp_frame.proofs.Spelled.{length-spelled}
-use Rattle.osdp_frame.proofs.Readings.{decided_more}
 
 -- a packet that is decided is one
 pub packet_decided : (ended : Bool) (bytes : List ℕ) (p : Packet) → AreBytes bytes → Some (Whole p) ≡ decided ended bytes → IsPacket p

@@ -1,10 +1,7 @@
 pub mod Spelled
 pub mod Head
 pub mod Decided
-pub mod Readings
 pub mod FirstItems
 pub mod Framing
-pub mod Calls
-pub mod LawsOfSpellings
 pub mod Running
 pub mod Buffering

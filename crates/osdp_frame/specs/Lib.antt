@@ -5,7 +5,6 @@ pub mod Packet
 pub mod Spelling
 pub mod Reading
 pub mod Held
-pub mod Calls
 pub mod Items
 pub mod First
 pub mod Shown

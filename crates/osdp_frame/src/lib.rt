@@ -14,7 +14,6 @@ mod first;
 mod frame;
 mod framer;
 mod item;
-pub mod laws;
 mod read;
 mod seq;
 mod view;

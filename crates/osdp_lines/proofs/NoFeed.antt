@@ -24,10 +24,10 @@ use Rattle.osdp_msg.specs.NakReasons.{reason_number}
 use Rattle.osdp_msg.specs.ReplyFields.{CapabilityFits, capability_word, detail_words}
 use Rattle.osdp_msg.specs.ReplyTable.{IsReply, ReplyFits, reply_of}
 use Rattle.osdp_msg.specs.ReplyText.{reply_fields, reply_name, reply_text}
-use Rattle.osdp_msg.specs.Laws.{ReadsTheTable}
-use Rattle.osdp_msg.proofs.Commands.{command_reads}
-use Rattle.osdp_msg.proofs.OneMeaning.{AreSmall, byte, led_small, output_small, word_2, word_4}
-use Rattle.osdp_msg.proofs.Replies.{reply_reads}
+use Rattle.osdp_msg_laws.specs.Laws.{ReadsTheTable}
+use Rattle.osdp_msg_laws.proofs.CommandLaws.{command_reads}
+use Rattle.osdp_msg_laws.proofs.OneMeaning.{AreSmall, byte, led_small, output_small, word_2, word_4}
+use Rattle.osdp_msg_laws.proofs.ReplyLaws.{reply_reads}
 use Rattle.osdp_msg.proofs.ReplyRows.{reason_byte}
 use Rattle.osdp_lines.specs.ItemText.{data_text, message_text, refusal_text, told_text, unread_text}
 

@@ -12,7 +12,7 @@ use Rattle.osdp_frame.specs.declared.fault.FrameFault.TheVariants.{TooShort, Too
 use Rattle.osdp_frame.specs.Packet.{IsPacket, Packet}
 use Rattle.osdp_frame.specs.Reading.{Part, Whole, Passed, Bad}
 use Rattle.osdp_msg.proofs.RowTexts.{differ}
-use Rattle.osdp_msg.proofs.TextWords.{name_word}
+use Rattle.osdp_msg_laws.proofs.TextWords.{name_word}
 use Rattle.osdp_frame.specs.Check.{check_name}
 use Rattle.osdp_lines.specs.ItemText.{bits_text, body_text, direction_name, fault_name, item_line, item_text, message_text}
 use Rattle.osdp_lines.specs.Laws.{HasOneItem, IsItem}

@@ -12,11 +12,11 @@ use Rattle.osdp_msg.specs.CommandTable.{CommandFits, IsCommand, command_of}
 use Rattle.osdp_msg.specs.CommandText.{command_text}
 use Rattle.osdp_msg.specs.ReplyTable.{IsReply, ReplyFits, reply_of}
 use Rattle.osdp_msg.specs.ReplyText.{reply_text}
-use Rattle.osdp_msg.specs.Laws.{HasOneSpelling, HasOneText, ReadsTheTable}
-use Rattle.osdp_msg.proofs.Commands.{command_reads, commands_one_spelling}
-use Rattle.osdp_msg.proofs.CommandTexts.{command_one_text}
-use Rattle.osdp_msg.proofs.Replies.{replies_one_spelling, reply_reads}
-use Rattle.osdp_msg.proofs.ReplyTexts.{reply_one_text}
+use Rattle.osdp_msg_laws.specs.Laws.{HasOneSpelling, HasOneText, ReadsTheTable}
+use Rattle.osdp_msg_laws.proofs.CommandLaws.{command_reads, commands_one_spelling}
+use Rattle.osdp_msg_laws.proofs.CommandTexts.{command_one_text}
+use Rattle.osdp_msg_laws.proofs.ReplyLaws.{replies_one_spelling, reply_reads}
+use Rattle.osdp_msg_laws.proofs.ReplyTexts.{reply_one_text}
 use Rattle.osdp_lines.specs.ItemText.{data_text, message_text, told_text, unread_text}
 use Rattle.osdp_lines.proofs.Cuts.{differ_at, one_byte, one_list}
 

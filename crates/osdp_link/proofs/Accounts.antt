@@ -7,14 +7,6 @@ use Rattle.osdp_reader.specs.Table.{answer_to}
 use Rattle.osdp_reader_laws.specs.Answering.{handler_behind}
 use Rattle.osdp_link.specs.Headline.{with_answers}
 
-pub assoc : {A : Type 0} (xs ys zs : List A) → (xs ++ ys) ++ zs ≡ xs ++ (ys ++ zs)
-assoc [] ys zs = refl
-assoc (x ∷ xs) ys zs = ap (λ l. x ∷ l) (assoc xs ys zs)
-
-pub nil_right : {A : Type 0} (xs : List A) → xs ++ [] ≡ xs
-nil_right [] = refl
-nil_right (x ∷ xs) = ap (λ ys. x ∷ ys) (nil_right xs)
-
 module _ {H : Type 0} (answer_of : H → Command → Answer) (after : H → Command → H) (settings : ReaderConfig) where
   pub one_more_answer : (h : H) (cs : List Command) (c : Command)
       → with_answers answer_of after settings h (cs ++ c ∷ [])

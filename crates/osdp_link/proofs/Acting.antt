@@ -1,5 +1,6 @@
 -- What a frame does to the reader: which line of its table it meets, and what the reader keeps.
-use Rattle.std.proofs.Common.{◌≡◌, ◌≢◌, ◌<◌, ℕ, Bool, false, not, cond, eqb, List, [], ◌∷◌, ◌++◌, drop, Option, Some, None, refl, sym, subst, ap, ◌∙◌, inl, inr, arith}
+use Rattle.std.proofs.Common.{◌≡◌, ◌≢◌, ◌<◌, ℕ, Bool, false, not, cond, eqb, List, [], ◌∷◌, ◌++◌, drop, Option, Some, None, refl, sym, subst, ap, ◌∙◌, inl, inr, arith, append_assoc}
+use Rattle.std.proofs.lemmas.List.{append-nil}
 use Rattle.std.specs.Prelude.{◌||◌, is_some, option_to_list}
 use Rattle.std.proofs.lemmas.Bool.Decides.{eqb_tells}
 use Rattle.osdp_frame.specs.Packet.{next_sequence}
@@ -21,7 +22,6 @@ use Rattle.osdp_reader.specs.Replies.{own_reply}
 use Rattle.osdp_reader.specs.State.{ReaderState}
 use Rattle.osdp_reader.specs.Table.{answer_to, answered, event_or_answer, kind_by_number, kind_of, moved}
 use Rattle.osdp_link.specs.Link.{Account, taken_command}
-use Rattle.osdp_link.proofs.Accounts.{assoc, nil_right}
 use Rattle.osdp_link.proofs.Lines.{both}
 use Rattle.osdp_link.proofs.Numbers.{is_true, is_false, next_above_zero, next_differs}
 use Rattle.osdp_link.proofs.Stages.{HasActed, Offers, OffersEvent, frame, shown}
@@ -166,9 +166,9 @@ released_event : (told : Option Event) (queued reported : List Event) (q : Queue
 released_event None queued reported q off past = kept queued reported q off past
 released_event (Some e) queued reported q (on, (rest, is)) (past, all, some) = (
   past ++ e ∷ [],
-  all ∙ ap (λ l. past ++ l) is ∙ sym (assoc past (e ∷ []) rest)
+  all ∙ ap (λ l. past ++ l) is ∙ sym (append_assoc past (e ∷ []) rest)
       ∙ ap (λ l. (past ++ e ∷ []) ++ l) (sym (ap (λ b. cond b (drop 1 q.events) q.events) on ∙ ap (drop 1) is)),
-  some ∙ sym (nil_right (past ++ e ∷ [])),
+  some ∙ sym (append-nil (past ++ e ∷ [])),
 )
 
 pub released_past : (x : Exchange) (a : Reply) (queued reported : List Event) (q : Queue) → Offers x a q

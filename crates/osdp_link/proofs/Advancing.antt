@@ -1,5 +1,6 @@
 -- The frame of the current exchange comes to the reader for the first time: it acts on it, or is busy or elsewhere.
-use Rattle.std.proofs.Common.{◌≡◌, ◌⊎◌, ◌<◌, ℕ, false, List, [], ◌∷◌, ◌++◌, Option, Some, None, Result, Ok, refl, sym, subst, ap, ◌∙◌, inl, inr}
+use Rattle.std.proofs.Common.{◌≡◌, ◌⊎◌, ◌<◌, ℕ, false, List, [], ◌∷◌, ◌++◌, Option, Some, None, Result, Ok, refl, sym, subst, ap, ◌∙◌, inl, inr, append_assoc}
+use Rattle.std.proofs.lemmas.List.{append-nil}
 use Rattle.std.specs.Prelude.{IfSome, option_to_list}
 use Rattle.std.proofs.lemmas.Bool.Decides.{eqb_tells}
 use Rattle.osdp_frame.specs.Packet.{Packet, next_sequence}
@@ -26,12 +27,13 @@ use Rattle.osdp_reader_laws.specs.Laws.{IsPlain}
 use Rattle.osdp_link.specs.Headline.{MaySubmit, with_answers}
 use Rattle.osdp_link.specs.Link as link
 use Rattle.osdp_link.specs.Link.{Account, Link, taken_command}
-use Rattle.osdp_link.proofs.Accounts.{assoc, nil_right, one_more_answer, one_more_command}
+use Rattle.osdp_link.proofs.Accounts.{one_more_answer, one_more_command}
 use Rattle.osdp_link.proofs.Acting.{kind_next, kind_zero, moved_acted, moved_keeps, no_event, polled, released_past, same_answer, taken_is}
 use Rattle.osdp_link.proofs.Lines.{both, each_append, runs_first}
 use Rattle.osdp_link.proofs.Numbers.{next_above_zero}
 use Rattle.osdp_link.proofs.Stages.{Accounts, After, Answering, Behind, Each, HasActed, IsFrame, Level, Says, SaysOld, Stage, Start, ToControllerAt, answer, frame}
-use Rattle.osdp_link.proofs.Taking.{At, away, gets_by, says}
+use Rattle.osdp_link.proofs.Parts.{At}
+use Rattle.osdp_link.proofs.Taking.{away, gets_by, says}
 
 module _ (fixed : ControllerConfig) {H : Type 0} (answer_of : H → Command → Answer) (after : H → Command → H) (settings : ReaderConfig) (first : H) where
   -- what is known of the reply that a line of the table says anew
@@ -99,9 +101,9 @@ module _ (fixed : ControllerConfig) {H : Type 0} (answer_of : H → Command → 
   }
 
   -- the line behind an answer: what was there is of the exchange before, or BUSY
-  line_behind : (n : ℕ) (y : Exchange) (b : Reply) (m : ℕ) (a : Reply) (ps : List Packet) → Each (SaysOld fixed (After n y b)) ps
+  line_behind : (n : ℕ) (y : Exchange) (b : Reply) (a : Reply) (ps : List Packet) → Each (SaysOld fixed (After n y b)) ps
       → ToControllerAt fixed (Level (After n y b) Polling a) (ps ++ answer fixed (next_sequence n) a ∷ [])
-  line_behind n y b m a ps old =
+  line_behind n y b a ps old =
       runs_first (SaysOld fixed (After n y b)) (Says fixed (next_sequence n) a) ps (answer fixed (next_sequence n) a ∷ []) old (inr refl, tt)
 
   polls_on : (n : ℕ) (y : Exchange) (b : Reply) (l : Link H) → command_in (frame fixed Polling (next_sequence n)) ≡ Ok command.Poll
@@ -125,7 +127,7 @@ module _ (fixed : ControllerConfig) {H : Type 0} (answer_of : H → Command → 
           reader = record { here = λ e. (refl, refl); offer = poll.0 };
           answering = record { id = h.answering.id; caps = h.answering.caps; handler = poll.1 ∙ h.answering.handler };
           to_reader = frames;
-          to_controller = line_behind n y b 0 a.reply l.to_controller h.to_controller;
+          to_controller = line_behind n y b a.reply l.to_controller h.to_controller;
           account = record {
             issued = h.account.issued;
             settled = h.account.settled;
@@ -158,10 +160,10 @@ module _ (fixed : ControllerConfig) {H : Type 0} (answer_of : H → Command → 
       let same = same_answer fixed answer_of after l.reader.config settings l.reader.handler c h.answering.id h.answering.caps
       ∙ ap (λ g. answer_to answer_of after settings g c) h.answering.handler in
       record {
-        issued = h.account.issued ∙ sym (assoc l.account.taken (c ∷ []) l.controller.waiting);
+        issued = h.account.issued ∙ sym (append_assoc l.account.taken (c ∷ []) l.controller.waiting);
         settled =
             ap (λ pairs. pairs ++ (c, (answer_to answer_of after l.reader.config l.reader.handler c).reply) ∷ [])
-            (sym (nil_right l.account.settled) ∙ h.account.settled)
+            (sym (append-nil l.account.settled) ∙ h.account.settled)
             ∙ ap (λ a. with_answers answer_of after settings first l.account.taken ++ (c, a.reply) ∷ []) same
             ∙ sym (one_more_answer answer_of after settings first l.account.taken c);
         told = released_past y b l.account.queued l.account.reported l.reader.queue h.reader.offer h.account.told;

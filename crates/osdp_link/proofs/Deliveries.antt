@@ -1,5 +1,6 @@
 -- What holds of a session holds behind each packet that comes, or is lost.
 use Rattle.std.proofs.Common.{◌≡◌, ◌≢◌, ◌⊎◌, ℕ, List, [], ◌∷◌, ◌++◌, Option, Some, refl, sym, subst, ap, ◌∙◌, inl, inr, arith}
+use Rattle.std.proofs.lemmas.List.{append-nil}
 use Rattle.std.specs.Prelude.{IfSome, option_to_list}
 use Rattle.osdp_frame.specs.Packet.{Packet, next_sequence}
 use Rattle.osdp_msg.specs.ReplyTable.{ReplyFits}
@@ -15,6 +16,7 @@ use Rattle.osdp_controller.specs.declared.answer.Answer.TheVariants.{NotTaken, P
 use Rattle.osdp_controller.specs.declared.config.ControllerConfig.{ControllerConfig}
 use Rattle.osdp_controller.specs.declared.exchange.Exchange.{Exchange}
 use Rattle.osdp_controller.specs.declared.exchange.Exchange.TheVariants.{Opening, Polling, Asking}
+use Rattle.osdp_controller.specs.declared.session.Session.{Session}
 use Rattle.osdp_reader.specs.declared.config.ReaderConfig.{ReaderConfig}
 use Rattle.osdp_reader.specs.declared.handler.Answer.{Answer}
 use Rattle.osdp_reader.specs.Table as reader
@@ -22,14 +24,14 @@ use Rattle.osdp_reader_laws.specs.Laws.{IsPlain}
 use Rattle.osdp_link.specs.Headline.{SaysWhatFitsIf}
 use Rattle.osdp_link.specs.Link as link
 use Rattle.osdp_link.specs.Link.{Account, Delivered, Delivery, Link, Lost, Repeated, told}
-use Rattle.osdp_link.proofs.Accounts.{nil_right}
 use Rattle.osdp_link.proofs.Advancing.{HoldsAtSomeStage, SaysWell, advances, opens}
 use Rattle.osdp_link.proofs.Hearing.{Ignored, Settles, hears_answer, hears_other, hears_resting, settled_by}
 use Rattle.osdp_link.proofs.Lines.{each_append, runs_append}
 use Rattle.osdp_link.proofs.Moves.{Premises, asked_fits, runs_last}
 use Rattle.osdp_link.proofs.Numbers.{next_differs}
-use Rattle.osdp_link.proofs.Stages.{Accounts, Acted, After, Asks, Behind, Each, Fresh, IsFrame, IsOldFrame, IsPast, Level, Past, Rest, Rests, Says, SaysOld, Stage, Start, ToControllerAt, ToReaderAt, answer, frame, number_after, owed, shown}
-use Rattle.osdp_link.proofs.Taking.{At, again}
+use Rattle.osdp_link.proofs.Stages.{Accounts, Acted, After, Answering, Asks, Behind, ControllerAt, Each, Fresh, IsFrame, IsOldFrame, IsPast, Level, Past, Rest, Says, SaysOld, Stage, Start, ToControllerAt, ToReaderAt, answer, frame, number_after, owed, shown}
+use Rattle.osdp_link.proofs.Parts.{At, with_session, with_to_controller, with_to_reader}
+use Rattle.osdp_link.proofs.Taking.{again}
 
 -- a reply that was said is plain
 said_plainly : (said : Option Reply) → ((r : Reply) × (said ≡ Some r) × IsPlain r) → IfSome said IsPlain
@@ -118,16 +120,8 @@ module _ (fixed : ControllerConfig) {H : Type 0} (answer_of : H → Command → 
   front_to_reader (Rest n x a) p ps qs l is which line = line.0
 
   losing_to_reader : (at : Stage) (p : Packet) (ps : List Packet) (l : Link H) → l.to_reader ≡ p ∷ ps → AtStage at l → AtStage at (record l { to_reader = ps })
-  losing_to_reader at p ps l is h = record {
-    stage = h.stage;
-    controller = h.controller;
-    waiting = h.waiting;
-    reader = h.reader;
-    answering = h.answering;
-    to_reader = rest_to_reader at p ps (subst (ToReaderAt fixed at) is h.to_reader);
-    to_controller = h.to_controller;
-    account = h.account;
-  }
+  losing_to_reader at p ps l is h =
+      with_to_reader fixed answer_of after settings first at l ps h (rest_to_reader at p ps (subst (ToReaderAt fixed at) is h.to_reader))
 
   pub coming_to_reader : Assumed → (how : Delivery) (ps : List Packet) (l : Link H) → l.to_reader ≡ ps → AtSomeStage l
       → SaysWhatFitsIf answer_of after how ps l.reader → AtSomeStage (link.to_reader answer_of after ps how l)
@@ -164,14 +158,11 @@ module _ (fixed : ControllerConfig) {H : Type 0} (answer_of : H → Command → 
 
   -- a packet that changes no account
   passed_over : (at : Stage) (n : ℕ) (x : Exchange) (now : ℕ) (p : Packet) (l : Link H) → Ignored fixed n x (controller.hears p now l.controller.session)
-      → (Asks fixed (controller.hears p now l.controller.session).session.state n x (controller.hears p now l.controller.session).session
-      → AtStage at (record l { controller = record l.controller { session = (controller.hears p now l.controller.session).session } }))
-      → AtStage at (link.controller_gets p now l)
-  passed_over at n x now p l (quiet, asks) put =
-      subst (λ a. AtStage at (record l {
-        controller = record l.controller { session = (controller.hears p now l.controller.session).session };
-        account = a;
-      })) (sym (quiet l.account)) (put asks)
+      → ((s : Session) → Asks fixed s.state n x s → ControllerAt fixed at s) → AtStage at l → AtStage at (link.controller_gets p now l)
+  passed_over at n x now p l (quiet, asks) stands h =
+      let s = (controller.hears p now l.controller.session).session in
+      subst (λ a. AtStage at (record l { controller = record l.controller { session = s }; account = a })) (sym (quiet l.account))
+      (with_session fixed answer_of after settings first at l s h (stands s asks))
 
   -- the answer comes
   settled_account : (x : Exchange) (a : Reply) (waiting : List Command) (events : List Event) (t : Account)
@@ -184,14 +175,19 @@ module _ (fixed : ControllerConfig) {H : Type 0} (answer_of : H → Command → 
     told = (
       is.told.0,
       is.told.1,
-      ap (λ l. l ++ option_to_list (event_in a)) is.told.2 ∙ ap (λ l. l ++ option_to_list (event_in a)) (nil_right is.told.0),
+      ap (λ l. l ++ option_to_list (event_in a)) is.told.2 ∙ ap (λ l. l ++ option_to_list (event_in a)) (append-nil is.told.0),
     );
   }
   settled_account (Asking c) a waiting events t is = record {
     issued = is.issued;
-    settled = nil_right (t.settled ++ (c, a) ∷ []) ∙ is.settled;
+    settled = append-nil (t.settled ++ (c, a) ∷ []) ∙ is.settled;
     told = is.told;
   }
+
+  settles_no_taking : (x : Exchange) (a : Reply) (t : Account) → (settled_by fixed x a t).taken ≡ t.taken
+  settles_no_taking Opening a t = refl
+  settles_no_taking Polling a t = refl
+  settles_no_taking (Asking c) a t = refl
 
   settles : (past : Past) (x : Exchange) (a : Reply) (now : ℕ) (p : Packet) (l : Link H) → AtStage (Level past x a) l
       → Settles fixed (number_after past) x a (controller.hears p now l.controller.session)
@@ -201,75 +197,15 @@ module _ (fixed : ControllerConfig) {H : Type 0} (answer_of : H → Command → 
       subst (λ t. AtStage (Rest (number_after past) x a) (record l {
         controller = record l.controller { session = (controller.hears p now l.controller.session).session };
         account = t;
-      })) (sym (settled l.account)) (put x a h rests line)
-    where
-      put : (x : Exchange) (a : Reply) → AtStage (Level past x a) l
-          → Rests fixed (controller.hears p now l.controller.session).session.state (number_after past) (controller.hears p now l.controller.session).session
-          → Each (Says fixed (number_after past) a) l.to_controller
-          → AtStage (Rest (number_after past) x a) (record l {
-            controller = record l.controller { session = (controller.hears p now l.controller.session).session };
-            account = settled_by fixed x a l.account;
-          })
-      put Opening a h rests line = record {
+      })) (sym (settled l.account)) (record {
         stage = h.stage.2;
         controller = rests;
         waiting = h.waiting;
         reader = h.reader;
-        answering = h.answering;
+        answering = subst (λ cs. Answering fixed answer_of after settings first cs l.reader) (sym (settles_no_taking x a l.account)) h.answering;
         to_reader = h.to_reader;
         to_controller = line;
-        account = settled_account Opening a l.controller.waiting l.reader.queue.events l.account h.account;
-      }
-      put Polling a h rests line = record {
-        stage = h.stage.2;
-        controller = rests;
-        waiting = h.waiting;
-        reader = h.reader;
-        answering = record { id = h.answering.id; caps = h.answering.caps; handler = h.answering.handler };
-        to_reader = h.to_reader;
-        to_controller = line;
-        account = settled_account Polling a l.controller.waiting l.reader.queue.events l.account h.account;
-      }
-      put (Asking c) a h rests line = record {
-        stage = h.stage.2;
-        controller = rests;
-        waiting = h.waiting;
-        reader = h.reader;
-        answering = record { id = h.answering.id; caps = h.answering.caps; handler = h.answering.handler };
-        to_reader = h.to_reader;
-        to_controller = line;
-        account = settled_account (Asking c) a l.controller.waiting l.reader.queue.events l.account h.account;
-      }
-
-  -- behind a packet that changes no account
-  behind_asks : (past : Past) (x : Exchange) (now : ℕ) (p : Packet) (l : Link H) → AtStage (Behind past x) l
-      → Ignored fixed (number_after past) x (controller.hears p now l.controller.session)
-      → AtStage (Behind past x) (link.controller_gets p now l)
-  behind_asks past x now p l h over =
-      passed_over (Behind past x) (number_after past) x now p l over (λ asks. record {
-        stage = h.stage;
-        controller = asks;
-        waiting = h.waiting;
-        reader = h.reader;
-        answering = h.answering;
-        to_reader = h.to_reader;
-        to_controller = h.to_controller;
-        account = h.account;
-      })
-
-  level_asks : (past : Past) (x : Exchange) (a : Reply) (now : ℕ) (p : Packet) (l : Link H) → AtStage (Level past x a) l
-      → Ignored fixed (number_after past) x (controller.hears p now l.controller.session)
-      → AtStage (Level past x a) (link.controller_gets p now l)
-  level_asks past x a now p l h over =
-      passed_over (Level past x a) (number_after past) x now p l over (λ asks. record {
-        stage = h.stage;
-        controller = asks;
-        waiting = h.waiting;
-        reader = h.reader;
-        answering = h.answering;
-        to_reader = h.to_reader;
-        to_controller = h.to_controller;
-        account = h.account;
+        account = settled_account x a l.controller.waiting l.reader.queue.events l.account h.account;
       })
 
   controller_gets : Assumed → (at : Stage) (now : ℕ) (p : Packet) (l : Link H) → AtStage at l → FrontToController at p l
@@ -277,23 +213,23 @@ module _ (fixed : ControllerConfig) {H : Type 0} (answer_of : H → Command → 
   controller_gets given Fresh now p l h front = absurd front
   controller_gets given (Behind past x) now p l h old = (
     Behind past x,
-    behind_asks past x now p l h
-        (hears_other fixed p now (number_after past) x l.controller.session (old_is given past p h.stage.0 old) h.controller),
+    passed_over (Behind past x) (number_after past) x now p l
+        (hears_other fixed p now (number_after past) x l.controller.session (old_is given past p h.stage.0 old) h.controller) (λ s asks. asks) h,
   )
   controller_gets given (Level past x a) now p l h (inl old) = (
     Level past x a,
-    level_asks past x a now p l h
-        (hears_other fixed p now (number_after past) x l.controller.session (old_is given past p h.stage.0 old) h.controller),
+    passed_over (Level past x a) (number_after past) x now p l
+        (hears_other fixed p now (number_after past) x l.controller.session (old_is given past p h.stage.0 old) h.controller) (λ s asks. asks) h,
   )
   controller_gets given (Level past x a) now p l h (inr (inl busy, line)) = (
     Level past x a,
-    level_asks past x a now p l h
-        (hears_other fixed p now (number_after past) x l.controller.session (inl (busy_is given p busy)) h.controller),
+    passed_over (Level past x a) (number_after past) x now p l
+        (hears_other fixed p now (number_after past) x l.controller.session (inl (busy_is given p busy)) h.controller) (λ s asks. asks) h,
   )
   controller_gets given (Level past x a) now p l h (inr (inr is, line)) =
       elim (hears_answer fixed settings.id p now (number_after past) x a l.controller.session
       (plain_is given (number_after past) x a p h.stage.2 is) h.stage.2.1 h.controller) [
-        | inl over ↦ (Level past x a, level_asks past x a now p l h over)
+        | inl over ↦ (Level past x a, passed_over (Level past x a) (number_after past) x now p l over (λ s asks. asks) h)
         | inr settled ↦ (Rest (number_after past) x a, settles past x a now p l h settled line)
       ]
   controller_gets given (Rest n x a) now p l h front =
@@ -302,16 +238,8 @@ module _ (fixed : ControllerConfig) {H : Type 0} (answer_of : H → Command → 
         subst (λ o. AtStage (Rest n x a) (record l {
           controller = record l.controller { session = (controller.hears p now l.controller.session).session };
           account = told o l.account;
-        })) (sym heard.0) (record {
-          stage = h.stage;
-          controller = heard.1;
-          waiting = h.waiting;
-          reader = h.reader;
-          answering = h.answering;
-          to_reader = h.to_reader;
-          to_controller = h.to_controller;
-          account = h.account;
-        }),
+        })) (sym heard.0)
+            (with_session fixed answer_of after settings first (Rest n x a) l (controller.hears p now l.controller.session).session h heard.1),
       )
 
   rest_to_controller : (at : Stage) (p : Packet) (ps : List Packet) → ToControllerAt fixed at (p ∷ ps) → ToControllerAt fixed at ps
@@ -334,16 +262,9 @@ module _ (fixed : ControllerConfig) {H : Type 0} (answer_of : H → Command → 
 
   losing_to_controller : (at : Stage) (p : Packet) (ps : List Packet) (l : Link H) → l.to_controller ≡ p ∷ ps → AtStage at l
       → AtStage at (record l { to_controller = ps })
-  losing_to_controller at p ps l is h = record {
-    stage = h.stage;
-    controller = h.controller;
-    waiting = h.waiting;
-    reader = h.reader;
-    answering = h.answering;
-    to_reader = h.to_reader;
-    to_controller = rest_to_controller at p ps (subst (ToControllerAt fixed at) is h.to_controller);
-    account = h.account;
-  }
+  losing_to_controller at p ps l is h =
+      with_to_controller fixed answer_of after settings first at l ps h
+      (rest_to_controller at p ps (subst (ToControllerAt fixed at) is h.to_controller))
 
   pub coming_to_controller : Assumed → (how : Delivery) (now : ℕ) (ps : List Packet) (l : Link H) → l.to_controller ≡ ps → AtSomeStage l
       → AtSomeStage (link.to_controller ps how now l)

@@ -1,5 +1,6 @@
 -- What a packet does to the controller, by how far the session has come.
 use Rattle.std.proofs.Common.{◌≡◌, ◌≢◌, ◌⊎◌, ℕ, zero, suc, ◌+◌, Bool, true, false, cond, eqb, ltb, [], ◌∷◌, ◌++◌, Option, Some, None, refl, sym, subst, ap, ◌∙◌, inl, inr}
+use Rattle.std.proofs.lemmas.List.{append-nil}
 use Rattle.std.specs.Prelude.{◌&&◌, ◌||◌, option_to_list}
 use Rattle.osdp_frame.specs.Packet.{Packet}
 use Rattle.osdp_msg.specs.declared.command.Command.{Command}
@@ -23,7 +24,6 @@ use Rattle.osdp_controller.specs.Answers.{answer_of}
 use Rattle.osdp_controller.specs.Hearing.{Heard, answered, com_of, command_answered, comset_of, event_in, hears, hears_busy, hears_in, ignores, is_ack, is_from_reader, is_numbered, loses, moved_by, pausing_hears, poll_told, rests, waiting_hears}
 use Rattle.osdp_controller.specs.Sessions.{later, seen}
 use Rattle.osdp_link.specs.Link.{Account, told}
-use Rattle.osdp_link.proofs.Accounts.{nil_right}
 use Rattle.osdp_link.proofs.Lines.{both}
 use Rattle.osdp_link.proofs.Numbers.{is_false}
 use Rattle.osdp_link.proofs.Stages.{Asks, IsAnswerTo, IsOpen, Rests}
@@ -132,7 +132,7 @@ poll_tells : (event : Option Event) (r : Reply) (a : Account) → told (poll_tol
 poll_tells (Some event) r a = refl
 poll_tells None r a =
     both (λ o. told o a ≡ a) (is_ack r) None (Some (report.PollAnswered r)) refl refl
-    ∙ sym (ap (λ l. record a { reported = l }) (nil_right a.reported))
+    ∙ sym (ap (λ l. record a { reported = l }) (append-nil a.reported))
 
 com_is : (r : Reply) (c : Communication) → com_of r ≡ Some c → reply.Com c ≡ r
 com_is reply.Ack c e = absurd cc

@@ -6,6 +6,7 @@ pub mod Ticks
 pub mod Hearing
 pub mod Accounts
 pub mod Acting
+pub mod Parts
 pub mod Taking
 pub mod Advancing
 pub mod Moves

@@ -1,5 +1,6 @@
 -- What holds of a session holds behind each move.
-use Rattle.std.proofs.Common.{◌≡◌, ◌<◌, ℕ, Bool, true, false, List, [], ◌∷◌, ◌++◌, Option, Some, None, Ok, refl, sym, subst, ap, ◌∙◌, inl, inr, arith}
+use Rattle.std.proofs.Common.{◌≡◌, ◌<◌, ℕ, Bool, true, false, List, [], ◌∷◌, ◌++◌, Option, Some, None, Ok, refl, sym, subst, ap, ◌∙◌, inl, inr, arith, append_assoc}
+use Rattle.std.proofs.lemmas.List.{append-nil}
 use Rattle.std.specs.Prelude.{option_to_list}
 use Rattle.osdp_frame.specs.Packet.{Packet, next_sequence}
 use Rattle.osdp_msg.specs.CommandTable.{CommandFits}
@@ -26,11 +27,10 @@ use Rattle.osdp_reader_laws.specs.Laws.{AnswersPlainly, IsPlain}
 use Rattle.osdp_link.specs.Headline.{MaySubmit}
 use Rattle.osdp_link.specs.Link as link
 use Rattle.osdp_link.specs.Link.{Account, Delivered, Delivery, Link, Lost, Move, Queue as QueueEvent, Repeated, SetBusy, Submit, Tick, ToController, ToReader, told}
-use Rattle.osdp_link.proofs.Accounts.{assoc, nil_right}
 use Rattle.osdp_link.proofs.Advancing.{HoldsAtSomeStage}
 use Rattle.osdp_link.proofs.Lines.{each_append, runs_append, runs_first}
-use Rattle.osdp_link.proofs.Stages.{Accounts, After, Asks, Behind, Each, Fresh, HasActed, IsAsked, IsFrame, IsOldFrame, Level, Offers, OffersEvent, Past, ReaderAt, Rest, Runs, SaysOld, Stage, Start, answer, frame, number_after, pending, pending_at, shown}
-use Rattle.osdp_link.proofs.Taking.{At}
+use Rattle.osdp_link.proofs.Stages.{Accounts, After, Asks, Behind, ControllerAt, Each, Fresh, HasActed, IsAsked, IsFrame, IsOldFrame, Level, Offers, OffersEvent, Past, ReaderAt, Rest, Runs, SaysOld, Stage, Start, ToReaderAt, answer, frame, number_after, pending, pending_at, shown}
+use Rattle.osdp_link.proofs.Parts.{At, with_session, with_to_reader}
 use Rattle.osdp_link.proofs.Ticks.{Begun, StillAsks, ticks_asking, ticks_resting, ticks_waiting}
 
 pub runs_last : (P Q : Packet → Type 0) (ps : List Packet) → Each Q ps → Runs P Q ps
@@ -108,8 +108,8 @@ module _ (fixed : ControllerConfig) {H : Type 0} (answer_of : H → Command → 
       to_controller = h.to_controller;
       account = record {
         issued = ap (λ all. all ++ c ∷ []) h.account.issued
-            ∙ assoc l.account.taken (pending_at at ++ l.controller.waiting) (c ∷ [])
-            ∙ ap (λ all. l.account.taken ++ all) (assoc (pending_at at) l.controller.waiting (c ∷ []));
+            ∙ append_assoc l.account.taken (pending_at at ++ l.controller.waiting) (c ∷ [])
+            ∙ ap (λ all. l.account.taken ++ all) (append_assoc (pending_at at) l.controller.waiting (c ∷ []));
         settled = h.account.settled;
         told = h.account.told;
       };
@@ -133,7 +133,7 @@ module _ (fixed : ControllerConfig) {H : Type 0} (answer_of : H → Command → 
         settled = h.account.settled;
         told = (
           h.account.told.0,
-          ap (λ all. all ++ e ∷ []) h.account.told.1 ∙ assoc h.account.told.0 l.reader.queue.events (e ∷ []),
+          ap (λ all. all ++ e ∷ []) h.account.told.1 ∙ append_assoc h.account.told.0 l.reader.queue.events (e ∷ []),
           h.account.told.2,
         );
       };
@@ -155,17 +155,13 @@ module _ (fixed : ControllerConfig) {H : Type 0} (answer_of : H → Command → 
     },
   )
 
-  -- the account is as it was where a report settles nothing
-  same_account : (r : Account → Account) (t : Account) → r t ≡ t → (P : Account → Type 0) → P t → P (r t)
-  same_account r t is P here = subst P (sym is) here
-
   still_asking : (at : Stage) (n : ℕ) (x : Exchange) (t : Ticked) (l : Link H) → StillAsks fixed n x l.controller.waiting t → AtStage at l
-      → (Asks fixed t.session.state n x t.session → AtStage at l → (ps : List Packet) → Each (IsFrame fixed x n) ps → AtStage at (record l {
-        controller = record l.controller { session = t.session };
-        to_reader = l.to_reader ++ ps;
-      }))
+      → (Asks fixed t.session.state n x t.session → ControllerAt fixed at t.session)
+      → ((ps : List Packet) → Each (IsFrame fixed x n) ps → ToReaderAt fixed at (l.to_reader ++ ps))
       → AtStage at (link.ticked t l)
-  still_asking at n x t l (waits, frames, quiet, asks) h put =
+  still_asking at n x t l (waits, frames, quiet, asks) h stands grows =
+      let ps = l.to_reader ++ option_to_list t.step.frame in
+      let line = with_to_reader fixed answer_of after settings first at l ps h (grows (option_to_list t.step.frame) frames) in
       subst (λ w. AtStage at (record l {
         controller = record l.controller { session = t.session; waiting = w };
         to_reader = l.to_reader ++ option_to_list t.step.frame;
@@ -175,7 +171,8 @@ module _ (fixed : ControllerConfig) {H : Type 0} (answer_of : H → Command → 
         controller = record l.controller { session = t.session };
         to_reader = l.to_reader ++ option_to_list t.step.frame;
         account = a;
-      })) (sym (quiet l.account)) (put asks h (option_to_list t.step.frame) frames))
+      })) (sym (quiet l.account))
+      (with_session fixed answer_of after settings first at (record l { to_reader = ps }) t.session line (stands asks)))
 
   -- an exchange begins behind another
   begins : (past : Past) (n : ℕ) (t : Ticked) (l : Link H) → n ≡ number_after past → Begun fixed past n l.controller.waiting t
@@ -202,8 +199,8 @@ module _ (fixed : ControllerConfig) {H : Type 0} (answer_of : H → Command → 
 
   -- or nothing happens
   stays : (at : Stage) (t : Ticked) (l : Link H) → t.waiting ≡ l.controller.waiting → t.step.frame ≡ None → t.step.report ≡ None
-      → AtStage at (record l { controller = record l.controller { session = t.session } }) → AtStage at (link.ticked t l)
-  stays at t l waits silent quiet here =
+      → AtStage at l → ControllerAt fixed at t.session → AtStage at (link.ticked t l)
+  stays at t l waits silent quiet h is =
       subst (λ w. AtStage at (record l {
         controller = record l.controller { session = t.session; waiting = w };
         to_reader = l.to_reader ++ option_to_list t.step.frame;
@@ -220,13 +217,13 @@ module _ (fixed : ControllerConfig) {H : Type 0} (answer_of : H → Command → 
         account = told o l.account;
       })) (sym quiet)
       (subst (λ ps. AtStage at (record l { controller = record l.controller { session = t.session }; to_reader = ps }))
-      (sym (nil_right l.to_reader)) here)))
+      (sym (append-nil l.to_reader)) (with_session fixed answer_of after settings first at l t.session h is))))
 
   -- an exchange that begins: the account has its command as pending
-  begun_account : (past : Past) (x : Exchange) (ws : List Command) (front : List Event) (l : Link H) → l.controller.waiting ≡ pending x ++ ws
+  begun_account : (x : Exchange) (ws : List Command) (front : List Event) (l : Link H) → l.controller.waiting ≡ pending x ++ ws
       → Accounts fixed answer_of after settings first [] [] front l.controller.waiting l.reader.queue.events l.account
       → Accounts fixed answer_of after settings first (pending x) [] front ws l.reader.queue.events l.account
-  begun_account past x ws front l waits a = record {
+  begun_account x ws front l waits a = record {
     issued = a.issued ∙ ap (λ w. l.account.taken ++ w) waits;
     settled = a.settled;
     told = a.told;
@@ -245,51 +242,24 @@ module _ (fixed : ControllerConfig) {H : Type 0} (answer_of : H → Command → 
           to_reader = runs_first (IsOldFrame fixed Start) (IsFrame fixed x 0) l.to_reader (frame fixed x 0 ∷ [])
               (subst (Each (IsOldFrame fixed Start)) (sym h.to_reader) tt) (refl, tt);
           to_controller = subst (Each (SaysOld fixed Start)) (sym h.to_controller) tt;
-          account = begun_account Start x ws [] l waits h.account;
+          account = begun_account x ws [] l waits h.account;
         })
         | inr (waits, silent, quiet, on) ↦ (
           Fresh,
-          stays Fresh t l waits silent quiet (record {
-            stage = tt;
-            controller = on;
-            waiting = h.waiting;
-            reader = tt;
-            answering = h.answering;
-            to_reader = h.to_reader;
-            to_controller = h.to_controller;
-            account = h.account;
-          }),
+          stays Fresh t l waits silent quiet h on,
         )
       ]
   ticking (Behind past x) now l h = (
     Behind past x,
     still_asking (Behind past x) (number_after past) x (ticks now l.controller.session l.controller.waiting) l
         (ticks_asking fixed (number_after past) x l.controller.session l.controller.waiting now h.controller) h
-        (λ asks g ps frames. record {
-          stage = g.stage;
-          controller = asks;
-          waiting = g.waiting;
-          reader = g.reader;
-          answering = g.answering;
-          to_reader = runs_append (IsOldFrame fixed past) (IsFrame fixed x (number_after past)) l.to_reader ps g.to_reader frames;
-          to_controller = g.to_controller;
-          account = g.account;
-        }),
+        (λ asks. asks) (λ ps. runs_append (IsOldFrame fixed past) (IsFrame fixed x (number_after past)) l.to_reader ps h.to_reader),
   )
   ticking (Level past x a) now l h = (
     Level past x a,
     still_asking (Level past x a) (number_after past) x (ticks now l.controller.session l.controller.waiting) l
         (ticks_asking fixed (number_after past) x l.controller.session l.controller.waiting now h.controller) h
-        (λ asks g ps frames. record {
-          stage = g.stage;
-          controller = asks;
-          waiting = g.waiting;
-          reader = g.reader;
-          answering = g.answering;
-          to_reader = each_append (IsFrame fixed x (number_after past)) l.to_reader ps g.to_reader frames;
-          to_controller = g.to_controller;
-          account = g.account;
-        }),
+        (λ asks. asks) (λ ps. each_append (IsFrame fixed x (number_after past)) l.to_reader ps h.to_reader),
   )
   ticking (Rest n x a) now l h =
       let t = ticks now l.controller.session l.controller.waiting in
@@ -303,19 +273,10 @@ module _ (fixed : ControllerConfig) {H : Type 0} (answer_of : H → Command → 
           to_reader = runs_first (IsOldFrame fixed (After n x a)) (IsFrame fixed y (next_sequence n)) l.to_reader (frame fixed y (next_sequence n) ∷ [])
               h.to_reader (refl, tt);
           to_controller = h.to_controller;
-          account = begun_account (After n x a) y ws (shown x a) l waits h.account;
+          account = begun_account y ws (shown x a) l waits h.account;
         })
         | inr (waits, silent, quiet, on) ↦ (
           Rest n x a,
-          stays (Rest n x a) t l waits silent quiet (record {
-            stage = h.stage;
-            controller = on;
-            waiting = h.waiting;
-            reader = h.reader;
-            answering = h.answering;
-            to_reader = h.to_reader;
-            to_controller = h.to_controller;
-            account = h.account;
-          }),
+          stays (Rest n x a) t l waits silent quiet h on,
         )
       ]

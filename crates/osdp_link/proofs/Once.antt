@@ -1,5 +1,5 @@
 -- From the beginning of a session to each list of moves behind it.
-use Rattle.std.proofs.Common.{◌≡◌, ◌≢◌, ◌≤◌, List, [], ◌∷◌, ◌++◌, length, Option, Some, None, refl, sym, subst, ap, ◌∙◌, arith}
+use Rattle.std.proofs.Common.{◌≡◌, ◌≢◌, ◌≤◌, List, [], ◌∷◌, ◌++◌, length, Option, Some, None, refl, sym, subst, ap, ◌∙◌, arith, append_assoc}
 use Rattle.std.specs.Prelude.{◌==◌, option_to_list}
 use Rattle.osdp_msg.specs.declared.command.Command.{Command}
 use Rattle.osdp_msg.specs.declared.command.Command.TheVariants as command
@@ -15,15 +15,14 @@ use Rattle.osdp_reader.specs.declared.handler.Answer.{Answer}
 use Rattle.osdp_reader.specs.Queue.{Queue}
 use Rattle.osdp_reader.specs.State.{ReaderState}
 use Rattle.osdp_link.specs.Headline.{AreMoves, Begins, IsMove, MaySubmit, Once}
-use Rattle.osdp_link.specs.Link.{Link, Move, Queue as QueueEvent, SetBusy, Submit, Tick, ToController, ToReader, moved, run}
-use Rattle.osdp_link.proofs.Accounts.{assoc}
+use Rattle.osdp_link.specs.Link.{Link, Move, Queue as QueueEvent, SetBusy, Submit, Tick, ToController, ToReader, after_move, run}
 use Rattle.osdp_link.proofs.Advancing.{HoldsAtSomeStage}
 use Rattle.osdp_link.proofs.Deliveries.{coming_to_controller, coming_to_reader}
 use Rattle.osdp_link.proofs.Lines.{each_of}
 use Rattle.osdp_link.proofs.Moves.{Premises, being_busy, queueing, submitting, ticking}
 use Rattle.osdp_reader_laws.specs.Answering.{handler_behind}
 use Rattle.osdp_link.proofs.Stages.{Accounts, After, Behind, Fresh, Level, Offers, OffersEvent, ReaderAt, Rest, Stage, Start, Waits, owed, owed_at, pending_at, shown, shown_at}
-use Rattle.osdp_link.proofs.Taking.{At}
+use Rattle.osdp_link.proofs.Parts.{At}
 
 -- POLL is refused
 not_poll : (c : Command) (m : Machine) → submit_refusal c m ≡ None → c ≢ command.Poll
@@ -63,7 +62,7 @@ module _ (fixed : ControllerConfig) {H : Type 0} where
 
 module _ (fixed : ControllerConfig) {H : Type 0} (answer_of : H → Command → Answer) (after : H → Command → H) (settings : ReaderConfig) (first : H) where
   moving : Premises fixed answer_of after settings first → (move : Move) (l : Link H) → IsMove answer_of after move l
-      → HoldsAtSomeStage fixed answer_of after settings first l → HoldsAtSomeStage fixed answer_of after settings first (moved answer_of after move l)
+      → HoldsAtSomeStage fixed answer_of after settings first l → HoldsAtSomeStage fixed answer_of after settings first (after_move answer_of after move l)
   moving given (Submit c) l fits h =
       submitting fixed answer_of after settings first (submit_refusal c l.controller) c l
       (λ e. record { no_poll = not_poll c l.controller e; fits = fits }) h
@@ -79,7 +78,7 @@ module _ (fixed : ControllerConfig) {H : Type 0} (answer_of : H → Command → 
       → HoldsAtSomeStage fixed answer_of after settings first l → HoldsAtSomeStage fixed answer_of after settings first (run answer_of after moves l)
   running given [] l fits h = h
   running given (move ∷ moves) l fits h =
-      running given moves (moved answer_of after move l) fits.1 (moving given move l fits.0 h)
+      running given moves (after_move answer_of after move l) fits.1 (moving given move l fits.0 h)
 
   -- what holds of a session says that all is once and in order
   is_once : (l : Link H) → HoldsAtSomeStage fixed answer_of after settings first l → Once answer_of after settings first l.account
@@ -92,7 +91,7 @@ module _ (fixed : ControllerConfig) {H : Type 0} (answer_of : H → Command → 
           front.0,
           h.account.told.1
               ∙ ap (λ events. h.account.told.0 ++ events) front.1
-              ∙ sym (assoc h.account.told.0 (shown_at at) front.0)
+              ∙ sym (append_assoc h.account.told.0 (shown_at at) front.0)
               ∙ ap (λ all. all ++ front.0) (sym h.account.told.2),
         );
       }

@@ -1,5 +1,6 @@
 -- A frame comes to the reader: how far the session has come then.
 use Rattle.std.proofs.Common.{◌≡◌, ◌≢◌, ◌<◌, ℕ, zero, suc, [], ◌∷◌, ◌++◌, Some, Ok, refl, sym, subst, ap, ◌∙◌, inl, inr}
+use Rattle.std.proofs.lemmas.List.{append-nil}
 use Rattle.std.specs.Prelude.{option_to_list}
 use Rattle.std.proofs.lemmas.Bool.Decides.{eqb_tells}
 use Rattle.osdp_frame.specs.Packet.{Packet}
@@ -18,14 +19,14 @@ use Rattle.osdp_reader.specs.State.{ReaderState}
 use Rattle.osdp_reader.specs.Table.{begun, command_in, kind_of, outcome}
 use Rattle.osdp_link.specs.Link as link
 use Rattle.osdp_link.specs.Link.{Link}
-use Rattle.osdp_link.proofs.Accounts.{nil_right}
 use Rattle.osdp_link.proofs.Acting.{kind_again, kind_away, kind_zero}
 use Rattle.osdp_link.proofs.Lines.{both}
-use Rattle.osdp_link.proofs.Stages.{Acted, HasActed, Holds, ReaderAt, Says, Stage, ToControllerAt, answer, frame}
+use Rattle.osdp_link.proofs.Parts.{At, with_to_controller}
+use Rattle.osdp_link.proofs.Stages.{Acted, HasActed, ReaderAt, Says, Stage, ToControllerAt, answer, frame}
 
 module _ (fixed : ControllerConfig) {H : Type 0} (answer_of : H → Command → Answer) (after : H → Command → H) (settings : ReaderConfig) (first : H) where
-  abbrev pub At : Stage → Link H → Type 0
-  At at l = Holds fixed answer_of after settings first settings.id at l
+  abbrev AtStage : Stage → Link H → Type 0
+  AtStage at l = At fixed answer_of after settings first at l
 
   -- what comes of a packet that meets this line of the reader's table
   abbrev pub gets_by : Kind → Packet → Link H → Link H
@@ -38,52 +39,36 @@ module _ (fixed : ControllerConfig) {H : Type 0} (answer_of : H → Command → 
       }
 
   -- the reader stays as it is, and says this
-  pub says : (at : Stage) (l : Link H) (q : Packet) → At at l → ToControllerAt fixed at (l.to_controller ++ q ∷ [])
-      → At at (record l { to_controller = l.to_controller ++ q ∷ [] })
-  says at l q h line = record {
-    stage = h.stage;
-    controller = h.controller;
-    waiting = h.waiting;
-    reader = h.reader;
-    answering = h.answering;
-    to_reader = h.to_reader;
-    to_controller = line;
-    account = h.account;
-  }
+  pub says : (at : Stage) (l : Link H) (q : Packet) → AtStage at l → ToControllerAt fixed at (l.to_controller ++ q ∷ [])
+      → AtStage at (record l { to_controller = l.to_controller ++ q ∷ [] })
+  says at l q h line = with_to_controller fixed answer_of after settings first at l (l.to_controller ++ q ∷ []) h line
 
   -- .. or nothing
-  says_nothing : (at : Stage) (l : Link H) → At at l → At at (record l { to_controller = l.to_controller ++ [] })
-  says_nothing at l h = record {
-    stage = h.stage;
-    controller = h.controller;
-    waiting = h.waiting;
-    reader = h.reader;
-    answering = h.answering;
-    to_reader = h.to_reader;
-    to_controller = subst (ToControllerAt fixed at) (sym (nil_right l.to_controller)) h.to_controller;
-    account = h.account;
-  }
+  says_nothing : (at : Stage) (l : Link H) → AtStage at l → AtStage at (record l { to_controller = l.to_controller ++ [] })
+  says_nothing at l h =
+      with_to_controller fixed answer_of after settings first at l (l.to_controller ++ []) h
+      (subst (ToControllerAt fixed at) (sym (append-nil l.to_controller)) h.to_controller)
 
   pub away : (at : Stage) (x : Exchange) (n : ℕ) (l : Link H) → fixed.address < 127 → l.reader.config.address ≢ fixed.address
-      → At at l → At at (gets_by (kind_of l.reader (frame fixed x n)) (frame fixed x n) l)
+      → AtStage at l → AtStage at (gets_by (kind_of l.reader (frame fixed x n)) (frame fixed x n) l)
   away at x n l device differ h =
-      subst (λ k. At at (gets_by k (frame fixed x n) l)) (sym (kind_away fixed l.reader x n differ device)) (says_nothing at l h)
+      subst (λ k. AtStage at (gets_by k (frame fixed x n) l)) (sym (kind_away fixed l.reader x n differ device)) (says_nothing at l h)
 
-  Grows : Stage → ℕ → Reply → Link H → Type 0
+  -- the line takes a packet that answers with this number; the reader is where the stage has it
+  abbrev Grows : Stage → ℕ → Reply → Link H → Type 0
   Grows at n a l = (q : Packet) → Says fixed n a q → ToControllerAt fixed at (l.to_controller ++ q ∷ [])
 
-  Puts : Stage → ℕ → Exchange → Reply → Type 0
+  abbrev Puts : Stage → ℕ → Exchange → Reply → Type 0
   Puts at n x a = (r : ReaderState H) → HasActed fixed n x a r → ReaderAt fixed at r
 
   -- the command at number 0 again
-  zero_again : (at : Stage) (a : Reply) (l : Link H) → command_in (frame fixed Opening 0) ≡ Ok (command.Id 0) → At at l
+  zero_again : (at : Stage) (a : Reply) (l : Link H) → command_in (frame fixed Opening 0) ≡ Ok (command.Id 0) → AtStage at l
       → HasActed fixed 0 Opening a l.reader → a ≡ reply.PdId settings.id
-      → ((q : Packet) → Says fixed 0 a q → ToControllerAt fixed at (l.to_controller ++ q ∷ []))
-      → ((r : ReaderState H) → HasActed fixed 0 Opening a r → ReaderAt fixed at r)
-      → At at (gets_by Zero (frame fixed Opening 0) l)
+      → Grows at 0 a l → Puts at 0 Opening a
+      → AtStage at (gets_by Zero (frame fixed Opening 0) l)
   zero_again at a l reads h acted is grows puts =
       let p = frame fixed Opening 0 in
-      subst (λ c. At at (record l {
+      subst (λ c. AtStage at (record l {
         reader = (begun answer_of after c l.reader p).reader;
         to_controller = l.to_controller ++ option_to_list (begun answer_of after c l.reader p).reply;
         account = link.taken Zero (begun answer_of after c l.reader p).command l.account;
@@ -100,11 +85,10 @@ module _ (fixed : ControllerConfig) {H : Type 0} (answer_of : H → Command → 
 
   -- the frame of an exchange that the reader has acted on
   pub again : (at : Stage) (n : ℕ) (x : Exchange) (a : Reply) (l : Link H) → fixed.address < 127
-      → command_in (frame fixed Opening 0) ≡ Ok (command.Id 0) → At at l
+      → command_in (frame fixed Opening 0) ≡ Ok (command.Id 0) → AtStage at l
       → HasActed fixed n x a l.reader → Acted settings.id n x a
-      → ((q : Packet) → Says fixed n a q → ToControllerAt fixed at (l.to_controller ++ q ∷ []))
-      → ((r : ReaderState H) → HasActed fixed n x a r → ReaderAt fixed at r)
-      → At at (gets_by (kind_of l.reader (frame fixed x n)) (frame fixed x n) l)
+      → Grows at n a l → Puts at n x a
+      → AtStage at (gets_by (kind_of l.reader (frame fixed x n)) (frame fixed x n) l)
   again at n x a l device reads h acted is grows puts =
       elim (eqb_tells l.reader.config.address fixed.address) [
         | inl same ↦ by_exchange n x acted is grows puts same.1
@@ -113,21 +97,19 @@ module _ (fixed : ControllerConfig) {H : Type 0} (answer_of : H → Command → 
     where
       repeated : (n : ℕ) (x : Exchange) → n ≢ 0 → l.reader.config.address ≡ fixed.address
           → (l.reader.last ≡ Some n) × (l.reader.stored ≡ Some (answer fixed n a))
-          → ((q : Packet) → Says fixed n a q → ToControllerAt fixed at (l.to_controller ++ q ∷ []))
-          → At at (gets_by (kind_of l.reader (frame fixed x n)) (frame fixed x n) l)
+          → Grows at n a l
+          → AtStage at (gets_by (kind_of l.reader (frame fixed x n)) (frame fixed x n) l)
       repeated n x above same kept grows =
-          subst (λ k. At at (gets_by k (frame fixed x n) l)) (sym (kind_again fixed l.reader x n same above kept.0))
-          (subst (λ o. At at (record l { to_controller = l.to_controller ++ option_to_list o })) (sym kept.1)
+          subst (λ k. AtStage at (gets_by k (frame fixed x n) l)) (sym (kind_again fixed l.reader x n same above kept.0))
+          (subst (λ o. AtStage at (record l { to_controller = l.to_controller ++ option_to_list o })) (sym kept.1)
           (says at l (answer fixed n a) h (grows (answer fixed n a) (inr refl))))
 
       by_exchange : (n : ℕ) (x : Exchange) → HasActed fixed n x a l.reader → Acted settings.id n x a
-          → ((q : Packet) → Says fixed n a q → ToControllerAt fixed at (l.to_controller ++ q ∷ []))
-          → ((r : ReaderState H) → HasActed fixed n x a r → ReaderAt fixed at r)
-          → l.reader.config.address ≡ fixed.address
-          → At at (gets_by (kind_of l.reader (frame fixed x n)) (frame fixed x n) l)
+          → Grows at n a l → Puts at n x a → l.reader.config.address ≡ fixed.address
+          → AtStage at (gets_by (kind_of l.reader (frame fixed x n)) (frame fixed x n) l)
       by_exchange zero Opening acted is grows puts same =
-          subst (λ k. At at (gets_by k (frame fixed Opening 0) l)) (sym (kind_zero fixed l.reader Opening same))
-          (both (λ k. At at (gets_by k (frame fixed Opening 0) l)) l.reader.busy Busy Zero
+          subst (λ k. AtStage at (gets_by k (frame fixed Opening 0) l)) (sym (kind_zero fixed l.reader Opening same))
+          (both (λ k. AtStage at (gets_by k (frame fixed Opening 0) l)) l.reader.busy Busy Zero
           (says at l (answer fixed 0 reply.Busy) h (grows (answer fixed 0 reply.Busy) (inl refl)))
           (zero_again at a l reads h acted is.1 grows puts))
       by_exchange (suc n) Opening acted is grows puts same = absurd is.1

@@ -13,7 +13,7 @@ use Rattle.osdp_reader.specs.declared.config.ReaderConfig.{ReaderConfig}
 use Rattle.osdp_reader.specs.declared.handler.Answer.{Answer}
 use Rattle.osdp_reader.specs.State.{ReaderState}
 use Rattle.osdp_reader.specs.Table.{answer_to, hears}
-use Rattle.osdp_link.specs.Link.{Account, Delivered, Delivery, Link, Lost, Move, Repeated, Submit, Queue, SetBusy, Tick, ToReader, ToController, moved, run}
+use Rattle.osdp_link.specs.Link.{Account, Delivered, Delivery, Link, Lost, Move, Repeated, Submit, Queue, SetBusy, Tick, ToReader, ToController, after_move, run}
 
 -- a command that may be submitted: any but POLL, its fields in their ranges
 pub record MaySubmit (command : Command) : Type 0 where
@@ -66,7 +66,7 @@ module _ {H : Type 0} where
 
     abbrev pub AreMoves : List Move → Link H → Type 0
     AreMoves [] l = Unit {0}
-    AreMoves (move ∷ moves) l = IsMove move l × AreMoves moves (moved answer_of after move l)
+    AreMoves (move ∷ moves) l = IsMove move l × AreMoves moves (after_move answer_of after move l)
 
     -- the commands that the reader has taken are a beginning of those issued, and hold each settled one, with the answer that the
     -- reader gave, and one more at most; the events reported are a beginning of those queued

@@ -127,15 +127,15 @@ module _ {H : Type 0} where
     to_reader (p ∷ rest) Lost l = record l { to_reader = rest }
     to_reader (p ∷ rest) Repeated l = reader_gets p l
 
-    abbrev pub moved : Move → Link H → Link H
-    moved (Submit command) l = submits (controllers.submit_refusal command l.controller) command l
-    moved (Queue event) l = queues (length l.reader.queue.events == l.reader.queue.capacity) event l
-    moved (SetBusy busy) l = record l { reader = readers.after_set_busy busy l.reader }
-    moved (Tick now) l = ticked (ticks now l.controller.session l.controller.waiting) l
-    moved (ToReader how) l = to_reader l.to_reader how l
-    moved (ToController how now) l = to_controller l.to_controller how now l
+    abbrev pub after_move : Move → Link H → Link H
+    after_move (Submit command) l = submits (controllers.submit_refusal command l.controller) command l
+    after_move (Queue event) l = queues (length l.reader.queue.events == l.reader.queue.capacity) event l
+    after_move (SetBusy busy) l = record l { reader = readers.after_set_busy busy l.reader }
+    after_move (Tick now) l = ticked (ticks now l.controller.session l.controller.waiting) l
+    after_move (ToReader how) l = to_reader l.to_reader how l
+    after_move (ToController how now) l = to_controller l.to_controller how now l
 
     -- the link behind a list of moves
     abbrev pub run : List Move → Link H → Link H
     run [] l = l
-    run (move ∷ moves) l = run moves (moved move l)
+    run (move ∷ moves) l = run moves (after_move move l)

@@ -11,16 +11,16 @@ use osdp_reader::Handler;
 pub fn reads_what_is_asked()
     ensures { ReadsWhatIsAsked }
 {
-    osdp_msg::command_of_reads_the_table();
-    osdp_msg::commands_fit_a_packet();
+    osdp_msg_laws::command_of_reads_the_table();
+    osdp_msg_laws::commands_fit_a_packet();
 }
 
 /// A controller reads, of the packet of a reply, that reply.
 pub fn reads_what_is_answered()
     ensures { ReadsWhatIsAnswered }
 {
-    osdp_msg::reply_of_reads_the_table();
-    osdp_msg::replies_fit_a_packet();
+    osdp_msg_laws::reply_of_reads_the_table();
+    osdp_msg_laws::replies_fit_a_packet();
 }
 
 /// A reply that is neither BUSY nor NAK 1 or 4 answers the exchange, and one that tells an event is read as that event.

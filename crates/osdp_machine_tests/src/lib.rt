@@ -12,6 +12,8 @@ mod door;
 #[cfg(test)]
 mod identity;
 #[cfg(test)]
+mod link;
+#[cfg(test)]
 mod packets;
 #[cfg(test)]
 mod panel;

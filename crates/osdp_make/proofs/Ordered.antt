@@ -13,10 +13,10 @@ use Rattle.osdp_words.specs.Word.{AllStandFor}
 use Rattle.osdp_words.proofs.WordLaws.{is_decimal}
 use Rattle.osdp_msg.specs.CommandTable.{command_code, command_data}
 use Rattle.osdp_msg.specs.ReplyTable.{reply_code, reply_data}
-use Rattle.osdp_msg.proofs.Commands.{command_reads, commands_fit}
-use Rattle.osdp_msg.proofs.Replies.{replies_fit, reply_reads}
-use Rattle.osdp_msg.proofs.CommandTexts.{command_one_meaning}
-use Rattle.osdp_msg.proofs.ReplyTexts.{reply_one_meaning}
+use Rattle.osdp_msg_laws.proofs.CommandLaws.{command_reads, commands_fit}
+use Rattle.osdp_msg_laws.proofs.ReplyLaws.{replies_fit, reply_reads}
+use Rattle.osdp_msg_laws.proofs.CommandTexts.{command_one_meaning}
+use Rattle.osdp_msg_laws.proofs.ReplyTexts.{reply_one_meaning}
 use Rattle.osdp_make.specs.declared.order.Message.{Message}
 use Rattle.osdp_make.specs.declared.order.Message.TheVariants.{Command, Reply}
 use Rattle.osdp_make.specs.declared.order.PacketOrder.{PacketOrder}

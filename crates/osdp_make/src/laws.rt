@@ -12,6 +12,6 @@ pub fn one_order()
 pub fn reads_back()
     ensures { ReadsBack }
 {
-    osdp_frame::laws::one_spelling();
-    osdp_frame::laws::reading_of_spelling();
+    osdp_frame_laws::one_spelling();
+    osdp_frame_laws::reading_of_spelling();
 }

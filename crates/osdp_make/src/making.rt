@@ -15,7 +15,7 @@ use std::io::Write;
 fn digits(alloc: Global, order: &PacketOrder) -> Result<String, AllocError>
     ensures { IfOk result (λ text. string_bytes text ≡ order_digits order.now) }
 {
-    osdp_frame::laws::one_spelling();
+    osdp_frame_laws::one_spelling();
     hex::encode_upper(alloc, order.packet().encode().as_slice())
 }
 

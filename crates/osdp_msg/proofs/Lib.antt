@@ -13,8 +13,3 @@ pub mod RecordWordRows
 pub mod RowTexts
 pub mod CommandTextRows
 pub mod ReplyTextRows
-pub mod OtherLaws
-pub mod OneMeaning
-pub mod TextWords
-pub mod CommandTexts
-pub mod ReplyTexts

@@ -11,4 +11,3 @@ pub mod ReplyTable
 pub mod ReplyText
 pub mod Events
 pub mod Fitting
-pub mod Laws

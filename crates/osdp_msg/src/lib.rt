@@ -12,7 +12,6 @@ mod command_fields;
 mod event;
 mod fault;
 mod fitting;
-mod laws;
 mod leds;
 mod nak;
 mod outputs;
@@ -30,12 +29,6 @@ pub use command_fields::{Buzzer, Communication, MakerMessage, Text};
 pub use event::Event;
 pub use fault::{BadWords, MsgFault};
 pub use fitting::fits;
-pub use laws::{
-    command_of_reads_the_table, command_text_joins_words, command_texts_are_unique,
-    commands_are_unique, commands_fit_a_packet, numbers_have_low_byte_first, reasons_are_unique,
-    replies_are_unique, replies_fit_a_packet, replies_fit_by_kind, reply_of_reads_the_table,
-    reply_text_joins_words, reply_texts_are_unique,
-};
 pub use leds::{LedRecord, Leds};
 pub use nak::{NakReason, OtherReason};
 pub use outputs::{OutputRecord, Outputs};

@@ -8,7 +8,8 @@ use Rattle.osdp_frame.specs.Reading.{Part, part_size, total_size, IsReading}
 use Rattle.osdp_frame.specs.Held.{Held, decided, after_gap, after_push, new_run, taken_count}
 use Rattle.osdp_frame.specs.Items.{items, reading, left_over}
 use Rattle.osdp_frame.proofs.Head.{AreBytes-drop}
-use Rattle.osdp_frame.proofs.Readings.{decided_nothing, items_undecided, items-append, left_undecided, undecided_small, sizes_reading, is_reading, AreBytes-front}
+use Rattle.osdp_frame.proofs.Decided.{AreBytes-front}
+use Rattle.osdp_frame_laws.proofs.Readings.{decided_nothing, items_undecided, items-append, left_undecided, undecided_small, sizes_reading, is_reading}
 use Rattle.osdp_controller.specs.declared.report.Report.{Report}
 use Rattle.osdp_controller.specs.Machine.{Machine}
 use Rattle.osdp_panel.specs.Hearing.{IsRun, after_reports, held_behind, items_heard}

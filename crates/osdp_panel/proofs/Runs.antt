@@ -6,7 +6,7 @@ use Rattle.osdp_frame.specs.Bytes.{AreBytes}
 use Rattle.osdp_frame.specs.Reading.{Part, part_size}
 use Rattle.osdp_frame.specs.Held.{Held, decided, behind, behind_first, after_advance, after_gap, after_push, new_run, taken_count}
 use Rattle.osdp_frame.proofs.Head.{AreBytes-drop}
-use Rattle.osdp_frame.proofs.Readings.{AreBytes-front}
+use Rattle.osdp_frame.proofs.Decided.{AreBytes-front}
 use Rattle.osdp_panel.specs.Hearing.{IsRun}
 
 pub AreBytes-append : (xs ys : List ℕ) → AreBytes xs → AreBytes ys → AreBytes (xs ++ ys)

@@ -6,7 +6,7 @@ use Rattle.std.proofs.lemmas.Bool.{ne_eqb}
 use Rattle.osdp_frame.specs.Held.{Held, decided, after_advance, behind, behind_first}
 use Rattle.osdp_frame.specs.Items.{items, items_within}
 use Rattle.osdp_frame.specs.Reading.{Part, part_size}
-use Rattle.osdp_frame.proofs.Readings.{part_size-positive, decided_nothing, items_undecided}
+use Rattle.osdp_frame_laws.proofs.Readings.{part_size-positive, decided_nothing, items_undecided}
 use Rattle.osdp_controller.specs.declared.report.Report.{Report}
 use Rattle.osdp_controller.specs.Machine.{Machine}
 use Rattle.osdp_panel.specs.Reports.{Told, after_item, next_told, told_by, told_of, told_or}

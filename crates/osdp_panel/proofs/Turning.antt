@@ -2,7 +2,7 @@
 use Rattle.std.proofs.Common.{◌≡◌, ℕ, List, [], ◌∷◌, ◌++◌, drop, Option, Some, None, refl, sym, subst, ap, ◌∙◌}
 use Rattle.osdp_frame.specs.Held.{Held, decided, behind}
 use Rattle.osdp_frame.specs.Reading.{Part, part_size}
-use Rattle.osdp_frame.proofs.Readings.{items_undecided}
+use Rattle.osdp_frame_laws.proofs.Readings.{items_undecided}
 use Rattle.osdp_controller.specs.declared.report.Report.{Report}
 use Rattle.osdp_controller.specs.Machine.{Machine}
 use Rattle.osdp_panel.specs.Reports.{after_item, told_by, told_of, told_or, next_told}

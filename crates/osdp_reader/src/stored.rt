@@ -5,7 +5,7 @@ ghost use Rattle.osdp_frame.specs.Packet.{Packet};
 ghost use Rattle.osdp_frame.specs.Spelling.{Spells};
 ghost use Rattle.osdp_reader.specs.Spelled.{IsSpelled};
 
-use osdp_frame::{Burst, laws};
+use osdp_frame::Burst;
 use std::marker::Model;
 
 /// The reply to the last taken command, as it was sent, if there is one.
@@ -42,8 +42,8 @@ impl StoredReply {
         requires { (p : Packet) × Spells p burst.now.items }
         ensures { (p : Packet) → Spells p burst.now.items → self.new ≡ Some p }
     {
-        laws::spelling_of_bytes();
-        laws::first_item_decided();
+        osdp_frame_laws::spelling_of_bytes();
+        osdp_frame_laws::first_item_decided();
         copy_to(&mut self.burst, burst);
     }
 

@@ -7,8 +7,8 @@ use Rattle.osdp_frame.specs.Reading.{Part, part_size, total_size}
 use Rattle.osdp_frame.specs.Held.{Held, decided, after_advance, behind_first, behind}
 use Rattle.osdp_frame.specs.Items.{items}
 use Rattle.osdp_frame.proofs.Head.{AreBytes-drop}
-use Rattle.osdp_frame.proofs.Decided.{undecided_none}
-use Rattle.osdp_frame.proofs.Readings.{part_size-positive, part_size-decided, decided_nothing, undecided_ended, items_undecided, items_decided}
+use Rattle.osdp_frame.proofs.Decided.{undecided_none, undecided_ended}
+use Rattle.osdp_frame_laws.proofs.Readings.{part_size-positive, part_size-decided, decided_nothing, items_undecided, items_decided}
 use Rattle.osdp_lines.specs.Tally.{after_part, counted}
 use Rattle.osdp_lines.proofs.Lines.{after_parts-nil, after_parts-cons, counted-behind}
 use Rattle.osdp_tool.specs.declared.report.Report.{Report}

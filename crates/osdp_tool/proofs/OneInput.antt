@@ -9,7 +9,7 @@ use Rattle.osdp_frame.specs.Packet.{Packet, packet_length}
 use Rattle.osdp_frame.specs.Spelling.{spelling, start_of_message}
 use Rattle.osdp_frame.specs.Reading.{Part, Whole, Passed, Bad, Begins, Stands, IsReading, part_size, total_size}
 use Rattle.osdp_frame.proofs.Head.{AreBytes-drop}
-use Rattle.osdp_frame.proofs.Readings.{sizes_reading}
+use Rattle.osdp_frame_laws.proofs.Readings.{sizes_reading}
 use Rattle.osdp_frame.proofs.Spelled.{length-spelled, spelled_is}
 use Rattle.osdp_input.specs.declared.form.Form.{Form}
 use Rattle.osdp_input.specs.declared.form.Form.TheVariants.{Raw}

@@ -9,7 +9,7 @@ use Rattle.std.proofs.lemmas.List.Filters.{length-filter_both}
 use Rattle.osdp_tool.specs.Feeds.{HasLine}
 use Rattle.osdp_frame.specs.Bytes.{AreBytes}
 use Rattle.osdp_frame.specs.Reading.{total_size}
-use Rattle.osdp_frame.proofs.Readings.{decided_nothing, items_undecided}
+use Rattle.osdp_frame_laws.proofs.Readings.{decided_nothing, items_undecided}
 use Rattle.osdp_frame.specs.Held.{Held, new_run}
 use Rattle.osdp_frame.specs.Items.{left_over}
 use Rattle.osdp_input.specs.declared.form.Form.{Form}

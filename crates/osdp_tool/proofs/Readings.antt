@@ -12,7 +12,7 @@ use Rattle.osdp_frame.specs.Items.{items, reading, Drains}
 use Rattle.osdp_frame.specs.Held.{decided}
 use Rattle.osdp_frame.proofs.Head.{AreBytes-drop}
 use Rattle.osdp_frame.proofs.Decided.{first_decided, undecided_none}
-use Rattle.osdp_frame.proofs.Readings.{is_reading, reading_is, sizes_reading, drained_items, decided_nothing, items_undecided, items_decided, part_size-positive, part_size-decided}
+use Rattle.osdp_frame_laws.proofs.Readings.{is_reading, reading_is, sizes_reading, drained_items, decided_nothing, items_undecided, items_decided, part_size-positive, part_size-decided}
 use Rattle.osdp_input.specs.declared.form.Form.{Form}
 use Rattle.osdp_input.specs.declared.form.Form.TheVariants.{Raw, Joined, Apart}
 use Rattle.osdp_input.specs.Cut.{ended_lines, unended_line, last_line, lines_of}

@@ -9,9 +9,9 @@ use Rattle.osdp_frame.specs.Bytes.{AreBytes}
 use Rattle.osdp_frame.specs.Reading.{Part, total_size}
 use Rattle.osdp_frame.specs.Held.{Held, decided, after_gap, after_push, taken_count}
 use Rattle.osdp_frame.specs.Items.{items, reading, left_over}
-use Rattle.osdp_frame.proofs.Decided.{undecided_none}
+use Rattle.osdp_frame.proofs.Decided.{undecided_none, AreBytes-front}
 use Rattle.osdp_frame.proofs.Head.{AreBytes-drop}
-use Rattle.osdp_frame.proofs.Readings.{decided_nothing, items_undecided, items-append, left_undecided, sizes_reading, is_reading, AreBytes-front}
+use Rattle.osdp_frame_laws.proofs.Readings.{decided_nothing, items_undecided, items-append, left_undecided, sizes_reading, is_reading}
 use Rattle.osdp_input.specs.Runs.{closed_runs, with_bytes}
 use Rattle.osdp_lines.specs.Tally.{no_tally, after_parts, after_run, counted}
 use Rattle.osdp_lines.specs.Told.{parts_lines, after_runs, runs_lines, tally_so_far, lines_so_far}

@@ -7,7 +7,7 @@ use Rattle.osdp_frame.specs.Reading.{Part, part_size}
 use Rattle.osdp_frame.specs.Held.{Held, decided, by_itself, new_run, after_push, after_gap, after_advance, behind_first, taken_count}
 use Rattle.osdp_frame.proofs.Head.{AreBytes-drop}
 use Rattle.osdp_frame.proofs.FirstItems.{decided_by_itself}
-use Rattle.osdp_frame.proofs.Readings.{decided_nothing, part_size-decided, part_size-positive}
+use Rattle.osdp_frame_laws.proofs.Readings.{decided_nothing, part_size-decided, part_size-positive}
 use Rattle.osdp_tool.specs.declared.report.Report.{Report}
 use Rattle.osdp_tool.specs.Machine.{Tells, Drained, IsSettled, Stands, Took}
 use Rattle.osdp_tool.proofs.Drains.{draining_start, draining_step, draining_end}

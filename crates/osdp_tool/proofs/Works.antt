@@ -4,7 +4,7 @@ use Rattle.std.specs.Io.KnownBytes.{Appends, Consumes, Keeps}
 use Rattle.std.proofs.KnownBytes.{Consumes-nil, Consumes-trans}
 use Rattle.std.proofs.KnownBytes.{Appends-trans, Appends-kept}
 use Rattle.osdp_frame.specs.Held.{Held}
-use Rattle.osdp_frame.proofs.Readings.{decided_nothing, items_undecided}
+use Rattle.osdp_frame_laws.proofs.Readings.{decided_nothing, items_undecided}
 use Rattle.osdp_input.specs.declared.form.Form.{Form}
 use Rattle.osdp_input.specs.declared.form.Form.TheVariants.{Raw, Joined, Apart}
 use Rattle.osdp_input.specs.Cut.{line_feed, unended_line}

@@ -1,8 +1,9 @@
 use osdp_words::{
     ByteList, Fields, Record, byte_list, number_u8, number_u16, number_u32, record, vendor,
 };
-use std::alloc::{AllocError, Global};
-use std::test::Fail;
+use std::alloc::Global;
+use std::fmt::Display;
+use std::process::Abort;
 
 /// Words that are no number of eight bits, with a bar between each two.
 const NO_NUMBERS: &str = "256|1000||00|01|007|+5|+0|-0|5 | 5|1_0|0x5|A|٣|none";
@@ -23,31 +24,38 @@ fn other_words_are_no_numbers(rt: HostRuntime) {
 
 #[test]
 fn reads_wide_numbers(rt: HostRuntime) {
-    assert_eq!(rt; number_u16("26"), Some(26));
-    assert_eq!(rt; number_u16("65535"), Some(65535));
-    assert_eq!(rt; number_u16("65536"), None);
-    assert_eq!(rt; number_u16("065535"), None);
+    for (word, number) in "26 65535".split(' ').zip([26, 65535]) {
+        assert_eq!(rt; number_u16(word), Some(number), "at {word}");
+    }
     assert_eq!(rt; number_u32("9600"), Some(9600));
     assert_eq!(rt; number_u32("4294967295"), Some(4_294_967_295));
-    for word in "4294967296 99999999999999999999999 +9600".split(' ') {
-        assert_eq!(rt; number_u32(word), None, "at {word}");
+}
+
+#[test]
+fn other_words_are_no_wide_numbers(rt: HostRuntime) {
+    assert_eq!(rt; number_u16("65536"), None);
+    assert_eq!(rt; number_u16("065535"), None);
+    assert_eq!(rt; number_u32("4294967296"), None);
+    assert_eq!(rt; number_u32("99999999999999999999999"), None);
+    assert_eq!(rt; number_u32("+9600"), None);
+}
+
+const CARD: [u8; 4] = [0x0A, 0x0B, 0x0C, 0x40];
+
+#[test]
+fn reads_lists_of_bytes(rt: HostRuntime) {
+    for word in "0A0B0C40 0a0b0c40 0a0B0c40".split(' ') {
+        let list = byte_list::<4>(word).expect(&rt, word);
+        assert_eq!(rt; list.as_slice(), CARD.as_slice(), "at {word}");
     }
 }
 
 #[test]
-fn reads_lists_of_bytes(rt: HostRuntime) -> Result<(), Fail> {
-    let card = [0x0A, 0x0B, 0x0C, 0x40].as_slice();
-    for word in "0A0B0C40 0a0b0c40 0a0B0c40".split(' ') {
-        let list = byte_list::<4>(word).ok_or("a list")?;
-        assert_eq!(rt; list.as_slice(), card, "at {word}");
-    }
-    let list = byte_list::<1>("00").ok_or("a byte")?;
-    assert_eq!(rt; list.as_slice(), [0].as_slice());
-    let list = byte_list::<1>("fF").ok_or("a byte")?;
+fn reads_short_lists_of_bytes(rt: HostRuntime) {
+    let list = byte_list::<1>("fF").expect(&rt, "a byte");
     assert_eq!(rt; list.as_slice(), [255].as_slice());
-    assert_eq!(rt; byte_list::<1>("none").ok_or("nothing")?.len(), 0);
-    assert_eq!(rt; byte_list::<0>("none").ok_or("no room")?.len(), 0);
-    Ok(())
+    assert_eq!(rt; byte_list::<1>("none").expect(&rt, "nothing").len(), 0);
+    assert_eq!(rt; byte_list::<0>("none").expect(&rt, "no room").len(), 0);
 }
 
 /// Words that are no list of up to four bytes, with a bar between each two.
@@ -62,47 +70,47 @@ fn other_words_are_no_lists(rt: HostRuntime) {
     assert!(rt; byte_list::<0>("00").is_none());
 }
 
-// The word of `count` bytes.
-fn long_word(alloc: Global, count: usize) -> Result<String, AllocError> {
+/// The word of `count` bytes.
+fn long_word(rt: &impl Abort, alloc: Global, count: usize) -> String {
     let mut word = String::new(alloc);
     for _ in 0..count {
-        word.push_str("fE")?;
+        word.push_str("fE").ok().expect(rt, "memory for a word");
     }
-    Ok(word)
+    word
 }
 
-/// The rooms of digits, of a maker's data, of a detail and of states.
+/// The room of digits.
 #[test]
-fn fills_each_room(rt: HostRuntime) -> Result<(), Fail> {
-    let alloc = rt.alloc();
-    let word = long_word(alloc, 255)?;
-    assert_eq!(rt; byte_list::<255>(word.as_str()).ok_or("digits")?.len(), 255);
-    let word = long_word(alloc, 1429)?;
-    assert_eq!(rt;
-        byte_list::<1429>(word.as_str()).ok_or("a maker's")?.len(),
-        1429
-    );
-    let word = long_word(alloc, 1431)?;
-    assert_eq!(rt;
-        byte_list::<1431>(word.as_str()).ok_or("detail")?.len(),
-        1431
-    );
-    let word = long_word(alloc, 1432)?;
-    assert_eq!(rt;
-        byte_list::<1432>(word.as_str()).ok_or("states")?.len(),
-        1432
-    );
-    Ok(())
+fn fills_a_small_room(rt: HostRuntime) {
+    let word = long_word(&rt, rt.alloc(), 255);
+    let list = byte_list::<255>(word.as_str()).expect(&rt, "digits");
+    assert_eq!(rt; list.len(), 255);
+    let longer = long_word(&rt, rt.alloc(), 256);
+    assert!(rt; byte_list::<255>(longer.as_str()).is_none());
 }
 
+/// The room of a maker's data.
 #[test]
-fn fills_no_room_past_its_end(rt: HostRuntime) -> Result<(), Fail> {
-    let alloc = rt.alloc();
-    assert!(rt; byte_list::<255>(long_word(alloc, 256)?.as_str()).is_none());
-    assert!(rt; byte_list::<1429>(long_word(alloc, 1430)?.as_str()).is_none());
-    assert!(rt; byte_list::<1431>(long_word(alloc, 1432)?.as_str()).is_none());
-    assert!(rt; byte_list::<1432>(long_word(alloc, 1433)?.as_str()).is_none());
-    Ok(())
+fn fills_a_large_room(rt: HostRuntime) {
+    let word = long_word(&rt, rt.alloc(), 1429);
+    let list = byte_list::<1429>(word.as_str()).expect(&rt, "a maker's data");
+    assert_eq!(rt; list.len(), 1429);
+    let longer = long_word(&rt, rt.alloc(), 1430);
+    assert!(rt; byte_list::<1429>(longer.as_str()).is_none());
+}
+
+/// The rooms of a detail and of states.
+#[test]
+fn fills_the_largest_rooms(rt: HostRuntime) {
+    let word = long_word(&rt, rt.alloc(), 1431);
+    let list = byte_list::<1431>(word.as_str()).expect(&rt, "a detail");
+    assert_eq!(rt; list.len(), 1431);
+    let longer = long_word(&rt, rt.alloc(), 1432);
+    assert!(rt; byte_list::<1431>(longer.as_str()).is_none());
+    let list = byte_list::<1432>(longer.as_str()).expect(&rt, "states");
+    assert_eq!(rt; list.len(), 1432);
+    let longest = long_word(&rt, rt.alloc(), 1433);
+    assert!(rt; byte_list::<1432>(longest.as_str()).is_none());
 }
 
 #[test]
@@ -154,59 +162,67 @@ fn other_words_are_no_records(rt: HostRuntime) {
     }
 }
 
-#[test]
-fn prints_words(rt: HostRuntime) -> Result<(), Fail> {
-    let alloc = rt.alloc();
-    let card = [0x0A, 0x0B, 0x0C, 0x40];
-    let raw = format!(in alloc; "RAW {} {} {} {}", 0, 0, 26, ByteList(&card))?;
-    assert_eq!(rt; raw.as_str(), "RAW 0 0 26 0A0B0C40");
-    let status = format!(in alloc; "ISTATR {}", ByteList(&[]))?;
-    assert_eq!(rt; status.as_str(), "ISTATR none");
-    let maker = format!(in alloc; "MFG {} {}", ByteList(&[0x53, 0x49, 0x4D]), ByteList(&[1]))?;
-    assert_eq!(rt; maker.as_str(), "MFG 53494D 01");
-    let all = format!(in alloc; "{}", ByteList(&[0, 9, 0x90, 0xAF, 0xFA, 0xFF]))?;
-    assert_eq!(rt; all.as_str(), "000990AFFAFF");
-    let led = format!(in alloc; "LED {}", Record(&[0, 0, 2, 5, 5, 1, 0, 30, 1, 1, 0, 2, 0]))?;
-    assert_eq!(rt; led.as_str(), "LED 0:0:2:5:5:1:0:30:1:1:0:2:0");
-    let capabilities = format!(in alloc; "PDCAP {} {}", Record(&[2, 1, 8]), Record(&[8, 1, 0]))?;
-    assert_eq!(rt; capabilities.as_str(), "PDCAP 2:1:8 8:1:0");
-    assert_eq!(rt;
-        format!(in alloc; "{}", Record(&[65535]))?.as_str(),
-        "65535"
-    );
-    Ok(())
+/// The value is printed so.
+fn is_printed(rt: &impl Abort, alloc: Global, word: &impl Display, text: &str) {
+    let printed = word.to_string(alloc).ok().expect(rt, "memory for a text");
+    assert_eq!(rt; printed.as_str(), text);
 }
 
 #[test]
-fn takes_words(rt: HostRuntime) -> Result<(), Fail> {
+fn prints_lists_of_bytes(rt: HostRuntime) {
+    let alloc = rt.alloc();
+    is_printed(&rt, alloc, &ByteList(&CARD), "0A0B0C40");
+    is_printed(&rt, alloc, &ByteList(&[]), "none");
+    is_printed(&rt, alloc, &ByteList(&[1]), "01");
+    is_printed(
+        &rt,
+        alloc,
+        &ByteList(&[0, 9, 0x90, 0xAF, 0xFA, 0xFF]),
+        "000990AFFAFF",
+    );
+}
+
+#[test]
+fn prints_records(rt: HostRuntime) {
+    let alloc = rt.alloc();
+    let largest = "255:255:255:255:255:255:255:65535:255:255:255:255:255";
+    is_printed(&rt, alloc, &Record(&LED), largest);
+    is_printed(&rt, alloc, &Record(&[2, 1, 8]), "2:1:8");
+    is_printed(&rt, alloc, &Record(&[0, 10, 0]), "0:10:0");
+    is_printed(&rt, alloc, &Record(&[65535]), "65535");
+}
+
+#[test]
+fn takes_words(rt: HostRuntime) {
     let words = ["PDID", "53494D", "1", "2", "4294967295", "1", "0", "9"];
     let mut fields = Fields::new(&words);
-    assert_eq!(rt; fields.word().ok_or("a name")?, "PDID");
+    assert_eq!(rt; fields.word(), Some("PDID"));
     assert_eq!(rt; fields.vendor(), Some([0x53, 0x49, 0x4D]));
     assert_eq!(rt; fields.numbers_u8(), Some([1, 2]));
     assert_eq!(rt; fields.number_u32(), Some(4_294_967_295));
     assert!(rt; !fields.is_empty());
     assert_eq!(rt; fields.numbers_u8(), Some([1, 0, 9]));
     assert!(rt; fields.is_empty());
-    assert!(rt; fields.word().is_none());
+    assert_eq!(rt; fields.word(), None);
     assert_eq!(rt; fields.number_u8(), None);
-    Ok(())
 }
 
 #[test]
-fn takes_words_of_each_kind(rt: HostRuntime) -> Result<(), Fail> {
+fn takes_words_of_each_kind(rt: HostRuntime) {
     let words = ["0", "1", "26", "0a", "0:2:0"];
     let mut fields = Fields::new(&words);
     assert_eq!(rt; fields.numbers_u8::<0>(), Some([]));
     assert_eq!(rt; fields.numbers_u8::<2>(), Some([0, 1]));
     assert_eq!(rt; fields.number_u16(), Some(26));
-    let list = fields.byte_list::<1>().ok_or("a byte")?;
+    let list = fields.byte_list::<1>().expect(&rt, "a byte");
     assert_eq!(rt; list.as_slice(), [10].as_slice());
     assert_eq!(rt; fields.record(&OUTPUT), Some([0, 2, 0]));
     assert!(rt; fields.is_empty());
+}
 
+#[test]
+fn takes_numbers_that_are_there_alone(rt: HostRuntime) {
     let words = ["1", "2", "256"];
     assert_eq!(rt; Fields::new(&words).numbers_u8::<3>(), None);
     assert_eq!(rt; Fields::new(&words).numbers_u8::<4>(), None);
-    Ok(())
 }

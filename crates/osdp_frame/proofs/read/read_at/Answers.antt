@@ -3,8 +3,7 @@ use Rattle.std.proofs.lemmas.List.{take_rest, length-drop}
 use Rattle.osdp_frame.specs.First.{part_in}
 use Rattle.osdp_frame.specs.Reading.{Stands}
 use Rattle.osdp_frame.specs.Shown.{part_read}
-use Rattle.osdp_frame.proofs.Decided.{first_decided, stands_first, undecided_none}
-use Rattle.osdp_frame.proofs.Readings.{undecided_ended}
+use Rattle.osdp_frame.proofs.Decided.{first_decided, stands_first, undecided_none, undecided_ended}
 use Rattle.osdp_frame.proofs.read.read_at.Goals as goal
 
 pub unreachable-requires : goal.unreachable-requires

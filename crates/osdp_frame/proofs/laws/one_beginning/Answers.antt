@@ -1,5 +1,0 @@
-use Rattle.osdp_frame.proofs.Spelled.{same_beginning}
-use Rattle.osdp_frame.proofs.laws.one_beginning.Goals as goal
-
-pub returns : goal.returns
-returns c = λ p q a b x y s t e. same_beginning p q a b x y s t e

@@ -1,5 +1,0 @@
-use Rattle.osdp_frame.proofs.LawsOfSpellings.{IsReading-Spells}
-use Rattle.osdp_frame.proofs.laws.reading_of_spelling.Goals as goal
-
-pub returns : goal.returns
-returns c = λ p bytes s. IsReading-Spells p bytes s

@@ -1,8 +1,0 @@
-use Rattle.osdp_frame.proofs.Calls.{new_behind, reads_on}
-use Rattle.osdp_frame.proofs.laws.reads_on.Goals as goal
-
-pub returns-clause-new : goal.returns-clause-new
-returns-clause-new c = new_behind
-
-pub returns-clause-behind : goal.returns-clause-behind
-returns-clause-behind c = reads_on

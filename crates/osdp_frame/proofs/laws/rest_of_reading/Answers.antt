@@ -1,5 +1,0 @@
-use Rattle.osdp_frame.proofs.Readings.{reading_behind}
-use Rattle.osdp_frame.proofs.laws.rest_of_reading.Goals as goal
-
-pub returns : goal.returns
-returns c = λ run front back r. reading_behind run front back r

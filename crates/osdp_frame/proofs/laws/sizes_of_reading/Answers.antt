@@ -1,5 +1,0 @@
-use Rattle.osdp_frame.proofs.Readings.{sizes_reading}
-use Rattle.osdp_frame.proofs.laws.sizes_of_reading.Goals as goal
-
-pub returns : goal.returns
-returns c = λ run parts r. sizes_reading run parts r

@@ -1,5 +1,0 @@
-use Rattle.osdp_frame.proofs.LawsOfSpellings.{AreBytes-Spells}
-use Rattle.osdp_frame.proofs.laws.spelling_of_bytes.Goals as goal
-
-pub returns : goal.returns
-returns c = λ p bytes s. AreBytes-Spells p bytes s

@@ -1,0 +1,3 @@
+pub mod LawsOfSpellings
+pub mod Readings
+pub mod Calls

@@ -1,0 +1,123 @@
+//! What packets and readings are, said apart from how they are computed. The functions do nothing:
+//! their contracts are laws.
+#![tactic(auto)]
+
+ghost use Rattle.std.specs.Prelude.{◌≡◌, ◌↔◌, ℕ, ◌<◌, ◌≤◌, All, Bool, IsTrue, true, false, List, [], ◌∷◌, ◌++◌, length, drop, Option, Some, None};
+ghost use Rattle.byteorder.specs.Endian.{little_number};
+ghost use Rattle.osdp_frame.specs.Bytes.{AreBytes};
+ghost use Rattle.osdp_frame.specs.Packet.{IsPacket, Packet, largest};
+ghost use Rattle.osdp_frame.specs.Spelling.{Spells, spelling};
+ghost use Rattle.osdp_frame.specs.Reading.{IsFirst, IsReading, IsUndecided, Part, Stands, Whole, total_size};
+ghost use Rattle.osdp_frame_laws.specs.Calls.{Call, IsBehind, IsOfBytes, ReadsEachRun, ReadsOn, Run, after_call, empty_run};
+ghost use Rattle.osdp_frame.specs.Held.{Held, after_push, decided, new_run, taken_count};
+ghost use Rattle.osdp_frame.specs.Items.{Drains, items, left_over, reading};
+
+/// A packet has one spelling, and what is no packet has none.
+pub fn one_spelling()
+    ensures { (p : Packet) (bytes : List ℕ) → Spells p bytes ↔ (IsPacket p × (bytes ≡ spelling p)) }
+{}
+
+/// A spelling is a list of bytes.
+pub fn spelling_of_bytes()
+    ensures { (p : Packet) (bytes : List ℕ) → Spells p bytes → AreBytes bytes }
+{}
+
+/// No spelling begins another, and one spelling is of one packet.
+pub fn one_beginning()
+    ensures { (p q : Packet) (a b x y : List ℕ) → Spells p a → Spells q b → a ++ x ≡ b ++ y
+        → (a ≡ b) × (p ≡ q) }
+{}
+
+/// Two bytes, or four, that are the same number with the low byte first are the same bytes.
+pub fn one_number()
+    ensures two { (a b : List ℕ) → AreBytes a → AreBytes b → length a ≡ 2 → length b ≡ 2
+        → little_number 2 a ≡ little_number 2 b → a ≡ b }
+    ensures four { (a b : List ℕ) → AreBytes a → AreBytes b → length a ≡ 4 → length b ≡ 4
+        → little_number 4 a ≡ little_number 4 b → a ≡ b }
+{}
+
+/// At most one item stands first in the rest of a run, and each rest has one.
+pub fn one_item()
+    ensures one { (rest : List ℕ) (a b : Part) → Stands rest a → Stands rest b → a ≡ b }
+    ensures some { (b : ℕ) (rest : List ℕ) → AreBytes (b ∷ rest) → (part : Part) × Stands (b ∷ rest) part }
+{}
+
+/// Each run of bytes has exactly one reading.
+pub fn one_reading()
+    ensures one { (run : List ℕ) (xs ys : List Part) → IsReading run xs → IsReading run ys → xs ≡ ys }
+    ensures some { (run : List ℕ) → AreBytes run → IsReading run (reading run) }
+{}
+
+/// The sizes of the items add up to the length of the run.
+pub fn sizes_of_reading()
+    ensures { (run : List ℕ) (parts : List Part) → IsReading run parts → total_size parts ≡ length run }
+{}
+
+/// A reading goes on from each place by the rest alone.
+pub fn rest_of_reading()
+    ensures { (run : List ℕ) (front back : List Part) → IsReading run (front ++ back)
+        → IsReading (drop (total_size front) run) back }
+{}
+
+/// A run that is a spelling is read as its packet alone.
+pub fn reading_of_spelling()
+    ensures { (p : Packet) (bytes : List ℕ) → Spells p bytes → IsReading bytes (Whole p ∷ []) }
+{}
+
+/// Bytes decide the first item exactly where it stands first in every run that begins with them, or in
+/// the run that is them; else it depends on bytes to come.
+pub fn first_item_decided()
+    ensures some { (ended : Bool) (bytes : List ℕ) (part : Part) → AreBytes bytes
+        → (decided ended bytes ≡ Some part) ↔ IsFirst ended bytes part }
+    ensures none { (ended : Bool) (bytes : List ℕ) → AreBytes bytes
+        → (decided ended bytes ≡ None) ↔ IsUndecided ended bytes }
+{}
+
+/// A run that comes in pieces has the items that the first piece decides, and then those of what this
+/// leaves with the rest. Nothing that is left is decided.
+pub fn items_in_pieces()
+    ensures items { (ended : Bool) (bytes more : List ℕ) → AreBytes (bytes ++ more)
+        → items ended (bytes ++ more) ≡ items false bytes ++ items ended (left_over bytes ++ more) }
+    ensures left { (bytes : List ℕ) → AreBytes bytes → IsUndecided false (left_over bytes) }
+{}
+
+/// A caller who takes off what is shown until nothing is sees the reading of a run that has ended, and
+/// in a run that goes on a beginning of the reading of all that it may become.
+pub fn items_taken_off()
+    ensures ended { (run : List ℕ) (parts : List Part) → Drains true run parts ↔ IsReading run parts }
+    ensures items { (ended : Bool) (bytes : List ℕ) (parts : List Part) → AreBytes bytes
+        → Drains ended bytes parts → parts ≡ items ended bytes }
+    ensures beginning { (bytes more : List ℕ) (parts all : List Part) → AreBytes (bytes ++ more)
+        → Drains false bytes parts → IsReading (bytes ++ more) all
+        → (others : List Part) × (all ≡ parts ++ others) }
+{}
+
+/// Whatever is called: what is held stands behind the items that were taken off the run, until the run is over.
+/// Its items are then its one reading, and a new run begins.
+pub fn reads_on()
+    ensures new { IsBehind new_run empty_run }
+    ensures behind { (call : Call) (held : Held) (run : Run) → IsBehind held run → AreBytes run.bytes
+        → ReadsOn call held run }
+{}
+
+/// Whatever bytes, gaps and advances come to a new framer: the bytes that it takes in are those of its runs, and the items
+/// of each run that is over are its one reading. Those that were taken off the last run begin the reading of all that it
+/// may become.
+pub fn reads_each_run()
+    ensures each { (calls : List Call) → All IsOfBytes calls → ReadsEachRun calls }
+    ensures beginning { (held : Held) (run : Run) (more : List ℕ) (all : List Part) → IsBehind held run
+        → AreBytes (run.bytes ++ more) → (IsTrue run.ended → more ≡ []) → IsReading (run.bytes ++ more) all
+        → (others : List Part) × (all ≡ run.parts ++ others) × IsReading (held.bytes ++ more) others }
+{}
+
+/// No more bytes than 1440 are held. A push in a run that goes on takes as many bytes as there is room for, and where
+/// no item is shown it takes one or more.
+pub fn takes_what_fits()
+    ensures count { (held : Held) (given : List ℕ) → taken_count held given ≤ length given }
+    ensures room { (call : Call) (held : Held) → length held.bytes ≤ largest
+        → length (after_call call held).bytes ≤ largest }
+    ensures all { (held : Held) (given : List ℕ) → held.ended ≡ false → length held.bytes ≤ largest
+        → taken_count held given < length given → length (after_push held given).bytes ≡ largest }
+    ensures some { (held : Held) (run : Run) (b : ℕ) (given : List ℕ) → IsBehind held run → AreBytes run.bytes
+        → decided held.ended held.bytes ≡ None → 0 < taken_count held (b ∷ given) }
+{}

@@ -1,0 +1,9 @@
+//! The theory of one link, of a handler as a reader maker writes it.
+
+use osdp_door::Door;
+
+/// What holds of each session holds with a door as the reader.
+#[test]
+fn a_session_holds_with_a_door(_rt: HostRuntime) {
+    osdp_link::holds_once::<Door>();
+}

@@ -1,5 +1,0 @@
-use Rattle.osdp_msg.proofs.OtherLaws.{low_byte_first}
-use Rattle.osdp_msg.proofs.laws.numbers_have_low_byte_first.Goals as goal
-
-pub returns : goal.returns
-returns c = low_byte_first

@@ -1,8 +1,0 @@
-use Rattle.osdp_msg.proofs.Replies.{replies_one_spelling, replies_one_value}
-use Rattle.osdp_msg.proofs.laws.replies_are_unique.Goals as goal
-
-pub returns-clause-value : goal.returns-clause-value
-returns-clause-value c = replies_one_value
-
-pub returns-clause-spelling : goal.returns-clause-spelling
-returns-clause-spelling c = replies_one_spelling

@@ -1,5 +1,0 @@
-use Rattle.osdp_msg.proofs.OtherLaws.{fits_by_kind}
-use Rattle.osdp_msg.proofs.laws.replies_fit_by_kind.Goals as goal
-
-pub returns : goal.returns
-returns c = fits_by_kind

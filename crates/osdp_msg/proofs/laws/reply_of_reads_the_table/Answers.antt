@@ -1,8 +1,0 @@
-use Rattle.osdp_msg.proofs.Replies.{reply_faults, reply_reads}
-use Rattle.osdp_msg.proofs.laws.reply_of_reads_the_table.Goals as goal
-
-pub returns-clause-values : goal.returns-clause-values
-returns-clause-values c = reply_reads
-
-pub returns-clause-faults : goal.returns-clause-faults
-returns-clause-faults c = reply_faults

@@ -1,0 +1,52 @@
+-- Laws of numbers in bytes, and of the replies that fit.
+use Rattle.std.proofs.Common.{◌≡◌, ◌<◌, ◌+◌, ◌*◌, ℕ, true, false, [], ◌∷◌, refl, ap, ◌∙◌, arith}
+use Rattle.byteorder.specs.Endian.{little_bytes}
+use Rattle.osdp_msg.specs.declared.command.Command.{Command}
+use Rattle.osdp_msg.specs.declared.command.Command.TheVariants.{Poll, Id, Cap, LocalStatus, InputStatus, OutputStatus, ReaderStatus, Output, Led, Buzzer, Text, Comset, Maker}
+use Rattle.osdp_msg.specs.declared.event.Event.{Event}
+use Rattle.osdp_msg.specs.declared.event.Event.TheVariants as events
+use Rattle.osdp_msg.specs.declared.reply.Reply.TheVariants.{Busy}
+use Rattle.osdp_msg.specs.Events.{event_reply}
+use Rattle.osdp_msg.specs.Fitting.{reply_fits}
+use Rattle.osdp_msg_laws.specs.Laws.{FitsByKind, HasLowByteFirst}
+use Rattle.osdp_msg.proofs.Bytes.{number_2, number_4}
+
+two_bytes : (a b : ℕ) → a < 256 → b < 256 → little_bytes 2 (a + 256 * b) ≡ a ∷ b ∷ []
+two_bytes a b ha hb =
+    let e : a + 256 * b ≡ a + 256 * (b + 0) = omega arith in
+    ap (little_bytes 2) e ∙ number_2 a b ha hb
+
+four_bytes : (a b c d : ℕ) → a < 256 → b < 256 → c < 256 → d < 256 → little_bytes 4 (a + 256 * b + 65536 * c + 16777216 * d) ≡ a ∷ b ∷ c ∷ d ∷ []
+four_bytes a b c d ha hb hc hd =
+    let e : a + 256 * b + 65536 * c + 16777216 * d ≡ a + 256 * (b + 256 * (c + 256 * (d + 0))) = omega arith in
+    ap (little_bytes 4) e ∙ number_4 a b c d ha hb hc hd
+
+pub low_byte_first : HasLowByteFirst
+low_byte_first = (two_bytes, four_bytes)
+
+busy_never : (m : Command) → reply_fits m Busy ≡ false
+busy_never Poll = refl
+busy_never (Id kept) = refl
+busy_never (Cap kept) = refl
+busy_never LocalStatus = refl
+busy_never InputStatus = refl
+busy_never OutputStatus = refl
+busy_never ReaderStatus = refl
+busy_never (Output rs) = refl
+busy_never (Led rs) = refl
+busy_never (Buzzer b) = refl
+busy_never (Text t) = refl
+busy_never (Comset c) = refl
+busy_never (Maker m) = refl
+
+event_polled : (e : Event) → reply_fits Poll (event_reply e) ≡ true
+event_polled (events.LocalState s) = refl
+event_polled (events.Inputs states) = refl
+event_polled (events.Outputs states) = refl
+event_polled (events.Readers states) = refl
+event_polled (events.Raw r) = refl
+event_polled (events.Formatted f) = refl
+event_polled (events.Keypad k) = refl
+
+pub fits_by_kind : FitsByKind
+fits_by_kind = record { nak = λ m n. refl; busy = busy_never; event = event_polled }

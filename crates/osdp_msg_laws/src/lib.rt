@@ -1,0 +1,84 @@
+//! What the tables of messages and their texts mean, said apart from how they are computed. The functions do nothing:
+//! their contracts are laws.
+#![tactic(auto)]
+
+ghost use Rattle.osdp_msg.specs.CommandTable.{CommandFits, IsCommand, command_fault, command_of};
+ghost use Rattle.osdp_msg.specs.CommandText.{command_text, command_words};
+ghost use Rattle.osdp_msg.specs.ReplyTable.{ReplyFits, IsReply, reply_fault, reply_of};
+ghost use Rattle.osdp_msg.specs.ReplyText.{reply_text, reply_words};
+ghost use Rattle.osdp_msg_laws.specs.Laws.{ReadsTheTable, ReadsTheFaults, HasOneValue, HasOneSpelling, FitsAPacket, JoinsItsWords, HasOneMeaning, HasOneText, HasOneNumber, HasLowByteFirst, FitsByKind};
+
+/// Reading a code and data as a command follows the table of commands, and its refusals.
+pub fn command_of_reads_the_table()
+    ensures values { ReadsTheTable IsCommand command_of }
+    ensures faults { ReadsTheFaults command_fault command_of }
+{}
+
+/// A code and data stand for one command at most, and a command has one code and data.
+pub fn commands_are_unique()
+    ensures value { HasOneValue IsCommand }
+    ensures spelling { HasOneSpelling IsCommand }
+{}
+
+/// Every command has room in a packet.
+pub fn commands_fit_a_packet()
+    ensures { FitsAPacket IsCommand }
+{}
+
+/// A command's text is its words, joined by single spaces.
+pub fn command_text_joins_words()
+    ensures { JoinsItsWords command_words command_text }
+{
+    osdp_words::joins_by_spaces();
+}
+
+/// Words stand for one command at most, and two commands with one text are the same.
+pub fn command_texts_are_unique()
+    ensures words { HasOneMeaning CommandFits command_words }
+    ensures text { HasOneText CommandFits command_text }
+{}
+
+/// Reading a code and data as a reply follows the table of replies, and its refusals.
+pub fn reply_of_reads_the_table()
+    ensures values { ReadsTheTable IsReply reply_of }
+    ensures faults { ReadsTheFaults reply_fault reply_of }
+{}
+
+/// A code and data stand for one reply at most, and a reply has one code and data.
+pub fn replies_are_unique()
+    ensures value { HasOneValue IsReply }
+    ensures spelling { HasOneSpelling IsReply }
+{}
+
+/// Every reply has room in a packet.
+pub fn replies_fit_a_packet()
+    ensures { FitsAPacket IsReply }
+{}
+
+/// A reply's text is its words, joined by single spaces.
+pub fn reply_text_joins_words()
+    ensures { JoinsItsWords reply_words reply_text }
+{
+    osdp_words::joins_by_spaces();
+}
+
+/// Words stand for one reply at most, and two replies with one text are the same.
+pub fn reply_texts_are_unique()
+    ensures words { HasOneMeaning ReplyFits reply_words }
+    ensures text { HasOneText ReplyFits reply_text }
+{}
+
+/// A number is that of one reason, and a reason has one number.
+pub fn reasons_are_unique()
+    ensures { HasOneNumber }
+{}
+
+/// A number of two or four bytes has its low byte first.
+pub fn numbers_have_low_byte_first()
+    ensures { HasLowByteFirst }
+{}
+
+/// NAK fits every command and BUSY none, and every event fits a POLL.
+pub fn replies_fit_by_kind()
+    ensures { FitsByKind }
+{}
