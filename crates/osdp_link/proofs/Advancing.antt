@@ -31,7 +31,7 @@ use Rattle.osdp_link.proofs.Accounts.{one_more_answer, one_more_command}
 use Rattle.osdp_link.proofs.Acting.{kind_next, kind_zero, moved_acted, moved_keeps, no_event, polled, released_past, same_answer, taken_is}
 use Rattle.osdp_link.proofs.Lines.{both, each_append, runs_first}
 use Rattle.osdp_link.proofs.Numbers.{next_above_zero}
-use Rattle.osdp_link.proofs.Stages.{Accounts, After, Answering, Behind, Each, HasActed, IsFrame, Level, Says, SaysOld, Stage, Start, ToControllerAt, answer, frame}
+use Rattle.osdp_link.proofs.Stages.{Accounts, After, Answering, Behind, Each, HasActed, IsFrame, Level, Says, SaysOld, Stage, Start, ToControllerAt, answer, frame, given_up}
 use Rattle.osdp_link.proofs.Parts.{At}
 use Rattle.osdp_link.proofs.Taking.{away, gets_by, says}
 
@@ -131,6 +131,7 @@ module _ (fixed : ControllerConfig) {H : Type 0} (answer_of : H → Command → 
           account = record {
             issued = h.account.issued;
             settled = h.account.settled;
+            unsettled = h.account.unsettled;
             told = released_past y b l.account.queued l.account.reported l.reader.queue h.reader.offer h.account.told;
           };
         },
@@ -153,7 +154,8 @@ module _ (fixed : ControllerConfig) {H : Type 0} (answer_of : H → Command → 
   asked_account : (n : ℕ) (y : Exchange) (b : Reply) (c : Command) (l : Link H) → MaySubmit c
       → At fixed answer_of after settings first (Behind (After n y b) (Asking c)) l
       → let a = answer_to answer_of after l.reader.config l.reader.handler c in
-      Accounts fixed answer_of after settings first [] ((c, a.reply) ∷ []) [] l.controller.waiting (released l.reader.queue).events
+      Accounts fixed answer_of after settings first [] ((c, a.reply) ∷ []) (given_up l.controller.session.state (Asking c)) [] l.controller.waiting
+      (released l.reader.queue).events
       (record l.account { taken = l.account.taken ++ c ∷ [] })
   asked_account n y b c l may h =
       let behind = handler_behind answer_of after settings first l.account.taken in
@@ -166,6 +168,7 @@ module _ (fixed : ControllerConfig) {H : Type 0} (answer_of : H → Command → 
             (sym (append-nil l.account.settled) ∙ h.account.settled)
             ∙ ap (λ a. with_answers answer_of after settings first l.account.taken ++ (c, a.reply) ∷ []) same
             ∙ sym (one_more_answer answer_of after settings first l.account.taken c);
+        unsettled = h.account.unsettled;
         told = released_past y b l.account.queued l.account.reported l.reader.queue h.reader.offer h.account.told;
       }
 
@@ -227,7 +230,7 @@ module _ (fixed : ControllerConfig) {H : Type 0} (answer_of : H → Command → 
               answering = asked_answering n y b m c l h;
               to_reader = frames;
               to_controller = runs_first (SaysOld fixed (After n y b)) (Says fixed m a.reply) l.to_controller (answer fixed m a.reply ∷ []) h.to_controller (inr refl, tt);
-              account = subst (λ events. Accounts fixed answer_of after settings first [] ((c, a.reply) ∷ []) [] l.controller.waiting events
+              account = subst (λ events. Accounts fixed answer_of after settings first [] ((c, a.reply) ∷ []) (given_up l.controller.session.state (Asking c)) [] l.controller.waiting events
                   (record l.account { taken = l.account.taken ++ c ∷ [] }))
                   (sym (moved_keeps fixed (λ config queue handler. queue.events ≡ (released l.reader.queue).events) (new_address c)
                   (record l.reader { last = Some m; stored = Some (answer fixed m a.reply); queue = offering None (released l.reader.queue); handler = a.handler })

@@ -16,7 +16,6 @@ use Rattle.osdp_controller.specs.declared.answer.Answer.TheVariants.{NotTaken, P
 use Rattle.osdp_controller.specs.declared.config.ControllerConfig.{ControllerConfig}
 use Rattle.osdp_controller.specs.declared.exchange.Exchange.{Exchange}
 use Rattle.osdp_controller.specs.declared.exchange.Exchange.TheVariants.{Opening, Polling, Asking}
-use Rattle.osdp_controller.specs.declared.session.Session.{Session}
 use Rattle.osdp_reader.specs.declared.config.ReaderConfig.{ReaderConfig}
 use Rattle.osdp_reader.specs.declared.handler.Answer.{Answer}
 use Rattle.osdp_reader.specs.Table as reader
@@ -24,12 +23,13 @@ use Rattle.osdp_reader_laws.specs.Laws.{IsPlain}
 use Rattle.osdp_link.specs.Headline.{SaysWhatFitsIf}
 use Rattle.osdp_link.specs.Link as link
 use Rattle.osdp_link.specs.Link.{Account, Delivered, Delivery, Link, Lost, Repeated, told}
+use Rattle.osdp_link.specs.Peers.{IsPlainlySaid}
 use Rattle.osdp_link.proofs.Advancing.{HoldsAtSomeStage, SaysWell, advances, opens}
-use Rattle.osdp_link.proofs.Hearing.{Ignored, Settles, hears_answer, hears_other, hears_resting, settled_by}
-use Rattle.osdp_link.proofs.Lines.{each_append, runs_append}
+use Rattle.osdp_link.proofs.Hearing.{Settles, hears_answer, hears_other, hears_resting, settled_by}
+use Rattle.osdp_link.proofs.Lines.{each_append, each_map, runs_append, runs_each}
 use Rattle.osdp_link.proofs.Moves.{Premises, asked_fits, runs_last}
 use Rattle.osdp_link.proofs.Numbers.{next_differs}
-use Rattle.osdp_link.proofs.Stages.{Accounts, Acted, After, Answering, Asks, Behind, ControllerAt, Each, Fresh, IsFrame, IsOldFrame, IsPast, Level, Past, Rest, Says, SaysOld, Stage, Start, ToControllerAt, ToReaderAt, answer, frame, number_after, owed, shown}
+use Rattle.osdp_link.proofs.Stages.{Accounts, Acted, After, Answering, Behind, ControllerAt, Each, Fresh, IsFrame, IsOldFrame, IsPast, Level, Past, Rest, Says, SaysOld, Stage, Start, ToControllerAt, ToReaderAt, answer, frame, given_up, given_up_at, number_after, owed, shown}
 use Rattle.osdp_link.proofs.Parts.{At, with_session, with_to_controller, with_to_reader}
 use Rattle.osdp_link.proofs.Taking.{again}
 
@@ -156,22 +156,42 @@ module _ (fixed : ControllerConfig) {H : Type 0} (answer_of : H → Command → 
   old_is given (After n y b) p acted (inr is) =
       inr ((λ same. next_differs n (sym same ∙ ap (λ q. q.sequence) is)), (b, plain_is given n y b p acted is))
 
-  -- a packet that changes no account
-  passed_over : (at : Stage) (n : ℕ) (x : Exchange) (now : ℕ) (p : Packet) (l : Link H) → Ignored fixed n x (controller.hears p now l.controller.session)
-      → ((s : Session) → Asks fixed s.state n x s → ControllerAt fixed at s) → AtStage at l → AtStage at (link.controller_gets p now l)
-  passed_over at n x now p l (quiet, asks) stands h =
+  -- .. and what stands anywhere on the line
+  said : Assumed → (n : ℕ) (x : Exchange) (a : Reply) → Acted settings.id n x a → (p : Packet) → Says fixed n a p → IsPlainlySaid p
+  said given n x a acted p (inl busy) = inl (busy_is given p busy)
+  said given n x a acted p (inr is) = inr (a, plain_is given n x a p acted is)
+
+  said_before : Assumed → (past : Past) → IsPast settings.id past → (p : Packet) → SaysOld fixed past p → IsPlainlySaid p
+  said_before given Start acted p is = inl (busy_is given p is)
+  said_before given (After n y b) acted p is = said given n y b acted p is
+
+  pub all_said : Assumed → (at : Stage) (l : Link H) → AtStage at l → Each IsPlainlySaid l.to_controller
+  all_said given Fresh l h = subst (Each IsPlainlySaid) (sym h.to_controller) tt
+  all_said given (Behind past x) l h =
+      each_map (SaysOld fixed past) IsPlainlySaid (said_before given past h.stage.0) l.to_controller h.to_controller
+  all_said given (Level past x a) l h =
+      runs_each (SaysOld fixed past) (Says fixed (number_after past) a) IsPlainlySaid (said_before given past h.stage.0)
+      (said given (number_after past) x a h.stage.2) l.to_controller h.to_controller
+  all_said given (Rest n x a) l h = each_map (Says fixed n a) IsPlainlySaid (said given n x a h.stage) l.to_controller h.to_controller
+
+  -- a packet that settles nothing
+  passed_over : (at : Stage) (now : ℕ) (p : Packet) (l : Link H) → let heard = controller.hears p now l.controller.session in
+      told heard.report l.account ≡ record l.account { unsettled = given_up_at at heard.session.state } → ControllerAt fixed at heard.session
+      → AtStage at l → AtStage at (link.controller_gets p now l)
+  passed_over at now p l says stands h =
       let s = (controller.hears p now l.controller.session).session in
-      subst (λ a. AtStage at (record l { controller = record l.controller { session = s }; account = a })) (sym (quiet l.account))
-      (with_session fixed answer_of after settings first at l s h (stands s asks))
+      subst (λ a. AtStage at (record l { controller = record l.controller { session = s }; account = a })) (sym says)
+      (with_session fixed answer_of after settings first at l s h stands)
 
   -- the answer comes
   settled_account : (x : Exchange) (a : Reply) (waiting : List Command) (events : List Event) (t : Account)
-      → Accounts fixed answer_of after settings first [] (owed x a) [] waiting events t
-      → Accounts fixed answer_of after settings first [] [] (shown x a) waiting events (settled_by fixed x a t)
+      → Accounts fixed answer_of after settings first [] (owed x a) [] [] waiting events t
+      → Accounts fixed answer_of after settings first [] [] [] (shown x a) waiting events (settled_by fixed x a t)
   settled_account Opening a waiting events t is = is
   settled_account Polling a waiting events t is = record {
     issued = is.issued;
     settled = is.settled;
+    unsettled = is.unsettled;
     told = (
       is.told.0,
       is.told.1,
@@ -181,6 +201,7 @@ module _ (fixed : ControllerConfig) {H : Type 0} (answer_of : H → Command → 
   settled_account (Asking c) a waiting events t is = record {
     issued = is.issued;
     settled = append-nil (t.settled ++ (c, a) ∷ []) ∙ is.settled;
+    unsettled = is.unsettled;
     told = is.told;
   }
 
@@ -189,11 +210,11 @@ module _ (fixed : ControllerConfig) {H : Type 0} (answer_of : H → Command → 
   settles_no_taking Polling a t = refl
   settles_no_taking (Asking c) a t = refl
 
-  settles : (past : Past) (x : Exchange) (a : Reply) (now : ℕ) (p : Packet) (l : Link H) → AtStage (Level past x a) l
+  settles : (past : Past) (x : Exchange) (a : Reply) (now : ℕ) (p : Packet) (l : Link H) → given_up l.controller.session.state x ≡ [] → AtStage (Level past x a) l
       → Settles fixed (number_after past) x a (controller.hears p now l.controller.session)
       → Each (Says fixed (number_after past) a) l.to_controller
       → AtStage (Rest (number_after past) x a) (link.controller_gets p now l)
-  settles past x a now p l h (settled, rests) line =
+  settles past x a now p l none h (settled, rests) line =
       subst (λ t. AtStage (Rest (number_after past) x a) (record l {
         controller = record l.controller { session = (controller.hears p now l.controller.session).session };
         account = t;
@@ -205,42 +226,32 @@ module _ (fixed : ControllerConfig) {H : Type 0} (answer_of : H → Command → 
         answering = subst (λ cs. Answering fixed answer_of after settings first cs l.reader) (sym (settles_no_taking x a l.account)) h.answering;
         to_reader = h.to_reader;
         to_controller = line;
-        account = settled_account x a l.controller.waiting l.reader.queue.events l.account h.account;
+        account = settled_account x a l.controller.waiting l.reader.queue.events l.account
+            (subst (λ lost. Accounts fixed answer_of after settings first [] (owed x a) lost [] l.controller.waiting l.reader.queue.events l.account) none h.account);
       })
 
   controller_gets : Assumed → (at : Stage) (now : ℕ) (p : Packet) (l : Link H) → AtStage at l → FrontToController at p l
       → AtSomeStage (link.controller_gets p now l)
   controller_gets given Fresh now p l h front = absurd front
-  controller_gets given (Behind past x) now p l h old = (
-    Behind past x,
-    passed_over (Behind past x) (number_after past) x now p l
-        (hears_other fixed p now (number_after past) x l.controller.session (old_is given past p h.stage.0 old) h.controller) (λ s asks. asks) h,
-  )
-  controller_gets given (Level past x a) now p l h (inl old) = (
-    Level past x a,
-    passed_over (Level past x a) (number_after past) x now p l
-        (hears_other fixed p now (number_after past) x l.controller.session (old_is given past p h.stage.0 old) h.controller) (λ s asks. asks) h,
-  )
-  controller_gets given (Level past x a) now p l h (inr (inl busy, line)) = (
-    Level past x a,
-    passed_over (Level past x a) (number_after past) x now p l
-        (hears_other fixed p now (number_after past) x l.controller.session (inl (busy_is given p busy)) h.controller) (λ s asks. asks) h,
-  )
+  controller_gets given (Behind past x) now p l h old =
+      let i = hears_other fixed p now (number_after past) x l.controller.session (old_is given past p h.stage.0 old) h.controller in
+      (Behind past x, passed_over (Behind past x) now p l (i.0 l.account h.account.unsettled) i.1 h)
+  controller_gets given (Level past x a) now p l h (inl old) =
+      let i = hears_other fixed p now (number_after past) x l.controller.session (old_is given past p h.stage.0 old) h.controller in
+      (Level past x a, passed_over (Level past x a) now p l (i.0 l.account h.account.unsettled) i.1 h)
+  controller_gets given (Level past x a) now p l h (inr (inl busy, line)) =
+      let i = hears_other fixed p now (number_after past) x l.controller.session (inl (busy_is given p busy)) h.controller in
+      (Level past x a, passed_over (Level past x a) now p l (i.0 l.account h.account.unsettled) i.1 h)
   controller_gets given (Level past x a) now p l h (inr (inr is, line)) =
       elim (hears_answer fixed settings.id p now (number_after past) x a l.controller.session
       (plain_is given (number_after past) x a p h.stage.2 is) h.stage.2.1 h.controller) [
-        | inl over ↦ (Level past x a, passed_over (Level past x a) (number_after past) x now p l over (λ s asks. asks) h)
-        | inr settled ↦ (Rest (number_after past) x a, settles past x a now p l h settled line)
+        | inl i ↦ (Level past x a, passed_over (Level past x a) now p l (i.0 l.account h.account.unsettled) i.1 h)
+        | inr (none, settled) ↦ (Rest (number_after past) x a, settles past x a now p l none h settled line)
       ]
   controller_gets given (Rest n x a) now p l h front =
-      let heard = hears_resting fixed p now n l.controller.session h.controller in (
-        Rest n x a,
-        subst (λ o. AtStage (Rest n x a) (record l {
-          controller = record l.controller { session = (controller.hears p now l.controller.session).session };
-          account = told o l.account;
-        })) (sym heard.0)
-            (with_session fixed answer_of after settings first (Rest n x a) l (controller.hears p now l.controller.session).session h heard.1),
-      )
+      let heard = hears_resting fixed p now n l.controller.session h.controller in
+      let says = ap (λ o. told o l.account) heard.0 ∙ ap (λ (cs : List Command). record l.account { unsettled = cs }) h.account.unsettled in
+      (Rest n x a, passed_over (Rest n x a) now p l says heard.1 h)
 
   rest_to_controller : (at : Stage) (p : Packet) (ps : List Packet) → ToControllerAt fixed at (p ∷ ps) → ToControllerAt fixed at ps
   rest_to_controller Fresh p ps line = absurd cc

@@ -12,3 +12,6 @@ pub mod Advancing
 pub mod Moves
 pub mod Deliveries
 pub mod Once
+pub mod Sessions
+pub mod Growing
+pub mod InARow

@@ -1,5 +1,5 @@
 -- Lines: what is on the way, the oldest first.
-use Rattle.std.proofs.Common.{Bool, true, false, cond, suc, All, arith, List, [], ◌∷◌, ◌++◌, inl, inr}
+use Rattle.std.proofs.Common.{Bool, true, false, cond, zero, suc, All, arith, List, [], ◌∷◌, ◌++◌, inl, inr}
 use Rattle.osdp_frame.specs.Packet.{Packet}
 use Rattle.osdp_link.proofs.Stages.{Each, Runs}
 
@@ -14,6 +14,17 @@ each_map P Q f (x ∷ xs) all = (f x all.0, each_map P Q f xs all.1)
 pub each_of : {A : Type 0} (P : A → Type 0) (xs : List A) → All P xs → Each P xs
 each_of P [] all = tt
 each_of P (x ∷ xs) all = (all 0 x (omega arith), each_of P xs (λ k d lt. all (suc k) d (omega (arith, lt))))
+
+pub each_all : {A : Type 0} (P : A → Type 0) (xs : List A) → Each P xs → All P xs
+each_all P [] all k d lt = absurd (omega (arith, lt))
+each_all P (x ∷ xs) all zero d lt = all.0
+each_all P (x ∷ xs) all (suc k) d lt = each_all P xs all.1 k d (omega (arith, lt))
+
+-- what holds of both kinds holds of the line
+pub runs_each : (P Q R : Packet → Type 0) → ((p : Packet) → P p → R p) → ((p : Packet) → Q p → R p) → (ps : List Packet) → Runs P Q ps → Each R ps
+runs_each P Q R f g [] runs = tt
+runs_each P Q R f g (p ∷ ps) (inl first) = (f p first.0, runs_each P Q R f g ps first.1)
+runs_each P Q R f g (p ∷ ps) (inr last) = (g p last.0, each_map Q R g ps last.1)
 
 pub runs_append : (P Q : Packet → Type 0) (ps qs : List Packet) → Runs P Q ps → Each Q qs → Runs P Q (ps ++ qs)
 runs_append P Q [] [] runs all = tt

@@ -29,9 +29,9 @@ use Rattle.osdp_link.specs.Link as link
 use Rattle.osdp_link.specs.Link.{Account, Delivered, Delivery, Link, Lost, Move, Queue as QueueEvent, Repeated, SetBusy, Submit, Tick, ToController, ToReader, told}
 use Rattle.osdp_link.proofs.Advancing.{HoldsAtSomeStage}
 use Rattle.osdp_link.proofs.Lines.{each_append, runs_append, runs_first}
-use Rattle.osdp_link.proofs.Stages.{Accounts, After, Asks, Behind, ControllerAt, Each, Fresh, HasActed, IsAsked, IsFrame, IsOldFrame, Level, Offers, OffersEvent, Past, ReaderAt, Rest, Runs, SaysOld, Stage, Start, ToReaderAt, answer, frame, number_after, pending, pending_at, shown}
+use Rattle.osdp_link.proofs.Stages.{Accounts, After, Asks, Behind, ControllerAt, Each, Fresh, HasActed, IsAsked, IsFrame, IsOldFrame, Level, Offers, OffersEvent, Past, ReaderAt, Rest, Runs, SaysOld, Stage, Start, ToReaderAt, answer, frame, given_up, given_up_at, number_after, pending, pending_at, shown}
 use Rattle.osdp_link.proofs.Parts.{At, with_session, with_to_reader}
-use Rattle.osdp_link.proofs.Ticks.{Begun, StillAsks, ticks_asking, ticks_resting, ticks_waiting}
+use Rattle.osdp_link.proofs.Ticks.{Begun, ticks_asking, ticks_resting, ticks_waiting}
 
 pub runs_last : (P Q : Packet → Type 0) (ps : List Packet) → Each Q ps → Runs P Q ps
 runs_last P Q [] all = tt
@@ -111,6 +111,7 @@ module _ (fixed : ControllerConfig) {H : Type 0} (answer_of : H → Command → 
             ∙ append_assoc l.account.taken (pending_at at ++ l.controller.waiting) (c ∷ [])
             ∙ ap (λ all. l.account.taken ++ all) (append_assoc (pending_at at) l.controller.waiting (c ∷ []));
         settled = h.account.settled;
+        unsettled = h.account.unsettled;
         told = h.account.told;
       };
     },
@@ -131,6 +132,7 @@ module _ (fixed : ControllerConfig) {H : Type 0} (answer_of : H → Command → 
       account = record {
         issued = h.account.issued;
         settled = h.account.settled;
+        unsettled = h.account.unsettled;
         told = (
           h.account.told.0,
           ap (λ all. all ++ e ∷ []) h.account.told.1 ∙ append_assoc h.account.told.0 l.reader.queue.events (e ∷ []),
@@ -155,35 +157,31 @@ module _ (fixed : ControllerConfig) {H : Type 0} (answer_of : H → Command → 
     },
   )
 
-  still_asking : (at : Stage) (n : ℕ) (x : Exchange) (t : Ticked) (l : Link H) → StillAsks fixed n x l.controller.waiting t → AtStage at l
-      → (Asks fixed t.session.state n x t.session → ControllerAt fixed at t.session)
-      → ((ps : List Packet) → Each (IsFrame fixed x n) ps → ToReaderAt fixed at (l.to_reader ++ ps))
-      → AtStage at (link.ticked t l)
-  still_asking at n x t l (waits, frames, quiet, asks) h stands grows =
+  -- a tick that begins no exchange
+  ticked_at : (at : Stage) (t : Ticked) (l : Link H) → t.waiting ≡ l.controller.waiting
+      → told t.step.report l.account ≡ record l.account { unsettled = given_up_at at t.session.state } → ControllerAt fixed at t.session
+      → ToReaderAt fixed at (l.to_reader ++ option_to_list t.step.frame) → AtStage at l → AtStage at (link.ticked t l)
+  ticked_at at t l waits says stands line h =
       let ps = l.to_reader ++ option_to_list t.step.frame in
-      let line = with_to_reader fixed answer_of after settings first at l ps h (grows (option_to_list t.step.frame) frames) in
       subst (λ w. AtStage at (record l {
         controller = record l.controller { session = t.session; waiting = w };
-        to_reader = l.to_reader ++ option_to_list t.step.frame;
+        to_reader = ps;
         account = told t.step.report l.account;
       })) (sym waits)
-      (subst (λ a. AtStage at (record l {
-        controller = record l.controller { session = t.session };
-        to_reader = l.to_reader ++ option_to_list t.step.frame;
-        account = a;
-      })) (sym (quiet l.account))
-      (with_session fixed answer_of after settings first at (record l { to_reader = ps }) t.session line (stands asks)))
+      (subst (λ a. AtStage at (record l { controller = record l.controller { session = t.session }; to_reader = ps; account = a })) (sym says)
+      (with_session fixed answer_of after settings first at (record l { to_reader = ps }) t.session
+      (with_to_reader fixed answer_of after settings first at l ps h line) stands))
 
   -- an exchange begins behind another
   begins : (past : Past) (n : ℕ) (t : Ticked) (l : Link H) → n ≡ number_after past → Begun fixed past n l.controller.waiting t
       → ((x : Exchange) (ws : List Command) → IsAsked past x → l.controller.waiting ≡ pending x ++ ws
-      → Asks fixed t.session.state (number_after past) x t.session
+      → given_up t.session.state x ≡ [] → Asks fixed t.session.state (number_after past) x t.session
       → AtStage (Behind past x) (record l {
         controller = record l.controller { session = t.session; waiting = ws };
         to_reader = l.to_reader ++ frame fixed x (number_after past) ∷ [];
       }))
       → AtSomeStage (link.ticked t l)
-  begins past n t l number (x, asked, waits, sent, quiet, asks) put = (
+  begins past n t l number (x, asked, waits, sent, quiet, none, asks) put = (
     Behind past x,
     subst (λ o. AtStage (Behind past x) (record l {
       controller = record l.controller { session = t.session; waiting = t.waiting };
@@ -194,38 +192,26 @@ module _ (fixed : ControllerConfig) {H : Type 0} (answer_of : H → Command → 
           controller = record l.controller { session = t.session; waiting = t.waiting };
           to_reader = l.to_reader ++ frame fixed x (number_after past) ∷ [];
           account = told o l.account;
-        })) (sym quiet) (put x t.waiting asked waits (subst (λ k. Asks fixed t.session.state k x t.session) number asks))),
+        })) (sym quiet) (put x t.waiting asked waits none (subst (λ k. Asks fixed t.session.state k x t.session) number asks))),
   )
 
-  -- or nothing happens
+  -- .. and says nothing
   stays : (at : Stage) (t : Ticked) (l : Link H) → t.waiting ≡ l.controller.waiting → t.step.frame ≡ None → t.step.report ≡ None
-      → AtStage at l → ControllerAt fixed at t.session → AtStage at (link.ticked t l)
-  stays at t l waits silent quiet h is =
-      subst (λ w. AtStage at (record l {
-        controller = record l.controller { session = t.session; waiting = w };
-        to_reader = l.to_reader ++ option_to_list t.step.frame;
-        account = told t.step.report l.account;
-      })) (sym waits)
-      (subst (λ o. AtStage at (record l {
-        controller = record l.controller { session = t.session };
-        to_reader = l.to_reader ++ option_to_list o;
-        account = told t.step.report l.account;
-      })) (sym silent)
-      (subst (λ o. AtStage at (record l {
-        controller = record l.controller { session = t.session };
-        to_reader = l.to_reader ++ [];
-        account = told o l.account;
-      })) (sym quiet)
-      (subst (λ ps. AtStage at (record l { controller = record l.controller { session = t.session }; to_reader = ps }))
-      (sym (append-nil l.to_reader)) (with_session fixed answer_of after settings first at l t.session h is))))
+      → l.account.unsettled ≡ given_up_at at t.session.state → ControllerAt fixed at t.session → AtStage at l → AtStage at (link.ticked t l)
+  stays at t l waits silent quiet kept stands h =
+      ticked_at at t l waits
+      (ap (λ o. told o l.account) quiet ∙ ap (λ (cs : List Command). record l.account { unsettled = cs }) kept) stands
+      (subst (λ o. ToReaderAt fixed at (l.to_reader ++ option_to_list o)) (sym silent)
+      (subst (ToReaderAt fixed at) (sym (append-nil l.to_reader)) h.to_reader)) h
 
   -- an exchange that begins: the account has its command as pending
-  begun_account : (x : Exchange) (ws : List Command) (front : List Event) (l : Link H) → l.controller.waiting ≡ pending x ++ ws
-      → Accounts fixed answer_of after settings first [] [] front l.controller.waiting l.reader.queue.events l.account
-      → Accounts fixed answer_of after settings first (pending x) [] front ws l.reader.queue.events l.account
-  begun_account x ws front l waits a = record {
+  begun_account : (x : Exchange) (ws : List Command) (lost : List Command) (front : List Event) (l : Link H) → l.controller.waiting ≡ pending x ++ ws
+      → lost ≡ [] → Accounts fixed answer_of after settings first [] [] [] front l.controller.waiting l.reader.queue.events l.account
+      → Accounts fixed answer_of after settings first (pending x) [] lost front ws l.reader.queue.events l.account
+  begun_account x ws lost front l waits none a = record {
     issued = a.issued ∙ ap (λ w. l.account.taken ++ w) waits;
     settled = a.settled;
+    unsettled = a.unsettled ∙ sym none;
     told = a.told;
   }
 
@@ -233,7 +219,7 @@ module _ (fixed : ControllerConfig) {H : Type 0} (answer_of : H → Command → 
   ticking Fresh now l h =
       let t = ticks now l.controller.session l.controller.waiting in
       elim (ticks_waiting fixed l.controller.session l.controller.waiting now h.controller) [
-        | inl begun ↦ begins Start 0 t l refl begun (λ x ws asked waits asks. record {
+        | inl begun ↦ begins Start 0 t l refl begun (λ x ws asked waits none asks. record {
           stage = (tt, asked);
           controller = asks;
           waiting = each_rest MaySubmit (pending x) ws (subst (Each MaySubmit) waits h.waiting);
@@ -242,29 +228,31 @@ module _ (fixed : ControllerConfig) {H : Type 0} (answer_of : H → Command → 
           to_reader = runs_first (IsOldFrame fixed Start) (IsFrame fixed x 0) l.to_reader (frame fixed x 0 ∷ [])
               (subst (Each (IsOldFrame fixed Start)) (sym h.to_reader) tt) (refl, tt);
           to_controller = subst (Each (SaysOld fixed Start)) (sym h.to_controller) tt;
-          account = begun_account x ws [] l waits h.account;
+          account = begun_account x ws (given_up t.session.state x) [] l waits none h.account;
         })
         | inr (waits, silent, quiet, on) ↦ (
           Fresh,
-          stays Fresh t l waits silent quiet h on,
+          stays Fresh t l waits silent quiet h.account.unsettled on h,
         )
       ]
-  ticking (Behind past x) now l h = (
-    Behind past x,
-    still_asking (Behind past x) (number_after past) x (ticks now l.controller.session l.controller.waiting) l
-        (ticks_asking fixed (number_after past) x l.controller.session l.controller.waiting now h.controller) h
-        (λ asks. asks) (λ ps. runs_append (IsOldFrame fixed past) (IsFrame fixed x (number_after past)) l.to_reader ps h.to_reader),
-  )
-  ticking (Level past x a) now l h = (
-    Level past x a,
-    still_asking (Level past x a) (number_after past) x (ticks now l.controller.session l.controller.waiting) l
-        (ticks_asking fixed (number_after past) x l.controller.session l.controller.waiting now h.controller) h
-        (λ asks. asks) (λ ps. each_append (IsFrame fixed x (number_after past)) l.to_reader ps h.to_reader),
-  )
+  ticking (Behind past x) now l h =
+      let t = ticks now l.controller.session l.controller.waiting in
+      let w = ticks_asking fixed (number_after past) x l.controller.session l.controller.waiting now h.controller in (
+        Behind past x,
+        ticked_at (Behind past x) t l w.0 (w.2 l.account h.account.unsettled) w.3
+            (runs_append (IsOldFrame fixed past) (IsFrame fixed x (number_after past)) l.to_reader (option_to_list t.step.frame) h.to_reader w.1) h,
+      )
+  ticking (Level past x a) now l h =
+      let t = ticks now l.controller.session l.controller.waiting in
+      let w = ticks_asking fixed (number_after past) x l.controller.session l.controller.waiting now h.controller in (
+        Level past x a,
+        ticked_at (Level past x a) t l w.0 (w.2 l.account h.account.unsettled) w.3
+            (each_append (IsFrame fixed x (number_after past)) l.to_reader (option_to_list t.step.frame) h.to_reader w.1) h,
+      )
   ticking (Rest n x a) now l h =
       let t = ticks now l.controller.session l.controller.waiting in
       elim (ticks_resting fixed n x a l.controller.session l.controller.waiting now h.controller h.waiting) [
-        | inl begun ↦ begins (After n x a) (next_sequence n) t l refl begun (λ y ws asked waits asks. record {
+        | inl begun ↦ begins (After n x a) (next_sequence n) t l refl begun (λ y ws asked waits none asks. record {
           stage = (h.stage, asked);
           controller = asks;
           waiting = each_rest MaySubmit (pending y) ws (subst (Each MaySubmit) waits h.waiting);
@@ -273,10 +261,10 @@ module _ (fixed : ControllerConfig) {H : Type 0} (answer_of : H → Command → 
           to_reader = runs_first (IsOldFrame fixed (After n x a)) (IsFrame fixed y (next_sequence n)) l.to_reader (frame fixed y (next_sequence n) ∷ [])
               h.to_reader (refl, tt);
           to_controller = h.to_controller;
-          account = begun_account y ws (shown x a) l waits h.account;
+          account = begun_account y ws (given_up t.session.state y) (shown x a) l waits none h.account;
         })
         | inr (waits, silent, quiet, on) ↦ (
           Rest n x a,
-          stays (Rest n x a) t l waits silent quiet h on,
+          stays (Rest n x a) t l waits silent quiet h.account.unsettled on h,
         )
       ]

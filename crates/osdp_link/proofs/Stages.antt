@@ -74,6 +74,20 @@ pending_at (Behind past x) = pending x
 pending_at (Level past x r) = []
 pending_at (Rest n x r) = []
 
+-- .. where the session has ended it is unsettled
+abbrev pub given_up : State → Exchange → List Command
+given_up Closed x = pending x
+given_up (Quiet until) x = []
+given_up (Idle due) x = []
+given_up (Waiting until sends o) x = []
+given_up (Pausing until o) x = []
+
+abbrev pub given_up_at : Stage → State → List Command
+given_up_at Fresh state = []
+given_up_at (Behind past x) state = given_up state x
+given_up_at (Level past x r) state = given_up state x
+given_up_at (Rest n x r) state = []
+
 -- the answer that is on its way
 abbrev pub owed : Exchange → Reply → List (Command × Reply)
 owed Opening r = []
@@ -235,9 +249,10 @@ module _ (fixed : ControllerConfig) where
         pub caps : reader.config.caps ≡ settings.caps
         pub handler : reader.handler ≡ handler_behind answer_of after settings first taken
 
-      pub record Accounts (pend : List Command) (owing : List (Command × Reply)) (front : List Event) (waiting : List Command) (events : List Event) (t : Account) : Type 0 where
+      pub record Accounts (pend : List Command) (owing : List (Command × Reply)) (lost : List Command) (front : List Event) (waiting : List Command) (events : List Event) (t : Account) : Type 0 where
         pub issued : t.issued ≡ t.taken ++ (pend ++ waiting)
         pub settled : t.settled ++ owing ≡ with_answers answer_of after settings first t.taken
+        pub unsettled : t.unsettled ≡ lost
         pub told : (past : List Event) × (t.queued ≡ past ++ events) × (t.reported ≡ past ++ front)
 
       -- all of it
@@ -249,4 +264,4 @@ module _ (fixed : ControllerConfig) where
         pub answering : Answering l.account.taken l.reader
         pub to_reader : ToReaderAt at l.to_reader
         pub to_controller : ToControllerAt at l.to_controller
-        pub account : Accounts (pending_at at) (owed_at at) (shown_at at) l.controller.waiting l.reader.queue.events l.account
+        pub account : Accounts (pending_at at) (owed_at at) (given_up_at at l.controller.session.state) (shown_at at) l.controller.waiting l.reader.queue.events l.account

@@ -1,5 +1,5 @@
 -- What a tick does to the controller, by how far the session has come.
-use Rattle.std.proofs.Common.{◌≡◌, ◌⊎◌, ℕ, ◌+◌, leb, ltb, List, [], ◌∷◌, ◌++◌, Some, None, refl, sym, subst, ap, inl, inr}
+use Rattle.std.proofs.Common.{◌≡◌, ◌⊎◌, ℕ, ◌+◌, leb, ltb, List, [], ◌∷◌, ◌++◌, Option, Some, None, refl, sym, subst, ap, ◌∙◌, inl, inr}
 use Rattle.std.specs.Prelude.{option_to_list}
 use Rattle.osdp_frame.specs.Packet.{next_sequence}
 use Rattle.osdp_msg.specs.declared.command.Command.{Command}
@@ -8,48 +8,70 @@ use Rattle.osdp_controller.specs.declared.config.ControllerConfig.{ControllerCon
 use Rattle.osdp_controller.specs.declared.exchange.Exchange.{Exchange}
 use Rattle.osdp_controller.specs.declared.exchange.Exchange.TheVariants.{Opening, Polling, Asking}
 use Rattle.osdp_controller.specs.declared.exchange.Outstanding.{Outstanding}
+use Rattle.osdp_controller.specs.declared.report.LostCause.{LostCause}
+use Rattle.osdp_controller.specs.declared.report.LostCause.TheVariants.{NoReply}
+use Rattle.osdp_controller.specs.declared.report.Report.{Report}
+use Rattle.osdp_controller.specs.declared.report.Report.TheVariants as report
 use Rattle.osdp_controller.specs.declared.session.Session.{Session}
 use Rattle.osdp_controller.specs.declared.state.State.{State}
 use Rattle.osdp_controller.specs.declared.state.State.TheVariants.{Closed, Quiet, Idle, Waiting, Pausing}
-use Rattle.osdp_controller.specs.Sessions.{frame_of, seen}
+use Rattle.osdp_controller.specs.Exchanges.{submitted_command}
+use Rattle.osdp_controller.specs.Sessions.{after_send, frame_of, seen}
 use Rattle.osdp_controller.specs.Ticking.{Ticked, begins, gives_up, sends_frame, stays, ticks, ticks_in, tries_again}
 use Rattle.osdp_link.specs.Headline.{MaySubmit}
 use Rattle.osdp_link.specs.Link.{Account, told}
 use Rattle.osdp_link.proofs.Lines.{both}
-use Rattle.osdp_link.proofs.Stages.{After, Asks, Each, IsAsked, IsFrame, IsOpen, Past, Rests, Start, Waits, frame, pending}
+use Rattle.osdp_link.proofs.Stages.{After, Asks, Each, IsAsked, IsFrame, IsOpen, Past, Rests, Start, Waits, frame, given_up, pending}
+
+-- nothing is settled or reported; where the session ends, the outstanding command is unsettled
+abbrev pub LeavesUnsettled : List Command → Exchange → Option Report → State → Type 0
+LeavesUnsettled before x report state = (a : Account) → a.unsettled ≡ before → told report a ≡ record a { unsettled = given_up state x }
+
+pub nothing_told : (before : List Command) (x : Exchange) (state : State) → given_up state x ≡ before → LeavesUnsettled before x None state
+nothing_told before x state is a e = ap (λ (cs : List Command). record a { unsettled = cs }) (e ∙ sym is)
+
+pub ended : (cause : LostCause) (o x : Exchange) → o ≡ x → LeavesUnsettled [] x (Some (report.Lost cause (submitted_command o))) Closed
+ended cause o x is a e =
+    ap (λ (cs : List Command). record a { unsettled = cs })
+    (ap (λ (cs : List Command). cs ++ option_to_list (submitted_command o)) e ∙ ap (λ y. option_to_list (submitted_command y)) is ∙ submitted x)
+  where
+    submitted : (y : Exchange) → option_to_list (submitted_command y) ≡ pending y
+    submitted Opening = refl
+    submitted Polling = refl
+    submitted (Asking c) = refl
 
 module _ (fixed : ControllerConfig) where
   frame_is : (n : ℕ) (o x : Exchange) (s : Session) → IsOpen fixed n s → o ≡ x → frame_of o s ≡ frame fixed x n
   frame_is n o x s open_at is = cc
 
-  -- the exchange stays outstanding, or the session ends; nothing is settled or reported
-  abbrev pub StillAsks : ℕ → Exchange → List Command → Ticked → Type 0
-  StillAsks n x waiting t =
+  -- the exchange stays outstanding, or the session ends
+  abbrev pub StillAsks : ℕ → Exchange → List Command → List Command → Ticked → Type 0
+  StillAsks n x before waiting t =
       (t.waiting ≡ waiting) × Each (IsFrame fixed x n) (option_to_list t.step.frame)
-      × ((a : Account) → told t.step.report a ≡ a) × Asks fixed t.session.state n x t.session
+      × LeavesUnsettled before x t.step.report t.session.state × Asks fixed t.session.state n x t.session
 
   sends_again : (n : ℕ) (x : Exchange) (k : ℕ) (o : Outstanding) (s : Session) (waiting : List Command)
-      → IsOpen fixed n s → o.exchange ≡ x → StillAsks n x waiting (sends_frame k o s waiting)
+      → IsOpen fixed n s → o.exchange ≡ x → StillAsks n x [] waiting (sends_frame k o s waiting)
   sends_again n x k o s waiting at is =
-      (refl, (frame_is n o.exchange x s at is, tt), (λ a. refl), (at, is))
+      (refl, (frame_is n o.exchange x s at is, tt), nothing_told [] x (after_send k o s).state refl, (at, is))
 
   still : (state : State) (n : ℕ) (x : Exchange) (s : Session) (waiting : List Command) → s.state ≡ state
-      → Asks fixed state n x s → StillAsks n x waiting (stays s waiting)
+      → Asks fixed state n x s → StillAsks n x (given_up state x) waiting (stays s waiting)
   still state n x s waiting e asks =
-      (refl, tt, (λ a. refl), subst (λ st. Asks fixed st n x s) (sym e) asks)
+      (refl, tt, nothing_told (given_up state x) x s.state (ap (λ st. given_up st x) e), subst (λ st. Asks fixed st n x s) (sym e) asks)
 
   tick_asking : (state : State) (n : ℕ) (x : Exchange) (s : Session) (waiting : List Command) → s.state ≡ state
-      → Asks fixed state n x s → StillAsks n x waiting (ticks_in state s waiting)
+      → Asks fixed state n x s → StillAsks n x (given_up state x) waiting (ticks_in state s waiting)
   tick_asking Closed n x s waiting e asks = still Closed n x s waiting e asks
   tick_asking (Quiet until) n x s waiting e asks = absurd asks
   tick_asking (Idle due) n x s waiting e asks = absurd asks
   tick_asking (Waiting until k o) n x s waiting e asks =
-      both (StillAsks n x waiting) (leb until s.greatest) (tries_again k o s waiting) (stays s waiting)
-      (both (StillAsks n x waiting) (ltb k s.config.sends) (sends_frame (k + 1) o s waiting) (gives_up o s waiting)
-      (sends_again n x (k + 1) o s waiting asks.0 asks.1) (refl, tt, (λ a. refl), tt))
+      both (StillAsks n x [] waiting) (leb until s.greatest) (tries_again k o s waiting) (stays s waiting)
+      (both (StillAsks n x [] waiting) (ltb k s.config.sends) (sends_frame (k + 1) o s waiting) (gives_up o s waiting)
+      (sends_again n x (k + 1) o s waiting asks.0 asks.1) (refl, tt, ended NoReply o.exchange x asks.1, tt))
       (still (Waiting until k o) n x s waiting e asks)
   tick_asking (Pausing until o) n x s waiting e asks =
-      both (StillAsks n x waiting) (leb until s.greatest) (sends_frame 1 o s waiting) (stays s waiting)
+      both (StillAsks n x [] waiting) (leb until s.greatest) (sends_frame 1 o s waiting) (stays s waiting)
       (sends_again n x 1 o s waiting asks.0 asks.1)
       (still (Pausing until o) n x s waiting e asks)
 
@@ -61,7 +83,7 @@ module _ (fixed : ControllerConfig) where
   asks_seen (Pausing until o) n x s now asks = asks
 
   pub ticks_asking : (n : ℕ) (x : Exchange) (s : Session) (waiting : List Command) (now : ℕ) → Asks fixed s.state n x s
-      → StillAsks n x waiting (ticks now s waiting)
+      → StillAsks n x (given_up s.state x) waiting (ticks now s waiting)
   ticks_asking n x s waiting now asks =
       tick_asking s.state n x (seen now s) waiting refl (asks_seen s.state n x s now asks)
 
@@ -69,7 +91,8 @@ module _ (fixed : ControllerConfig) where
   abbrev pub Begun : Past → ℕ → List Command → Ticked → Type 0
   Begun past n waiting t =
       (x : Exchange) × IsAsked past x × (waiting ≡ pending x ++ t.waiting)
-      × (t.step.frame ≡ Some (frame fixed x n)) × (t.step.report ≡ None) × Asks fixed t.session.state n x t.session
+      × (t.step.frame ≡ Some (frame fixed x n)) × (t.step.report ≡ None) × (given_up t.session.state x ≡ [])
+      × Asks fixed t.session.state n x t.session
 
   -- or nothing happens
   abbrev pub Unchanged : (Session → Type 0) → List Command → Ticked → Type 0
@@ -85,7 +108,7 @@ module _ (fixed : ControllerConfig) where
   begun : (past : Past) (x : Exchange) (n : ℕ) (s : Session) (waiting rest : List Command) → IsAsked past x → waiting ≡ pending x ++ rest
       → s.config ≡ fixed → Begun past n waiting (begins x n s rest)
   begun past x n s waiting rest asked is config =
-      (x, asked, is, ap Some (frame_is n x x (record s { number = n }) (config, refl) refl), refl, ((config, refl), refl))
+      (x, asked, is, ap Some (frame_is n x x (record s { number = n }) (config, refl) refl), refl, refl, ((config, refl), refl))
 
   tick_resting : (state : State) (n : ℕ) (x : Exchange) (r : Reply) (s : Session) (waiting : List Command) → s.state ≡ state
       → Rests fixed state n s → Each MaySubmit waiting

@@ -1,4 +1,4 @@
--- Within one session, opened by ID on a quiet line, whatever is lost, repeated or damaged: commands and events are once and in
+-- Within each session, opened by ID on a quiet line, whatever is lost, repeated or damaged: commands and events are once and in
 -- order.
 use Rattle.std.specs.Prelude.{◌≡◌, ◌≢◌, ◌≤◌, ◌<◌, ℕ, List, [], ◌∷◌, ◌++◌, length, All, IfSome}
 use Rattle.osdp_frame.specs.Packet.{Packet}
@@ -13,7 +13,9 @@ use Rattle.osdp_reader.specs.declared.config.ReaderConfig.{ReaderConfig}
 use Rattle.osdp_reader.specs.declared.handler.Answer.{Answer}
 use Rattle.osdp_reader.specs.State.{ReaderState}
 use Rattle.osdp_reader.specs.Table.{answer_to, hears}
-use Rattle.osdp_link.specs.Link.{Account, Delivered, Delivery, Link, Lost, Move, Repeated, Submit, Queue, SetBusy, Tick, ToReader, ToController, after_move, run}
+use Rattle.osdp_reader_laws.specs.Answering.{handler_behind}
+use Rattle.osdp_link.specs.Link.{Account, Delivered, Delivery, Link, Lost, Move, Reopen, Repeated, Submit, Queue, SetBusy, Tick, ToReader, ToController, after_move, new_account, run}
+use Rattle.osdp_link.specs.Peers.{IsPlainlySaid}
 
 -- a command that may be submitted: any but POLL, its fields in their ranges
 pub record MaySubmit (command : Command) : Type 0 where
@@ -21,20 +23,15 @@ pub record MaySubmit (command : Command) : Type 0 where
   pub fits : CommandFits command
 
 module _ {H : Type 0} where
-  -- a session has begun, at a device's address, and nothing is on the line; its account begins
+  -- a first session has begun, at a device's address, and nothing is on the line; its account begins
   pub record Begins (l : Link H) : Type 0 where
     pub quiet : (until : ℕ) × (l.controller.session.state ≡ Quiet until)
     pub address : l.controller.session.config.address < 127
     pub waiting : All MaySubmit l.controller.waiting
     pub to_reader : l.to_reader ≡ []
     pub to_controller : l.to_controller ≡ []
-    pub account : l.account ≡ record {
-      issued = l.controller.waiting;
-      queued = l.reader.queue.events;
-      taken = [];
-      settled = [];
-      reported = [];
-    }
+    pub account : l.account ≡ new_account l.controller.waiting l.reader.queue.events
+    pub earlier : l.earlier ≡ []
 
   module _ (answer_of : H → Command → Answer) (after : H → Command → H) where
     -- commands, each with the answer to it behind those before it
@@ -55,7 +52,7 @@ module _ {H : Type 0} where
     SaysWhatFitsIf Lost ps r = Unit {0}
     SaysWhatFitsIf Repeated ps r = SaysWhatFits ps r
 
-    -- what both ends make sure of: commands that are submitted, and replies that are sent, have their fields in their ranges
+    -- what both ends make sure of: commands that are submitted, replies that are sent, and a controller's address are in their ranges
     abbrev pub IsMove : Move → Link H → Type 0
     IsMove (Submit command) l = CommandFits command
     IsMove (Queue event) l = Unit {0}
@@ -63,6 +60,7 @@ module _ {H : Type 0} where
     IsMove (Tick now) l = Unit {0}
     IsMove (ToReader how) l = SaysWhatFitsIf how l.to_reader l.reader
     IsMove (ToController how now) l = Unit {0}
+    IsMove (Reopen now) l = l.controller.session.config.address < 127
 
     abbrev pub AreMoves : List Move → Link H → Type 0
     AreMoves [] l = Unit {0}
@@ -75,6 +73,20 @@ module _ {H : Type 0} where
       pub settled : (more : List (Command × Reply)) × (with_answers config handler t.taken ≡ t.settled ++ more) × (length more ≤ 1)
       pub reported : (rest : List Event) × (t.queued ≡ t.reported ++ rest)
 
+    -- the handler behind the commands taken in these sessions, the last of them first
+    abbrev pub handler_after : ReaderConfig → H → List Account → H
+    handler_after config handler [] = handler
+    handler_after config handler (t ∷ earlier) = handler_behind answer_of after config (handler_after config handler earlier) t.taken
+
+    -- .. each of which is once, from the handler that the ones before have left
+    abbrev pub AreOnce : ReaderConfig → H → List Account → Type 0
+    AreOnce config handler [] = Unit {0}
+    AreOnce config handler (t ∷ earlier) = Once config (handler_after config handler earlier) t × AreOnce config handler earlier
+
     abbrev pub HoldsOnce : Type 0
     HoldsOnce = (l : Link H) (moves : List Move) → Begins l → AreMoves moves l
-        → Once l.reader.config l.reader.handler (run answer_of after moves l).account
+        → let behind = run answer_of after moves l in AreOnce l.reader.config l.reader.handler (behind.account ∷ behind.earlier)
+
+    -- whatever is on its way to the controller says BUSY, or a reply that settles: no number is refused
+    abbrev pub SaysAllPlainly : Type 0
+    SaysAllPlainly = (l : Link H) (moves : List Move) → Begins l → AreMoves moves l → All IsPlainlySaid (run answer_of after moves l).to_controller

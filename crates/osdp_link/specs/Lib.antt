@@ -1,3 +1,4 @@
 pub mod Peers
 pub mod Link
 pub mod Headline
+pub mod Sessions

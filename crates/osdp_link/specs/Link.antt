@@ -21,21 +21,27 @@ use Rattle.osdp_reader.specs.State.{ReaderState}
 use Rattle.osdp_reader.specs.Table as reader
 
 -- what a session comes to: the commands that waited when it began and those accepted since, the events likewise, the commands
--- other than POLL that the reader has taken, those settled, each with its answer, and the events reported
+-- other than POLL that the reader has taken, those settled, each with its answer, those told unsettled, and the events reported
 pub record Account : Type 0 where
   pub issued : List Command
   pub queued : List Event
   pub taken : List Command
   pub settled : List (Command × Reply)
+  pub unsettled : List Command
   pub reported : List Event
 
--- both ends, what either has sent and the other has not had yet, the oldest first, and the account
+abbrev pub new_account : List Command → List Event → Account
+new_account waiting events = record { issued = waiting; queued = events; taken = []; settled = []; unsettled = []; reported = [] }
+
+-- both ends, what either has sent and the other has not had yet, the oldest first, the account of the session, and those of the
+-- sessions before it, the last of them first
 pub record Link (H : Type 0) : Type 0 where
   pub controller : Machine
   pub reader : ReaderState H
   pub to_reader : List Packet
   pub to_controller : List Packet
   pub account : Account
+  pub earlier : List Account
 
 -- what the line does with the packet in front: it comes through, is lost, or comes through and will come again. Damage that is
 -- detected is a loss.
@@ -44,7 +50,7 @@ pub data Delivery : Type 0 where
   Lost : Delivery
   Repeated : Delivery
 
--- what may happen to a link, at any moment
+-- what may happen to a link, at any moment: the last is a session that begins again
 pub data Move : Type 0 where
   Submit : Command → Move
   Queue : Event → Move
@@ -52,6 +58,7 @@ pub data Move : Type 0 where
   Tick : ℕ → Move
   ToReader : Delivery → Move
   ToController : Delivery → ℕ → Move
+  Reopen : ℕ → Move
 
 -- the account behind a report: a COMSET that moves the reader is settled by its COM
 abbrev pub told : Option Report → Account → Account
@@ -62,7 +69,7 @@ told (Some (report.Moved command answered)) t = record t { settled = t.settled +
 told (Some (report.Event event)) t = record t { reported = t.reported ++ event ∷ [] }
 told (Some (report.PollAnswered answer)) t = t
 told (Some (report.Unread command code)) t = t
-told (Some (report.Lost cause command)) t = t
+told (Some (report.Lost cause command)) t = record t { unsettled = t.unsettled ++ option_to_list command }
 
 -- .. and behind a command with a number that is taken
 abbrev pub taken_command : Command → Account → Account
@@ -104,6 +111,15 @@ module _ {H : Type 0} where
         account = told heard.report l.account;
       }
 
+  -- a session begins again where nothing is on the line and the controller is closed; else nothing happens
+  abbrev pub reopens : Option ControllerFault → List Packet → List Packet → ℕ → Link H → Link H
+  reopens None [] [] now l = record l {
+    controller = controllers.after_begin now l.controller;
+    account = new_account l.controller.waiting l.reader.queue.events;
+    earlier = l.account ∷ l.earlier;
+  }
+  reopens _ _ _ now l = l
+
   abbrev pub to_controller : List Packet → Delivery → ℕ → Link H → Link H
   to_controller [] how now l = l
   to_controller (p ∷ rest) Delivered now l = controller_gets p now (record l { to_controller = rest })
@@ -134,6 +150,7 @@ module _ {H : Type 0} where
     after_move (Tick now) l = ticked (ticks now l.controller.session l.controller.waiting) l
     after_move (ToReader how) l = to_reader l.to_reader how l
     after_move (ToController how now) l = to_controller l.to_controller how now l
+    after_move (Reopen now) l = reopens (controllers.begin_refusal l.controller) l.to_reader l.to_controller now l
 
     -- the link behind a list of moves
     abbrev pub run : List Move → Link H → Link H

@@ -1,5 +1,5 @@
 -- What each end reads of the packets that the other one sends.
-use Rattle.std.specs.Prelude.{◌≡◌, ℕ, Some, Ok}
+use Rattle.std.specs.Prelude.{◌≡◌, ◌⊎◌, ℕ, Some, Ok}
 use Rattle.osdp_frame.specs.Packet.{Packet}
 use Rattle.osdp_msg.specs.CommandTable.{CommandFits}
 use Rattle.osdp_msg.specs.Events.{event_reply}
@@ -10,7 +10,7 @@ use Rattle.osdp_controller.specs.Answers.{answer_by_reply, answer_of}
 use Rattle.osdp_controller.specs.Exchanges.{exchange_command}
 use Rattle.osdp_controller.specs.Hearing.{event_in}
 use Rattle.osdp_controller.specs.Sessions.{frame_of}
-use Rattle.osdp_controller.specs.declared.answer.Answer.TheVariants.{Plain}
+use Rattle.osdp_controller.specs.declared.answer.Answer.TheVariants.{NotTaken, Plain}
 use Rattle.osdp_controller.specs.declared.exchange.Exchange.{Exchange}
 use Rattle.osdp_controller.specs.declared.session.Session.{Session}
 use Rattle.osdp_reader.specs.Replies.{reply_packet}
@@ -30,6 +30,10 @@ ReadsWhatIsAnswered = (p : Packet) (number : ℕ) (r : Reply) → ReplyFits r
 -- a plain reply is the answer
 abbrev pub TakesPlainReplies : Type 0
 TakesPlainReplies = (r : Reply) → IsPlain r → answer_by_reply r ≡ Plain r
+
+-- a packet that says BUSY, or a reply that settles: none refuses a number or a check, and all can be read
+abbrev pub IsPlainlySaid : Packet → Type 0
+IsPlainlySaid p = (answer_of p ≡ NotTaken) ⊎ ((r : Reply) × (answer_of p ≡ Plain r))
 
 -- the reply that tells an event tells this event
 abbrev pub TellsItsEvent : Type 0

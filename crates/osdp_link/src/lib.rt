@@ -3,7 +3,8 @@
 #![tactic(auto)]
 
 ghost use Rattle.osdp_link.specs.Peers.{ReadsWhatIsAsked, ReadsWhatIsAnswered, TakesPlainReplies, TellsItsEvent};
-ghost use Rattle.osdp_link.specs.Headline.{HoldsOnce};
+ghost use Rattle.osdp_link.specs.Headline.{HoldsOnce, SaysAllPlainly};
+ghost use Rattle.osdp_link.specs.Sessions.{HaveOnePlace, StayInARow};
 
 use osdp_reader::Handler;
 
@@ -29,10 +30,33 @@ pub fn takes_plain_replies()
     ensures event { TellsItsEvent }
 {}
 
-/// Within one session, opened by ID on a quiet line, over every list of losses, repeats and detected damage: commands are taken once
+/// Within each session, opened by ID on a quiet line, over every list of losses, repeats and detected damage: commands are taken once
 /// and in order, settled with their own answers, and events are reported once and in order.
 pub fn holds_once<H: Handler>()
     ensures { HoldsOnce H.answer_of H.after }
+{
+    reads_what_is_asked();
+    reads_what_is_answered();
+    takes_plain_replies();
+    osdp_reader_laws::answers_plainly::<H>();
+}
+
+/// Over sessions in a row, each begun again on a quiet line with neither end restarted: no command is asked again that was settled or
+/// told unsettled, no event is skipped, and each beginning tells again one at most.
+pub fn sessions_in_a_row<H: Handler>()
+    ensures row { StayInARow H.answer_of H.after }
+    ensures places { HaveOnePlace H.answer_of H.after }
+{
+    reads_what_is_asked();
+    reads_what_is_answered();
+    takes_plain_replies();
+    osdp_reader_laws::answers_plainly::<H>();
+}
+
+/// In these runs no reader refuses a number or a check, and each of its packets can be read: whatever is on its way to the controller
+/// says BUSY, or a reply that settles.
+pub fn says_all_plainly<H: Handler>()
+    ensures { SaysAllPlainly H.answer_of H.after }
 {
     reads_what_is_asked();
     reads_what_is_answered();

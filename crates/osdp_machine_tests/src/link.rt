@@ -6,4 +6,6 @@ use osdp_door::Door;
 #[test]
 fn a_session_holds_with_a_door(_rt: HostRuntime) {
     osdp_link::holds_once::<Door>();
+    osdp_link::sessions_in_a_row::<Door>();
+    osdp_link::says_all_plainly::<Door>();
 }

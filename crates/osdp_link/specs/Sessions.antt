@@ -1,0 +1,68 @@
+-- Sessions in a row: what one has left the next begins with. No event is skipped, and one at most is told again; a command that was
+-- told unsettled is not asked again.
+use Rattle.std.specs.Prelude.{◌≡◌, ◌≤◌, List, [], ◌∷◌, ◌++◌, length, map, Option, Some, None, ◌⊎◌}
+use Rattle.osdp_msg.specs.declared.command.Command.{Command}
+use Rattle.osdp_msg.specs.declared.event.Event.{Event}
+use Rattle.osdp_msg.specs.declared.reply.Reply.{Reply}
+use Rattle.osdp_controller.specs.Machine.{submit_refusal}
+use Rattle.osdp_controller.specs.declared.fault.ControllerFault.{ControllerFault}
+use Rattle.osdp_reader.specs.declared.handler.Answer.{Answer}
+use Rattle.osdp_link.specs.Headline.{AreMoves, Begins}
+use Rattle.osdp_link.specs.Link.{Account, Link, Move, Submit, after_move, run}
+
+abbrev pub settled_commands : Account → List Command
+settled_commands t = map (λ (p : Command × Reply). p.0) t.settled
+
+abbrev pub IsBeginning : {A : Type 0} → List A → List A → Type 0
+IsBeginning {A} xs ys = (rest : List A) × (ys ≡ xs ++ rest)
+
+-- what a session leaves: its commands are those settled, one told unsettled at most, and those that wait; the reader has taken those
+-- settled, and may have taken that one; the events that wait are those that were not reported, with the last that was, or without it
+pub record Leaves (t : Account) (waiting : List Command) (events : List Event) : Type 0 where
+  pub commands : t.issued ≡ settled_commands t ++ (t.unsettled ++ waiting)
+  pub unsettled : length t.unsettled ≤ 1
+  pub taken : (t.taken ≡ settled_commands t) ⊎ (t.taken ≡ settled_commands t ++ t.unsettled)
+  pub reported : (gone : List Event) × (again : List Event)
+      × (t.queued ≡ gone ++ events) × (t.reported ≡ gone ++ again) × IsBeginning again events × (length again ≤ 1)
+
+-- a session, and one behind it
+abbrev pub Follows : Account → Account → Type 0
+Follows t next =
+    (waiting : List Command) × (events : List Event)
+    × Leaves t waiting events × IsBeginning waiting next.issued × IsBeginning events next.queued
+
+-- sessions, the last of them first
+abbrev pub AreInARow : Account → List Account → Type 0
+AreInARow t [] = Unit {0}
+AreInARow t (before ∷ earlier) = Follows before t × AreInARow before earlier
+
+-- the commands that these sessions settled or told unsettled, session behind session
+abbrev pub asked_in : List Account → List Command
+asked_in [] = []
+asked_in (t ∷ earlier) = asked_in earlier ++ (settled_commands t ++ t.unsettled)
+
+-- the command that a move submits, where it is accepted
+abbrev pub accepted : Option ControllerFault → Command → List Command
+accepted None command = command ∷ []
+accepted (Some fault) command = []
+
+module _ {H : Type 0} where
+  abbrev pub submitted : Move → Link H → List Command
+  submitted (Submit command) l = accepted (submit_refusal command l.controller) command
+  submitted _ l = []
+
+  module _ (answer_of : H → Command → Answer) (after : H → Command → H) where
+    abbrev pub all_submitted : List Move → Link H → List Command
+    all_submitted [] l = []
+    all_submitted (move ∷ moves) l = submitted move l ++ all_submitted moves (after_move answer_of after move l)
+
+    abbrev pub StayInARow : Type 0
+    StayInARow = (l : Link H) (moves : List Move) → Begins l → AreMoves answer_of after moves l
+        → let behind = run answer_of after moves l in AreInARow behind.account behind.earlier
+
+    -- each command that waited at first or was accepted since has one place: with a session that settled it or told it unsettled, or
+    -- behind all of these among the commands of the last one
+    abbrev pub HaveOnePlace : Type 0
+    HaveOnePlace = (l : Link H) (moves : List Move) → Begins l → AreMoves answer_of after moves l
+        → let behind = run answer_of after moves l in
+        l.controller.waiting ++ all_submitted moves l ≡ asked_in behind.earlier ++ behind.account.issued
