@@ -1,5 +1,5 @@
 -- What a move adds to an account: the command that it submits, or the event that it queues.
-use Rattle.std.proofs.Common.{◌≡◌, ℕ, List, [], ◌∷◌, ◌++◌, length, Bool, true, false, Option, Some, None, refl, sym, ◌∙◌}
+use Rattle.std.proofs.Common.{◌≡◌, ℕ, List, [], ◌∷◌, ◌++◌, length, Bool, true, false, Option, Some, None, refl, sym, ◌∙◌, ap}
 use Rattle.std.proofs.lemmas.List.{append-nil}
 use Rattle.std.specs.Prelude.{◌==◌}
 use Rattle.osdp_frame.specs.Packet.{Packet}
@@ -21,14 +21,15 @@ use Rattle.osdp_link.specs.Link.{Account, Delivered, Delivery, Link, Lost, Move,
 use Rattle.osdp_link.specs.Sessions.{accepted, submitted}
 use Rattle.osdp_link.proofs.Once.{GoesOn}
 
--- an account that goes on with these commands
-abbrev pub Grows : List Command → Account → Account → Type 0
-Grows cs t u = (u.issued ≡ t.issued ++ cs) × ((es : List Event) × (u.queued ≡ t.queued ++ es))
+-- an account that goes on with these commands and events
+pub record Grows (cs : List Command) (es : List Event) (t u : Account) : Type 0 where
+  pub issued : u.issued ≡ t.issued ++ cs
+  pub queued : u.queued ≡ t.queued ++ es
 
-as_before : (t u : Account) → u.issued ≡ t.issued → u.queued ≡ t.queued → Grows [] t u
-as_before t u issued queued = (issued ∙ sym (append-nil t.issued), ([], queued ∙ sym (append-nil t.queued)))
+as_before : (t u : Account) → u.issued ≡ t.issued → u.queued ≡ t.queued → Grows [] [] t u
+as_before t u issued queued = record { issued = issued ∙ sym (append-nil t.issued); queued = queued ∙ sym (append-nil t.queued) }
 
-told_keeps : (r : Option Report) (t : Account) → Grows [] t (told r t)
+told_keeps : (r : Option Report) (t : Account) → Grows [] [] t (told r t)
 told_keeps None t = as_before t t refl refl
 told_keeps (Some (report.Opened id)) t = as_before t t refl refl
 told_keeps (Some (report.Settled c a)) t = as_before t (told (Some (report.Settled c a)) t) refl refl
@@ -38,67 +39,88 @@ told_keeps (Some (report.PollAnswered a)) t = as_before t t refl refl
 told_keeps (Some (report.Unread c code)) t = as_before t t refl refl
 told_keeps (Some (report.Lost cause c)) t = as_before t (told (Some (report.Lost cause c)) t) refl refl
 
-command_keeps : (c : Command) (t : Account) → Grows [] t (link.taken_command c t)
-command_keeps command.Poll t = as_before t t refl refl
-command_keeps (command.Id a) t = as_before t (link.taken_command (command.Id a) t) refl refl
-command_keeps (command.Cap a) t = as_before t (link.taken_command (command.Cap a) t) refl refl
-command_keeps command.LocalStatus t = as_before t (link.taken_command command.LocalStatus t) refl refl
-command_keeps command.InputStatus t = as_before t (link.taken_command command.InputStatus t) refl refl
-command_keeps command.OutputStatus t = as_before t (link.taken_command command.OutputStatus t) refl refl
-command_keeps command.ReaderStatus t = as_before t (link.taken_command command.ReaderStatus t) refl refl
-command_keeps (command.Output a) t = as_before t (link.taken_command (command.Output a) t) refl refl
-command_keeps (command.Led a) t = as_before t (link.taken_command (command.Led a) t) refl refl
-command_keeps (command.Buzzer a) t = as_before t (link.taken_command (command.Buzzer a) t) refl refl
-command_keeps (command.Text a) t = as_before t (link.taken_command (command.Text a) t) refl refl
-command_keeps (command.Comset a) t = as_before t (link.taken_command (command.Comset a) t) refl refl
-command_keeps (command.Maker a) t = as_before t (link.taken_command (command.Maker a) t) refl refl
+pub told_issues : (r : Option Report) (t : Account) → (told r t).issued ≡ t.issued
+told_issues r t = (told_keeps r t).issued ∙ append-nil t.issued
 
-taken_keeps : (k : Kind) (c : Option Command) (t : Account) → Grows [] t (link.taken k c t)
-taken_keeps kind.Silent c t = as_before t t refl refl
-taken_keeps kind.Secured c t = as_before t t refl refl
-taken_keeps kind.Zero c t = as_before t t refl refl
-taken_keeps kind.Repeat c t = as_before t t refl refl
-taken_keeps kind.Taken None t = as_before t t refl refl
-taken_keeps kind.Taken (Some c) t = command_keeps c t
-taken_keeps kind.Busy c t = as_before t t refl refl
-taken_keeps kind.Wrong c t = as_before t t refl refl
+-- a taken command changes nothing but the commands taken
+abbrev pub TakesMore : Account → Account → Type 0
+TakesMore t u = (cs : List Command) × (u ≡ record t { taken = cs })
+
+command_takes : (c : Command) (t : Account) → TakesMore t (link.taken_command c t)
+command_takes command.Poll t = (t.taken, refl)
+command_takes (command.Id a) t = (t.taken ++ (command.Id a) ∷ [], refl)
+command_takes (command.Cap a) t = (t.taken ++ (command.Cap a) ∷ [], refl)
+command_takes command.LocalStatus t = (t.taken ++ command.LocalStatus ∷ [], refl)
+command_takes command.InputStatus t = (t.taken ++ command.InputStatus ∷ [], refl)
+command_takes command.OutputStatus t = (t.taken ++ command.OutputStatus ∷ [], refl)
+command_takes command.ReaderStatus t = (t.taken ++ command.ReaderStatus ∷ [], refl)
+command_takes (command.Output a) t = (t.taken ++ (command.Output a) ∷ [], refl)
+command_takes (command.Led a) t = (t.taken ++ (command.Led a) ∷ [], refl)
+command_takes (command.Buzzer a) t = (t.taken ++ (command.Buzzer a) ∷ [], refl)
+command_takes (command.Text a) t = (t.taken ++ (command.Text a) ∷ [], refl)
+command_takes (command.Comset a) t = (t.taken ++ (command.Comset a) ∷ [], refl)
+command_takes (command.Maker a) t = (t.taken ++ (command.Maker a) ∷ [], refl)
+
+pub taken_takes : (k : Kind) (c : Option Command) (t : Account) → TakesMore t (link.taken k c t)
+taken_takes kind.Silent c t = (t.taken, refl)
+taken_takes kind.Secured c t = (t.taken, refl)
+taken_takes kind.Zero c t = (t.taken, refl)
+taken_takes kind.Repeat c t = (t.taken, refl)
+taken_takes kind.Taken None t = (t.taken, refl)
+taken_takes kind.Taken (Some c) t = command_takes c t
+taken_takes kind.Busy c t = (t.taken, refl)
+taken_takes kind.Wrong c t = (t.taken, refl)
+
+taken_keeps : (k : Kind) (c : Option Command) (t : Account) → Grows [] [] t (link.taken k c t)
+taken_keeps k c t =
+    let more = taken_takes k c t in
+    as_before t (link.taken k c t) (ap (λ u. u.issued) more.1) (ap (λ u. u.queued) more.1)
+
+-- the event that a move queues
+abbrev pub queued_by : Bool → Event → List Event
+queued_by true e = []
+queued_by false e = e ∷ []
+
+abbrev pub events_in : {H : Type 0} → Move → Link H → List Event
+events_in {H} (QueueEvent e) l = queued_by (length l.reader.queue.events == l.reader.queue.capacity) e
+events_in {H} _ l = []
 
 module _ {H : Type 0} (answer_of : H → Command → Answer) (after : H → Command → H) where
   -- within a session the account goes on, and those before it stay
-  abbrev pub SameSession : List Command → Link H → Link H → Type 0
-  SameSession cs l m = Grows cs l.account m.account × (m.earlier ≡ l.earlier)
+  abbrev pub SameSession : List Command → List Event → Link H → Link H → Type 0
+  SameSession cs es l m = Grows cs es l.account m.account × (m.earlier ≡ l.earlier)
 
-  same : (l : Link H) → SameSession [] l l
+  same : (l : Link H) → SameSession [] [] l l
   same l = (as_before l.account l.account refl refl, refl)
 
-  submits_on : (refusal : Option ControllerFault) (c : Command) (l : Link H) → SameSession (accepted refusal c) l (link.submits refusal c l)
+  submits_on : (refusal : Option ControllerFault) (c : Command) (l : Link H) → SameSession (accepted refusal c) [] l (link.submits refusal c l)
   submits_on (Some fault) c l = same l
-  submits_on None c l = ((refl, ([], sym (append-nil l.account.queued))), refl)
+  submits_on None c l = (record { issued = refl; queued = sym (append-nil l.account.queued) }, refl)
 
-  queues_on : (full : Bool) (e : Event) (l : Link H) → SameSession [] l (link.queues full e l)
+  queues_on : (full : Bool) (e : Event) (l : Link H) → SameSession [] (queued_by full e) l (link.queues full e l)
   queues_on true e l = same l
-  queues_on false e l = ((sym (append-nil l.account.issued), (e ∷ [], refl)), refl)
+  queues_on false e l = (record { issued = sym (append-nil l.account.issued); queued = refl }, refl)
 
-  reader_gets_on : (p : Packet) (l : Link H) → SameSession [] l (link.reader_gets answer_of after p l)
+  reader_gets_on : (p : Packet) (l : Link H) → SameSession [] [] l (link.reader_gets answer_of after p l)
   reader_gets_on p l =
       (taken_keeps (reader.kind_of l.reader p) (reader.hears answer_of after l.reader p).command l.account, refl)
 
-  controller_gets_on : (p : Packet) (now : ℕ) (l : Link H) → SameSession [] l (link.controller_gets p now l)
+  controller_gets_on : (p : Packet) (now : ℕ) (l : Link H) → SameSession [] [] l (link.controller_gets p now l)
   controller_gets_on p now l = (told_keeps (controller.hears p now l.controller.session).report l.account, refl)
 
-  to_reader_on : (how : Delivery) (ps : List Packet) (l : Link H) → SameSession [] l (link.to_reader answer_of after ps how l)
+  to_reader_on : (how : Delivery) (ps : List Packet) (l : Link H) → SameSession [] [] l (link.to_reader answer_of after ps how l)
   to_reader_on how [] l = same l
   to_reader_on Delivered (p ∷ ps) l = reader_gets_on p (record l { to_reader = ps })
   to_reader_on Lost (p ∷ ps) l = (as_before l.account l.account refl refl, refl)
   to_reader_on Repeated (p ∷ ps) l = reader_gets_on p l
 
-  to_controller_on : (how : Delivery) (now : ℕ) (ps : List Packet) (l : Link H) → SameSession [] l (link.to_controller ps how now l)
+  to_controller_on : (how : Delivery) (now : ℕ) (ps : List Packet) (l : Link H) → SameSession [] [] l (link.to_controller ps how now l)
   to_controller_on how now [] l = same l
   to_controller_on Delivered now (p ∷ ps) l = controller_gets_on p now (record l { to_controller = ps })
   to_controller_on Lost now (p ∷ ps) l = (as_before l.account l.account refl refl, refl)
   to_controller_on Repeated now (p ∷ ps) l = controller_gets_on p now l
 
-  pub goes_on : (move : Move) (l : Link H) → GoesOn move → SameSession (submitted move l) l (after_move answer_of after move l)
+  pub goes_on : (move : Move) (l : Link H) → GoesOn move → SameSession (submitted move l) (events_in move l) l (after_move answer_of after move l)
   goes_on (Submit c) l on = submits_on (controllers.submit_refusal c l.controller) c l
   goes_on (QueueEvent e) l on = queues_on (length l.reader.queue.events == l.reader.queue.capacity) e l
   goes_on (SetBusy busy) l on = (as_before l.account l.account refl refl, refl)

@@ -3,8 +3,10 @@ use Rattle.std.proofs.Common.{◌≡◌, ◌<◌, ℕ, List, [], ◌∷◌, ◌+
 use Rattle.std.proofs.lemmas.List.{append-nil}
 use Rattle.osdp_frame.specs.Packet.{Packet}
 use Rattle.osdp_msg.specs.declared.command.Command.{Command}
+use Rattle.osdp_msg.specs.declared.event.Event.{Event}
 use Rattle.osdp_controller.specs.Machine as controllers
 use Rattle.osdp_controller.specs.declared.config.ControllerConfig.{ControllerConfig}
+use Rattle.osdp_controller.specs.declared.exchange.Exchange.TheVariants.{Polling}
 use Rattle.osdp_controller.specs.declared.fault.ControllerFault.{ControllerFault}
 use Rattle.osdp_controller.specs.declared.state.State.{State}
 use Rattle.osdp_controller.specs.declared.state.State.TheVariants.{Closed, Quiet, Idle, Waiting, Pausing}
@@ -13,16 +15,16 @@ use Rattle.osdp_reader.specs.declared.handler.Answer.{Answer}
 use Rattle.osdp_link.specs.Headline.{AreMoves, AreOnce, Begins, IsMove, MaySubmit, handler_after}
 use Rattle.osdp_link.specs.Link as link
 use Rattle.osdp_link.specs.Link.{Account, Delivered, Delivery, Link, Lost, Move, Queue as QueueEvent, Reopen, Repeated, SetBusy, Submit, Tick, ToController, ToReader, after_move, run, told}
-use Rattle.osdp_link.specs.Peers.{IsPlainlySaid}
+use Rattle.osdp_link.specs.Peers.{IsPlainlySaid, ReadEachOther}
 use Rattle.osdp_link.specs.Sessions.{AreInARow, IsBeginning, all_submitted, asked_in, settled_commands, submitted}
 use Rattle.osdp_link.proofs.Advancing.{HoldsAtSomeStage}
 use Rattle.osdp_link.proofs.Deliveries.{all_said}
-use Rattle.osdp_link.proofs.Growing.{Grows, goes_on}
+use Rattle.osdp_link.proofs.Growing.{Grows, events_in, goes_on}
 use Rattle.osdp_link.proofs.Lines.{each_all, each_of}
 use Rattle.osdp_link.proofs.Moves.{Premises}
 use Rattle.osdp_link.proofs.Once.{GoesOn, fresh, is_once, moving}
 use Rattle.osdp_link.proofs.Sessions.{leaves}
-use Rattle.osdp_link.proofs.Stages.{Fresh, Waits}
+use Rattle.osdp_link.proofs.Stages.{Fresh, Waits, frame}
 
 begins_more : {A : Type 0} (xs ys zs more : List A) → IsBeginning xs ys → zs ≡ ys ++ more → IsBeginning xs zs
 begins_more xs ys zs more (rest, is) longer =
@@ -30,10 +32,10 @@ begins_more xs ys zs more (rest, is) longer =
 
 module _ {H : Type 0} (answer_of : H → Command → Answer) (after : H → Command → H) where
   -- a session goes on behind those before it
-  row_goes_on : (t u : Account) (cs : List Command) (earlier : List Account) → Grows cs t u → AreInARow t earlier → AreInARow u earlier
-  row_goes_on t u cs [] grows row = tt
-  row_goes_on t u cs (before ∷ earlier) (issued, (es, queued)) ((waiting, events, left, commands, waits), row) = (
-    (waiting, events, left, begins_more waiting t.issued u.issued cs commands issued, begins_more events t.queued u.queued es waits queued),
+  row_goes_on : (t u : Account) (cs : List Command) (es : List Event) (earlier : List Account) → Grows cs es t u → AreInARow t earlier → AreInARow u earlier
+  row_goes_on t u cs es [] grows row = tt
+  row_goes_on t u cs es (before ∷ earlier) grows ((waiting, events, left, commands, waits), row) = (
+    (waiting, events, left, begins_more waiting t.issued u.issued cs commands grows.issued, begins_more events t.queued u.queued es waits grows.queued),
     row,
   )
 
@@ -53,6 +55,15 @@ module _ {H : Type 0} (answer_of : H → Command → Answer) (after : H → Comm
   -- what the ends read of each other's packets, at each device's address
   abbrev pub Assumed : Type 0
   Assumed = (fixed : ControllerConfig) (handler : H) → fixed.address < 127 → Premises fixed answer_of after settings handler
+
+  pub assumed : ReadEachOther answer_of after → Assumed
+  assumed peers fixed handler device = record {
+    device = device;
+    reads = λ x n fit. peers.asked x (record { config = fixed; state = Closed; number = n; greatest = 0 }) fit;
+    hears = λ n r fit. peers.answered (frame fixed Polling 0) n r fit;
+    plain = peers.plain;
+    plainly = peers.plainly;
+  }
 
   abbrev AllStands : Link H → Type 0
   AllStands l = Stands answer_of after settings first l
@@ -77,7 +88,7 @@ module _ {H : Type 0} (answer_of : H → Command → Answer) (after : H → Comm
         holds = subst (λ earlier. HoldsAtSomeStage h.fixed answer_of after settings (handler_after answer_of after settings first earlier) new) (sym goes.1)
             (moving h.fixed answer_of after settings handler (given h.fixed handler h.device) move l on fits h.holds);
         once = subst (AreOnce answer_of after settings first) (sym goes.1) h.once;
-        row = subst (AreInARow new.account) (sym goes.1) (row_goes_on answer_of after l.account new.account (submitted move l) l.earlier goes.0 h.row);
+        row = subst (AreInARow new.account) (sym goes.1) (row_goes_on answer_of after l.account new.account (submitted move l) (events_in move l) l.earlier goes.0 h.row);
       }
 
   -- a session begins again
@@ -138,7 +149,7 @@ module _ {H : Type 0} (answer_of : H → Command → Answer) (after : H → Comm
       on move goes =
           let g = goes_on answer_of after move l goes in
           ap (λ all. all ++ submitted move l) placed ∙ append_assoc (asked_in l.earlier) l.account.issued (submitted move l)
-          ∙ ap (λ all. asked_in l.earlier ++ all) (sym g.0.0) ∙ ap (λ earlier. asked_in earlier ++ (after_move answer_of after move l).account.issued) (sym g.1)
+          ∙ ap (λ all. asked_in l.earlier ++ all) (sym g.0.issued) ∙ ap (λ earlier. asked_in earlier ++ (after_move answer_of after move l).account.issued) (sym g.1)
 
       again : (refusal : Option ControllerFault) (ps qs : List Packet) (now : ℕ) → controllers.begin_refusal l.controller ≡ refusal
           → Placed answer_of after cs (link.reopens refusal ps qs now l)
@@ -170,13 +181,13 @@ module _ {H : Type 0} (answer_of : H → Command → Answer) (after : H → Comm
       ∙ all_placed given moves (after_move answer_of after move l) (cs ++ submitted move l) fits.1 (standing given move l fits.0 h)
       (placing given move l cs h placed)
 
-  running : Assumed → (moves : List Move) (l : Link H) → AreMoves answer_of after moves l → AllStands l → AllStands (run answer_of after moves l)
+  pub running : Assumed → (moves : List Move) (l : Link H) → AreMoves answer_of after moves l → AllStands l → AllStands (run answer_of after moves l)
   running given [] l fits h = h
   running given (move ∷ moves) l fits h = running given moves (after_move answer_of after move l) fits.1 (standing given move l fits.0 h)
 
 -- all of it, from a first session that has begun
 module _ {H : Type 0} (answer_of : H → Command → Answer) (after : H → Command → H) where
-  begins : (l : Link H) → Begins l → Stands answer_of after l.reader.config l.reader.handler l
+  pub begins : (l : Link H) → Begins l → Stands answer_of after l.reader.config l.reader.handler l
   begins l b =
       let fixed = l.controller.session.config in
       subst (λ earlier. Stands answer_of after l.reader.config l.reader.handler (record l { earlier = earlier })) (sym b.earlier) (record {

@@ -15,3 +15,9 @@ pub mod Once
 pub mod Sessions
 pub mod Growing
 pub mod InARow
+pub mod Due
+pub mod Settling
+pub mod Answering
+pub mod Round
+pub mod Rounds
+pub mod Through

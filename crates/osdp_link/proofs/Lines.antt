@@ -7,6 +7,14 @@ pub each_append : {A : Type 0} (P : A → Type 0) (xs ys : List A) → Each P xs
 each_append P [] ys left right = right
 each_append P (x ∷ xs) ys left right = (left.0, each_append P xs ys left.1 right)
 
+pub each_front : {A : Type 0} (P : A → Type 0) (xs ys : List A) → Each P (xs ++ ys) → Each P xs
+each_front P [] ys all = tt
+each_front P (x ∷ xs) ys all = (all.0, each_front P xs ys all.1)
+
+pub each_rest : {A : Type 0} (P : A → Type 0) (xs ys : List A) → Each P (xs ++ ys) → Each P ys
+each_rest P [] ys all = all
+each_rest P (x ∷ xs) ys all = each_rest P xs ys all.1
+
 pub each_map : {A : Type 0} (P Q : A → Type 0) → ((x : A) → P x → Q x) → (xs : List A) → Each P xs → Each Q xs
 each_map P Q f [] all = tt
 each_map P Q f (x ∷ xs) all = (f x all.0, each_map P Q f xs all.1)
@@ -42,3 +50,8 @@ runs_first P Q (p ∷ ps) qs all then = inl (all.0, runs_first P Q ps qs all.1 t
 pub both : {A : Type 0} (P : A → Type 0) (b : Bool) (x y : A) → P x → P y → P (cond b x y)
 both P true x y first second = first
 both P false x y first second = second
+
+-- .. and the choice is what is known of it
+pub chosen : {A : Type 0} (Q P : A → Type 0) (b : Bool) (x y : A) → (Q x → P x) → (Q y → P y) → Q (cond b x y) → P (cond b x y)
+chosen Q P true x y first second is = first is
+chosen Q P false x y first second is = second is

@@ -1,5 +1,5 @@
 -- What holds of a session holds behind each move.
-use Rattle.std.proofs.Common.{◌≡◌, ◌<◌, ℕ, Bool, true, false, List, [], ◌∷◌, ◌++◌, Option, Some, None, Ok, refl, sym, subst, ap, ◌∙◌, inl, inr, arith, append_assoc}
+use Rattle.std.proofs.Common.{◌≡◌, ◌⊎◌, ◌<◌, ℕ, Bool, true, false, List, [], ◌∷◌, ◌++◌, Option, Some, None, Ok, refl, sym, subst, ap, ◌∙◌, inl, inr, arith, append_assoc}
 use Rattle.std.proofs.lemmas.List.{append-nil}
 use Rattle.std.specs.Prelude.{option_to_list}
 use Rattle.osdp_frame.specs.Packet.{Packet, next_sequence}
@@ -28,18 +28,14 @@ use Rattle.osdp_link.specs.Headline.{MaySubmit}
 use Rattle.osdp_link.specs.Link as link
 use Rattle.osdp_link.specs.Link.{Account, Delivered, Delivery, Link, Lost, Move, Queue as QueueEvent, Repeated, SetBusy, Submit, Tick, ToController, ToReader, told}
 use Rattle.osdp_link.proofs.Advancing.{HoldsAtSomeStage}
-use Rattle.osdp_link.proofs.Lines.{each_append, runs_append, runs_first}
+use Rattle.osdp_link.proofs.Lines.{each_append, each_rest, runs_append, runs_first}
 use Rattle.osdp_link.proofs.Stages.{Accounts, After, Asks, Behind, ControllerAt, Each, Fresh, HasActed, IsAsked, IsFrame, IsOldFrame, Level, Offers, OffersEvent, Past, ReaderAt, Rest, Runs, SaysOld, Stage, Start, ToReaderAt, answer, frame, given_up, given_up_at, number_after, pending, pending_at, shown}
 use Rattle.osdp_link.proofs.Parts.{At, with_session, with_to_reader}
-use Rattle.osdp_link.proofs.Ticks.{Begun, ticks_asking, ticks_resting, ticks_waiting}
+use Rattle.osdp_link.proofs.Ticks.{Begun, RestsOn, Unchanged, ticks_asking, ticks_resting, ticks_waiting}
 
 pub runs_last : (P Q : Packet → Type 0) (ps : List Packet) → Each Q ps → Runs P Q ps
 runs_last P Q [] all = tt
 runs_last P Q (p ∷ ps) all = inr (all.0, all.1)
-
-each_rest : {A : Type 0} (P : A → Type 0) (xs ys : List A) → Each P (xs ++ ys) → Each P ys
-each_rest P [] ys all = all
-each_rest P (x ∷ xs) ys all = each_rest P xs ys all.1
 
 pub asked_fits : (past : Past) (x : Exchange) → IsAsked past x → CommandFits (exchange_command x)
 asked_fits Start Opening asked = omega arith
@@ -180,9 +176,9 @@ module _ (fixed : ControllerConfig) {H : Type 0} (answer_of : H → Command → 
         controller = record l.controller { session = t.session; waiting = ws };
         to_reader = l.to_reader ++ frame fixed x (number_after past) ∷ [];
       }))
-      → AtSomeStage (link.ticked t l)
+      → (x : Exchange) × AtStage (Behind past x) (link.ticked t l)
   begins past n t l number (x, asked, waits, sent, quiet, none, asks) put = (
-    Behind past x,
+    x,
     subst (λ o. AtStage (Behind past x) (record l {
       controller = record l.controller { session = t.session; waiting = t.waiting };
       to_reader = l.to_reader ++ option_to_list o;
@@ -215,11 +211,35 @@ module _ (fixed : ControllerConfig) {H : Type 0} (answer_of : H → Command → 
     told = a.told;
   }
 
+  fresh_begins : {l : Link H} → (x : Exchange) × AtStage (Behind Start x) l → AtSomeStage l
+  fresh_begins (x, h) = (Behind Start x, h)
+
+  -- where no exchange is outstanding one begins, or nothing happens
+  pub ticking_rest : (n : ℕ) (x : Exchange) (a : Reply) (now : ℕ) (l : Link H) → AtStage (Rest n x a) l
+      → let t = ticks now l.controller.session l.controller.waiting in
+      ((y : Exchange) × AtStage (Behind (After n x a) y) (link.ticked t l)) ⊎ Unchanged fixed (RestsOn fixed n) l.controller.waiting t
+  ticking_rest n x a now l h =
+      let t = ticks now l.controller.session l.controller.waiting in
+      elim (ticks_resting fixed n x a l.controller.session l.controller.waiting now h.controller h.waiting) [
+        | inl begun ↦ inl (begins (After n x a) (next_sequence n) t l refl begun (λ y ws asked waits none asks. record {
+          stage = (h.stage, asked);
+          controller = asks;
+          waiting = each_rest MaySubmit (pending y) ws (subst (Each MaySubmit) waits h.waiting);
+          reader = h.reader;
+          answering = h.answering;
+          to_reader = runs_first (IsOldFrame fixed (After n x a)) (IsFrame fixed y (next_sequence n)) l.to_reader (frame fixed y (next_sequence n) ∷ [])
+              h.to_reader (refl, tt);
+          to_controller = h.to_controller;
+          account = begun_account y ws (given_up t.session.state y) (shown x a) l waits none h.account;
+        }))
+        | inr unchanged ↦ inr unchanged
+      ]
+
   pub ticking : (at : Stage) (now : ℕ) (l : Link H) → AtStage at l → AtSomeStage (link.ticked (ticks now l.controller.session l.controller.waiting) l)
   ticking Fresh now l h =
       let t = ticks now l.controller.session l.controller.waiting in
       elim (ticks_waiting fixed l.controller.session l.controller.waiting now h.controller) [
-        | inl begun ↦ begins Start 0 t l refl begun (λ x ws asked waits none asks. record {
+        | inl begun ↦ fresh_begins (begins Start 0 t l refl begun (λ x ws asked waits none asks. record {
           stage = (tt, asked);
           controller = asks;
           waiting = each_rest MaySubmit (pending x) ws (subst (Each MaySubmit) waits h.waiting);
@@ -229,7 +249,7 @@ module _ (fixed : ControllerConfig) {H : Type 0} (answer_of : H → Command → 
               (subst (Each (IsOldFrame fixed Start)) (sym h.to_reader) tt) (refl, tt);
           to_controller = subst (Each (SaysOld fixed Start)) (sym h.to_controller) tt;
           account = begun_account x ws (given_up t.session.state x) [] l waits none h.account;
-        })
+        }))
         | inr (waits, silent, quiet, on) ↦ (
           Fresh,
           stays Fresh t l waits silent quiet h.account.unsettled on h,
@@ -251,20 +271,7 @@ module _ (fixed : ControllerConfig) {H : Type 0} (answer_of : H → Command → 
       )
   ticking (Rest n x a) now l h =
       let t = ticks now l.controller.session l.controller.waiting in
-      elim (ticks_resting fixed n x a l.controller.session l.controller.waiting now h.controller h.waiting) [
-        | inl begun ↦ begins (After n x a) (next_sequence n) t l refl begun (λ y ws asked waits none asks. record {
-          stage = (h.stage, asked);
-          controller = asks;
-          waiting = each_rest MaySubmit (pending y) ws (subst (Each MaySubmit) waits h.waiting);
-          reader = h.reader;
-          answering = h.answering;
-          to_reader = runs_first (IsOldFrame fixed (After n x a)) (IsFrame fixed y (next_sequence n)) l.to_reader (frame fixed y (next_sequence n) ∷ [])
-              h.to_reader (refl, tt);
-          to_controller = h.to_controller;
-          account = begun_account y ws (given_up t.session.state y) (shown x a) l waits none h.account;
-        })
-        | inr (waits, silent, quiet, on) ↦ (
-          Rest n x a,
-          stays (Rest n x a) t l waits silent quiet h.account.unsettled on h,
-        )
+      elim (ticking_rest n x a now l h) [
+        | inl (y, begun) ↦ (Behind (After n x a) y, begun)
+        | inr (waits, silent, quiet, on) ↦ (Rest n x a, stays (Rest n x a) t l waits silent quiet h.account.unsettled on h)
       ]

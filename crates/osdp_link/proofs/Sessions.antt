@@ -20,7 +20,7 @@ use Rattle.osdp_link.proofs.Once.{front_at}
 use Rattle.osdp_link.proofs.Parts.{At}
 use Rattle.osdp_link.proofs.Stages.{After, Behind, Fresh, Level, Rest, Stage, Start, Waits, given_up_at, owed, pending, shown, shown_at}
 
-abbrev command_of : Command × Reply → Command
+abbrev pub command_of : Command × Reply → Command
 command_of p = p.0
 
 one_pending : (x : Exchange) → length (pending x) ≤ 1
@@ -62,7 +62,7 @@ module _ {H : Type 0} (answer_of : H → Command → Answer) (after : H → Comm
   answered_commands h (c ∷ cs) = ap (λ l. c ∷ l) (answered_commands (answer_to answer_of after settings h c).handler cs)
 
   -- the settled commands, and the one whose answer is on its way, are the taken ones
-  taken_commands : (h : H) (t : Account) (owing : List (Command × Reply)) → t.settled ++ owing ≡ with_answers answer_of after settings h t.taken
+  pub taken_commands : (h : H) (t : Account) (owing : List (Command × Reply)) → t.settled ++ owing ≡ with_answers answer_of after settings h t.taken
       → settled_commands t ++ map command_of owing ≡ t.taken
   taken_commands h t owing is =
       sym (map-append command_of t.settled owing) ∙ ap (map command_of) is ∙ answered_commands h t.taken

@@ -62,6 +62,26 @@ IsAsked (After n x r) Opening = ⊥
 IsAsked (After n x r) Polling = Unit {0}
 IsAsked (After n x r) (Asking command) = MaySubmit command
 
+-- the exchange of a stage, with its number
+abbrev pub exchange_at : Stage → Exchange
+exchange_at Fresh = Opening
+exchange_at (Behind past x) = x
+exchange_at (Level past x r) = x
+exchange_at (Rest n x r) = x
+
+abbrev pub number_at : Stage → ℕ
+number_at Fresh = 0
+number_at (Behind past x) = number_after past
+number_at (Level past x r) = number_after past
+number_at (Rest n x r) = n
+
+-- .. which is outstanding
+abbrev pub IsOut : Stage → Type 0
+IsOut Fresh = ⊥
+IsOut (Behind past x) = Unit {0}
+IsOut (Level past x r) = Unit {0}
+IsOut (Rest n x r) = ⊥
+
 -- the command that is outstanding and that the reader has not acted on
 abbrev pub pending : Exchange → List Command
 pending Opening = []

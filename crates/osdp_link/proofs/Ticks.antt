@@ -41,7 +41,7 @@ ended cause o x is a e =
     submitted (Asking c) = refl
 
 module _ (fixed : ControllerConfig) where
-  frame_is : (n : ℕ) (o x : Exchange) (s : Session) → IsOpen fixed n s → o ≡ x → frame_of o s ≡ frame fixed x n
+  pub frame_is : (n : ℕ) (o x : Exchange) (s : Session) → IsOpen fixed n s → o ≡ x → frame_of o s ≡ frame fixed x n
   frame_is n o x s open_at is = cc
 
   -- the exchange stays outstanding, or the session ends

@@ -2,3 +2,4 @@ pub mod Peers
 pub mod Link
 pub mod Headline
 pub mod Sessions
+pub mod Progress

@@ -4,6 +4,7 @@ use Rattle.osdp_frame.specs.Packet.{Packet}
 use Rattle.osdp_msg.specs.CommandTable.{CommandFits}
 use Rattle.osdp_msg.specs.Events.{event_reply}
 use Rattle.osdp_msg.specs.ReplyTable.{ReplyFits}
+use Rattle.osdp_msg.specs.declared.command.Command.{Command}
 use Rattle.osdp_msg.specs.declared.event.Event.{Event}
 use Rattle.osdp_msg.specs.declared.reply.Reply.{Reply}
 use Rattle.osdp_controller.specs.Answers.{answer_by_reply, answer_of}
@@ -15,7 +16,8 @@ use Rattle.osdp_controller.specs.declared.exchange.Exchange.{Exchange}
 use Rattle.osdp_controller.specs.declared.session.Session.{Session}
 use Rattle.osdp_reader.specs.Replies.{reply_packet}
 use Rattle.osdp_reader.specs.Table.{command_in}
-use Rattle.osdp_reader_laws.specs.Laws.{IsPlain}
+use Rattle.osdp_reader.specs.declared.handler.Answer.{Answer}
+use Rattle.osdp_reader_laws.specs.Laws.{AnswersPlainly, IsPlain}
 
 -- the reader reads the command that the exchange asks
 abbrev pub ReadsWhatIsAsked : Type 0
@@ -38,3 +40,10 @@ IsPlainlySaid p = (answer_of p ≡ NotTaken) ⊎ ((r : Reply) × (answer_of p �
 -- the reply that tells an event tells this event
 abbrev pub TellsItsEvent : Type 0
 TellsItsEvent = (e : Event) → event_in (event_reply e) ≡ Some e
+
+-- both ends read what the other says, and the reader's answers settle
+pub record ReadEachOther {H : Type 0} (answer_of : H → Command → Answer) (after : H → Command → H) : Type 0 where
+  pub asked : ReadsWhatIsAsked
+  pub answered : ReadsWhatIsAnswered
+  pub plain : TakesPlainReplies
+  pub plainly : AnswersPlainly answer_of after

@@ -2,8 +2,9 @@
 //! their contracts are laws.
 #![tactic(auto)]
 
-ghost use Rattle.osdp_link.specs.Peers.{ReadsWhatIsAsked, ReadsWhatIsAnswered, TakesPlainReplies, TellsItsEvent};
+ghost use Rattle.osdp_link.specs.Peers.{ReadEachOther, ReadsWhatIsAsked, ReadsWhatIsAnswered, TakesPlainReplies, TellsItsEvent};
 ghost use Rattle.osdp_link.specs.Headline.{HoldsOnce, SaysAllPlainly};
+ghost use Rattle.osdp_link.specs.Progress.{ComesThrough};
 ghost use Rattle.osdp_link.specs.Sessions.{HaveOnePlace, StayInARow};
 
 use osdp_reader::Handler;
@@ -30,15 +31,22 @@ pub fn takes_plain_replies()
     ensures event { TellsItsEvent }
 {}
 
-/// Within each session, opened by ID on a quiet line, over every list of losses, repeats and detected damage: commands are taken once
-/// and in order, settled with their own answers, and events are reported once and in order.
-pub fn holds_once<H: Handler>()
-    ensures { HoldsOnce H.answer_of H.after }
+/// Both ends read what the other one says, and the reader's answers settle.
+pub fn read_each_other<H: Handler>()
+    ensures { ReadEachOther H.answer_of H.after }
 {
     reads_what_is_asked();
     reads_what_is_answered();
     takes_plain_replies();
     osdp_reader_laws::answers_plainly::<H>();
+}
+
+/// Within each session, opened by ID on a quiet line, over every list of losses, repeats and detected damage: commands are taken once
+/// and in order, settled with their own answers, and events are reported once and in order.
+pub fn holds_once<H: Handler>()
+    ensures { HoldsOnce H.answer_of H.after }
+{
+    read_each_other::<H>();
 }
 
 /// Over sessions in a row, each begun again on a quiet line with neither end restarted: no command is asked again that was settled or
@@ -47,10 +55,7 @@ pub fn sessions_in_a_row<H: Handler>()
     ensures row { StayInARow H.answer_of H.after }
     ensures places { HaveOnePlace H.answer_of H.after }
 {
-    reads_what_is_asked();
-    reads_what_is_answered();
-    takes_plain_replies();
-    osdp_reader_laws::answers_plainly::<H>();
+    read_each_other::<H>();
 }
 
 /// In these runs no reader refuses a number or a check, and each of its packets can be read: whatever is on its way to the controller
@@ -58,8 +63,13 @@ pub fn sessions_in_a_row<H: Handler>()
 pub fn says_all_plainly<H: Handler>()
     ensures { SaysAllPlainly H.answer_of H.after }
 {
-    reads_what_is_asked();
-    reads_what_is_answered();
-    takes_plain_replies();
-    osdp_reader_laws::answers_plainly::<H>();
+    read_each_other::<H>();
+}
+
+/// From a link with nothing on the line, both ends at one address, the reader not busy and no COMSET issued: of rounds that lose nothing,
+/// each with a tick that is due, all but the first settle a command or report an event, until all are settled and reported.
+pub fn comes_through<H: Handler>()
+    ensures { ComesThrough H.answer_of H.after }
+{
+    read_each_other::<H>();
 }

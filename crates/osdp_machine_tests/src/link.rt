@@ -8,4 +8,5 @@ fn a_session_holds_with_a_door(_rt: HostRuntime) {
     osdp_link::holds_once::<Door>();
     osdp_link::sessions_in_a_row::<Door>();
     osdp_link::says_all_plainly::<Door>();
+    osdp_link::comes_through::<Door>();
 }

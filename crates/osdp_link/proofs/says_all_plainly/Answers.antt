@@ -1,15 +1,7 @@
-use Rattle.osdp_controller.specs.declared.state.State.TheVariants.{Closed}
-use Rattle.osdp_controller.specs.declared.exchange.Exchange.TheVariants.{Polling}
-use Rattle.osdp_link.proofs.InARow.{all_plainly}
-use Rattle.osdp_link.proofs.Stages.{frame}
+use Rattle.osdp_link.proofs.InARow.{all_plainly, assumed}
 use Rattle.osdp_link.proofs.says_all_plainly.Goals as goal
 
 pub returns : goal.returns
 returns g c l moves begins fits =
-    all_plainly g.H.Handler.answer_of g.H.Handler.after l moves (λ fixed handler device. record {
-      device = device;
-      reads = λ x n fit. c.reads_what_is_asked.ensures x (record { config = fixed; state = Closed; number = n; greatest = 0 }) fit;
-      hears = λ n r fit. c.reads_what_is_answered.ensures (frame fixed Polling 0) n r fit;
-      plain = c.takes_plain_replies.ensures.plain;
-      plainly = c.answers_plainly.ensures;
-    }) begins fits
+    all_plainly g.H.Handler.answer_of g.H.Handler.after l moves
+    (assumed g.H.Handler.answer_of g.H.Handler.after l.reader.config l.reader.handler c.read_each_other.ensures) begins fits

@@ -1,0 +1,205 @@
+-- From a link without losses over its rounds.
+use Rattle.std.proofs.Common.{◌≡◌, ◌⊎◌, ◌≤◌, ◌+◌, ◌-◌, ℕ, List, [], ◌∷◌, length, refl, sym, subst, ap, ◌∙◌, inl, inr, arith}
+use Rattle.std.proofs.Math.Nat.{min-le_left, min-le_right}
+use Rattle.std.proofs.lemmas.List.{append-nil}
+use Rattle.std.specs.Prelude.{min}
+use Rattle.osdp_frame.specs.Packet.{Packet}
+use Rattle.osdp_msg.specs.declared.command.Command.{Command}
+use Rattle.osdp_controller.specs.Answers.{answer_of as said_by}
+use Rattle.osdp_controller.specs.Hearing.{hears_in, ignores, is_from_reader}
+use Rattle.osdp_controller.specs.Sessions.{seen}
+use Rattle.osdp_controller.specs.Ticking.{ticks}
+use Rattle.osdp_controller.specs.declared.config.ControllerConfig.{ControllerConfig}
+use Rattle.osdp_controller.specs.declared.exchange.Exchange.{Exchange}
+use Rattle.osdp_controller.specs.declared.session.Session.{Session}
+use Rattle.osdp_controller.specs.declared.state.State.{State}
+use Rattle.osdp_controller.specs.declared.state.State.TheVariants.{Closed, Quiet, Idle, Waiting, Pausing}
+use Rattle.osdp_reader.specs.declared.config.ReaderConfig.{ReaderConfig}
+use Rattle.osdp_reader.specs.declared.handler.Answer.{Answer}
+use Rattle.osdp_link.specs.Headline.{AreMoves, Begins, SaysWhatFits, handler_after}
+use Rattle.osdp_link.specs.Link as link
+use Rattle.osdp_link.specs.Link.{Account, Delivered, Link, Move, Tick, ToController, ToReader, after_move, run}
+use Rattle.osdp_link.specs.Progress.{AreDue, IsClear, NoComset, round, rounds}
+use Rattle.osdp_link.proofs.Advancing.{HoldsAtSomeStage}
+use Rattle.osdp_link.proofs.Due.{Acts, closed_rests, due_sends}
+use Rattle.osdp_link.proofs.Growing.{Grows, goes_on}
+use Rattle.osdp_link.proofs.InARow.{Assumed, begins, running}
+use Rattle.osdp_link.proofs.Lines.{both, each_of}
+use Rattle.osdp_link.proofs.Moves.{Premises}
+use Rattle.osdp_link.proofs.Once.{moving}
+use Rattle.osdp_link.proofs.Parts.{At}
+use Rattle.osdp_link.proofs.Round.{IsIdle, IsStill, at_tick, delivered, has_come}
+use Rattle.osdp_link.proofs.Rounds.{all_of, counted, idle_round}
+use Rattle.osdp_link.proofs.Stages.{Asks, Behind, Fresh, Level, Rest, Rests, Stage, Waits, number_after}
+
+module _ (fixed : ControllerConfig) where
+  waits_config : (state : State) (s : Session) → Waits fixed state s → s.config ≡ fixed
+  waits_config Closed s waits = absurd waits
+  waits_config (Quiet until) s waits = waits
+  waits_config (Idle due) s waits = absurd waits
+  waits_config (Waiting until k o) s waits = absurd waits
+  waits_config (Pausing until o) s waits = absurd waits
+
+  asks_config : (state : State) (n : ℕ) (x : Exchange) (s : Session) → (state ≡ Closed → ⊥) → Asks fixed state n x s → s.config ≡ fixed
+  asks_config Closed n x s not asks = absurd (not refl)
+  asks_config (Quiet until) n x s not asks = absurd asks
+  asks_config (Idle due) n x s not asks = absurd asks
+  asks_config (Waiting until k o) n x s not asks = asks.0.0
+  asks_config (Pausing until o) n x s not asks = asks.0.0
+
+  rests_config : (state : State) (n : ℕ) (s : Session) → (state ≡ Closed → ⊥) → Rests fixed state n s → s.config ≡ fixed
+  rests_config Closed n s not rests = absurd (not refl)
+  rests_config (Quiet until) n s not rests = absurd rests
+  rests_config (Idle due) n s not rests = rests.0
+  rests_config (Waiting until k o) n s not rests = absurd rests
+  rests_config (Pausing until o) n s not rests = absurd rests
+
+module _ (fixed : ControllerConfig) {H : Type 0} (answer_of : H → Command → Answer) (after : H → Command → H) (settings : ReaderConfig) (first : H) where
+  -- a session that has not ended has the settings that it began with
+  config_is : (at : Stage) (l : Link H) → At fixed answer_of after settings first at l → (l.controller.session.state ≡ Closed → ⊥)
+      → l.controller.session.config ≡ fixed
+  config_is Fresh l h not = waits_config fixed l.controller.session.state l.controller.session h.controller
+  config_is (Behind past x) l h not = asks_config fixed l.controller.session.state (number_after past) x l.controller.session not h.controller
+  config_is (Level past x a) l h not = asks_config fixed l.controller.session.state (number_after past) x l.controller.session not h.controller
+  config_is (Rest n x a) l h not = rests_config fixed l.controller.session.state n l.controller.session not h.controller
+
+  -- what has ended stays so
+  to_reader_closed : (ps : List Packet) (l : Link H) → l.controller.session.state ≡ Closed
+      → (link.to_reader answer_of after ps Delivered l).controller.session.state ≡ Closed
+  to_reader_closed [] l closed = closed
+  to_reader_closed (p ∷ ps) l closed = closed
+
+  to_controller_closed : (qs : List Packet) (now : ℕ) (l : Link H) → l.controller.session.state ≡ Closed
+      → (link.to_controller qs Delivered now l).controller.session.state ≡ Closed
+  to_controller_closed [] now l closed = closed
+  to_controller_closed (q ∷ qs) now l closed =
+      let s = l.controller.session in
+      both (λ heard. heard.session.state ≡ Closed) (is_from_reader q s) (hears_in s.state q.sequence (said_by q) (seen now s)) (ignores (seen now s))
+      (subst (λ state. (hears_in state q.sequence (said_by q) (seen now s)).session.state ≡ Closed) (sym closed) closed) closed
+
+  abbrev tick : ℕ → Link H → Link H
+  tick now l = at_tick fixed answer_of after settings first now l
+
+  abbrev goes : ℕ → Link H → Link H
+  goes now l = delivered fixed answer_of after settings first now (tick now l)
+
+  closed_behind : (now : ℕ) (l : Link H) → (tick now l).controller.session.state ≡ Closed → (goes now l).controller.session.state ≡ Closed
+  closed_behind now l closed =
+      let m = link.to_reader answer_of after (tick now l).to_reader Delivered (tick now l) in
+      to_controller_closed m.to_controller now m (to_reader_closed (tick now l).to_reader (tick now l) closed)
+
+  abbrev Given : Type 0
+  Given = Premises fixed answer_of after settings first
+
+  abbrev Holds : Link H → Type 0
+  Holds l = HoldsAtSomeStage fixed answer_of after settings first l
+
+  held_behind : Given → (now : ℕ) (l : Link H) → SaysWhatFits answer_of after (tick now l).to_reader l.reader → Holds l → Holds (goes now l)
+  held_behind given now l fits held =
+      let m = link.to_reader answer_of after (tick now l).to_reader Delivered (tick now l) in
+      moving fixed answer_of after settings first given (ToController Delivered now) m tt tt
+      (moving fixed answer_of after settings first given (ToReader Delivered) (tick now l) tt fits
+      (moving fixed answer_of after settings first given (Tick now) l tt tt held))
+
+  -- the first round: the controller comes to rest, or the session ends
+  first_round : Given → (now : ℕ) (l : Link H) → Holds l → IsStill fixed answer_of after settings first l
+      → Acts (ticks now l.controller.session l.controller.waiting) → SaysWhatFits answer_of after (tick now l).to_reader l.reader
+      → ((goes now l).controller.session.state ≡ Closed) ⊎ IsIdle fixed answer_of after settings first (goes now l)
+  first_round given now l held still does fits =
+      let there = moving fixed answer_of after settings first given (Tick now) l tt tt held in
+      elim (due_sends now l.controller.session l.controller.waiting does) [
+        | inl closed ↦ inl (closed_behind now l closed)
+        | inr (x, sends) ↦ inr (has_come fixed answer_of after settings first given now x there.0 l still sends there.1 fits).idle
+      ]
+
+  same_length : (t u : Account) → Grows [] [] t u → all_of u ≡ all_of t
+  same_length t u grows =
+      let issued = ap length (grows.issued ∙ append-nil t.issued) in
+      let queued = ap length (grows.queued ∙ append-nil t.queued) in
+      omega (arith, issued, queued)
+
+  all_same : (now : ℕ) (l : Link H) → all_of (goes now l).account ≡ all_of l.account
+  all_same now l =
+      let m = link.to_reader answer_of after (tick now l).to_reader Delivered (tick now l) in
+      same_length m.account (goes now l).account (goes_on answer_of after (ToController Delivered now) m tt).0
+      ∙ same_length (tick now l).account m.account (goes_on answer_of after (ToReader Delivered) (tick now l) tt).0
+      ∙ same_length l.account (tick now l).account (goes_on answer_of after (Tick now) l tt).0
+
+  -- one more with each round, until it is all
+  abbrev Through : List ℕ → Link H → Link H → Type 0
+  Through moments l m =
+      ((counted l.account + length moments ≤ counted m.account) ⊎ (all_of l.account ≤ counted m.account)) × (all_of m.account ≡ all_of l.account)
+
+  through : Given → (moments : List ℕ) (l : Link H) → Holds l → IsIdle fixed answer_of after settings first l → AreDue answer_of after moments l
+      → AreMoves answer_of after (rounds moments) l → Through moments l (run answer_of after (rounds moments) l)
+  through given [] l held idle due fits = (inl (omega arith), refl)
+  through given (now ∷ later) l held idle due fits =
+      let behind = held_behind given now l fits.1.0 held in
+      let one = idle_round fixed answer_of after settings first given now l held idle due.0 fits.1.0 behind in
+      let more = through given later (goes now l) behind one.0 due.1 fits.1.1.1 in
+      let same = all_same now l in (
+        elim one.1 [
+          | inl first ↦ elim more.0 [
+            | inl far ↦ inl (omega (arith, first, far))
+            | inr all ↦ inr (omega (arith, same, all))
+          ]
+          | inr done ↦ elim more.0 [
+            | inl far ↦ inr (omega (arith, same, done, far))
+            | inr all ↦ inr (omega (arith, same, all))
+          ]
+        ],
+        more.1 ∙ same,
+      )
+
+  at_least : (moments : List ℕ) (now : ℕ) (l m : Link H) → Through moments l m
+      → min (length (now ∷ moments) - 1) (length m.account.issued + length m.account.queued) ≤ length m.account.settled + length m.account.reported
+  at_least moments now l m (far, same) =
+      let few = min-le_left (length (now ∷ moments) - 1) (all_of m.account) in
+      let all = min-le_right (length (now ∷ moments) - 1) (all_of m.account) in
+      elim far [
+        | inl one ↦ omega (arith, one, few)
+        | inr done ↦ omega (arith, done, same, all)
+      ]
+
+module _ {H : Type 0} (answer_of : H → Command → Answer) (after : H → Command → H) where
+  -- once a session has ended no more tick is due, so there was one round
+  ended : (now : ℕ) (later : List ℕ) (l m : Link H) → m.controller.session.state ≡ Closed → AreDue answer_of after later m
+      → min (length (now ∷ later) - 1) (length l.account.issued + length l.account.queued) ≤ length l.account.settled + length l.account.reported
+  ended now [] l m closed due =
+      let few = min-le_left (length (now ∷ []) - 1) (all_of l.account) in
+      omega (arith, few)
+  ended now (next ∷ later) l m closed due =
+      absurd (closed_rests m.controller.session.state (seen next m.controller.session) m.controller.waiting closed due.0)
+
+  pub comes_through : (l : Link H) (moves : List Move) (moments : List ℕ) → Assumed answer_of after l.reader.config l.reader.handler
+      → Begins l → AreMoves answer_of after moves l
+      → let behind = run answer_of after moves l in
+      IsClear behind → AreDue answer_of after moments behind → AreMoves answer_of after (rounds moments) behind
+      → let t = (run answer_of after (rounds moments) behind).account in
+      min (length moments - 1) (length t.issued + length t.queued) ≤ length t.settled + length t.reported
+  comes_through l moves [] given b fits clear due more =
+      let t = (run answer_of after moves l).account in
+      let few = min-le_left (length {A = ℕ} [] - 1) (length t.issued + length t.queued) in
+      omega (arith, few)
+  comes_through l moves (now ∷ later) given b fits clear due more =
+      let config = l.reader.config in
+      let behind = run answer_of after moves l in
+      let s = running answer_of after config l.reader.handler given moves l fits (begins answer_of after l b) in
+      let handler = handler_after answer_of after config l.reader.handler behind.earlier in
+      let session = behind.controller.session in
+      let same = config_is s.fixed answer_of after config handler s.holds.0 behind s.holds.1
+      (λ closed. closed_rests session.state (seen now session) behind.controller.waiting closed due.0) in
+      let still : IsStill s.fixed answer_of after config handler behind = record {
+        to_reader = clear.to_reader;
+        to_controller = clear.to_controller;
+        ready = record { here = clear.address ∙ ap (λ c. c.address) same; ready = clear.ready };
+        issued = each_of NoComset behind.account.issued clear.issued;
+      } in
+      let all = given s.fixed handler s.device in
+      let first = run answer_of after (round now) behind in
+      let held = held_behind s.fixed answer_of after config handler all now behind more.1.0 s.holds in
+      elim (first_round s.fixed answer_of after config handler all now behind s.holds still due.0 more.1.0) [
+        | inl closed ↦ ended now later (run answer_of after (rounds (now ∷ later)) behind) first closed due.1
+        | inr idle ↦ at_least s.fixed answer_of after config handler later now first (run answer_of after (rounds later) first)
+            (through s.fixed answer_of after config handler all later first held idle due.1 more.1.1.1)
+      ]

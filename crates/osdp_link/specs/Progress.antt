@@ -1,0 +1,41 @@
+-- Something comes through: over rounds that lose nothing, each but the first settles a command or reports an event, until all are.
+use Rattle.std.specs.Prelude.{◌≡◌, ◌≤◌, ℕ, ◌+◌, ◌-◌, min, true, false, All, List, [], ◌∷◌, ◌++◌, length, None}
+use Rattle.osdp_msg.specs.declared.command.Command.{Command}
+use Rattle.osdp_controller.specs.Hearing.{comset_of}
+use Rattle.osdp_controller.specs.Machine.{is_due}
+use Rattle.osdp_reader.specs.declared.handler.Answer.{Answer}
+use Rattle.osdp_link.specs.Headline.{AreMoves, Begins}
+use Rattle.osdp_link.specs.Link.{Delivered, Link, Move, Tick, ToController, ToReader, run}
+
+-- a round that loses nothing: a tick, then the packet to the reader, then the one to the controller
+abbrev pub round : ℕ → List Move
+round now = Tick now ∷ ToReader Delivered ∷ ToController Delivered now ∷ []
+
+abbrev pub rounds : List ℕ → List Move
+rounds [] = []
+rounds (now ∷ later) = round now ++ rounds later
+
+abbrev pub NoComset : Command → Type 0
+NoComset command = comset_of command ≡ None
+
+module _ {H : Type 0} where
+  -- nothing is on the line, both ends are at one address, the reader isn't busy, and no COMSET was issued
+  pub record IsClear (l : Link H) : Type 0 where
+    pub to_reader : l.to_reader ≡ []
+    pub to_controller : l.to_controller ≡ []
+    pub address : l.reader.config.address ≡ l.controller.session.config.address
+    pub ready : l.reader.busy ≡ false
+    pub issued : All NoComset l.account.issued
+
+  module _ (answer_of : H → Command → Answer) (after : H → Command → H) where
+    -- each tick is due when it comes: none is where the session has ended
+    abbrev pub AreDue : List ℕ → Link H → Type 0
+    AreDue [] l = Unit {0}
+    AreDue (now ∷ later) l = (is_due now l.controller ≡ true) × AreDue later (run answer_of after (round now) l)
+
+    abbrev pub ComesThrough : Type 0
+    ComesThrough = (l : Link H) (moves : List Move) (moments : List ℕ) → Begins l → AreMoves answer_of after moves l
+        → let behind = run answer_of after moves l in
+        IsClear behind → AreDue moments behind → AreMoves answer_of after (rounds moments) behind
+        → let t = (run answer_of after (rounds moments) behind).account in
+        min (length moments - 1) (length t.issued + length t.queued) ≤ length t.settled + length t.reported
