@@ -1,6 +1,7 @@
 -- Numbers, deadlines and packets stay in their ranges.
-use Rattle.std.proofs.Common.{◌≡◌, ◌∙◌, ap, sym, subst, ℕ, ◌+◌, ◌-◌, ◌^◌, ◌<◌, ◌≤◌, List, [], ◌∷◌, length, Option, Some, None, refl, arith}
+use Rattle.std.proofs.Common.{◌≡◌, ◌∙◌, true, cond, ap, sym, subst, ℕ, ◌+◌, ◌-◌, ◌^◌, ◌<◌, ◌≤◌, List, [], ◌∷◌, length, Option, Some, None, refl, arith}
 use Rattle.std.specs.Prelude.{◌≢◌, min, max, nat_lt, nat_le, IfSome}
+use Rattle.std.proofs.lemmas.Bool.{le-leb}
 use Rattle.osdp_frame.specs.declared.check_kind.CheckKind.{CheckKind}
 use Rattle.osdp_frame.specs.declared.check_kind.CheckKind.TheVariants.{Sum, Crc}
 use Rattle.osdp_frame.specs.Check.{check_size}
@@ -22,15 +23,14 @@ use Rattle.osdp_controller.specs.declared.session.Session.{Session}
 use Rattle.osdp_controller.specs.declared.state.State.{State}
 use Rattle.osdp_controller.specs.declared.state.State.TheVariants.{Closed, Quiet, Idle, Waiting, Pausing}
 use Rattle.osdp_controller.specs.Answers.{answer_of}
-use Rattle.osdp_controller_laws.specs.Calls.{IsInRange, SendsPackets, StaysInRange, longest_wait}
+use Rattle.osdp_controller_laws.specs.Calls.{ComesDue, IsInRange, SendsPackets, StaysInRange, latest, longest_wait}
 use Rattle.osdp_controller_laws.specs.Commands.{command_of}
 use Rattle.osdp_controller.specs.Exchanges.{exchange_command, submitted_command}
 use Rattle.osdp_controller.specs.Hearing.{Heard, answered, answered_unread, com_of, command_answered, comset_of, hears, hears_busy, loses, moved_by, opening_answered, pausing_hears, pd_id_of, waiting_hears}
 use Rattle.osdp_controller.specs.Private.{numbered_in}
 use Rattle.osdp_controller_laws.specs.Laws.{exchange_in}
-use Rattle.osdp_controller.specs.Machine.{IsMachine, Machine, after_begin, after_retarget, after_submit, changed_unless, refused_unless_closed, retarget_refusal, submit_refusal}
+use Rattle.osdp_controller.specs.Machine.{Machine, acts, after_begin, after_retarget, after_submit, changed_unless, refused_unless_closed, retarget_refusal, submit_refusal}
 use Rattle.osdp_controller_laws.specs.Runs.{Call, Submit, Begin, Retarget, Tick, Hear, after_call, after_calls, sent_by}
-use Rattle.osdp_controller.specs.Settings.{IsConfig, IsTime}
 use Rattle.osdp_controller.specs.Sessions.{frame_of, later, seen}
 use Rattle.osdp_controller.specs.Ticking.{Ticked, begins, gives_up, sends_frame, stays, ticks_in, tries_again}
 use Rattle.osdp_controller.proofs.Choices.{either_way}
@@ -39,17 +39,14 @@ use Rattle.osdp_controller_laws.proofs.Stepwise.{sends_its_frame}
 use Rattle.osdp_controller_laws.proofs.Well.{keeps_each}
 
 -- by the state: the number, the moment that is waited for, and the number of an exchange that isn't the opening
-abbrev Soon : ℕ → ℕ → Type 0
-Soon moment greatest = moment ≤ greatest + longest_wait
-
 abbrev Near : State → ℕ → ℕ → Type 0
-Near Closed number greatest = number < 4
-Near (Quiet until) number greatest = (number < 4) × Soon until greatest
-Near (Idle due) number greatest = (number < 4) × Soon due greatest
-Near (Waiting until sends o) number greatest = (number < 4) × Soon until greatest × (o.exchange ≢ Opening → 0 < number)
-Near (Pausing until o) number greatest = (number < 4) × Soon until greatest × (o.exchange ≢ Opening → 0 < number)
+Near Closed number limit = number < 4
+Near (Quiet until) number limit = (number < 4) × (until ≤ limit)
+Near (Idle due) number limit = (number < 4) × (due ≤ limit)
+Near (Waiting until sends o) number limit = (number < 4) × (until ≤ limit) × (o.exchange ≢ Opening → 0 < number)
+Near (Pausing until o) number limit = (number < 4) × (until ≤ limit) × (o.exchange ≢ Opening → 0 < number)
 
-of_near : (s : Session) → IsInRange s → (state : State) → s.state ≡ state → Near state s.number s.greatest
+of_near : (s : Session) → IsInRange s → (state : State) → s.state ≡ state → Near state s.number (latest s)
 of_near s is Closed e = is.number
 of_near s is (Quiet until) e = (is.number, rw e at is.deadline)
 of_near s is (Idle due) e = (is.number, rw e at is.deadline)
@@ -59,7 +56,7 @@ of_near s is (Pausing until o) e = (is.number, (rw e at is.deadline), λ other. 
 above_zero : (x y : Exchange) (number : ℕ) → (x ≢ Opening → 0 < number) → Some x ≡ Some y → y ≢ Opening → 0 < number
 above_zero x y number above e other = above (λ o. other (let same : x ≡ y = cc in sym same ∙ o))
 
-to_near : (s : Session) → (state : State) → s.state ≡ state → Near state s.number s.greatest → IsInRange s
+to_near : (s : Session) → (state : State) → s.state ≡ state → Near state s.number (latest s) → IsInRange s
 to_near s Closed e near = record { number = near; above_zero = λ x h other. cc; deadline = rw e tt }
 to_near s (Quiet until) e near = record { number = near.0; above_zero = λ x h other. cc; deadline = rw e near.1 }
 to_near s (Idle due) e near = record { number = near.0; above_zero = λ x h other. cc; deadline = rw e near.1 }
@@ -76,31 +73,40 @@ to_near s (Pausing until o) e near = record {
 
 -- deadlines
 
-least : (a b : ℕ) → min a b ≤ a
-least a b = omega arith
-
-later_soon : (wait : ℕ) (s : Session) → IsTime wait → Soon (later wait s) s.greatest
-later_soon wait s is =
-    let most : wait ≤ 3600000 = is.1 in
-    let first : min (s.greatest + wait) (2 ^ 64 - 1) ≤ s.greatest + wait = least (s.greatest + wait) (2 ^ 64 - 1) in
-    soon_by (min (s.greatest + wait) (2 ^ 64 - 1)) s.greatest wait first most
+later_soon : (wait : ℕ) (s : Session) → wait ≤ longest_wait s.config → later wait s ≤ latest s
+later_soon wait s is = soon_by s.greatest wait (longest_wait s.config) is
   where
-    soon_by : (m g w : ℕ) → m ≤ g + w → w ≤ 3600000 → m ≤ g + 3600000
-    soon_by m g w h k = omega arith
+    soon_by : (g w longest : ℕ) → w ≤ longest → min (g + w) (2 ^ 64 - 1) ≤ max g (min (g + longest) (2 ^ 64 - 1))
+    soon_by g w longest h = omega arith
 
-now_soon : (greatest : ℕ) → Soon greatest greatest
-now_soon greatest = omega arith
+reply_soon : (s : Session) → later s.config.reply_wait s ≤ latest s
+reply_soon s = later_soon s.config.reply_wait s (omega arith)
+
+poll_soon : (s : Session) → later s.config.poll_interval s ≤ latest s
+poll_soon s = later_soon s.config.poll_interval s (omega arith)
+
+busy_soon : (s : Session) → later s.config.busy_wait s ≤ latest s
+busy_soon s = later_soon s.config.busy_wait s (omega arith)
+
+quiet_soon : (s : Session) → later s.config.quiet_wait s ≤ latest s
+quiet_soon s = later_soon s.config.quiet_wait s (omega arith)
+
+now_soon : (s : Session) → s.greatest ≤ latest s
+now_soon s = omega arith
 
 -- a moment that is seen
-seen_soon : (moment greatest now : ℕ) → Soon moment greatest → Soon moment (max greatest now)
-seen_soon moment greatest now h = omega arith
+seen_soon : (moment : ℕ) (s : Session) (now : ℕ) → moment ≤ latest s → moment ≤ latest (seen now s)
+seen_soon moment s now h = by_greatest s.greatest (longest_wait s.config) h
+  where
+    by_greatest : (g w : ℕ) → moment ≤ max g (min (g + w) (2 ^ 64 - 1)) → moment ≤ max (max g now) (min (max g now + w) (2 ^ 64 - 1))
+    by_greatest g w h = omega arith
 
-near_seen : (state : State) (number greatest now : ℕ) → Near state number greatest → Near state number (max greatest now)
-near_seen Closed number greatest now near = near
-near_seen (Quiet until) number greatest now near = (near.0, seen_soon until greatest now near.1)
-near_seen (Idle due) number greatest now near = (near.0, seen_soon due greatest now near.1)
-near_seen (Waiting until sends o) number greatest now near = (near.0, seen_soon until greatest now near.1, near.2)
-near_seen (Pausing until o) number greatest now near = (near.0, seen_soon until greatest now near.1, near.2)
+near_seen : (state : State) (number : ℕ) (s : Session) (now : ℕ) → Near state number (latest s) → Near state number (latest (seen now s))
+near_seen Closed number s now near = near
+near_seen (Quiet until) number s now near = (near.0, seen_soon until s now near.1)
+near_seen (Idle due) number s now near = (near.0, seen_soon due s now near.1)
+near_seen (Waiting until sends o) number s now near = (near.0, seen_soon until s now near.1, near.2)
+near_seen (Pausing until o) number s now near = (near.0, seen_soon until s now near.1, near.2)
 
 -- ticks
 
@@ -111,152 +117,176 @@ next_above : (n : ℕ) → 0 < next_sequence n
 next_above n = omega arith
 
 abbrev TickNear : Ticked → Type 0
-TickNear t = Near t.session.state t.session.number t.session.greatest
+TickNear t = Near t.session.state t.session.number (latest t.session)
 
-begins_near : (x : Exchange) (number : ℕ) (s : Session) (w : List Command) → IsConfig s.config → number < 4 → (x ≢ Opening → 0 < number)
+begins_near : (x : Exchange) (number : ℕ) (s : Session) (w : List Command) → number < 4 → (x ≢ Opening → 0 < number)
     → TickNear (begins x number s w)
-begins_near x number s w config below above = (below, later_soon s.config.reply_wait s config.reply_wait, above)
+begins_near x number s w below above = (below, reply_soon s, above)
 
-sends_near : (sends : ℕ) (o : Outstanding) (s : Session) (w : List Command) → IsConfig s.config → s.number < 4 → (o.exchange ≢ Opening → 0 < s.number)
+sends_near : (sends : ℕ) (o : Outstanding) (s : Session) (w : List Command) → s.number < 4 → (o.exchange ≢ Opening → 0 < s.number)
     → TickNear (sends_frame sends o s w)
-sends_near sends o s w config below above = (below, later_soon s.config.reply_wait s config.reply_wait, above)
+sends_near sends o s w below above = (below, reply_soon s, above)
 
-tick_near : (state : State) (s : Session) (w : List Command) → IsConfig s.config → Near state s.number s.greatest → Near s.state s.number s.greatest
+tick_near : (state : State) (s : Session) (w : List Command) → Near state s.number (latest s) → Near s.state s.number (latest s)
     → TickNear (ticks_in state s w)
-tick_near Closed s w config near same = same
-tick_near (Quiet until) s w config near same =
+tick_near Closed s w near same = same
+tick_near (Quiet until) s w near same =
     either_way TickNear (nat_le until s.greatest) (begins Opening 0 s w) (stays s w)
-    (λ b. begins_near Opening 0 s w config (omega arith) (λ other. absurd (other refl))) (λ b. same)
-tick_near (Idle due) s (command ∷ w) config near same =
-    begins_near (Asking command) (next_sequence s.number) s w config (next_below s.number) (λ other. next_above s.number)
-tick_near (Idle due) s [] config near same =
+    (λ b. begins_near Opening 0 s w (omega arith) (λ other. absurd (other refl))) (λ b. same)
+tick_near (Idle due) s (command ∷ w) near same =
+    begins_near (Asking command) (next_sequence s.number) s w (next_below s.number) (λ other. next_above s.number)
+tick_near (Idle due) s [] near same =
     either_way TickNear (nat_le due s.greatest) (begins Polling (next_sequence s.number) s []) (stays s [])
-    (λ b. begins_near Polling (next_sequence s.number) s [] config (next_below s.number) (λ other. next_above s.number)) (λ b. same)
-tick_near (Waiting until sends o) s w config near same =
+    (λ b. begins_near Polling (next_sequence s.number) s [] (next_below s.number) (λ other. next_above s.number)) (λ b. same)
+tick_near (Waiting until sends o) s w near same =
     either_way TickNear (nat_le until s.greatest) (tries_again sends o s w) (stays s w)
     (λ b. either_way TickNear (nat_lt sends s.config.sends) (sends_frame (sends + 1) o s w) (gives_up o s w)
-    (λ c. sends_near (sends + 1) o s w config near.0 near.2) (λ c. near.0))
+    (λ c. sends_near (sends + 1) o s w near.0 near.2) (λ c. near.0))
     (λ b. same)
-tick_near (Pausing until o) s w config near same =
+tick_near (Pausing until o) s w near same =
     either_way TickNear (nat_le until s.greatest) (sends_frame 1 o s w) (stays s w)
-    (λ b. sends_near 1 o s w config near.0 near.2) (λ b. same)
+    (λ b. sends_near 1 o s w near.0 near.2) (λ b. same)
 
 -- frames
 
 abbrev FrameNear : Heard → Type 0
-FrameNear h = Near h.session.state h.session.number h.session.greatest
+FrameNear h = Near h.session.state h.session.number (latest h.session)
 
-rest_near : (s : Session) → IsConfig s.config → s.number < 4 → Near (Idle (later s.config.poll_interval s)) s.number s.greatest
-rest_near s config below = (below, later_soon s.config.poll_interval s config.poll_interval)
+rest_near : (s : Session) → s.number < 4 → Near (Idle (later s.config.poll_interval s)) s.number (latest s)
+rest_near s below = (below, poll_soon s)
 
-busy_near : (o : Outstanding) (s : Session) → IsConfig s.config → s.number < 4 → (o.exchange ≢ Opening → 0 < s.number) → FrameNear (hears_busy o s)
-busy_near o s config below above =
+busy_near : (o : Outstanding) (s : Session) → s.number < 4 → (o.exchange ≢ Opening → 0 < s.number) → FrameNear (hears_busy o s)
+busy_near o s below above =
     either_way FrameNear (nat_lt s.config.busy_limit (o.busies + 1)) (loses causes.TooBusy o s)
     (record { session = record s { state = Pausing (later s.config.busy_wait s) (record o { busies = o.busies + 1 }) }; report = None })
-    (λ b. below) (λ b. (below, later_soon s.config.busy_wait s config.busy_wait, above))
+    (λ b. below) (λ b. (below, busy_soon s, above))
 
-opening_near : (id : Option PdId) (s : Session) → IsConfig s.config → s.number < 4 → Near s.state s.number s.greatest → FrameNear (opening_answered id s)
-opening_near None s config below same = same
-opening_near (Some id) s config below same = rest_near s config below
+opening_near : (id : Option PdId) (s : Session) → s.number < 4 → Near s.state s.number (latest s) → FrameNear (opening_answered id s)
+opening_near None s below same = same
+opening_near (Some id) s below same = rest_near s below
 
-command_near : (moved : Option Communication) (command : Command) (reply : Reply) (s : Session) → IsConfig s.config → s.number < 4
+command_near : (moved : Option Communication) (command : Command) (reply : Reply) (s : Session) → s.number < 4
     → FrameNear (command_answered moved command reply s)
-command_near None command reply s config below = rest_near s config below
-command_near (Some d) command reply s config below = below
+command_near None command reply s below = rest_near s below
+command_near (Some d) command reply s below = below
 
-answer_near : (x : Exchange) (reply : Reply) (s : Session) → IsConfig s.config → s.number < 4 → Near s.state s.number s.greatest
+answer_near : (x : Exchange) (reply : Reply) (s : Session) → s.number < 4 → Near s.state s.number (latest s)
     → FrameNear (answered x reply s)
-answer_near Opening reply s config below same = opening_near (pd_id_of reply) s config below same
-answer_near Polling reply s config below same = rest_near s config below
-answer_near (Asking command) reply s config below same =
-    command_near (moved_by (comset_of command) (com_of reply)) command reply s config below
+answer_near Opening reply s below same = opening_near (pd_id_of reply) s below same
+answer_near Polling reply s below same = rest_near s below
+answer_near (Asking command) reply s below same =
+    command_near (moved_by (comset_of command) (com_of reply)) command reply s below
 
-unread_near : (x : Exchange) (code : ℕ) (s : Session) → IsConfig s.config → s.number < 4 → Near s.state s.number s.greatest
+unread_near : (x : Exchange) (code : ℕ) (s : Session) → s.number < 4 → Near s.state s.number (latest s)
     → FrameNear (answered_unread x code s)
-unread_near Opening code s config below same = same
-unread_near Polling code s config below same = rest_near s config below
-unread_near (Asking command) code s config below same = rest_near s config below
+unread_near Opening code s below same = same
+unread_near Polling code s below same = rest_near s below
+unread_near (Asking command) code s below same = rest_near s below
 
-waiting_near : (a : Answer) (sends : ℕ) (o : Outstanding) (s : Session) → IsConfig s.config → s.number < 4 → (o.exchange ≢ Opening → 0 < s.number)
-    → Near s.state s.number s.greatest → FrameNear (waiting_hears a sends o s)
-waiting_near NotTaken sends o s config below above same = busy_near o s config below above
-waiting_near Damaged sends o s config below above same = (below, now_soon s.greatest, above)
-waiting_near NumberRefused sends o s config below above same = below
-waiting_near (Plain reply) sends o s config below above same = answer_near o.exchange reply s config below same
-waiting_near (Unreadable code) sends o s config below above same = unread_near o.exchange code s config below same
+waiting_near : (a : Answer) (sends : ℕ) (o : Outstanding) (s : Session) → s.number < 4 → (o.exchange ≢ Opening → 0 < s.number)
+    → Near s.state s.number (latest s) → FrameNear (waiting_hears a sends o s)
+waiting_near NotTaken sends o s below above same = busy_near o s below above
+waiting_near Damaged sends o s below above same = (below, now_soon s, above)
+waiting_near NumberRefused sends o s below above same = below
+waiting_near (Plain reply) sends o s below above same = answer_near o.exchange reply s below same
+waiting_near (Unreadable code) sends o s below above same = unread_near o.exchange code s below same
 
-pausing_near : (a : Answer) (o : Outstanding) (s : Session) → IsConfig s.config → s.number < 4 → Near s.state s.number s.greatest
+pausing_near : (a : Answer) (o : Outstanding) (s : Session) → s.number < 4 → Near s.state s.number (latest s)
     → FrameNear (pausing_hears a o s)
-pausing_near NotTaken o s config below same = same
-pausing_near Damaged o s config below same = same
-pausing_near NumberRefused o s config below same = below
-pausing_near (Plain reply) o s config below same = answer_near o.exchange reply s config below same
-pausing_near (Unreadable code) o s config below same = unread_near o.exchange code s config below same
+pausing_near NotTaken o s below same = same
+pausing_near Damaged o s below same = same
+pausing_near NumberRefused o s below same = below
+pausing_near (Plain reply) o s below same = answer_near o.exchange reply s below same
+pausing_near (Unreadable code) o s below same = unread_near o.exchange code s below same
 
-numbered_near : (state : State) (a : Answer) (s : Session) → IsConfig s.config → Near state s.number s.greatest → Near s.state s.number s.greatest
+numbered_near : (state : State) (a : Answer) (s : Session) → Near state s.number (latest s) → Near s.state s.number (latest s)
     → FrameNear (numbered_in state a s)
-numbered_near Closed a s config near same = same
-numbered_near (Quiet until) a s config near same = same
-numbered_near (Idle due) a s config near same = same
-numbered_near (Waiting until sends o) a s config near same = waiting_near a sends o s config near.0 near.2 same
-numbered_near (Pausing until o) a s config near same = pausing_near a o s config near.0 same
+numbered_near Closed a s near same = same
+numbered_near (Quiet until) a s near same = same
+numbered_near (Idle due) a s near same = same
+numbered_near (Waiting until sends o) a s near same = waiting_near a sends o s near.0 near.2 same
+numbered_near (Pausing until o) a s near same = pausing_near a o s near.0 same
 
-frame_near : (p : Packet) (now : ℕ) (s : Session) → IsConfig s.config → Near s.state s.number s.greatest → FrameNear (hears p now s)
-frame_near p now s config near =
-    let same = near_seen s.state s.number s.greatest now near in
+frame_near : (p : Packet) (now : ℕ) (s : Session) → Near s.state s.number (latest s) → FrameNear (hears p now s)
+frame_near p now s near =
+    let same = near_seen s.state s.number s now near in
     either_frame FrameNear p now s
-    (λ from h. numbered_near s.state (answer_of p) (seen now s) config same same) same
+    (λ from h. numbered_near s.state (answer_of p) (seen now s) same same) same
 
 -- each call
 
 abbrev MachineNear : Machine → Type 0
-MachineNear m = Near m.session.state m.session.number m.session.greatest
+MachineNear m = Near m.session.state m.session.number (latest m.session)
 
-number_below : (state : State) (number greatest : ℕ) → Near state number greatest → number < 4
-number_below Closed number greatest near = near
-number_below (Quiet until) number greatest near = near.0
-number_below (Idle due) number greatest near = near.0
-number_below (Waiting until sends o) number greatest near = near.0
-number_below (Pausing until o) number greatest near = near.0
+number_below : (state : State) (number limit : ℕ) → Near state number limit → number < 4
+number_below Closed number limit near = near
+number_below (Quiet until) number limit near = near.0
+number_below (Idle due) number limit near = near.0
+number_below (Waiting until sends o) number limit near = near.0
+number_below (Pausing until o) number limit near = near.0
 
 submit_near : (f : Option ControllerFault) (command : Command) (m : Machine) → MachineNear m → MachineNear (changed_unless f m (after_submit command m))
 submit_near None command m near = near
 submit_near (Some fault) command m near = near
 
-begin_near : (now : ℕ) (f : Option ControllerFault) (m : Machine) → IsConfig m.session.config → MachineNear m
+begin_near : (now : ℕ) (f : Option ControllerFault) (m : Machine) → MachineNear m
     → MachineNear (changed_unless f m (after_begin now m))
-begin_near now None m config near =
-    (number_below m.session.state m.session.number m.session.greatest near, later_soon m.session.config.quiet_wait (seen now m.session) config.quiet_wait)
-begin_near now (Some fault) m config near = near
+begin_near now None m near =
+    (number_below m.session.state m.session.number (latest m.session) near, quiet_soon (seen now m.session))
+begin_near now (Some fault) m near = near
 
 retarget_near : (f : Option ControllerFault) (address : ℕ) (m : Machine) → MachineNear m → MachineNear (changed_unless f m (after_retarget address m))
 retarget_near None address m near = near
 retarget_near (Some fault) address m near = near
 
-call_near : (call : Call) (m : Machine) → IsConfig m.session.config → MachineNear m → MachineNear (after_call call m)
-call_near (Submit command) m config near = submit_near (submit_refusal command m) command m near
-call_near (Begin now) m config near = begin_near now (refused_unless_closed m.session.state) m config near
-call_near (Retarget address) m config near = retarget_near (retarget_refusal address m) address m near
-call_near (Tick now) m config near =
-    let same = near_seen m.session.state m.session.number m.session.greatest now near in
-    tick_near m.session.state (seen now m.session) m.waiting config same same
-call_near (Hear p now) m config near = frame_near p now m.session config near
+call_near : (call : Call) (m : Machine) → MachineNear m → MachineNear (after_call call m)
+call_near (Submit command) m near = submit_near (submit_refusal command m) command m near
+call_near (Begin now) m near = begin_near now (refused_unless_closed m.session.state) m near
+call_near (Retarget address) m near = retarget_near (retarget_refusal address m) address m near
+call_near (Tick now) m near =
+    let same = near_seen m.session.state m.session.number m.session now near in
+    tick_near m.session.state (seen now m.session) m.waiting same same
+call_near (Hear p now) m near = frame_near p now m.session near
 
-near_behind : (m : Machine) (call : Call) → IsMachine m → IsInRange m.session → IsInRange (after_call call m).session
-near_behind m call is near =
-    let session = is.session in
+near_behind : (m : Machine) (call : Call) → IsInRange m.session → IsInRange (after_call call m).session
+near_behind m call near =
     to_near (after_call call m).session (after_call call m).session.state refl
-    (call_near call m session.config (of_near m.session near m.session.state refl))
+    (call_near call m (of_near m.session near m.session.state refl))
 
-near_all : (m : Machine) (calls : List Call) → IsMachine m → IsInRange m.session → IsInRange (after_calls calls m).session
-near_all m [] is near = near
-near_all m (call ∷ calls) is near = near_all (after_call call m) calls (keeps_each call m is) (near_behind m call is near)
+near_all : (m : Machine) (calls : List Call) → IsInRange m.session → IsInRange (after_calls calls m).session
+near_all m [] near = near
+near_all m (call ∷ calls) near = near_all (after_call call m) calls (near_behind m call near)
 
 pub stays_near : StaysInRange
 stays_near = record {
   new = λ config capacity. record { number = omega arith; above_zero = λ x h other. cc; deadline = tt };
   behind = near_all;
 }
+
+-- ticks that come so late
+
+abbrev Acts : Ticked → Type 0
+Acts t = acts t.step ≡ true
+
+-- a moment is reached: the tick takes the first branch
+reached : (until : ℕ) (s : Session) (t u : Ticked) → until ≤ s.greatest → Acts t → Acts (cond (nat_le until s.greatest) t u)
+reached until s t u h first = subst (λ b. Acts (cond b t u)) (sym (le-leb until s.greatest h)) first
+
+due_by : (state : State) (s : Session) (w : List Command) (limit : ℕ) → state ≢ Closed → limit ≤ s.greatest → Near state s.number limit
+    → Acts (ticks_in state s w)
+due_by Closed s w limit unended late near = absurd (unended refl)
+due_by (Quiet until) s w limit unended late near = reached until s (begins Opening 0 s w) (stays s w) (omega (arith, near.1)) refl
+due_by (Idle due) s [] limit unended late near =
+    reached due s (begins Polling (next_sequence s.number) s []) (stays s []) (omega (arith, near.1)) refl
+due_by (Idle due) s (command ∷ w) limit unended late near = refl
+due_by (Waiting until sends o) s w limit unended late near =
+    reached until s (tries_again sends o s w) (stays s w) (omega (arith, near.1))
+    (either_way Acts (nat_lt sends s.config.sends) (sends_frame (sends + 1) o s w) (gives_up o s w) (λ b. refl) (λ b. refl))
+due_by (Pausing until o) s w limit unended late near = reached until s (sends_frame 1 o s w) (stays s w) (omega (arith, near.1)) refl
+
+pub comes_due : ComesDue
+comes_due now m near unended late =
+    due_by m.session.state (seen now m.session) m.waiting (latest m.session) unended (omega (arith, late)) (of_near m.session near m.session.state refl)
 
 -- packets
 
@@ -296,7 +326,7 @@ sends_packets m call p is near e fits =
     let behind = keeps_each call m is in
     let session = behind.session in
     let config = session.config in
-    let ranges = near_behind m call is near in
+    let ranges = near_behind m call near in
     let frame = frame_sent call m p e in
     let asked = subst (λ (o : Option Exchange). IfSome (command_of o) CommandFits) frame.1 fits in
     subst IsPacket (sym frame.2) (frame_is_packet frame.0 (after_call call m).session config.address ranges.number (exchange_fits frame.0 asked))

@@ -4,7 +4,7 @@
 ghost use Rattle.std.specs.Prelude.{◌≡◌, ℕ, true, List};
 ghost use Rattle.osdp_msg.specs.declared.command.Command.{Command};
 ghost use Rattle.osdp_controller.specs.declared.session.Session.{Session};
-ghost use Rattle.osdp_controller_laws.specs.Calls.{BeginsWithFrame, KeepsSettings, SendsPackets, StaysInRange, WaitsUntilDue};
+ghost use Rattle.osdp_controller_laws.specs.Calls.{BeginsWithFrame, ComesDue, KeepsSettings, SendsPackets, StaysInRange, WaitsUntilDue};
 ghost use Rattle.osdp_controller_laws.specs.Commands.{CommandsByPlace, TellsEnds};
 ghost use Rattle.osdp_controller_laws.specs.Laws.{CountsSends, HearsAnswers, KeepsTime, NumbersTakeTurns, TakesFront, TellsLost, TellsWhy};
 ghost use Rattle.osdp_controller_laws.specs.Runs.{Call, NumbersByPlace, ResendsTheSame, SendsFew, StaysWell};
@@ -118,9 +118,14 @@ pub fn ticks_wait_until_due()
 {}
 
 /// Whatever is called: sequence numbers are below 4, and 0 for the opening ID alone; no deadline is further away than
-/// the longest wait.
+/// the longest of the four waits.
 pub fn stays_in_range()
     ensures { StaysInRange }
+{}
+
+/// So a tick that comes so much later is due, unless the session has ended.
+pub fn ticks_come_due()
+    ensures { ComesDue }
 {}
 
 /// Each frame that goes out is a packet, where the command that it asks is in its ranges.

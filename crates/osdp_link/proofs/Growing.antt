@@ -18,7 +18,7 @@ use Rattle.osdp_reader.specs.declared.kind.Kind.TheVariants as kind
 use Rattle.osdp_reader.specs.Table as reader
 use Rattle.osdp_link.specs.Link as link
 use Rattle.osdp_link.specs.Link.{Account, Delivered, Delivery, Link, Lost, Move, Queue as QueueEvent, Reopen, Repeated, SetBusy, Submit, Tick, ToController, ToReader, after_move, run, told}
-use Rattle.osdp_link.specs.Sessions.{accepted, submitted}
+use Rattle.osdp_link.specs.Sessions.{accepted, queued, queued_unless, submitted}
 use Rattle.osdp_link.proofs.Once.{GoesOn}
 
 -- an account that goes on with these commands and events
@@ -76,15 +76,6 @@ taken_keeps k c t =
     let more = taken_takes k c t in
     as_before t (link.taken k c t) (ap (λ u. u.issued) more.1) (ap (λ u. u.queued) more.1)
 
--- the event that a move queues
-abbrev pub queued_by : Bool → Event → List Event
-queued_by true e = []
-queued_by false e = e ∷ []
-
-abbrev pub events_in : {H : Type 0} → Move → Link H → List Event
-events_in {H} (QueueEvent e) l = queued_by (length l.reader.queue.events == l.reader.queue.capacity) e
-events_in {H} _ l = []
-
 module _ {H : Type 0} (answer_of : H → Command → Answer) (after : H → Command → H) where
   -- within a session the account goes on, and those before it stay
   abbrev pub SameSession : List Command → List Event → Link H → Link H → Type 0
@@ -97,7 +88,7 @@ module _ {H : Type 0} (answer_of : H → Command → Answer) (after : H → Comm
   submits_on (Some fault) c l = same l
   submits_on None c l = (record { issued = refl; queued = sym (append-nil l.account.queued) }, refl)
 
-  queues_on : (full : Bool) (e : Event) (l : Link H) → SameSession [] (queued_by full e) l (link.queues full e l)
+  queues_on : (full : Bool) (e : Event) (l : Link H) → SameSession [] (queued_unless full e) l (link.queues full e l)
   queues_on true e l = same l
   queues_on false e l = (record { issued = sym (append-nil l.account.issued); queued = refl }, refl)
 
@@ -120,7 +111,7 @@ module _ {H : Type 0} (answer_of : H → Command → Answer) (after : H → Comm
   to_controller_on Lost now (p ∷ ps) l = (as_before l.account l.account refl refl, refl)
   to_controller_on Repeated now (p ∷ ps) l = controller_gets_on p now l
 
-  pub goes_on : (move : Move) (l : Link H) → GoesOn move → SameSession (submitted move l) (events_in move l) l (after_move answer_of after move l)
+  pub goes_on : (move : Move) (l : Link H) → GoesOn move → SameSession (submitted move l) (queued move l) l (after_move answer_of after move l)
   goes_on (Submit c) l on = submits_on (controllers.submit_refusal c l.controller) c l
   goes_on (QueueEvent e) l on = queues_on (length l.reader.queue.events == l.reader.queue.capacity) e l
   goes_on (SetBusy busy) l on = (as_before l.account l.account refl refl, refl)

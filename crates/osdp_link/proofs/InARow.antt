@@ -12,14 +12,14 @@ use Rattle.osdp_controller.specs.declared.state.State.{State}
 use Rattle.osdp_controller.specs.declared.state.State.TheVariants.{Closed, Quiet, Idle, Waiting, Pausing}
 use Rattle.osdp_reader.specs.declared.config.ReaderConfig.{ReaderConfig}
 use Rattle.osdp_reader.specs.declared.handler.Answer.{Answer}
-use Rattle.osdp_link.specs.Headline.{AreMoves, AreOnce, Begins, IsMove, MaySubmit, handler_after}
+use Rattle.osdp_link.specs.Headline.{AreMoves, AreOnce, Begins, IsMove, MaySubmit, handler_after, IsBeginning}
 use Rattle.osdp_link.specs.Link as link
 use Rattle.osdp_link.specs.Link.{Account, Delivered, Delivery, Link, Lost, Move, Queue as QueueEvent, Reopen, Repeated, SetBusy, Submit, Tick, ToController, ToReader, after_move, run, told}
 use Rattle.osdp_link.specs.Peers.{IsPlainlySaid, ReadEachOther}
-use Rattle.osdp_link.specs.Sessions.{AreInARow, IsBeginning, all_submitted, asked_in, settled_commands, submitted}
+use Rattle.osdp_link.specs.Sessions.{AreInARow, HaveLeft, all_queued, all_submitted, asked_in, queued, settled_commands, submitted}
 use Rattle.osdp_link.proofs.Advancing.{HoldsAtSomeStage}
 use Rattle.osdp_link.proofs.Deliveries.{all_said}
-use Rattle.osdp_link.proofs.Growing.{Grows, events_in, goes_on}
+use Rattle.osdp_link.proofs.Growing.{Grows, goes_on}
 use Rattle.osdp_link.proofs.Lines.{each_all, each_of}
 use Rattle.osdp_link.proofs.Moves.{Premises}
 use Rattle.osdp_link.proofs.Once.{GoesOn, fresh, is_once, moving}
@@ -39,9 +39,10 @@ module _ {H : Type 0} (answer_of : H → Command → Answer) (after : H → Comm
     row,
   )
 
-  -- every command so far has its place
-  abbrev pub Placed : List Command → Link H → Type 0
-  Placed cs l = cs ≡ asked_in l.earlier ++ l.account.issued
+  -- every command and event so far has its place
+  pub record Placed (cs : List Command) (es : List Event) (l : Link H) : Type 0 where
+    pub commands : cs ≡ asked_in l.earlier ++ l.account.issued
+    pub events : (gone : List Event) × HaveLeft l.earlier gone × (es ≡ gone ++ l.account.queued)
 
   -- a session that holds, behind sessions that were once and in a row
   pub record Stands (settings : ReaderConfig) (first : H) (l : Link H) : Type 0 where
@@ -88,7 +89,7 @@ module _ {H : Type 0} (answer_of : H → Command → Answer) (after : H → Comm
         holds = subst (λ earlier. HoldsAtSomeStage h.fixed answer_of after settings (handler_after answer_of after settings first earlier) new) (sym goes.1)
             (moving h.fixed answer_of after settings handler (given h.fixed handler h.device) move l on fits h.holds);
         once = subst (AreOnce answer_of after settings first) (sym goes.1) h.once;
-        row = subst (AreInARow new.account) (sym goes.1) (row_goes_on answer_of after l.account new.account (submitted move l) (events_in move l) l.earlier goes.0 h.row);
+        row = subst (AreInARow new.account) (sym goes.1) (row_goes_on answer_of after l.account new.account (submitted move l) (queued move l) l.earlier goes.0 h.row);
       }
 
   -- a session begins again
@@ -140,29 +141,52 @@ module _ {H : Type 0} (answer_of : H → Command → Answer) (after : H → Comm
   standing given (Reopen now) l fits h =
       reopening (controllers.begin_refusal l.controller) l.to_reader l.to_controller now l refl refl refl fits h
 
-  -- one move more: the command that it submits comes last
-  placing : Assumed → (move : Move) (l : Link H) (cs : List Command) → AllStands l → Placed answer_of after cs l
-      → Placed answer_of after (cs ++ submitted move l) (after_move answer_of after move l)
-  placing given move l cs h placed = by_move move
+  -- one move more: what it submits or queues comes last
+  placing : (move : Move) (l : Link H) (cs : List Command) (es : List Event) → AllStands l → Placed answer_of after cs es l
+      → Placed answer_of after (cs ++ submitted move l) (es ++ queued move l) (after_move answer_of after move l)
+  placing move l cs es h placed = by_move move
     where
-      on : (move : Move) → GoesOn move → Placed answer_of after (cs ++ submitted move l) (after_move answer_of after move l)
+      on : (move : Move) → GoesOn move → Placed answer_of after (cs ++ submitted move l) (es ++ queued move l) (after_move answer_of after move l)
       on move goes =
           let g = goes_on answer_of after move l goes in
-          ap (λ all. all ++ submitted move l) placed ∙ append_assoc (asked_in l.earlier) l.account.issued (submitted move l)
-          ∙ ap (λ all. asked_in l.earlier ++ all) (sym g.0.issued) ∙ ap (λ earlier. asked_in earlier ++ (after_move answer_of after move l).account.issued) (sym g.1)
+          let new = after_move answer_of after move l in
+          let gone = placed.events.0 in
+          record {
+            commands = ap (λ all. all ++ submitted move l) placed.commands
+                ∙ append_assoc (asked_in l.earlier) l.account.issued (submitted move l)
+                ∙ ap (λ all. asked_in l.earlier ++ all) (sym g.0.issued)
+                ∙ ap (λ earlier. asked_in earlier ++ new.account.issued) (sym g.1);
+            events = (
+              gone,
+              subst (λ earlier. HaveLeft earlier gone) (sym g.1) placed.events.1,
+              ap (λ all. all ++ queued move l) placed.events.2
+                  ∙ append_assoc gone l.account.queued (queued move l)
+                  ∙ ap (λ all. gone ++ all) (sym g.0.queued),
+            );
+          }
 
       again : (refusal : Option ControllerFault) (ps qs : List Packet) (now : ℕ) → controllers.begin_refusal l.controller ≡ refusal
-          → Placed answer_of after cs (link.reopens refusal ps qs now l)
+          → Placed answer_of after cs es (link.reopens refusal ps qs now l)
       again (Some fault) ps qs now may = placed
       again None (p ∷ ps) qs now may = placed
       again None [] (q ∷ qs) now may = placed
       again None [] [] now may =
           let left = leaves h.fixed answer_of after settings (handler_after answer_of after settings first l.earlier) h.holds.0 l h.holds.1
           (is_closed l.controller.session.state may) in
-          placed ∙ ap (λ all. asked_in l.earlier ++ all) (left.commands ∙ sym (append_assoc (settled_commands l.account) l.account.unsettled l.controller.waiting))
-          ∙ sym (append_assoc (asked_in l.earlier) (settled_commands l.account ++ l.account.unsettled) l.controller.waiting)
+          record {
+            commands = placed.commands
+                ∙ ap (λ all. asked_in l.earlier ++ all) (left.commands ∙ sym (append_assoc (settled_commands l.account) l.account.unsettled l.controller.waiting))
+                ∙ sym (append_assoc (asked_in l.earlier) (settled_commands l.account ++ l.account.unsettled) l.controller.waiting);
+            events = (
+              placed.events.0 ++ left.reported.0,
+              (placed.events.0, left.reported.0, left.reported.1, placed.events.1, refl, left.reported.3, left.reported.5),
+              placed.events.2
+                  ∙ ap (λ all. placed.events.0 ++ all) left.reported.2
+                  ∙ sym (append_assoc placed.events.0 left.reported.0 l.reader.queue.events),
+            );
+          }
 
-      by_move : (move : Move) → Placed answer_of after (cs ++ submitted move l) (after_move answer_of after move l)
+      by_move : (move : Move) → Placed answer_of after (cs ++ submitted move l) (es ++ queued move l) (after_move answer_of after move l)
       by_move (Submit c) = on (Submit c) tt
       by_move (QueueEvent e) = on (QueueEvent e) tt
       by_move (SetBusy busy) = on (SetBusy busy) tt
@@ -170,16 +194,25 @@ module _ {H : Type 0} (answer_of : H → Command → Answer) (after : H → Comm
       by_move (ToReader how) = on (ToReader how) tt
       by_move (ToController how now) = on (ToController how now) tt
       by_move (Reopen now) =
-          append-nil cs ∙ again (controllers.begin_refusal l.controller) l.to_reader l.to_controller now refl
+          let new = link.reopens (controllers.begin_refusal l.controller) l.to_reader l.to_controller now l in
+          subst (λ all. Placed answer_of after all (es ++ []) new) (sym (append-nil cs))
+          (subst (λ all. Placed answer_of after cs all new) (sym (append-nil es))
+          (again (controllers.begin_refusal l.controller) l.to_reader l.to_controller now refl))
 
-  all_placed : Assumed → (moves : List Move) (l : Link H) (cs : List Command) → AreMoves answer_of after moves l → AllStands l
-      → Placed answer_of after cs l
-      → Placed answer_of after (cs ++ all_submitted answer_of after moves l) (run answer_of after moves l)
-  all_placed given [] l cs fits h placed = append-nil cs ∙ placed
-  all_placed given (move ∷ moves) l cs fits h placed =
-      sym (append_assoc cs (submitted move l) (all_submitted answer_of after moves (after_move answer_of after move l)))
-      ∙ all_placed given moves (after_move answer_of after move l) (cs ++ submitted move l) fits.1 (standing given move l fits.0 h)
-      (placing given move l cs h placed)
+  all_placed : Assumed → (moves : List Move) (l : Link H) (cs : List Command) (es : List Event) → AreMoves answer_of after moves l → AllStands l
+      → Placed answer_of after cs es l
+      → Placed answer_of after (cs ++ all_submitted answer_of after moves l) (es ++ all_queued answer_of after moves l) (run answer_of after moves l)
+  all_placed given [] l cs es fits h placed =
+      subst (λ all. Placed answer_of after all (es ++ []) l) (sym (append-nil cs))
+      (subst (λ all. Placed answer_of after cs all l) (sym (append-nil es)) placed)
+  all_placed given (move ∷ moves) l cs es fits h placed =
+      let new = after_move answer_of after move l in
+      let last = run answer_of after moves new in
+      subst (λ all. Placed answer_of after all (es ++ (queued move l ++ all_queued answer_of after moves new)) last)
+      (append_assoc cs (submitted move l) (all_submitted answer_of after moves new))
+      (subst (λ all. Placed answer_of after ((cs ++ submitted move l) ++ all_submitted answer_of after moves new) all last)
+      (append_assoc es (queued move l) (all_queued answer_of after moves new))
+      (all_placed given moves new (cs ++ submitted move l) (es ++ queued move l) fits.1 (standing given move l fits.0 h) (placing move l cs es h placed)))
 
   pub running : Assumed → (moves : List Move) (l : Link H) → AreMoves answer_of after moves l → AllStands l → AllStands (run answer_of after moves l)
   running given [] l fits h = h
@@ -227,9 +260,22 @@ module _ {H : Type 0} (answer_of : H → Command → Answer) (after : H → Comm
       each_all IsPlainlySaid behind.to_controller
       (all_said s.fixed answer_of after l.reader.config handler (given s.fixed handler s.device) s.holds.0 behind s.holds.1)
 
-  pub have_one_place : (l : Link H) (moves : List Move) → Assumed answer_of after l.reader.config l.reader.handler → Begins l → AreMoves answer_of after moves l
+  have_places : (l : Link H) (moves : List Move) → Assumed answer_of after l.reader.config l.reader.handler → Begins l → AreMoves answer_of after moves l
+      → Placed answer_of after (l.controller.waiting ++ all_submitted answer_of after moves l) (l.reader.queue.events ++ all_queued answer_of after moves l)
+      (run answer_of after moves l)
+  have_places l moves given b fits =
+      all_placed answer_of after l.reader.config l.reader.handler given moves l l.controller.waiting l.reader.queue.events fits (begins l b) (record {
+        commands = sym (ap (λ t. t.issued) b.account) ∙ sym (ap (λ earlier. asked_in earlier ++ l.account.issued) b.earlier);
+        events = ([], subst (λ earlier. HaveLeft earlier []) (sym b.earlier) refl, sym (ap (λ t. t.queued) b.account));
+      })
+
+  pub commands_have_places : (l : Link H) (moves : List Move) → Assumed answer_of after l.reader.config l.reader.handler → Begins l → AreMoves answer_of after moves l
       → let behind = run answer_of after moves l in
       l.controller.waiting ++ all_submitted answer_of after moves l ≡ asked_in behind.earlier ++ behind.account.issued
-  have_one_place l moves given b fits =
-      all_placed answer_of after l.reader.config l.reader.handler given moves l l.controller.waiting fits (begins l b)
-      (sym (ap (λ t. t.issued) b.account) ∙ sym (ap (λ earlier. asked_in earlier ++ l.account.issued) b.earlier))
+  commands_have_places l moves given b fits = (have_places l moves given b fits).commands
+
+  pub events_have_places : (l : Link H) (moves : List Move) → Assumed answer_of after l.reader.config l.reader.handler → Begins l → AreMoves answer_of after moves l
+      → let behind = run answer_of after moves l in
+      (gone : List Event) × HaveLeft behind.earlier gone
+      × (l.reader.queue.events ++ all_queued answer_of after moves l ≡ gone ++ behind.account.queued)
+  events_have_places l moves given b fits = (have_places l moves given b fits).events

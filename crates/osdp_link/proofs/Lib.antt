@@ -21,3 +21,4 @@ pub mod Answering
 pub mod Round
 pub mod Rounds
 pub mod Through
+pub mod InTime

@@ -54,6 +54,21 @@ module _ (fixed : ControllerConfig) where
   rests_config (Waiting until k o) n s not rests = absurd rests
   rests_config (Pausing until o) n s not rests = absurd rests
 
+module _ {H : Type 0} (answer_of : H → Command → Answer) (after : H → Command → H) where
+  -- what has ended stays so
+  pub to_reader_closed : (ps : List Packet) (l : Link H) → l.controller.session.state ≡ Closed
+      → (link.to_reader answer_of after ps Delivered l).controller.session.state ≡ Closed
+  to_reader_closed [] l closed = closed
+  to_reader_closed (p ∷ ps) l closed = closed
+
+  pub to_controller_closed : (qs : List Packet) (now : ℕ) (l : Link H) → l.controller.session.state ≡ Closed
+      → (link.to_controller qs Delivered now l).controller.session.state ≡ Closed
+  to_controller_closed [] now l closed = closed
+  to_controller_closed (q ∷ qs) now l closed =
+      let s = l.controller.session in
+      both (λ heard. heard.session.state ≡ Closed) (is_from_reader q s) (hears_in s.state q.sequence (said_by q) (seen now s)) (ignores (seen now s))
+      (subst (λ state. (hears_in state q.sequence (said_by q) (seen now s)).session.state ≡ Closed) (sym closed) closed) closed
+
 module _ (fixed : ControllerConfig) {H : Type 0} (answer_of : H → Command → Answer) (after : H → Command → H) (settings : ReaderConfig) (first : H) where
   -- a session that has not ended has the settings that it began with
   config_is : (at : Stage) (l : Link H) → At fixed answer_of after settings first at l → (l.controller.session.state ≡ Closed → ⊥)
@@ -62,20 +77,6 @@ module _ (fixed : ControllerConfig) {H : Type 0} (answer_of : H → Command → 
   config_is (Behind past x) l h not = asks_config fixed l.controller.session.state (number_after past) x l.controller.session not h.controller
   config_is (Level past x a) l h not = asks_config fixed l.controller.session.state (number_after past) x l.controller.session not h.controller
   config_is (Rest n x a) l h not = rests_config fixed l.controller.session.state n l.controller.session not h.controller
-
-  -- what has ended stays so
-  to_reader_closed : (ps : List Packet) (l : Link H) → l.controller.session.state ≡ Closed
-      → (link.to_reader answer_of after ps Delivered l).controller.session.state ≡ Closed
-  to_reader_closed [] l closed = closed
-  to_reader_closed (p ∷ ps) l closed = closed
-
-  to_controller_closed : (qs : List Packet) (now : ℕ) (l : Link H) → l.controller.session.state ≡ Closed
-      → (link.to_controller qs Delivered now l).controller.session.state ≡ Closed
-  to_controller_closed [] now l closed = closed
-  to_controller_closed (q ∷ qs) now l closed =
-      let s = l.controller.session in
-      both (λ heard. heard.session.state ≡ Closed) (is_from_reader q s) (hears_in s.state q.sequence (said_by q) (seen now s)) (ignores (seen now s))
-      (subst (λ state. (hears_in state q.sequence (said_by q) (seen now s)).session.state ≡ Closed) (sym closed) closed) closed
 
   abbrev tick : ℕ → Link H → Link H
   tick now l = at_tick fixed answer_of after settings first now l
@@ -86,7 +87,7 @@ module _ (fixed : ControllerConfig) {H : Type 0} (answer_of : H → Command → 
   closed_behind : (now : ℕ) (l : Link H) → (tick now l).controller.session.state ≡ Closed → (goes now l).controller.session.state ≡ Closed
   closed_behind now l closed =
       let m = link.to_reader answer_of after (tick now l).to_reader Delivered (tick now l) in
-      to_controller_closed m.to_controller now m (to_reader_closed (tick now l).to_reader (tick now l) closed)
+      to_controller_closed answer_of after m.to_controller now m (to_reader_closed answer_of after (tick now l).to_reader (tick now l) closed)
 
   abbrev Given : Type 0
   Given = Premises fixed answer_of after settings first

@@ -6,7 +6,6 @@ use Rattle.osdp_msg.specs.CommandTable.{CommandFits}
 use Rattle.osdp_msg.specs.ReplyTable.{ReplyFits}
 use Rattle.osdp_msg.specs.declared.command.Command.{Command}
 use Rattle.osdp_msg.specs.declared.command.Command.TheVariants.{Poll}
-use Rattle.osdp_msg.specs.declared.event.Event.{Event}
 use Rattle.osdp_msg.specs.declared.reply.Reply.{Reply}
 use Rattle.osdp_controller.specs.declared.state.State.TheVariants.{Quiet}
 use Rattle.osdp_reader.specs.declared.config.ReaderConfig.{ReaderConfig}
@@ -21,6 +20,9 @@ use Rattle.osdp_link.specs.Peers.{IsPlainlySaid}
 pub record MaySubmit (command : Command) : Type 0 where
   pub no_poll : command ≢ Poll
   pub fits : CommandFits command
+
+abbrev pub IsBeginning : {A : Type 0} → List A → List A → Type 0
+IsBeginning {A} xs ys = (rest : List A) × (ys ≡ xs ++ rest)
 
 module _ {H : Type 0} where
   -- a first session has begun, at a device's address, and nothing is on the line; its account begins
@@ -69,9 +71,9 @@ module _ {H : Type 0} where
     -- the commands that the reader has taken are a beginning of those issued, and hold each settled one, with the answer that the
     -- reader gave, and one more at most; the events reported are a beginning of those queued
     pub record Once (config : ReaderConfig) (handler : H) (t : Account) : Type 0 where
-      pub taken : (rest : List Command) × (t.issued ≡ t.taken ++ rest)
+      pub taken : IsBeginning t.taken t.issued
       pub settled : (more : List (Command × Reply)) × (with_answers config handler t.taken ≡ t.settled ++ more) × (length more ≤ 1)
-      pub reported : (rest : List Event) × (t.queued ≡ t.reported ++ rest)
+      pub reported : IsBeginning t.reported t.queued
 
     -- the handler behind the commands taken in these sessions, the last of them first
     abbrev pub handler_after : ReaderConfig → H → List Account → H

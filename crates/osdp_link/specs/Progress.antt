@@ -1,8 +1,11 @@
 -- Something comes through: over rounds that lose nothing, each but the first settles a command or reports an event, until all are.
-use Rattle.std.specs.Prelude.{◌≡◌, ◌≤◌, ℕ, ◌+◌, ◌-◌, min, true, false, All, List, [], ◌∷◌, ◌++◌, length, None}
+use Rattle.std.specs.Prelude.{◌≡◌, ◌⊎◌, ◌≤◌, ℕ, ◌+◌, ◌-◌, min, true, false, All, List, [], ◌∷◌, ◌++◌, length, None}
 use Rattle.osdp_msg.specs.declared.command.Command.{Command}
 use Rattle.osdp_controller.specs.Hearing.{comset_of}
 use Rattle.osdp_controller.specs.Machine.{is_due}
+use Rattle.osdp_controller.specs.Sessions.{later as later_by}
+use Rattle.osdp_controller.specs.declared.state.State.TheVariants.{Closed}
+use Rattle.osdp_controller_laws.specs.Calls.{IsInRange, longest_wait}
 use Rattle.osdp_reader.specs.declared.handler.Answer.{Answer}
 use Rattle.osdp_link.specs.Headline.{AreMoves, Begins}
 use Rattle.osdp_link.specs.Link.{Delivered, Link, Move, Tick, ToController, ToReader, run}
@@ -39,3 +42,20 @@ module _ {H : Type 0} where
         IsClear behind → AreDue moments behind → AreMoves answer_of after (rounds moments) behind
         → let t = (run answer_of after (rounds moments) behind).account in
         min (length moments - 1) (length t.issued + length t.queued) ≤ length t.settled + length t.reported
+
+    -- each tick comes so much later than the greatest moment seen as the longest of the controller's waits
+    abbrev pub AreLate : List ℕ → Link H → Type 0
+    AreLate [] l = Unit {0}
+    AreLate (now ∷ later) l =
+        (later_by (longest_wait l.controller.session.config) l.controller.session ≤ now) × AreLate later (run answer_of after (round now) l)
+
+    -- then the session has ended, or the same comes through
+    abbrev pub ComesThroughInTime : Type 0
+    ComesThroughInTime = (l : Link H) (moves : List Move) (moments : List ℕ) → Begins l → IsInRange l.controller.session
+        → AreMoves answer_of after moves l
+        → let behind = run answer_of after moves l in
+        IsClear behind → AreLate moments behind → AreMoves answer_of after (rounds moments) behind
+        → let last = run answer_of after (rounds moments) behind in
+        let t = last.account in
+        (last.controller.session.state ≡ Closed)
+        ⊎ (min (length moments - 1) (length t.issued + length t.queued) ≤ length t.settled + length t.reported)

@@ -1,20 +1,17 @@
 -- Sessions in a row: what one has left the next begins with. No event is skipped, and one at most is told again; a command that was
 -- told unsettled is not asked again.
-use Rattle.std.specs.Prelude.{◌≡◌, ◌≤◌, List, [], ◌∷◌, ◌++◌, length, map, Option, Some, None, ◌⊎◌}
+use Rattle.std.specs.Prelude.{◌≡◌, ◌≤◌, Bool, true, false, ◌==◌, List, [], ◌∷◌, ◌++◌, length, map, Option, Some, None, ◌⊎◌}
 use Rattle.osdp_msg.specs.declared.command.Command.{Command}
 use Rattle.osdp_msg.specs.declared.event.Event.{Event}
 use Rattle.osdp_msg.specs.declared.reply.Reply.{Reply}
 use Rattle.osdp_controller.specs.Machine.{submit_refusal}
 use Rattle.osdp_controller.specs.declared.fault.ControllerFault.{ControllerFault}
 use Rattle.osdp_reader.specs.declared.handler.Answer.{Answer}
-use Rattle.osdp_link.specs.Headline.{AreMoves, Begins}
-use Rattle.osdp_link.specs.Link.{Account, Link, Move, Submit, after_move, run}
+use Rattle.osdp_link.specs.Headline.{AreMoves, Begins, IsBeginning}
+use Rattle.osdp_link.specs.Link.{Account, Link, Move, Queue, Submit, after_move, run}
 
 abbrev pub settled_commands : Account → List Command
 settled_commands t = map (λ (p : Command × Reply). p.0) t.settled
-
-abbrev pub IsBeginning : {A : Type 0} → List A → List A → Type 0
-IsBeginning {A} xs ys = (rest : List A) × (ys ≡ xs ++ rest)
 
 -- what a session leaves: its commands are those settled, one told unsettled at most, and those that wait; the reader has taken those
 -- settled, and may have taken that one; the events that wait are those that were not reported, with the last that was, or without it
@@ -41,20 +38,40 @@ abbrev pub asked_in : List Account → List Command
 asked_in [] = []
 asked_in (t ∷ earlier) = asked_in earlier ++ (settled_commands t ++ t.unsettled)
 
+-- the events that have left the queue: those that these sessions reported, of each the last or none left out, session behind session
+abbrev pub HaveLeft : List Account → List Event → Type 0
+HaveLeft [] gone = gone ≡ []
+HaveLeft (t ∷ earlier) gone =
+    (before : List Event) × (left : List Event) × (again : List Event)
+    × HaveLeft earlier before × (gone ≡ before ++ left) × (t.reported ≡ left ++ again) × (length again ≤ 1)
+
 -- the command that a move submits, where it is accepted
 abbrev pub accepted : Option ControllerFault → Command → List Command
 accepted None command = command ∷ []
 accepted (Some fault) command = []
+
+-- the event that a move queues, unless the queue is full
+abbrev pub queued_unless : Bool → Event → List Event
+queued_unless true event = []
+queued_unless false event = event ∷ []
 
 module _ {H : Type 0} where
   abbrev pub submitted : Move → Link H → List Command
   submitted (Submit command) l = accepted (submit_refusal command l.controller) command
   submitted _ l = []
 
+  abbrev pub queued : Move → Link H → List Event
+  queued (Queue event) l = queued_unless (length l.reader.queue.events == l.reader.queue.capacity) event
+  queued _ l = []
+
   module _ (answer_of : H → Command → Answer) (after : H → Command → H) where
     abbrev pub all_submitted : List Move → Link H → List Command
     all_submitted [] l = []
     all_submitted (move ∷ moves) l = submitted move l ++ all_submitted moves (after_move answer_of after move l)
+
+    abbrev pub all_queued : List Move → Link H → List Event
+    all_queued [] l = []
+    all_queued (move ∷ moves) l = queued move l ++ all_queued moves (after_move answer_of after move l)
 
     abbrev pub StayInARow : Type 0
     StayInARow = (l : Link H) (moves : List Move) → Begins l → AreMoves answer_of after moves l
@@ -62,7 +79,14 @@ module _ {H : Type 0} where
 
     -- each command that waited at first or was accepted since has one place: with a session that settled it or told it unsettled, or
     -- behind all of these among the commands of the last one
-    abbrev pub HaveOnePlace : Type 0
-    HaveOnePlace = (l : Link H) (moves : List Move) → Begins l → AreMoves answer_of after moves l
+    abbrev pub CommandsHavePlaces : Type 0
+    CommandsHavePlaces = (l : Link H) (moves : List Move) → Begins l → AreMoves answer_of after moves l
         → let behind = run answer_of after moves l in
         l.controller.waiting ++ all_submitted moves l ≡ asked_in behind.earlier ++ behind.account.issued
+
+    -- .. and each event: the events of the last session are those that have not left the queue before it
+    abbrev pub EventsHavePlaces : Type 0
+    EventsHavePlaces = (l : Link H) (moves : List Move) → Begins l → AreMoves answer_of after moves l
+        → let behind = run answer_of after moves l in
+        (gone : List Event) × HaveLeft behind.earlier gone
+        × (l.reader.queue.events ++ all_queued moves l ≡ gone ++ behind.account.queued)

@@ -4,8 +4,8 @@
 
 ghost use Rattle.osdp_link.specs.Peers.{ReadEachOther, ReadsWhatIsAsked, ReadsWhatIsAnswered, TakesPlainReplies, TellsItsEvent};
 ghost use Rattle.osdp_link.specs.Headline.{HoldsOnce, SaysAllPlainly};
-ghost use Rattle.osdp_link.specs.Progress.{ComesThrough};
-ghost use Rattle.osdp_link.specs.Sessions.{HaveOnePlace, StayInARow};
+ghost use Rattle.osdp_link.specs.Progress.{ComesThrough, ComesThroughInTime};
+ghost use Rattle.osdp_link.specs.Sessions.{CommandsHavePlaces, EventsHavePlaces, StayInARow};
 
 use osdp_reader::Handler;
 
@@ -53,7 +53,8 @@ pub fn holds_once<H: Handler>()
 /// told unsettled, no event is skipped, and each beginning tells again one at most.
 pub fn sessions_in_a_row<H: Handler>()
     ensures row { StayInARow H.answer_of H.after }
-    ensures places { HaveOnePlace H.answer_of H.after }
+    ensures commands { CommandsHavePlaces H.answer_of H.after }
+    ensures events { EventsHavePlaces H.answer_of H.after }
 {
     read_each_other::<H>();
 }
@@ -72,4 +73,14 @@ pub fn comes_through<H: Handler>()
     ensures { ComesThrough H.answer_of H.after }
 {
     read_each_other::<H>();
+}
+
+/// With ticks that come as much later than the greatest moment seen as the longest of the controller's waits, that is so or the session
+/// has ended.
+pub fn comes_through_in_time<H: Handler>()
+    ensures { ComesThroughInTime H.answer_of H.after }
+{
+    read_each_other::<H>();
+    osdp_controller_laws::stays_in_range();
+    osdp_controller_laws::ticks_come_due();
 }

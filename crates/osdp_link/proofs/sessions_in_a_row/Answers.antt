@@ -1,4 +1,4 @@
-use Rattle.osdp_link.proofs.InARow.{all_in_a_row, assumed, have_one_place}
+use Rattle.osdp_link.proofs.InARow.{all_in_a_row, assumed, commands_have_places, events_have_places}
 use Rattle.osdp_link.proofs.sessions_in_a_row.Goals as goal
 
 pub returns-clause-row : goal.returns-clause-row
@@ -6,7 +6,12 @@ returns-clause-row g c l moves begins fits =
     all_in_a_row g.H.Handler.answer_of g.H.Handler.after l moves
     (assumed g.H.Handler.answer_of g.H.Handler.after l.reader.config l.reader.handler c.read_each_other.ensures) begins fits
 
-pub returns-clause-places : goal.returns-clause-places
-returns-clause-places g c l moves begins fits =
-    have_one_place g.H.Handler.answer_of g.H.Handler.after l moves
+pub returns-clause-commands : goal.returns-clause-commands
+returns-clause-commands g c l moves begins fits =
+    commands_have_places g.H.Handler.answer_of g.H.Handler.after l moves
+    (assumed g.H.Handler.answer_of g.H.Handler.after l.reader.config l.reader.handler c.read_each_other.ensures) begins fits
+
+pub returns-clause-events : goal.returns-clause-events
+returns-clause-events g c l moves begins fits =
+    events_have_places g.H.Handler.answer_of g.H.Handler.after l moves
     (assumed g.H.Handler.answer_of g.H.Handler.after l.reader.config l.reader.handler c.read_each_other.ensures) begins fits
