@@ -59,7 +59,7 @@ pub record StaysInRange : Type 0 where
   pub new : (config : ControllerConfig) (capacity : ℕ) → IsInRange (new_machine config capacity).session
   pub behind : (m : Machine) (calls : List Call) → IsInRange m.session → IsInRange (after_calls calls m).session
 
--- then a tick that comes so much later is due, unless the session has ended
+-- then a tick that comes so much later is due, unless the controller is closed
 abbrev pub ComesDue : Type 0
 ComesDue = (now : ℕ) (m : Machine) → IsInRange m.session → m.session.state ≢ Closed → later (longest_wait m.session.config) m.session ≤ now
     → is_due now m ≡ true

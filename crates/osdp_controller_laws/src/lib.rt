@@ -123,7 +123,7 @@ pub fn stays_in_range()
     ensures { StaysInRange }
 {}
 
-/// So a tick that comes so much later is due, unless the session has ended.
+/// A tick that comes later by the longest of the four waits is due, unless the controller is closed.
 pub fn ticks_come_due()
     ensures { ComesDue }
 {}

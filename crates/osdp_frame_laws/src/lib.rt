@@ -1,5 +1,5 @@
-//! What packets and readings are, said apart from how they are computed. The functions do nothing:
-//! their contracts are laws.
+//! What packets and readings are, and what the calls of a framer come to, said apart from how they are computed. The functions
+//! do nothing: their contracts are laws.
 #![tactic(auto)]
 
 ghost use Rattle.std.specs.Prelude.{◌≡◌, ◌↔◌, ℕ, ◌<◌, ◌≤◌, All, Bool, IsTrue, true, false, List, [], ◌∷◌, ◌++◌, length, drop, Option, Some, None};

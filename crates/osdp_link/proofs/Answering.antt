@@ -26,7 +26,7 @@ use Rattle.osdp_link.proofs.Parts.{At}
 use Rattle.osdp_link.proofs.Settling.{MovesNone}
 use Rattle.osdp_link.proofs.Stages.{Acted, After, Behind, Fresh, IsAnswerTo, IsAsked, IsOut, Level, Rest, Stage, Start, answer, exchange_at, frame, number_at}
 
-same_some : {A : Type 0} (x y : A) → Some x ≡ Some y → x ≡ y
+pub same_some : {A : Type 0} (x y : A) → Some x ≡ Some y → x ≡ y
 same_some x y e = cc
 
 -- no COMSET sets no address

@@ -42,15 +42,12 @@ begun x n s waiting =
 abbrev pub SendsOrEnds : Ticked → Type 0
 SendsOrEnds t = (t.session.state ≡ Closed) ⊎ ((x : Exchange) × Sends x t)
 
--- nothing is due in a session that is closed
-pub closed_rests : (state : State) (s : Session) (waiting : List Command) → state ≡ Closed → Acts (ticks_in state s waiting) → ⊥
-closed_rests state s waiting closed due = rests (subst (λ st. Acts (ticks_in st s waiting)) closed due)
-  where
-    rests : Acts (stays s waiting) → ⊥
-    rests e = absurd cc
-
 stays_rests : {P : Type 0} (s : Session) (waiting : List Command) → Acts (stays s waiting) → P
 stays_rests s waiting e = absurd cc
+
+-- nothing is due in a session that is closed
+pub closed_rests : (state : State) (s : Session) (waiting : List Command) → state ≡ Closed → Acts (ticks_in state s waiting) → ⊥
+closed_rests state s waiting closed due = stays_rests s waiting (subst (λ st. Acts (ticks_in st s waiting)) closed due)
 
 -- the exchange that begins where none is outstanding
 abbrev pub next_exchange : List Command → Exchange

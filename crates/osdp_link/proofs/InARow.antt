@@ -16,34 +16,49 @@ use Rattle.osdp_link.specs.Headline.{AreMoves, AreOnce, Begins, IsMove, MaySubmi
 use Rattle.osdp_link.specs.Link as link
 use Rattle.osdp_link.specs.Link.{Account, Delivered, Delivery, Link, Lost, Move, Queue as QueueEvent, Reopen, Repeated, SetBusy, Submit, Tick, ToController, ToReader, after_move, run, told}
 use Rattle.osdp_link.specs.Peers.{IsPlainlySaid, ReadEachOther}
-use Rattle.osdp_link.specs.Sessions.{AreInARow, HaveLeft, all_queued, all_submitted, asked_in, queued, settled_commands, submitted}
+use Rattle.osdp_link.specs.Sessions.{AreInARow, HaveLeft, LastsOrLeaves, all_queued, all_submitted, told_in, queued, settled_commands, submitted}
 use Rattle.osdp_link.proofs.Advancing.{HoldsAtSomeStage}
 use Rattle.osdp_link.proofs.Deliveries.{all_said}
 use Rattle.osdp_link.proofs.Growing.{Grows, goes_on}
 use Rattle.osdp_link.proofs.Lines.{each_all, each_of}
 use Rattle.osdp_link.proofs.Moves.{Premises}
 use Rattle.osdp_link.proofs.Once.{GoesOn, fresh, is_once, moving}
-use Rattle.osdp_link.proofs.Sessions.{leaves}
+use Rattle.osdp_link.proofs.Sessions.{lasts_or_leaves, leaves}
 use Rattle.osdp_link.proofs.Stages.{Fresh, Waits, frame}
 
 begins_more : {A : Type 0} (xs ys zs more : List A) → IsBeginning xs ys → zs ≡ ys ++ more → IsBeginning xs zs
 begins_more xs ys zs more (rest, is) longer =
     (rest ++ more, longer ∙ ap (λ l. l ++ more) is ∙ append_assoc xs rest more)
 
-module _ {H : Type 0} (answer_of : H → Command → Answer) (after : H → Command → H) where
-  -- a session goes on behind those before it
-  row_goes_on : (t u : Account) (cs : List Command) (es : List Event) (earlier : List Account) → Grows cs es t u → AreInARow t earlier → AreInARow u earlier
-  row_goes_on t u cs es [] grows row = tt
-  row_goes_on t u cs es (before ∷ earlier) grows ((waiting, events, left, commands, waits), row) = (
-    (waiting, events, left, begins_more waiting t.issued u.issued cs commands grows.issued, begins_more events t.queued u.queued es waits grows.queued),
-    row,
-  )
+-- a session goes on behind those before it
+row_goes_on : (t u : Account) (cs : List Command) (es : List Event) (earlier : List Account) → Grows cs es t u → AreInARow t earlier → AreInARow u earlier
+row_goes_on t u cs es [] grows row = tt
+row_goes_on t u cs es (before ∷ earlier) grows ((waiting, events, left, commands, waits), row) = (
+  (waiting, events, left, begins_more waiting t.issued u.issued cs commands grows.issued, begins_more events t.queued u.queued es waits grows.queued),
+  row,
+)
 
+-- more events come behind all of them
+left_more : (all more : List Event) (earlier : List Account) (gone : List Event) → HaveLeft all earlier gone → HaveLeft (all ++ more) earlier gone
+left_more all more [] gone none = none
+left_more all more (t ∷ earlier) gone (before, left, again, prior, stands, is, told_is, few) = (
+  before,
+  left,
+  again,
+  left_more all more earlier before prior,
+  begins_more (before ++ t.queued) all (all ++ more) more stands refl,
+  is,
+  told_is,
+  few,
+)
+
+module _ {H : Type 0} where
   -- every command and event so far has its place
   pub record Placed (cs : List Command) (es : List Event) (l : Link H) : Type 0 where
-    pub commands : cs ≡ asked_in l.earlier ++ l.account.issued
-    pub events : (gone : List Event) × HaveLeft l.earlier gone × (es ≡ gone ++ l.account.queued)
+    pub commands : cs ≡ told_in l.earlier ++ l.account.issued
+    pub events : (gone : List Event) × HaveLeft es l.earlier gone × (es ≡ gone ++ l.account.queued)
 
+module _ {H : Type 0} (answer_of : H → Command → Answer) (after : H → Command → H) where
   -- a session that holds, behind sessions that were once and in a row
   pub record Stands (settings : ReaderConfig) (first : H) (l : Link H) : Type 0 where
     pub fixed : ControllerConfig
@@ -63,6 +78,7 @@ module _ {H : Type 0} (answer_of : H → Command → Answer) (after : H → Comm
     reads = λ x n fit. peers.asked x (record { config = fixed; state = Closed; number = n; greatest = 0 }) fit;
     hears = λ n r fit. peers.answered (frame fixed Polling 0) n r fit;
     plain = peers.plain;
+    tells = peers.tells;
     plainly = peers.plainly;
   }
 
@@ -89,7 +105,7 @@ module _ {H : Type 0} (answer_of : H → Command → Answer) (after : H → Comm
         holds = subst (λ earlier. HoldsAtSomeStage h.fixed answer_of after settings (handler_after answer_of after settings first earlier) new) (sym goes.1)
             (moving h.fixed answer_of after settings handler (given h.fixed handler h.device) move l on fits h.holds);
         once = subst (AreOnce answer_of after settings first) (sym goes.1) h.once;
-        row = subst (AreInARow new.account) (sym goes.1) (row_goes_on answer_of after l.account new.account (submitted move l) (queued move l) l.earlier goes.0 h.row);
+        row = subst (AreInARow new.account) (sym goes.1) (row_goes_on l.account new.account (submitted move l) (queued move l) l.earlier goes.0 h.row);
       }
 
   -- a session begins again
@@ -142,23 +158,24 @@ module _ {H : Type 0} (answer_of : H → Command → Answer) (after : H → Comm
       reopening (controllers.begin_refusal l.controller) l.to_reader l.to_controller now l refl refl refl fits h
 
   -- one move more: what it submits or queues comes last
-  placing : (move : Move) (l : Link H) (cs : List Command) (es : List Event) → AllStands l → Placed answer_of after cs es l
-      → Placed answer_of after (cs ++ submitted move l) (es ++ queued move l) (after_move answer_of after move l)
+  placing : (move : Move) (l : Link H) (cs : List Command) (es : List Event) → AllStands l → Placed cs es l
+      → Placed (cs ++ submitted move l) (es ++ queued move l) (after_move answer_of after move l)
   placing move l cs es h placed = by_move move
     where
-      on : (move : Move) → GoesOn move → Placed answer_of after (cs ++ submitted move l) (es ++ queued move l) (after_move answer_of after move l)
+      on : (move : Move) → GoesOn move → Placed (cs ++ submitted move l) (es ++ queued move l) (after_move answer_of after move l)
       on move goes =
           let g = goes_on answer_of after move l goes in
           let new = after_move answer_of after move l in
           let gone = placed.events.0 in
           record {
             commands = ap (λ all. all ++ submitted move l) placed.commands
-                ∙ append_assoc (asked_in l.earlier) l.account.issued (submitted move l)
-                ∙ ap (λ all. asked_in l.earlier ++ all) (sym g.0.issued)
-                ∙ ap (λ earlier. asked_in earlier ++ new.account.issued) (sym g.1);
+                ∙ append_assoc (told_in l.earlier) l.account.issued (submitted move l)
+                ∙ ap (λ all. told_in l.earlier ++ all) (sym g.0.issued)
+                ∙ ap (λ earlier. told_in earlier ++ new.account.issued) (sym g.1);
             events = (
               gone,
-              subst (λ earlier. HaveLeft earlier gone) (sym g.1) placed.events.1,
+              subst (λ earlier. HaveLeft (es ++ queued move l) earlier gone) (sym g.1)
+                  (left_more es (queued move l) l.earlier gone placed.events.1),
               ap (λ all. all ++ queued move l) placed.events.2
                   ∙ append_assoc gone l.account.queued (queued move l)
                   ∙ ap (λ all. gone ++ all) (sym g.0.queued),
@@ -166,7 +183,7 @@ module _ {H : Type 0} (answer_of : H → Command → Answer) (after : H → Comm
           }
 
       again : (refusal : Option ControllerFault) (ps qs : List Packet) (now : ℕ) → controllers.begin_refusal l.controller ≡ refusal
-          → Placed answer_of after cs es (link.reopens refusal ps qs now l)
+          → Placed cs es (link.reopens refusal ps qs now l)
       again (Some fault) ps qs now may = placed
       again None (p ∷ ps) qs now may = placed
       again None [] (q ∷ qs) now may = placed
@@ -175,18 +192,27 @@ module _ {H : Type 0} (answer_of : H → Command → Answer) (after : H → Comm
           (is_closed l.controller.session.state may) in
           record {
             commands = placed.commands
-                ∙ ap (λ all. asked_in l.earlier ++ all) (left.commands ∙ sym (append_assoc (settled_commands l.account) l.account.unsettled l.controller.waiting))
-                ∙ sym (append_assoc (asked_in l.earlier) (settled_commands l.account ++ l.account.unsettled) l.controller.waiting);
+                ∙ ap (λ all. told_in l.earlier ++ all) (left.commands ∙ sym (append_assoc (settled_commands l.account) l.account.unsettled l.controller.waiting))
+                ∙ sym (append_assoc (told_in l.earlier) (settled_commands l.account ++ l.account.unsettled) l.controller.waiting);
             events = (
               placed.events.0 ++ left.reported.0,
-              (placed.events.0, left.reported.0, left.reported.1, placed.events.1, refl, left.reported.3, left.reported.5),
+              (
+                placed.events.0,
+                left.reported.0,
+                left.reported.1,
+                placed.events.1,
+                ([], placed.events.2 ∙ sym (append-nil (placed.events.0 ++ l.account.queued))),
+                refl,
+                left.reported.3,
+                left.reported.5,
+              ),
               placed.events.2
                   ∙ ap (λ all. placed.events.0 ++ all) left.reported.2
                   ∙ sym (append_assoc placed.events.0 left.reported.0 l.reader.queue.events),
             );
           }
 
-      by_move : (move : Move) → Placed answer_of after (cs ++ submitted move l) (es ++ queued move l) (after_move answer_of after move l)
+      by_move : (move : Move) → Placed (cs ++ submitted move l) (es ++ queued move l) (after_move answer_of after move l)
       by_move (Submit c) = on (Submit c) tt
       by_move (QueueEvent e) = on (QueueEvent e) tt
       by_move (SetBusy busy) = on (SetBusy busy) tt
@@ -195,22 +221,22 @@ module _ {H : Type 0} (answer_of : H → Command → Answer) (after : H → Comm
       by_move (ToController how now) = on (ToController how now) tt
       by_move (Reopen now) =
           let new = link.reopens (controllers.begin_refusal l.controller) l.to_reader l.to_controller now l in
-          subst (λ all. Placed answer_of after all (es ++ []) new) (sym (append-nil cs))
-          (subst (λ all. Placed answer_of after cs all new) (sym (append-nil es))
+          subst (λ all. Placed all (es ++ []) new) (sym (append-nil cs))
+          (subst (λ all. Placed cs all new) (sym (append-nil es))
           (again (controllers.begin_refusal l.controller) l.to_reader l.to_controller now refl))
 
   all_placed : Assumed → (moves : List Move) (l : Link H) (cs : List Command) (es : List Event) → AreMoves answer_of after moves l → AllStands l
-      → Placed answer_of after cs es l
-      → Placed answer_of after (cs ++ all_submitted answer_of after moves l) (es ++ all_queued answer_of after moves l) (run answer_of after moves l)
+      → Placed cs es l
+      → Placed (cs ++ all_submitted answer_of after moves l) (es ++ all_queued answer_of after moves l) (run answer_of after moves l)
   all_placed given [] l cs es fits h placed =
-      subst (λ all. Placed answer_of after all (es ++ []) l) (sym (append-nil cs))
-      (subst (λ all. Placed answer_of after cs all l) (sym (append-nil es)) placed)
+      subst (λ all. Placed all (es ++ []) l) (sym (append-nil cs))
+      (subst (λ all. Placed cs all l) (sym (append-nil es)) placed)
   all_placed given (move ∷ moves) l cs es fits h placed =
       let new = after_move answer_of after move l in
       let last = run answer_of after moves new in
-      subst (λ all. Placed answer_of after all (es ++ (queued move l ++ all_queued answer_of after moves new)) last)
+      subst (λ all. Placed all (es ++ (queued move l ++ all_queued answer_of after moves new)) last)
       (append_assoc cs (submitted move l) (all_submitted answer_of after moves new))
-      (subst (λ all. Placed answer_of after ((cs ++ submitted move l) ++ all_submitted answer_of after moves new) all last)
+      (subst (λ all. Placed ((cs ++ submitted move l) ++ all_submitted answer_of after moves new) all last)
       (append_assoc es (queued move l) (all_queued answer_of after moves new))
       (all_placed given moves new (cs ++ submitted move l) (es ++ queued move l) fits.1 (standing given move l fits.0 h) (placing move l cs es h placed)))
 
@@ -261,21 +287,29 @@ module _ {H : Type 0} (answer_of : H → Command → Answer) (after : H → Comm
       (all_said s.fixed answer_of after l.reader.config handler (given s.fixed handler s.device) s.holds.0 behind s.holds.1)
 
   have_places : (l : Link H) (moves : List Move) → Assumed answer_of after l.reader.config l.reader.handler → Begins l → AreMoves answer_of after moves l
-      → Placed answer_of after (l.controller.waiting ++ all_submitted answer_of after moves l) (l.reader.queue.events ++ all_queued answer_of after moves l)
+      → Placed (l.controller.waiting ++ all_submitted answer_of after moves l) (l.reader.queue.events ++ all_queued answer_of after moves l)
       (run answer_of after moves l)
   have_places l moves given b fits =
       all_placed answer_of after l.reader.config l.reader.handler given moves l l.controller.waiting l.reader.queue.events fits (begins l b) (record {
-        commands = sym (ap (λ t. t.issued) b.account) ∙ sym (ap (λ earlier. asked_in earlier ++ l.account.issued) b.earlier);
-        events = ([], subst (λ earlier. HaveLeft earlier []) (sym b.earlier) refl, sym (ap (λ t. t.queued) b.account));
+        commands = sym (ap (λ t. t.issued) b.account) ∙ sym (ap (λ earlier. told_in earlier ++ l.account.issued) b.earlier);
+        events = ([], subst (λ earlier. HaveLeft l.reader.queue.events earlier []) (sym b.earlier) refl, sym (ap (λ t. t.queued) b.account));
       })
 
   pub commands_have_places : (l : Link H) (moves : List Move) → Assumed answer_of after l.reader.config l.reader.handler → Begins l → AreMoves answer_of after moves l
       → let behind = run answer_of after moves l in
-      l.controller.waiting ++ all_submitted answer_of after moves l ≡ asked_in behind.earlier ++ behind.account.issued
+      l.controller.waiting ++ all_submitted answer_of after moves l ≡ told_in behind.earlier ++ behind.account.issued
   commands_have_places l moves given b fits = (have_places l moves given b fits).commands
 
   pub events_have_places : (l : Link H) (moves : List Move) → Assumed answer_of after l.reader.config l.reader.handler → Begins l → AreMoves answer_of after moves l
       → let behind = run answer_of after moves l in
-      (gone : List Event) × HaveLeft behind.earlier gone
-      × (l.reader.queue.events ++ all_queued answer_of after moves l ≡ gone ++ behind.account.queued)
+      let all = l.reader.queue.events ++ all_queued answer_of after moves l in
+      (gone : List Event) × HaveLeft all behind.earlier gone × (all ≡ gone ++ behind.account.queued)
   events_have_places l moves given b fits = (have_places l moves given b fits).events
+
+  pub last_one_lasts : (l : Link H) (moves : List Move) → Assumed answer_of after l.reader.config l.reader.handler → Begins l → AreMoves answer_of after moves l
+      → let behind = run answer_of after moves l in LastsOrLeaves behind.controller.session.state behind
+  last_one_lasts l moves given b fits =
+      let behind = run answer_of after moves l in
+      let s = running answer_of after l.reader.config l.reader.handler given moves l fits (begins l b) in
+      lasts_or_leaves s.fixed answer_of after l.reader.config (handler_after answer_of after l.reader.config l.reader.handler behind.earlier)
+      behind.controller.session.state s.holds.0 behind refl s.holds.1

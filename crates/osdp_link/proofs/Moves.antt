@@ -27,6 +27,7 @@ use Rattle.osdp_reader_laws.specs.Laws.{AnswersPlainly, IsPlain}
 use Rattle.osdp_link.specs.Headline.{MaySubmit}
 use Rattle.osdp_link.specs.Link as link
 use Rattle.osdp_link.specs.Link.{Account, Delivered, Delivery, Link, Lost, Move, Queue as QueueEvent, Repeated, SetBusy, Submit, Tick, ToController, ToReader, told}
+use Rattle.osdp_link.specs.Peers.{TellsItsEvent}
 use Rattle.osdp_link.proofs.Advancing.{HoldsAtSomeStage}
 use Rattle.osdp_link.proofs.Lines.{each_append, each_rest, runs_append, runs_first}
 use Rattle.osdp_link.proofs.Stages.{Accounts, After, Asks, Behind, ControllerAt, Each, Fresh, HasActed, IsAsked, IsFrame, IsOldFrame, Level, Offers, OffersEvent, Past, ReaderAt, Rest, Runs, SaysOld, Stage, Start, ToReaderAt, answer, frame, given_up, given_up_at, number_after, pending, pending_at, shown}
@@ -81,6 +82,7 @@ module _ (fixed : ControllerConfig) {H : Type 0} (answer_of : H → Command → 
     pub reads : (x : Exchange) (n : ℕ) → CommandFits (exchange_command x) → command_in (frame fixed x n) ≡ Ok (exchange_command x)
     pub hears : (n : ℕ) (r : Reply) → ReplyFits r → packets.answer_of (answer fixed n r) ≡ answer_by_reply r
     pub plain : (r : Reply) → IsPlain r → answer_by_reply r ≡ Plain r
+    pub tells : TellsItsEvent
     pub plainly : AnswersPlainly answer_of after
 
   abbrev AtStage : Stage → Link H → Type 0

@@ -34,6 +34,21 @@ use Rattle.osdp_link.proofs.Settling.{MovesNone, report_of, settles_now}
 use Rattle.osdp_link.proofs.Stages.{Asks, Behind, Each, Fresh, IsOpen, IsOut, Level, Rest, Rests, Stage, Waits, answer, exchange_at, frame, number_at, number_after, owed}
 use Rattle.osdp_link.proofs.Ticks.{frame_is}
 
+-- the link behind a tick
+abbrev pub at_tick : {H : Type 0} → ℕ → Link H → Link H
+at_tick {H} now l = link.ticked (ticks now l.controller.session l.controller.waiting) l
+
+module _ {H : Type 0} (answer_of : H → Command → Answer) (after : H → Command → H) where
+  -- .. behind the packets in front of both directions, one behind the other
+  abbrev pub delivered : ℕ → Link H → Link H
+  delivered now l =
+      let m = link.to_reader answer_of after l.to_reader Delivered l in
+      link.to_controller m.to_controller Delivered now m
+
+  -- .. and behind a whole round
+  abbrev pub goes : ℕ → Link H → Link H
+  goes now l = delivered now (at_tick now l)
+
 module _ (fixed : ControllerConfig) {H : Type 0} (answer_of : H → Command → Answer) (after : H → Command → H) (settings : ReaderConfig) (first : H) where
   abbrev AtStage : Stage → Link H → Type 0
   AtStage at l = At fixed answer_of after settings first at l
@@ -79,16 +94,11 @@ module _ (fixed : ControllerConfig) {H : Type 0} (answer_of : H → Command → 
     account = told (report_of x a) (link.taken (kind_of l.reader p) (hears answer_of after l.reader p).command l.account);
   }
 
-  abbrev pub delivered : ℕ → Link H → Link H
-  delivered now l =
-      let m = link.to_reader answer_of after l.to_reader Delivered l in
-      link.to_controller m.to_controller Delivered now m
-
   come_through : (now : ℕ) (x : Exchange) (n : ℕ) (a : Reply) (l : Link H) → l.to_reader ≡ frame fixed x n ∷ [] → l.to_controller ≡ []
       → (hears answer_of after l.reader (frame fixed x n)).reply ≡ Some (answer fixed n a)
       → controller.hears (answer fixed n a) now l.controller.session
       ≡ record { session = at_rest (seen now l.controller.session); report = report_of x a }
-      → delivered now l ≡ answered_link now (frame fixed x n) x a l
+      → delivered answer_of after now l ≡ answered_link now (frame fixed x n) x a l
   come_through now x n a l asks none says settles =
       let p = frame fixed x n in
       let q = answer fixed n a in
@@ -107,7 +117,7 @@ module _ (fixed : ControllerConfig) {H : Type 0} (answer_of : H → Command → 
   pub record IsAnswered (now : ℕ) (x : Exchange) (at : Stage) (l : Link H) : Type 0 where
     pub a : Reply
     pub replies : Replies fixed answer_of after settings first x (number_at at) l.reader a
-    pub is : delivered now l ≡ answered_link now (frame fixed x (number_at at)) x a l
+    pub is : delivered answer_of after now l ≡ answered_link now (frame fixed x (number_at at)) x a l
 
   pub is_answered : Premises fixed answer_of after settings first → (now : ℕ) (x : Exchange) (at : Stage) (l : Link H) → AtStage at l
       → Awaits x l.controller.session.state → IsAwaited x at l.controller.session → IsReady fixed answer_of after settings first l.reader
@@ -136,11 +146,7 @@ module _ (fixed : ControllerConfig) {H : Type 0} (answer_of : H → Command → 
     pub idle : (due : ℕ) × (l.controller.session.state ≡ Idle due)
     pub still : IsStill l
 
-  -- what a tick that sends leaves on the line
-  abbrev pub at_tick : ℕ → Link H → Link H
-  at_tick now l = link.ticked (ticks now l.controller.session l.controller.waiting) l
-
-  -- .. the frame of the awaited exchange
+  -- a tick that sends leaves the frame of the awaited exchange on the line
   sent_line : (now : ℕ) (l : Link H) (x : Exchange) (at : Stage) → l.to_reader ≡ [] → Sends x (ticks now l.controller.session l.controller.waiting)
       → IsAwaited x at (at_tick now l).controller.session → (at_tick now l).to_reader ≡ frame fixed x (number_at at) ∷ []
   sent_line now l x at empty sends is =
@@ -153,7 +159,7 @@ module _ (fixed : ControllerConfig) {H : Type 0} (answer_of : H → Command → 
   pub record HasCome (now : ℕ) (x : Exchange) (at : Stage) (l : Link H) : Type 0 where
     pub answered : IsAnswered now x at (at_tick now l)
     pub fits : SaysFit fixed answer_of after settings first (frame fixed x (number_at at)) l.reader
-    pub idle : IsIdle (delivered now (at_tick now l))
+    pub idle : IsIdle (goes answer_of after now l)
 
   pub has_come : Premises fixed answer_of after settings first → (now : ℕ) (x : Exchange) (at : Stage) (l : Link H) → IsStill l
       → Sends x (ticks now l.controller.session l.controller.waiting) → AtStage at (at_tick now l)

@@ -9,19 +9,20 @@ use Rattle.osdp_controller.specs.Hearing.{event_in}
 use Rattle.osdp_controller.specs.declared.config.ControllerConfig.{ControllerConfig}
 use Rattle.osdp_controller.specs.declared.exchange.Exchange.{Exchange}
 use Rattle.osdp_controller.specs.declared.exchange.Exchange.TheVariants.{Opening, Polling, Asking}
-use Rattle.osdp_controller.specs.declared.state.State.TheVariants.{Closed}
+use Rattle.osdp_controller.specs.declared.state.State.{State}
+use Rattle.osdp_controller.specs.declared.state.State.TheVariants.{Closed, Quiet, Idle, Waiting, Pausing}
 use Rattle.osdp_reader.specs.declared.config.ReaderConfig.{ReaderConfig}
 use Rattle.osdp_reader.specs.declared.handler.Answer.{Answer}
 use Rattle.osdp_reader.specs.Table.{answer_to}
 use Rattle.osdp_link.specs.Headline.{with_answers}
 use Rattle.osdp_link.specs.Link.{Account, Link}
-use Rattle.osdp_link.specs.Sessions.{Leaves, settled_commands}
+use Rattle.osdp_link.specs.Sessions.{LastsOrLeaves, Leaves, settled_commands}
 use Rattle.osdp_link.proofs.Once.{front_at}
 use Rattle.osdp_link.proofs.Parts.{At}
-use Rattle.osdp_link.proofs.Stages.{After, Behind, Fresh, Level, Rest, Stage, Start, Waits, given_up_at, owed, pending, shown, shown_at}
+use Rattle.osdp_link.proofs.Stages.{After, Behind, Fresh, Level, Rest, Stage, Start, Waits, given_up, given_up_at, owed, pending, shown, shown_at}
 
-abbrev pub command_of : Command × Reply → Command
-command_of p = p.0
+abbrev pub settled_command : Command × Reply → Command
+settled_command p = p.0
 
 one_pending : (x : Exchange) → length (pending x) ≤ 1
 one_pending Opening = omega arith
@@ -45,7 +46,7 @@ one_shown_at (Level past x a) = omega arith
 one_shown_at (Rest n x a) = one_shown x a
 
 -- the command of an answer on its way is the pending one
-owed_command : (x : Exchange) (a : Reply) → map command_of (owed x a) ≡ pending x
+owed_command : (x : Exchange) (a : Reply) → map settled_command (owed x a) ≡ pending x
 owed_command Opening a = refl
 owed_command Polling a = refl
 owed_command (Asking c) a = refl
@@ -57,15 +58,15 @@ Left t waiting =
     × ((t.taken ≡ settled_commands t) ⊎ (t.taken ≡ settled_commands t ++ t.unsettled))
 
 module _ {H : Type 0} (answer_of : H → Command → Answer) (after : H → Command → H) (settings : ReaderConfig) where
-  answered_commands : (h : H) (cs : List Command) → map command_of (with_answers answer_of after settings h cs) ≡ cs
+  answered_commands : (h : H) (cs : List Command) → map settled_command (with_answers answer_of after settings h cs) ≡ cs
   answered_commands h [] = refl
   answered_commands h (c ∷ cs) = ap (λ l. c ∷ l) (answered_commands (answer_to answer_of after settings h c).handler cs)
 
   -- the settled commands, and the one whose answer is on its way, are the taken ones
   pub taken_commands : (h : H) (t : Account) (owing : List (Command × Reply)) → t.settled ++ owing ≡ with_answers answer_of after settings h t.taken
-      → settled_commands t ++ map command_of owing ≡ t.taken
+      → settled_commands t ++ map settled_command owing ≡ t.taken
   taken_commands h t owing is =
-      sym (map-append command_of t.settled owing) ∙ ap (map command_of) is ∙ answered_commands h t.taken
+      sym (map-append settled_command t.settled owing) ∙ ap (map settled_command) is ∙ answered_commands h t.taken
 
 -- the commands taken are those settled
 left_untaken : (t : Account) (waiting pend : List Command) → settled_commands t ++ [] ≡ t.taken → t.unsettled ≡ pend → length pend ≤ 1
@@ -86,6 +87,20 @@ left_taken t waiting pend are lost few issued =
       subst (λ cs. length cs ≤ 1) (sym lost) few,
       inr taken,
     )
+
+-- a session that lasts has told nothing unsettled
+given_none : (state : State) (x : Exchange) → (state ≡ Closed → ⊥) → given_up state x ≡ []
+given_none Closed x lasts = absurd (lasts refl)
+given_none (Quiet until) x lasts = refl
+given_none (Idle due) x lasts = refl
+given_none (Waiting until k o) x lasts = refl
+given_none (Pausing until o) x lasts = refl
+
+given_none_at : (at : Stage) (state : State) → (state ≡ Closed → ⊥) → given_up_at at state ≡ []
+given_none_at Fresh state lasts = refl
+given_none_at (Behind past x) state lasts = given_none state x lasts
+given_none_at (Level past x a) state lasts = given_none state x lasts
+given_none_at (Rest n x a) state lasts = refl
 
 module _ (fixed : ControllerConfig) {H : Type 0} (answer_of : H → Command → Answer) (after : H → Command → H) (settings : ReaderConfig) (first : H) where
   left : (at : Stage) (l : Link H) → At fixed answer_of after settings first at l → l.controller.session.state ≡ Closed
@@ -112,3 +127,13 @@ module _ (fixed : ControllerConfig) {H : Type 0} (answer_of : H → Command → 
         taken = commands.2;
         reported = (h.account.told.0, shown_at at, h.account.told.1, h.account.told.2, front_at fixed at l.reader h.reader, one_shown_at at);
       }
+
+  pub lasts_or_leaves : (state : State) (at : Stage) (l : Link H) → l.controller.session.state ≡ state → At fixed answer_of after settings first at l
+      → LastsOrLeaves state l
+  lasts_or_leaves Closed at l is h = leaves at l h is
+  lasts_or_leaves (Quiet until) at l is h = h.account.unsettled ∙ given_none_at at l.controller.session.state (λ e. absurd (let f = sym is ∙ e in cc))
+  lasts_or_leaves (Idle due) at l is h = h.account.unsettled ∙ given_none_at at l.controller.session.state (λ e. absurd (let f = sym is ∙ e in cc))
+  lasts_or_leaves (Waiting until k o) at l is h =
+      h.account.unsettled ∙ given_none_at at l.controller.session.state (λ e. absurd (let f = sym is ∙ e in cc))
+  lasts_or_leaves (Pausing until o) at l is h =
+      h.account.unsettled ∙ given_none_at at l.controller.session.state (λ e. absurd (let f = sym is ∙ e in cc))

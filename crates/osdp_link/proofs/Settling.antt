@@ -19,11 +19,11 @@ use Rattle.osdp_link.proofs.Due.{Awaits}
 use Rattle.osdp_link.proofs.Numbers.{is_true}
 use Rattle.osdp_link.proofs.Stages.{IsAnswerTo, IsOpen, answer}
 
--- what is told of an exchange that doesn't move the reader
 abbrev pub opened : Option PdId → Option Report
 opened None = None
 opened (Some id) = Some (report.Opened id)
 
+-- what is told of an exchange that doesn't move the reader
 abbrev pub report_of : Exchange → Reply → Option Report
 report_of Opening a = opened (pd_id_of a)
 report_of Polling a = poll_told a (event_in a)

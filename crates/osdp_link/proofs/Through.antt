@@ -28,7 +28,7 @@ use Rattle.osdp_link.proofs.Lines.{both, each_of}
 use Rattle.osdp_link.proofs.Moves.{Premises}
 use Rattle.osdp_link.proofs.Once.{moving}
 use Rattle.osdp_link.proofs.Parts.{At}
-use Rattle.osdp_link.proofs.Round.{IsIdle, IsStill, at_tick, delivered, has_come}
+use Rattle.osdp_link.proofs.Round.{IsIdle, IsStill, at_tick, goes, has_come}
 use Rattle.osdp_link.proofs.Rounds.{all_of, counted, idle_round}
 use Rattle.osdp_link.proofs.Stages.{Asks, Behind, Fresh, Level, Rest, Rests, Stage, Waits, number_after}
 
@@ -78,16 +78,10 @@ module _ (fixed : ControllerConfig) {H : Type 0} (answer_of : H → Command → 
   config_is (Level past x a) l h not = asks_config fixed l.controller.session.state (number_after past) x l.controller.session not h.controller
   config_is (Rest n x a) l h not = rests_config fixed l.controller.session.state n l.controller.session not h.controller
 
-  abbrev tick : ℕ → Link H → Link H
-  tick now l = at_tick fixed answer_of after settings first now l
-
-  abbrev goes : ℕ → Link H → Link H
-  goes now l = delivered fixed answer_of after settings first now (tick now l)
-
-  closed_behind : (now : ℕ) (l : Link H) → (tick now l).controller.session.state ≡ Closed → (goes now l).controller.session.state ≡ Closed
+  closed_behind : (now : ℕ) (l : Link H) → (at_tick now l).controller.session.state ≡ Closed → (goes answer_of after now l).controller.session.state ≡ Closed
   closed_behind now l closed =
-      let m = link.to_reader answer_of after (tick now l).to_reader Delivered (tick now l) in
-      to_controller_closed answer_of after m.to_controller now m (to_reader_closed answer_of after (tick now l).to_reader (tick now l) closed)
+      let m = link.to_reader answer_of after (at_tick now l).to_reader Delivered (at_tick now l) in
+      to_controller_closed answer_of after m.to_controller now m (to_reader_closed answer_of after (at_tick now l).to_reader (at_tick now l) closed)
 
   abbrev Given : Type 0
   Given = Premises fixed answer_of after settings first
@@ -95,17 +89,17 @@ module _ (fixed : ControllerConfig) {H : Type 0} (answer_of : H → Command → 
   abbrev Holds : Link H → Type 0
   Holds l = HoldsAtSomeStage fixed answer_of after settings first l
 
-  held_behind : Given → (now : ℕ) (l : Link H) → SaysWhatFits answer_of after (tick now l).to_reader l.reader → Holds l → Holds (goes now l)
+  held_behind : Given → (now : ℕ) (l : Link H) → SaysWhatFits answer_of after (at_tick now l).to_reader l.reader → Holds l → Holds (goes answer_of after now l)
   held_behind given now l fits held =
-      let m = link.to_reader answer_of after (tick now l).to_reader Delivered (tick now l) in
+      let m = link.to_reader answer_of after (at_tick now l).to_reader Delivered (at_tick now l) in
       moving fixed answer_of after settings first given (ToController Delivered now) m tt tt
-      (moving fixed answer_of after settings first given (ToReader Delivered) (tick now l) tt fits
+      (moving fixed answer_of after settings first given (ToReader Delivered) (at_tick now l) tt fits
       (moving fixed answer_of after settings first given (Tick now) l tt tt held))
 
   -- the first round: the controller comes to rest, or the session ends
   first_round : Given → (now : ℕ) (l : Link H) → Holds l → IsStill fixed answer_of after settings first l
-      → Acts (ticks now l.controller.session l.controller.waiting) → SaysWhatFits answer_of after (tick now l).to_reader l.reader
-      → ((goes now l).controller.session.state ≡ Closed) ⊎ IsIdle fixed answer_of after settings first (goes now l)
+      → Acts (ticks now l.controller.session l.controller.waiting) → SaysWhatFits answer_of after (at_tick now l).to_reader l.reader
+      → ((goes answer_of after now l).controller.session.state ≡ Closed) ⊎ IsIdle fixed answer_of after settings first (goes answer_of after now l)
   first_round given now l held still does fits =
       let there = moving fixed answer_of after settings first given (Tick now) l tt tt held in
       elim (due_sends now l.controller.session l.controller.waiting does) [
@@ -119,12 +113,12 @@ module _ (fixed : ControllerConfig) {H : Type 0} (answer_of : H → Command → 
       let queued = ap length (grows.queued ∙ append-nil t.queued) in
       omega (arith, issued, queued)
 
-  all_same : (now : ℕ) (l : Link H) → all_of (goes now l).account ≡ all_of l.account
+  all_same : (now : ℕ) (l : Link H) → all_of (goes answer_of after now l).account ≡ all_of l.account
   all_same now l =
-      let m = link.to_reader answer_of after (tick now l).to_reader Delivered (tick now l) in
-      same_length m.account (goes now l).account (goes_on answer_of after (ToController Delivered now) m tt).0
-      ∙ same_length (tick now l).account m.account (goes_on answer_of after (ToReader Delivered) (tick now l) tt).0
-      ∙ same_length l.account (tick now l).account (goes_on answer_of after (Tick now) l tt).0
+      let m = link.to_reader answer_of after (at_tick now l).to_reader Delivered (at_tick now l) in
+      same_length m.account (goes answer_of after now l).account (goes_on answer_of after (ToController Delivered now) m tt).0
+      ∙ same_length (at_tick now l).account m.account (goes_on answer_of after (ToReader Delivered) (at_tick now l) tt).0
+      ∙ same_length l.account (at_tick now l).account (goes_on answer_of after (Tick now) l tt).0
 
   -- one more with each round, until it is all
   abbrev Through : List ℕ → Link H → Link H → Type 0
@@ -137,7 +131,7 @@ module _ (fixed : ControllerConfig) {H : Type 0} (answer_of : H → Command → 
   through given (now ∷ later) l held idle due fits =
       let behind = held_behind given now l fits.1.0 held in
       let one = idle_round fixed answer_of after settings first given now l held idle due.0 fits.1.0 behind in
-      let more = through given later (goes now l) behind one.0 due.1 fits.1.1.1 in
+      let more = through given later (goes answer_of after now l) behind one.0 due.1 fits.1.1.1 in
       let same = all_same now l in (
         elim one.1 [
           | inl first ↦ elim more.0 [

@@ -46,4 +46,5 @@ pub record ReadEachOther {H : Type 0} (answer_of : H → Command → Answer) (af
   pub asked : ReadsWhatIsAsked
   pub answered : ReadsWhatIsAnswered
   pub plain : TakesPlainReplies
+  pub tells : TellsItsEvent
   pub plainly : AnswersPlainly answer_of after

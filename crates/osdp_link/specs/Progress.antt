@@ -1,4 +1,4 @@
--- Something comes through: over rounds that lose nothing, each but the first settles a command or reports an event, until all are.
+-- Something comes through: behind m rounds that lose nothing m - 1 commands and events, or all of them, are settled and reported.
 use Rattle.std.specs.Prelude.{◌≡◌, ◌⊎◌, ◌≤◌, ℕ, ◌+◌, ◌-◌, min, true, false, All, List, [], ◌∷◌, ◌++◌, length, None}
 use Rattle.osdp_msg.specs.declared.command.Command.{Command}
 use Rattle.osdp_controller.specs.Hearing.{comset_of}

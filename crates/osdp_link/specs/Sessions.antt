@@ -1,11 +1,13 @@
 -- Sessions in a row: what one has left the next begins with. No event is skipped, and one at most is told again; a command that was
--- told unsettled is not asked again.
+-- settled or told unsettled is none of a later session.
 use Rattle.std.specs.Prelude.{◌≡◌, ◌≤◌, Bool, true, false, ◌==◌, List, [], ◌∷◌, ◌++◌, length, map, Option, Some, None, ◌⊎◌}
 use Rattle.osdp_msg.specs.declared.command.Command.{Command}
 use Rattle.osdp_msg.specs.declared.event.Event.{Event}
 use Rattle.osdp_msg.specs.declared.reply.Reply.{Reply}
 use Rattle.osdp_controller.specs.Machine.{submit_refusal}
 use Rattle.osdp_controller.specs.declared.fault.ControllerFault.{ControllerFault}
+use Rattle.osdp_controller.specs.declared.state.State.{State}
+use Rattle.osdp_controller.specs.declared.state.State.TheVariants.{Closed}
 use Rattle.osdp_reader.specs.declared.handler.Answer.{Answer}
 use Rattle.osdp_link.specs.Headline.{AreMoves, Begins, IsBeginning}
 use Rattle.osdp_link.specs.Link.{Account, Link, Move, Queue, Submit, after_move, run}
@@ -34,16 +36,18 @@ AreInARow t [] = Unit {0}
 AreInARow t (before ∷ earlier) = Follows before t × AreInARow before earlier
 
 -- the commands that these sessions settled or told unsettled, session behind session
-abbrev pub asked_in : List Account → List Command
-asked_in [] = []
-asked_in (t ∷ earlier) = asked_in earlier ++ (settled_commands t ++ t.unsettled)
+abbrev pub told_in : List Account → List Command
+told_in [] = []
+told_in (t ∷ earlier) = told_in earlier ++ (settled_commands t ++ t.unsettled)
 
--- the events that have left the queue: those that these sessions reported, of each the last or none left out, session behind session
-abbrev pub HaveLeft : List Account → List Event → Type 0
-HaveLeft [] gone = gone ≡ []
-HaveLeft (t ∷ earlier) gone =
+-- of all events, those that have left the queue: what these sessions reported, of each the last or none left out, session behind session.
+-- The events of a session are those behind what had left before it.
+abbrev pub HaveLeft : List Event → List Account → List Event → Type 0
+HaveLeft all [] gone = gone ≡ []
+HaveLeft all (t ∷ earlier) gone =
     (before : List Event) × (left : List Event) × (again : List Event)
-    × HaveLeft earlier before × (gone ≡ before ++ left) × (t.reported ≡ left ++ again) × (length again ≤ 1)
+    × HaveLeft all earlier before × IsBeginning (before ++ t.queued) all
+    × (gone ≡ before ++ left) × (t.reported ≡ left ++ again) × (length again ≤ 1)
 
 -- the command that a move submits, where it is accepted
 abbrev pub accepted : Option ControllerFault → Command → List Command
@@ -64,6 +68,11 @@ module _ {H : Type 0} where
   queued (Queue event) l = queued_unless (length l.reader.queue.events == l.reader.queue.capacity) event
   queued _ l = []
 
+  -- while the last session lasts it has told no command unsettled; where it has ended it leaves what a next one would begin with
+  abbrev pub LastsOrLeaves : State → Link H → Type 0
+  LastsOrLeaves Closed l = Leaves l.account l.controller.waiting l.reader.queue.events
+  LastsOrLeaves _ l = l.account.unsettled ≡ []
+
   module _ (answer_of : H → Command → Answer) (after : H → Command → H) where
     abbrev pub all_submitted : List Move → Link H → List Command
     all_submitted [] l = []
@@ -77,16 +86,20 @@ module _ {H : Type 0} where
     StayInARow = (l : Link H) (moves : List Move) → Begins l → AreMoves answer_of after moves l
         → let behind = run answer_of after moves l in AreInARow behind.account behind.earlier
 
+    abbrev pub LastOneLasts : Type 0
+    LastOneLasts = (l : Link H) (moves : List Move) → Begins l → AreMoves answer_of after moves l
+        → let behind = run answer_of after moves l in LastsOrLeaves behind.controller.session.state behind
+
     -- each command that waited at first or was accepted since has one place: with a session that settled it or told it unsettled, or
     -- behind all of these among the commands of the last one
     abbrev pub CommandsHavePlaces : Type 0
     CommandsHavePlaces = (l : Link H) (moves : List Move) → Begins l → AreMoves answer_of after moves l
         → let behind = run answer_of after moves l in
-        l.controller.waiting ++ all_submitted moves l ≡ asked_in behind.earlier ++ behind.account.issued
+        l.controller.waiting ++ all_submitted moves l ≡ told_in behind.earlier ++ behind.account.issued
 
     -- .. and each event: the events of the last session are those that have not left the queue before it
     abbrev pub EventsHavePlaces : Type 0
     EventsHavePlaces = (l : Link H) (moves : List Move) → Begins l → AreMoves answer_of after moves l
         → let behind = run answer_of after moves l in
-        (gone : List Event) × HaveLeft behind.earlier gone
-        × (l.reader.queue.events ++ all_queued moves l ≡ gone ++ behind.account.queued)
+        let all = l.reader.queue.events ++ all_queued moves l in
+        (gone : List Event) × HaveLeft all behind.earlier gone × (all ≡ gone ++ behind.account.queued)

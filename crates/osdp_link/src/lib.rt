@@ -5,7 +5,7 @@
 ghost use Rattle.osdp_link.specs.Peers.{ReadEachOther, ReadsWhatIsAsked, ReadsWhatIsAnswered, TakesPlainReplies, TellsItsEvent};
 ghost use Rattle.osdp_link.specs.Headline.{HoldsOnce, SaysAllPlainly};
 ghost use Rattle.osdp_link.specs.Progress.{ComesThrough, ComesThroughInTime};
-ghost use Rattle.osdp_link.specs.Sessions.{CommandsHavePlaces, EventsHavePlaces, StayInARow};
+ghost use Rattle.osdp_link.specs.Sessions.{CommandsHavePlaces, EventsHavePlaces, LastOneLasts, StayInARow};
 
 use osdp_reader::Handler;
 
@@ -25,7 +25,7 @@ pub fn reads_what_is_answered()
     osdp_msg_laws::replies_fit_a_packet();
 }
 
-/// A reply that is neither BUSY nor NAK 1 or 4 answers the exchange, and one that tells an event is read as that event.
+/// A reply that is neither BUSY nor NAK 1 or 4 is heard as a plain answer, and one that tells an event is read as that event.
 pub fn takes_plain_replies()
     ensures plain { TakesPlainReplies }
     ensures event { TellsItsEvent }
@@ -49,10 +49,11 @@ pub fn holds_once<H: Handler>()
     read_each_other::<H>();
 }
 
-/// Over sessions in a row, each begun again on a quiet line with neither end restarted: no command is asked again that was settled or
-/// told unsettled, no event is skipped, and each beginning tells again one at most.
+/// Over sessions in a row, each begun again on a quiet line with neither end restarted: no command that one settled or told unsettled is
+/// one of a later session, no event is skipped, and each beginning tells again one at most.
 pub fn sessions_in_a_row<H: Handler>()
     ensures row { StayInARow H.answer_of H.after }
+    ensures last { LastOneLasts H.answer_of H.after }
     ensures commands { CommandsHavePlaces H.answer_of H.after }
     ensures events { EventsHavePlaces H.answer_of H.after }
 {
@@ -67,8 +68,8 @@ pub fn says_all_plainly<H: Handler>()
     read_each_other::<H>();
 }
 
-/// From a link with nothing on the line, both ends at one address, the reader not busy and no COMSET issued: of rounds that lose nothing,
-/// each with a tick that is due, all but the first settle a command or report an event, until all are settled and reported.
+/// From a link with nothing on the line, both ends at one address, the reader not busy and no COMSET issued: behind m rounds that lose
+/// nothing, each with a tick that is due, m - 1 commands and events of this session, or all of them, are settled and reported.
 pub fn comes_through<H: Handler>()
     ensures { ComesThrough H.answer_of H.after }
 {

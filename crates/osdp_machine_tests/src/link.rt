@@ -2,7 +2,7 @@
 
 use osdp_door::Door;
 
-/// What holds of each session holds with a door as the reader.
+/// The laws of one link hold with a door as the reader.
 #[test]
 fn a_session_holds_with_a_door(_rt: HostRuntime) {
     osdp_link::holds_once::<Door>();
