@@ -19,6 +19,7 @@ use Rattle.osdp_link.specs.Peers.{IsPlainlySaid, ReadEachOther}
 use Rattle.osdp_link.specs.Sessions.{AreInARow, HaveLeft, LastsOrLeaves, all_queued, all_submitted, told_in, queued, settled_commands, submitted}
 use Rattle.osdp_link.proofs.Advancing.{HoldsAtSomeStage}
 use Rattle.osdp_link.proofs.Deliveries.{all_said}
+use Rattle.osdp_link.proofs.Devices.{IsDevice, move_there}
 use Rattle.osdp_link.proofs.Growing.{Grows, goes_on}
 use Rattle.osdp_link.proofs.Lines.{each_all, each_of}
 use Rattle.osdp_link.proofs.Moves.{Premises}
@@ -63,6 +64,7 @@ module _ {H : Type 0} (answer_of : H → Command → Answer) (after : H → Comm
   pub record Stands (settings : ReaderConfig) (first : H) (l : Link H) : Type 0 where
     pub fixed : ControllerConfig
     pub device : fixed.address < 127
+    pub current : IsDevice answer_of after l
     pub holds : HoldsAtSomeStage fixed answer_of after settings (handler_after answer_of after settings first l.earlier) l
     pub once : AreOnce answer_of after settings first l.earlier
     pub row : AreInARow l.account l.earlier
@@ -102,6 +104,7 @@ module _ {H : Type 0} (answer_of : H → Command → Answer) (after : H → Comm
       record {
         fixed = h.fixed;
         device = h.device;
+        current = move_there answer_of after move l h.current;
         holds = subst (λ earlier. HoldsAtSomeStage h.fixed answer_of after settings (handler_after answer_of after settings first earlier) new) (sym goes.1)
             (moving h.fixed answer_of after settings handler (given h.fixed handler h.device) move l on fits h.holds);
         once = subst (AreOnce answer_of after settings first) (sym goes.1) h.once;
@@ -110,11 +113,11 @@ module _ {H : Type 0} (answer_of : H → Command → Answer) (after : H → Comm
 
   -- a session begins again
   reopening : (refusal : Option ControllerFault) (ps qs : List Packet) (now : ℕ) (l : Link H) → controllers.begin_refusal l.controller ≡ refusal
-      → l.to_reader ≡ ps → l.to_controller ≡ qs → l.controller.session.config.address < 127 → AllStands l → AllStands (link.reopens refusal ps qs now l)
-  reopening (Some fault) ps qs now l may here there device h = h
-  reopening None (p ∷ ps) qs now l may here there device h = h
-  reopening None [] (q ∷ qs) now l may here there device h = h
-  reopening None [] [] now l may here there device h =
+      → l.to_reader ≡ ps → l.to_controller ≡ qs → AllStands l → AllStands (link.reopens refusal ps qs now l)
+  reopening (Some fault) ps qs now l may here there h = h
+  reopening None (p ∷ ps) qs now l may here there h = h
+  reopening None [] (q ∷ qs) now l may here there h = h
+  reopening None [] [] now l may here there h =
       let fixed = l.controller.session.config in
       let handler = handler_after answer_of after settings first l.earlier in
       let new = link.reopens None [] [] now l in
@@ -122,7 +125,8 @@ module _ {H : Type 0} (answer_of : H → Command → Answer) (after : H → Comm
       let held = h.holds.1 in
       record {
         fixed = fixed;
-        device = device;
+        device = h.current;
+        current = h.current;
         holds = (
           Fresh,
           fresh fixed answer_of after settings (handler_after answer_of after settings first new.earlier) new (record {
@@ -155,7 +159,7 @@ module _ {H : Type 0} (answer_of : H → Command → Answer) (after : H → Comm
   standing given (ToReader how) l fits h = keeps_on given (ToReader how) l tt fits h
   standing given (ToController how now) l fits h = keeps_on given (ToController how now) l tt fits h
   standing given (Reopen now) l fits h =
-      reopening (controllers.begin_refusal l.controller) l.to_reader l.to_controller now l refl refl refl fits h
+      reopening (controllers.begin_refusal l.controller) l.to_reader l.to_controller now l refl refl refl h
 
   -- one move more: what it submits or queues comes last
   placing : (move : Move) (l : Link H) (cs : List Command) (es : List Event) → AllStands l → Placed cs es l
@@ -252,6 +256,7 @@ module _ {H : Type 0} (answer_of : H → Command → Answer) (after : H → Comm
       subst (λ earlier. Stands answer_of after l.reader.config l.reader.handler (record l { earlier = earlier })) (sym b.earlier) (record {
         fixed = fixed;
         device = b.address;
+        current = b.address;
         holds = (
           Fresh,
           fresh fixed answer_of after l.reader.config l.reader.handler (record l { earlier = [] }) (record {

@@ -14,6 +14,7 @@ pub mod Deliveries
 pub mod Once
 pub mod Sessions
 pub mod Growing
+pub mod Devices
 pub mod InARow
 pub mod Due
 pub mod Settling

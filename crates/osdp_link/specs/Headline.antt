@@ -54,7 +54,7 @@ module _ {H : Type 0} where
     SaysWhatFitsIf Lost ps r = Unit {0}
     SaysWhatFitsIf Repeated ps r = SaysWhatFits ps r
 
-    -- what both ends make sure of: commands that are submitted, replies that are sent, and a controller's address are in their ranges
+    -- what both ends make sure of: commands that are submitted, and replies that are sent, have their fields in their ranges
     abbrev pub IsMove : Move → Link H → Type 0
     IsMove (Submit command) l = CommandFits command
     IsMove (Queue event) l = Unit {0}
@@ -62,7 +62,7 @@ module _ {H : Type 0} where
     IsMove (Tick now) l = Unit {0}
     IsMove (ToReader how) l = SaysWhatFitsIf how l.to_reader l.reader
     IsMove (ToController how now) l = Unit {0}
-    IsMove (Reopen now) l = l.controller.session.config.address < 127
+    IsMove (Reopen now) l = Unit {0}
 
     abbrev pub AreMoves : List Move → Link H → Type 0
     AreMoves [] l = Unit {0}
