@@ -1,6 +1,6 @@
 -- Ticks that come late enough are due, unless the session has ended.
-use Rattle.std.proofs.Common.{◌≡◌, ◌⊎◌, ◌≤◌, ◌+◌, ◌-◌, ℕ, Bool, true, false, List, [], ◌∷◌, length, Option, Some, None, refl, sym, subst, inl, inr}
-use Rattle.std.specs.Prelude.{◌==◌, ◌≢◌, min}
+use Rattle.std.proofs.Common.{◌≡◌, ◌⊎◌, ℕ, Bool, true, false, List, [], ◌∷◌, length, Option, Some, None, refl, sym, subst, inl, inr}
+use Rattle.std.specs.Prelude.{◌==◌, ◌≢◌}
 use Rattle.osdp_frame.specs.Packet.{Packet}
 use Rattle.osdp_msg.specs.declared.command.Command.{Command}
 use Rattle.osdp_msg.specs.declared.event.Event.{Event}
@@ -16,7 +16,7 @@ use Rattle.osdp_reader.specs.declared.handler.Answer.{Answer}
 use Rattle.osdp_link.specs.Headline.{AreMoves, Begins}
 use Rattle.osdp_link.specs.Link as link
 use Rattle.osdp_link.specs.Link.{Delivered, Delivery, Link, Lost, Move, Queue as QueueEvent, Reopen, Repeated, SetBusy, Submit, Tick, ToController, ToReader, after_move, run}
-use Rattle.osdp_link.specs.Progress.{AreDue, AreLate, IsClear, round, rounds}
+use Rattle.osdp_link.specs.Progress.{AreDue, AreLate, ComeOn, IsClear, round, rounds}
 use Rattle.osdp_link.proofs.InARow.{Assumed}
 use Rattle.osdp_link.proofs.Through.{comes_through, to_controller_closed, to_reader_closed}
 
@@ -113,9 +113,7 @@ module _ {H : Type 0} (answer_of : H → Command → Answer) (after : H → Comm
       → let behind = run answer_of after moves l in
       IsClear behind → AreLate answer_of after moments behind → AreMoves answer_of after (rounds moments) behind
       → let last = run answer_of after (rounds moments) behind in
-      let t = last.account in
-      (last.controller.session.state ≡ Closed)
-      ⊎ (min (length moments - 1) (length t.issued + length t.queued) ≤ length t.settled + length t.reported)
+      (last.controller.session.state ≡ Closed) ⊎ ComeOn moments behind.account last.account
   in_time comes l moves moments given b is fits clear late more =
       elim (late_due comes moments (run answer_of after moves l) (run_range moves l is) late) [
         | inl closed ↦ inl closed

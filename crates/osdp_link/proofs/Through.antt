@@ -1,28 +1,32 @@
 -- From a link without losses over its rounds.
-use Rattle.std.proofs.Common.{◌≡◌, ◌⊎◌, ◌≤◌, ◌+◌, ◌-◌, ℕ, List, [], ◌∷◌, length, refl, sym, subst, ap, ◌∙◌, inl, inr, arith}
+use Rattle.std.proofs.Common.{◌≡◌, ◌⊎◌, ◌≤◌, ◌+◌, ◌-◌, ℕ, List, [], ◌∷◌, length, refl, sym, subst, ap, ◌∙◌, inl, inr, arith, Option, Some, None}
 use Rattle.std.proofs.Math.Nat.{min-le_left, min-le_right}
-use Rattle.std.proofs.lemmas.List.{append-nil}
-use Rattle.std.specs.Prelude.{min}
+use Rattle.std.proofs.lemmas.List.{append-nil, length-append}
 use Rattle.osdp_frame.specs.Packet.{Packet}
 use Rattle.osdp_msg.specs.declared.command.Command.{Command}
+use Rattle.osdp_msg.specs.declared.reply.Reply.TheVariants as reply
 use Rattle.osdp_controller.specs.Answers.{answer_of as said_by}
+use Rattle.osdp_controller.specs.Hearing as controller
 use Rattle.osdp_controller.specs.Hearing.{hears_in, ignores, is_from_reader}
 use Rattle.osdp_controller.specs.Sessions.{seen}
 use Rattle.osdp_controller.specs.Ticking.{ticks}
 use Rattle.osdp_controller.specs.declared.config.ControllerConfig.{ControllerConfig}
 use Rattle.osdp_controller.specs.declared.exchange.Exchange.{Exchange}
+use Rattle.osdp_controller.specs.declared.report.Report.{Report}
+use Rattle.osdp_controller.specs.declared.report.Report.TheVariants as report
 use Rattle.osdp_controller.specs.declared.session.Session.{Session}
 use Rattle.osdp_controller.specs.declared.state.State.{State}
 use Rattle.osdp_controller.specs.declared.state.State.TheVariants.{Closed, Quiet, Idle, Waiting, Pausing}
 use Rattle.osdp_reader.specs.declared.config.ReaderConfig.{ReaderConfig}
 use Rattle.osdp_reader.specs.declared.handler.Answer.{Answer}
+use Rattle.osdp_reader.specs.Table.{hears, kind_of}
 use Rattle.osdp_link.specs.Headline.{AreMoves, Begins, SaysWhatFits, handler_after}
 use Rattle.osdp_link.specs.Link as link
-use Rattle.osdp_link.specs.Link.{Account, Delivered, Link, Move, Tick, ToController, ToReader, after_move, run}
-use Rattle.osdp_link.specs.Progress.{AreDue, IsClear, NoComset, round, rounds}
+use Rattle.osdp_link.specs.Link.{Account, Delivered, Link, Move, Tick, ToController, ToReader, after_move, run, told}
+use Rattle.osdp_link.specs.Progress.{AreDue, ComeOn, IsClear, NoComset, round, rounds}
 use Rattle.osdp_link.proofs.Advancing.{HoldsAtSomeStage}
 use Rattle.osdp_link.proofs.Due.{Acts, closed_rests, due_sends}
-use Rattle.osdp_link.proofs.Growing.{Grows, goes_on}
+use Rattle.osdp_link.proofs.Growing.{Grows, goes_on, taken_takes}
 use Rattle.osdp_link.proofs.InARow.{Assumed, begins, running}
 use Rattle.osdp_link.proofs.Lines.{both, each_of}
 use Rattle.osdp_link.proofs.Moves.{Premises}
@@ -120,6 +124,33 @@ module _ (fixed : ControllerConfig) {H : Type 0} (answer_of : H → Command → 
       ∙ same_length (at_tick now l).account m.account (goes_on answer_of after (ToReader Delivered) (at_tick now l) tt).0
       ∙ same_length l.account (at_tick now l).account (goes_on answer_of after (Tick now) l tt).0
 
+  -- no report makes what is settled and reported less
+  told_more : (r : Option Report) (u : Account) → counted u ≤ counted (told r u)
+  told_more None u = omega arith
+  told_more (Some (report.Opened id)) u = omega arith
+  told_more (Some (report.Settled c a)) u = omega (arith, length-append u.settled ((c, a) ∷ []))
+  told_more (Some (report.Moved c a)) u = omega (arith, length-append u.settled ((c, reply.Com a) ∷ []))
+  told_more (Some (report.Event e)) u = omega (arith, length-append u.reported (e ∷ []))
+  told_more (Some (report.PollAnswered a)) u = omega arith
+  told_more (Some (report.Unread c code)) u = omega arith
+  told_more (Some (report.Lost cause c)) u = omega arith
+
+  to_reader_more : (ps : List Packet) (l : Link H) → counted l.account ≤ counted (link.to_reader answer_of after ps Delivered l).account
+  to_reader_more [] l = omega arith
+  to_reader_more (p ∷ ps) l =
+      let is = (taken_takes (kind_of l.reader p) (hears answer_of after l.reader p).command l.account).1 in
+      omega (arith, ap counted is)
+
+  to_controller_more : (qs : List Packet) (now : ℕ) (l : Link H) → counted l.account ≤ counted (link.to_controller qs Delivered now l).account
+  to_controller_more [] now l = omega arith
+  to_controller_more (q ∷ qs) now l = told_more (controller.hears q now l.controller.session).report l.account
+
+  goes_more : (now : ℕ) (l : Link H) → counted l.account ≤ counted (goes answer_of after now l).account
+  goes_more now l =
+      let m = link.to_reader answer_of after (at_tick now l).to_reader Delivered (at_tick now l) in
+      let tick = told_more (ticks now l.controller.session l.controller.waiting).step.report l.account in
+      omega (arith, tick, to_reader_more (at_tick now l).to_reader (at_tick now l), to_controller_more m.to_controller now m)
+
   -- one more with each round, until it is all
   abbrev Through : List ℕ → Link H → Link H → Type 0
   Through moments l m =
@@ -146,35 +177,34 @@ module _ (fixed : ControllerConfig) {H : Type 0} (answer_of : H → Command → 
         more.1 ∙ same,
       )
 
-  at_least : (moments : List ℕ) (now : ℕ) (l m : Link H) → Through moments l m
-      → min (length (now ∷ moments) - 1) (length m.account.issued + length m.account.queued) ≤ length m.account.settled + length m.account.reported
-  at_least moments now l m (far, same) =
-      let few = min-le_left (length (now ∷ moments) - 1) (all_of m.account) in
-      let all = min-le_right (length (now ∷ moments) - 1) (all_of m.account) in
+  at_least : (moments : List ℕ) (now : ℕ) (before : Account) (l m : Link H) → counted before ≤ counted l.account → Through moments l m
+      → ComeOn (now ∷ moments) before m.account
+  at_least moments now before l m more (far, same) =
+      let few = min-le_left (counted before + (length (now ∷ moments) - 1)) (all_of m.account) in
+      let all = min-le_right (counted before + (length (now ∷ moments) - 1)) (all_of m.account) in
       elim far [
-        | inl one ↦ omega (arith, one, few)
+        | inl one ↦ omega (arith, one, few, more)
         | inr done ↦ omega (arith, done, same, all)
       ]
 
 module _ {H : Type 0} (answer_of : H → Command → Answer) (after : H → Command → H) where
   -- once a session has ended no more tick is due, so there was one round
-  ended : (now : ℕ) (later : List ℕ) (l m : Link H) → m.controller.session.state ≡ Closed → AreDue answer_of after later m
-      → min (length (now ∷ later) - 1) (length l.account.issued + length l.account.queued) ≤ length l.account.settled + length l.account.reported
-  ended now [] l m closed due =
-      let few = min-le_left (length (now ∷ []) - 1) (all_of l.account) in
-      omega (arith, few)
-  ended now (next ∷ later) l m closed due =
+  ended : (now : ℕ) (later : List ℕ) (before : Account) (m : Link H) → m.controller.session.state ≡ Closed → AreDue answer_of after later m
+      → counted before ≤ counted m.account → ComeOn (now ∷ later) before (run answer_of after (rounds later) m).account
+  ended now [] before m closed due more =
+      let few = min-le_left (counted before + (length (now ∷ []) - 1)) (all_of m.account) in
+      omega (arith, few, more)
+  ended now (next ∷ later) before m closed due more =
       absurd (closed_rests m.controller.session.state (seen next m.controller.session) m.controller.waiting closed due.0)
 
   pub comes_through : (l : Link H) (moves : List Move) (moments : List ℕ) → Assumed answer_of after l.reader.config l.reader.handler
       → Begins l → AreMoves answer_of after moves l
       → let behind = run answer_of after moves l in
       IsClear behind → AreDue answer_of after moments behind → AreMoves answer_of after (rounds moments) behind
-      → let t = (run answer_of after (rounds moments) behind).account in
-      min (length moments - 1) (length t.issued + length t.queued) ≤ length t.settled + length t.reported
+      → ComeOn moments behind.account (run answer_of after (rounds moments) behind).account
   comes_through l moves [] given b fits clear due more =
       let t = (run answer_of after moves l).account in
-      let few = min-le_left (length {A = ℕ} [] - 1) (length t.issued + length t.queued) in
+      let few = min-le_left (counted t + (length {A = ℕ} [] - 1)) (all_of t) in
       omega (arith, few)
   comes_through l moves (now ∷ later) given b fits clear due more =
       let config = l.reader.config in
@@ -193,8 +223,9 @@ module _ {H : Type 0} (answer_of : H → Command → Answer) (after : H → Comm
       let all = given s.fixed handler s.device in
       let first = run answer_of after (round now) behind in
       let held = held_behind s.fixed answer_of after config handler all now behind more.1.0 s.holds in
+      let more_first = goes_more s.fixed answer_of after config handler now behind in
       elim (first_round s.fixed answer_of after config handler all now behind s.holds still due.0 more.1.0) [
-        | inl closed ↦ ended now later (run answer_of after (rounds (now ∷ later)) behind) first closed due.1
-        | inr idle ↦ at_least s.fixed answer_of after config handler later now first (run answer_of after (rounds later) first)
+        | inl closed ↦ ended now later behind.account first closed due.1 more_first
+        | inr idle ↦ at_least s.fixed answer_of after config handler later now behind.account first (run answer_of after (rounds later) first) more_first
             (through s.fixed answer_of after config handler all later first held idle due.1 more.1.1.1)
       ]

@@ -1,4 +1,4 @@
--- Something comes through: behind m rounds that lose nothing m - 1 commands and events, or all of them, are settled and reported.
+-- Something comes through: behind m rounds that lose nothing m - 1 more commands and events, or all of them, are settled and reported.
 use Rattle.std.specs.Prelude.{◌≡◌, ◌⊎◌, ◌≤◌, ℕ, ◌+◌, ◌-◌, min, true, false, All, List, [], ◌∷◌, ◌++◌, length, None}
 use Rattle.osdp_msg.specs.declared.command.Command.{Command}
 use Rattle.osdp_controller.specs.Hearing.{comset_of}
@@ -8,7 +8,7 @@ use Rattle.osdp_controller.specs.declared.state.State.TheVariants.{Closed}
 use Rattle.osdp_controller_laws.specs.Calls.{IsInRange, longest_wait}
 use Rattle.osdp_reader.specs.declared.handler.Answer.{Answer}
 use Rattle.osdp_link.specs.Headline.{AreMoves, Begins}
-use Rattle.osdp_link.specs.Link.{Delivered, Link, Move, Tick, ToController, ToReader, run}
+use Rattle.osdp_link.specs.Link.{Account, Delivered, Link, Move, Tick, ToController, ToReader, run}
 
 -- a round that loses nothing: a tick, then the packet to the reader, then the one to the controller
 abbrev pub round : ℕ → List Move
@@ -20,6 +20,12 @@ rounds (now ∷ later) = round now ++ rounds later
 
 abbrev pub NoComset : Command → Type 0
 NoComset command = comset_of command ≡ None
+
+-- behind so many rounds as many more commands and events but one are settled and reported, or all are
+abbrev pub ComeOn : List ℕ → Account → Account → Type 0
+ComeOn moments before t =
+    min (length before.settled + length before.reported + (length moments - 1)) (length t.issued + length t.queued)
+    ≤ length t.settled + length t.reported
 
 module _ {H : Type 0} where
   -- nothing is on the line, both ends are at one address, the reader isn't busy, and no COMSET was issued
@@ -40,8 +46,7 @@ module _ {H : Type 0} where
     ComesThrough = (l : Link H) (moves : List Move) (moments : List ℕ) → Begins l → AreMoves answer_of after moves l
         → let behind = run answer_of after moves l in
         IsClear behind → AreDue moments behind → AreMoves answer_of after (rounds moments) behind
-        → let t = (run answer_of after (rounds moments) behind).account in
-        min (length moments - 1) (length t.issued + length t.queued) ≤ length t.settled + length t.reported
+        → ComeOn moments behind.account (run answer_of after (rounds moments) behind).account
 
     -- each tick comes so much later than the greatest moment seen as the longest of the controller's waits
     abbrev pub AreLate : List ℕ → Link H → Type 0
@@ -56,6 +61,4 @@ module _ {H : Type 0} where
         → let behind = run answer_of after moves l in
         IsClear behind → AreLate moments behind → AreMoves answer_of after (rounds moments) behind
         → let last = run answer_of after (rounds moments) behind in
-        let t = last.account in
-        (last.controller.session.state ≡ Closed)
-        ⊎ (min (length moments - 1) (length t.issued + length t.queued) ≤ length t.settled + length t.reported)
+        (last.controller.session.state ≡ Closed) ⊎ ComeOn moments behind.account last.account

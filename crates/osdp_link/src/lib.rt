@@ -69,7 +69,7 @@ pub fn says_all_plainly<H: Handler>()
 }
 
 /// From a link with nothing on the line, both ends at one address, the reader not busy and no COMSET issued: behind m rounds that lose
-/// nothing, each with a tick that is due, m - 1 commands and events of this session, or all of them, are settled and reported.
+/// nothing, each with a tick that is due, m - 1 more commands and events of this session, or all of them, are settled and reported.
 pub fn comes_through<H: Handler>()
     ensures { ComesThrough H.answer_of H.after }
 {
