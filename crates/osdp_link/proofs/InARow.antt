@@ -151,7 +151,7 @@ module _ {H : Type 0} (answer_of : H → Command → Answer) (after : H → Comm
         );
       }
 
-  standing : Assumed → (move : Move) (l : Link H) → IsMove answer_of after move l → AllStands l → AllStands (after_move answer_of after move l)
+  pub standing : Assumed → (move : Move) (l : Link H) → IsMove answer_of after move l → AllStands l → AllStands (after_move answer_of after move l)
   standing given (Submit c) l fits h = keeps_on given (Submit c) l tt fits h
   standing given (QueueEvent e) l fits h = keeps_on given (QueueEvent e) l tt fits h
   standing given (SetBusy busy) l fits h = keeps_on given (SetBusy busy) l tt fits h

@@ -23,3 +23,4 @@ pub mod Round
 pub mod Rounds
 pub mod Through
 pub mod InTime
+pub mod Refusals

@@ -3,3 +3,4 @@ pub mod Link
 pub mod Headline
 pub mod Sessions
 pub mod Progress
+pub mod Refusals

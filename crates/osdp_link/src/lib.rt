@@ -5,6 +5,7 @@
 ghost use Rattle.osdp_link.specs.Peers.{ReadEachOther, ReadsWhatIsAsked, ReadsWhatIsAnswered, TakesPlainReplies, TellsItsEvent};
 ghost use Rattle.osdp_link.specs.Headline.{HoldsOnce, SaysAllPlainly};
 ghost use Rattle.osdp_link.specs.Progress.{ComesThrough, ComesThroughInTime};
+ghost use Rattle.osdp_link.specs.Refusals.{RefusesNoNumber};
 ghost use Rattle.osdp_link.specs.Sessions.{CommandsHavePlaces, EventsHavePlaces, LastOneLasts, StayInARow};
 
 use osdp_reader::Handler;
@@ -64,6 +65,13 @@ pub fn sessions_in_a_row<H: Handler>()
 /// says BUSY, or a reply that settles.
 pub fn says_all_plainly<H: Handler>()
     ensures { SaysAllPlainly H.answer_of H.after }
+{
+    read_each_other::<H>();
+}
+
+/// So no session ends because a reader refused a number.
+pub fn refuses_no_number<H: Handler>()
+    ensures { RefusesNoNumber H.answer_of H.after }
 {
     read_each_other::<H>();
 }
