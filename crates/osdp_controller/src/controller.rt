@@ -41,6 +41,7 @@ impl Model for Controller {
 impl Controller {
     ghost use Rattle.osdp_controller.specs.Machine.{IsMachine, NewEnds, after_begin, after_frame, after_retarget, after_submit, after_tick, begin_refusal, changed_unless, is_due, IsDeadline, is_outstanding, retarget_refusal, sent_in, submit_refusal, unless_refused};
     ghost use Rattle.osdp_controller.specs.Hearing.{hears};
+    ghost use Rattle.osdp_controller.specs.States.{is_closed};
     ghost use Rattle.osdp_controller.specs.Ticking.{ticks};
 
     /// A controller without a session, with room for so many waiting commands, 1 to 1024.
@@ -74,6 +75,13 @@ impl Controller {
         ensures machine { IsMachine self.now }
     {
         self.session.config.address
+    }
+
+    /// Whether no session has begun, or the last one has ended.
+    pub fn is_closed(&self) -> bool
+        ensures { result ≡ is_closed self.now.session.state }
+    {
+        self.session.state.is_closed()
     }
 
     /// Whether an exchange waits for its answer.

@@ -1,3 +1,4 @@
 pub mod LawsOfSpellings
+pub mod OneByOne
 pub mod Readings
 pub mod Calls

@@ -9,7 +9,7 @@ ghost use Rattle.osdp_frame.specs.Packet.{IsPacket, Packet, largest};
 ghost use Rattle.osdp_frame.specs.Spelling.{Spells, spelling};
 ghost use Rattle.osdp_frame.specs.Reading.{IsFirst, IsReading, IsUndecided, Part, Stands, Whole, total_size};
 ghost use Rattle.osdp_frame_laws.specs.Calls.{Call, IsBehind, IsOfBytes, ReadsEachRun, ReadsOn, Run, after_call, empty_run};
-ghost use Rattle.osdp_frame.specs.Held.{Held, after_push, decided, new_run, taken_count};
+ghost use Rattle.osdp_frame.specs.Held.{Held, after_advance, after_push, decided, new_run, taken_count};
 ghost use Rattle.osdp_frame.specs.Items.{Drains, items, left_over, reading};
 
 /// A packet has one spelling, and what is no packet has none.
@@ -90,6 +90,15 @@ pub fn items_taken_off()
     ensures beginning { (bytes more : List ℕ) (parts all : List Part) → AreBytes (bytes ++ more)
         → Drains false bytes parts → IsReading (bytes ++ more) all
         → (others : List Part) × (all ≡ parts ++ others) }
+{}
+
+/// Of the items that held bytes decide an advance takes off the first, and leaves the others: each is one byte or more.
+pub fn items_one_by_one()
+    ensures first { (held : Held) (part : Part) → decided held.ended held.bytes ≡ Some part
+        → items held.ended held.bytes ≡ part ∷ items (after_advance held).ended (after_advance held).bytes }
+    ensures none { (held : Held) → decided held.ended held.bytes ≡ None → items held.ended held.bytes ≡ [] }
+    ensures fewer { (held : Held) (part : Part) → decided held.ended held.bytes ≡ Some part
+        → length (after_advance held).bytes < length held.bytes }
 {}
 
 /// Whatever is called: what is held stands behind the items that were taken off the run, until the run is over.

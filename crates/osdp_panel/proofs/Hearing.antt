@@ -16,7 +16,7 @@ use Rattle.osdp_panel.specs.Hearing.{IsRun, after_reports, held_behind, items_he
 use Rattle.osdp_panel.specs.Reports.{after_item, told_of}
 use Rattle.osdp_panel.specs.Turns.{after_items, behind_all, items_of, listed, reports_of}
 use Rattle.osdp_panel.proofs.Runs.{AreBytes-append, no_bytes}
-use Rattle.osdp_panel.proofs.Taking.{items_behind, still_ended}
+use Rattle.osdp_frame_laws.proofs.OneByOne.{items_behind, still_ended}
 use Rattle.osdp_panel.proofs.Turning.{splits}
 
 -- ---- items one list behind the other

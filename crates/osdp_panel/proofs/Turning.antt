@@ -7,7 +7,7 @@ use Rattle.osdp_controller.specs.declared.report.Report.{Report}
 use Rattle.osdp_controller.specs.Machine.{Machine}
 use Rattle.osdp_panel.specs.Reports.{after_item, told_by, told_of, told_or, next_told}
 use Rattle.osdp_panel.specs.Turns.{TellsInTurn, after_items, behind_all, items_of, listed, reports_of}
-use Rattle.osdp_panel.proofs.Taking.{items_behind, still_ended}
+use Rattle.osdp_frame_laws.proofs.OneByOne.{items_behind, still_ended}
 
 -- behind the first of the items held are the others
 pub splits : (held : Held) (part : Part) (parts : List Part) → items_of held ≡ part ∷ parts → items_of (behind held part) ≡ parts

@@ -1,5 +1,5 @@
 use Rattle.std.proofs.Common.{sym}
-use Rattle.osdp_panel.proofs.Taking.{fewer_held}
+use Rattle.osdp_frame_laws.proofs.OneByOne.{fewer_held}
 use Rattle.osdp_panel.proofs.Panel.next_report.Goals as goal
 
 pub items-smaller : goal.items-smaller

@@ -1,0 +1,6 @@
+pub mod Account
+pub mod Line
+pub mod State
+pub mod Steps
+pub mod Runs
+pub mod Room

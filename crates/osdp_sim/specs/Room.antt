@@ -1,0 +1,35 @@
+-- What a simulation is, and the room that one step needs.
+use Rattle.std.specs.Prelude.{◌<◌, vec_len, vec_capacity}
+use Rattle.std.specs.VecDeque.{deque_len, deque_capacity}
+use Rattle.osdp_sim.specs.declared.account.Account as declared
+use Rattle.osdp_sim.specs.declared.simulation.Simulation.{Simulation}
+use Rattle.osdp_sim.specs.Account.{lists_of}
+use Rattle.osdp_sim.specs.Line.{bytes_of}
+use Rattle.osdp_sim.specs.State.{SimState}
+
+-- a place in each list of an account
+pub record HasPlaces (a : declared.Account) : Type 0 where
+  pub issued : vec_len a.issued < vec_capacity a.issued
+  pub taken : vec_len a.taken < vec_capacity a.taken
+  pub settled : vec_len a.settled < vec_capacity a.settled
+  pub unsettled : vec_len a.unsettled < vec_capacity a.unsettled
+  pub queued : vec_len a.queued < vec_capacity a.queued
+  pub reported : vec_len a.reported < vec_capacity a.reported
+  pub ends : vec_len a.ends < vec_capacity a.ends
+  pub sessions : vec_len a.sessions < vec_capacity a.sessions
+
+module _ {H : Type 0} where
+  abbrev pub state_of : Simulation H → SimState H
+  state_of s = record {
+    controller = s.controller;
+    reader = s.reader;
+    to_reader = bytes_of s.to_reader.items;
+    to_controller = bytes_of s.to_controller.items;
+    clock = s.clock;
+    account = lists_of s.account;
+  }
+
+  pub record HasRoom (s : Simulation H) : Type 0 where
+    pub to_reader : deque_len s.to_reader < deque_capacity s.to_reader
+    pub to_controller : deque_len s.to_controller < deque_capacity s.to_controller
+    pub account : HasPlaces s.account

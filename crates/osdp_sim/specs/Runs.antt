@@ -1,0 +1,91 @@
+-- The run of a schedule, and how it ends.
+use Rattle.std.specs.Prelude.{◌≡◌, ℕ, suc, zero, ◌≤◌, ◌-◌, Bool, true, ◌&&◌, is_none, List, [], ◌∷◌, length, take, drop, Option, Some, None, Result, Ok, Err}
+use Rattle.osdp_msg.specs.declared.command.Command.{Command}
+use Rattle.osdp_controller.specs.Machine as controllers
+use Rattle.osdp_reader.specs.declared.handler.Answer.{Answer}
+use Rattle.osdp_sim.specs.declared.account.Account as declared
+use Rattle.osdp_sim.specs.declared.config.SimConfig.{SimConfig}
+use Rattle.osdp_sim.specs.declared.fault.Cause.{Cause}
+use Rattle.osdp_sim.specs.declared.fault.Cause.TheVariants.{HoldsPacket, NoMemory, NotQuiet, OutOfRange}
+use Rattle.osdp_sim.specs.declared.fault.Fault.{Fault}
+use Rattle.osdp_sim.specs.declared.step.SimStep.{SimStep}
+use Rattle.osdp_sim.specs.Account.{Account, empty_account, lists_of}
+use Rattle.osdp_sim.specs.State.{SimState, set_up}
+use Rattle.osdp_sim.specs.Steps.{StepFits, after_step, fault_of}
+
+-- the reader's settings are in their ranges ..
+pub record ReaderInRange (config : SimConfig) : Type 0 where
+  pub address : config.reader.address ≤ 126
+  pub some : 1 ≤ config.events
+  pub limit : config.events ≤ 1024
+
+-- .. and so are the controller's
+pub record AreSettings (config : SimConfig) : Type 0 where
+  pub reader : ReaderInRange config
+  pub controller : controllers.AreSettings config.controller config.commands
+
+-- why there is no controller: settings are judged before memory is asked for
+abbrev pub IsControllerCause : Cause → SimConfig → Type 0
+IsControllerCause OutOfRange config = controllers.AreSettings config.controller config.commands → ⊥
+IsControllerCause NoMemory config = controllers.AreSettings config.controller config.commands
+IsControllerCause HoldsPacket config = ⊥
+IsControllerCause NotQuiet config = ⊥
+
+-- .. and why no step was taken
+abbrev pub IsSetUpCause : Cause → SimConfig → Type 0
+IsSetUpCause OutOfRange config = AreSettings config → ⊥
+IsSetUpCause NoMemory config = AreSettings config
+IsSetUpCause HoldsPacket config = ⊥
+IsSetUpCause NotQuiet config = ⊥
+
+-- the cause of a stop: a refusal is looked at before memory is asked for
+abbrev pub IsCause : Cause → Option Cause → Type 0
+IsCause HoldsPacket fault = fault ≡ Some HoldsPacket
+IsCause NotQuiet fault = fault ≡ Some NotQuiet
+IsCause NoMemory fault = fault ≡ None
+IsCause OutOfRange fault = ⊥
+
+-- why the first of these steps is refused
+abbrev pub first_fault : {H : Type 0} → List SimStep → SimState H → Option Cause
+first_fault [] s = None
+first_fault (step ∷ steps) s = fault_of step s
+
+module _ {H : Type 0} (answer_of : H → Command → Answer) (after : H → Command → H) where
+  -- the state behind these steps
+  abbrev pub run : List SimStep → SimState H → SimState H
+  run [] s = s
+  run (step ∷ steps) s = run steps (after_step answer_of after step s)
+
+  -- none of them is refused
+  abbrev pub is_well : List SimStep → SimState H → Bool
+  is_well [] s = true
+  is_well (step ∷ steps) s = is_none (fault_of step s) && is_well steps (after_step answer_of after step s)
+
+  -- the run stops at a step, counted from 1; the account is that of the steps before it
+  pub record StopsAt (at : ℕ) (why : Cause) (lists : Account) (steps : List SimStep) (s : SimState H) : Type 0 where
+    pub within : at ≤ length steps
+    pub well : is_well (take (at - 1) steps) s ≡ true
+    pub cause : IsCause why (first_fault (drop (at - 1) steps) (run (take (at - 1) steps) s))
+    pub account : lists ≡ (run (take (at - 1) steps) s).account
+
+  -- .. or nothing was set up
+  abbrev pub Stops : ℕ → Cause → Account → SimConfig → H → List SimStep → Type 0
+  Stops zero cause account config handler steps = IsSetUpCause cause config × (account ≡ empty_account)
+  Stops (suc before) cause account config handler steps =
+      AreSettings config × StopsAt (suc before) cause account steps (set_up config handler)
+
+  abbrev pub RunEnds : SimConfig → H → List SimStep → Result declared.Account Fault → Type 0
+  RunEnds config handler steps (Ok account) =
+      AreSettings config × (is_well steps (set_up config handler) ≡ true)
+      × (lists_of account ≡ (run steps (set_up config handler)).account)
+  RunEnds config handler steps (Err fault) = Stops fault.step fault.cause (lists_of fault.account) config handler steps
+
+  -- what went over the line in these steps had its fields in their ranges
+  abbrev pub FitAlong : List SimStep → SimState H → Type 0
+  FitAlong [] s = Unit {0}
+  FitAlong (step ∷ steps) s = StepFits answer_of after step s × FitAlong steps (after_step answer_of after step s)
+
+-- the steps that were taken
+abbrev pub steps_done : List SimStep → Result declared.Account Fault → List SimStep
+steps_done steps (Ok account) = steps
+steps_done steps (Err fault) = take (fault.step - 1) steps

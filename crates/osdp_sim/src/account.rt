@@ -1,0 +1,149 @@
+//! What a schedule comes to.
+
+ghost use Rattle.std.specs.Prelude.{◌≡◌, OnOk};
+ghost use Rattle.osdp_sim.specs.Account.{empty_account, lists_of, taken_command, with_issued, with_queued, with_report, with_session, with_taken};
+ghost use Rattle.osdp_sim.specs.Room.{HasPlaces};
+
+use osdp_controller::{LostCause, Report};
+use osdp_msg::{Command, Event, Reply};
+use std::alloc::{AllocError, Global};
+
+/// How a session ended.
+#[derive(Clone, Copy, Debug, PartialEq, Eq)]
+pub enum End {
+    /// Its exchange was given up for this cause.
+    Lost(LostCause),
+    /// The reader has gone to another address.
+    Moved,
+}
+
+/// How long the lists of an account were.
+#[derive(Clone, Copy, Debug, PartialEq, Eq)]
+pub struct Lengths {
+    pub issued: usize,
+    pub taken: usize,
+    pub settled: usize,
+    pub unsettled: usize,
+    pub queued: usize,
+    pub reported: usize,
+    pub ends: usize,
+}
+
+/// What a schedule came to, for one reader.
+#[derive(Debug, Drop)]
+pub struct Account {
+    /// The commands that the controller accepted.
+    pub issued: Vec<Command>,
+    /// The commands, other than POLL, that the reader has taken with the number that it expected.
+    pub taken: Vec<Command>,
+    /// The commands that were settled, each with its answer. A COMSET that moved the reader stands with its COM.
+    pub settled: Vec<(Command, Reply)>,
+    /// The commands that were outstanding where a session ended.
+    pub unsettled: Vec<Command>,
+    /// The events that the reader accepted.
+    pub queued: Vec<Event>,
+    /// The events that the controller reported.
+    pub reported: Vec<Event>,
+    /// How the sessions ended.
+    pub ends: Vec<End>,
+    /// How long the other lists were when each session began.
+    pub sessions: Vec<Lengths>,
+}
+
+impl Account {
+    /// Nothing has happened.
+    pub(crate) fn new(alloc: Global) -> Account
+        ensures { lists_of result ≡ empty_account }
+    {
+        Account {
+            issued: Vec::new(alloc),
+            taken: Vec::new(alloc),
+            settled: Vec::new(alloc),
+            unsettled: Vec::new(alloc),
+            queued: Vec::new(alloc),
+            reported: Vec::new(alloc),
+            ends: Vec::new(alloc),
+            sessions: Vec::new(alloc),
+        }
+    }
+
+    /// Makes a place in each list.
+    pub(crate) fn grow(&mut self) -> Result<(), AllocError>
+        ensures same { lists_of self.new ≡ lists_of self.old }
+        ensures places { OnOk result (HasPlaces self.new) }
+    {
+        self.issued.try_reserve(1)?;
+        self.taken.try_reserve(1)?;
+        self.settled.try_reserve(1)?;
+        self.unsettled.try_reserve(1)?;
+        self.queued.try_reserve(1)?;
+        self.reported.try_reserve(1)?;
+        self.ends.try_reserve(1)?;
+        self.sessions.try_reserve(1)
+    }
+
+    /// A session begins.
+    pub(crate) fn begin(&mut self)
+        requires { HasPlaces self.old }
+        ensures { lists_of self.new ≡ with_session (lists_of self.old) }
+    {
+        self.sessions.push_reserved(Lengths {
+            issued: self.issued.len(),
+            taken: self.taken.len(),
+            settled: self.settled.len(),
+            unsettled: self.unsettled.len(),
+            queued: self.queued.len(),
+            reported: self.reported.len(),
+            ends: self.ends.len(),
+        });
+    }
+
+    /// A command was accepted.
+    pub(crate) fn issue(&mut self, command: Command)
+        requires { HasPlaces self.old }
+        ensures { lists_of self.new ≡ with_issued command (lists_of self.old) }
+    {
+        self.issued.push_reserved(command);
+    }
+
+    /// An event was accepted.
+    pub(crate) fn queue(&mut self, event: Event)
+        requires { HasPlaces self.old }
+        ensures { lists_of self.new ≡ with_queued event (lists_of self.old) }
+    {
+        self.queued.push_reserved(event);
+    }
+
+    /// The reader has taken a command: a POLL isn't counted.
+    pub(crate) fn take(&mut self, command: Option<Command>)
+        requires { HasPlaces self.old }
+        ensures { lists_of self.new ≡ with_taken (taken_command command) (lists_of self.old) }
+    {
+        let Some(command) = command else { return };
+        if !matches!(command, Command::Poll) {
+            self.taken.push_reserved(command);
+        }
+    }
+
+    /// The controller has reported.
+    pub(crate) fn tell(&mut self, report: Option<Report>)
+        requires { HasPlaces self.old }
+        ensures { lists_of self.new ≡ with_report report (lists_of self.old) }
+    {
+        match report {
+            None | Some(Report::Opened(_) | Report::PollAnswered(_) | Report::Unread(..)) => {}
+            Some(Report::Settled(command, answer)) => self.settled.push_reserved((command, answer)),
+            Some(Report::Moved(command, answered)) => {
+                self.settled.push_reserved((command, Reply::Com(answered)));
+                self.ends.push_reserved(End::Moved);
+            }
+            Some(Report::Event(event)) => self.reported.push_reserved(event),
+            Some(Report::Lost(cause, command)) => {
+                if let Some(command) = command {
+                    self.unsettled.push_reserved(command);
+                }
+                self.ends.push_reserved(End::Lost(cause));
+            }
+        }
+    }
+}

@@ -1,0 +1,20 @@
+//! A simulated line: what a schedule of orders, events, moments and losses makes of a controller and a reader.
+//!
+//! `run_session` runs one controller and one reader, both as a panel and a device have them, over a list of steps, and hands back the
+//! account of what happened. Bursts go over the line as bytes, and are read from bytes at the other end.
+#![tactic(auto)]
+
+mod account;
+mod config;
+mod fault;
+pub mod laws;
+mod line;
+mod session;
+mod simulation;
+mod step;
+
+pub use account::{Account, End, Lengths};
+pub use config::SimConfig;
+pub use fault::{Cause, Fault};
+pub use session::run_session;
+pub use step::{Move, SimStep};

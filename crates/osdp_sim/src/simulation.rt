@@ -1,0 +1,304 @@
+//! Both ends and the line between them.
+
+ghost use Rattle.std.specs.Prelude.{◌≡◌, ◌↔◌, ◌<◌, IsTrue, IfOk, IfErr, None, OnOk, ◌∷◌, []};
+ghost use Rattle.std.specs.VecDeque.{deque_capacity, deque_len};
+ghost use Rattle.osdp_msg.specs.CommandTable.{CommandFits};
+ghost use Rattle.osdp_controller.specs.Machine as controllers;
+ghost use Rattle.osdp_reader.specs.Responses.{response_bytes, response_command, response_kind};
+ghost use Rattle.osdp_sim.specs.Account.{taken_by, taken_command};
+ghost use Rattle.osdp_sim.specs.Room.{HasPlaces, HasRoom, state_of};
+ghost use Rattle.osdp_sim.specs.Runs.{AreSettings, IsControllerCause, IsSetUpCause, ReaderInRange};
+ghost use Rattle.osdp_sim.specs.State.{AreSent, set_up};
+ghost use Rattle.osdp_sim.specs.Steps.{SaysFit, StepFits, after_step, damage_fault, fault_of, is_quiet, reader_hears};
+ghost use Rattle.osdp_sim.specs.declared.step.SimStep.TheVariants.{Issue, Queue, Reopen, ToController, ToReader, Wait};
+
+use crate::account::Account;
+use crate::config::SimConfig;
+use crate::fault::Cause;
+use crate::laws::reads_packets;
+use crate::line::{framed, holds_packet, move_on};
+use crate::step::{Move, SimStep};
+use osdp_controller::{Controller, ControllerFault, Step};
+use osdp_frame::{Burst, FrameView, Item};
+use osdp_msg::{Command, Event};
+use osdp_reader::{Handler, Reader, ReaderFault, Response};
+use std::alloc::{AllocError, Global};
+use std::collections::VecDeque;
+
+/// A controller, a reader, and the bursts that are on their way between them.
+#[derive(Drop)]
+pub struct Simulation<H: Handler> {
+    pub controller: Controller,
+    pub reader: Reader<H>,
+    pub to_reader: VecDeque<Burst>,
+    pub to_controller: VecDeque<Burst>,
+    /// The moment, in milliseconds since the set-up.
+    pub clock: u64,
+    pub account: Account,
+}
+
+/// Whether the reader's settings are in their ranges.
+fn is_reader_in_range(config: &SimConfig) -> bool
+    ensures { IsTrue result ↔ ReaderInRange config.now }
+{
+    config.reader.address.get() <= 126 && config.events >= 1 && config.events <= 1024
+}
+
+/// A controller whose first session has begun.
+fn begun(alloc: Global, config: &SimConfig) -> Result<Controller, Cause>
+    ensures made { IfOk result (λ c. controllers.AreSettings config.now.controller config.now.commands
+        × (c ≡ controllers.after_begin 0 (controllers.new_machine config.now.controller config.now.commands))) }
+    ensures cause { IfErr result (λ cause. IsControllerCause cause config.now) }
+{
+    let mut controller = match Controller::new(alloc, config.controller, config.commands) {
+        Ok(controller) => controller,
+        Err(ControllerFault::OutOfRange) => return Err(Cause::OutOfRange),
+        Err(
+            ControllerFault::NoMemory
+            | ControllerFault::Full
+            | ControllerFault::PollSubmitted
+            | ControllerFault::NotClosed,
+        ) => {
+            return Err(Cause::NoMemory);
+        }
+    };
+    let _ = controller.begin(0);
+    Ok(controller)
+}
+
+impl<H: Handler> Simulation<H> {
+    /// Both ends are set up, and the first session begins. Settings are judged before memory is asked for.
+    pub fn new(alloc: Global, config: &SimConfig, handler: H) -> Result<Simulation<H>, Cause>
+        ensures made { IfOk result (λ s. AreSettings config.now × (state_of s ≡ set_up config.now handler)) }
+        ensures cause { IfErr result (λ cause. IsSetUpCause cause config.now) }
+    {
+        if !is_reader_in_range(config) {
+            return Err(Cause::OutOfRange);
+        }
+        let controller = begun(alloc, config)?;
+        let Ok(reader) = Reader::new(alloc, config.reader.copy(), handler, config.events) else {
+            return Err(Cause::NoMemory);
+        };
+        let mut account = Account::new(alloc);
+        if account.grow().is_err() {
+            return Err(Cause::NoMemory);
+        }
+        account.begin();
+        Ok(Simulation {
+            controller,
+            reader,
+            to_reader: VecDeque::new(alloc),
+            to_controller: VecDeque::new(alloc),
+            clock: 0,
+            account,
+        })
+    }
+
+    /// Makes room for what one step adds.
+    pub fn grow(&mut self) -> Result<(), AllocError>
+        ensures same { state_of self.new ≡ state_of self.old }
+        ensures room { OnOk result (HasRoom self.new) }
+    {
+        self.to_reader.try_reserve(1)?;
+        self.to_controller.try_reserve(1)?;
+        self.account.grow()
+    }
+
+    /// Why a step is refused.
+    pub fn fault(&self, step: &SimStep) -> Option<Cause>
+        ensures { result ≡ fault_of step.now (state_of self.now) }
+    {
+        match step {
+            SimStep::ToReader(way) | SimStep::ToController(way) => damage_fault(way),
+            SimStep::Reopen(number) => {
+                if *number == 1 && !self.is_quiet() {
+                    Some(Cause::NotQuiet)
+                } else {
+                    None
+                }
+            }
+            SimStep::Issue(..) | SimStep::Queue(..) | SimStep::Busy(..) | SimStep::Wait(_) => None,
+        }
+    }
+
+    /// Whether nothing is on the line and the session has ended.
+    fn is_quiet(&self) -> bool
+        ensures { result ≡ is_quiet (state_of self.now) }
+    {
+        self.to_reader.is_empty() && self.to_controller.is_empty() && self.controller.is_closed()
+    }
+
+    /// Takes a step that isn't refused.
+    pub fn take(&mut self, step: &SimStep)
+        requires well { fault_of step.now (state_of self.old) ≡ None }
+        requires room { HasRoom self.old }
+        requires sent { AreSent (state_of self.old) }
+        ensures state { state_of self.new ≡ after_step H.answer_of H.after step.now (state_of self.old) }
+        ensures sent { AreSent (state_of self.new) }
+        ensures fits { StepFits H.answer_of H.after step.now (state_of self.old) }
+    {
+        osdp_frame_laws::one_spelling();
+        self.change(step);
+    }
+
+    /// Does what a step says.
+    fn change(&mut self, step: &SimStep)
+        requires well { fault_of step.now (state_of self.old) ≡ None }
+        requires room { HasRoom self.old }
+        requires sent { AreSent (state_of self.old) }
+        ensures state { state_of self.new ≡ after_step H.answer_of H.after step.now (state_of self.old) }
+        ensures fits { StepFits H.answer_of H.after step.now (state_of self.old) }
+    {
+        match step {
+            SimStep::Issue(number, command) => self.issue(*number, command),
+            SimStep::Queue(number, event) => self.queue(*number, event),
+            SimStep::Busy(number, busy) => {
+                if *number == 1 {
+                    self.reader.set_busy(*busy);
+                }
+            }
+            SimStep::Wait(wait) => self.wait(*wait),
+            SimStep::ToReader(way) => self.to_reader(way),
+            SimStep::ToController(way) => self.to_controller(way),
+            SimStep::Reopen(number) => self.reopen(*number),
+        }
+    }
+
+    /// The controller's user submits a command; a refused one is dropped.
+    fn issue(&mut self, number: usize, command: &Command)
+        requires room { HasRoom self.old }
+        ensures state { state_of self.new ≡ after_step H.answer_of H.after (Issue number command.now) (state_of self.old) }
+        ensures fits { CommandFits command.now }
+    {
+        // Writing it brings in that its fields are in their ranges.
+        let _ = command.write();
+        if number != 1 {
+            return;
+        }
+        if self.controller.submit(command.copy()).is_ok() {
+            self.account.issue(command.copy());
+        }
+    }
+
+    /// The device submits an event; a refused one is dropped.
+    fn queue(&mut self, number: usize, event: &Event)
+        requires room { HasRoom self.old }
+        ensures state { state_of self.new ≡ after_step H.answer_of H.after (Queue number event.now) (state_of self.old) }
+    {
+        if number != 1 {
+            return;
+        }
+        if self.reader.submit_event(event.copy()).is_ok() {
+            self.account.queue(event.copy());
+        }
+    }
+
+    /// Time passes, and what is due goes out.
+    fn wait(&mut self, wait: u64)
+        requires room { HasRoom self.old }
+        ensures state { state_of self.new ≡ after_step H.answer_of H.after (Wait wait) (state_of self.old) }
+        ensures fits { StepFits H.answer_of H.after (Wait wait) (state_of self.old) }
+    {
+        self.clock = self.clock.saturating_add(wait);
+        let Step { frame, report } = self.controller.tick(self.clock);
+        if let Some(frame) = &frame {
+            self.to_reader.push_back_reserved(frame.encode());
+        }
+        self.account.tell(report);
+    }
+
+    /// The session begins again.
+    fn reopen(&mut self, number: usize)
+        requires room { HasRoom self.old }
+        requires well { fault_of (Reopen number) (state_of self.old) ≡ None }
+        ensures state { state_of self.new ≡ after_step H.answer_of H.after (Reopen number) (state_of self.old) }
+    {
+        if number == 1 {
+            let _ = self.controller.begin(self.clock);
+            self.account.begin();
+        }
+    }
+
+    /// The line moves on towards the reader.
+    fn to_reader(&mut self, way: &Move)
+        requires room { HasRoom self.old }
+        requires well { damage_fault way.now ≡ None }
+        requires sent { AreSent (state_of self.old) }
+        ensures state { state_of self.new ≡ after_step H.answer_of H.after (ToReader way.now) (state_of self.old) }
+        ensures fits { StepFits H.answer_of H.after (ToReader way.now) (state_of self.old) }
+    {
+        reads_packets();
+        let Some(burst) = move_on(&mut self.to_reader, way) else {
+            return
+        };
+        let framer = framed(&burst);
+        if let Some(Item::Packet(packet)) = framer.next() {
+            self.reader_hears(&packet);
+        }
+    }
+
+    /// The line moves on towards the controller.
+    fn to_controller(&mut self, way: &Move)
+        requires room { HasRoom self.old }
+        requires well { damage_fault way.now ≡ None }
+        requires sent { AreSent (state_of self.old) }
+        ensures state { state_of self.new ≡ after_step H.answer_of H.after (ToController way.now) (state_of self.old) }
+    {
+        reads_packets();
+        let Some(burst) = move_on(&mut self.to_controller, way) else {
+            return
+        };
+        let framer = framed(&burst);
+        if let Some(Item::Packet(packet)) = framer.next() {
+            let report = self.controller.on_frame(&packet, self.clock);
+            self.account.tell(report);
+        }
+    }
+
+    /// The reader hears a packet, and its answer goes out.
+    fn reader_hears(&mut self, packet: &FrameView<'_>)
+        requires place { deque_len self.old.to_controller < deque_capacity self.old.to_controller }
+        requires places { HasPlaces self.old.account }
+        ensures state { state_of self.new ≡ reader_hears H.answer_of H.after (packet.now ∷ []) (state_of self.old) }
+        ensures fits { SaysFit H.answer_of H.after (packet.now ∷ []) (state_of self.old).reader }
+    {
+        osdp_frame_laws::one_spelling();
+        let (command, burst) = parts(self.reader.on_frame(packet));
+        self.account.take(command);
+        if !burst.is_empty() {
+            self.to_controller.push_back_reserved(burst);
+        }
+    }
+}
+
+/// Of a response, the command that was taken and the burst to send, which is empty where nothing is.
+fn parts(response: Response) -> (Option<Command>, Burst)
+    ensures taken { taken_command result.0 ≡ taken_by (response_kind response) (response_command response) }
+    ensures burst { result.1.items ≡ response_bytes response }
+{
+    match response {
+        Response::Silent => (None, Burst::new()),
+        Response::Taken(command, burst) => (command, burst),
+        Response::Secured(burst)
+        | Response::Zero(_, burst)
+        | Response::Repeat(burst)
+        | Response::Busy(burst)
+        | Response::Wrong(burst) => (None, burst),
+    }
+}
+
+/// Why a move of the line is refused: damage may not hold a packet.
+fn damage_fault(way: &Move) -> Option<Cause>
+    ensures { result ≡ damage_fault way.now }
+{
+    match way {
+        Move::Damage(run) => {
+            if holds_packet(run) {
+                Some(Cause::HoldsPacket)
+            } else {
+                None
+            }
+        }
+        Move::Deliver | Move::Drop | Move::Repeat => None,
+    }
+}

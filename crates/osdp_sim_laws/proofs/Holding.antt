@@ -1,0 +1,216 @@
+-- What holds of each schedule.
+use Rattle.std.proofs.Common.{◌≡◌, ◌<◌, ℕ, Bool, true, false, ◌==◌, if◌then◌else◌, arith, List, [], ◌∷◌, ◌++◌, length, All, Option, Some, None, refl, sym, subst, ap, ◌∙◌, Result, Ok, Err, ◌≤◌, ◌-◌, zero, suc, take}
+use Rattle.osdp_frame.specs.Packet.{Packet}
+use Rattle.osdp_msg.specs.declared.command.Command.{Command}
+use Rattle.osdp_msg.specs.declared.event.Event.{Event}
+use Rattle.osdp_controller.specs.Machine as controllers
+use Rattle.osdp_controller.specs.declared.fault.ControllerFault.{ControllerFault}
+use Rattle.osdp_reader.specs.declared.config.ReaderConfig.{ReaderConfig}
+use Rattle.osdp_reader.specs.declared.handler.Answer.{Answer}
+use Rattle.osdp_link.specs.Headline.{AreOnce, Begins, HoldsOnce as LinkHoldsOnce, IsBeginning, with_answers}
+use Rattle.osdp_link.specs.Link as link
+use Rattle.osdp_link.specs.Refusals as refusals
+use Rattle.osdp_link.specs.Sessions.{CommandsHavePlaces, EventsHavePlaces, HaveLeft, StayInARow}
+use Rattle.osdp_link.proofs.Lines.{each_all, each_append, each_of}
+use Rattle.osdp_link.proofs.Stages.{Each}
+use Rattle.osdp_sim.specs.Account.{Account, empty_account, lists_of, with_session}
+use Rattle.osdp_sim.specs.Runs.{AreSettings, FitAlong, Stops, is_well, run, steps_done}
+use Rattle.osdp_sim.specs.State.{set_up}
+use Rattle.osdp_sim.specs.declared.account.Account as declared
+use Rattle.osdp_sim.specs.declared.fault.Cause.{Cause}
+use Rattle.osdp_sim.specs.declared.fault.Fault.{Fault}
+use Rattle.osdp_sim.specs.declared.config.SimConfig.{SimConfig}
+use Rattle.osdp_sim.specs.declared.step.SimStep.{SimStep}
+use Rattle.osdp_sim.specs.declared.step.SimStep.TheVariants.{Issue, Queue, Busy, Wait, ToReader, ToController, Reopen}
+use Rattle.osdp_sim_laws.specs.Accounts.{IsInARow, IsInSession, IsNoRefusal, IsOf, IsOnce, IsAnswer, StaysInARow, HoldsOnce, WasSetUp, account_in}
+use Rattle.osdp_sim_laws.specs.Moves.{clock_behind, first_link, move_of, moves_of}
+use Rattle.osdp_sim_laws.proofs.Accounts.{Tells}
+use Rattle.osdp_sim_laws.proofs.Carrying.{ArePackets}
+use Rattle.osdp_sim_laws.proofs.Delivering.{ReadsPackets}
+use Rattle.osdp_sim_laws.proofs.Schedules.{schedule_follows}
+
+-- nothing is sent, and nothing is told
+abbrev pub no_account : Account
+no_account = with_session empty_account
+
+pub tells_nothing : Tells no_account (link.new_account [] []) []
+tells_nothing = record {
+  taken = refl;
+  settled = refl;
+  unsettled = refl;
+  reported = refl;
+  sessions = ([], _, refl, record { taken = refl; settled = refl; unsettled = refl; reported = refl }, refl);
+}
+
+module _ {H : Type 0} (answer_of : H → Command → Answer) (after : H → Command → H) where
+  -- a schedule whose settings are in their ranges, of which no step is refused
+  pub record IsRun (config : SimConfig) (handler : H) (steps : List SimStep) : Type 0 where
+    pub settings : AreSettings config
+    pub well : is_well answer_of after steps (set_up config handler) ≡ true
+    pub fits : FitAlong answer_of after steps (set_up config handler)
+
+  -- what the theory of one link says
+  pub record Link : Type 0 where
+    pub reads : ReadsPackets
+    pub once : LinkHoldsOnce answer_of after
+    pub row : StayInARow answer_of after
+    pub commands : CommandsHavePlaces answer_of after
+    pub events : EventsHavePlaces answer_of after
+    pub causes : refusals.RefusesNoNumber answer_of after
+
+  pub begins : (config : SimConfig) (handler : H) → config.controller.address < 127 → Begins (first_link config handler)
+  begins config handler device = record {
+    quiet = (_, refl);
+    address = device;
+    waiting = λ k d lt. absurd (omega (arith, lt));
+    to_reader = refl;
+    to_controller = refl;
+    account = refl;
+    earlier = refl;
+  }
+
+  abbrev pub in_a_row : Link → (config : SimConfig) (handler : H) (steps : List SimStep) → IsRun config handler steps
+      → IsInARow answer_of after config.reader handler (run answer_of after steps (set_up config handler)).account
+  in_a_row given config handler steps is =
+      let l = first_link config handler in
+      let packets : ArePackets l = record { to_reader = tt; to_controller = tt } in
+      let follows = schedule_follows answer_of after given.reads steps l 0 no_account packets tells_nothing is.well is.fits in
+      let begun = begins config handler is.settings.controller.config_in_range.address in
+      let ms = moves_of steps 0 in
+      let behind = link.run answer_of after ms l in
+      let a = (run answer_of after steps (set_up config handler)).account in
+      let moves = follows.1.moves in
+      let carried = follows.1.carried in
+      let tells = carried.tells in
+      record {
+        last = behind.account;
+        earlier = behind.earlier;
+        lists = record {
+          issued = carried.issued ∙ given.commands l ms begun moves;
+          queued = subst (λ es. (gone : List Event) × HaveLeft es behind.earlier gone × (es ≡ gone ++ behind.account.queued)) (sym carried.queued)
+              (given.events l ms begun moves);
+          taken = tells.taken;
+          settled = tells.settled;
+          unsettled = tells.unsettled;
+          reported = tells.reported;
+          sessions = tells.sessions;
+        };
+        once = given.once l ms begun moves;
+        row = given.row l ms begun moves;
+        causes = each_all IsNoRefusal a.ends
+            (carried.causes (each_of refusals.IsNoRefusal (refusals.reports answer_of after ms l) (given.causes l ms begun moves)) tt);
+      }
+
+  -- ---- one session
+
+  -- a move that begins no session
+  abbrev IsWithin : link.Move → Type 0
+  IsWithin (link.Reopen now) = ⊥
+  IsWithin _ = Unit {0}
+
+  submits_within : (fault : Option ControllerFault) (command : Command) (l : link.Link H) → (link.submits fault command l).earlier ≡ l.earlier
+  submits_within None command l = refl
+  submits_within (Some fault) command l = refl
+
+  queues_within : (full : Bool) (event : Event) (l : link.Link H) → (link.queues full event l).earlier ≡ l.earlier
+  queues_within true event l = refl
+  queues_within false event l = refl
+
+  reader_within : (ps : List Packet) (how : link.Delivery) (l : link.Link H) → (link.to_reader answer_of after ps how l).earlier ≡ l.earlier
+  reader_within [] how l = refl
+  reader_within (p ∷ ps) link.Delivered l = refl
+  reader_within (p ∷ ps) link.Lost l = refl
+  reader_within (p ∷ ps) link.Repeated l = refl
+
+  controller_within : (ps : List Packet) (how : link.Delivery) (now : ℕ) (l : link.Link H) → (link.to_controller ps how now l).earlier ≡ l.earlier
+  controller_within [] how now l = refl
+  controller_within (p ∷ ps) link.Delivered now l = refl
+  controller_within (p ∷ ps) link.Lost now l = refl
+  controller_within (p ∷ ps) link.Repeated now l = refl
+
+  move_within : (m : link.Move) (l : link.Link H) → IsWithin m → (link.after_move answer_of after m l).earlier ≡ l.earlier
+  move_within (link.Submit command) l w = submits_within (controllers.submit_refusal command l.controller) command l
+  move_within (link.Queue event) l w = queues_within (length l.reader.queue.events == l.reader.queue.capacity) event l
+  move_within (link.SetBusy busy) l w = refl
+  move_within (link.Tick now) l w = refl
+  move_within (link.ToReader how) l w = reader_within l.to_reader how l
+  move_within (link.ToController how now) l w = controller_within l.to_controller how now l
+  move_within (link.Reopen now) l w = absurd w
+
+  run_within : (ms : List link.Move) (l : link.Link H) → Each IsWithin ms → (link.run answer_of after ms l).earlier ≡ l.earlier
+  run_within [] l w = refl
+  run_within (m ∷ ms) l w = run_within ms (link.after_move answer_of after m l) w.1 ∙ move_within m l w.0
+
+  there_within : (there : Bool) (m : link.Move) → IsWithin m → Each IsWithin (if there then m ∷ [] else [])
+  there_within true m w = (w, tt)
+  there_within false m w = tt
+
+  step_within : (step : SimStep) (clock : ℕ) → IsInSession step → Each IsWithin (move_of step clock)
+  step_within (Issue number command) clock w = there_within (number == 1) (link.Submit command) tt
+  step_within (Queue number event) clock w = there_within (number == 1) (link.Queue event) tt
+  step_within (Busy number busy) clock w = there_within (number == 1) (link.SetBusy busy) tt
+  step_within (Wait wait) clock w = (tt, tt)
+  step_within (ToReader move) clock w = (tt, tt)
+  step_within (ToController move) clock w = (tt, tt)
+  step_within (Reopen number) clock w = absurd w
+
+  steps_within : (steps : List SimStep) (clock : ℕ) → Each IsInSession steps → Each IsWithin (moves_of steps clock)
+  steps_within [] clock w = tt
+  steps_within (step ∷ steps) clock w =
+      each_append IsWithin (move_of step clock) (moves_of steps (clock_behind step clock)) (step_within step clock w.0)
+      (steps_within steps (clock_behind step clock) w.1)
+
+  -- of one session alone
+  of_one : (config : ReaderConfig) (handler : H) (a : Account) (t : link.Account) (earlier : List link.Account) → earlier ≡ []
+      → IsOf a t earlier → AreOnce answer_of after config handler (t ∷ earlier) → All IsNoRefusal a.ends → IsOnce answer_of after config handler a
+  of_one config handler a t (u ∷ earlier) none lists once causes = absurd cc
+  of_one config handler a t [] none lists once causes =
+      let held = once.0 in
+      let gone : lists.queued.0 ≡ [] = lists.queued.1 in
+      let queued : a.queued ≡ t.queued = lists.queued.2 ∙ ap (λ es. es ++ t.queued) gone in
+      record {
+        taken = subst (λ cs. IsBeginning cs a.issued) (sym lists.taken) (subst (IsBeginning t.taken) (sym lists.issued) held.taken);
+        settled = (
+          held.settled.0,
+          ap (with_answers answer_of after config handler) lists.taken ∙ held.settled.1 ∙ ap (λ l. l ++ held.settled.0) (sym lists.settled),
+          held.settled.2,
+        );
+        reported = subst (λ es. IsBeginning es a.queued) (sym lists.reported) (subst (IsBeginning t.reported) (sym queued) held.reported);
+        causes = causes;
+      }
+
+  pub once : Link → (config : SimConfig) (handler : H) (steps : List SimStep) → IsRun config handler steps → All IsInSession steps
+      → IsOnce answer_of after config.reader handler (run answer_of after steps (set_up config handler)).account
+  once given config handler steps is within =
+      let row = in_a_row given config handler steps is in
+      let a = (run answer_of after steps (set_up config handler)).account in
+      of_one config.reader handler a row.last row.earlier
+      (run_within (moves_of steps 0) (first_link config handler) (steps_within steps 0 (each_of IsInSession steps within)))
+      row.lists row.once row.causes
+
+  -- ---- what is answered
+
+  -- the account is that of the steps that were taken
+  pub answers : (P : Account → Type 0) (config : SimConfig) (handler : H) (steps : List SimStep) (answer : Result declared.Account Fault)
+      → IsAnswer answer_of after config handler steps answer → WasSetUp answer
+      → (IsRun config handler (steps_done steps answer) → P (run answer_of after (steps_done steps answer) (set_up config handler)).account)
+      → P (account_in answer)
+  answers P config handler steps (Ok account) is was holds =
+      subst P (sym is.ends.2) (holds (record { settings = is.ends.0; well = is.ends.1; fits = is.fits }))
+  answers P config handler steps (Err fault) is was holds = by_step fault.step fault.cause (lists_of fault.account) is.ends is.fits was holds
+    where
+      by_step : (at : ℕ) (why : Cause) (lists : Account) → Stops answer_of after at why lists config handler steps
+          → FitAlong answer_of after (take (at - 1) steps) (set_up config handler) → 1 ≤ at
+          → (IsRun config handler (take (at - 1) steps) → P (run answer_of after (take (at - 1) steps) (set_up config handler)).account) → P lists
+      by_step zero why lists stops fits was holds = absurd (omega (arith, was))
+      by_step (suc before) why lists stops fits was holds =
+          subst P (sym stops.1.account) (holds (record { settings = stops.0; well = stops.1.well; fits = fits }))
+
+  pub all_in_a_row : Link → StaysInARow answer_of after
+  all_in_a_row given config handler steps answer is was =
+      answers (IsInARow answer_of after config.reader handler) config handler steps answer is was (in_a_row given config handler (steps_done steps answer))
+
+  pub all_once : Link → HoldsOnce answer_of after
+  all_once given config handler steps answer is was within =
+      answers (IsOnce answer_of after config.reader handler) config handler steps answer is was
+      (λ done. once given config handler (steps_done steps answer) done within)

@@ -1,0 +1,179 @@
+-- A schedule over a line of bytes is a list of moves of the link over its packets.
+use Rattle.std.proofs.Common.{◌≡◌, ℕ, Bool, true, false, not, ◌&&◌, ◌==◌, if◌then◌else◌, List, [], ◌∷◌, ◌++◌, length, Option, Some, None, is_none, refl, sym, subst, ap, ◌∙◌, append_assoc}
+use Rattle.std.specs.Prelude.{option_to_list}
+use Rattle.osdp_msg.specs.declared.command.Command.{Command}
+use Rattle.osdp_controller.specs.Machine as controllers
+use Rattle.osdp_controller.specs.Ticking.{ticks}
+use Rattle.osdp_reader.specs.declared.handler.Answer.{Answer}
+use Rattle.osdp_link.specs.Headline.{AreMoves}
+use Rattle.osdp_link.specs.Link as link
+use Rattle.osdp_link.specs.Link.{Link, after_move}
+use Rattle.osdp_link.specs.Refusals as refusals
+use Rattle.osdp_link.specs.Refusals.{reports, told_by}
+use Rattle.osdp_link.specs.Sessions.{all_queued, all_submitted, queued, submitted}
+use Rattle.osdp_link.proofs.Lines.{each_front, each_rest}
+use Rattle.osdp_link.proofs.Stages.{Each}
+use Rattle.osdp_sim.specs.Account.{Account}
+use Rattle.osdp_sim.specs.Runs.{FitAlong, is_well, run}
+use Rattle.osdp_sim.specs.State.{SimState}
+use Rattle.osdp_sim.specs.Steps as steps
+use Rattle.osdp_sim.specs.Steps.{StepFits, after_step, fault_of}
+use Rattle.osdp_sim.specs.declared.fault.Cause.{Cause}
+use Rattle.osdp_sim.specs.declared.fault.Cause.TheVariants.{NotQuiet}
+use Rattle.osdp_sim.specs.declared.step.SimStep.{SimStep}
+use Rattle.osdp_sim.specs.declared.step.SimStep.TheVariants.{Issue, Queue, Busy, Wait, ToReader, ToController, Reopen}
+use Rattle.osdp_sim_laws.specs.Moves.{clock_behind, in_bytes, move_of, moves_of}
+use Rattle.osdp_sim_laws.proofs.Accounts.{Tells}
+use Rattle.osdp_sim_laws.proofs.Carrying.{ArePackets, IsCarried, is_quiet, issuing, nothing, queueing, reopening, setting_busy, ticking}
+use Rattle.osdp_sim_laws.proofs.Delivering.{ReadsPackets, says_what_fits, to_controller, to_reader}
+
+module _ {H : Type 0} (answer_of : H → Command → Answer) (after : H → Command → H) where
+  -- the simulation is carried on by these moves
+  pub record Follows (s : SimState H) (ms : List link.Move) (l : Link H) (clock : ℕ) (a : Account) : Type 0 where
+    pub carried : IsCarried s (link.run answer_of after ms l) clock a (all_submitted answer_of after ms l) (all_queued answer_of after ms l) (reports answer_of after ms l)
+    pub moves : AreMoves answer_of after ms l
+
+  -- a step with a reader that is there or isn't
+  by_number : (there : Bool) (new : SimState H) (m : link.Move) (l : Link H) (clock : ℕ) (a : Account) → ArePackets l → Tells a l.account l.earlier
+      → (there ≡ true → Follows new (m ∷ []) l clock a)
+      → Follows (if there then new else in_bytes l clock a) (if there then m ∷ [] else []) l clock a
+  by_number true new m l clock a packets tells does = does refl
+  by_number false new m l clock a packets tells does = record { carried = nothing l clock a packets tells; moves = tt }
+
+  -- what is refused nowhere isn't refused where the reader is there
+  there_well : (there : Bool) (refused : Bool) (cause : Cause) → (if there && refused then Some cause else None) ≡ None → there ≡ true
+      → (if true && refused then Some cause else None) ≡ None
+  there_well true refused cause e is = e
+  there_well false refused cause e is = absurd cc
+
+  -- each step
+  step_follows : ReadsPackets → (step : SimStep) (l : Link H) (clock : ℕ) (a : Account) → ArePackets l → Tells a l.account l.earlier
+      → fault_of step (in_bytes l clock a) ≡ None → StepFits answer_of after step (in_bytes l clock a)
+      → Follows (after_step answer_of after step (in_bytes l clock a)) (move_of step clock) l (clock_behind step clock) a
+  step_follows reads (Issue number command) l clock a packets tells well fits =
+      by_number (number == 1) _ (link.Submit command) l clock a packets tells (λ there. record {
+        carried = issuing (controllers.submit_refusal command l.controller) command l clock a packets tells;
+        moves = (fits, tt);
+      })
+  step_follows reads (Queue number event) l clock a packets tells well fits =
+      by_number (number == 1) _ (link.Queue event) l clock a packets tells (λ there. record {
+        carried = queueing (length l.reader.queue.events == l.reader.queue.capacity) event l clock a packets tells;
+        moves = (tt, tt);
+      })
+  step_follows reads (Busy number busy) l clock a packets tells well fits =
+      by_number (number == 1) _ (link.SetBusy busy) l clock a packets tells (λ there. record {
+        carried = setting_busy busy l clock a packets tells;
+        moves = (tt, tt);
+      })
+  step_follows reads (Wait wait) l clock a packets tells well fits =
+      let now = clock_behind (Wait wait) clock in
+      record {
+        carried = ticking (ticks now l.controller.session l.controller.waiting) now l clock a packets tells fits;
+        moves = (tt, tt);
+      }
+  step_follows reads (ToReader move) l clock a packets tells well fits = record {
+    carried = to_reader answer_of after reads l.to_reader move l clock a refl well fits packets tells;
+    moves = (says_what_fits answer_of after reads l.to_reader move l packets.to_reader fits, tt);
+  }
+  step_follows reads (ToController move) l clock a packets tells well fits = record {
+    carried = to_controller reads l.to_controller move l clock a refl well packets tells;
+    moves = (tt, tt);
+  }
+  step_follows reads (Reopen number) l clock a packets tells well fits =
+      by_number (number == 1) _ (link.Reopen clock) l clock a packets tells (λ there.
+      let quiet = is_quiet l.to_reader l.to_controller l.controller.session.state (there_well (number == 1) (not (steps.is_quiet (in_bytes l clock a))) NotQuiet well there) in
+      record {
+        carried = reopening l.to_reader l.to_controller (controllers.begin_refusal l.controller) l clock a quiet.0 quiet.1 quiet.2 packets tells;
+        moves = (tt, tt);
+      })
+
+  -- ---- lists of moves, one behind the other
+
+  run_both : (ms ns : List link.Move) (l : Link H) → link.run answer_of after (ms ++ ns) l ≡ link.run answer_of after ns (link.run answer_of after ms l)
+  run_both [] ns l = refl
+  run_both (m ∷ ms) ns l = run_both ms ns (after_move answer_of after m l)
+
+  moves_both : (ms ns : List link.Move) (l : Link H) → AreMoves answer_of after ms l → AreMoves answer_of after ns (link.run answer_of after ms l)
+      → AreMoves answer_of after (ms ++ ns) l
+  moves_both [] ns l first next = next
+  moves_both (m ∷ ms) ns l first next = (first.0, moves_both ms ns (after_move answer_of after m l) first.1 next)
+
+  submitted_both : (ms ns : List link.Move) (l : Link H)
+      → all_submitted answer_of after (ms ++ ns) l ≡ all_submitted answer_of after ms l ++ all_submitted answer_of after ns (link.run answer_of after ms l)
+  submitted_both [] ns l = refl
+  submitted_both (m ∷ ms) ns l =
+      let next = after_move answer_of after m l in
+      ap (λ cs. submitted m l ++ cs) (submitted_both ms ns next)
+      ∙ sym (append_assoc (submitted m l) (all_submitted answer_of after ms next) (all_submitted answer_of after ns (link.run answer_of after ms next)))
+
+  queued_both : (ms ns : List link.Move) (l : Link H)
+      → all_queued answer_of after (ms ++ ns) l ≡ all_queued answer_of after ms l ++ all_queued answer_of after ns (link.run answer_of after ms l)
+  queued_both [] ns l = refl
+  queued_both (m ∷ ms) ns l =
+      let next = after_move answer_of after m l in
+      ap (λ es. queued m l ++ es) (queued_both ms ns next)
+      ∙ sym (append_assoc (queued m l) (all_queued answer_of after ms next) (all_queued answer_of after ns (link.run answer_of after ms next)))
+
+  reports_both : (ms ns : List link.Move) (l : Link H)
+      → reports answer_of after (ms ++ ns) l ≡ reports answer_of after ms l ++ reports answer_of after ns (link.run answer_of after ms l)
+  reports_both [] ns l = refl
+  reports_both (m ∷ ms) ns l =
+      let next = after_move answer_of after m l in
+      ap (λ rs. option_to_list (told_by m l) ++ rs) (reports_both ms ns next)
+      ∙ sym (append_assoc (option_to_list (told_by m l)) (reports answer_of after ms next) (reports answer_of after ns (link.run answer_of after ms next)))
+
+  -- more behind what follows
+  goes_on : (s t : SimState H) (ms ns : List link.Move) (l : Link H) (clock later : ℕ) (a : Account) → Follows s ms l clock a
+      → Follows t ns (link.run answer_of after ms l) later s.account → Follows t (ms ++ ns) l later a
+  goes_on s t ms ns l clock later a first next =
+      let behind = link.run answer_of after ms l in
+      let last = next.carried in
+      record {
+        carried = subst (λ m. IsCarried t m later a (all_submitted answer_of after (ms ++ ns) l) (all_queued answer_of after (ms ++ ns) l) (reports answer_of after (ms ++ ns) l))
+            (sym (run_both ms ns l))
+            (record {
+              state = last.state;
+              packets = last.packets;
+              tells = last.tells;
+              issued =
+                  last.issued
+                  ∙ ap (λ cs. cs ++ all_submitted answer_of after ns behind) first.carried.issued
+                  ∙ append_assoc a.issued (all_submitted answer_of after ms l) (all_submitted answer_of after ns behind)
+                  ∙ ap (λ cs. a.issued ++ cs) (sym (submitted_both ms ns l));
+              queued =
+                  last.queued
+                  ∙ ap (λ es. es ++ all_queued answer_of after ns behind) first.carried.queued
+                  ∙ append_assoc a.queued (all_queued answer_of after ms l) (all_queued answer_of after ns behind)
+                  ∙ ap (λ es. a.queued ++ es) (sym (queued_both ms ns l));
+              causes = λ told well.
+                  let all = subst (Each refusals.IsNoRefusal) (reports_both ms ns l) told in
+                  last.causes (each_rest refusals.IsNoRefusal (reports answer_of after ms l) (reports answer_of after ns behind) all)
+                  (first.carried.causes (each_front refusals.IsNoRefusal (reports answer_of after ms l) (reports answer_of after ns behind) all) well);
+            });
+        moves = moves_both ms ns l first.moves next.moves;
+      }
+
+  -- the first step is well, and so are the others
+  first_well : (fault : Option Cause) (rest : Bool) → (is_none fault && rest) ≡ true → (fault ≡ None) × (rest ≡ true)
+  first_well None rest e = (refl, e)
+  first_well (Some cause) rest e = absurd cc
+
+  -- each schedule
+  pub schedule_follows : ReadsPackets → (steps : List SimStep) (l : Link H) (clock : ℕ) (a : Account) → ArePackets l → Tells a l.account l.earlier
+      → is_well answer_of after steps (in_bytes l clock a) ≡ true → FitAlong answer_of after steps (in_bytes l clock a)
+      → (later : ℕ) × Follows (run answer_of after steps (in_bytes l clock a)) (moves_of steps clock) l later a
+  schedule_follows reads [] l clock a packets tells well fits = (clock, record { carried = nothing l clock a packets tells; moves = tt })
+  schedule_follows reads (step ∷ steps) l clock a packets tells well fits =
+      let s = in_bytes l clock a in
+      let both = first_well (fault_of step s) _ well in
+      let first = step_follows reads step l clock a packets tells both.0 fits.0 in
+      let next = after_step answer_of after step s in
+      let now = clock_behind step clock in
+      let behind = link.run answer_of after (move_of step clock) l in
+      let is = first.carried.state in
+      let rest = schedule_follows reads steps behind now next.account first.carried.packets first.carried.tells
+      (subst (λ t. is_well answer_of after steps t ≡ true) is both.1) (subst (FitAlong answer_of after steps) is fits.1) in (
+        rest.0,
+        goes_on next (run answer_of after steps next) (move_of step clock) (moves_of steps now) l now rest.0 a first
+            (subst (λ t. Follows (run answer_of after steps t) (moves_of steps now) behind rest.0 next.account) (sym is) rest.1),
+      )

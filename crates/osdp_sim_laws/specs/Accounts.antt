@@ -1,0 +1,103 @@
+-- What the account of a schedule is, session by session, and what holds of it.
+use Rattle.std.specs.Prelude.{◌≡◌, ◌≤◌, All, List, [], ◌∷◌, ◌++◌, length, Result, Ok, Err}
+use Rattle.osdp_msg.specs.declared.command.Command.{Command}
+use Rattle.osdp_msg.specs.declared.event.Event.{Event}
+use Rattle.osdp_msg.specs.declared.reply.Reply.{Reply}
+use Rattle.osdp_reader.specs.declared.config.ReaderConfig.{ReaderConfig}
+use Rattle.osdp_reader.specs.declared.handler.Answer.{Answer}
+use Rattle.osdp_link.specs.Headline.{AreOnce, IsBeginning, with_answers}
+use Rattle.osdp_link.specs.Link as link
+use Rattle.osdp_link.specs.Refusals.{IsOtherCause}
+use Rattle.osdp_link.specs.Sessions.{AreInARow, HaveLeft, told_in}
+use Rattle.osdp_sim.specs.Account.{Account, lists_of}
+use Rattle.osdp_sim.specs.Runs.{FitAlong, RunEnds, steps_done}
+use Rattle.osdp_sim.specs.State.{set_up}
+use Rattle.osdp_sim.specs.declared.account.Account as declared
+use Rattle.osdp_sim.specs.declared.account.End.{End}
+use Rattle.osdp_sim.specs.declared.account.End.TheVariants as ending
+use Rattle.osdp_sim.specs.declared.account.Lengths.{Lengths}
+use Rattle.osdp_sim.specs.declared.config.SimConfig.{SimConfig}
+use Rattle.osdp_sim.specs.declared.fault.Fault.{Fault}
+use Rattle.osdp_sim.specs.declared.step.SimStep.{SimStep}
+use Rattle.osdp_sim.specs.declared.step.SimStep.TheVariants.{Reopen}
+
+-- of sessions, the last of them first, a list of each, session behind session
+abbrev pub all_in : {A : Type 0} → (link.Account → List A) → List link.Account → List A
+all_in list [] = []
+all_in list (t ∷ earlier) = all_in list earlier ++ list t
+
+-- how long the lists of these sessions are
+pub record IsCut (at : Lengths) (earlier : List link.Account) : Type 0 where
+  pub taken : at.taken ≡ length (all_in (λ t. t.taken) earlier)
+  pub settled : at.settled ≡ length (all_in (λ t. t.settled) earlier)
+  pub unsettled : at.unsettled ≡ length (all_in (λ t. t.unsettled) earlier)
+  pub reported : at.reported ≡ length (all_in (λ t. t.reported) earlier)
+
+-- each session begins where those before it end
+abbrev pub AreCuts : List Lengths → List link.Account → Type 0
+AreCuts cuts [] = cuts ≡ []
+AreCuts cuts (t ∷ earlier) =
+    (before : List Lengths) × (at : Lengths) × (cuts ≡ before ++ at ∷ []) × IsCut at earlier × AreCuts before earlier
+
+-- the account holds what these sessions came to, the last of them first: the commands of a session are those behind the ones that
+-- the sessions before it settled or told unsettled, and its events those that have not left the queue before it
+pub record IsOf (a : Account) (t : link.Account) (earlier : List link.Account) : Type 0 where
+  pub issued : a.issued ≡ told_in earlier ++ t.issued
+  pub queued : (gone : List Event) × HaveLeft a.queued earlier gone × (a.queued ≡ gone ++ t.queued)
+  pub taken : a.taken ≡ all_in (λ t. t.taken) (t ∷ earlier)
+  pub settled : a.settled ≡ all_in (λ t. t.settled) (t ∷ earlier)
+  pub unsettled : a.unsettled ≡ all_in (λ t. t.unsettled) (t ∷ earlier)
+  pub reported : a.reported ≡ all_in (λ t. t.reported) (t ∷ earlier)
+  pub sessions : AreCuts a.sessions (t ∷ earlier)
+
+-- the reader has refused no number
+abbrev pub IsNoRefusal : End → Type 0
+IsNoRefusal (ending.Lost cause) = IsOtherCause cause
+IsNoRefusal ending.Moved = Unit {0}
+
+-- no session begins again
+abbrev pub IsInSession : SimStep → Type 0
+IsInSession (Reopen number) = ⊥
+IsInSession _ = Unit {0}
+
+-- the account that is handed back, with a fault too
+abbrev pub account_in : Result declared.Account Fault → Account
+account_in (Ok account) = lists_of account
+account_in (Err fault) = lists_of fault.account
+
+-- both ends were set up
+abbrev pub WasSetUp : Result declared.Account Fault → Type 0
+WasSetUp (Ok account) = Unit {0}
+WasSetUp (Err fault) = 1 ≤ fault.step
+
+module _ {H : Type 0} (answer_of : H → Command → Answer) (after : H → Command → H) where
+  -- in one session: the commands that the reader has taken are a beginning of those issued, and hold each settled one, with the answer
+  -- that the reader gave, and one more at most; the events reported are a beginning of those queued
+  pub record IsOnce (config : ReaderConfig) (handler : H) (a : Account) : Type 0 where
+    pub taken : IsBeginning a.taken a.issued
+    pub settled : (more : List (Command × Reply)) × (with_answers answer_of after config handler a.taken ≡ a.settled ++ more) × (length more ≤ 1)
+    pub reported : IsBeginning a.reported a.queued
+    pub causes : All IsNoRefusal a.ends
+
+  -- in sessions in a row: each is once, and the next begins with what it leaves
+  pub record IsInARow (config : ReaderConfig) (handler : H) (a : Account) : Type 0 where
+    pub last : link.Account
+    pub earlier : List link.Account
+    pub lists : IsOf a last earlier
+    pub once : AreOnce answer_of after config handler (last ∷ earlier)
+    pub row : AreInARow last earlier
+    pub causes : All IsNoRefusal a.ends
+
+  -- what `run_session` answers, and what went over the line in the steps that it took
+  pub record IsAnswer (config : SimConfig) (handler : H) (steps : List SimStep) (answer : Result declared.Account Fault) : Type 0 where
+    pub ends : RunEnds answer_of after config handler steps answer
+    pub fits : FitAlong answer_of after (steps_done steps answer) (set_up config handler)
+
+  abbrev pub StaysInARow : Type 0
+  StaysInARow = (config : SimConfig) (handler : H) (steps : List SimStep) (answer : Result declared.Account Fault)
+      → IsAnswer config handler steps answer → WasSetUp answer → IsInARow config.reader handler (account_in answer)
+
+  abbrev pub HoldsOnce : Type 0
+  HoldsOnce = (config : SimConfig) (handler : H) (steps : List SimStep) (answer : Result declared.Account Fault)
+      → IsAnswer config handler steps answer → WasSetUp answer → All IsInSession (steps_done steps answer)
+      → IsOnce config.reader handler (account_in answer)

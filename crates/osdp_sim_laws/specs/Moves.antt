@@ -1,0 +1,67 @@
+-- What the steps of a schedule are to the link.
+use Rattle.std.specs.Prelude.{ℕ, ◌==◌, if◌then◌else◌, List, [], ◌∷◌, ◌++◌, map}
+use Rattle.osdp_controller.specs.Machine.{after_begin, new_machine}
+use Rattle.osdp_frame.specs.Spelling.{spelling}
+use Rattle.osdp_reader.specs.State.{new_reader}
+use Rattle.osdp_link.specs.Link as link
+use Rattle.osdp_link.specs.Link.{Delivered, Delivery, Link, Lost, Repeated, new_account}
+use Rattle.osdp_sim.specs.Account.{Account}
+use Rattle.osdp_sim.specs.State.{SimState}
+use Rattle.osdp_sim.specs.Steps.{moment_behind}
+use Rattle.osdp_sim.specs.declared.config.SimConfig.{SimConfig}
+use Rattle.osdp_sim.specs.declared.step.Move as way
+use Rattle.osdp_sim.specs.declared.step.Move.TheVariants.{Deliver, Drop, Repeat, Damage}
+use Rattle.osdp_sim.specs.declared.step.SimStep.{SimStep}
+use Rattle.osdp_sim.specs.declared.step.SimStep.TheVariants.{Issue, Queue, Busy, Wait, ToReader, ToController, Reopen}
+
+-- damage that holds no packet is a loss
+abbrev pub delivery : way.Move → Delivery
+delivery Deliver = Delivered
+delivery Drop = Lost
+delivery Repeat = Repeated
+delivery (Damage bytes) = Lost
+
+abbrev pub where_there : ℕ → link.Move → List link.Move
+where_there number move = if number == 1 then move ∷ [] else []
+
+-- the move that a step is, at a moment
+abbrev pub move_of : SimStep → ℕ → List link.Move
+move_of (Issue number command) clock = where_there number (link.Submit command)
+move_of (Queue number event) clock = where_there number (link.Queue event)
+move_of (Busy number busy) clock = where_there number (link.SetBusy busy)
+move_of (Wait wait) clock = link.Tick (moment_behind wait clock) ∷ []
+move_of (ToReader move) clock = link.ToReader (delivery move) ∷ []
+move_of (ToController move) clock = link.ToController (delivery move) clock ∷ []
+move_of (Reopen number) clock = where_there number (link.Reopen clock)
+
+-- the moment behind it
+abbrev pub clock_behind : SimStep → ℕ → ℕ
+clock_behind (Wait wait) clock = moment_behind wait clock
+clock_behind _ clock = clock
+
+abbrev pub moves_of : List SimStep → ℕ → List link.Move
+moves_of [] clock = []
+moves_of (step ∷ steps) clock = move_of step clock ++ moves_of steps (clock_behind step clock)
+
+module _ {H : Type 0} where
+  -- a link whose packets go over the line in bytes
+  abbrev pub in_bytes : Link H → ℕ → Account → SimState H
+  in_bytes l clock account = record {
+    controller = l.controller;
+    reader = l.reader;
+    to_reader = map spelling l.to_reader;
+    to_controller = map spelling l.to_controller;
+    clock = clock;
+    account = account;
+  }
+
+  -- the link at the beginning of a schedule
+  abbrev pub first_link : SimConfig → H → Link H
+  first_link config handler = record {
+    controller = after_begin 0 (new_machine config.controller config.commands);
+    reader = new_reader config.reader handler config.events;
+    to_reader = [];
+    to_controller = [];
+    account = new_account [] [];
+    earlier = [];
+  }

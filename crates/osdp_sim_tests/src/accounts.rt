@@ -1,0 +1,72 @@
+//! Accounts as text.
+
+use osdp_controller::LostCause;
+use osdp_sim::{Account, End};
+use std::alloc::Global;
+use std::fmt::Write;
+use std::process::Abort;
+
+fn end(end: End) -> &'static str {
+    match end {
+        End::Lost(LostCause::NoReply) => "no-reply",
+        End::Lost(LostCause::TooBusy) => "too-busy",
+        End::Lost(LostCause::NumberRefused) => "number-refused",
+        End::Moved => "moved",
+    }
+}
+
+fn tell_counts(rt: &impl Abort, text: &mut String, account: &Account) {
+    write!(
+        text,
+        "issued {} taken {} settled {} unsettled {} queued {} reported {}\n",
+        account.issued.len(),
+        account.taken.len(),
+        account.settled.len(),
+        account.unsettled.len(),
+        account.queued.len(),
+        account.reported.len()
+    )
+    .expect(rt, "memory");
+}
+
+fn tell_taken(rt: &impl Abort, text: &mut String, account: &Account) {
+    for command in &account.taken {
+        write!(text, "taken {command}\n").expect(rt, "memory");
+    }
+}
+
+fn tell_settled(rt: &impl Abort, text: &mut String, account: &Account) {
+    for (command, reply) in &account.settled {
+        write!(text, "settled {command} = {reply}\n").expect(rt, "memory");
+    }
+}
+
+fn tell_unsettled(rt: &impl Abort, text: &mut String, account: &Account) {
+    for command in &account.unsettled {
+        write!(text, "unsettled {command}\n").expect(rt, "memory");
+    }
+}
+
+fn tell_reported(rt: &impl Abort, text: &mut String, account: &Account) {
+    for event in &account.reported {
+        write!(text, "reported {event}\n").expect(rt, "memory");
+    }
+}
+
+fn tell_ends(rt: &impl Abort, text: &mut String, account: &Account) {
+    for one in &account.ends {
+        write!(text, "ended {}\n", end(*one)).expect(rt, "memory");
+    }
+}
+
+/// The account, a line for its counts and one for each item of its lists.
+pub fn account_text(rt: &impl Abort, alloc: Global, account: &Account) -> String {
+    let mut text = String::new(alloc);
+    tell_counts(rt, &mut text, account);
+    tell_taken(rt, &mut text, account);
+    tell_settled(rt, &mut text, account);
+    tell_unsettled(rt, &mut text, account);
+    tell_reported(rt, &mut text, account);
+    tell_ends(rt, &mut text, account);
+    text
+}

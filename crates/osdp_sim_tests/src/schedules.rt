@@ -1,0 +1,276 @@
+//! Schedules and what comes of them. All times are the default ones: a session opens behind 400 ms of quiet, a POLL follows an answer
+//! behind 50 ms, a frame is sent three times, 200 ms apart.
+
+use crate::accounts::account_text;
+use crate::steps::steps;
+use arrayvec::ArrayVec;
+use osdp_controller::ControllerConfig;
+use osdp_door::Door;
+use osdp_frame::{Address, CheckKind};
+use osdp_msg::{PdCap, PdId};
+use osdp_reader::ReaderConfig;
+use osdp_sim::{Account, Fault, SimConfig, run_session};
+use std::alloc::Global;
+use std::process::Abort;
+
+/// A door at address 5 with room for four events, and a controller with room for 64 commands.
+pub fn config(rt: &impl Abort) -> SimConfig {
+    let address = Address::new(5).expect(rt, "an address");
+    let id = PdId {
+        vendor: [0x53, 0x49, 0x4d],
+        model: 1,
+        version: 1,
+        serial: 1,
+        firmware_major: 1,
+        firmware_minor: 0,
+        firmware_build: 0,
+    };
+    let caps = PdCap {
+        capabilities: ArrayVec::new(),
+    };
+    SimConfig {
+        reader: ReaderConfig { address, id, caps },
+        events: 4,
+        controller: ControllerConfig::new(address, CheckKind::Crc),
+        commands: 64,
+    }
+}
+
+/// What the steps of these rows come to.
+pub fn outcome(rt: &impl Abort, alloc: Global, rows: &str) -> Result<Account, Fault> {
+    let steps = steps(rt, alloc, rows);
+    run_session(alloc, &config(rt), Door::new(), steps.as_slice())
+}
+
+/// The steps of these rows come to this account.
+fn comes_to(rt: &impl Abort, alloc: Global, rows: &str, text: &str) {
+    let account = outcome(rt, alloc, rows).ok().expect(rt, "an account");
+    assert_eq!(rt; account_text(rt, alloc, &account).as_str(), text);
+}
+
+/// The session opens, and then three rounds lose nothing: two commands are settled and one of two events is reported.
+#[test]
+fn nothing_is_lost(rt: HostRuntime) {
+    comes_to(
+        &rt,
+        rt.alloc(),
+        "issue OUT 0:2:0
+issue BUZ 0 2 5 5 1
+queue KEYPAD 0 31
+queue KEYPAD 0 32
+wait 400
+to-reader deliver
+to-controller deliver
+wait 50
+to-reader deliver
+to-controller deliver
+wait 50
+to-reader deliver
+to-controller deliver
+wait 50
+to-reader deliver
+to-controller deliver",
+        "issued 2 taken 2 settled 2 unsettled 0 queued 2 reported 1
+taken OUT 0:2:0
+taken BUZ 0 2 5 5 1
+settled OUT 0:2:0 = ACK
+settled BUZ 0 2 5 5 1 = ACK
+reported KEYPAD 0 31
+",
+    );
+}
+
+/// The answer is lost, and the command that comes again is answered and not taken again.
+#[test]
+fn an_answer_is_lost(rt: HostRuntime) {
+    comes_to(
+        &rt,
+        rt.alloc(),
+        "issue OUT 0:2:0
+wait 400
+to-reader deliver
+to-controller deliver
+wait 50
+to-reader deliver
+to-controller drop
+wait 200
+to-reader deliver
+to-controller deliver",
+        "issued 1 taken 1 settled 1 unsettled 0 queued 0 reported 0
+taken OUT 0:2:0
+settled OUT 0:2:0 = ACK
+",
+    );
+}
+
+/// An event whose reply is damaged twice is reported once, and the next one when the reader isn't busy any more.
+#[test]
+fn a_reply_is_damaged(rt: HostRuntime) {
+    comes_to(
+        &rt,
+        rt.alloc(),
+        "queue RAW 0 0 26 0A0B0C40
+queue KEYPAD 0 31
+wait 400
+to-reader deliver
+to-controller deliver
+wait 50
+to-reader deliver
+to-controller damage 00
+wait 200
+to-reader deliver
+to-controller damage 53
+wait 200
+to-reader deliver
+to-controller deliver
+busy on
+wait 50
+to-reader deliver
+to-controller deliver
+busy off
+wait 50
+to-reader deliver
+to-controller deliver",
+        "issued 0 taken 0 settled 0 unsettled 0 queued 2 reported 2
+reported RAW 0 0 26 0A0B0C40
+reported KEYPAD 0 31
+",
+    );
+}
+
+/// A command that comes twice is taken once, and its second answer settles nothing.
+#[test]
+fn a_command_is_repeated(rt: HostRuntime) {
+    comes_to(
+        &rt,
+        rt.alloc(),
+        "issue OUT 0:2:0
+wait 400
+to-reader deliver
+to-controller deliver
+wait 50
+to-reader repeat
+to-reader deliver
+to-controller deliver
+wait 50
+to-controller deliver",
+        "issued 1 taken 1 settled 1 unsettled 0 queued 0 reported 0
+taken OUT 0:2:0
+settled OUT 0:2:0 = ACK
+",
+    );
+}
+
+/// A late copy of the opening ID stands in front of the first POLL.
+#[test]
+fn the_opening_comes_late(rt: HostRuntime) {
+    comes_to(
+        &rt,
+        rt.alloc(),
+        "queue KEYPAD 0 31
+wait 400
+wait 200
+to-reader deliver
+to-controller deliver
+wait 50
+to-reader deliver
+to-reader deliver
+to-controller deliver
+to-controller deliver",
+        "issued 0 taken 0 settled 0 unsettled 0 queued 1 reported 1
+reported KEYPAD 0 31
+",
+    );
+}
+
+/// An event whose answers are lost until the session ends is told again in the next one.
+#[test]
+fn an_event_is_told_again(rt: HostRuntime) {
+    comes_to(
+        &rt,
+        rt.alloc(),
+        "queue KEYPAD 0 31
+wait 400
+to-reader deliver
+to-controller deliver
+wait 50
+to-reader deliver
+to-controller deliver
+wait 50
+to-reader drop
+wait 200
+to-reader drop
+wait 200
+to-reader drop
+wait 200
+reopen 1
+wait 400
+to-reader deliver
+to-controller deliver
+wait 50
+to-reader deliver
+to-controller deliver",
+        "issued 0 taken 0 settled 0 unsettled 0 queued 1 reported 2
+reported KEYPAD 0 31
+reported KEYPAD 0 31
+ended no-reply
+",
+    );
+}
+
+/// A command that was taken and told unsettled is no command of the next session.
+#[test]
+fn a_command_is_told_unsettled(rt: HostRuntime) {
+    comes_to(
+        &rt,
+        rt.alloc(),
+        "issue OUT 0:2:0
+issue OUT 1:2:0
+wait 400
+to-reader deliver
+to-controller deliver
+wait 50
+to-reader deliver
+to-controller drop
+wait 200
+to-reader drop
+wait 200
+to-reader drop
+wait 200
+reopen 1
+wait 400
+to-reader deliver
+to-controller deliver
+wait 50
+to-reader deliver
+to-controller deliver",
+        "issued 2 taken 2 settled 1 unsettled 1 queued 0 reported 0
+taken OUT 0:2:0
+taken OUT 1:2:0
+settled OUT 1:2:0 = ACK
+unsettled OUT 0:2:0
+ended no-reply
+",
+    );
+}
+
+/// A COMSET that is answered ends the session.
+#[test]
+fn a_reader_moves(rt: HostRuntime) {
+    comes_to(
+        &rt,
+        rt.alloc(),
+        "issue COMSET 7 9600
+wait 400
+to-reader deliver
+to-controller deliver
+wait 50
+to-reader deliver
+to-controller deliver",
+        "issued 1 taken 1 settled 1 unsettled 0 queued 0 reported 0
+taken COMSET 7 9600
+settled COMSET 7 9600 = COM 7 9600
+ended moved
+",
+    );
+}

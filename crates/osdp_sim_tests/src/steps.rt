@@ -1,0 +1,64 @@
+//! Schedules from rows of text, one step a row.
+
+use osdp_frame::Burst;
+use osdp_msg::{Command, Event};
+use osdp_sim::{Move, SimStep};
+use std::alloc::Global;
+use std::process::Abort;
+
+fn command(rt: &impl Abort, alloc: Global, text: &str) -> Command {
+    let words: Vec<&str> = text.split(' ').collect(alloc).expect(rt, "memory");
+    Command::parse(words.as_slice()).expect(rt, "a command")
+}
+
+fn event(rt: &impl Abort, alloc: Global, text: &str) -> Event {
+    let words: Vec<&str> = text.split(' ').collect(alloc).expect(rt, "memory");
+    Event::parse(words.as_slice()).expect(rt, "an event")
+}
+
+/// The bytes of these digits.
+fn burst(rt: &impl Abort, digits: &str) -> Burst {
+    let mut bytes = [0; 32];
+    let count = digits.len() / 2;
+    assert!(rt; count <= 32, "{digits}");
+    let bytes = &mut bytes[..count];
+    assert!(rt; hex::decode_to_slice(digits, bytes).is_ok(), "{digits}");
+    let mut burst = Burst::new();
+    assert!(rt; burst.try_extend_from_slice(bytes).is_ok());
+    burst
+}
+
+fn way(rt: &impl Abort, text: &str) -> Move {
+    match text {
+        "deliver" => Move::Deliver,
+        "drop" => Move::Drop,
+        "repeat" => Move::Repeat,
+        damage => {
+            let (_, digits) = damage.split_once(' ').expect(rt, "bytes");
+            Move::Damage(burst(rt, digits))
+        }
+    }
+}
+
+/// A row's step, for reader 1.
+fn step(rt: &impl Abort, alloc: Global, row: &str) -> SimStep {
+    let (name, rest) = row.split_once(' ').expect(rt, "a step");
+    match name {
+        "issue" => SimStep::Issue(1, command(rt, alloc, rest)),
+        "queue" => SimStep::Queue(1, event(rt, alloc, rest)),
+        "busy" => SimStep::Busy(1, rest == "on"),
+        "wait" => SimStep::Wait(rest.parse().expect(rt, "a time")),
+        "to-reader" => SimStep::ToReader(way(rt, rest)),
+        "to-controller" => SimStep::ToController(way(rt, rest)),
+        _ => SimStep::Reopen(1),
+    }
+}
+
+/// The steps of these rows.
+pub fn steps(rt: &impl Abort, alloc: Global, rows: &str) -> Vec<SimStep> {
+    let mut steps = Vec::new(alloc);
+    for row in rows.lines() {
+        steps.push(step(rt, alloc, row)).expect(rt, "memory");
+    }
+    steps
+}
