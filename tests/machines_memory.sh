@@ -28,3 +28,12 @@ for name in "${tests[@]}"; do
   grep -q "test $name ... FAILED" <<<"$first" || fail "$name: no allocation was refused"
   grep -q "test $name ... ok" <<<"$second" || fail "$name: a second allocation was asked for"
 done
+
+cd ../osdp_sim_tests || exit 1
+for number in 1 16 17; do
+  tried=$(rt try --test --fail-alloc "$number" 2>&1)
+  grep -q "test refusals::want_of_memory_is_told ... ok" <<<"$tried" || fail "simulated line: want of memory was not told"
+  needed="test refusals::memory_is_needed ... FAILED"
+  [ "$number" -eq 17 ] && needed="test refusals::memory_is_needed ... ok"
+  grep -q "$needed" <<<"$tried" || fail "simulated line: allocation $number is not as it should be"
+done

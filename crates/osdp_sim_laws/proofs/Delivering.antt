@@ -1,10 +1,9 @@
 -- What the line does with a burst, where a link's packets go over it in bytes.
-use Rattle.std.proofs.Common.{◌≡◌, ℕ, List, [], ◌∷◌, ◌++◌, if◌then◌else◌, Some, None, IfSome, refl, sym, subst, ap, ◌∙◌}
+use Rattle.std.proofs.Common.{◌≡◌, ℕ, List, [], ◌∷◌, ◌++◌, None, IfSome, refl, sym, subst, ap, ◌∙◌}
 use Rattle.std.proofs.lemmas.List.{append-nil}
 use Rattle.std.specs.Prelude.{map, option_to_list}
 use Rattle.osdp_frame.specs.Packet.{IsPacket, Packet}
 use Rattle.osdp_frame.specs.Items.{reading}
-use Rattle.osdp_frame.specs.Reading.{Part, Whole, Passed, Bad}
 use Rattle.osdp_frame.specs.Spelling.{spelling}
 use Rattle.osdp_msg.specs.declared.command.Command.{Command}
 use Rattle.osdp_controller.specs.Hearing as controller
@@ -16,10 +15,10 @@ use Rattle.osdp_link.specs.Link.{Link}
 use Rattle.osdp_link.specs.Refusals.{told_by_front}
 use Rattle.osdp_link.proofs.Stages.{Each}
 use Rattle.osdp_sim.specs.Account.{Account}
-use Rattle.osdp_sim.specs.Line.{handed, has_packet, left, packets_in, whole_packets}
+use Rattle.osdp_sim.specs.Line.{handed, left, packets_in}
+use Rattle.osdp_sim.proofs.Bursts.{no_packets}
 use Rattle.osdp_sim.specs.State.{SimState}
 use Rattle.osdp_sim.specs.Steps.{SaysFit, controller_hears, damage_fault, reader_hears}
-use Rattle.osdp_sim.specs.declared.fault.Cause.TheVariants.{HoldsPacket}
 use Rattle.osdp_sim.specs.declared.step.Move as way
 use Rattle.osdp_sim.specs.declared.step.Move.TheVariants.{Deliver, Drop, Repeat, Damage}
 use Rattle.osdp_sim_laws.specs.Moves.{delivery, in_bytes}
@@ -30,13 +29,6 @@ use Rattle.osdp_sim_laws.proofs.Carrying.{ArePackets, IsCarried, packets_behind,
 pub record ReadsPackets : Type 0 where
   pub one : (p : Packet) → IsPacket p → packets_in (spelling p) ≡ p ∷ []
   pub none : packets_in [] ≡ []
-
--- damage that is not refused holds no packet
-no_packets : (parts : List Part) → (if has_packet parts then Some HoldsPacket else None) ≡ None → whole_packets parts ≡ []
-no_packets [] e = refl
-no_packets (Whole p ∷ parts) e = absurd cc
-no_packets (Passed b ∷ parts) e = no_packets parts e
-no_packets (Bad fault ∷ parts) e = no_packets parts e
 
 module _ {H : Type 0} where
   -- nothing comes through

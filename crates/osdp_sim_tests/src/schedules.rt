@@ -274,3 +274,11 @@ ended moved
 ",
     );
 }
+
+/// The laws of accounts hold with a door as the reader.
+#[test]
+fn accounts_hold_with_a_door(_rt: HostRuntime) {
+    osdp_sim::laws::reads_packets();
+    osdp_sim_laws::stays_in_a_row::<Door>();
+    osdp_sim_laws::holds_once::<Door>();
+}
