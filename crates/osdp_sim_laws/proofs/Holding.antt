@@ -1,5 +1,5 @@
 -- What holds of each schedule.
-use Rattle.std.proofs.Common.{◌≡◌, ◌<◌, ℕ, Bool, true, false, ◌==◌, if◌then◌else◌, arith, List, [], ◌∷◌, ◌++◌, length, All, Option, Some, None, refl, sym, subst, ap, ◌∙◌, Result, Ok, Err, ◌≤◌, ◌-◌, zero, suc, take}
+use Rattle.std.proofs.Common.{◌≡◌, ◌<◌, ℕ, Bool, true, false, ◌==◌, if◌then◌else◌, arith, List, [], ◌∷◌, ◌++◌, length, All, Option, Some, None, refl, sym, subst, ap, ◌∙◌, Result, Ok, Err, ◌≤◌, ◌-◌, zero, suc, take, inl, inr, ◌⊎◌, ◌+◌}
 use Rattle.osdp_frame.specs.Packet.{Packet}
 use Rattle.osdp_msg.specs.declared.command.Command.{Command}
 use Rattle.osdp_msg.specs.declared.event.Event.{Event}
@@ -22,11 +22,13 @@ use Rattle.osdp_sim.specs.declared.fault.Fault.{Fault}
 use Rattle.osdp_sim.specs.declared.config.SimConfig.{SimConfig}
 use Rattle.osdp_sim.specs.declared.step.SimStep.{SimStep}
 use Rattle.osdp_sim.specs.declared.step.SimStep.TheVariants.{Issue, Queue, Busy, Wait, ToReader, ToController, Reopen}
-use Rattle.osdp_sim_laws.specs.Accounts.{IsInARow, IsInSession, IsNoRefusal, IsOf, IsOnce, IsAnswer, StaysInARow, HoldsOnce, WasSetUp, account_in}
+use Rattle.osdp_sim_laws.specs.Accounts.{IsInARow, IsInSession, IsNoRefusal, IsOf, IsOnce, IsAnswer, StaysInARow, HoldsOnce, WasSetUp, account_in, HaveEnded}
+use Rattle.osdp_sim_laws.specs.Progress.{IsRun}
 use Rattle.osdp_sim_laws.specs.Moves.{clock_behind, first_link, move_of, moves_of}
 use Rattle.osdp_sim_laws.proofs.Accounts.{Tells}
 use Rattle.osdp_sim_laws.proofs.Carrying.{ArePackets}
 use Rattle.osdp_sim_laws.proofs.Delivering.{ReadsPackets}
+use Rattle.osdp_sim_laws.proofs.Ends.{EndsAreTold, all_ended, one_cut, run_ended}
 use Rattle.osdp_sim_laws.proofs.Schedules.{schedule_follows}
 
 -- nothing is sent, and nothing is told
@@ -43,12 +45,6 @@ tells_nothing = record {
 }
 
 module _ {H : Type 0} (answer_of : H → Command → Answer) (after : H → Command → H) where
-  -- a schedule whose settings are in their ranges, of which no step is refused
-  pub record IsRun (config : SimConfig) (handler : H) (steps : List SimStep) : Type 0 where
-    pub settings : AreSettings config
-    pub well : is_well answer_of after steps (set_up config handler) ≡ true
-    pub fits : FitAlong answer_of after steps (set_up config handler)
-
   -- what the theory of one link says
   pub record Link : Type 0 where
     pub reads : ReadsPackets
@@ -57,6 +53,7 @@ module _ {H : Type 0} (answer_of : H → Command → Answer) (after : H → Comm
     pub commands : CommandsHavePlaces answer_of after
     pub events : EventsHavePlaces answer_of after
     pub causes : refusals.RefusesNoNumber answer_of after
+    pub told : EndsAreTold
 
   pub begins : (config : SimConfig) (handler : H) → config.controller.address < 127 → Begins (first_link config handler)
   begins config handler device = record {
@@ -69,7 +66,7 @@ module _ {H : Type 0} (answer_of : H → Command → Answer) (after : H → Comm
     earlier = refl;
   }
 
-  abbrev pub in_a_row : Link → (config : SimConfig) (handler : H) (steps : List SimStep) → IsRun config handler steps
+  abbrev pub in_a_row : Link → (config : SimConfig) (handler : H) (steps : List SimStep) → IsRun answer_of after config handler steps
       → IsInARow answer_of after config.reader handler (run answer_of after steps (set_up config handler)).account
   in_a_row given config handler steps is =
       let l = first_link config handler in
@@ -79,8 +76,8 @@ module _ {H : Type 0} (answer_of : H → Command → Answer) (after : H → Comm
       let ms = moves_of steps 0 in
       let behind = link.run answer_of after ms l in
       let a = (run answer_of after steps (set_up config handler)).account in
-      let moves = follows.1.moves in
-      let carried = follows.1.carried in
+      let moves = follows.moves in
+      let carried = follows.carried in
       let tells = carried.tells in
       record {
         last = behind.account;
@@ -97,6 +94,7 @@ module _ {H : Type 0} (answer_of : H → Command → Answer) (after : H → Comm
         };
         once = given.once l ms begun moves;
         row = given.row l ms begun moves;
+        ends = all_ended (run answer_of after steps (set_up config handler)) (run_ended answer_of after given.told steps (set_up config handler) is.well refl);
         causes = each_all IsNoRefusal a.ends
             (carried.causes (each_of refusals.IsNoRefusal (refusals.reports answer_of after ms l) (given.causes l ms begun moves)) tt);
       }
@@ -104,7 +102,7 @@ module _ {H : Type 0} (answer_of : H → Command → Answer) (after : H → Comm
   -- ---- one session
 
   -- a move that begins no session
-  abbrev IsWithin : link.Move → Type 0
+  abbrev pub IsWithin : link.Move → Type 0
   IsWithin (link.Reopen now) = ⊥
   IsWithin _ = Unit {0}
 
@@ -137,7 +135,7 @@ module _ {H : Type 0} (answer_of : H → Command → Answer) (after : H → Comm
   move_within (link.ToController how now) l w = controller_within l.to_controller how now l
   move_within (link.Reopen now) l w = absurd w
 
-  run_within : (ms : List link.Move) (l : link.Link H) → Each IsWithin ms → (link.run answer_of after ms l).earlier ≡ l.earlier
+  pub run_within : (ms : List link.Move) (l : link.Link H) → Each IsWithin ms → (link.run answer_of after ms l).earlier ≡ l.earlier
   run_within [] l w = refl
   run_within (m ∷ ms) l w = run_within ms (link.after_move answer_of after m l) w.1 ∙ move_within m l w.0
 
@@ -154,17 +152,21 @@ module _ {H : Type 0} (answer_of : H → Command → Answer) (after : H → Comm
   step_within (ToController move) clock w = (tt, tt)
   step_within (Reopen number) clock w = absurd w
 
-  steps_within : (steps : List SimStep) (clock : ℕ) → Each IsInSession steps → Each IsWithin (moves_of steps clock)
+  pub steps_within : (steps : List SimStep) (clock : ℕ) → Each IsInSession steps → Each IsWithin (moves_of steps clock)
   steps_within [] clock w = tt
   steps_within (step ∷ steps) clock w =
       each_append IsWithin (move_of step clock) (moves_of steps (clock_behind step clock)) (step_within step clock w.0)
       (steps_within steps (clock_behind step clock) w.1)
 
+  few : (ends sessions : ℕ) → (ends ≡ sessions) ⊎ (ends + 1 ≡ sessions) → sessions ≡ 1 → ends ≤ 1
+  few ends sessions (inl same) one = omega (arith, same, one)
+  few ends sessions (inr less) one = omega (arith, less, one)
+
   -- of one session alone
   of_one : (config : ReaderConfig) (handler : H) (a : Account) (t : link.Account) (earlier : List link.Account) → earlier ≡ []
-      → IsOf a t earlier → AreOnce answer_of after config handler (t ∷ earlier) → All IsNoRefusal a.ends → IsOnce answer_of after config handler a
-  of_one config handler a t (u ∷ earlier) none lists once causes = absurd cc
-  of_one config handler a t [] none lists once causes =
+      → IsOf a t earlier → AreOnce answer_of after config handler (t ∷ earlier) → HaveEnded a → All IsNoRefusal a.ends → IsOnce answer_of after config handler a
+  of_one config handler a t (u ∷ earlier) none lists once ends causes = absurd cc
+  of_one config handler a t [] none lists once ends causes =
       let held = once.0 in
       let gone : lists.queued.0 ≡ [] = lists.queued.1 in
       let queued : a.queued ≡ t.queued = lists.queued.2 ∙ ap (λ es. es ++ t.queued) gone in
@@ -176,24 +178,25 @@ module _ {H : Type 0} (answer_of : H → Command → Answer) (after : H → Comm
           held.settled.2,
         );
         reported = subst (λ es. IsBeginning es a.queued) (sym lists.reported) (subst (IsBeginning t.reported) (sym queued) held.reported);
+        ends = few (length a.ends) (length a.sessions) ends (one_cut a.sessions t lists.sessions);
         causes = causes;
       }
 
-  pub once : Link → (config : SimConfig) (handler : H) (steps : List SimStep) → IsRun config handler steps → All IsInSession steps
+  pub once : Link → (config : SimConfig) (handler : H) (steps : List SimStep) → IsRun answer_of after config handler steps → All IsInSession steps
       → IsOnce answer_of after config.reader handler (run answer_of after steps (set_up config handler)).account
   once given config handler steps is within =
       let row = in_a_row given config handler steps is in
       let a = (run answer_of after steps (set_up config handler)).account in
       of_one config.reader handler a row.last row.earlier
       (run_within (moves_of steps 0) (first_link config handler) (steps_within steps 0 (each_of IsInSession steps within)))
-      row.lists row.once row.causes
+      row.lists row.once row.ends row.causes
 
   -- ---- what is answered
 
   -- the account is that of the steps that were taken
   pub answers : (P : Account → Type 0) (config : SimConfig) (handler : H) (steps : List SimStep) (answer : Result declared.Account Fault)
       → IsAnswer answer_of after config handler steps answer → WasSetUp answer
-      → (IsRun config handler (steps_done steps answer) → P (run answer_of after (steps_done steps answer) (set_up config handler)).account)
+      → (IsRun answer_of after config handler (steps_done steps answer) → P (run answer_of after (steps_done steps answer) (set_up config handler)).account)
       → P (account_in answer)
   answers P config handler steps (Ok account) is was holds =
       subst P (sym is.ends.2) (holds (record { settings = is.ends.0; well = is.ends.1; fits = is.fits }))
@@ -201,7 +204,7 @@ module _ {H : Type 0} (answer_of : H → Command → Answer) (after : H → Comm
     where
       by_step : (at : ℕ) (why : Cause) (lists : Account) → Stops answer_of after at why lists config handler steps
           → FitAlong answer_of after (take (at - 1) steps) (set_up config handler) → 1 ≤ at
-          → (IsRun config handler (take (at - 1) steps) → P (run answer_of after (take (at - 1) steps) (set_up config handler)).account) → P lists
+          → (IsRun answer_of after config handler (take (at - 1) steps) → P (run answer_of after (take (at - 1) steps) (set_up config handler)).account) → P lists
       by_step zero why lists stops fits was holds = absurd (omega (arith, was))
       by_step (suc before) why lists stops fits was holds =
           subst P (sym stops.1.account) (holds (record { settings = stops.0; well = stops.1.well; fits = fits }))

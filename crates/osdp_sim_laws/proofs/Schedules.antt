@@ -22,7 +22,7 @@ use Rattle.osdp_sim.specs.declared.fault.Cause.{Cause}
 use Rattle.osdp_sim.specs.declared.fault.Cause.TheVariants.{NotQuiet}
 use Rattle.osdp_sim.specs.declared.step.SimStep.{SimStep}
 use Rattle.osdp_sim.specs.declared.step.SimStep.TheVariants.{Issue, Queue, Busy, Wait, ToReader, ToController, Reopen}
-use Rattle.osdp_sim_laws.specs.Moves.{clock_behind, in_bytes, move_of, moves_of}
+use Rattle.osdp_sim_laws.specs.Moves.{clock_after, clock_behind, in_bytes, move_of, moves_of}
 use Rattle.osdp_sim_laws.proofs.Accounts.{Tells}
 use Rattle.osdp_sim_laws.proofs.Carrying.{ArePackets, IsCarried, is_quiet, issuing, nothing, queueing, reopening, setting_busy, ticking}
 use Rattle.osdp_sim_laws.proofs.Delivering.{ReadsPackets, says_what_fits, to_controller, to_reader}
@@ -123,7 +123,7 @@ module _ {H : Type 0} (answer_of : H → Command → Answer) (after : H → Comm
       ∙ sym (append_assoc (option_to_list (told_by m l)) (reports answer_of after ms next) (reports answer_of after ns (link.run answer_of after ms next)))
 
   -- more behind what follows
-  goes_on : (s t : SimState H) (ms ns : List link.Move) (l : Link H) (clock later : ℕ) (a : Account) → Follows s ms l clock a
+  pub goes_on : (s t : SimState H) (ms ns : List link.Move) (l : Link H) (clock later : ℕ) (a : Account) → Follows s ms l clock a
       → Follows t ns (link.run answer_of after ms l) later s.account → Follows t (ms ++ ns) l later a
   goes_on s t ms ns l clock later a first next =
       let behind = link.run answer_of after ms l in
@@ -154,15 +154,15 @@ module _ {H : Type 0} (answer_of : H → Command → Answer) (after : H → Comm
       }
 
   -- the first step is well, and so are the others
-  first_well : (fault : Option Cause) (rest : Bool) → (is_none fault && rest) ≡ true → (fault ≡ None) × (rest ≡ true)
+  pub first_well : (fault : Option Cause) (rest : Bool) → (is_none fault && rest) ≡ true → (fault ≡ None) × (rest ≡ true)
   first_well None rest e = (refl, e)
   first_well (Some cause) rest e = absurd cc
 
   -- each schedule
   pub schedule_follows : ReadsPackets → (steps : List SimStep) (l : Link H) (clock : ℕ) (a : Account) → ArePackets l → Tells a l.account l.earlier
       → is_well answer_of after steps (in_bytes l clock a) ≡ true → FitAlong answer_of after steps (in_bytes l clock a)
-      → (later : ℕ) × Follows (run answer_of after steps (in_bytes l clock a)) (moves_of steps clock) l later a
-  schedule_follows reads [] l clock a packets tells well fits = (clock, record { carried = nothing l clock a packets tells; moves = tt })
+      → Follows (run answer_of after steps (in_bytes l clock a)) (moves_of steps clock) l (clock_after steps clock) a
+  schedule_follows reads [] l clock a packets tells well fits = record { carried = nothing l clock a packets tells; moves = tt }
   schedule_follows reads (step ∷ steps) l clock a packets tells well fits =
       let s = in_bytes l clock a in
       let both = first_well (fault_of step s) _ well in
@@ -172,8 +172,6 @@ module _ {H : Type 0} (answer_of : H → Command → Answer) (after : H → Comm
       let behind = link.run answer_of after (move_of step clock) l in
       let is = first.carried.state in
       let rest = schedule_follows reads steps behind now next.account first.carried.packets first.carried.tells
-      (subst (λ t. is_well answer_of after steps t ≡ true) is both.1) (subst (FitAlong answer_of after steps) is fits.1) in (
-        rest.0,
-        goes_on next (run answer_of after steps next) (move_of step clock) (moves_of steps now) l now rest.0 a first
-            (subst (λ t. Follows (run answer_of after steps t) (moves_of steps now) behind rest.0 next.account) (sym is) rest.1),
-      )
+      (subst (λ t. is_well answer_of after steps t ≡ true) is both.1) (subst (FitAlong answer_of after steps) is fits.1) in
+      goes_on next (run answer_of after steps next) (move_of step clock) (moves_of steps now) l now (clock_after steps now) a first
+      (subst (λ t. Follows (run answer_of after steps t) (moves_of steps now) behind (clock_after steps now) next.account) (sym is) rest)

@@ -1,5 +1,5 @@
 -- What the account of a schedule is, session by session, and what holds of it.
-use Rattle.std.specs.Prelude.{◌≡◌, ◌≤◌, All, List, [], ◌∷◌, ◌++◌, length, Result, Ok, Err}
+use Rattle.std.specs.Prelude.{◌≡◌, ◌≤◌, All, List, [], ◌∷◌, ◌++◌, length, Result, Ok, Err, ◌⊎◌, ◌+◌}
 use Rattle.osdp_msg.specs.declared.command.Command.{Command}
 use Rattle.osdp_msg.specs.declared.event.Event.{Event}
 use Rattle.osdp_msg.specs.declared.reply.Reply.{Reply}
@@ -55,6 +55,10 @@ abbrev pub IsNoRefusal : End → Type 0
 IsNoRefusal (ending.Lost cause) = IsOtherCause cause
 IsNoRefusal ending.Moved = Unit {0}
 
+-- each session has ended, once, or each but the last
+abbrev pub HaveEnded : Account → Type 0
+HaveEnded a = (length a.ends ≡ length a.sessions) ⊎ (length a.ends + 1 ≡ length a.sessions)
+
 -- no session begins again
 abbrev pub IsInSession : SimStep → Type 0
 IsInSession (Reopen number) = ⊥
@@ -77,6 +81,7 @@ module _ {H : Type 0} (answer_of : H → Command → Answer) (after : H → Comm
     pub taken : IsBeginning a.taken a.issued
     pub settled : (more : List (Command × Reply)) × (with_answers answer_of after config handler a.taken ≡ a.settled ++ more) × (length more ≤ 1)
     pub reported : IsBeginning a.reported a.queued
+    pub ends : length a.ends ≤ 1
     pub causes : All IsNoRefusal a.ends
 
   -- in sessions in a row: each is once, and the next begins with what it leaves
@@ -86,6 +91,7 @@ module _ {H : Type 0} (answer_of : H → Command → Answer) (after : H → Comm
     pub lists : IsOf a last earlier
     pub once : AreOnce answer_of after config handler (last ∷ earlier)
     pub row : AreInARow last earlier
+    pub ends : HaveEnded a
     pub causes : All IsNoRefusal a.ends
 
   -- what `run_session` answers, and what went over the line in the steps that it took

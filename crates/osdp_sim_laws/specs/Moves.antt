@@ -39,6 +39,10 @@ abbrev pub clock_behind : SimStep → ℕ → ℕ
 clock_behind (Wait wait) clock = moment_behind wait clock
 clock_behind _ clock = clock
 
+abbrev pub clock_after : List SimStep → ℕ → ℕ
+clock_after [] clock = clock
+clock_after (step ∷ steps) clock = clock_after steps (clock_behind step clock)
+
 abbrev pub moves_of : List SimStep → ℕ → List link.Move
 moves_of [] clock = []
 moves_of (step ∷ steps) clock = move_of step clock ++ moves_of steps (clock_behind step clock)

@@ -2,6 +2,7 @@
 #![tactic(auto)]
 
 ghost use Rattle.osdp_sim_laws.specs.Accounts.{HoldsOnce, StaysInARow};
+ghost use Rattle.osdp_sim_laws.specs.Progress.{ComesThrough};
 
 use osdp_reader::Handler;
 
@@ -14,11 +15,12 @@ pub fn stays_in_a_row<H: Handler>()
     osdp_link::holds_once::<H>();
     osdp_link::sessions_in_a_row::<H>();
     osdp_link::refuses_no_number::<H>();
+    osdp_controller_laws::endings_are_told();
 }
 
 /// Whatever a schedule says that begins no session again: the commands that the reader has taken are a beginning of those issued, and
 /// hold each settled one, with the answer that the reader gave, and one more at most; the events that the controller reported are a
-/// beginning of those queued; and no session ends by a refused number.
+/// beginning of those queued; it ends at most once, and not by a refused number.
 pub fn holds_once<H: Handler>()
     ensures { HoldsOnce H.answer_of H.after }
 {
@@ -27,4 +29,21 @@ pub fn holds_once<H: Handler>()
     osdp_link::holds_once::<H>();
     osdp_link::sessions_in_a_row::<H>();
     osdp_link::refuses_no_number::<H>();
+    osdp_controller_laws::endings_are_told();
+}
+
+/// Behind steps of one session that leave nothing on the line, both ends at one address, the reader not busy and no COMSET issued: over
+/// m rounds that lose nothing, each as long as the longest of the controller's waits or longer, m - 1 more commands and events, or all
+/// of them, are settled and reported, where the session hasn't ended.
+pub fn comes_through<H: Handler>()
+    ensures { ComesThrough H.answer_of H.after }
+{
+    osdp_sim::laws::reads_packets();
+    osdp_frame_laws::one_spelling();
+    osdp_link::holds_once::<H>();
+    osdp_link::sessions_in_a_row::<H>();
+    osdp_link::refuses_no_number::<H>();
+    osdp_controller_laws::endings_are_told();
+    osdp_link::comes_through_in_time::<H>();
+    osdp_controller_laws::stays_in_range();
 }

@@ -15,4 +15,5 @@ returns g c =
       commands = c.sessions_in_a_row.ensures.commands;
       events = c.sessions_in_a_row.ensures.events;
       causes = c.refuses_no_number.ensures;
+      told = c.endings_are_told.ensures;
     })

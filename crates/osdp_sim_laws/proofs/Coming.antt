@@ -1,0 +1,239 @@
+-- Rounds that lose nothing, over bytes.
+use Rattle.std.proofs.Common.{◌≡◌, ◌⊎◌, ◌≤◌, ◌<◌, ◌+◌, ◌-◌, ◌&&◌, ℕ, zero, suc, Bool, true, false, ◌==◌, if◌then◌else◌, min, arith, List, [], ◌∷◌, ◌++◌, length, All, Option, Some, None, is_none, inl, inr, refl, sym, subst, ap, ◌∙◌}
+use Rattle.std.specs.Prelude.{map}
+use Rattle.osdp_frame.specs.Packet.{Packet}
+use Rattle.osdp_frame.specs.Spelling.{spelling}
+use Rattle.osdp_msg.specs.declared.command.Command.{Command}
+use Rattle.osdp_msg.specs.declared.event.Event.{Event}
+use Rattle.osdp_controller.specs.declared.state.State.TheVariants.{Closed}
+use Rattle.osdp_controller.specs.States.{is_closed}
+use Rattle.osdp_controller_laws.specs.Calls.{IsInRange, StaysInRange, longest_wait}
+use Rattle.osdp_controller_laws.specs.Runs.{Begin}
+use Rattle.osdp_controller.specs.Machine.{new_machine}
+use Rattle.osdp_reader.specs.declared.handler.Answer.{Answer}
+use Rattle.osdp_link.specs.Headline as headline
+use Rattle.osdp_link.specs.Link as link
+use Rattle.osdp_link.specs.Link.{Delivered, Link}
+use Rattle.osdp_link.specs.Progress as progress
+use Rattle.osdp_link.specs.Progress.{NoComset}
+use Rattle.osdp_link.specs.Sessions.{HaveLeft, all_queued, all_submitted, told_in}
+use Rattle.osdp_link.proofs.Lines.{each_all, each_append, each_of, each_rest}
+use Rattle.osdp_link.proofs.Stages.{Each}
+use Rattle.osdp_sim.specs.Account.{Account}
+use Rattle.osdp_sim.specs.Runs.{FitAlong, is_well, run}
+use Rattle.osdp_sim.specs.State.{SimState, set_up}
+use Rattle.osdp_sim.specs.Steps.{after_step, fault_of, moment_behind}
+use Rattle.osdp_sim.specs.declared.fault.Cause.{Cause}
+use Rattle.osdp_sim.specs.declared.config.SimConfig.{SimConfig}
+use Rattle.osdp_sim.specs.declared.step.SimStep.{SimStep}
+use Rattle.osdp_sim.specs.declared.step.SimStep.TheVariants.{Issue, Queue, Busy, Wait, ToReader, ToController, Reopen}
+use Rattle.osdp_sim_laws.specs.Accounts.{IsInSession, all_in}
+use Rattle.osdp_sim_laws.specs.Moves.{clock_after, clock_behind, delivery, first_link, in_bytes, move_of, moves_of}
+use Rattle.osdp_sim_laws.specs.Progress.{ComesOn, ComesThrough, IsClear, IsRun, done, rounds}
+use Rattle.osdp_sim_laws.proofs.Ends.{HaveEnded, count, run_ended, some_cut}
+use Rattle.osdp_sim_laws.proofs.Holding as holding
+use Rattle.osdp_sim_laws.proofs.Holding.{IsWithin, begins, no_account, run_within, steps_within, tells_nothing}
+use Rattle.osdp_sim_laws.proofs.Moments.{InTime, LinkInTime, begins_in_time, clock_on, controller_in_time, last_moment, queues_in_time, reader_in_time, submits_in_time, tick_in_time}
+use Rattle.osdp_sim_laws.proofs.Schedules.{Follows, first_well, goes_on, schedule_follows}
+use Rattle.osdp_controller.specs.Machine as controllers
+
+-- the moments of so many rounds
+abbrev moments_of : ℕ → ℕ → ℕ → List ℕ
+moments_of zero wait clock = []
+moments_of (suc m) wait clock = moment_behind wait clock ∷ moments_of m wait (moment_behind wait clock)
+
+count_of : (m wait clock : ℕ) → length (moments_of m wait clock) ≡ m
+count_of zero wait clock = refl
+count_of (suc m) wait clock = ap suc (count_of m wait (moment_behind wait clock))
+
+-- the rounds are those of the link
+rounds_are : (m wait clock : ℕ) → moves_of (rounds m wait) clock ≡ progress.rounds (moments_of m wait clock)
+rounds_are zero wait clock = refl
+rounds_are (suc m) wait clock =
+    let now = moment_behind wait clock in
+    ap (λ ms. link.Tick now ∷ link.ToReader Delivered ∷ link.ToController Delivered now ∷ ms) (rounds_are m wait now)
+
+rounds_within : (m wait : ℕ) → Each IsInSession (rounds m wait)
+rounds_within zero wait = tt
+rounds_within (suc m) wait = (tt, (tt, (tt, rounds_within m wait)))
+
+none_on : (ps : List Packet) → map spelling ps ≡ [] → ps ≡ []
+none_on [] e = refl
+none_on (p ∷ ps) e = absurd cc
+
+module _ {H : Type 0} (answer_of : H → Command → Answer) (after : H → Command → H) where
+  -- ---- no moment lies before the clock
+
+  where_in_time : (clock wait : ℕ) (there : Bool) (m : link.Move) (l : Link H) → LinkInTime clock wait l
+      → LinkInTime clock wait (link.after_move answer_of after m l) → LinkInTime clock wait (link.run answer_of after (if there then m ∷ [] else []) l)
+  where_in_time clock wait true m l is behind = behind
+  where_in_time clock wait false m l is behind = is
+
+  step_in_time : (wait : ℕ) (step : SimStep) (clock : ℕ) (l : Link H) → clock ≤ last_moment → LinkInTime clock wait l
+      → LinkInTime (clock_behind step clock) wait (link.run answer_of after (move_of step clock) l)
+  step_in_time wait (Issue number command) clock l fits is =
+      where_in_time clock wait (number == 1) (link.Submit command) l is (submits_in_time answer_of after clock wait (controllers.submit_refusal command l.controller) command l is)
+  step_in_time wait (Queue number event) clock l fits is =
+      where_in_time clock wait (number == 1) (link.Queue event) l is
+      (queues_in_time answer_of after clock wait (length l.reader.queue.events == l.reader.queue.capacity) event l is)
+  step_in_time wait (Busy number busy) clock l fits is = where_in_time clock wait (number == 1) (link.SetBusy busy) l is is
+  step_in_time wait (Wait more) clock l fits is = tick_in_time answer_of after clock (moment_behind more clock) wait l (clock_on more clock fits).0 is
+  step_in_time wait (ToReader move) clock l fits is = reader_in_time answer_of after clock wait (delivery move) l.to_reader l is
+  step_in_time wait (ToController move) clock l fits is = controller_in_time answer_of after clock wait (delivery move) l.to_controller l is
+  step_in_time wait (Reopen number) clock l fits is =
+      where_in_time clock wait (number == 1) (link.Reopen clock) l is
+      (begins_in_time answer_of after clock wait (controllers.begin_refusal l.controller) l.to_reader l.to_controller l is)
+
+  clock_fits : (step : SimStep) (clock : ℕ) → clock ≤ last_moment → clock_behind step clock ≤ last_moment
+  clock_fits (Issue number command) clock fits = fits
+  clock_fits (Queue number event) clock fits = fits
+  clock_fits (Busy number busy) clock fits = fits
+  clock_fits (Wait wait) clock fits = (clock_on wait clock fits).1
+  clock_fits (ToReader move) clock fits = fits
+  clock_fits (ToController move) clock fits = fits
+  clock_fits (Reopen number) clock fits = fits
+
+  run_both : (ms ns : List link.Move) (l : Link H) → link.run answer_of after (ms ++ ns) l ≡ link.run answer_of after ns (link.run answer_of after ms l)
+  run_both [] ns l = refl
+  run_both (m ∷ ms) ns l = run_both ms ns (link.after_move answer_of after m l)
+
+  steps_in_time : (wait : ℕ) (steps : List SimStep) (clock : ℕ) (l : Link H) → clock ≤ last_moment → LinkInTime clock wait l
+      → (clock_after steps clock ≤ last_moment) × LinkInTime (clock_after steps clock) wait (link.run answer_of after (moves_of steps clock) l)
+  steps_in_time wait [] clock l fits is = (fits, is)
+  steps_in_time wait (step ∷ steps) clock l fits is =
+      let now = clock_behind step clock in
+      let rest = steps_in_time wait steps now (link.run answer_of after (move_of step clock) l) (clock_fits step clock fits) (step_in_time wait step clock l fits is) in
+      (rest.0, subst (LinkInTime (clock_after steps now) wait) (sym (run_both (move_of step clock) (moves_of steps now) l)) rest.1)
+
+  -- so the rounds are late
+  are_late : (m wait clock : ℕ) (l : Link H) → clock ≤ last_moment → LinkInTime clock wait l → progress.AreLate answer_of after (moments_of m wait clock) l
+  are_late zero wait clock l fits is = tt
+  are_late (suc m) wait clock l fits is =
+      let now = moment_behind wait clock in
+      let on = clock_on wait clock fits in
+      let t = link.after_move answer_of after (link.Tick now) l in
+      let heard = link.after_move answer_of after (link.ToReader Delivered) t in
+      let ticked = tick_in_time answer_of after clock now wait l on.0 is in
+      (
+        omega (arith, is.0, is.1, fits),
+        are_late m wait now (link.run answer_of after (progress.round now) l) on.1
+        (controller_in_time answer_of after now wait Delivered heard.to_controller heard (reader_in_time answer_of after now wait Delivered t.to_reader t ticked)),
+      )
+
+  -- ---- two schedules, one behind the other
+
+  runs_on : (xs ys : List SimStep) (s : SimState H) → run answer_of after (xs ++ ys) s ≡ run answer_of after ys (run answer_of after xs s)
+  runs_on [] ys s = refl
+  runs_on (x ∷ xs) ys s = runs_on xs ys (after_step answer_of after x s)
+
+  well_on : (xs ys : List SimStep) (s : SimState H) → is_well answer_of after (xs ++ ys) s ≡ true
+      → (is_well answer_of after xs s ≡ true) × (is_well answer_of after ys (run answer_of after xs s) ≡ true)
+  well_on [] ys s well = (refl, well)
+  well_on (x ∷ xs) ys s well =
+      let next = after_step answer_of after x s in
+      let first = first_well answer_of after (fault_of x s) (is_well answer_of after (xs ++ ys) next) well in
+      let rest = well_on xs ys next first.1 in
+      (none_and (fault_of x s) (is_well answer_of after xs next) first.0 rest.0, rest.1)
+    where
+      none_and : (fault : Option Cause) (more : Bool) → fault ≡ None → more ≡ true → (is_none fault && more) ≡ true
+      none_and None more none e = e
+      none_and (Some cause) more none e = absurd cc
+
+  fits_on : (xs ys : List SimStep) (s : SimState H) → FitAlong answer_of after (xs ++ ys) s
+      → FitAlong answer_of after xs s × FitAlong answer_of after ys (run answer_of after xs s)
+  fits_on [] ys s fits = (tt, fits)
+  fits_on (x ∷ xs) ys s fits =
+      let rest = fits_on xs ys (after_step answer_of after x s) fits.1 in
+      ((fits.0, rest.0), rest.1)
+
+  -- ---- the lists of one session
+
+  -- as long as those of the link's account
+  record AsLong (a : Account) (t : link.Account) : Type 0 where
+    pub settled : length a.settled ≡ length t.settled
+    pub reported : length a.reported ≡ length t.reported
+    pub issued : a.issued ≡ t.issued
+    pub queued : length a.queued ≡ length t.queued
+
+  as_long : (given : holding.Link answer_of after) (config : SimConfig) (handler : H) (device : config.controller.address < 127) (s : SimState H) (ms : List link.Move) (clock : ℕ)
+      → Follows answer_of after s ms (first_link config handler) clock no_account → Each (IsWithin answer_of after) ms
+      → AsLong s.account (link.run answer_of after ms (first_link config handler)).account
+  as_long given config handler device s ms clock follows within =
+      let l = first_link config handler in
+      let behind = link.run answer_of after ms l in
+      let none : behind.earlier ≡ [] = run_within answer_of after ms l within in
+      let carried = follows.carried in
+      let tells = carried.tells in
+      let begun = begins answer_of after config handler device in
+      let events = given.events l ms begun follows.moves in
+      let gone : events.0 ≡ [] = subst (λ e. HaveLeft (all_queued answer_of after ms l) e events.0) none events.1 in
+      record {
+        settled = ap length (tells.settled ∙ ap (λ e. all_in (λ t. t.settled) (behind.account ∷ e)) none);
+        reported = ap length (tells.reported ∙ ap (λ e. all_in (λ t. t.reported) (behind.account ∷ e)) none);
+        issued = carried.issued ∙ given.commands l ms begun follows.moves ∙ ap (λ e. told_in e ++ behind.account.issued) none;
+        queued = ap length (carried.queued ∙ events.2 ∙ ap (λ e. e ++ behind.account.queued) gone);
+      }
+
+  -- ---- something comes through
+
+  -- a session that is over has an end
+  not_over : (s : SimState H) → s.controller.session.state ≡ Closed → HaveEnded s → 0 < length s.account.sessions → s.account.ends ≡ [] → ⊥
+  not_over s shut ended some none =
+      let closed : is_closed s.controller.session.state ≡ true = ap is_closed shut in
+      let counted : length s.account.ends + 1 ≡ length s.account.sessions + 1 = ended ∙ ap (λ b. length s.account.sessions + count b) closed in
+      let no_end : length s.account.ends ≡ 0 = ap (λ l. length l) none in
+      absurd (omega (arith, counted, no_end, some))
+
+  pub comes : holding.Link answer_of after → progress.ComesThroughInTime answer_of after → StaysInRange → ComesThrough answer_of after
+  comes given in_time ranges config handler steps m wait is within long clear =
+      let l = first_link config handler in
+      let start = set_up config handler in
+      let more = rounds m wait in
+      let well = well_on steps more start is.well in
+      let fits = fits_on steps more start is.fits in
+      let first = schedule_follows answer_of after given.reads steps l 0 no_account (record { to_reader = tt; to_controller = tt }) tells_nothing well.0 fits.0 in
+      let ms = moves_of steps 0 in
+      let clock = clock_after steps 0 in
+      let behind = link.run answer_of after ms l in
+      let before = run answer_of after steps start in
+      let there : before ≡ in_bytes behind clock before.account = first.carried.state in
+      let then_ = schedule_follows answer_of after given.reads more behind clock before.account first.carried.packets first.carried.tells
+          (subst (λ s. is_well answer_of after more s ≡ true) there well.1) (subst (FitAlong answer_of after more) there fits.1) in
+      let ns = moves_of more clock in
+      let last = link.run answer_of after ns behind in
+      let end = run answer_of after more before in
+      let next = subst (λ s. Follows answer_of after (run answer_of after more s) ns behind (clock_after more clock) before.account) (sym there) then_ in
+      let whole = goes_on answer_of after before end ms ns l clock (clock_after more clock) no_account first next in
+      let device = is.settings.controller.config_in_range.address in
+      let begun = begins answer_of after config handler device in
+      let kept = steps_within answer_of after steps 0 (each_of IsInSession steps within) in
+      let both = each_append (IsWithin answer_of after) ms ns kept (steps_within answer_of after more clock (rounds_within m wait)) in
+      let first_lists = as_long given config handler device before ms clock first kept in
+      let last_lists = as_long given config handler device end (ms ++ ns) (clock_after more clock) whole both in
+      let timely = steps_in_time wait steps 0 l (omega arith) (omega arith, long) in
+      let range : IsInRange l.controller.session = ranges.behind (new_machine config.controller config.commands) (Begin 0 ∷ []) (ranges.new config.controller config.commands) in
+      let quiet : progress.IsClear behind = record {
+        to_reader = none_on behind.to_reader (sym (ap (λ (s : SimState H). s.to_reader) there) ∙ clear.to_reader);
+        to_controller = none_on behind.to_controller (sym (ap (λ (s : SimState H). s.to_controller) there) ∙ clear.to_controller);
+        address = sym (ap (λ (s : SimState H). s.reader.config.address) there) ∙ clear.address ∙ ap (λ (s : SimState H). s.controller.session.config.address) there;
+        ready = sym (ap (λ (s : SimState H). s.reader.busy) there) ∙ clear.ready;
+        issued = subst (All NoComset) first_lists.issued clear.issued;
+      } in
+      let moves = subst (λ list. headline.AreMoves answer_of after list behind) (rounds_are m wait clock) then_.moves in
+      let found = in_time l ms (moments_of m wait clock) begun range first.moves quiet (are_late m wait clock behind timely.0 timely.1) moves in
+      let same : link.run answer_of after (progress.rounds (moments_of m wait clock)) behind ≡ last =
+          ap (λ list. link.run answer_of after list behind) (sym (rounds_are m wait clock)) in
+      let joined : link.run answer_of after (ms ++ ns) l ≡ last = run_both ms ns l in
+      let long_list : AsLong end.account last.account = subst (λ k. AsLong end.account k.account) joined last_lists in
+      let ended : run answer_of after (steps ++ more) start ≡ end = runs_on steps more start in
+      let all_ended = run_ended answer_of after given.told (steps ++ more) start is.well refl in
+      subst (λ s. s.account.ends ≡ [] → ComesOn m before.account s.account) (sym ended)
+      (λ none. elim found [
+        | inl closed ↦ absurd (
+          let shut = ap (λ (s : SimState H). s.controller.session.state) next.carried.state ∙ subst (λ k. k.controller.session.state ≡ Closed) same closed in
+          not_over end shut (subst HaveEnded ended all_ended)
+              (some_cut end.account.sessions (link.run answer_of after (ms ++ ns) l).account (link.run answer_of after (ms ++ ns) l).earlier whole.carried.tells.sessions) none)
+        | inr on ↦ (
+          let counted = subst (λ k. progress.ComeOn (moments_of m wait clock) behind.account k.account) same on in
+          omega (arith, counted, count_of m wait clock, first_lists.settled, first_lists.reported, long_list.settled, long_list.reported, ap length long_list.issued, long_list.queued))
+      ])

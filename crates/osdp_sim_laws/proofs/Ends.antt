@@ -1,0 +1,192 @@
+-- Each session that has ended has one end.
+use Rattle.std.proofs.Common.{◌≡◌, ◌<◌, ◌+◌, ℕ, Bool, true, false, not, ◌&&◌, ◌||◌, ◌==◌, if◌then◌else◌, is_none, arith, List, [], ◌∷◌, length, Option, Some, None, inl, inr, refl, sym, subst, ap, ◌∙◌}
+use Rattle.std.proofs.lemmas.List.{length-append}
+use Rattle.osdp_frame.specs.Packet.{Packet}
+use Rattle.osdp_msg.specs.declared.command.Command.{Command}
+use Rattle.osdp_msg.specs.declared.event.Event.{Event}
+use Rattle.osdp_controller.specs.Answers.{answer_of as said_by}
+use Rattle.osdp_controller.specs.Hearing.{Heard, hears, hears_in, ignores, is_from_reader}
+use Rattle.osdp_controller.specs.Machine as controllers
+use Rattle.osdp_controller.specs.Sessions.{seen}
+use Rattle.osdp_controller.specs.States.{is_closed}
+use Rattle.osdp_controller.specs.Ticking.{ticks, ticks_in}
+use Rattle.osdp_controller.specs.declared.answer.Answer.{Answer}
+use Rattle.osdp_controller.specs.declared.fault.ControllerFault.{ControllerFault}
+use Rattle.osdp_controller.specs.declared.report.Report.{Report}
+use Rattle.osdp_controller.specs.declared.report.Report.TheVariants as report
+use Rattle.osdp_controller.specs.declared.session.Session.{Session}
+use Rattle.osdp_controller.specs.declared.state.State.{State}
+use Rattle.osdp_controller.specs.declared.state.State.TheVariants.{Closed, Quiet, Idle, Waiting, Pausing}
+use Rattle.osdp_controller_laws.specs.Commands.{TellsEnds, tells_end}
+use Rattle.osdp_reader.specs.declared.handler.Answer.{Answer as HandlerAnswer}
+use Rattle.osdp_reader.specs.Table as reader
+use Rattle.osdp_link.specs.Link as link
+use Rattle.osdp_link.proofs.Lines.{both}
+use Rattle.osdp_sim.specs.Account.{Account, lengths_of, with_report}
+use Rattle.osdp_sim.specs.Line.{handed, packets_in}
+use Rattle.osdp_sim.specs.Runs.{is_well, run}
+use Rattle.osdp_sim.specs.State.{SimState}
+use Rattle.osdp_sim.specs.Steps as steps
+use Rattle.osdp_sim.specs.Steps.{after_step, controller_hears, fault_of, moment_behind, reader_hears}
+use Rattle.osdp_sim.specs.declared.account.Lengths.{Lengths}
+use Rattle.osdp_sim.specs.declared.account.End.TheVariants as ending
+use Rattle.osdp_sim.specs.declared.fault.Cause.{Cause}
+use Rattle.osdp_sim.specs.declared.fault.Cause.TheVariants.{NotQuiet}
+use Rattle.osdp_sim.specs.declared.step.SimStep.{SimStep}
+use Rattle.osdp_sim.specs.declared.step.SimStep.TheVariants.{Issue, Queue, Busy, Wait, ToReader, ToController, Reopen}
+use Rattle.osdp_sim_laws.specs.Accounts as accounts
+use Rattle.osdp_sim_laws.specs.Accounts.{AreCuts}
+use Rattle.osdp_sim_laws.proofs.Schedules.{first_well}
+
+-- a session has begun
+pub some_cut : (cuts : List Lengths) (t : link.Account) (earlier : List link.Account) → AreCuts cuts (t ∷ earlier) → 0 < length cuts
+some_cut cuts t earlier are = let whole = ap (λ l. length l) are.2 in omega (arith, whole, length-append are.0 (are.1 ∷ []))
+
+-- .. one alone
+pub one_cut : (cuts : List Lengths) (t : link.Account) → AreCuts cuts (t ∷ []) → length cuts ≡ 1
+one_cut cuts t are =
+    let whole = ap (λ l. length l) are.2 in
+    let none = ap (λ l. length l) are.4 in
+    omega (arith, whole, none, length-append are.0 (are.1 ∷ []))
+
+-- a session ends exactly where a report says so
+abbrev pub EndsAreTold : Type 0
+EndsAreTold = (now : ℕ) (s : Session) → TellsEnds now s
+
+abbrev pub count : Bool → ℕ
+count true = 1
+count false = 0
+
+ends_of_report : (r : Option Report) (a : Account) → length (with_report r a).ends ≡ length a.ends + count (tells_end r)
+ends_of_report None a = omega arith
+ends_of_report (Some (report.Opened id)) a = omega arith
+ends_of_report (Some (report.Settled command answer)) a = omega arith
+ends_of_report (Some (report.Moved command answered)) a = length-append a.ends (ending.Moved ∷ [])
+ends_of_report (Some (report.Event event)) a = omega arith
+ends_of_report (Some (report.PollAnswered answer)) a = omega arith
+ends_of_report (Some (report.Unread command code)) a = omega arith
+ends_of_report (Some (report.Lost cause command)) a = length-append a.ends (ending.Lost cause ∷ [])
+
+sessions_of_report : (r : Option Report) (a : Account) → (with_report r a).sessions ≡ a.sessions
+sessions_of_report None a = refl
+sessions_of_report (Some (report.Opened id)) a = refl
+sessions_of_report (Some (report.Settled command answer)) a = refl
+sessions_of_report (Some (report.Moved command answered)) a = refl
+sessions_of_report (Some (report.Event event)) a = refl
+sessions_of_report (Some (report.PollAnswered answer)) a = refl
+sessions_of_report (Some (report.Unread command code)) a = refl
+sessions_of_report (Some (report.Lost cause command)) a = refl
+
+-- nothing ends where no session lasts
+silent_tick : (state : State) (s : Session) (waiting : List Command) → is_closed state ≡ true → tells_end (ticks_in state s waiting).step.report ≡ false
+silent_tick Closed s waiting e = refl
+silent_tick (Quiet until) s waiting e = absurd cc
+silent_tick (Idle due) s waiting e = absurd cc
+silent_tick (Waiting until sends o) s waiting e = absurd cc
+silent_tick (Pausing until o) s waiting e = absurd cc
+
+abbrev IsSilent : Heard → Type 0
+IsSilent h = tells_end h.report ≡ false
+
+silent_in : (state : State) (number : ℕ) (a : Answer) (s : Session) → is_closed state ≡ true → IsSilent (hears_in state number a s)
+silent_in Closed number a s e = refl
+silent_in (Quiet until) number a s e = absurd cc
+silent_in (Idle due) number a s e = absurd cc
+silent_in (Waiting until sends o) number a s e = absurd cc
+silent_in (Pausing until o) number a s e = absurd cc
+
+silent_frame : (p : Packet) (now : ℕ) (s : Session) → is_closed s.state ≡ true → IsSilent (hears p now s)
+silent_frame p now s e =
+    both IsSilent (is_from_reader p s) (hears_in s.state p.sequence (said_by p) (seen now s)) (ignores (seen now s))
+    (silent_in s.state p.sequence (said_by p) (seen now s) e) refl
+
+counts_join : (closed ends : Bool) → (closed ≡ true → ends ≡ false) → count (closed || ends) ≡ count closed + count ends
+counts_join true true one = absurd (let none = one refl in cc)
+counts_join true false one = refl
+counts_join false true one = refl
+counts_join false false one = refl
+
+last_of : (a b c : Bool) → (a && b && c) ≡ true → c ≡ true
+last_of true true c e = e
+last_of true false c e = absurd cc
+last_of false b c e = absurd cc
+
+module _ {H : Type 0} where
+  -- as many ends as sessions that have begun, but for the last one while it lasts
+  abbrev pub HaveEnded : SimState H → Type 0
+  HaveEnded s = length s.account.ends + 1 ≡ length s.account.sessions + count (is_closed s.controller.session.state)
+
+  -- so each session has ended, or each but the last
+  pub all_ended : (s : SimState H) → HaveEnded s → accounts.HaveEnded s.account
+  all_ended s h = by_state (is_closed s.controller.session.state) h
+    where
+      by_state : (closed : Bool) → length s.account.ends + 1 ≡ length s.account.sessions + count closed → accounts.HaveEnded s.account
+      by_state true e = inl (omega (arith, e))
+      by_state false e = inr (omega (arith, e))
+
+  -- a report, and the state behind it
+  ended_by : (r : Option Report) (s : SimState H) (state : State) → is_closed state ≡ (is_closed s.controller.session.state || tells_end r)
+      → (is_closed s.controller.session.state ≡ true → tells_end r ≡ false) → HaveEnded s
+      → length (with_report r s.account).ends + 1 ≡ length (with_report r s.account).sessions + count (is_closed state)
+  ended_by r s state is one h =
+      let ends = ends_of_report r s.account in
+      let same = ap (λ l. length l) (sessions_of_report r s.account) in
+      let behind = ap count is ∙ counts_join (is_closed s.controller.session.state) (tells_end r) one in
+      omega (arith, ends, same, behind, h)
+
+  where_ended : (there : Bool) (old new : SimState H) → HaveEnded old → (there ≡ true → HaveEnded new) → HaveEnded (if there then new else old)
+  where_ended true old new before behind = behind refl
+  where_ended false old new before behind = before
+
+  issued_ended : (fault : Option ControllerFault) (command : Command) (s : SimState H) → HaveEnded s → HaveEnded (steps.issued fault command s)
+  issued_ended None command s h = h
+  issued_ended (Some fault) command s h = h
+
+  queued_ended : (full : Bool) (event : Event) (s : SimState H) → HaveEnded s → HaveEnded (steps.queued full event s)
+  queued_ended true event s h = h
+  queued_ended false event s h = h
+
+  heard_ended : EndsAreTold → (packets : List Packet) (s : SimState H) → HaveEnded s → HaveEnded (controller_hears packets s)
+  heard_ended told [] s h = h
+  heard_ended told (p ∷ packets) s h =
+      let heard = hears p s.clock s.controller.session in
+      heard_ended told packets _
+      (ended_by heard.report s heard.session.state ((told s.clock s.controller.session).closed_by_frame p) (silent_frame p s.clock s.controller.session) h)
+
+  reopened_ended : (there quiet : Bool) (s : SimState H) → (if there && not quiet then Some NotQuiet else None) ≡ None → (quiet ≡ true → is_closed s.controller.session.state ≡ true)
+      → there ≡ true → HaveEnded s → HaveEnded (steps.reopened s)
+  reopened_ended true true s well closed is h =
+      let over = ap count (closed refl) in
+      omega (arith, h, over, length-append s.account.sessions (lengths_of s.account ∷ []))
+  reopened_ended true false s well closed is h = absurd cc
+  reopened_ended false quiet s well closed is h = absurd cc
+
+  module _ (answer_of : H → Command → HandlerAnswer) (after : H → Command → H) where
+    answered_ended : (packets : List Packet) (s : SimState H) → HaveEnded s → HaveEnded (reader_hears answer_of after packets s)
+    answered_ended [] s h = h
+    answered_ended (p ∷ packets) s h = answered_ended packets _ h
+
+    step_ended : EndsAreTold → (step : SimStep) (s : SimState H) → fault_of step s ≡ None → HaveEnded s → HaveEnded (after_step answer_of after step s)
+    step_ended told (Issue number command) s well h =
+        where_ended (number == 1) s _ h (λ there. issued_ended (controllers.submit_refusal command s.controller) command s h)
+    step_ended told (Queue number event) s well h =
+        where_ended (number == 1) s _ h (λ there. queued_ended (length s.reader.queue.events == s.reader.queue.capacity) event s h)
+    step_ended told (Busy number busy) s well h = where_ended (number == 1) s _ h (λ there. h)
+    step_ended told (Wait wait) s well h =
+        let now = moment_behind wait s.clock in
+        let t = ticks now s.controller.session s.controller.waiting in
+        ended_by t.step.report s t.session.state ((told now s.controller.session).closed_by_tick s.controller.waiting)
+        (silent_tick s.controller.session.state (seen now s.controller.session) s.controller.waiting) h
+    step_ended told (ToReader move) s well h = answered_ended (packets_in (handed move s.to_reader)) _ h
+    step_ended told (ToController move) s well h = heard_ended told (packets_in (handed move s.to_controller)) _ h
+    step_ended told (Reopen number) s well h =
+        where_ended (number == 1) s _ h (λ there.
+          reopened_ended (number == 1) (steps.is_quiet s) s well (last_of (length s.to_reader == 0) (length s.to_controller == 0) (is_closed s.controller.session.state)) there h)
+
+    pub run_ended : EndsAreTold → (schedule : List SimStep) (s : SimState H) → is_well answer_of after schedule s ≡ true → HaveEnded s
+        → HaveEnded (run answer_of after schedule s)
+    run_ended told [] s well h = h
+    run_ended told (step ∷ schedule) s well h =
+        let next = after_step answer_of after step s in
+        let first = first_well answer_of after (fault_of step s) (is_well answer_of after schedule next) well in
+        run_ended told schedule next first.1 (step_ended told step s first.0 h)

@@ -1,0 +1,55 @@
+-- Something comes through: behind m rounds that lose nothing m - 1 more commands and events, or all of them, are settled and reported.
+use Rattle.std.specs.Prelude.{◌≡◌, ◌≤◌, ℕ, zero, suc, ◌+◌, ◌-◌, min, true, false, All, List, [], ◌∷◌, ◌++◌, length}
+use Rattle.osdp_msg.specs.declared.command.Command.{Command}
+use Rattle.osdp_controller_laws.specs.Calls.{longest_wait}
+use Rattle.osdp_reader.specs.declared.handler.Answer.{Answer}
+use Rattle.osdp_link.specs.Progress.{NoComset}
+use Rattle.osdp_sim.specs.Account.{Account}
+use Rattle.osdp_sim.specs.Runs.{AreSettings, FitAlong, is_well, run}
+use Rattle.osdp_sim.specs.State.{SimState, set_up}
+use Rattle.osdp_sim.specs.declared.config.SimConfig.{SimConfig}
+use Rattle.osdp_sim.specs.declared.step.Move.TheVariants.{Deliver}
+use Rattle.osdp_sim.specs.declared.step.SimStep.{SimStep}
+use Rattle.osdp_sim.specs.declared.step.SimStep.TheVariants.{ToController, ToReader, Wait}
+use Rattle.osdp_sim_laws.specs.Accounts.{IsInSession}
+
+-- a round that loses nothing: time passes, then the burst to the reader comes through, and the one to the controller
+abbrev pub round : ℕ → List SimStep
+round wait = Wait wait ∷ ToReader Deliver ∷ ToController Deliver ∷ []
+
+abbrev pub rounds : ℕ → ℕ → List SimStep
+rounds zero wait = []
+rounds (suc m) wait = round wait ++ rounds m wait
+
+abbrev pub done : Account → ℕ
+done a = length a.settled + length a.reported
+
+-- behind so many rounds as many more commands and events but one are settled and reported, or all are
+abbrev pub ComesOn : ℕ → Account → Account → Type 0
+ComesOn m before a = min (done before + (m - 1)) (length a.issued + length a.queued) ≤ done a
+
+module _ {H : Type 0} where
+  -- nothing is on the line, both ends are at one address, the reader isn't busy, and no COMSET was issued
+  pub record IsClear (s : SimState H) : Type 0 where
+    pub to_reader : s.to_reader ≡ []
+    pub to_controller : s.to_controller ≡ []
+    pub address : s.reader.config.address ≡ s.controller.session.config.address
+    pub ready : s.reader.busy ≡ false
+    pub issued : All NoComset s.account.issued
+
+  module _ (answer_of : H → Command → Answer) (after : H → Command → H) where
+    -- a schedule whose settings are in their ranges, of which no step is refused, and what goes over the line in it fits
+    pub record IsRun (config : SimConfig) (handler : H) (steps : List SimStep) : Type 0 where
+      pub settings : AreSettings config
+      pub well : is_well answer_of after steps (set_up config handler) ≡ true
+      pub fits : FitAlong answer_of after steps (set_up config handler)
+
+    -- rounds as long as the longest of the controller's waits, behind steps of one session that leave the link clear: something comes
+    -- through, where the session hasn't ended
+    abbrev pub ComesThrough : Type 0
+    ComesThrough = (config : SimConfig) (handler : H) (steps : List SimStep) (m wait : ℕ) → IsRun config handler (steps ++ rounds m wait)
+        → All IsInSession steps → longest_wait config.controller ≤ wait
+        → let before = run answer_of after steps (set_up config handler) in
+        IsClear before
+        → let last = run answer_of after (steps ++ rounds m wait) (set_up config handler) in
+        last.account.ends ≡ [] → ComesOn m before.account last.account
