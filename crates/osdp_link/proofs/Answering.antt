@@ -30,7 +30,7 @@ pub same_some : {A : Type 0} (x y : A) → Some x ≡ Some y → x ≡ y
 same_some x y e = cc
 
 -- no COMSET sets no address
-no_address : (x : Exchange) → MovesNone x → new_address (exchange_command x) ≡ None
+pub no_address : (x : Exchange) → MovesNone x → new_address (exchange_command x) ≡ None
 no_address Opening none = refl
 no_address Polling none = refl
 no_address (Asking command.Poll) none = refl

@@ -1,3 +1,4 @@
+pub mod Addresses
 pub mod Tables
 pub mod Stages
 pub mod Lines

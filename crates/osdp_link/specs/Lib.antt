@@ -4,3 +4,4 @@ pub mod Headline
 pub mod Sessions
 pub mod Progress
 pub mod Refusals
+pub mod Addresses

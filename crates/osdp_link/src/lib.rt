@@ -4,6 +4,7 @@
 
 ghost use Rattle.osdp_link.specs.Peers.{ReadEachOther, ReadsWhatIsAsked, ReadsWhatIsAnswered, TakesPlainReplies, TellsItsEvent};
 ghost use Rattle.osdp_link.specs.Headline.{HoldsOnce, SaysAllPlainly};
+ghost use Rattle.osdp_link.specs.Addresses.{StayWhereTheyAre};
 ghost use Rattle.osdp_link.specs.Progress.{ComesThrough, ComesThroughInTime};
 ghost use Rattle.osdp_link.specs.Refusals.{RefusesNoNumber};
 ghost use Rattle.osdp_link.specs.Sessions.{CommandsHavePlaces, EventsHavePlaces, LastOneLasts, StayInARow};
@@ -74,6 +75,13 @@ pub fn refuses_no_number<H: Handler>()
     ensures { RefusesNoNumber H.answer_of H.after }
 {
     read_each_other::<H>();
+}
+
+/// Where no COMSET waits or is submitted neither end goes to another address.
+pub fn stay_where_they_are<H: Handler>()
+    ensures { StayWhereTheyAre H.answer_of H.after }
+{
+    reads_what_is_asked();
 }
 
 /// From a link with nothing on the line, both ends at one address, the reader not busy and no COMSET issued: behind m rounds that lose

@@ -9,6 +9,7 @@ fn a_session_holds_with_a_door(_rt: HostRuntime) {
     osdp_link::sessions_in_a_row::<Door>();
     osdp_link::says_all_plainly::<Door>();
     osdp_link::refuses_no_number::<Door>();
+    osdp_link::stay_where_they_are::<Door>();
     osdp_link::comes_through::<Door>();
     osdp_link::comes_through_in_time::<Door>();
 }

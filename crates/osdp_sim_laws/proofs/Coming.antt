@@ -1,13 +1,12 @@
 -- Rounds that lose nothing, over bytes.
-use Rattle.std.proofs.Common.{◌≡◌, ◌⊎◌, ◌≤◌, ◌<◌, ◌+◌, ◌-◌, ◌&&◌, ℕ, zero, suc, Bool, true, false, ◌==◌, if◌then◌else◌, min, arith, List, [], ◌∷◌, ◌++◌, length, All, Option, Some, None, is_none, inl, inr, refl, sym, subst, ap, ◌∙◌}
+use Rattle.std.proofs.Common.{◌≡◌, ◌≤◌, ◌<◌, ◌+◌, ◌&&◌, ℕ, zero, suc, Bool, true, false, ◌==◌, if◌then◌else◌, arith, List, [], ◌∷◌, ◌++◌, length, All, Option, Some, None, is_none, inl, inr, refl, sym, subst, ap, ◌∙◌, append_assoc}
 use Rattle.std.specs.Prelude.{map}
 use Rattle.osdp_frame.specs.Packet.{Packet}
 use Rattle.osdp_frame.specs.Spelling.{spelling}
 use Rattle.osdp_msg.specs.declared.command.Command.{Command}
-use Rattle.osdp_msg.specs.declared.event.Event.{Event}
 use Rattle.osdp_controller.specs.declared.state.State.TheVariants.{Closed}
 use Rattle.osdp_controller.specs.States.{is_closed}
-use Rattle.osdp_controller_laws.specs.Calls.{IsInRange, StaysInRange, longest_wait}
+use Rattle.osdp_controller_laws.specs.Calls.{IsInRange, StaysInRange}
 use Rattle.osdp_controller_laws.specs.Runs.{Begin}
 use Rattle.osdp_controller.specs.Machine.{new_machine}
 use Rattle.osdp_reader.specs.declared.handler.Answer.{Answer}
@@ -16,8 +15,9 @@ use Rattle.osdp_link.specs.Link as link
 use Rattle.osdp_link.specs.Link.{Delivered, Link}
 use Rattle.osdp_link.specs.Progress as progress
 use Rattle.osdp_link.specs.Progress.{NoComset}
+use Rattle.osdp_link.specs.Addresses.{StayWhereTheyAre}
 use Rattle.osdp_link.specs.Sessions.{HaveLeft, all_queued, all_submitted, told_in}
-use Rattle.osdp_link.proofs.Lines.{each_all, each_append, each_of, each_rest}
+use Rattle.osdp_link.proofs.Lines.{each_all, each_append, each_front, each_of}
 use Rattle.osdp_link.proofs.Stages.{Each}
 use Rattle.osdp_sim.specs.Account.{Account}
 use Rattle.osdp_sim.specs.Runs.{FitAlong, is_well, run}
@@ -29,11 +29,12 @@ use Rattle.osdp_sim.specs.declared.step.SimStep.{SimStep}
 use Rattle.osdp_sim.specs.declared.step.SimStep.TheVariants.{Issue, Queue, Busy, Wait, ToReader, ToController, Reopen}
 use Rattle.osdp_sim_laws.specs.Accounts.{IsInSession, all_in}
 use Rattle.osdp_sim_laws.specs.Moves.{clock_after, clock_behind, delivery, first_link, in_bytes, move_of, moves_of}
-use Rattle.osdp_sim_laws.specs.Progress.{ComesOn, ComesThrough, IsClear, IsRun, done, rounds}
+use Rattle.osdp_sim_laws.specs.Progress.{ComesOn, ComesThrough, IsClear, Recovers, clear, rounds}
+use Rattle.osdp_sim_laws.proofs.Clearing.{AtMost, Cleared, clears, losses_within, steps_few}
 use Rattle.osdp_sim_laws.proofs.Ends.{HaveEnded, count, run_ended, some_cut}
 use Rattle.osdp_sim_laws.proofs.Holding as holding
 use Rattle.osdp_sim_laws.proofs.Holding.{IsWithin, begins, no_account, run_within, steps_within, tells_nothing}
-use Rattle.osdp_sim_laws.proofs.Moments.{InTime, LinkInTime, begins_in_time, clock_on, controller_in_time, last_moment, queues_in_time, reader_in_time, submits_in_time, tick_in_time}
+use Rattle.osdp_sim_laws.proofs.Moments.{LinkInTime, begins_in_time, clock_on, controller_in_time, last_moment, queues_in_time, reader_in_time, submits_in_time, tick_in_time}
 use Rattle.osdp_sim_laws.proofs.Schedules.{Follows, first_well, goes_on, schedule_follows}
 use Rattle.osdp_controller.specs.Machine as controllers
 
@@ -113,11 +114,10 @@ module _ {H : Type 0} (answer_of : H → Command → Answer) (after : H → Comm
       let on = clock_on wait clock fits in
       let t = link.after_move answer_of after (link.Tick now) l in
       let heard = link.after_move answer_of after (link.ToReader Delivered) t in
-      let ticked = tick_in_time answer_of after clock now wait l on.0 is in
-      (
+      let ticked = tick_in_time answer_of after clock now wait l on.0 is in (
         omega (arith, is.0, is.1, fits),
         are_late m wait now (link.run answer_of after (progress.round now) l) on.1
-        (controller_in_time answer_of after now wait Delivered heard.to_controller heard (reader_in_time answer_of after now wait Delivered t.to_reader t ticked)),
+            (controller_in_time answer_of after now wait Delivered heard.to_controller heard (reader_in_time answer_of after now wait Delivered t.to_reader t ticked)),
       )
 
   -- ---- two schedules, one behind the other
@@ -198,7 +198,7 @@ module _ {H : Type 0} (answer_of : H → Command → Answer) (after : H → Comm
       let before = run answer_of after steps start in
       let there : before ≡ in_bytes behind clock before.account = first.carried.state in
       let then_ = schedule_follows answer_of after given.reads more behind clock before.account first.carried.packets first.carried.tells
-          (subst (λ s. is_well answer_of after more s ≡ true) there well.1) (subst (FitAlong answer_of after more) there fits.1) in
+      (subst (λ s. is_well answer_of after more s ≡ true) there well.1) (subst (FitAlong answer_of after more) there fits.1) in
       let ns = moves_of more clock in
       let last = link.run answer_of after ns behind in
       let end = run answer_of after more before in
@@ -222,7 +222,7 @@ module _ {H : Type 0} (answer_of : H → Command → Answer) (after : H → Comm
       let moves = subst (λ list. headline.AreMoves answer_of after list behind) (rounds_are m wait clock) then_.moves in
       let found = in_time l ms (moments_of m wait clock) begun range first.moves quiet (are_late m wait clock behind timely.0 timely.1) moves in
       let same : link.run answer_of after (progress.rounds (moments_of m wait clock)) behind ≡ last =
-          ap (λ list. link.run answer_of after list behind) (sym (rounds_are m wait clock)) in
+      ap (λ list. link.run answer_of after list behind) (sym (rounds_are m wait clock)) in
       let joined : link.run answer_of after (ms ++ ns) l ≡ last = run_both ms ns l in
       let long_list : AsLong end.account last.account = subst (λ k. AsLong end.account k.account) joined last_lists in
       let ended : run answer_of after (steps ++ more) start ≡ end = runs_on steps more start in
@@ -230,10 +230,64 @@ module _ {H : Type 0} (answer_of : H → Command → Answer) (after : H → Comm
       subst (λ s. s.account.ends ≡ [] → ComesOn m before.account s.account) (sym ended)
       (λ none. elim found [
         | inl closed ↦ absurd (
-          let shut = ap (λ (s : SimState H). s.controller.session.state) next.carried.state ∙ subst (λ k. k.controller.session.state ≡ Closed) same closed in
-          not_over end shut (subst HaveEnded ended all_ended)
-              (some_cut end.account.sessions (link.run answer_of after (ms ++ ns) l).account (link.run answer_of after (ms ++ ns) l).earlier whole.carried.tells.sessions) none)
+            let shut = ap (λ (s : SimState H). s.controller.session.state) next.carried.state ∙ subst (λ k. k.controller.session.state ≡ Closed) same closed in
+            not_over end shut (subst HaveEnded ended all_ended)
+            (some_cut end.account.sessions (link.run answer_of after (ms ++ ns) l).account (link.run answer_of after (ms ++ ns) l).earlier whole.carried.tells.sessions) none)
         | inr on ↦ (
-          let counted = subst (λ k. progress.ComeOn (moments_of m wait clock) behind.account k.account) same on in
-          omega (arith, counted, count_of m wait clock, first_lists.settled, first_lists.reported, long_list.settled, long_list.reported, ap length long_list.issued, long_list.queued))
+            let counted = subst (λ k. progress.ComeOn (moments_of m wait clock) behind.account k.account) same on in
+            omega (arith, counted, count_of m wait clock, first_lists.settled, first_lists.reported, long_list.settled, long_list.reported, ap length long_list.issued, long_list.queued))
       ])
+
+  -- ---- whatever was before
+
+  moves_on : (xs ys : List SimStep) (clock : ℕ) → moves_of (xs ++ ys) clock ≡ moves_of xs clock ++ moves_of ys (clock_after xs clock)
+  moves_on [] ys clock = refl
+  moves_on (x ∷ xs) ys clock =
+      let now = clock_behind x clock in
+      ap (λ ms. move_of x clock ++ ms) (moves_on xs ys now)
+      ∙ sym (append_assoc (move_of x clock) (moves_of xs now) (moves_of ys (clock_after xs now)))
+
+  pub recovers : holding.Link answer_of after → progress.ComesThroughInTime answer_of after → StaysInRange → StayWhereTheyAre answer_of after
+      → Recovers answer_of after
+  recovers given in_time ranges stays config handler steps m wait is within same long none lasts =
+      let l = first_link config handler in
+      let start = set_up config handler in
+      let all_steps = steps ++ clear steps in
+      let more = rounds m wait in
+      let before = run answer_of after all_steps start in
+      let well = well_on all_steps more start is.well in
+      let fits = fits_on all_steps more start is.fits in
+      let first = schedule_follows answer_of after given.reads all_steps l 0 no_account (record { to_reader = tt; to_controller = tt }) tells_nothing well.0 fits.0 in
+      let ms = moves_of all_steps 0 in
+      let clock = clock_after all_steps 0 in
+      let behind = link.run answer_of after ms l in
+      let there : before ≡ in_bytes behind clock before.account = first.carried.state in
+      let next = schedule_follows answer_of after given.reads more behind clock before.account first.carried.packets first.carried.tells
+      (subst (λ s. is_well answer_of after more s ≡ true) there well.1) (subst (FitAlong answer_of after more) there fits.1) in
+      let ended : run answer_of after (all_steps ++ more) start ≡ run answer_of after more (in_bytes behind clock before.account) =
+      runs_on all_steps more start ∙ ap (run answer_of after more) there in
+      let issued = ap (λ (s : SimState H). s.account.issued) ended ∙ next.carried.issued in
+      let none_before : Each NoComset before.account.issued =
+      each_front NoComset before.account.issued (all_submitted answer_of after (moves_of more clock) behind)
+      (subst (Each NoComset) issued (each_of NoComset (run answer_of after (all_steps ++ more) start).account.issued none)) in
+      let device = is.settings.controller.config_in_range.address in
+      let begun = begins answer_of after config handler device in
+      let kept = stays l ms begun first.moves (each_all NoComset (all_submitted answer_of after ms l) (subst (Each NoComset) first.carried.issued none_before)) in
+      let middle = link.run answer_of after (moves_of steps 0) l in
+      let at_most = steps_few answer_of after 0 steps 0 l (omega arith, omega arith) in
+      let few : AtMost (length steps) middle = (omega (arith, at_most.0), omega (arith, at_most.1)) in
+      let over = clears answer_of after steps (clock_after steps 0) middle few in
+      let is_behind : behind ≡ link.run answer_of after (moves_of (clear steps) (clock_after steps 0)) middle =
+      ap (λ list. link.run answer_of after list l) (moves_on steps (clear steps) 0) ∙ run_both (moves_of steps 0) (moves_of (clear steps) (clock_after steps 0)) l in
+      let quiet : Cleared answer_of after behind = subst (Cleared answer_of after) (sym is_behind) over in
+      let is_clear : IsClear before = record {
+        to_reader = ap (λ (s : SimState H). s.to_reader) there ∙ ap (map spelling) quiet.to_reader;
+        to_controller = ap (λ (s : SimState H). s.to_controller) there ∙ ap (map spelling) quiet.to_controller;
+        address = ap (λ (s : SimState H). s.reader.config.address) there ∙ kept.0 ∙ same ∙ sym kept.1
+            ∙ sym (ap (λ (s : SimState H). s.controller.session.config.address) there);
+        ready = ap (λ (s : SimState H). s.reader.busy) there ∙ quiet.ready;
+        issued = each_all NoComset before.account.issued none_before;
+      } in
+      let all_within = each_all IsInSession all_steps (each_append IsInSession steps (clear steps) (each_of IsInSession steps within) (tt, losses_within steps)) in
+      let on = comes given in_time ranges config handler all_steps m wait is all_within long is_clear lasts in
+      omega (arith, on)

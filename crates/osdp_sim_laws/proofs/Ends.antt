@@ -1,5 +1,5 @@
 -- Each session that has ended has one end.
-use Rattle.std.proofs.Common.{◌≡◌, ◌<◌, ◌+◌, ℕ, Bool, true, false, not, ◌&&◌, ◌||◌, ◌==◌, if◌then◌else◌, is_none, arith, List, [], ◌∷◌, length, Option, Some, None, inl, inr, refl, sym, subst, ap, ◌∙◌}
+use Rattle.std.proofs.Common.{◌≡◌, ◌<◌, ◌+◌, ℕ, Bool, true, false, not, ◌&&◌, ◌||◌, ◌==◌, if◌then◌else◌, arith, List, [], ◌∷◌, length, Option, Some, None, inl, inr, refl, ap, ◌∙◌}
 use Rattle.std.proofs.lemmas.List.{length-append}
 use Rattle.osdp_frame.specs.Packet.{Packet}
 use Rattle.osdp_msg.specs.declared.command.Command.{Command}
@@ -19,7 +19,6 @@ use Rattle.osdp_controller.specs.declared.state.State.{State}
 use Rattle.osdp_controller.specs.declared.state.State.TheVariants.{Closed, Quiet, Idle, Waiting, Pausing}
 use Rattle.osdp_controller_laws.specs.Commands.{TellsEnds, tells_end}
 use Rattle.osdp_reader.specs.declared.handler.Answer.{Answer as HandlerAnswer}
-use Rattle.osdp_reader.specs.Table as reader
 use Rattle.osdp_link.specs.Link as link
 use Rattle.osdp_link.proofs.Lines.{both}
 use Rattle.osdp_sim.specs.Account.{Account, lengths_of, with_report}
@@ -30,7 +29,6 @@ use Rattle.osdp_sim.specs.Steps as steps
 use Rattle.osdp_sim.specs.Steps.{after_step, controller_hears, fault_of, moment_behind, reader_hears}
 use Rattle.osdp_sim.specs.declared.account.Lengths.{Lengths}
 use Rattle.osdp_sim.specs.declared.account.End.TheVariants as ending
-use Rattle.osdp_sim.specs.declared.fault.Cause.{Cause}
 use Rattle.osdp_sim.specs.declared.fault.Cause.TheVariants.{NotQuiet}
 use Rattle.osdp_sim.specs.declared.step.SimStep.{SimStep}
 use Rattle.osdp_sim.specs.declared.step.SimStep.TheVariants.{Issue, Queue, Busy, Wait, ToReader, ToController, Reopen}
@@ -181,7 +179,7 @@ module _ {H : Type 0} where
     step_ended told (ToController move) s well h = heard_ended told (packets_in (handed move s.to_controller)) _ h
     step_ended told (Reopen number) s well h =
         where_ended (number == 1) s _ h (λ there.
-          reopened_ended (number == 1) (steps.is_quiet s) s well (last_of (length s.to_reader == 0) (length s.to_controller == 0) (is_closed s.controller.session.state)) there h)
+        reopened_ended (number == 1) (steps.is_quiet s) s well (last_of (length s.to_reader == 0) (length s.to_controller == 0) (is_closed s.controller.session.state)) there h)
 
     pub run_ended : EndsAreTold → (schedule : List SimStep) (s : SimState H) → is_well answer_of after schedule s ≡ true → HaveEnded s
         → HaveEnded (run answer_of after schedule s)

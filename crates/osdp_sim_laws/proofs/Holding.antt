@@ -14,7 +14,7 @@ use Rattle.osdp_link.specs.Sessions.{CommandsHavePlaces, EventsHavePlaces, HaveL
 use Rattle.osdp_link.proofs.Lines.{each_all, each_append, each_of}
 use Rattle.osdp_link.proofs.Stages.{Each}
 use Rattle.osdp_sim.specs.Account.{Account, empty_account, lists_of, with_session}
-use Rattle.osdp_sim.specs.Runs.{AreSettings, FitAlong, Stops, is_well, run, steps_done}
+use Rattle.osdp_sim.specs.Runs.{FitAlong, Stops, run, steps_done}
 use Rattle.osdp_sim.specs.State.{set_up}
 use Rattle.osdp_sim.specs.declared.account.Account as declared
 use Rattle.osdp_sim.specs.declared.fault.Cause.{Cause}

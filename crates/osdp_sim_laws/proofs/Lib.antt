@@ -1,5 +1,6 @@
 pub mod Accounts
 pub mod Carrying
+pub mod Clearing
 pub mod Coming
 pub mod Delivering
 pub mod Ends

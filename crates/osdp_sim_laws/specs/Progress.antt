@@ -8,9 +8,9 @@ use Rattle.osdp_sim.specs.Account.{Account}
 use Rattle.osdp_sim.specs.Runs.{AreSettings, FitAlong, is_well, run}
 use Rattle.osdp_sim.specs.State.{SimState, set_up}
 use Rattle.osdp_sim.specs.declared.config.SimConfig.{SimConfig}
-use Rattle.osdp_sim.specs.declared.step.Move.TheVariants.{Deliver}
+use Rattle.osdp_sim.specs.declared.step.Move.TheVariants.{Deliver, Drop}
 use Rattle.osdp_sim.specs.declared.step.SimStep.{SimStep}
-use Rattle.osdp_sim.specs.declared.step.SimStep.TheVariants.{ToController, ToReader, Wait}
+use Rattle.osdp_sim.specs.declared.step.SimStep.TheVariants.{Busy, ToController, ToReader, Wait}
 use Rattle.osdp_sim_laws.specs.Accounts.{IsInSession}
 
 -- a round that loses nothing: time passes, then the burst to the reader comes through, and the one to the controller
@@ -20,6 +20,14 @@ round wait = Wait wait ∷ ToReader Deliver ∷ ToController Deliver ∷ []
 abbrev pub rounds : ℕ → ℕ → List SimStep
 rounds zero wait = []
 rounds (suc m) wait = round wait ++ rounds m wait
+
+-- the reader isn't busy any more, and what is on the line is lost: no more than a burst in each direction for each of these steps
+abbrev pub losses : List SimStep → List SimStep
+losses [] = []
+losses (step ∷ steps) = ToReader Drop ∷ ToController Drop ∷ losses steps
+
+abbrev pub clear : List SimStep → List SimStep
+clear steps = Busy 1 false ∷ losses steps
 
 abbrev pub done : Account → ℕ
 done a = length a.settled + length a.reported
@@ -53,3 +61,13 @@ module _ {H : Type 0} where
         IsClear before
         → let last = run answer_of after (steps ++ rounds m wait) (set_up config handler) in
         last.account.ends ≡ [] → ComesOn m before.account last.account
+
+    -- whatever the steps were: behind them the line is cleared, and over m rounds something comes through, where both ends are at one
+    -- address, no COMSET was issued and the session hasn't ended
+    abbrev pub Recovers : Type 0
+    Recovers = (config : SimConfig) (handler : H) (steps : List SimStep) (m wait : ℕ)
+        → IsRun config handler ((steps ++ clear steps) ++ rounds m wait)
+        → All IsInSession steps → config.reader.address ≡ config.controller.address → longest_wait config.controller ≤ wait
+        → let last = run answer_of after ((steps ++ clear steps) ++ rounds m wait) (set_up config handler) in
+        All NoComset last.account.issued → last.account.ends ≡ []
+        → min (m - 1) (length last.account.issued + length last.account.queued) ≤ done last.account

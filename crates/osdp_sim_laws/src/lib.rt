@@ -2,7 +2,7 @@
 #![tactic(auto)]
 
 ghost use Rattle.osdp_sim_laws.specs.Accounts.{HoldsOnce, StaysInARow};
-ghost use Rattle.osdp_sim_laws.specs.Progress.{ComesThrough};
+ghost use Rattle.osdp_sim_laws.specs.Progress.{ComesThrough, Recovers};
 
 use osdp_reader::Handler;
 
@@ -45,5 +45,22 @@ pub fn comes_through<H: Handler>()
     osdp_link::refuses_no_number::<H>();
     osdp_controller_laws::endings_are_told();
     osdp_link::comes_through_in_time::<H>();
+    osdp_controller_laws::stays_in_range();
+}
+
+/// Behind any steps of one session: once the reader is ready and what is on the line is lost, over m such rounds m - 1 commands and
+/// events, or all of them, are settled and reported, where both ends were at one address, no COMSET was issued and the session hasn't
+/// ended.
+pub fn recovers<H: Handler>()
+    ensures { Recovers H.answer_of H.after }
+{
+    osdp_sim::laws::reads_packets();
+    osdp_frame_laws::one_spelling();
+    osdp_link::holds_once::<H>();
+    osdp_link::sessions_in_a_row::<H>();
+    osdp_link::refuses_no_number::<H>();
+    osdp_link::comes_through_in_time::<H>();
+    osdp_link::stay_where_they_are::<H>();
+    osdp_controller_laws::endings_are_told();
     osdp_controller_laws::stays_in_range();
 }
