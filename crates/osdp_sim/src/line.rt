@@ -1,6 +1,6 @@
 //! One direction of the line.
 
-ghost use Rattle.std.specs.Prelude.{◌≡◌, All, IfSome, MatchOption, [], length, false};
+ghost use Rattle.std.specs.Prelude.{◌≡◌, All, IfSome, MatchOption, [], None, Some, ℕ};
 ghost use Rattle.osdp_frame.specs.Held.{decided};
 ghost use Rattle.osdp_frame.specs.Packet.{Packet};
 ghost use Rattle.osdp_frame.specs.Reading.{Whole};

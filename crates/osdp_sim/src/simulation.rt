@@ -21,7 +21,7 @@ use crate::step::{Move, SimStep};
 use osdp_controller::{Controller, ControllerFault, Step};
 use osdp_frame::{Burst, FrameView, Item};
 use osdp_msg::{Command, Event};
-use osdp_reader::{Handler, Reader, ReaderFault, Response};
+use osdp_reader::{Handler, Reader, Response};
 use std::alloc::{AllocError, Global};
 use std::collections::VecDeque;
 

@@ -275,6 +275,44 @@ ended moved
     );
 }
 
+/// Behind a loss and a BUSY four rounds that lose nothing, of the longest wait, open the session, settle both commands and report the event.
+#[test]
+fn all_comes_through(rt: HostRuntime) {
+    comes_to(
+        &rt,
+        rt.alloc(),
+        "issue OUT 0:2:0
+issue LSTAT
+queue KEYPAD 0 31
+wait 400
+to-reader drop
+busy on
+wait 200
+to-reader deliver
+to-controller deliver
+busy off
+wait 400
+to-reader deliver
+to-controller deliver
+wait 400
+to-reader deliver
+to-controller deliver
+wait 400
+to-reader deliver
+to-controller deliver
+wait 400
+to-reader deliver
+to-controller deliver",
+        "issued 2 taken 2 settled 2 unsettled 0 queued 1 reported 1
+taken OUT 0:2:0
+taken LSTAT
+settled OUT 0:2:0 = ACK
+settled LSTAT = LSTATR 0 0
+reported KEYPAD 0 31
+",
+    );
+}
+
 /// The laws of accounts hold with a door as the reader.
 #[test]
 fn accounts_hold_with_a_door(_rt: HostRuntime) {
