@@ -2,6 +2,22 @@
 //!
 //! `run_session` runs one controller and one reader, both as a panel and a device have them, over a list of steps, and hands back the
 //! account of what happened. Bursts go over the line as bytes, and are read from bytes at the other end.
+//!
+//! ```text
+//! let steps = [
+//!     SimStep::Issue(1, command),
+//!     SimStep::Wait(400), // the opening ID goes out
+//!     SimStep::ToReader(Move::Deliver),
+//!     SimStep::ToController(Move::Deliver),
+//!     SimStep::Wait(50), // the command goes out
+//!     SimStep::ToReader(Move::Repeat), // and reaches the reader twice
+//!     SimStep::ToReader(Move::Deliver),
+//!     SimStep::ToController(Move::Deliver),
+//! ];
+//! let account = run_session(alloc, &config, door, &steps)?; // it was taken once
+//! ```
+//!
+//! What holds of each account, whatever the schedule, is said by the laws of `osdp_sim_laws`.
 #![tactic(auto)]
 
 mod account;
