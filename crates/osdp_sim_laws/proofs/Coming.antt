@@ -29,10 +29,10 @@ use Rattle.osdp_sim.specs.declared.step.SimStep.{SimStep}
 use Rattle.osdp_sim.specs.declared.step.SimStep.TheVariants.{Issue, Queue, Busy, Wait, ToReader, ToController, Reopen}
 use Rattle.osdp_sim_laws.specs.Accounts.{IsInSession, all_in}
 use Rattle.osdp_sim_laws.specs.Moves.{clock_after, clock_behind, delivery, first_link, in_bytes, move_of, moves_of}
+use Rattle.osdp_sim_laws.specs.OneLink.{OneLink}
 use Rattle.osdp_sim_laws.specs.Progress.{ComesOn, ComesThrough, IsClear, Recovers, clear, rounds}
 use Rattle.osdp_sim_laws.proofs.Clearing.{AtMost, Cleared, clears, losses_within, steps_few}
 use Rattle.osdp_sim_laws.proofs.Ends.{HaveEnded, count, run_ended, some_cut}
-use Rattle.osdp_sim_laws.proofs.Holding as holding
 use Rattle.osdp_sim_laws.proofs.Holding.{IsWithin, begins, no_account, run_within, steps_within, tells_nothing}
 use Rattle.osdp_sim_laws.proofs.Moments.{LinkInTime, begins_in_time, clock_on, controller_in_time, last_moment, queues_in_time, reader_in_time, submits_in_time, tick_in_time}
 use Rattle.osdp_sim_laws.proofs.Schedules.{Follows, first_well, goes_on, schedule_follows}
@@ -155,7 +155,7 @@ module _ {H : Type 0} (answer_of : H → Command → Answer) (after : H → Comm
     pub issued : a.issued ≡ t.issued
     pub queued : length a.queued ≡ length t.queued
 
-  as_long : (given : holding.Link answer_of after) (config : SimConfig) (handler : H) (device : config.controller.address < 127) (s : SimState H) (ms : List link.Move) (clock : ℕ)
+  as_long : (given : OneLink answer_of after) (config : SimConfig) (handler : H) (device : config.controller.address < 127) (s : SimState H) (ms : List link.Move) (clock : ℕ)
       → Follows answer_of after s ms (first_link config handler) clock no_account → Each (IsWithin answer_of after) ms
       → AsLong s.account (link.run answer_of after ms (first_link config handler)).account
   as_long given config handler device s ms clock follows within =
@@ -184,7 +184,7 @@ module _ {H : Type 0} (answer_of : H → Command → Answer) (after : H → Comm
       let no_end : length s.account.ends ≡ 0 = ap (λ l. length l) none in
       absurd (omega (arith, counted, no_end, some))
 
-  pub comes : holding.Link answer_of after → progress.ComesThroughInTime answer_of after → StaysInRange → ComesThrough answer_of after
+  pub comes : OneLink answer_of after → progress.ComesThroughInTime answer_of after → StaysInRange → ComesThrough answer_of after
   comes given in_time ranges config handler steps m wait is within long clear =
       let l = first_link config handler in
       let start = set_up config handler in
@@ -247,7 +247,7 @@ module _ {H : Type 0} (answer_of : H → Command → Answer) (after : H → Comm
       ap (λ ms. move_of x clock ++ ms) (moves_on xs ys now)
       ∙ sym (append_assoc (move_of x clock) (moves_of xs now) (moves_of ys (clock_after xs now)))
 
-  pub recovers : holding.Link answer_of after → progress.ComesThroughInTime answer_of after → StaysInRange → StayWhereTheyAre answer_of after
+  pub recovers : OneLink answer_of after → progress.ComesThroughInTime answer_of after → StaysInRange → StayWhereTheyAre answer_of after
       → Recovers answer_of after
   recovers given in_time ranges stays config handler steps m wait is within same long none lasts =
       let l = first_link config handler in

@@ -21,14 +21,10 @@ use Rattle.osdp_sim.specs.State.{SimState}
 use Rattle.osdp_sim.specs.Steps.{SaysFit, controller_hears, damage_fault, reader_hears}
 use Rattle.osdp_sim.specs.declared.step.Move as way
 use Rattle.osdp_sim.specs.declared.step.Move.TheVariants.{Deliver, Drop, Repeat, Damage}
+use Rattle.osdp_sim_laws.specs.OneLink.{ReadsPackets}
 use Rattle.osdp_sim_laws.specs.Moves.{delivery, in_bytes}
 use Rattle.osdp_sim_laws.proofs.Accounts.{Tells, causes_of, report_leaves, tells_report, tells_taken}
 use Rattle.osdp_sim_laws.proofs.Carrying.{ArePackets, IsCarried, packets_behind, sent_behind}
-
--- a packet that goes over the line is read as it is, and where nothing comes through nothing is read
-pub record ReadsPackets : Type 0 where
-  pub one : (p : Packet) → IsPacket p → packets_in (spelling p) ≡ p ∷ []
-  pub none : packets_in [] ≡ []
 
 module _ {H : Type 0} where
   -- nothing comes through

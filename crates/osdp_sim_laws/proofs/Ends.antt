@@ -17,7 +17,7 @@ use Rattle.osdp_controller.specs.declared.report.Report.TheVariants as report
 use Rattle.osdp_controller.specs.declared.session.Session.{Session}
 use Rattle.osdp_controller.specs.declared.state.State.{State}
 use Rattle.osdp_controller.specs.declared.state.State.TheVariants.{Closed, Quiet, Idle, Waiting, Pausing}
-use Rattle.osdp_controller_laws.specs.Commands.{TellsEnds, tells_end}
+use Rattle.osdp_controller_laws.specs.Commands.{tells_end}
 use Rattle.osdp_reader.specs.declared.handler.Answer.{Answer as HandlerAnswer}
 use Rattle.osdp_link.specs.Link as link
 use Rattle.osdp_link.proofs.Lines.{both}
@@ -34,6 +34,7 @@ use Rattle.osdp_sim.specs.declared.step.SimStep.{SimStep}
 use Rattle.osdp_sim.specs.declared.step.SimStep.TheVariants.{Issue, Queue, Busy, Wait, ToReader, ToController, Reopen}
 use Rattle.osdp_sim_laws.specs.Accounts as accounts
 use Rattle.osdp_sim_laws.specs.Accounts.{AreCuts}
+use Rattle.osdp_sim_laws.specs.OneLink.{EndsAreTold}
 use Rattle.osdp_sim_laws.proofs.Schedules.{first_well}
 
 -- a session has begun
@@ -46,10 +47,6 @@ one_cut cuts t are =
     let whole = ap (λ l. length l) are.2 in
     let none = ap (λ l. length l) are.4 in
     omega (arith, whole, none, length-append are.0 (are.1 ∷ []))
-
--- a session ends exactly where a report says so
-abbrev pub EndsAreTold : Type 0
-EndsAreTold = (now : ℕ) (s : Session) → TellsEnds now s
 
 abbrev pub count : Bool → ℕ
 count true = 1

@@ -7,10 +7,10 @@ use Rattle.osdp_controller.specs.Machine as controllers
 use Rattle.osdp_controller.specs.declared.fault.ControllerFault.{ControllerFault}
 use Rattle.osdp_reader.specs.declared.config.ReaderConfig.{ReaderConfig}
 use Rattle.osdp_reader.specs.declared.handler.Answer.{Answer}
-use Rattle.osdp_link.specs.Headline.{AreOnce, Begins, HoldsOnce as LinkHoldsOnce, IsBeginning, with_answers}
+use Rattle.osdp_link.specs.Headline.{AreOnce, Begins, IsBeginning, with_answers}
 use Rattle.osdp_link.specs.Link as link
 use Rattle.osdp_link.specs.Refusals as refusals
-use Rattle.osdp_link.specs.Sessions.{CommandsHavePlaces, EventsHavePlaces, HaveLeft, StayInARow}
+use Rattle.osdp_link.specs.Sessions.{HaveLeft}
 use Rattle.osdp_link.proofs.Lines.{each_all, each_append, each_of}
 use Rattle.osdp_link.proofs.Stages.{Each}
 use Rattle.osdp_sim.specs.Account.{Account, empty_account, lists_of, with_session}
@@ -23,12 +23,12 @@ use Rattle.osdp_sim.specs.declared.config.SimConfig.{SimConfig}
 use Rattle.osdp_sim.specs.declared.step.SimStep.{SimStep}
 use Rattle.osdp_sim.specs.declared.step.SimStep.TheVariants.{Issue, Queue, Busy, Wait, ToReader, ToController, Reopen}
 use Rattle.osdp_sim_laws.specs.Accounts.{IsInARow, IsInSession, IsNoRefusal, IsOf, IsOnce, IsAnswer, StaysInARow, HoldsOnce, WasSetUp, account_in, HaveEnded}
+use Rattle.osdp_sim_laws.specs.OneLink.{OneLink}
 use Rattle.osdp_sim_laws.specs.Progress.{IsRun}
 use Rattle.osdp_sim_laws.specs.Moves.{clock_behind, first_link, move_of, moves_of}
 use Rattle.osdp_sim_laws.proofs.Accounts.{Tells}
 use Rattle.osdp_sim_laws.proofs.Carrying.{ArePackets}
-use Rattle.osdp_sim_laws.proofs.Delivering.{ReadsPackets}
-use Rattle.osdp_sim_laws.proofs.Ends.{EndsAreTold, all_ended, one_cut, run_ended}
+use Rattle.osdp_sim_laws.proofs.Ends.{all_ended, one_cut, run_ended}
 use Rattle.osdp_sim_laws.proofs.Schedules.{schedule_follows}
 
 -- nothing is sent, and nothing is told
@@ -45,16 +45,6 @@ tells_nothing = record {
 }
 
 module _ {H : Type 0} (answer_of : H → Command → Answer) (after : H → Command → H) where
-  -- what the theory of one link says
-  pub record Link : Type 0 where
-    pub reads : ReadsPackets
-    pub once : LinkHoldsOnce answer_of after
-    pub row : StayInARow answer_of after
-    pub commands : CommandsHavePlaces answer_of after
-    pub events : EventsHavePlaces answer_of after
-    pub causes : refusals.RefusesNoNumber answer_of after
-    pub told : EndsAreTold
-
   pub begins : (config : SimConfig) (handler : H) → config.controller.address < 127 → Begins (first_link config handler)
   begins config handler device = record {
     quiet = (_, refl);
@@ -66,7 +56,7 @@ module _ {H : Type 0} (answer_of : H → Command → Answer) (after : H → Comm
     earlier = refl;
   }
 
-  abbrev pub in_a_row : Link → (config : SimConfig) (handler : H) (steps : List SimStep) → IsRun answer_of after config handler steps
+  abbrev pub in_a_row : OneLink answer_of after → (config : SimConfig) (handler : H) (steps : List SimStep) → IsRun answer_of after config handler steps
       → IsInARow answer_of after config.reader handler (run answer_of after steps (set_up config handler)).account
   in_a_row given config handler steps is =
       let l = first_link config handler in
@@ -182,7 +172,7 @@ module _ {H : Type 0} (answer_of : H → Command → Answer) (after : H → Comm
         causes = causes;
       }
 
-  pub once : Link → (config : SimConfig) (handler : H) (steps : List SimStep) → IsRun answer_of after config handler steps → All IsInSession steps
+  pub once : OneLink answer_of after → (config : SimConfig) (handler : H) (steps : List SimStep) → IsRun answer_of after config handler steps → All IsInSession steps
       → IsOnce answer_of after config.reader handler (run answer_of after steps (set_up config handler)).account
   once given config handler steps is within =
       let row = in_a_row given config handler steps is in
@@ -209,11 +199,11 @@ module _ {H : Type 0} (answer_of : H → Command → Answer) (after : H → Comm
       by_step (suc before) why lists stops fits was holds =
           subst P (sym stops.1.account) (holds (record { settings = stops.0; well = stops.1.well; fits = fits }))
 
-  pub all_in_a_row : Link → StaysInARow answer_of after
+  pub all_in_a_row : OneLink answer_of after → StaysInARow answer_of after
   all_in_a_row given config handler steps answer is was =
       answers (IsInARow answer_of after config.reader handler) config handler steps answer is was (in_a_row given config handler (steps_done steps answer))
 
-  pub all_once : Link → HoldsOnce answer_of after
+  pub all_once : OneLink answer_of after → HoldsOnce answer_of after
   all_once given config handler steps answer is was within =
       answers (IsOnce answer_of after config.reader handler) config handler steps answer is was
       (λ done. once given config handler (steps_done steps answer) done within)

@@ -22,10 +22,11 @@ use Rattle.osdp_sim.specs.declared.fault.Cause.{Cause}
 use Rattle.osdp_sim.specs.declared.fault.Cause.TheVariants.{NotQuiet}
 use Rattle.osdp_sim.specs.declared.step.SimStep.{SimStep}
 use Rattle.osdp_sim.specs.declared.step.SimStep.TheVariants.{Issue, Queue, Busy, Wait, ToReader, ToController, Reopen}
+use Rattle.osdp_sim_laws.specs.OneLink.{ReadsPackets}
 use Rattle.osdp_sim_laws.specs.Moves.{clock_after, clock_behind, in_bytes, move_of, moves_of}
 use Rattle.osdp_sim_laws.proofs.Accounts.{Tells}
 use Rattle.osdp_sim_laws.proofs.Carrying.{ArePackets, IsCarried, is_quiet, issuing, nothing, queueing, reopening, setting_busy, ticking}
-use Rattle.osdp_sim_laws.proofs.Delivering.{ReadsPackets, says_what_fits, to_controller, to_reader}
+use Rattle.osdp_sim_laws.proofs.Delivering.{says_what_fits, to_controller, to_reader}
 
 module _ {H : Type 0} (answer_of : H → Command → Answer) (after : H → Command → H) where
   -- the simulation is carried on by these moves

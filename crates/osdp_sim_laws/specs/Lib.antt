@@ -1,3 +1,4 @@
 pub mod Moves
 pub mod Accounts
 pub mod Progress
+pub mod OneLink

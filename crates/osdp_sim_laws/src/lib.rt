@@ -2,13 +2,14 @@
 #![tactic(auto)]
 
 ghost use Rattle.osdp_sim_laws.specs.Accounts.{HoldsOnce, StaysInARow};
+ghost use Rattle.osdp_sim_laws.specs.OneLink.{OneLink};
 ghost use Rattle.osdp_sim_laws.specs.Progress.{ComesThrough, Recovers};
 
 use osdp_reader::Handler;
 
-/// Whatever a schedule says, in sessions in a row: each is once and in order, and the next begins with what it leaves.
-pub fn stays_in_a_row<H: Handler>()
-    ensures { StaysInARow H.answer_of H.after }
+/// What the laws of accounts stand on: a packet is read as it is spelled, and the theory of one link.
+pub fn stands_on_one_link<H: Handler>()
+    ensures { OneLink H.answer_of H.after }
 {
     osdp_sim::laws::reads_packets();
     osdp_frame_laws::one_spelling();
@@ -16,6 +17,13 @@ pub fn stays_in_a_row<H: Handler>()
     osdp_link::sessions_in_a_row::<H>();
     osdp_link::refuses_no_number::<H>();
     osdp_controller_laws::endings_are_told();
+}
+
+/// Whatever a schedule says, in sessions in a row: each is once and in order, and the next begins with what it leaves.
+pub fn stays_in_a_row<H: Handler>()
+    ensures { StaysInARow H.answer_of H.after }
+{
+    stands_on_one_link::<H>();
 }
 
 /// Whatever a schedule says that begins no session again: the commands that the reader has taken are a beginning of those issued, and
@@ -24,12 +32,7 @@ pub fn stays_in_a_row<H: Handler>()
 pub fn holds_once<H: Handler>()
     ensures { HoldsOnce H.answer_of H.after }
 {
-    osdp_sim::laws::reads_packets();
-    osdp_frame_laws::one_spelling();
-    osdp_link::holds_once::<H>();
-    osdp_link::sessions_in_a_row::<H>();
-    osdp_link::refuses_no_number::<H>();
-    osdp_controller_laws::endings_are_told();
+    stands_on_one_link::<H>();
 }
 
 /// Behind steps of one session that leave nothing on the line, both ends at one address, the reader not busy and no COMSET issued: over
@@ -38,12 +41,7 @@ pub fn holds_once<H: Handler>()
 pub fn comes_through<H: Handler>()
     ensures { ComesThrough H.answer_of H.after }
 {
-    osdp_sim::laws::reads_packets();
-    osdp_frame_laws::one_spelling();
-    osdp_link::holds_once::<H>();
-    osdp_link::sessions_in_a_row::<H>();
-    osdp_link::refuses_no_number::<H>();
-    osdp_controller_laws::endings_are_told();
+    stands_on_one_link::<H>();
     osdp_link::comes_through_in_time::<H>();
     osdp_controller_laws::stays_in_range();
 }
@@ -54,13 +52,8 @@ pub fn comes_through<H: Handler>()
 pub fn recovers<H: Handler>()
     ensures { Recovers H.answer_of H.after }
 {
-    osdp_sim::laws::reads_packets();
-    osdp_frame_laws::one_spelling();
-    osdp_link::holds_once::<H>();
-    osdp_link::sessions_in_a_row::<H>();
-    osdp_link::refuses_no_number::<H>();
+    stands_on_one_link::<H>();
     osdp_link::comes_through_in_time::<H>();
     osdp_link::stay_where_they_are::<H>();
-    osdp_controller_laws::endings_are_told();
     osdp_controller_laws::stays_in_range();
 }

@@ -1,19 +1,5 @@
-use Rattle.std.proofs.Common.{refl}
-use Rattle.osdp_frame.specs.Spelling.{spelling}
 use Rattle.osdp_sim_laws.proofs.Holding.{all_in_a_row}
 use Rattle.osdp_sim_laws.proofs.stays_in_a_row.Goals as goal
 
 pub returns : goal.returns
-returns g c =
-    all_in_a_row g.H.Handler.answer_of g.H.Handler.after (record {
-      reads = record {
-        one = λ p packet. c.reads_packets.ensures.one p (spelling p) ((c.one_spelling.ensures p (spelling p)).1 (packet, refl));
-        none = c.reads_packets.ensures.none;
-      };
-      once = c.holds_once.ensures;
-      row = c.sessions_in_a_row.ensures.row;
-      commands = c.sessions_in_a_row.ensures.commands;
-      events = c.sessions_in_a_row.ensures.events;
-      causes = c.refuses_no_number.ensures;
-      told = c.endings_are_told.ensures;
-    })
+returns g c = all_in_a_row g.H.Handler.answer_of g.H.Handler.after c.stands_on_one_link.ensures

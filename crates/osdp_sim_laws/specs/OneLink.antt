@@ -1,0 +1,30 @@
+-- What the laws of accounts stand on: how packets are read, and the theory of one link.
+use Rattle.std.specs.Prelude.{◌≡◌, ℕ, [], ◌∷◌}
+use Rattle.osdp_frame.specs.Packet.{IsPacket, Packet}
+use Rattle.osdp_frame.specs.Spelling.{spelling}
+use Rattle.osdp_msg.specs.declared.command.Command.{Command}
+use Rattle.osdp_controller.specs.declared.session.Session.{Session}
+use Rattle.osdp_controller_laws.specs.Commands.{TellsEnds}
+use Rattle.osdp_reader.specs.declared.handler.Answer.{Answer}
+use Rattle.osdp_link.specs.Headline.{HoldsOnce}
+use Rattle.osdp_link.specs.Refusals.{RefusesNoNumber}
+use Rattle.osdp_link.specs.Sessions.{CommandsHavePlaces, EventsHavePlaces, StayInARow}
+use Rattle.osdp_sim.specs.Line.{packets_in}
+
+-- a packet that goes over the line is read as it is, and where nothing comes through nothing is read
+pub record ReadsPackets : Type 0 where
+  pub one : (p : Packet) → IsPacket p → packets_in (spelling p) ≡ p ∷ []
+  pub none : packets_in [] ≡ []
+
+-- a session ends exactly where a report says so
+abbrev pub EndsAreTold : Type 0
+EndsAreTold = (now : ℕ) (s : Session) → TellsEnds now s
+
+pub record OneLink {H : Type 0} (answer_of : H → Command → Answer) (after : H → Command → H) : Type 0 where
+  pub reads : ReadsPackets
+  pub once : HoldsOnce answer_of after
+  pub row : StayInARow answer_of after
+  pub commands : CommandsHavePlaces answer_of after
+  pub events : EventsHavePlaces answer_of after
+  pub causes : RefusesNoNumber answer_of after
+  pub told : EndsAreTold
