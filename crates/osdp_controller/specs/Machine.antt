@@ -1,5 +1,5 @@
 -- What a controller is to its callers.
-use Rattle.std.specs.Prelude.{◌≡◌, ◌≢◌, ℕ, ◌+◌, ◌*◌, ◌≤◌, Bool, true, false, nat_le, nat_lt, if◌then◌else◌, max, All, List, [], ◌∷◌, ◌++◌, length, Option, Some, None, is_some, IfSome, ◌||◌, Result, Ok, Err}
+use Rattle.std.specs.Prelude.{◌≡◌, ◌≢◌, ℕ, ◌+◌, ◌*◌, ◌≤◌, Bool, true, false, nat_le, nat_lt, if◌then◌else◌, max, All, List, [], ◌∷◌, ◌++◌, drop, length, slice_get, Option, Some, None, is_some, IfSome, ◌||◌, Result, Ok, Err}
 use Rattle.osdp_frame.specs.Packet.{Packet}
 use Rattle.osdp_msg.specs.declared.command.Command.{Command}
 use Rattle.osdp_msg.specs.declared.command.Command.TheVariants.{Poll}
@@ -15,6 +15,7 @@ use Rattle.osdp_controller.specs.declared.step.Step.{Step}
 use Rattle.osdp_controller.specs.Exchanges.{submitted_command}
 use Rattle.osdp_controller.specs.Settings.{IsConfig}
 use Rattle.osdp_controller.specs.Sessions.{later, new_session, seen}
+use Rattle.osdp_controller.specs.States.{is_closed}
 use Rattle.osdp_controller.specs.Ticking.{ticks}
 use Rattle.osdp_controller.specs.Hearing.{hears}
 
@@ -68,6 +69,16 @@ submit_refusal _ m = if nat_lt (length m.waiting) m.capacity then None else Some
 
 abbrev pub after_submit : Command → Machine → Machine
 after_submit command m = record m { waiting = m.waiting ++ command ∷ [] }
+
+-- withdrawing: in a controller that is closed the command that has waited longest leaves and comes back; else nothing happens
+abbrev pub withdrawn_in : State → List Command → Option Command
+withdrawn_in state waiting = if is_closed state then slice_get waiting 0 else None
+
+abbrev pub kept_in : State → List Command → List Command
+kept_in state waiting = if is_closed state then drop 1 waiting else waiting
+
+abbrev pub after_withdraw : Machine → Machine
+after_withdraw m = record m { waiting = kept_in m.session.state m.waiting }
 
 -- a session begins with a quiet line; the commands that wait stay, in their order
 abbrev pub begin_refusal : Machine → Option ControllerFault

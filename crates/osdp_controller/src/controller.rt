@@ -2,7 +2,7 @@
 
 ghost use Rattle.circular_buffer.specs.Buffer.{buffer};
 ghost use Rattle.osdp_controller.specs.Private.{next_in, rest_in};
-ghost use Rattle.std.specs.Prelude.{◌≡◌, ◌↔◌, ◌*◌, ◌+◌, ◌≤◌, IfErr, None, Some, OnOk};
+ghost use Rattle.std.specs.Prelude.{◌≡◌, ◌↔◌, ◌*◌, ◌+◌, ◌≤◌, IfErr, None, Some, OnOk, length};
 
 use crate::config::{ControllerConfig, is_device};
 use crate::exchange::Exchange;
@@ -39,7 +39,7 @@ impl Model for Controller {
 }
 
 impl Controller {
-    ghost use Rattle.osdp_controller.specs.Machine.{IsMachine, NewEnds, after_begin, after_frame, after_retarget, after_submit, after_tick, begin_refusal, changed_unless, is_due, IsDeadline, is_outstanding, retarget_refusal, sent_in, submit_refusal, unless_refused};
+    ghost use Rattle.osdp_controller.specs.Machine.{IsMachine, NewEnds, after_begin, after_frame, after_retarget, after_submit, after_tick, after_withdraw, begin_refusal, changed_unless, is_due, IsDeadline, is_outstanding, retarget_refusal, sent_in, submit_refusal, unless_refused, withdrawn_in};
     ghost use Rattle.osdp_controller.specs.Hearing.{hears};
     ghost use Rattle.osdp_controller.specs.States.{is_closed};
     ghost use Rattle.osdp_controller.specs.Ticking.{ticks};
@@ -123,6 +123,27 @@ impl Controller {
             Ok(()) => Ok(()),
             Err(command) => Err((ControllerFault::Full, command)),
         }
+    }
+
+    /// How many commands wait. The outstanding one isn't counted.
+    pub fn waiting(&self) -> usize
+        ensures { result ≡ length self.now.waiting }
+    {
+        self.waiting.len()
+    }
+
+    /// Takes back the command that has waited longest: it won't be sent. None where none waits.
+    ///
+    /// None unless the controller is closed, and nothing has changed then: a session that has begun asks its
+    /// commands in their order.
+    pub fn withdraw(&mut self) -> Option<Command>
+        ensures command { result ≡ withdrawn_in self.old.session.state self.old.waiting }
+        ensures machine { self.new ≡ after_withdraw self.old }
+    {
+        if !self.session.state.is_closed() {
+            return None;
+        }
+        self.waiting.pop_front()
     }
 
     /// Begins a session: the line is left quiet for the quiet wait, then the opening ID goes out.

@@ -15,7 +15,7 @@ use Rattle.osdp_controller.specs.declared.state.State.TheVariants.{Closed, Quiet
 use Rattle.osdp_controller.specs.Answers.{answer_of}
 use Rattle.osdp_controller.specs.Hearing.{Heard, hears}
 use Rattle.osdp_controller.specs.Machine.{IsMachine, IsOutstanding, IsSession, IsState, IsSubmitted, Machine, OpensAtZero, after_begin, after_retarget, is_outstanding, sent_in, submit_refusal}
-use Rattle.osdp_controller_laws.specs.Runs.{Call, Submit, Begin, Retarget, Tick, Hear, Lasts, SendsFew, after_call, frames, sent_by}
+use Rattle.osdp_controller_laws.specs.Runs.{Call, Submit, Begin, Retarget, Withdraw, Tick, Hear, Lasts, SendsFew, after_call, frames, sent_by}
 use Rattle.osdp_controller.specs.Sessions.{seen}
 use Rattle.osdp_controller.specs.Ticking.{Ticked, begins, gives_up, sends_frame, stays, ticks_in, tries_again}
 use Rattle.osdp_controller_laws.proofs.Frames.{either_frame}
@@ -71,6 +71,7 @@ keeps_call (Begin now) m h is =
     subst (λ (k : Machine). IsSession k.session) (sym (not_begun m.session.state m (after_begin now m) h)) is
 keeps_call (Retarget address) m h is =
     subst (λ (k : Machine). IsSession k.session) (sym (not_moved m.session.state address m (after_retarget address m) h)) is
+keeps_call Withdraw m h is = is
 keeps_call (Tick now) m h is =
     keeps_out m.session.state (seen now m.session) m.waiting h (keeps_ticks m.session.state (seen now m.session) (keeps_seen now m.session is) is.state is.opening)
 keeps_call (Hear p now) m h is = keeps_hears p now m.session is
@@ -79,6 +80,7 @@ keeps_sent : (call : Call) (m : Machine) (p : Packet) → IsMachine m → sent_b
 keeps_sent (Submit command) m p is e = cc
 keeps_sent (Begin now) m p is e = cc
 keeps_sent (Retarget address) m p is e = cc
+keeps_sent Withdraw m p is e = cc
 keeps_sent (Tick now) m p is e =
     keeps_tick m.session.state (seen now m.session) m.waiting (keeps_seen now m.session is.session) is.session.state is.session.opening is.waiting
 keeps_sent (Hear q now) m p is e = cc

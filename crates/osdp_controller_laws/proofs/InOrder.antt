@@ -1,6 +1,6 @@
 -- Each accepted command is asked and told once, by its place.
-use Rattle.std.proofs.Common.{◌≡◌, ◌∙◌, ap, sym, subst, inl, inr, ℕ, ◌+◌, ◌≤◌, false, List, [], ◌∷◌, ◌++◌, Option, Some, None, refl, arith, append_assoc, append-nil}
-use Rattle.std.specs.Prelude.{if◌then◌else◌, ◌&&◌, ◌==◌, nat_lt, nat_le, is_none, is_some, option_to_list, ◌⊎◌}
+use Rattle.std.proofs.Common.{◌≡◌, ◌∙◌, ap, sym, subst, inl, inr, ℕ, ◌+◌, ◌≤◌, Bool, true, false, List, [], ◌∷◌, ◌++◌, Option, Some, None, refl, arith, append_assoc, append-nil}
+use Rattle.std.specs.Prelude.{if◌then◌else◌, ◌&&◌, ◌==◌, nat_lt, nat_le, is_none, is_some, option_to_list, drop, slice_get, ◌⊎◌}
 use Rattle.std.proofs.lemmas.Bool.{ne_eqb}
 use Rattle.osdp_frame.specs.Packet.{Packet, next_sequence}
 use Rattle.osdp_msg.specs.declared.command.Command.{Command}
@@ -13,13 +13,14 @@ use Rattle.osdp_controller.specs.declared.report.Report.{Report}
 use Rattle.osdp_controller.specs.declared.session.Session.{Session}
 use Rattle.osdp_controller.specs.declared.state.State.{State}
 use Rattle.osdp_controller.specs.declared.state.State.TheVariants.{Closed, Quiet, Idle, Waiting, Pausing}
-use Rattle.osdp_controller_laws.specs.Commands.{CommandsByPlace, GoesOn, IsAnswered, accepted, accepted_by, asked, asked_by, asked_in, command_of, told, told_command}
+use Rattle.osdp_controller_laws.specs.Commands.{CommandsByPlace, GoesOn, IsAnswered, accepted, accepted_by, asked, asked_by, asked_in, command_of, left, told, told_command, withdrawn, withdrawn_by}
 use Rattle.osdp_controller.specs.Exchanges.{submitted_command}
 use Rattle.osdp_controller.specs.Hearing.{Heard, hears}
 use Rattle.osdp_controller_laws.specs.Laws.{exchange_in}
 use Rattle.osdp_controller.specs.Machine.{IsMachine, IsState, Machine, after_begin, after_retarget, after_submit, changed_unless, is_outstanding, refused_unless_closed, retarget_refusal, sent_in, submit_refusal}
-use Rattle.osdp_controller_laws.specs.Runs.{Call, Submit, Begin, Retarget, Tick, Hear, after_call, after_calls, told_by}
+use Rattle.osdp_controller_laws.specs.Runs.{Call, Submit, Begin, Retarget, Withdraw, Tick, Hear, after_call, after_calls, told_by}
 use Rattle.osdp_controller.specs.Sessions.{seen}
+use Rattle.osdp_controller.specs.States.{is_closed}
 use Rattle.osdp_controller.specs.Ticking.{Ticked, begins, gives_up, sends_frame, stays, ticks_in, tries_again}
 use Rattle.osdp_controller.proofs.Choices.{either_way}
 use Rattle.osdp_controller_laws.proofs.Endings.{frame_ends}
@@ -29,13 +30,13 @@ use Rattle.osdp_controller_laws.proofs.Well.{keeps_each}
 abbrev listed : Option Command → List Command
 listed o = option_to_list o
 
--- one call: what it asks leaves the waiting commands, and what is told was outstanding or is asked
-record OneByPlace (before : Option Command) (w : List Command) (new ask tell after : Option Command) (rest : List Command) : Type 0 where
-  waits : listed ask ++ rest ≡ w ++ listed new
+-- one call: what it asks or takes back leaves the waiting commands, and what is told was outstanding or is asked
+record OneByPlace (before : Option Command) (w : List Command) (new ask back tell after : Option Command) (rest : List Command) : Type 0 where
+  waits : listed ask ++ listed back ++ rest ≡ w ++ listed new
   tells : listed before ++ listed ask ≡ listed tell ++ listed after
 
 -- a call that asks, accepts and tells nothing
-nothing_new : (before after : Option Command) (w : List Command) → after ≡ before → OneByPlace before w None None None after w
+nothing_new : (before after : Option Command) (w : List Command) → after ≡ before → OneByPlace before w None None None None after w
 nothing_new before after w e = record {
   waits = sym (append-nil w);
   tells = append-nil (listed before) ∙ ap listed (sym e);
@@ -47,7 +48,7 @@ abbrev asked_after : Ticked → Option Command
 asked_after t = if is_some t.step.frame && sent_in t.session.state == 1 then asked_in t.session.state else None
 
 abbrev TickByPlace : Option Command → List Command → Ticked → Type 0
-TickByPlace before w t = OneByPlace before w None (asked_after t) (told_command t.step.report) (asked_in t.session.state) t.waiting
+TickByPlace before w t = OneByPlace before w None (asked_after t) None (told_command t.step.report) (asked_in t.session.state) t.waiting
 
 -- a frame that isn't the first asks nothing
 not_first : (sent : ℕ) (o : Option Command) → 1 ≤ sent → (if sent + 1 == 1 then o else None) ≡ None
@@ -56,7 +57,7 @@ not_first sent o some = let no = ne_eqb (sent + 1) 1 (λ e. omega arith) in rw n
 sends_again : (sends : ℕ) (o : Outstanding) (s : Session) (w : List Command) → 1 ≤ o.sent
     → TickByPlace (submitted_command o.exchange) w (sends_frame sends o s w)
 sends_again sends o s w some =
-    subst (λ (asks : Option Command). OneByPlace (submitted_command o.exchange) w None asks None (submitted_command o.exchange) w)
+    subst (λ (asks : Option Command). OneByPlace (submitted_command o.exchange) w None asks None None (submitted_command o.exchange) w)
     (sym (not_first o.sent (submitted_command o.exchange) some)) (nothing_new (submitted_command o.exchange) (submitted_command o.exchange) w refl)
 
 gives_back : (o : Outstanding) (s : Session) (w : List Command) → TickByPlace (submitted_command o.exchange) w (gives_up o s w)
@@ -113,13 +114,13 @@ frame_tells (Some x) p now s h =
 -- calls that may be refused
 
 submit_by_place : (f : Option ControllerFault) (command : Command) (m : Machine)
-    → OneByPlace (asked_in m.session.state) m.waiting (if is_none f then Some command else None) None None
+    → OneByPlace (asked_in m.session.state) m.waiting (if is_none f then Some command else None) None None None
     (asked_in (changed_unless f m (after_submit command m)).session.state) (changed_unless f m (after_submit command m)).waiting
 submit_by_place None command m = record { waits = refl; tells = append-nil (listed (asked_in m.session.state)) }
 submit_by_place (Some fault) command m = nothing_new (asked_in m.session.state) (asked_in m.session.state) m.waiting refl
 
 abbrev Unchanged : Machine → Machine → Type 0
-Unchanged m k = OneByPlace (asked_in m.session.state) m.waiting None None None (asked_in k.session.state) k.waiting
+Unchanged m k = OneByPlace (asked_in m.session.state) m.waiting None None None None (asked_in k.session.state) k.waiting
 
 begin_by_place : (now : ℕ) (state : State) (m : Machine) → asked_in m.session.state ≡ asked_in state
     → Unchanged m (changed_unless (refused_unless_closed state) m (after_begin now m))
@@ -133,17 +134,24 @@ retarget_by_place : (f : Option ControllerFault) (address : ℕ) (m : Machine) �
 retarget_by_place None address m = nothing_new (asked_in m.session.state) (asked_in m.session.state) m.waiting refl
 retarget_by_place (Some fault) address m = nothing_new (asked_in m.session.state) (asked_in m.session.state) m.waiting refl
 
+withdraw_by_place : (b : Bool) (before : Option Command) (w : List Command)
+    → OneByPlace before w None None (if b then slice_get w 0 else None) None before (if b then drop 1 w else w)
+withdraw_by_place true before [] = nothing_new before before [] refl
+withdraw_by_place true before (command ∷ w) = record { waits = sym (append-nil (command ∷ w)); tells = append-nil (listed before) }
+withdraw_by_place false before w = nothing_new before before w refl
+
 -- each call
 
 abbrev CallByPlace : Call → Machine → Type 0
 CallByPlace call m =
-    OneByPlace (asked_in m.session.state) m.waiting (accepted_by call m) (asked_by call m) (told_command (told_by call m))
+    OneByPlace (asked_in m.session.state) m.waiting (accepted_by call m) (asked_by call m) (withdrawn_by call m) (told_command (told_by call m))
     (asked_in (after_call call m).session.state) (after_call call m).waiting
 
 call_by_place : (call : Call) (m : Machine) → IsMachine m → CallByPlace call m
 call_by_place (Submit command) m is = submit_by_place (submit_refusal command m) command m
 call_by_place (Begin now) m is = begin_by_place now m.session.state m refl
 call_by_place (Retarget address) m is = retarget_by_place (retarget_refusal address m) address m
+call_by_place Withdraw m is = withdraw_by_place (is_closed m.session.state) (asked_in m.session.state) m.waiting
 call_by_place (Tick now) m is = tick_by_place m.session.config m.session.state (seen now m.session) m.waiting is.session.state refl
 call_by_place (Hear p now) m is = record { waits = sym (append-nil m.waiting); tells = frame_tells (exchange_in m.session.state) p now m.session refl }
 
@@ -158,16 +166,42 @@ both_waits : (a b last now next w x : List Command) → a ++ next ≡ w ++ now �
 both_waits a b last now next w x e f =
     append_assoc a b last ∙ (ap (λ (l : List Command). a ++ l) f ∙ (sym (append_assoc a next x) ∙ (ap (λ (l : List Command). l ++ x) e ∙ append_assoc w now x)))
 
-pub commands_by_place : (m : Machine) (calls : List Call) → IsMachine m → CommandsByPlace m calls
-commands_by_place m [] is = record { asked_once = sym (append-nil m.waiting); told_once = append-nil (listed (asked_in m.session.state)) }
-commands_by_place m (call ∷ calls) is =
+leave_by_place : (m : Machine) (calls : List Call) → IsMachine m → left calls m ++ (after_calls calls m).waiting ≡ m.waiting ++ accepted calls m
+leave_by_place m [] is = sym (append-nil m.waiting)
+leave_by_place m (call ∷ calls) is =
     let one = call_by_place call m is in
-    let others = commands_by_place (after_call call m) calls (keeps_each call m is) in record {
-      asked_once =
-          both_waits (listed (asked_by call m)) (asked calls (after_call call m)) (after_calls calls (after_call call m)).waiting (listed (accepted_by call m))
-          (after_call call m).waiting m.waiting (accepted calls (after_call call m)) one.waits others.asked_once;
-      told_once =
-          both_steps (listed (asked_in m.session.state)) (listed (asked_by call m)) (listed (told_command (told_by call m)))
-          (listed (asked_in (after_call call m).session.state)) (asked calls (after_call call m)) (told calls (after_call call m))
-          (listed (asked_in (after_calls calls (after_call call m)).session.state)) one.tells others.told_once;
-    }
+    both_waits (listed (asked_by call m) ++ listed (withdrawn_by call m)) (left calls (after_call call m)) (after_calls calls (after_call call m)).waiting
+    (listed (accepted_by call m)) (after_call call m).waiting m.waiting (accepted calls (after_call call m)) one.waits
+    (leave_by_place (after_call call m) calls (keeps_each call m is))
+
+tell_by_place : (m : Machine) (calls : List Call) → IsMachine m
+    → listed (asked_in m.session.state) ++ asked calls m ≡ told calls m ++ listed (asked_in (after_calls calls m).session.state)
+tell_by_place m [] is = append-nil (listed (asked_in m.session.state))
+tell_by_place m (call ∷ calls) is =
+    let one = call_by_place call m is in
+    both_steps (listed (asked_in m.session.state)) (listed (asked_by call m)) (listed (told_command (told_by call m)))
+    (listed (asked_in (after_call call m).session.state)) (asked calls (after_call call m)) (told calls (after_call call m))
+    (listed (asked_in (after_calls calls (after_call call m)).session.state)) one.tells
+    (tell_by_place (after_call call m) calls (keeps_each call m is))
+
+-- where none is withdrawn those that leave are asked
+none_back : (ask back : Option Command) (taken gone rest : List Command) → listed back ++ taken ≡ [] → (taken ≡ [] → gone ≡ rest)
+    → listed ask ++ listed back ++ gone ≡ listed ask ++ rest
+none_back ask None taken gone rest none same =
+    ap (λ (l : List Command). l ++ gone) (append-nil (listed ask)) ∙ ap (λ (l : List Command). listed ask ++ l) (same none)
+none_back ask (Some command) taken gone rest none same = cc
+
+left_is_asked : (m : Machine) (calls : List Call) → withdrawn calls m ≡ [] → left calls m ≡ asked calls m
+left_is_asked m [] none = refl
+left_is_asked m (call ∷ calls) none =
+    none_back (asked_by call m) (withdrawn_by call m) (withdrawn calls (after_call call m)) (left calls (after_call call m))
+    (asked calls (after_call call m)) none (left_is_asked (after_call call m) calls)
+
+pub commands_by_place : (m : Machine) (calls : List Call) → IsMachine m → CommandsByPlace m calls
+commands_by_place m calls is = record {
+  left_once = leave_by_place m calls is;
+  asked_once =
+      λ none. subst (λ (l : List Command). l ++ (after_calls calls m).waiting ≡ m.waiting ++ accepted calls m) (left_is_asked m calls none)
+      (leave_by_place m calls is);
+  told_once = tell_by_place m calls is;
+}

@@ -30,7 +30,7 @@ use Rattle.osdp_controller.specs.Hearing.{Heard, answered, answered_unread, com_
 use Rattle.osdp_controller.specs.Private.{numbered_in}
 use Rattle.osdp_controller_laws.specs.Laws.{exchange_in}
 use Rattle.osdp_controller.specs.Machine.{Machine, acts, after_begin, after_retarget, after_submit, changed_unless, refused_unless_closed, retarget_refusal, submit_refusal}
-use Rattle.osdp_controller_laws.specs.Runs.{Call, Submit, Begin, Retarget, Tick, Hear, after_call, after_calls, sent_by}
+use Rattle.osdp_controller_laws.specs.Runs.{Call, Submit, Begin, Retarget, Withdraw, Tick, Hear, after_call, after_calls, sent_by}
 use Rattle.osdp_controller.specs.Sessions.{frame_of, later, seen}
 use Rattle.osdp_controller.specs.Ticking.{Ticked, begins, gives_up, sends_frame, stays, ticks_in, tries_again}
 use Rattle.osdp_controller.proofs.Choices.{either_way}
@@ -243,6 +243,7 @@ call_near : (call : Call) (m : Machine) → MachineNear m → MachineNear (after
 call_near (Submit command) m near = submit_near (submit_refusal command m) command m near
 call_near (Begin now) m near = begin_near now (refused_unless_closed m.session.state) m near
 call_near (Retarget address) m near = retarget_near (retarget_refusal address m) address m near
+call_near Withdraw m near = near
 call_near (Tick now) m near =
     let same = near_seen m.session.state m.session.number m.session now near in
     tick_near m.session.state (seen now m.session) m.waiting same same
@@ -318,6 +319,7 @@ frame_sent : (call : Call) (m : Machine) (p : Packet) → sent_by call m ≡ Som
 frame_sent (Submit command) m p e = cc
 frame_sent (Begin now) m p e = cc
 frame_sent (Retarget address) m p e = cc
+frame_sent Withdraw m p e = cc
 frame_sent (Tick now) m p e = sends_its_frame now m.session m.waiting p e
 frame_sent (Hear q now) m p e = cc
 

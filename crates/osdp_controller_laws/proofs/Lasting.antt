@@ -22,7 +22,7 @@ use Rattle.osdp_controller.specs.Answers.{answer_of}
 use Rattle.osdp_controller.specs.Hearing.{Heard, answered, answered_unread, com_of, command_answered, comset_of, hears, hears_busy, loses, moved_by, opening_answered, pausing_hears, pd_id_of, waiting_hears}
 use Rattle.osdp_controller.specs.Private.{numbered_in}
 use Rattle.osdp_controller.specs.Machine.{Machine, after_begin, after_retarget, after_submit, changed_unless, is_outstanding, or_no_device, refused_unless_closed, sent_in, submit_refusal}
-use Rattle.osdp_controller_laws.specs.Runs.{Call, Submit, Begin, Retarget, Tick, Hear, Lasts, ResendsTheSame, after_call, frames, sent_by}
+use Rattle.osdp_controller_laws.specs.Runs.{Call, Submit, Begin, Retarget, Withdraw, Tick, Hear, Lasts, ResendsTheSame, after_call, frames, sent_by}
 use Rattle.osdp_controller.specs.Sessions.{frame_of, later, seen}
 use Rattle.osdp_controller.specs.Ticking.{Ticked, begins, gives_up, sends_frame, stays, ticks_in, tries_again}
 use Rattle.osdp_controller.proofs.Choices.{either_way}
@@ -175,6 +175,7 @@ holds_call p c n (Begin now) m h at =
     (tt, subst (HoldsMachine p c n) (sym (not_begun m.session.state m (after_begin now m) h)) at)
 holds_call p c n (Retarget address) m h at =
     (tt, subst (HoldsMachine p c n) (sym (not_moved m.session.state address m (after_retarget address m) h)) at)
+holds_call p c n Withdraw m h at = (tt, at)
 holds_call p c n (Tick now) m h at =
     let same = holds_seen p c n now m.session.state m.session at in
     holds_ticks p c n m.session.state (seen now m.session) m.waiting h same same
@@ -210,6 +211,7 @@ pub first_sent : (call : Call) (m : Machine) (p : Packet) → sent_by call m ≡
 first_sent (Submit command) m p e = cc
 first_sent (Begin now) m p e = cc
 first_sent (Retarget address) m p e = cc
+first_sent Withdraw m p e = cc
 first_sent (Tick now) m p e =
     subst (HoldsSent m.session.config (ticks_in m.session.state (seen now m.session) m.waiting)) e (holds_first m.session.state (seen now m.session) m.waiting)
 first_sent (Hear q now) m p e = cc

@@ -25,7 +25,7 @@ use Rattle.osdp_controller_laws.specs.Calls.{BeginsWithFrame, KeepsSettings, Wai
 use Rattle.osdp_controller.specs.Hearing.{Heard, answered, answered_unread, com_of, command_answered, comset_of, event_in, hears, hears_busy, is_ack, loses, moved_by, opening_answered, pausing_hears, pd_id_of, poll_told, waiting_hears}
 use Rattle.osdp_controller.specs.Private.{numbered_in}
 use Rattle.osdp_controller.specs.Machine.{Machine, acts, after_begin, after_retarget, after_submit, changed_unless, is_outstanding, refused_unless_closed, retarget_refusal, submit_refusal}
-use Rattle.osdp_controller_laws.specs.Runs.{Call, Submit, Begin, Retarget, Tick, Hear}
+use Rattle.osdp_controller_laws.specs.Runs.{Call, Submit, Begin, Retarget, Withdraw, Tick, Hear}
 use Rattle.osdp_controller.specs.Sessions.{later, seen}
 use Rattle.osdp_controller.specs.Ticking.{Ticked, begins, gives_up, sends_frame, stays, ticks_in, tries_again}
 use Rattle.osdp_controller.proofs.Choices.{either_way}
@@ -76,6 +76,7 @@ pub begins_with_frame : (call : Call) (m : Machine) → BeginsWithFrame call m
 begins_with_frame (Submit command) m = submit_begins (submit_refusal command m) command m
 begins_with_frame (Begin now) m = begin_begins now m.session.state m
 begins_with_frame (Retarget address) m = retarget_begins (retarget_refusal address m) address m
+begins_with_frame Withdraw m = λ h k. cc
 begins_with_frame (Tick now) m = tick_begins m.session.state (seen now m.session) m.waiting refl
 begins_with_frame (Hear p now) m = frame_begins p now m.session
 
@@ -202,5 +203,6 @@ pub keeps_settings : (call : Call) (m : Machine) → KeepsSettings call m
 keeps_settings (Submit command) m = submit_sets (submit_refusal command m) command m
 keeps_settings (Begin now) m = begin_sets now (refused_unless_closed m.session.state) m
 keeps_settings (Retarget address) m = retarget_sets (retarget_refusal address m) address m
+keeps_settings Withdraw m = refl
 keeps_settings (Tick now) m = tick_sets m.session.state (seen now m.session) m.waiting
 keeps_settings (Hear p now) m = frame_sets p now m.session

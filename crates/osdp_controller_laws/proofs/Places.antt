@@ -21,7 +21,7 @@ use Rattle.osdp_controller.specs.Answers.{answer_of}
 use Rattle.osdp_controller.specs.Hearing.{Heard, answered, answered_unread, com_of, command_answered, comset_of, hears, hears_busy, loses, moved_by, opening_answered, pausing_hears, pd_id_of, waiting_hears}
 use Rattle.osdp_controller.specs.Private.{numbered_in}
 use Rattle.osdp_controller.specs.Machine.{Machine, after_begin, after_retarget, after_submit, changed_unless, is_outstanding, refused_unless_closed, retarget_refusal, sent_in, submit_refusal}
-use Rattle.osdp_controller_laws.specs.Runs.{Call, Submit, Begin, Retarget, Tick, Hear, HasNumberOfPlace, NumbersByPlace, after_call, after_calls, count_behind, count_from, exchanges_begun, sent_by}
+use Rattle.osdp_controller_laws.specs.Runs.{Call, Submit, Begin, Retarget, Withdraw, Tick, Hear, HasNumberOfPlace, NumbersByPlace, after_call, after_calls, count_behind, count_from, exchanges_begun, sent_by}
 use Rattle.osdp_controller.specs.Sessions.{later, seen}
 use Rattle.osdp_controller.specs.States.{is_closed}
 use Rattle.osdp_controller.specs.Ticking.{Ticked, begins, gives_up, sends_frame, stays, ticks_in, tries_again}
@@ -164,6 +164,7 @@ placed_call count (Submit command) m at =
 placed_call count (Begin now) m at = placed_begins count now m.session.state m at
 placed_call count (Retarget address) m at =
     either_machine (PlacedMachine count) (retarget_refusal address m) m (after_retarget address m) at at
+placed_call count Withdraw m at = at
 placed_call count (Tick now) m at = placed_ticks count m.session.state (seen now m.session) m.waiting at at
 placed_call count (Hear p now) m at = placed_hears count p now m.session at
 
@@ -213,6 +214,7 @@ pub sent_as : (call : Call) (m : Machine) (p : Packet) → sent_by call m ≡ So
 sent_as (Submit command) m p e = cc
 sent_as (Begin now) m p e = cc
 sent_as (Retarget address) m p e = cc
+sent_as Withdraw m p e = cc
 sent_as (Tick now) m p e =
     let t = ticks_in m.session.state (seen now m.session) m.waiting in
     subst (SentAs t) e (sends_as m.session.state (seen now m.session) m.waiting)

@@ -1,6 +1,6 @@
 -- What holds of each controller is kept by each call.
 use Rattle.std.proofs.Common.{◌≡◌, ℕ, ◌+◌, ◌<◌, ◌≤◌, Bool, true, false, List, [], ◌∷◌, length, Option, Some, None, refl, arith}
-use Rattle.std.specs.Prelude.{◌≢◌, if◌then◌else◌, All, nat_lt, nat_le}
+use Rattle.std.specs.Prelude.{◌≢◌, if◌then◌else◌, All, drop, nat_lt, nat_le}
 use Rattle.std.proofs.lemmas.Bool.{ltb-true}
 use Rattle.std.proofs.lemmas.List.{length_push}
 use Rattle.std.proofs.lemmas.List.Elements.{All-nil, All-push, All-tail}
@@ -14,10 +14,11 @@ use Rattle.osdp_controller.specs.declared.fault.ControllerFault.{ControllerFault
 use Rattle.osdp_controller.specs.declared.session.Session.{Session}
 use Rattle.osdp_controller.specs.declared.state.State.{State}
 use Rattle.osdp_controller.specs.declared.state.State.TheVariants.{Closed, Quiet, Idle, Waiting, Pausing}
-use Rattle.osdp_controller.specs.Machine.{IsMachine, IsOutstanding, IsState, IsSubmitted, Machine, after_begin, after_retarget, after_submit, changed_unless, or_no_device, refused_unless_closed, retarget_refusal, submit_refusal}
-use Rattle.osdp_controller_laws.specs.Runs.{Call, Submit, Begin, Retarget, Tick, Hear, StaysWell, after_call, after_calls}
+use Rattle.osdp_controller.specs.Machine.{IsMachine, IsOutstanding, IsState, IsSubmitted, Machine, after_begin, after_retarget, after_submit, after_withdraw, changed_unless, or_no_device, refused_unless_closed, retarget_refusal, submit_refusal}
+use Rattle.osdp_controller_laws.specs.Runs.{Call, Submit, Begin, Retarget, Withdraw, Tick, Hear, StaysWell, after_call, after_calls}
 use Rattle.osdp_controller.specs.Sessions.{seen}
 use Rattle.osdp_controller.specs.Settings.{IsConfig}
+use Rattle.osdp_controller.specs.States.{is_closed}
 use Rattle.osdp_controller.specs.Ticking.{Ticked, begins, gives_up, sends_frame, stays, ticks_in, tries_again}
 use Rattle.osdp_controller_laws.proofs.Bounded.{keeps_hears, keeps_tick}
 use Rattle.osdp_controller.proofs.Choices.{either_way}
@@ -101,6 +102,23 @@ keeps_retarget None address m device is = record {
 }
 keeps_retarget (Some fault) address m device is = is
 
+-- withdrawing: the front leaves, or none
+
+rest_well : (capacity : ℕ) (b : Bool) (w : List Command) → All IsSubmitted w → length w ≤ capacity
+    → All IsSubmitted (if b then drop 1 w else w) × (length (if b then drop 1 w else w) ≤ capacity)
+rest_well capacity true [] all room = (all, room)
+rest_well capacity true (command ∷ w) all room = (All-tail IsSubmitted command w all, omega arith)
+rest_well capacity false w all room = (all, room)
+
+keeps_withdraw : (m : Machine) → IsMachine m → IsMachine (after_withdraw m)
+keeps_withdraw m is =
+    let rest = rest_well m.capacity (is_closed m.session.state) m.waiting is.waiting is.room in record {
+      session = is.session;
+      capacity = is.capacity;
+      waiting = rest.0;
+      room = rest.1;
+    }
+
 -- ticks take the front of the waiting commands or none
 
 abbrev WaitWell : ℕ → Ticked → Type 0
@@ -128,6 +146,7 @@ keeps_each (Submit command) m is = keeps_submit (submit_refusal command m) comma
 keeps_each (Begin now) m is = keeps_begin now m.session.state m is
 keeps_each (Retarget address) m is =
     keeps_retarget (retarget_refusal address m) address m (is_device (refused_unless_closed m.session.state) address) is
+keeps_each Withdraw m is = keeps_withdraw m is
 keeps_each (Tick now) m is =
     let waits = wait_well m.capacity m.session.state (seen now m.session) m.waiting is.waiting is.room in record {
       session =

@@ -12,8 +12,8 @@ use Rattle.osdp_controller.specs.declared.state.State.{State}
 use Rattle.osdp_controller.specs.Exchanges.{submitted_command}
 use Rattle.osdp_controller.specs.Hearing.{hears}
 use Rattle.osdp_controller_laws.specs.Laws.{exchange_in}
-use Rattle.osdp_controller.specs.Machine.{Machine, submit_refusal}
-use Rattle.osdp_controller_laws.specs.Runs.{Call, Submit, after_call, after_calls, begins_exchange, told_by}
+use Rattle.osdp_controller.specs.Machine.{Machine, submit_refusal, withdrawn_in}
+use Rattle.osdp_controller_laws.specs.Runs.{Call, Submit, Withdraw, after_call, after_calls, begins_exchange, told_by}
 use Rattle.osdp_controller.specs.States.{is_closed}
 use Rattle.osdp_controller.specs.Ticking.{ticks}
 
@@ -73,11 +73,17 @@ abbrev pub accepted_by : Call → Machine → Option Command
 accepted_by (Submit command) m = if is_none (submit_refusal command m) then Some command else None
 accepted_by _ m = None
 
+-- the command that a call takes back from those that wait
+abbrev pub withdrawn_by : Call → Machine → Option Command
+withdrawn_by Withdraw m = withdrawn_in m.session.state m.waiting
+withdrawn_by _ m = None
+
 -- the command for which a call begins an exchange, with its first frame
 abbrev pub asked_by : Call → Machine → Option Command
 asked_by call m = if begins_exchange call m then asked_in (after_call call m).session.state else None
 
--- those of a list of calls, in order: the accepted, the asked and the told ones
+-- those of a list of calls, in order: the accepted, the asked, the withdrawn and the told ones, and those that no longer wait,
+-- asked or withdrawn
 abbrev pub accepted : List Call → Machine → List Command
 accepted [] m = []
 accepted (call ∷ calls) m = option_to_list (accepted_by call m) ++ accepted calls (after_call call m)
@@ -86,14 +92,23 @@ abbrev pub asked : List Call → Machine → List Command
 asked [] m = []
 asked (call ∷ calls) m = option_to_list (asked_by call m) ++ asked calls (after_call call m)
 
+abbrev pub withdrawn : List Call → Machine → List Command
+withdrawn [] m = []
+withdrawn (call ∷ calls) m = option_to_list (withdrawn_by call m) ++ withdrawn calls (after_call call m)
+
+abbrev pub left : List Call → Machine → List Command
+left [] m = []
+left (call ∷ calls) m = option_to_list (asked_by call m) ++ option_to_list (withdrawn_by call m) ++ left calls (after_call call m)
+
 abbrev pub told : List Call → Machine → List Command
 told [] m = []
 told (call ∷ calls) m = option_to_list (told_command (told_by call m)) ++ told calls (after_call call m)
 
--- by place, whatever is called: the commands that waited and then those accepted are asked once, in this order, and the
--- others wait; the outstanding command and then those asked are told once, in this order, but for the one that is
+-- by place, whatever is called: the commands that waited and then those accepted are asked or withdrawn once, in this order, and
+-- the others wait; where none was withdrawn all that no longer wait were asked; the outstanding command and then those asked are told once, in this order, but for the one that is
 -- outstanding in the end. So a told command is asked again only where it is accepted again.
 pub record CommandsByPlace (m : Machine) (calls : List Call) : Type 0 where
-  pub asked_once : asked calls m ++ (after_calls calls m).waiting ≡ m.waiting ++ accepted calls m
+  pub left_once : left calls m ++ (after_calls calls m).waiting ≡ m.waiting ++ accepted calls m
+  pub asked_once : withdrawn calls m ≡ [] → asked calls m ++ (after_calls calls m).waiting ≡ m.waiting ++ accepted calls m
   pub told_once : option_to_list (asked_in m.session.state) ++ asked calls m
       ≡ told calls m ++ option_to_list (asked_in (after_calls calls m).session.state)

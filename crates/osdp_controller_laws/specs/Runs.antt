@@ -6,7 +6,7 @@ use Rattle.osdp_controller.specs.declared.config.ControllerConfig.{ControllerCon
 use Rattle.osdp_controller.specs.declared.report.Report.{Report}
 use Rattle.osdp_controller.specs.Exchanges.{exchange_number}
 use Rattle.osdp_controller.specs.Hearing.{hears}
-use Rattle.osdp_controller.specs.Machine.{AreSettings, IsMachine, Machine, after_begin, after_frame, after_retarget, after_submit, after_tick, begin_refusal, changed_unless, is_outstanding, new_machine, retarget_refusal, sent_in, submit_refusal}
+use Rattle.osdp_controller.specs.Machine.{AreSettings, IsMachine, Machine, after_begin, after_frame, after_retarget, after_submit, after_tick, after_withdraw, begin_refusal, changed_unless, is_outstanding, new_machine, retarget_refusal, sent_in, submit_refusal}
 use Rattle.osdp_controller.specs.States.{is_closed}
 use Rattle.osdp_controller.specs.Ticking.{ticks}
 
@@ -15,6 +15,7 @@ pub data Call : Type 0 where
   Submit : Command → Call
   Begin : ℕ → Call
   Retarget : ℕ → Call
+  Withdraw : Call
   Tick : ℕ → Call
   Hear : Packet → ℕ → Call
 
@@ -23,6 +24,7 @@ abbrev pub after_call : Call → Machine → Machine
 after_call (Submit command) m = changed_unless (submit_refusal command m) m (after_submit command m)
 after_call (Begin now) m = changed_unless (begin_refusal m) m (after_begin now m)
 after_call (Retarget address) m = changed_unless (retarget_refusal address m) m (after_retarget address m)
+after_call Withdraw m = after_withdraw m
 after_call (Tick now) m = after_tick now m
 after_call (Hear p now) m = after_frame p now m
 
