@@ -8,7 +8,8 @@ use Rattle.osdp_reader.specs.Queue.{Queue, empty_queue, queued}
 pub record ReaderState (H : Type 0) : Type 0 where
   -- what it is, and the address that it has now
   pub config : ReaderConfig
-  -- the number of the command acted on last, if any
+  -- the last number: that of the packet that came last with number 0 or was taken, whether or not it held a command; none where the
+  -- reader is new or has moved
   pub last : Option ℕ
   -- the reply to the last taken command, if any
   pub stored : Option Packet
@@ -17,7 +18,7 @@ pub record ReaderState (H : Type 0) : Type 0 where
   pub handler : H
 
 module _ {H : Type 0} where
-  -- no command was acted on yet, nothing is stored, no event waits, and it isn't busy
+  -- no number is the last one, nothing is stored, no event waits, and it isn't busy
   abbrev pub new_reader : ReaderConfig → H → ℕ → ReaderState H
   new_reader config handler capacity = record {
     config = config;
@@ -28,10 +29,10 @@ module _ {H : Type 0} where
     handler = handler;
   }
 
-  -- behind an event that was accepted
+  -- after an event that was accepted
   abbrev pub after_submit : Event → ReaderState H → ReaderState H
   after_submit event r = record r { queue = queued event r.queue }
 
-  -- behind BUSY on or off
+  -- after BUSY on or off
   abbrev pub after_set_busy : Bool → ReaderState H → ReaderState H
   after_set_busy busy r = record r { busy = busy }

@@ -16,7 +16,7 @@ use Rattle.osdp_reader.specs.Queue.{event_for, offering, released, withdrawn}
 use Rattle.osdp_reader.specs.Replies.{own_reply, refused, reply_for, reply_packet, unread_reason}
 use Rattle.osdp_reader.specs.State.{ReaderState}
 
--- by the number of the command acted on last and the packet's number, which isn't 0
+-- by the last number and the packet's number, which isn't 0
 abbrev pub kind_by_number : Option ℕ → ℕ → Bool → Kind
 kind_by_number None sequence busy = Wrong
 kind_by_number (Some last) sequence busy =

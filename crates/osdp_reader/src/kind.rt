@@ -9,12 +9,12 @@ pub enum Kind {
     Secured,
     /// Sequence number 0, which begins anew.
     Zero,
-    /// The number of the command acted on last.
+    /// The last number, which isn't 0: that of the packet taken last.
     Repeat,
     /// The next number.
     Taken,
     /// Number 0 or the next, while the reader is busy.
     Busy,
-    /// Any other number.
+    /// Any other number; each but 0 where no number is the last one.
     Wrong,
 }

@@ -1,6 +1,6 @@
 //! The reader's machine: the device end of the link.
 //!
-//! A `Reader` is given the packets of the line and answers each by the reader's table. A command that comes again with its
+//! A `Reader` is given the packets of the line and answers each by the reader's table. A command that comes again with the last
 //! number, if that isn't 0, is answered by the reply that was kept and isn't acted on again; at number 0 each is acted on. Each
 //! event stays until the controller has it. What a command does is the matter of a `Handler`. Only `Reader::new` takes
 //! memory, and no rule depends on time.

@@ -234,7 +234,7 @@ fn zero() -> Seq
     Seq::new(0).unwrap()
 }
 
-/// The line of the table by the number of the command acted on last and that of a packet, which isn't 0.
+/// The line of the table by the last number and that of a packet, which isn't 0.
 fn kind_by_number(last: Option<Seq>, seq: Seq, busy: bool) -> Kind
     ensures { result ≡ kind_by_number last seq busy }
 {

@@ -17,7 +17,7 @@ pub enum Response {
     Secured(Burst),
     /// A command with number 0, which is acted on each time.
     Zero(Option<Command>, Burst),
-    /// The last command came again: its reply once more.
+    /// A packet with the last number, which isn't 0: the stored reply once more, as it was sent.
     Repeat(Burst),
     /// A command with the next number.
     Taken(Option<Command>, Burst),
