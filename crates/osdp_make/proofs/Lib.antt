@@ -1,3 +1,4 @@
 pub mod Names
 pub mod Orders
 pub mod Ordered
+pub mod Printing
