@@ -1,6 +1,8 @@
 -- What a response tells.
-use Rattle.std.specs.Prelude.{ℕ, List, [], Option, None}
+use Rattle.std.specs.Prelude.{ℕ, List, [], Option, None, Some, nat_le, if◌then◌else◌}
 use Rattle.osdp_msg.specs.declared.command.Command.{Command}
+use Rattle.osdp_msg.specs.declared.command.Command.TheVariants.{Comset}
+use Rattle.osdp_msg.specs.declared.command_fields.Communication.{Communication}
 use Rattle.osdp_reader.specs.declared.kind.Kind.{Kind}
 use Rattle.osdp_reader.specs.declared.kind.Kind.TheVariants as kind
 use Rattle.osdp_reader.specs.declared.response.Response.{Response}
@@ -25,6 +27,15 @@ response_command (Repeat burst) = None
 response_command (Taken command burst) = command
 response_command (Busy burst) = None
 response_command (Wrong burst) = None
+
+-- a COMSET to a device's address, which is accepted: the address and the rate that it sets
+abbrev pub accepted_comset : Option Command → Option Communication
+accepted_comset (Some (Comset c)) = if nat_le c.address 126 then Some c else None
+accepted_comset _ = None
+
+-- .. where one was acted on
+abbrev pub response_comset : Response → Option Communication
+response_comset response = accepted_comset (response_command response)
 
 -- the bytes to send
 abbrev pub response_bytes : Response → List ℕ

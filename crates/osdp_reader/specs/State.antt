@@ -36,3 +36,7 @@ module _ {H : Type 0} where
   -- after BUSY on or off
   abbrev pub after_set_busy : Bool → ReaderState H → ReaderState H
   after_set_busy busy r = record r { busy = busy }
+
+  -- after another handler: nothing else is another
+  abbrev pub after_set_handler : H → ReaderState H → ReaderState H
+  after_set_handler handler r = record r { handler = handler }

@@ -1,9 +1,11 @@
 //! The reader.
 
 ghost use Rattle.std.specs.Prelude.{◌≡◌, ◌↔◌, ◌<◌, ◌≤◌, ◌⊎◌, length, IfOk, IfErr, IfSome, IsErr, IsErrOf, OnOk, Some};
+ghost use Rattle.std.specs.Borrow.{Lends, sem};
+ghost use Rattle.osdp_reader.specs.contracts.reader.Reader.{the_row};
 ghost use Rattle.osdp_msg.specs.ReplyTable.{ReplyFits};
 ghost use Rattle.osdp_reader.specs.Spelled.{IsSpelled};
-ghost use Rattle.osdp_reader.specs.State.{after_set_busy, after_submit, new_reader};
+ghost use Rattle.osdp_reader.specs.State.{after_set_busy, after_set_handler, after_submit, new_reader};
 ghost use Rattle.osdp_reader.specs.Table.{begun, command_in, hears, kind_by_number, kind_of, moved, new_address, is_for_another, taken};
 ghost use Rattle.osdp_reader.specs.Responses.{response_bytes, response_command, response_kind};
 ghost use Rattle.osdp_reader.specs.declared.fault.ReaderFault.TheVariants.{OutOfRange};
@@ -21,6 +23,7 @@ use osdp_frame::{Address, Burst, FrameView, Seq};
 use osdp_msg::{Command, Event, MsgFault, NakReason, Reply};
 use std::alloc::Global;
 use std::marker::Model;
+use std::mem::replace;
 
 /// A reader on the line.
 #[derive(Drop)]
@@ -111,6 +114,24 @@ impl<H: Handler> Reader<H> {
         ensures { result.now ≡ self.now.handler }
     {
         &self.handler
+    }
+
+    /// The handler, for the device's program to change what it tells, such as its inputs. What is answered from the next packet on
+    /// is this handler's; a repeat still has the answer that was given.
+    pub fn handler_mut(&mut self) -> &mut H
+        ensures value { result.now ≡ self.old.handler }
+        ensures* writes_back { sem 𝓛 (Lends (the_row H.row H.Handler) H.row self.entry result (λ handler. after_set_handler handler self.old)) }
+    {
+        &mut self.handler
+    }
+
+    /// Sets another handler, and gives back the one before. What is answered from the next packet on is the new one's; a repeat
+    /// still has the answer that was given. Nothing else changes: events, the last number and the stored reply stay.
+    pub fn set_handler(&mut self, handler: H) -> H
+        ensures back { result ≡ self.old.handler }
+        ensures reader { self.new ≡ after_set_handler handler self.old }
+    {
+        replace(&mut self.handler, handler)
     }
 
     /// Takes a packet of the line. What comes of it is the reader's table.

@@ -7,3 +7,4 @@ pub mod Settings
 pub mod Repeating
 pub mod Sequences
 pub mod Addresses
+pub mod Handlers

@@ -6,7 +6,7 @@ use Rattle.osdp_reader.specs.declared.handler.Answer.{Answer}
 use Rattle.osdp_reader.specs.declared.kind.Kind.{Kind}
 use Rattle.osdp_reader.specs.declared.kind.Kind.TheVariants.{Repeat, Taken}
 use Rattle.osdp_reader_laws.specs.Laws.{ComesTo, KeepsWhatItTook}
-use Rattle.osdp_reader.specs.State.{ReaderState}
+use Rattle.osdp_reader.specs.State.{ReaderState, after_set_handler}
 use Rattle.osdp_reader.specs.Table.{hears, kind_of, outcome}
 
 module _ {H : Type 0} where
@@ -44,4 +44,20 @@ module _ {H : Type 0} where
         let repeat = is_repeat behind q (comes_there r behind q stays comes) unsecured
         (λ zero. taken_number r p is (sym same ∙ zero)) (kept.0 ∙ ap Some (sym same)) in
         let again = of_repeat behind q repeat in
+        (again.0 ∙ kept.1, again.1, again.2)
+
+    -- .. also where another handler was set in between
+    pub the_same_still : KeepsWhatItTook answer_of after → (r : ReaderState H) (p q : Packet) (handler : H) → kind_of r p ≡ Taken
+        → (hears answer_of after r p).reader.config.address ≡ r.config.address
+        → ComesTo r q → q.block ≡ false → q.sequence ≡ p.sequence
+        → let first = hears answer_of after r p in
+        let changed = after_set_handler handler first.reader in
+        let again = hears answer_of after changed q in
+        (again.reply ≡ first.reply) × (again.reader ≡ changed) × (again.command ≡ None)
+    the_same_still keeps r p q handler is stays comes unsecured same =
+        let kept = keeps r p is stays in
+        let behind = (hears answer_of after r p).reader in
+        let repeat = is_repeat behind q (comes_there r behind q stays comes) unsecured
+        (λ zero. taken_number r p is (sym same ∙ zero)) (kept.0 ∙ ap Some (sym same)) in
+        let again = of_repeat (after_set_handler handler behind) q repeat in
         (again.0 ∙ kept.1, again.1, again.2)

@@ -16,7 +16,7 @@ use Rattle.osdp_reader.specs.declared.kind.Kind.TheVariants.{Zero, Taken}
 use Rattle.osdp_reader_laws.specs.Answering.{answers, handler_behind}
 use Rattle.osdp_reader.specs.Replies.{reply_packet}
 use Rattle.osdp_reader.specs.Spelled.{IsSpelled}
-use Rattle.osdp_reader.specs.State.{ReaderState, after_set_busy, after_submit, new_reader}
+use Rattle.osdp_reader.specs.State.{ReaderState, after_set_busy, after_set_handler, after_submit, new_reader}
 use Rattle.osdp_reader.specs.Table.{answer_to, command_in, hears, kind_of}
 
 -- neither BUSY nor a NAK 1 or 4, which say that the command wasn't taken
@@ -92,6 +92,13 @@ module _ {H : Type 0} where
     pub command : p.reply ≡ false
     pub here : (p.address ≡ r.config.address) ⊎ (p.address ≡ 127)
 
+  -- but for what their handlers answered, two readers are the same
+  pub record DiffersByHandler (r s : ReaderState H) : Type 0 where
+    pub config : s.config ≡ r.config
+    pub last : s.last ≡ r.last
+    pub queue : s.queue ≡ r.queue
+    pub busy : s.busy ≡ r.busy
+
   module _ (answer_of : H → Command → Answer) (after : H → Command → H) where
     -- a packet with the number of the last command, which isn't 0, changes nothing, and no command reaches the handler
     abbrev pub ActsOnce : Type 0
@@ -119,6 +126,25 @@ module _ {H : Type 0} where
         → let first = hears answer_of after r p in
         let again = hears answer_of after first.reader q in
         (again.reply ≡ first.reply) × (again.reader ≡ first.reader) × (again.command ≡ None)
+
+    -- .. also where the device has set another handler since
+    abbrev pub AnswersTheSameStill : Type 0
+    AnswersTheSameStill = (r : ReaderState H) (p q : Packet) (handler : H) → kind_of r p ≡ Taken
+        → (hears answer_of after r p).reader.config.address ≡ r.config.address
+        → ComesTo r q → q.block ≡ false → q.sequence ≡ p.sequence
+        → let first = hears answer_of after r p in
+        let changed = after_set_handler handler first.reader in
+        let again = hears answer_of after changed q in
+        (again.reply ≡ first.reply) × (again.reader ≡ changed) × (again.command ≡ None)
+
+    -- another handler changes what is answered anew and stored by it, and nothing else: each packet is met by the same line of the
+    -- table, acts on the same command, and leaves the same address, last number and events
+    abbrev pub ChangesAnswersAlone : Type 0
+    ChangesAnswersAlone = (r : ReaderState H) (p : Packet) (handler : H) →
+        let other = after_set_handler handler r in
+        (kind_of other p ≡ kind_of r p)
+        × ((hears answer_of after other p).command ≡ (hears answer_of after r p).command)
+        × DiffersByHandler (hears answer_of after r p).reader (hears answer_of after other p).reader
 
     -- at number 0 a reader that isn't busy acts on each command, however often it comes
     abbrev pub ActsAtZero : Type 0
@@ -163,12 +189,14 @@ module _ {H : Type 0} where
         ((hears answer_of after r p).reply ≡ Some (reply_packet p p.sequence a.reply))
         × ((hears answer_of after r p).reader.handler ≡ a.handler)
 
-    -- what holds of a reader holds behind each of its calls: a packet, an event where there is room, and BUSY on or off
+    -- what holds of a reader holds behind each of its calls: a packet, an event where there is room, BUSY on or off, and
+    -- another handler
     abbrev pub IsKeptByCalls : (ReaderState H → Type 0) → Type 0
     IsKeptByCalls P =
         ((r : ReaderState H) (p : Packet) → P r → P (hears answer_of after r p).reader)
         × ((r : ReaderState H) (event : Event) → length r.queue.events ≢ r.queue.capacity → P r → P (after_submit event r))
         × ((r : ReaderState H) (busy : Bool) → P r → P (after_set_busy busy r))
+        × ((r : ReaderState H) (handler : H) → P r → P (after_set_handler handler r))
 
     -- it holds of each new reader too
     abbrev pub IsKept : (ReaderState H → Type 0) → Type 0

@@ -1,5 +1,5 @@
 -- What a packet does to what a reader keeps, line by line of its table.
-use Rattle.std.specs.Prelude.{◌≡◌, ◌≢◌, ◌≤◌, ◌⊎◌, [], ◌∷◌, true, false, List, drop, Some, None, Ok, Err}
+use Rattle.std.specs.Prelude.{◌≡◌, ◌≢◌, ◌≤◌, ◌⊎◌, ◌↔◌, [], ◌∷◌, true, false, List, drop, Some, None, Ok, Err}
 use Rattle.osdp_frame.specs.Packet.{Packet}
 use Rattle.osdp_msg.specs.declared.command.Command.{Command}
 use Rattle.osdp_msg.specs.declared.command.Command.TheVariants.{Comset, Poll}
@@ -11,6 +11,7 @@ use Rattle.osdp_msg.specs.Events.{event_reply}
 use Rattle.osdp_reader.specs.declared.handler.Answer.{Answer}
 use Rattle.osdp_reader.specs.declared.kind.Kind.TheVariants.{Zero, Taken}
 use Rattle.osdp_reader.specs.Replies.{refused, reply_packet, unread_reason}
+use Rattle.osdp_reader.specs.Responses.{accepted_comset}
 use Rattle.osdp_reader.specs.State.{ReaderState}
 use Rattle.osdp_reader.specs.Table.{command_in, hears, kind_of}
 
@@ -24,6 +25,15 @@ module _ {H : Type 0} (answer_of : H → Command → Answer) (after : H → Comm
   abbrev pub TellsItsCommand : Type 0
   TellsItsCommand = (r : ReaderState H) (p : Packet) (command : Command) → (kind_of r p ≡ Zero) ⊎ (kind_of r p ≡ Taken)
       → command_in p ≡ Ok command → (hears answer_of after r p).command ≡ Some command
+
+  -- a COMSET to a device's address that is acted on is told with its address and rate, nothing else is, and the reader is at that
+  -- address then
+  abbrev pub TellsItsComset : Type 0
+  TellsItsComset = (r : ReaderState H) (p : Packet) (asked : Communication)
+      → ((accepted_comset (hears answer_of after r p).command ≡ Some asked)
+      ↔ (((kind_of r p ≡ Zero) ⊎ (kind_of r p ≡ Taken)) × (command_in p ≡ Ok (Comset asked)) × (asked.address ≤ 126)))
+      × (accepted_comset (hears answer_of after r p).command ≡ Some asked
+      → (hears answer_of after r p).reader.config.address ≡ asked.address)
 
   -- .. or, where they hold none, refuse it, and the handler stays
   abbrev pub RefusesUnread : Type 0

@@ -2,8 +2,8 @@
 //! and hold whatever the handler does.
 #![tactic(auto)]
 
-ghost use Rattle.osdp_reader_laws.specs.Laws.{ActsAtZero, ActsOnce, AnswersByWhatCame, AnswersInOrder, AnswersPlainly, AnswersTaken, AnswersTheSameAgain, AnswersWhereverItIs, ForgetsWhereItMoves, HasOneSpelling, HasRoom, HearsItsAddress, IsKept, KeepsReply, KeepsWhatItTook, LosesNoEvent, RefusesBlocks, RefusesNumbers, RepeatsItsReply, RepliesToItsCommand, SaysBusy, SendsWhatItSays, StaysADevice, TakesNext, TellsItsOffer};
-ghost use Rattle.osdp_reader_laws.specs.Steps.{AnswersPolls, BeginsAnew, ChangesByActing, KeepsItsSettings, LetsItsOfferGo, MovesByComsetAlone, OffersToPollsAlone, RefusesUnread, TellsItsCommand};
+ghost use Rattle.osdp_reader_laws.specs.Laws.{ActsAtZero, ActsOnce, AnswersByWhatCame, AnswersInOrder, AnswersPlainly, AnswersTaken, AnswersTheSameAgain, AnswersTheSameStill, AnswersWhereverItIs, ChangesAnswersAlone, ForgetsWhereItMoves, HasOneSpelling, HasRoom, HearsItsAddress, IsKept, KeepsReply, KeepsWhatItTook, LosesNoEvent, RefusesBlocks, RefusesNumbers, RepeatsItsReply, RepliesToItsCommand, SaysBusy, SendsWhatItSays, StaysADevice, TakesNext, TellsItsOffer};
+ghost use Rattle.osdp_reader_laws.specs.Steps.{AnswersPolls, BeginsAnew, ChangesByActing, KeepsItsSettings, LetsItsOfferGo, MovesByComsetAlone, OffersToPollsAlone, RefusesUnread, TellsItsCommand, TellsItsComset};
 
 use osdp_reader::Handler;
 
@@ -19,6 +19,13 @@ pub fn acts_once<H: Handler>()
 pub fn keeps_what_it_took<H: Handler>()
     ensures kept { KeepsWhatItTook H.answer_of H.after }
     ensures again { AnswersTheSameAgain H.answer_of H.after }
+{}
+
+/// A handler that the device sets answers from the next packet on, and nothing else changes. A number that comes again has the answer
+/// that was given.
+pub fn changes_answers_alone<H: Handler>()
+    ensures alone { ChangesAnswersAlone H.answer_of H.after }
+    ensures again { AnswersTheSameStill H.answer_of H.after }
 {}
 
 /// Bytes that spell the same packet are the same, so a repeated reply is the stored one byte for byte.
@@ -57,6 +64,11 @@ pub fn changes_by_acting<H: Handler>()
 pub fn tells_its_command<H: Handler>()
     ensures read { TellsItsCommand H.answer_of H.after }
     ensures unread { RefusesUnread H.answer_of H.after }
+{}
+
+/// An address and a rate are told exactly where a COMSET to a device's address is acted on, and are its own.
+pub fn tells_its_comset<H: Handler>()
+    ensures { TellsItsComset H.answer_of H.after }
 {}
 
 /// No packet changes whether the reader is busy, how many events there may be, or what it answers to ID and CAP.

@@ -13,6 +13,7 @@ returns-clause-reply g c = (
     (λ r p keeps. outcome_stored g.H.Handler.answer_of g.H.Handler.after (kind_of r p) r p keeps),
     (λ r event free keeps. keeps),
     (λ r busy keeps. keeps),
+    (λ r handler keeps. keeps),
   ),
 )
 
@@ -25,6 +26,9 @@ returns-clause-offer g c = (
     (λ r busy tells offered.
         let is = (tells offered).1.1 in
         ((tells offered).0, ((tells offered).1.0, record { front = is.front; stored = is.stored; number = is.number; body = is.body }))),
+    (λ r handler tells offered.
+        let is = (tells offered).1.1 in
+        ((tells offered).0, ((tells offered).1.0, record { front = is.front; stored = is.stored; number = is.number; body = is.body }))),
   ),
 )
 
@@ -35,6 +39,7 @@ returns-clause-room g c = (
     (λ r p room. outcome_room g.H.Handler.answer_of g.H.Handler.after (kind_of r p) r p room),
     (λ r event free room. submit_room r event free room),
     (λ r busy room. room),
+    (λ r handler room. room),
   ),
 )
 
@@ -45,5 +50,6 @@ returns-clause-address g c = (
     (λ r p device. outcome_device g.H.Handler.answer_of g.H.Handler.after (kind_of r p) r p device),
     (λ r event free device. device),
     (λ r busy device. device),
+    (λ r handler device. device),
   ),
 )
