@@ -58,6 +58,7 @@ fn with_room(bytes: &[u8]) -> ArrayVec<u8, 1434>
 /// An exchange that waits for its answer.
 #[derive(Debug, Drop)]
 pub struct Outstanding {
+    /// The opening ID, the POLL or the command that waits for its answer.
     pub exchange: Exchange,
     /// How often the reader answered BUSY.
     pub busies: u8,

@@ -12,7 +12,9 @@ use osdp_frame::{Frame, Seq};
 /// A session with one reader.
 #[derive(Debug, Drop)]
 pub struct Session {
+    /// The settings; the address changes by Moved and between sessions.
     pub config: ControllerConfig,
+    /// Where the session stands, with its deadline.
     pub state: State,
     /// The sequence number of the latest exchange.
     pub number: Seq,

@@ -10,6 +10,7 @@ use osdp_frame::Frame;
 pub struct Step {
     /// The frame to send now.
     pub frame: Option<Frame>,
+    /// What is to be told now: by a tick only that the session has ended.
     pub report: Option<Report>,
 }
 

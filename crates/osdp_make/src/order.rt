@@ -24,9 +24,13 @@ pub enum Message {
 /// A packet as its words order it.
 #[derive(Debug, Drop)]
 pub struct PacketOrder {
+    /// The address, 0 to 127.
     pub address: Address,
+    /// The sequence number, 0 to 3.
     pub seq: Seq,
+    /// Which check the packet ends with.
     pub check: CheckKind,
+    /// The command or reply in its body.
     pub message: Message,
 }
 

@@ -11,7 +11,9 @@ pub struct Capability {
     /// 8 check characters, 9 security, 10 receive buffer size, 11 largest combined message,
     /// 12 smart card, 13 readers, 14 biometrics.
     pub function: u8,
+    /// The level of compliance, whose meaning depends on the function code.
     pub level: u8,
+    /// How many there are, as of outputs or LEDs; its meaning depends on the function code.
     pub count: u8,
 }
 

@@ -15,6 +15,7 @@ use std::fmt;
 /// How the buzzer of a reader sounds.
 #[derive(Clone, Copy, Debug, PartialEq, Eq)]
 pub struct Buzzer {
+    /// The reader of the device, counted from 0.
     pub reader: u8,
     /// 0 none, 1 off, 2 default.
     pub tone: u8,
@@ -86,13 +87,17 @@ impl Buzzer {
 /// What the display of a reader shows.
 #[derive(Debug, Drop, PartialEq)]
 pub struct Text {
+    /// The reader of the device, counted from 0.
     pub reader: u8,
     /// 1 permanent, 2 permanent with wrap, 3 temporary, 4 temporary with wrap.
     pub command: u8,
     /// In seconds, of a temporary text.
     pub time: u8,
+    /// The row of the first character, counted from 1.
     pub row: u8,
+    /// The column of the first character, counted from 1.
     pub column: u8,
+    /// The characters, 0 to 255 bytes.
     pub characters: ArrayVec<u8, 255>,
 }
 
@@ -173,6 +178,7 @@ impl Text {
 /// How a device communicates, as the controller sets it and the device confirms it.
 #[derive(Clone, Copy, Debug, PartialEq, Eq)]
 pub struct Communication {
+    /// The device's new address; one above 126 is refused.
     pub address: u8,
     /// In bits per second.
     pub baud_rate: u32,
@@ -221,7 +227,9 @@ impl Communication {
 /// A message of a device's maker, with the maker's code in front.
 #[derive(Debug, Drop, PartialEq)]
 pub struct MakerMessage {
+    /// The maker's code, three bytes.
     pub vendor: [u8; 3],
+    /// What follows it, 0 to 1,429 bytes.
     pub bytes: ArrayVec<u8, 1429>,
 }
 

@@ -19,21 +19,31 @@ use std::marker::Model;
 /// 5 magenta, 6 cyan, 7 white.
 #[derive(Clone, Copy, Debug, Default, PartialEq, Eq)]
 pub struct LedRecord {
+    /// The reader of the device, counted from 0.
     pub reader: u8,
+    /// The LED of the reader, counted from 0.
     pub led: u8,
     /// 0 nothing, 1 cancel, 2 set.
     pub temporary_control: u8,
+    /// In 100 ms.
     pub temporary_on_time: u8,
+    /// In 100 ms.
     pub temporary_off_time: u8,
+    /// 0 to 7, as above.
     pub temporary_on_color: u8,
+    /// 0 to 7, as above.
     pub temporary_off_color: u8,
     /// How long the temporary state lasts.
     pub timer: u16,
     /// 0 nothing, 1 set.
     pub permanent_control: u8,
+    /// In 100 ms.
     pub permanent_on_time: u8,
+    /// In 100 ms.
     pub permanent_off_time: u8,
+    /// 0 to 7, as above.
     pub permanent_on_color: u8,
+    /// 0 to 7, as above.
     pub permanent_off_color: u8,
 }
 

@@ -18,6 +18,7 @@ use std::marker::Model;
 /// What one output is to do.
 #[derive(Clone, Copy, Debug, Default, PartialEq, Eq)]
 pub struct OutputRecord {
+    /// The output of the device, counted from 0.
     pub output: u8,
     /// 0 no change; 1 off for good, timed operation ended; 2 on for good, timed operation ended;
     /// 3 off for good, timed operation left to end; 4 on for good, timed operation left to end;

@@ -17,7 +17,9 @@ use std::fmt;
 /// Why a command wasn't done.
 #[derive(Debug, Drop, PartialEq)]
 pub struct Nak {
+    /// Why the command was not acted on.
     pub reason: NakReason,
+    /// What follows the reason, 0 to 1,431 bytes.
     pub detail: ArrayVec<u8, 1431>,
 }
 
@@ -90,12 +92,19 @@ impl Nak {
 /// What a device is.
 #[derive(Clone, Copy, Debug, PartialEq, Eq)]
 pub struct PdId {
+    /// The maker's code, three bytes.
     pub vendor: [u8; 3],
+    /// The maker's number of the model.
     pub model: u8,
+    /// The maker's number of the model's version.
     pub version: u8,
+    /// The serial number.
     pub serial: u32,
+    /// The first number of the firmware's version.
     pub firmware_major: u8,
+    /// The second number of the firmware's version.
     pub firmware_minor: u8,
+    /// The third number of the firmware's version.
     pub firmware_build: u8,
 }
 
@@ -174,6 +183,7 @@ impl PdId {
 /// What a device can do.
 #[derive(Debug, Drop, PartialEq)]
 pub struct PdCap {
+    /// What the device can do, 0 to 477 records.
     pub capabilities: ArrayVec<Capability, 477>,
 }
 
@@ -191,7 +201,9 @@ impl PdCap {
 /// The state of the device itself.
 #[derive(Clone, Copy, Debug, PartialEq, Eq)]
 pub struct LocalState {
+    /// 0 normal, 1 tampered with.
     pub tamper: u8,
+    /// 0 normal, 1 power failure.
     pub power: u8,
 }
 
@@ -232,8 +244,11 @@ impl LocalState {
 /// A card as the reader formatted it.
 #[derive(Debug, Drop, PartialEq)]
 pub struct Formatted {
+    /// The reader of the device, counted from 0.
     pub reader: u8,
+    /// 0 forward, 1 backward.
     pub direction: u8,
+    /// The characters of the card, 0 to 255 bytes.
     pub digits: ArrayVec<u8, 255>,
 }
 
@@ -295,7 +310,9 @@ impl Formatted {
 /// Keys that were pressed.
 #[derive(Debug, Drop, PartialEq)]
 pub struct Keypad {
+    /// The reader of the device, counted from 0.
     pub reader: u8,
+    /// The keys in their order, 0 to 255 bytes.
     pub digits: ArrayVec<u8, 255>,
 }
 

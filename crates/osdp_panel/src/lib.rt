@@ -73,7 +73,9 @@ pub struct Turn {
 /// A controller, and what has come on its line and isn't read to its end.
 #[derive(Debug, Drop)]
 pub struct Panel {
+    /// The controller's end of the link.
     pub controller: Controller,
+    /// The bytes that have come and aren't read to their end.
     pub framer: Receiver,
 }
 

@@ -20,12 +20,19 @@ pub enum End {
 /// How long the lists of an account were.
 #[derive(Clone, Copy, Debug, PartialEq, Eq)]
 pub struct Lengths {
+    /// How many commands were accepted.
     pub issued: usize,
+    /// How many commands the reader had taken.
     pub taken: usize,
+    /// How many commands were settled.
     pub settled: usize,
+    /// How many commands were told unsettled.
     pub unsettled: usize,
+    /// How many events were accepted.
     pub queued: usize,
+    /// How many events were reported.
     pub reported: usize,
+    /// How many sessions had ended.
     pub ends: usize,
 }
 

@@ -20,6 +20,7 @@ pub enum Cause {
 pub struct Fault {
     /// The step, counted from 1; 0 where the ends could not be set up.
     pub step: usize,
+    /// Why it stopped.
     pub cause: Cause,
     /// The account of the steps before it. It is empty where the ends could not be set up.
     pub account: Account,

@@ -28,12 +28,17 @@ use std::collections::VecDeque;
 /// A controller, a reader, and the bursts that are on their way between them.
 #[derive(Drop)]
 pub struct Simulation<H: Handler> {
+    /// The controller's end.
     pub controller: Controller,
+    /// The reader's end.
     pub reader: Reader<H>,
+    /// The bursts on their way to the reader, the first in front.
     pub to_reader: VecDeque<Burst>,
+    /// The bursts on their way to the controller, the first in front.
     pub to_controller: VecDeque<Burst>,
     /// The moment, in milliseconds since the set-up.
     pub clock: u64,
+    /// What has happened so far.
     pub account: Account,
 }
 
