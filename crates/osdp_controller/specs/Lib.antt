@@ -5,5 +5,6 @@ pub mod States
 pub mod Sessions
 pub mod Ticking
 pub mod Hearing
+pub mod Comsets
 pub mod Private
 pub mod Machine

@@ -1,6 +1,7 @@
 //! The controller: a session and the commands that wait for it.
 
 ghost use Rattle.circular_buffer.specs.Buffer.{buffer};
+ghost use Rattle.osdp_controller.specs.Comsets.{is_comset};
 ghost use Rattle.osdp_controller.specs.Private.{next_in, rest_in};
 ghost use Rattle.std.specs.Prelude.{◌≡◌, ◌↔◌, ◌*◌, ◌+◌, ◌≤◌, IfErr, None, Some, OnOk, length};
 
@@ -40,6 +41,7 @@ impl Model for Controller {
 
 impl Controller {
     ghost use Rattle.osdp_controller.specs.Machine.{IsMachine, NewEnds, after_begin, after_frame, after_retarget, after_submit, after_tick, after_withdraw, begin_refusal, changed_unless, is_due, IsDeadline, is_outstanding, retarget_refusal, sent_in, submit_refusal, unless_refused, withdrawn_in};
+    ghost use Rattle.osdp_controller.specs.Comsets.{has_comset};
     ghost use Rattle.osdp_controller.specs.Hearing.{hears};
     ghost use Rattle.osdp_controller.specs.States.{is_closed};
     ghost use Rattle.osdp_controller.specs.Ticking.{ticks};
@@ -132,6 +134,13 @@ impl Controller {
         self.waiting.len()
     }
 
+    /// Whether a COMSET is among the commands that wait.
+    pub fn has_waiting_comset(&self) -> bool
+        ensures { result ≡ has_comset self.now.waiting }
+    {
+        self.waiting.iter().any(|command| is_comset(command))
+    }
+
     /// Takes back the command that has waited longest: it won't be sent. None where none waits.
     ///
     /// None unless the controller is closed, and nothing has changed then: a session that has begun asks its
@@ -220,6 +229,12 @@ impl Controller {
         }
         self.session.moment()
     }
+}
+
+fn is_comset(command: &Command) -> bool
+    ensures { result ≡ is_comset command.now }
+{
+    matches!(command, Command::Comset(_))
 }
 
 /// The front of the waiting commands, which leaves them, where the session is open and nothing is outstanding.

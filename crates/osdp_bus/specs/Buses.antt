@@ -1,0 +1,58 @@
+-- What a bus is.
+use Rattle.std.specs.Prelude.{ℕ, ◌+◌, ◌-◌, Bool, max, nat_le, List, [], Option, Some, None, is_some, slice_get}
+use Rattle.osdp_controller.specs.declared.report.Report.{Report}
+use Rattle.osdp_bus.specs.declared.config.BusConfig.{BusConfig}
+use Rattle.osdp_bus.specs.declared.device.Device.{Device}
+use Rattle.osdp_bus.specs.Devices.{first_from, holds}
+
+-- the devices in the order of adding, so that an entry is a place in this list, and the report that waits to be taken, with
+-- the entry whose controller told it
+pub record Devices : Type 0 where
+  pub entries : List Device
+  pub report : Option (ℕ × Report)
+
+pub record BusState : Type 0 where
+  pub config : BusConfig
+  pub devices : Devices
+  -- the bytes of the run that came last, as far as they belong to no item yet
+  pub held : List ℕ
+  -- the moment of the last bytes
+  pub last : ℕ
+  -- the greatest moment seen
+  pub greatest : ℕ
+  -- the entry that is asked first once nobody holds the line: the one after the last that held it
+  pub first : ℕ
+
+-- a new bus has no devices, and nothing has happened
+abbrev pub new_bus : BusConfig → BusState
+new_bus config = record {
+  config = config;
+  devices = record { entries = []; report = None };
+  held = [];
+  last = 0;
+  greatest = 0;
+  first = 0;
+}
+
+-- a moment that lies before the greatest seen counts as that one
+abbrev pub seen : ℕ → BusState → BusState
+seen now b = record b { greatest = max b.greatest now }
+
+-- who holds the line: the entry whose exchange is outstanding
+abbrev pub holder : BusState → Option ℕ
+holder b = first_from 0 holds b.devices.entries
+
+abbrev pub has_report : BusState → Bool
+has_report b = is_some b.devices.report
+
+-- the line has been silent long enough for a run to be over
+abbrev pub is_silent : BusState → Bool
+is_silent b = nat_le b.config.gap (b.greatest - b.last)
+
+abbrev pub device_of : ℕ → BusState → Option Device
+device_of entry b = slice_get b.devices.entries entry
+
+-- what is told waits; where nothing is told, what waited stays
+abbrev pub waiting_after : ℕ → Option Report → Option (ℕ × Report) → Option (ℕ × Report)
+waiting_after entry None waiting = waiting
+waiting_after entry (Some report) waiting = Some (entry, report)

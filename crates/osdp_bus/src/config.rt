@@ -1,0 +1,89 @@
+//! The settings of a bus.
+
+ghost use Rattle.std.specs.Prelude.{◌≡◌, ◌↔◌, IsTrue};
+ghost use Rattle.osdp_controller.specs.Settings.{IsTime};
+ghost use Rattle.osdp_bus.specs.Settings.{IsBusConfig, controller_config, default_config};
+
+use osdp_controller::ControllerConfig;
+use osdp_frame::{Address, CheckKind};
+
+/// The settings of a bus: those of each of its controllers, and of the line. Times are in milliseconds, 1 to 3,600,000.
+#[derive(Clone, Copy, Debug, PartialEq, Eq)]
+pub struct BusConfig {
+    /// Which check the frames end with.
+    pub check: CheckKind,
+    /// How long an answer is waited for.
+    pub reply_wait: u32,
+    /// From an answer to the next POLL.
+    pub poll_interval: u32,
+    /// How often a frame is sent while no answer comes, 1 to 255.
+    pub sends: u8,
+    /// From a BUSY to the next send.
+    pub busy_wait: u32,
+    /// How often a reader may answer BUSY in one exchange.
+    pub busy_limit: u8,
+    /// How long a device is left quiet before a session opens.
+    pub quiet_wait: u32,
+    /// After how long a silence a run of bytes is over.
+    pub gap: u32,
+    /// How many commands may wait for each device, 1 to 1024.
+    pub capacity: usize,
+}
+
+impl BusConfig {
+    /// The default times, which are those of a controller, and a gap of 20 ms.
+    pub fn new(check: CheckKind, capacity: usize) -> BusConfig
+        ensures { result ≡ default_config check capacity }
+    {
+        BusConfig {
+            check,
+            reply_wait: 200,
+            poll_interval: 50,
+            sends: 3,
+            busy_wait: 50,
+            busy_limit: 20,
+            quiet_wait: 400,
+            gap: 20,
+            capacity,
+        }
+    }
+
+    /// The settings of the controller of a device at this address.
+    pub(crate) fn of_controller(&self, address: Address) -> ControllerConfig
+        ensures { result ≡ controller_config address self.now }
+    {
+        ControllerConfig {
+            address,
+            check: self.check,
+            reply_wait: self.reply_wait,
+            poll_interval: self.poll_interval,
+            sends: self.sends,
+            busy_wait: self.busy_wait,
+            busy_limit: self.busy_limit,
+            quiet_wait: self.quiet_wait,
+        }
+    }
+
+    /// Whether each setting is in its range.
+    pub(crate) fn is_in_range(&self) -> bool
+        ensures { IsTrue result ↔ IsBusConfig self.now }
+    {
+        // Reading it brings in that a `u8` is at most 255, which the range of it says.
+        let _range = self.busy_limit;
+        is_time(self.reply_wait)
+            && is_time(self.poll_interval)
+            && is_time(self.busy_wait)
+            && is_time(self.quiet_wait)
+            && self.sends >= 1
+            && is_time(self.gap)
+            && self.capacity >= 1
+            && self.capacity <= 1024
+    }
+}
+
+/// Whether a setting may be this long.
+fn is_time(wait: u32) -> bool
+    ensures { IsTrue result ↔ IsTime wait }
+{
+    1 <= wait && wait <= ControllerConfig::LONGEST
+}

@@ -1,0 +1,229 @@
+//! A device of a bus.
+
+ghost use Rattle.std.specs.Prelude.{◌≡◌, ◌<◌, IfErr, IfOk, None, OnOk, Some, is_some, option_map};
+ghost use Rattle.osdp_controller.specs.Comsets.{is_comset};
+ghost use Rattle.osdp_controller.specs.Hearing.{comset_of};
+ghost use Rattle.osdp_controller.specs.Machine.{begin_refusal, retarget_refusal, submit_refusal};
+ghost use Rattle.osdp_bus.specs.declared.fault.BusFault.TheVariants.{NoMemory};
+ghost use Rattle.osdp_bus.specs.Devices.{device_hears, device_ticks, freed_with, holds, is_at, is_device_due, is_reserved, reserved_after, reserved_for, step_of, takes_up, told_of};
+ghost use Rattle.osdp_bus.specs.Machine.{bus_fault, device_begins, device_retargets, device_submits, device_withdraws, new_device, reserved_without, withdrawn_of};
+ghost use Rattle.osdp_bus.specs.Settings.{IsBusConfig};
+
+use crate::config::BusConfig;
+use crate::fault::BusFault;
+use osdp_controller::{Controller, ControllerFault, Report, Step};
+use osdp_frame::{Address, FrameView};
+use osdp_msg::{Command, Communication};
+use std::alloc::Global;
+
+/// A device: its controller, and the address that is reserved for it.
+#[derive(Debug, Drop)]
+pub struct Device {
+    pub controller: Controller,
+    pub reserved: Option<u8>,
+}
+
+impl Device {
+    /// A new device at the address of one.
+    pub(crate) fn new(
+        alloc: Global,
+        address: Address,
+        config: &BusConfig,
+    ) -> Result<Device, BusFault>
+        requires config { IsBusConfig config.now }
+        requires device { address < 127 }
+        ensures made { IfOk result (λ d. d ≡ new_device address config.now) }
+        ensures fault { IfErr result (λ fault. fault ≡ NoMemory) }
+    {
+        match Controller::new(alloc, config.of_controller(address), config.capacity) {
+            Ok(controller) => Ok(Device {
+                controller,
+                reserved: None,
+            }),
+            Err(_) => Err(BusFault::NoMemory),
+        }
+    }
+
+    /// Whether it is at this address.
+    pub(crate) fn is_at(&self, address: u8) -> bool
+        ensures { result ≡ is_at address self.now }
+    {
+        self.controller.address().get() == address
+    }
+
+    /// Whether the address is its own, or reserved for it.
+    pub(crate) fn takes_up(&self, address: u8) -> bool
+        ensures { result ≡ takes_up address self.now }
+    {
+        self.is_at(address) || is_reserved(address, self.reserved)
+    }
+
+    /// Whether an exchange of its controller is outstanding.
+    pub(crate) fn holds(&self) -> bool
+        ensures { result ≡ holds self.now }
+    {
+        self.controller.outstanding()
+    }
+
+    /// Whether its controller would send or report at this moment.
+    pub(crate) fn is_due(&self, now: u64) -> bool
+        ensures { result ≡ is_device_due now self.now }
+    {
+        self.controller.due(now)
+    }
+
+    /// Whether an accepted COMSET would reserve an address beside one that is reserved already.
+    pub(crate) fn has_reserved(&self) -> bool
+        ensures { result ≡ is_some self.now.reserved }
+    {
+        self.reserved.is_some()
+    }
+
+    /// Begins a session.
+    pub(crate) fn begin(&mut self, now: u64) -> Result<(), BusFault>
+        ensures ok { OnOk result ((begin_refusal self.old.controller ≡ None) × (self.new ≡ device_begins now self.old)) }
+        ensures err { IfErr result (λ fault. (option_map bus_fault (begin_refusal self.old.controller) ≡ Some fault) × (self.new ≡ self.old)) }
+    {
+        self.controller.begin(now).map_err(bus_fault)
+    }
+
+    /// Puts a command behind those that wait. A COMSET reserves its address.
+    pub(crate) fn submit(&mut self, command: Command) -> Result<(), (BusFault, Command)>
+        ensures ok { OnOk result ((submit_refusal command self.old.controller ≡ None) × (self.new ≡ device_submits command self.old)) }
+        ensures err { IfErr result (λ e. (option_map bus_fault (submit_refusal command self.old.controller) ≡ Some e.0) × (self.new ≡ self.old)) }
+        ensures back { IfErr result (λ e. e.1 ≡ command) }
+    {
+        let reserved = reserved_for(comset_of(&command), self.reserved);
+        match self.controller.submit(command) {
+            Ok(()) => {
+                self.reserved = reserved;
+                Ok(())
+            }
+            Err((fault, command)) => Err((bus_fault(fault), command)),
+        }
+    }
+
+    /// Sets the address, and frees what is reserved.
+    pub(crate) fn retarget(&mut self, address: Address)
+        requires { retarget_refusal address self.old.controller ≡ None }
+        ensures { self.new ≡ device_retargets address self.old }
+    {
+        let _ = self.controller.retarget(address);
+        self.reserved = None;
+    }
+
+    /// Takes back the command that has waited longest, where no session has begun.
+    pub(crate) fn withdraw(&mut self) -> Option<Command>
+        ensures command { result ≡ withdrawn_of self.old }
+        ensures device { self.new ≡ device_withdraws self.old }
+    {
+        let command = self.controller.withdraw();
+        self.reserved = reserved_without(&command, self.reserved);
+        command
+    }
+
+    /// A packet comes from the line.
+    pub(crate) fn hear(&mut self, frame: &FrameView<'_>, now: u64) -> Option<Report>
+        ensures report { result ≡ told_of frame.now now self.old }
+        ensures device { self.new ≡ device_hears frame.now now self.old }
+    {
+        let report = self.controller.on_frame(frame, now);
+        self.reserved = reserved_after(&report, self.reserved);
+        report
+    }
+
+    /// What is due at a moment.
+    pub(crate) fn tick(&mut self, now: u64) -> Step
+        ensures step { result ≡ step_of now self.old }
+        ensures device { self.new ≡ device_ticks now self.old }
+    {
+        let step = self.controller.tick(now);
+        self.reserved = reserved_after(&step.report, self.reserved);
+        step
+    }
+}
+
+fn is_reserved(address: u8, reserved: Option<u8>) -> bool
+    ensures { result ≡ is_reserved address reserved }
+{
+    match reserved {
+        None => false,
+        Some(reserved) => reserved == address,
+    }
+}
+
+/// Where and how fast a COMSET asks a reader to go.
+pub(crate) fn comset_of(command: &Command) -> Option<Communication>
+    ensures { result ≡ comset_of command.now }
+{
+    match command {
+        Command::Comset(asked) => Some(*asked),
+        _ => None,
+    }
+}
+
+/// What is reserved once a command is accepted.
+fn reserved_for(asked: Option<Communication>, reserved: Option<u8>) -> Option<u8>
+    ensures { result ≡ reserved_for asked reserved }
+{
+    match asked {
+        Some(asked) => Some(asked.address),
+        None => reserved,
+    }
+}
+
+/// What stays reserved once a command is withdrawn.
+fn reserved_without(command: &Option<Command>, reserved: Option<u8>) -> Option<u8>
+    ensures { result ≡ reserved_without command.now reserved }
+{
+    match command {
+        None => reserved,
+        Some(command) => freed_with(command, reserved),
+    }
+}
+
+/// A controller's refusal, told by the bus.
+pub(crate) fn bus_fault(fault: ControllerFault) -> BusFault
+    ensures { result ≡ bus_fault fault }
+{
+    match fault {
+        ControllerFault::NoMemory => BusFault::NoMemory,
+        ControllerFault::OutOfRange => BusFault::OutOfRange,
+        ControllerFault::Full => BusFault::Full,
+        ControllerFault::PollSubmitted => BusFault::PollSubmitted,
+        ControllerFault::NotClosed => BusFault::NotClosed,
+    }
+}
+
+/// Whether it is a COMSET.
+fn is_comset(command: &Command) -> bool
+    ensures { result ≡ is_comset command.now }
+{
+    matches!(command, Command::Comset(_))
+}
+
+/// What stays reserved once a command is done with.
+fn freed_with(command: &Command, reserved: Option<u8>) -> Option<u8>
+    ensures { result ≡ freed_with command.now reserved }
+{
+    if is_comset(command) { None } else { reserved }
+}
+
+/// What stays reserved after a report.
+fn reserved_after(report: &Option<Report>, reserved: Option<u8>) -> Option<u8>
+    ensures { result ≡ reserved_after report.now reserved }
+{
+    match report {
+        Some(Report::Settled(command, _) | Report::Moved(command, _)) => {
+            freed_with(command, reserved)
+        }
+        None
+        | Some(
+            Report::Opened(_)
+            | Report::Event(_)
+            | Report::PollAnswered(_)
+            | Report::Unread(..)
+            | Report::Lost(..),
+        ) => reserved,
+    }
+}

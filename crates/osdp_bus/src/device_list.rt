@@ -1,0 +1,124 @@
+//! The devices of a bus, and the report of one that waits.
+
+ghost use Rattle.std.specs.Prelude.{◌≡◌, ◌+◌, ◌<◌, ◌≤◌, ◌^◌, IfSome, length, vec_capacity};
+ghost use Rattle.osdp_bus.specs.Buses.{waiting_after};
+ghost use Rattle.osdp_bus.specs.Devices.{first_around, first_from, holds, is_at, is_device_due, is_taken, is_taken_beside};
+ghost use Rattle.osdp_bus.specs.Hearing.{hears_item, hears_packet};
+ghost use Rattle.osdp_bus.specs.Private.{devices_of};
+ghost use Rattle.osdp_frame.specs.Shown.{part_of};
+
+use crate::Entry;
+use crate::device::Device;
+use osdp_controller::Report;
+use osdp_frame::{FrameView, Item};
+
+/// The devices in the order of adding, and the report that waits to be taken.
+#[derive(Debug, Drop)]
+pub struct DeviceList {
+    pub entries: Vec<Device>,
+    pub report: Option<(Entry, Report)>,
+}
+
+/// The first device at this address.
+fn first_at(devices: &[Device], address: u8) -> Option<Entry>
+    ensures place { result ≡ first_from 0 (is_at address) devices.now }
+    ensures within { IfSome result (λ entry. entry < length devices.now) }
+{
+    for (i, device) in devices.iter().enumerate() {
+        if device.is_at(address) {
+            return Some(i);
+        }
+    }
+    None
+}
+
+/// The first device whose exchange is outstanding.
+pub(crate) fn first_holding(devices: &[Device]) -> Option<Entry>
+    ensures { result ≡ first_from 0 holds devices.now }
+{
+    for (i, device) in devices.iter().enumerate() {
+        if device.holds() {
+            return Some(i);
+        }
+    }
+    None
+}
+
+/// The first device that is due, by its number, where the first of them has number `at`.
+fn first_due(devices: &[Device], at: Entry, now: u64) -> Option<Entry>
+    requires { at + length devices.now < 2 ^ 63 }
+    ensures { result ≡ first_from at (is_device_due now) devices.now }
+{
+    for (i, device) in devices.iter().enumerate() {
+        if device.is_due(now) {
+            return Some(at + i);
+        }
+    }
+    None
+}
+
+/// The first device in turn that is due, beginning with that of this entry.
+pub(crate) fn next_due(devices: &[Device], first: Entry, now: u64) -> Option<Entry>
+    requires { first ≤ length devices.now }
+    ensures { result ≡ first_around first (is_device_due now) devices.now }
+{
+    match first_due(&devices[first..], first, now) {
+        Some(entry) => Some(entry),
+        None => first_due(&devices[..first], 0, now),
+    }
+}
+
+/// Whether some device takes the address up.
+pub(crate) fn is_taken(devices: &[Device], address: u8) -> bool
+    ensures { result ≡ is_taken address devices.now }
+{
+    for device in devices {
+        if device.takes_up(address) {
+            return true;
+        }
+    }
+    false
+}
+
+/// Whether some device other than that of this entry takes the address up.
+pub(crate) fn is_taken_beside(devices: &[Device], entry: Entry, address: u8) -> bool
+    requires { entry < length devices.now }
+    ensures { result ≡ is_taken_beside entry address devices.now }
+{
+    is_taken(&devices[..entry], address) || is_taken(&devices[entry + 1..], address)
+}
+
+impl DeviceList {
+    /// What the controller of an entry tells waits.
+    pub(crate) fn tell(&mut self, entry: Entry, report: Option<Report>)
+        ensures report { self.new.report ≡ waiting_after entry report self.old.report }
+        ensures entries { self.new.entries ≡ self.old.entries }
+    {
+        if let Some(report) = report {
+            self.report = Some((entry, report));
+        }
+    }
+
+    /// A packet comes from the line.
+    fn hear(&mut self, frame: &FrameView<'_>, now: u64)
+        ensures devices { devices_of self.new ≡ hears_packet frame.now now (devices_of self.old) }
+        ensures capacity { vec_capacity self.new.entries ≡ vec_capacity self.old.entries }
+        ensures count { length self.new.entries.items ≡ length self.old.entries.items }
+    {
+        let Some(entry) = first_at(self.entries.as_slice(), frame.address().get()) else { return };
+        let report = self.entries[entry].hear(frame, now);
+        self.tell(entry, report);
+    }
+
+    /// An item is read from the line.
+    pub(crate) fn hear_item(&mut self, item: &Item<'_>, now: u64)
+        ensures devices { devices_of self.new ≡ hears_item now (part_of item.now) (devices_of self.old) }
+        ensures capacity { vec_capacity self.new.entries ≡ vec_capacity self.old.entries }
+        ensures count { length self.new.entries.items ≡ length self.old.entries.items }
+    {
+        match item {
+            Item::Packet(frame) => self.hear(frame, now),
+            Item::Skipped(_) | Item::Refused(_) => {}
+        }
+    }
+}

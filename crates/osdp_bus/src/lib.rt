@@ -1,0 +1,31 @@
+//! The panel's end of a line with several readers: commands in for each of them, frames out one exchange at a time.
+//!
+//! A bus holds a controller for each of up to sixteen devices. An exchange holds the line until it ends, its pauses
+//! included; then the devices are asked in turn, beginning after the last that held it. Bytes come in in any pieces, and a
+//! packet goes to the controller of its address alone. Moments are milliseconds that the caller hands in.
+//!
+//! ```text
+//! let mut bus = Bus::new(alloc, BusConfig::new(CheckKind::Crc, 16))?;
+//! let door = bus.add(alloc, address)?;
+//! bus.begin(door, clock.now())?;
+//! loop {
+//!     .. bus.on_bytes(bytes, clock.now()), where bytes have come ..
+//!     while let Some((entry, report)) = bus.next_report() { .. }
+//!     if let Some(burst) = bus.tick(clock.now()) { .. it goes out .. }
+//! }
+//! ```
+//!
+//! What a bus does is the definitions in `specs/`. Only `Bus::new` and `Bus::add` take memory.
+#![tactic(auto)]
+
+mod config;
+mod device;
+mod device_list;
+mod fault;
+mod line;
+
+pub use config::BusConfig;
+pub use fault::BusFault;
+
+/// A device of a bus, by its number: 0 to 15, in the order of adding.
+pub type Entry = usize;
