@@ -1,5 +1,5 @@
 -- What a frame does to the reader: which line of its table it meets, and what the reader keeps.
-use Rattle.std.proofs.Common.{◌≡◌, ◌≢◌, ◌<◌, ℕ, Bool, false, not, cond, eqb, List, [], ◌∷◌, ◌++◌, drop, Option, Some, None, refl, sym, subst, ap, ◌∙◌, inl, inr, arith, append_assoc}
+use Rattle.std.proofs.Common.{◌≡◌, ◌≢◌, ◌<◌, ℕ, Bool, false, not, cond, eqb, List, [], ◌∷◌, ◌++◌, drop, take, Option, Some, None, refl, sym, subst, ap, ◌∙◌, inl, inr, arith, append_assoc}
 use Rattle.std.proofs.lemmas.List.{append-nil}
 use Rattle.std.specs.Prelude.{◌||◌, is_some, option_to_list}
 use Rattle.std.proofs.lemmas.Bool.Decides.{eqb_tells}
@@ -100,6 +100,18 @@ module _ (fixed : ControllerConfig) {H : Type 0} where
   polled (event.Formatted s ∷ rest) capacity offered answer_of after config handler = ((refl, (rest, refl)), refl)
   polled (event.Keypad s ∷ rest) capacity offered answer_of after config handler = ((refl, (rest, refl)), refl)
 
+  -- the event that its answer tells is the front
+  pub polled_front : (events : List Event) (answer_of : H → Command → Answer) (after : H → Command → H) (config : ReaderConfig) (handler : H)
+      → option_to_list (event_in (event_or_answer answer_of after (event_for command.Poll events) config handler command.Poll).reply) ≡ take 1 events
+  polled_front [] answer_of after config handler = refl
+  polled_front (event.LocalState s ∷ rest) answer_of after config handler = refl
+  polled_front (event.Inputs s ∷ rest) answer_of after config handler = refl
+  polled_front (event.Outputs s ∷ rest) answer_of after config handler = refl
+  polled_front (event.Readers s ∷ rest) answer_of after config handler = refl
+  polled_front (event.Raw s ∷ rest) answer_of after config handler = refl
+  polled_front (event.Formatted s ∷ rest) answer_of after config handler = refl
+  polled_front (event.Keypad s ∷ rest) answer_of after config handler = refl
+
   -- the answer depends on the settings for ID and CAP alone
   pub same_answer : (answer_of : H → Command → Answer) (after : H → Command → H) (config other : ReaderConfig) (handler : H) (c : Command)
       → config.id ≡ other.id → config.caps ≡ other.caps
@@ -138,20 +150,20 @@ no_event (command.Text t) events other = refl
 no_event (command.Comset c) events other = refl
 no_event (command.Maker m) events other = refl
 
-pub taken_is : (c : Command) (t : Account) → c ≢ command.Poll → taken_command c t ≡ record t { taken = t.taken ++ c ∷ [] }
-taken_is command.Poll t other = absurd (other refl)
-taken_is (command.Id kept) t other = refl
-taken_is (command.Cap kept) t other = refl
-taken_is command.LocalStatus t other = refl
-taken_is command.InputStatus t other = refl
-taken_is command.OutputStatus t other = refl
-taken_is command.ReaderStatus t other = refl
-taken_is (command.Output records) t other = refl
-taken_is (command.Led records) t other = refl
-taken_is (command.Buzzer b) t other = refl
-taken_is (command.Text s) t other = refl
-taken_is (command.Comset c) t other = refl
-taken_is (command.Maker m) t other = refl
+pub taken_is : (c : Command) (front : List Event) (t : Account) → c ≢ command.Poll → taken_command c front t ≡ record t { taken = t.taken ++ c ∷ [] }
+taken_is command.Poll front t other = absurd (other refl)
+taken_is (command.Id kept) front t other = refl
+taken_is (command.Cap kept) front t other = refl
+taken_is command.LocalStatus front t other = refl
+taken_is command.InputStatus front t other = refl
+taken_is command.OutputStatus front t other = refl
+taken_is command.ReaderStatus front t other = refl
+taken_is (command.Output records) front t other = refl
+taken_is (command.Led records) front t other = refl
+taken_is (command.Buzzer b) front t other = refl
+taken_is (command.Text s) front t other = refl
+taken_is (command.Comset c) front t other = refl
+taken_is (command.Maker m) front t other = refl
 
 -- an event that was reported leaves when the next number is taken
 abbrev pub PastIs : List Event → List Event → List Event → List Event → Type 0

@@ -1,5 +1,5 @@
 -- The frame of the current exchange comes to the reader for the first time: it acts on it, or is busy or elsewhere.
-use Rattle.std.proofs.Common.{◌≡◌, ◌⊎◌, ◌<◌, ℕ, false, List, [], ◌∷◌, ◌++◌, Option, Some, None, Result, Ok, refl, sym, subst, ap, ◌∙◌, inl, inr, append_assoc}
+use Rattle.std.proofs.Common.{◌≡◌, ◌⊎◌, ◌<◌, ℕ, false, List, [], ◌∷◌, ◌++◌, take, Option, Some, None, Result, Ok, refl, sym, subst, ap, ◌∙◌, inl, inr, append_assoc}
 use Rattle.std.proofs.lemmas.List.{append-nil}
 use Rattle.std.specs.Prelude.{IfSome, option_to_list}
 use Rattle.std.proofs.lemmas.Bool.Decides.{eqb_tells}
@@ -28,7 +28,7 @@ use Rattle.osdp_link.specs.Headline.{MaySubmit, with_answers}
 use Rattle.osdp_link.specs.Link as link
 use Rattle.osdp_link.specs.Link.{Account, Link, taken_command}
 use Rattle.osdp_link.proofs.Accounts.{one_more_answer, one_more_command}
-use Rattle.osdp_link.proofs.Acting.{kind_next, kind_zero, moved_acted, moved_keeps, no_event, polled, released_past, same_answer, taken_is}
+use Rattle.osdp_link.proofs.Acting.{kind_next, kind_zero, moved_acted, moved_keeps, no_event, polled, polled_front, released_past, same_answer, taken_is}
 use Rattle.osdp_link.proofs.Lines.{both, each_append, runs_first}
 use Rattle.osdp_link.proofs.Numbers.{next_above_zero}
 use Rattle.osdp_link.proofs.Stages.{Accounts, After, Answering, Behind, Each, HasActed, IsFrame, Level, Says, SaysOld, Stage, Start, ToControllerAt, answer, frame, given_up}
@@ -56,7 +56,7 @@ module _ (fixed : ControllerConfig) {H : Type 0} (answer_of : H → Command → 
       subst (λ c. IfSome (begun answer_of after c l.reader p).said ReplyFits → HoldsAtSomeStage (record l {
         reader = (begun answer_of after c l.reader p).reader;
         to_controller = l.to_controller ++ option_to_list (begun answer_of after c l.reader p).reply;
-        account = link.taken Zero (begun answer_of after c l.reader p).command l.account;
+        account = link.taken Zero (begun answer_of after c l.reader p).command (link.front_of l.reader) l.account;
       })) (sym reads)
       (λ fits. (
         Level Start Opening (reply.PdId l.reader.config.id),
@@ -97,7 +97,7 @@ module _ (fixed : ControllerConfig) {H : Type 0} (answer_of : H → Command → 
   taken_link c p l = record l {
     reader = (taken answer_of after c l.reader p).reader;
     to_controller = l.to_controller ++ option_to_list (taken answer_of after c l.reader p).reply;
-    account = link.taken Taken (taken answer_of after c l.reader p).command l.account;
+    account = link.taken Taken (taken answer_of after c l.reader p).command (link.front_of l.reader) l.account;
   }
 
   -- the line behind an answer: what was there is of the exchange before, or BUSY
@@ -133,6 +133,8 @@ module _ (fixed : ControllerConfig) {H : Type 0} (answer_of : H → Command → 
             settled = h.account.settled;
             unsettled = h.account.unsettled;
             told = released_past y b l.account.queued l.account.reported l.reader.queue h.reader.offer h.account.told;
+            offered = ap (λ es. es ++ take 1 events) (h.account.offered ∙ append-nil l.account.reported)
+                ∙ ap (λ es. l.account.reported ++ es) (sym (polled_front fixed events answer_of after l.reader.config l.reader.handler));
           };
         },
       )) well.0 (well.1 (inr refl))
@@ -147,14 +149,14 @@ module _ (fixed : ControllerConfig) {H : Type 0} (answer_of : H → Command → 
         reader = moved (new_address c)
             (record l.reader { last = Some p.sequence; stored = Some back; queue = offering event queue; handler = a.handler });
         to_controller = l.to_controller ++ back ∷ [];
-        account = taken_command c l.account;
+        account = taken_command c (link.front_of l.reader) l.account;
       }
 
   -- the account behind a taken command
   asked_account : (n : ℕ) (y : Exchange) (b : Reply) (c : Command) (l : Link H) → MaySubmit c
       → At fixed answer_of after settings first (Behind (After n y b) (Asking c)) l
       → let a = answer_to answer_of after l.reader.config l.reader.handler c in
-      Accounts fixed answer_of after settings first [] ((c, a.reply) ∷ []) (given_up l.controller.session.state (Asking c)) [] l.controller.waiting
+      Accounts fixed answer_of after settings first [] ((c, a.reply) ∷ []) (given_up l.controller.session.state (Asking c)) [] [] l.controller.waiting
       (released l.reader.queue).events
       (record l.account { taken = l.account.taken ++ c ∷ [] })
   asked_account n y b c l may h =
@@ -170,6 +172,7 @@ module _ (fixed : ControllerConfig) {H : Type 0} (answer_of : H → Command → 
             ∙ sym (one_more_answer answer_of after settings first l.account.taken c);
         unsettled = h.account.unsettled;
         told = released_past y b l.account.queued l.account.reported l.reader.queue h.reader.offer h.account.told;
+        offered = h.account.offered;
       }
 
   -- the reader behind it
@@ -222,7 +225,7 @@ module _ (fixed : ControllerConfig) {H : Type 0} (answer_of : H → Command → 
       (λ fits plain. (
         Level (After n y b) (Asking c) a.reply,
         subst (λ t. At fixed answer_of after settings first (Level (After n y b) (Asking c) a.reply)
-            (record (asked_link None c p l) { account = t })) (sym (taken_is c l.account may.no_poll)) (record {
+            (record (asked_link None c p l) { account = t })) (sym (taken_is c (link.front_of l.reader) l.account may.no_poll)) (record {
               stage = (h.stage.0, may, (record { plain = plain; fits = fits }, next_above_zero n));
               controller = h.controller;
               waiting = h.waiting;
@@ -230,7 +233,7 @@ module _ (fixed : ControllerConfig) {H : Type 0} (answer_of : H → Command → 
               answering = asked_answering n y b m c l h;
               to_reader = frames;
               to_controller = runs_first (SaysOld fixed (After n y b)) (Says fixed m a.reply) l.to_controller (answer fixed m a.reply ∷ []) h.to_controller (inr refl, tt);
-              account = subst (λ events. Accounts fixed answer_of after settings first [] ((c, a.reply) ∷ []) (given_up l.controller.session.state (Asking c)) [] l.controller.waiting events
+              account = subst (λ events. Accounts fixed answer_of after settings first [] ((c, a.reply) ∷ []) (given_up l.controller.session.state (Asking c)) [] [] l.controller.waiting events
                   (record l.account { taken = l.account.taken ++ c ∷ [] }))
                   (sym (moved_keeps fixed (λ config queue handler. queue.events ≡ (released l.reader.queue).events) (new_address c)
                   (record l.reader { last = Some m; stored = Some (answer fixed m a.reply); queue = offering None (released l.reader.queue); handler = a.handler })

@@ -185,8 +185,8 @@ module _ (fixed : ControllerConfig) {H : Type 0} (answer_of : H → Command → 
 
   -- the answer comes
   settled_account : (x : Exchange) (a : Reply) (waiting : List Command) (events : List Event) (t : Account)
-      → Accounts fixed answer_of after settings first [] (owed x a) [] [] waiting events t
-      → Accounts fixed answer_of after settings first [] [] [] (shown x a) waiting events (settled_by fixed x a t)
+      → Accounts fixed answer_of after settings first [] (owed x a) [] [] (shown x a) waiting events t
+      → Accounts fixed answer_of after settings first [] [] [] (shown x a) [] waiting events (settled_by fixed x a t)
   settled_account Opening a waiting events t is = is
   settled_account Polling a waiting events t is = record {
     issued = is.issued;
@@ -197,12 +197,14 @@ module _ (fixed : ControllerConfig) {H : Type 0} (answer_of : H → Command → 
       is.told.1,
       ap (λ l. l ++ option_to_list (event_in a)) is.told.2 ∙ ap (λ l. l ++ option_to_list (event_in a)) (append-nil is.told.0),
     );
+    offered = is.offered ∙ sym (append-nil (t.reported ++ option_to_list (event_in a)));
   }
   settled_account (Asking c) a waiting events t is = record {
     issued = is.issued;
     settled = append-nil (t.settled ++ (c, a) ∷ []) ∙ is.settled;
     unsettled = is.unsettled;
     told = is.told;
+    offered = is.offered;
   }
 
   settles_no_taking : (x : Exchange) (a : Reply) (t : Account) → (settled_by fixed x a t).taken ≡ t.taken
@@ -227,7 +229,7 @@ module _ (fixed : ControllerConfig) {H : Type 0} (answer_of : H → Command → 
         to_reader = h.to_reader;
         to_controller = line;
         account = settled_account x a l.controller.waiting l.reader.queue.events l.account
-            (subst (λ lost. Accounts fixed answer_of after settings first [] (owed x a) lost [] l.controller.waiting l.reader.queue.events l.account) none h.account);
+            (subst (λ lost. Accounts fixed answer_of after settings first [] (owed x a) lost [] (shown x a) l.controller.waiting l.reader.queue.events l.account) none h.account);
       })
 
   controller_gets : Assumed → (at : Stage) (now : ℕ) (p : Packet) (l : Link H) → AtStage at l → FrontToController at p l

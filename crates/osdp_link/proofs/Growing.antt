@@ -42,39 +42,39 @@ told_keeps (Some (report.Lost cause c)) t = as_before t (told (Some (report.Lost
 pub told_issues : (r : Option Report) (t : Account) → (told r t).issued ≡ t.issued
 told_issues r t = (told_keeps r t).issued ∙ append-nil t.issued
 
--- a taken command changes nothing but the commands taken
+-- a taken command changes nothing but the commands taken and the events offered
 abbrev pub TakesMore : Account → Account → Type 0
-TakesMore t u = (cs : List Command) × (u ≡ record t { taken = cs })
+TakesMore t u = (all : List Command × List Event) × (u ≡ record t { taken = all.0; offered = all.1 })
 
-command_takes : (c : Command) (t : Account) → TakesMore t (link.taken_command c t)
-command_takes command.Poll t = (t.taken, refl)
-command_takes (command.Id a) t = (t.taken ++ (command.Id a) ∷ [], refl)
-command_takes (command.Cap a) t = (t.taken ++ (command.Cap a) ∷ [], refl)
-command_takes command.LocalStatus t = (t.taken ++ command.LocalStatus ∷ [], refl)
-command_takes command.InputStatus t = (t.taken ++ command.InputStatus ∷ [], refl)
-command_takes command.OutputStatus t = (t.taken ++ command.OutputStatus ∷ [], refl)
-command_takes command.ReaderStatus t = (t.taken ++ command.ReaderStatus ∷ [], refl)
-command_takes (command.Output a) t = (t.taken ++ (command.Output a) ∷ [], refl)
-command_takes (command.Led a) t = (t.taken ++ (command.Led a) ∷ [], refl)
-command_takes (command.Buzzer a) t = (t.taken ++ (command.Buzzer a) ∷ [], refl)
-command_takes (command.Text a) t = (t.taken ++ (command.Text a) ∷ [], refl)
-command_takes (command.Comset a) t = (t.taken ++ (command.Comset a) ∷ [], refl)
-command_takes (command.Maker a) t = (t.taken ++ (command.Maker a) ∷ [], refl)
+command_takes : (c : Command) (front : List Event) (t : Account) → TakesMore t (link.taken_command c front t)
+command_takes command.Poll front t = ((t.taken, t.offered ++ front), refl)
+command_takes (command.Id a) front t = ((t.taken ++ (command.Id a) ∷ [], t.offered), refl)
+command_takes (command.Cap a) front t = ((t.taken ++ (command.Cap a) ∷ [], t.offered), refl)
+command_takes command.LocalStatus front t = ((t.taken ++ command.LocalStatus ∷ [], t.offered), refl)
+command_takes command.InputStatus front t = ((t.taken ++ command.InputStatus ∷ [], t.offered), refl)
+command_takes command.OutputStatus front t = ((t.taken ++ command.OutputStatus ∷ [], t.offered), refl)
+command_takes command.ReaderStatus front t = ((t.taken ++ command.ReaderStatus ∷ [], t.offered), refl)
+command_takes (command.Output a) front t = ((t.taken ++ (command.Output a) ∷ [], t.offered), refl)
+command_takes (command.Led a) front t = ((t.taken ++ (command.Led a) ∷ [], t.offered), refl)
+command_takes (command.Buzzer a) front t = ((t.taken ++ (command.Buzzer a) ∷ [], t.offered), refl)
+command_takes (command.Text a) front t = ((t.taken ++ (command.Text a) ∷ [], t.offered), refl)
+command_takes (command.Comset a) front t = ((t.taken ++ (command.Comset a) ∷ [], t.offered), refl)
+command_takes (command.Maker a) front t = ((t.taken ++ (command.Maker a) ∷ [], t.offered), refl)
 
-pub taken_takes : (k : Kind) (c : Option Command) (t : Account) → TakesMore t (link.taken k c t)
-taken_takes kind.Silent c t = (t.taken, refl)
-taken_takes kind.Secured c t = (t.taken, refl)
-taken_takes kind.Zero c t = (t.taken, refl)
-taken_takes kind.Repeat c t = (t.taken, refl)
-taken_takes kind.Taken None t = (t.taken, refl)
-taken_takes kind.Taken (Some c) t = command_takes c t
-taken_takes kind.Busy c t = (t.taken, refl)
-taken_takes kind.Wrong c t = (t.taken, refl)
+pub taken_takes : (k : Kind) (c : Option Command) (front : List Event) (t : Account) → TakesMore t (link.taken k c front t)
+taken_takes kind.Silent c front t = ((t.taken, t.offered), refl)
+taken_takes kind.Secured c front t = ((t.taken, t.offered), refl)
+taken_takes kind.Zero c front t = ((t.taken, t.offered), refl)
+taken_takes kind.Repeat c front t = ((t.taken, t.offered), refl)
+taken_takes kind.Taken None front t = ((t.taken, t.offered), refl)
+taken_takes kind.Taken (Some c) front t = command_takes c front t
+taken_takes kind.Busy c front t = ((t.taken, t.offered), refl)
+taken_takes kind.Wrong c front t = ((t.taken, t.offered), refl)
 
-taken_keeps : (k : Kind) (c : Option Command) (t : Account) → Grows [] [] t (link.taken k c t)
-taken_keeps k c t =
-    let more = taken_takes k c t in
-    as_before t (link.taken k c t) (ap (λ u. u.issued) more.1) (ap (λ u. u.queued) more.1)
+taken_keeps : (k : Kind) (c : Option Command) (front : List Event) (t : Account) → Grows [] [] t (link.taken k c front t)
+taken_keeps k c front t =
+    let more = taken_takes k c front t in
+    as_before t (link.taken k c front t) (ap (λ u. u.issued) more.1) (ap (λ u. u.queued) more.1)
 
 module _ {H : Type 0} (answer_of : H → Command → Answer) (after : H → Command → H) where
   -- within a session the account goes on, and those before it stay
@@ -94,7 +94,7 @@ module _ {H : Type 0} (answer_of : H → Command → Answer) (after : H → Comm
 
   reader_gets_on : (p : Packet) (l : Link H) → SameSession [] [] l (link.reader_gets answer_of after p l)
   reader_gets_on p l =
-      (taken_keeps (reader.kind_of l.reader p) (reader.hears answer_of after l.reader p).command l.account, refl)
+      (taken_keeps (reader.kind_of l.reader p) (reader.hears answer_of after l.reader p).command (link.front_of l.reader) l.account, refl)
 
   controller_gets_on : (p : Packet) (now : ℕ) (l : Link H) → SameSession [] [] l (link.controller_gets p now l)
   controller_gets_on p now l = (told_keeps (controller.hears p now l.controller.session).report l.account, refl)

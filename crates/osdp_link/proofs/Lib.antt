@@ -25,3 +25,4 @@ pub mod Rounds
 pub mod Through
 pub mod InTime
 pub mod Refusals
+pub mod TwoLists

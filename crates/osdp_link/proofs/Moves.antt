@@ -111,6 +111,7 @@ module _ (fixed : ControllerConfig) {H : Type 0} (answer_of : H → Command → 
         settled = h.account.settled;
         unsettled = h.account.unsettled;
         told = h.account.told;
+        offered = h.account.offered;
       };
     },
   )
@@ -136,6 +137,7 @@ module _ (fixed : ControllerConfig) {H : Type 0} (answer_of : H → Command → 
           ap (λ all. all ++ e ∷ []) h.account.told.1 ∙ append_assoc h.account.told.0 l.reader.queue.events (e ∷ []),
           h.account.told.2,
         );
+        offered = h.account.offered;
       };
     },
   )
@@ -204,13 +206,14 @@ module _ (fixed : ControllerConfig) {H : Type 0} (answer_of : H → Command → 
 
   -- an exchange that begins: the account has its command as pending
   begun_account : (x : Exchange) (ws : List Command) (lost : List Command) (front : List Event) (l : Link H) → l.controller.waiting ≡ pending x ++ ws
-      → lost ≡ [] → Accounts fixed answer_of after settings first [] [] [] front l.controller.waiting l.reader.queue.events l.account
-      → Accounts fixed answer_of after settings first (pending x) [] lost front ws l.reader.queue.events l.account
+      → lost ≡ [] → Accounts fixed answer_of after settings first [] [] [] front [] l.controller.waiting l.reader.queue.events l.account
+      → Accounts fixed answer_of after settings first (pending x) [] lost front [] ws l.reader.queue.events l.account
   begun_account x ws lost front l waits none a = record {
     issued = a.issued ∙ ap (λ w. l.account.taken ++ w) waits;
     settled = a.settled;
     unsettled = a.unsettled ∙ sym none;
     told = a.told;
+    offered = a.offered;
   }
 
   fresh_begins : {l : Link H} → (x : Exchange) × AtStage (Behind Start x) l → AtSomeStage l

@@ -45,7 +45,7 @@ front_event : (event : Option Event) (q : Queue) → OffersEvent event q → (re
 front_event None q off = (q.events, refl)
 front_event (Some e) q (on, front) = front
 
-front_shown : (x : Exchange) (a : Reply) (q : Queue) → Offers x a q → (rest : List Event) × (q.events ≡ shown x a ++ rest)
+pub front_shown : (x : Exchange) (a : Reply) (q : Queue) → Offers x a q → (rest : List Event) × (q.events ≡ shown x a ++ rest)
 front_shown Opening a q offers = (q.events, refl)
 front_shown Polling a q offers = front_event (event_in a) q offers
 front_shown (Asking c) a q offers = (q.events, refl)
@@ -117,6 +117,6 @@ module _ (fixed : ControllerConfig) {H : Type 0} (answer_of : H → Command → 
     answering = subst (λ t. Answering fixed answer_of after settings first t.taken l.reader) (sym new.account) new.answering;
     to_reader = new.to_reader;
     to_controller = new.to_controller;
-    account = subst (λ t. Accounts fixed answer_of after settings first [] [] [] [] l.controller.waiting l.reader.queue.events t)
-        (sym new.account) (record { issued = refl; settled = refl; unsettled = refl; told = ([], refl, refl) });
+    account = subst (λ t. Accounts fixed answer_of after settings first [] [] [] [] [] l.controller.waiting l.reader.queue.events t)
+        (sym new.account) (record { issued = refl; settled = refl; unsettled = refl; told = ([], refl, refl); offered = refl });
   }

@@ -27,7 +27,7 @@ module _ (fixed : ControllerConfig) {H : Type 0} (answer_of : H → Command → 
     answering = record { id = h.answering.id; caps = h.answering.caps; handler = h.answering.handler };
     to_reader = h.to_reader;
     to_controller = h.to_controller;
-    account = record { issued = h.account.issued; settled = h.account.settled; unsettled = refl; told = h.account.told };
+    account = record { issued = h.account.issued; settled = h.account.settled; unsettled = refl; told = h.account.told; offered = h.account.offered };
   }
 
   pub with_to_reader : (at : Stage) (l : Link H) (ps : List Packet) → At at l → ToReaderAt fixed at ps → At at (record l { to_reader = ps })

@@ -91,7 +91,7 @@ module _ (fixed : ControllerConfig) {H : Type 0} (answer_of : H → Command → 
     reader = (hears answer_of after l.reader p).reader;
     to_reader = [];
     to_controller = [];
-    account = told (report_of x a) (link.taken (kind_of l.reader p) (hears answer_of after l.reader p).command l.account);
+    account = told (report_of x a) (link.taken (kind_of l.reader p) (hears answer_of after l.reader p).command (link.front_of l.reader) l.account);
   }
 
   come_through : (now : ℕ) (x : Exchange) (n : ℕ) (a : Reply) (l : Link H) → l.to_reader ≡ frame fixed x n ∷ [] → l.to_controller ≡ []
@@ -174,7 +174,7 @@ module _ (fixed : ControllerConfig) {H : Type 0} (answer_of : H → Command → 
       let fit = subst (λ ps. SaysWhatFits answer_of after ps l.reader) line fits in
       let answer = is_answered given now x at m h sends.awaits is still.ready stays line still.to_controller fit in
       let p = frame fixed x (number_at at) in
-      let goes = taken_takes (kind_of l.reader p) (hears answer_of after l.reader p).command m.account in
+      let goes = taken_takes (kind_of l.reader p) (hears answer_of after l.reader p).command (link.front_of l.reader) m.account in
       record {
         answered = answer;
         fits = fit;
@@ -184,7 +184,7 @@ module _ (fixed : ControllerConfig) {H : Type 0} (answer_of : H → Command → 
             to_reader = refl;
             to_controller = refl;
             ready = answer.replies.stays stays;
-            issued = subst (Each NoComset) (sym (told_issues (report_of x answer.a) (link.taken (kind_of l.reader p) (hears answer_of after l.reader p).command m.account)
+            issued = subst (Each NoComset) (sym (told_issues (report_of x answer.a) (link.taken (kind_of l.reader p) (hears answer_of after l.reader p).command (link.front_of l.reader) m.account)
                 ∙ ap (λ t. t.issued) goes.1 ∙ issued)) still.issued;
           };
         });

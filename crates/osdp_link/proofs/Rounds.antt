@@ -106,10 +106,10 @@ module _ (fixed : ControllerConfig) {H : Type 0} (answer_of : H → Command → 
   Came now x at l = HasCome fixed answer_of after settings first now x at l
 
   same_behind : (now : ℕ) (l : Link H) (x : Exchange) (n : ℕ) → Sends x (ticks now l.controller.session l.controller.waiting)
-      → Same l.account (link.taken (kind_of l.reader (frame fixed x n)) (hears answer_of after l.reader (frame fixed x n)).command (at_tick now l).account)
+      → Same l.account (link.taken (kind_of l.reader (frame fixed x n)) (hears answer_of after l.reader (frame fixed x n)).command (link.front_of l.reader) (at_tick now l).account)
   same_behind now l x n sends =
       let p = frame fixed x n in
-      let is = (taken_takes (kind_of l.reader p) (hears answer_of after l.reader p).command (at_tick now l).account).1 in
+      let is = (taken_takes (kind_of l.reader p) (hears answer_of after l.reader p).command (link.front_of l.reader) (at_tick now l).account).1 in
       let before = behind_tick now l x sends in
       (ap (λ t. t.settled) is ∙ ap (λ t. t.settled) before, ap (λ t. t.reported) is ∙ ap (λ t. t.reported) before)
 
@@ -120,7 +120,7 @@ module _ (fixed : ControllerConfig) {H : Type 0} (answer_of : H → Command → 
       let n = number_at at in
       let p = frame fixed (Asking c) n in
       subst (λ m. OneMore l.account m.account) (sym came.answered.is)
-      (command_counts c came.answered.a l.account (link.taken (kind_of l.reader p) (hears answer_of after l.reader p).command (at_tick now l).account)
+      (command_counts c came.answered.a l.account (link.taken (kind_of l.reader p) (hears answer_of after l.reader p).command (link.front_of l.reader) (at_tick now l).account)
       (same_behind now l (Asking c) n sends))
 
   -- where none waits a POLL goes out: an event is reported, or none waits either
@@ -160,7 +160,7 @@ module _ (fixed : ControllerConfig) {H : Type 0} (answer_of : H → Command → 
           ∙ front_told given.tells answer_of after l.reader.config l.reader.handler e rest in
           let q = frame fixed Polling (next_sequence n) in
           subst (λ m. OneMore l.account m.account) (sym came.answered.is)
-          (event_counts came.answered.a e l.account (link.taken (kind_of l.reader q) (hears answer_of after l.reader q).command (at_tick now l).account) tells
+          (event_counts came.answered.a e l.account (link.taken (kind_of l.reader q) (hears answer_of after l.reader q).command (link.front_of l.reader) (at_tick now l).account) tells
           (same_behind now l Polling (next_sequence n) sends))
 
   -- a round from a controller that waits for nothing

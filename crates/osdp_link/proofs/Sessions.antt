@@ -58,7 +58,7 @@ Left t waiting =
     × ((t.taken ≡ settled_commands t) ⊎ (t.taken ≡ settled_commands t ++ t.unsettled))
 
 module _ {H : Type 0} (answer_of : H → Command → Answer) (after : H → Command → H) (settings : ReaderConfig) where
-  answered_commands : (h : H) (cs : List Command) → map settled_command (with_answers answer_of after settings h cs) ≡ cs
+  pub answered_commands : (h : H) (cs : List Command) → map settled_command (with_answers answer_of after settings h cs) ≡ cs
   answered_commands h [] = refl
   answered_commands h (c ∷ cs) = ap (λ l. c ∷ l) (answered_commands (answer_to answer_of after settings h c).handler cs)
 

@@ -136,6 +136,13 @@ shown_at (Behind past x) = shown_behind past
 shown_at (Level past x r) = []
 shown_at (Rest n x r) = shown x r
 
+-- the event that was offered and isn't reported yet
+abbrev pub unreported_at : Stage → List Event
+unreported_at Fresh = []
+unreported_at (Behind past x) = []
+unreported_at (Level past x r) = shown x r
+unreported_at (Rest n x r) = []
+
 -- the event that the last answer told is offered, and stands in front
 abbrev pub OffersEvent : Option Event → Queue → Type 0
 OffersEvent None q = q.offered ≡ false
@@ -269,11 +276,12 @@ module _ (fixed : ControllerConfig) where
         pub caps : reader.config.caps ≡ settings.caps
         pub handler : reader.handler ≡ handler_behind answer_of after settings first taken
 
-      pub record Accounts (pend : List Command) (owing : List (Command × Reply)) (lost : List Command) (front : List Event) (waiting : List Command) (events : List Event) (t : Account) : Type 0 where
+      pub record Accounts (pend : List Command) (owing : List (Command × Reply)) (lost : List Command) (front new : List Event) (waiting : List Command) (events : List Event) (t : Account) : Type 0 where
         pub issued : t.issued ≡ t.taken ++ (pend ++ waiting)
         pub settled : t.settled ++ owing ≡ with_answers answer_of after settings first t.taken
         pub unsettled : t.unsettled ≡ lost
         pub told : (past : List Event) × (t.queued ≡ past ++ events) × (t.reported ≡ past ++ front)
+        pub offered : t.offered ≡ t.reported ++ new
 
       -- all of it
       pub record Holds (pd : PdId) (at : Stage) (l : Link H) : Type 0 where
@@ -284,4 +292,4 @@ module _ (fixed : ControllerConfig) where
         pub answering : Answering l.account.taken l.reader
         pub to_reader : ToReaderAt at l.to_reader
         pub to_controller : ToControllerAt at l.to_controller
-        pub account : Accounts (pending_at at) (owed_at at) (given_up_at at l.controller.session.state) (shown_at at) l.controller.waiting l.reader.queue.events l.account
+        pub account : Accounts (pending_at at) (owed_at at) (given_up_at at l.controller.session.state) (shown_at at) (unreported_at at) l.controller.waiting l.reader.queue.events l.account

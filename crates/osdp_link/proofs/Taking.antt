@@ -35,7 +35,7 @@ module _ (fixed : ControllerConfig) {H : Type 0} (answer_of : H → Command → 
       record l {
         reader = o.reader;
         to_controller = l.to_controller ++ option_to_list o.reply;
-        account = link.taken kind o.command l.account;
+        account = link.taken kind o.command (link.front_of l.reader) l.account;
       }
 
   -- the reader stays as it is, and says this
@@ -71,7 +71,7 @@ module _ (fixed : ControllerConfig) {H : Type 0} (answer_of : H → Command → 
       subst (λ c. AtStage at (record l {
         reader = (begun answer_of after c l.reader p).reader;
         to_controller = l.to_controller ++ option_to_list (begun answer_of after c l.reader p).reply;
-        account = link.taken Zero (begun answer_of after c l.reader p).command l.account;
+        account = link.taken Zero (begun answer_of after c l.reader p).command (link.front_of l.reader) l.account;
       })) (sym reads) (record {
         stage = h.stage;
         controller = h.controller;

@@ -138,7 +138,7 @@ module _ (fixed : ControllerConfig) {H : Type 0} (answer_of : H → Command → 
   to_reader_more : (ps : List Packet) (l : Link H) → counted l.account ≤ counted (link.to_reader answer_of after ps Delivered l).account
   to_reader_more [] l = omega arith
   to_reader_more (p ∷ ps) l =
-      let is = (taken_takes (kind_of l.reader p) (hears answer_of after l.reader p).command l.account).1 in
+      let is = (taken_takes (kind_of l.reader p) (hears answer_of after l.reader p).command (link.front_of l.reader) l.account).1 in
       omega (arith, ap counted is)
 
   to_controller_more : (qs : List Packet) (now : ℕ) (l : Link H) → counted l.account ≤ counted (link.to_controller qs Delivered now l).account

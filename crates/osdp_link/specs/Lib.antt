@@ -5,3 +5,4 @@ pub mod Sessions
 pub mod Progress
 pub mod Refusals
 pub mod Addresses
+pub mod TwoLists

@@ -1,5 +1,5 @@
 -- One link: a controller, a reader, and the packets that are on the way between them.
-use Rattle.std.specs.Prelude.{ℕ, Bool, true, false, ◌==◌, List, [], ◌∷◌, ◌++◌, length, Option, Some, None, option_to_list}
+use Rattle.std.specs.Prelude.{ℕ, Bool, true, false, ◌==◌, List, [], ◌∷◌, ◌++◌, length, take, Option, Some, None, option_to_list}
 use Rattle.osdp_frame.specs.Packet.{Packet}
 use Rattle.osdp_msg.specs.declared.command.Command.{Command}
 use Rattle.osdp_msg.specs.declared.command.Command.TheVariants.{Poll}
@@ -16,22 +16,26 @@ use Rattle.osdp_controller.specs.Ticking.{Ticked, ticks}
 use Rattle.osdp_reader.specs.declared.handler.Answer.{Answer}
 use Rattle.osdp_reader.specs.declared.kind.Kind.{Kind}
 use Rattle.osdp_reader.specs.declared.kind.Kind.TheVariants as kind
+use Rattle.osdp_reader.specs.Queue.{released}
 use Rattle.osdp_reader.specs.State as readers
 use Rattle.osdp_reader.specs.State.{ReaderState}
 use Rattle.osdp_reader.specs.Table as reader
 
 -- what a session comes to: the commands that waited when it began and those accepted since, the events likewise, the commands
--- other than POLL that the reader has taken, those settled, each with its answer, those told unsettled, and the events reported
+-- other than POLL that the reader has taken, those settled, each with its answer, those told unsettled, the events that the reader has
+-- offered, and those reported
 pub record Account : Type 0 where
   pub issued : List Command
   pub queued : List Event
   pub taken : List Command
   pub settled : List (Command × Reply)
   pub unsettled : List Command
+  pub offered : List Event
   pub reported : List Event
 
 abbrev pub new_account : List Command → List Event → Account
-new_account waiting events = record { issued = waiting; queued = events; taken = []; settled = []; unsettled = []; reported = [] }
+new_account waiting events =
+    record { issued = waiting; queued = events; taken = []; settled = []; unsettled = []; offered = []; reported = [] }
 
 -- both ends, what either has sent and the other has not had yet, the oldest first, the account of the session, and those of the
 -- sessions before it, the last of them first
@@ -71,16 +75,20 @@ told (Some (report.PollAnswered answer)) t = t
 told (Some (report.Unread command code)) t = t
 told (Some (report.Lost cause command)) t = record t { unsettled = t.unsettled ++ option_to_list command }
 
--- .. and behind a command with a number that is taken
-abbrev pub taken_command : Command → Account → Account
-taken_command Poll t = t
-taken_command command t = record t { taken = t.taken ++ command ∷ [] }
+-- .. and behind a command with a number that is taken: a POLL offers the event in front, if there is one
+abbrev pub taken_command : Command → List Event → Account → Account
+taken_command Poll front t = record t { offered = t.offered ++ front }
+taken_command command front t = record t { taken = t.taken ++ command ∷ [] }
 
-abbrev pub taken : Kind → Option Command → Account → Account
-taken kind.Taken (Some command) t = taken_command command t
-taken _ _ t = t
+abbrev pub taken : Kind → Option Command → List Event → Account → Account
+taken kind.Taken (Some command) front t = taken_command command front t
+taken _ _ front t = t
 
 module _ {H : Type 0} where
+  -- the event that comes next, once an offered one has left
+  abbrev pub front_of : ReaderState H → List Event
+  front_of r = take 1 (released r.queue).events
+
   abbrev pub submits : Option ControllerFault → Command → Link H → Link H
   submits (Some fault) command l = l
   submits None command l = record l {
@@ -134,7 +142,7 @@ module _ {H : Type 0} where
         record l {
           reader = outcome.reader;
           to_controller = l.to_controller ++ option_to_list outcome.reply;
-          account = taken (reader.kind_of l.reader p) outcome.command l.account;
+          account = taken (reader.kind_of l.reader p) outcome.command (front_of l.reader) l.account;
         }
 
     abbrev pub to_reader : List Packet → Delivery → Link H → Link H

@@ -8,6 +8,7 @@ ghost use Rattle.osdp_link.specs.Addresses.{StayWhereTheyAre};
 ghost use Rattle.osdp_link.specs.Progress.{ComesThrough, ComesThroughInTime};
 ghost use Rattle.osdp_link.specs.Refusals.{RefusesNoNumber};
 ghost use Rattle.osdp_link.specs.Sessions.{CommandsHavePlaces, EventsHavePlaces, LastOneLasts, StayInARow};
+ghost use Rattle.osdp_link.specs.TwoLists.{IsReadOff, KeepsInStep, MovesInStep, OffersOnce};
 
 use osdp_reader::Handler;
 
@@ -100,4 +101,27 @@ pub fn comes_through_in_time<H: Handler>()
     read_each_other::<H>();
     osdp_controller_laws::stays_in_range();
     osdp_controller_laws::ticks_come_due();
+}
+
+/// Within each session the events that the reader has offered are a beginning of those queued, and hold those reported. Of the last command
+/// taken and the last event offered at most one isn't told yet.
+pub fn offers_once<H: Handler>()
+    ensures { OffersOnce H.answer_of H.after }
+{
+    read_each_other::<H>();
+}
+
+/// Two lists and four counts: no step takes more commands than are issued or offers more events than are queued, settles one that wasn't
+/// taken or reports one that wasn't offered, and at most one is taken or offered and not yet told.
+pub fn keeps_in_step()
+    ensures { KeepsInStep }
+{}
+
+/// A link is two lists and four counts: the lists of its account are read off them, and each of its moves is one step or none. So what the
+/// headline says can be seen without packets, numbers and timers.
+pub fn moves_in_step<H: Handler>()
+    ensures read { IsReadOff H.answer_of H.after }
+    ensures moves { MovesInStep H.answer_of H.after }
+{
+    read_each_other::<H>();
 }

@@ -1,9 +1,10 @@
 -- The lists of an account, session by session.
-use Rattle.std.proofs.Common.{◌≡◌, List, [], ◌∷◌, ◌++◌, length, Option, Some, None, refl, sym, ap, ◌∙◌, append_assoc}
-use Rattle.std.proofs.lemmas.List.{append-nil}
+use Rattle.std.proofs.Common.{◌≡◌, ◌<◌, ◌+◌, List, [], ◌∷◌, ◌++◌, length, Option, Some, None, refl, sym, ap, ◌∙◌, arith, append_assoc}
+use Rattle.std.proofs.lemmas.List.{append-nil, length-append}
 use Rattle.std.specs.Prelude.{option_to_list}
 use Rattle.osdp_msg.specs.declared.command.Command.{Command}
 use Rattle.osdp_msg.specs.declared.command.Command.TheVariants as command
+use Rattle.osdp_msg.specs.declared.event.Event.{Event}
 use Rattle.osdp_msg.specs.declared.reply.Reply.TheVariants as reply
 use Rattle.osdp_controller.specs.declared.report.Report.{Report}
 use Rattle.osdp_controller.specs.declared.report.Report.TheVariants as report
@@ -11,37 +12,32 @@ use Rattle.osdp_reader.specs.declared.kind.Kind.{Kind}
 use Rattle.osdp_reader.specs.declared.kind.Kind.TheVariants as kind
 use Rattle.osdp_link.specs.Link as link
 use Rattle.osdp_link.specs.Refusals as refusals
+use Rattle.osdp_link.specs.Sessions.{Leaves, settled_commands, told_in}
 use Rattle.osdp_link.proofs.Lines.{each_append}
 use Rattle.osdp_link.proofs.Stages.{Each}
 use Rattle.osdp_sim.specs.Account.{Account, lengths_of, taken_by, taken_command, with_report, with_session, with_taken}
 use Rattle.osdp_sim.specs.declared.account.End.TheVariants as ending
-use Rattle.osdp_sim_laws.specs.Accounts.{AreCuts, IsNoRefusal, all_in}
-
--- what was taken, settled, told unsettled and reported is what these sessions came to, and the cuts are theirs
-pub record Tells (a : Account) (t : link.Account) (earlier : List link.Account) : Type 0 where
-  pub taken : a.taken ≡ all_in (λ t. t.taken) (t ∷ earlier)
-  pub settled : a.settled ≡ all_in (λ t. t.settled) (t ∷ earlier)
-  pub unsettled : a.unsettled ≡ all_in (λ t. t.unsettled) (t ∷ earlier)
-  pub reported : a.reported ≡ all_in (λ t. t.reported) (t ∷ earlier)
-  pub sessions : AreCuts a.sessions (t ∷ earlier)
+use Rattle.osdp_sim.specs.declared.account.Lengths.{Lengths}
+use Rattle.osdp_sim_laws.specs.Accounts.{AreOver, IsNoRefusal, IsOf, all_in}
 
 -- what comes behind the list of the last session comes behind them all
 behind : {A : Type 0} (xs before last more : List A) → xs ≡ before ++ last → xs ++ more ≡ before ++ (last ++ more)
 behind xs before last more is = ap (λ l. l ++ more) is ∙ append_assoc before last more
 
-behind_taken : (more : List Command) (a : Account) (t : link.Account) (earlier : List link.Account) → Tells a t earlier
-    → Tells (with_taken more a) (record t { taken = t.taken ++ more }) earlier
+behind_taken : (more : List Command) (a : Account) (t : link.Account) (earlier : List link.Account) → IsOf a t earlier
+    → IsOf (with_taken more a) (record t { taken = t.taken ++ more }) earlier
 behind_taken more a t earlier h = record {
   taken = behind a.taken (all_in (λ t. t.taken) earlier) t.taken more h.taken;
   settled = h.settled;
   unsettled = h.unsettled;
   reported = h.reported;
-  sessions = h.sessions;
+  issued = h.issued;
+  queued = h.queued;
 }
 
 -- a report
-pub tells_report : (r : Option Report) (a : Account) (t : link.Account) (earlier : List link.Account) → Tells a t earlier
-    → Tells (with_report r a) (link.told r t) earlier
+pub tells_report : (r : Option Report) (a : Account) (t : link.Account) (earlier : List link.Account) → IsOf a t earlier
+    → IsOf (with_report r a) (link.told r t) earlier
 tells_report None a t earlier h = h
 tells_report (Some (report.Opened id)) a t earlier h = h
 tells_report (Some (report.Settled command answer)) a t earlier h = record {
@@ -49,21 +45,24 @@ tells_report (Some (report.Settled command answer)) a t earlier h = record {
   settled = behind a.settled (all_in (λ t. t.settled) earlier) t.settled ((command, answer) ∷ []) h.settled;
   unsettled = h.unsettled;
   reported = h.reported;
-  sessions = h.sessions;
+  issued = h.issued;
+  queued = h.queued;
 }
 tells_report (Some (report.Moved command answered)) a t earlier h = record {
   taken = h.taken;
   settled = behind a.settled (all_in (λ t. t.settled) earlier) t.settled ((command, reply.Com answered) ∷ []) h.settled;
   unsettled = h.unsettled;
   reported = h.reported;
-  sessions = h.sessions;
+  issued = h.issued;
+  queued = h.queued;
 }
 tells_report (Some (report.Event event)) a t earlier h = record {
   taken = h.taken;
   settled = h.settled;
   unsettled = h.unsettled;
   reported = behind a.reported (all_in (λ t. t.reported) earlier) t.reported (event ∷ []) h.reported;
-  sessions = h.sessions;
+  issued = h.issued;
+  queued = h.queued;
 }
 tells_report (Some (report.PollAnswered answer)) a t earlier h = h
 tells_report (Some (report.Unread command code)) a t earlier h = h
@@ -72,73 +71,164 @@ tells_report (Some (report.Lost cause command)) a t earlier h = record {
   settled = h.settled;
   unsettled = behind a.unsettled (all_in (λ t. t.unsettled) earlier) t.unsettled (option_to_list command) h.unsettled;
   reported = h.reported;
-  sessions = h.sessions;
+  issued = h.issued;
+  queued = h.queued;
 }
 
 -- a command that is taken: POLL is none of them
-taken_alike : (c : Command) (a : Account) (t : link.Account) (earlier : List link.Account) → Tells a t earlier
-    → Tells (with_taken (taken_command (Some c)) a) (link.taken_command c t) earlier
-taken_alike command.Poll a t earlier h = record {
+taken_alike : (c : Command) (front : List Event) (a : Account) (t : link.Account) (earlier : List link.Account) → IsOf a t earlier
+    → IsOf (with_taken (taken_command (Some c)) a) (link.taken_command c front t) earlier
+taken_alike command.Poll front a t earlier h = record {
   taken = append-nil a.taken ∙ h.taken;
   settled = h.settled;
   unsettled = h.unsettled;
   reported = h.reported;
-  sessions = h.sessions;
+  issued = h.issued;
+  queued = h.queued;
 }
-taken_alike (command.Id kept) a t earlier h = behind_taken (command.Id kept ∷ []) a t earlier h
-taken_alike (command.Cap kept) a t earlier h = behind_taken (command.Cap kept ∷ []) a t earlier h
-taken_alike command.LocalStatus a t earlier h = behind_taken (command.LocalStatus ∷ []) a t earlier h
-taken_alike command.InputStatus a t earlier h = behind_taken (command.InputStatus ∷ []) a t earlier h
-taken_alike command.OutputStatus a t earlier h = behind_taken (command.OutputStatus ∷ []) a t earlier h
-taken_alike command.ReaderStatus a t earlier h = behind_taken (command.ReaderStatus ∷ []) a t earlier h
-taken_alike (command.Output records) a t earlier h = behind_taken (command.Output records ∷ []) a t earlier h
-taken_alike (command.Led records) a t earlier h = behind_taken (command.Led records ∷ []) a t earlier h
-taken_alike (command.Buzzer b) a t earlier h = behind_taken (command.Buzzer b ∷ []) a t earlier h
-taken_alike (command.Text text) a t earlier h = behind_taken (command.Text text ∷ []) a t earlier h
-taken_alike (command.Comset c) a t earlier h = behind_taken (command.Comset c ∷ []) a t earlier h
-taken_alike (command.Maker m) a t earlier h = behind_taken (command.Maker m ∷ []) a t earlier h
+taken_alike (command.Id kept) front a t earlier h = behind_taken (command.Id kept ∷ []) a t earlier h
+taken_alike (command.Cap kept) front a t earlier h = behind_taken (command.Cap kept ∷ []) a t earlier h
+taken_alike command.LocalStatus front a t earlier h = behind_taken (command.LocalStatus ∷ []) a t earlier h
+taken_alike command.InputStatus front a t earlier h = behind_taken (command.InputStatus ∷ []) a t earlier h
+taken_alike command.OutputStatus front a t earlier h = behind_taken (command.OutputStatus ∷ []) a t earlier h
+taken_alike command.ReaderStatus front a t earlier h = behind_taken (command.ReaderStatus ∷ []) a t earlier h
+taken_alike (command.Output records) front a t earlier h = behind_taken (command.Output records ∷ []) a t earlier h
+taken_alike (command.Led records) front a t earlier h = behind_taken (command.Led records ∷ []) a t earlier h
+taken_alike (command.Buzzer b) front a t earlier h = behind_taken (command.Buzzer b ∷ []) a t earlier h
+taken_alike (command.Text text) front a t earlier h = behind_taken (command.Text text ∷ []) a t earlier h
+taken_alike (command.Comset c) front a t earlier h = behind_taken (command.Comset c ∷ []) a t earlier h
+taken_alike (command.Maker m) front a t earlier h = behind_taken (command.Maker m ∷ []) a t earlier h
 
 -- nothing is taken
-none_taken : (a : Account) (t : link.Account) (earlier : List link.Account) → Tells a t earlier → Tells (with_taken [] a) t earlier
+none_taken : (a : Account) (t : link.Account) (earlier : List link.Account) → IsOf a t earlier → IsOf (with_taken [] a) t earlier
 none_taken a t earlier h = record {
   taken = append-nil a.taken ∙ h.taken;
   settled = h.settled;
   unsettled = h.unsettled;
   reported = h.reported;
-  sessions = h.sessions;
+  issued = h.issued;
+  queued = h.queued;
 }
 
-pub tells_taken : (k : Kind) (c : Option Command) (a : Account) (t : link.Account) (earlier : List link.Account) → Tells a t earlier
-    → Tells (with_taken (taken_by k c) a) (link.taken k c t) earlier
-tells_taken kind.Taken (Some c) a t earlier h = taken_alike c a t earlier h
-tells_taken kind.Taken None a t earlier h = none_taken a t earlier h
-tells_taken kind.Silent c a t earlier h = none_taken a t earlier h
-tells_taken kind.Secured c a t earlier h = none_taken a t earlier h
-tells_taken kind.Zero c a t earlier h = none_taken a t earlier h
-tells_taken kind.Repeat c a t earlier h = none_taken a t earlier h
-tells_taken kind.Busy c a t earlier h = none_taken a t earlier h
-tells_taken kind.Wrong c a t earlier h = none_taken a t earlier h
+pub tells_taken : (k : Kind) (c : Option Command) (front : List Event) (a : Account) (t : link.Account) (earlier : List link.Account) → IsOf a t earlier
+    → IsOf (with_taken (taken_by k c) a) (link.taken k c front t) earlier
+tells_taken kind.Taken (Some c) front a t earlier h = taken_alike c front a t earlier h
+tells_taken kind.Taken None front a t earlier h = none_taken a t earlier h
+tells_taken kind.Silent c front a t earlier h = none_taken a t earlier h
+tells_taken kind.Secured c front a t earlier h = none_taken a t earlier h
+tells_taken kind.Zero c front a t earlier h = none_taken a t earlier h
+tells_taken kind.Repeat c front a t earlier h = none_taken a t earlier h
+tells_taken kind.Busy c front a t earlier h = none_taken a t earlier h
+tells_taken kind.Wrong c front a t earlier h = none_taken a t earlier h
 
--- a session begins: its lists are empty
-pub tells_session : (a : Account) (t next : link.Account) (earlier : List link.Account)
-    → next.taken ≡ [] → next.settled ≡ [] → next.unsettled ≡ [] → next.reported ≡ []
-    → Tells a t earlier → Tells (with_session a) next (t ∷ earlier)
-tells_session a t next earlier taken settled unsettled reported h = record {
-  taken = h.taken ∙ with_nothing (all_in (λ t. t.taken) (t ∷ earlier)) next.taken taken;
-  settled = h.settled ∙ with_nothing (all_in (λ t. t.settled) (t ∷ earlier)) next.settled settled;
-  unsettled = h.unsettled ∙ with_nothing (all_in (λ t. t.unsettled) (t ∷ earlier)) next.unsettled unsettled;
-  reported = h.reported ∙ with_nothing (all_in (λ t. t.reported) (t ∷ earlier)) next.reported reported;
-  sessions = (
-    a.sessions,
-    lengths_of a,
-    refl,
-    record { taken = ap length h.taken; settled = ap length h.settled; unsettled = ap length h.unsettled; reported = ap length h.reported },
-    h.sessions,
+-- more events come after all of them
+over_more : (cuts : List Lengths) (next more : List Event) (earlier : List link.Account) (gone : List Event) → AreOver cuts next earlier gone
+    → AreOver cuts (next ++ more) earlier gone
+over_more cuts next more [] gone none = none
+over_more cuts next more (t ∷ earlier) gone (before, past, over, is) = (
+  before,
+  past,
+  over,
+  record {
+    at = is.at;
+    left = is.left;
+    waits = is.waits;
+    again = is.again;
+    begins = is.begins;
+    cut = is.cut;
+    queued = is.queued;
+    goes = is.goes;
+    first = (is.first.0 ++ more, behind next is.waits is.first.0 more is.first.1);
+    reported = is.reported;
+    front = is.front;
+    few = is.few;
+  },
+)
+
+-- a session has begun for each that is over, and the one that lasts
+pub begun : (cuts : List Lengths) (next : List Event) (earlier : List link.Account) (gone : List Event) → AreOver cuts next earlier gone
+    → length cuts ≡ length earlier + 1
+begun cuts next [] gone none = ap length none.0
+begun cuts next (t ∷ earlier) gone (before, past, over, is) =
+    omega (arith, ap length is.begins, length-append before (is.at ∷ []), begun before t.queued earlier past over)
+
+pub some_begun : (cuts : List Lengths) (next : List Event) (earlier : List link.Account) (gone : List Event) → AreOver cuts next earlier gone
+    → 0 < length cuts
+some_begun cuts next earlier gone over = omega (arith, begun cuts next earlier gone over)
+
+pub tells_issued : (command : Command) (a : Account) (t : link.Account) (earlier : List link.Account) → IsOf a t earlier
+    → IsOf (record a { issued = a.issued ++ command ∷ [] }) (record t { issued = t.issued ++ command ∷ [] }) earlier
+tells_issued command a t earlier h = record {
+  issued = behind a.issued (told_in earlier) t.issued (command ∷ []) h.issued;
+  queued = h.queued;
+  taken = h.taken;
+  settled = h.settled;
+  unsettled = h.unsettled;
+  reported = h.reported;
+}
+
+pub tells_queued : (event : Event) (a : Account) (t : link.Account) (earlier : List link.Account) → IsOf a t earlier
+    → IsOf (record a { queued = a.queued ++ event ∷ [] }) (record t { queued = t.queued ++ event ∷ [] }) earlier
+tells_queued event a t earlier h = record {
+  issued = h.issued;
+  queued = (
+    h.queued.0,
+    over_more a.sessions t.queued (event ∷ []) earlier h.queued.0 h.queued.1,
+    behind a.queued h.queued.0 t.queued (event ∷ []) h.queued.2,
   );
+  taken = h.taken;
+  settled = h.settled;
+  unsettled = h.unsettled;
+  reported = h.reported;
 }
-  where
-    with_nothing : {A : Type 0} (xs ys : List A) → ys ≡ [] → xs ≡ xs ++ ys
-    with_nothing xs ys none = sym (append-nil xs) ∙ ap (λ l. xs ++ l) (sym none)
+
+-- a session begins with what the one before has left, which has ended
+pub tells_session : (a : Account) (t : link.Account) (waiting : List Command) (events : List Event) (earlier : List link.Account)
+    → Leaves t waiting events → length a.ends ≡ length a.sessions → IsOf a t earlier
+    → IsOf (with_session a) (link.new_account waiting events) (t ∷ earlier)
+tells_session a t waiting events earlier leaves ended h =
+    let gone = h.queued.0 in
+    let left = leaves.reported in
+    record {
+      issued = h.issued
+          ∙ ap (λ all. told_in earlier ++ all) (leaves.commands ∙ sym (append_assoc (settled_commands t) t.unsettled waiting))
+          ∙ sym (append_assoc (told_in earlier) (settled_commands t ++ t.unsettled) waiting);
+      queued = (
+        gone ++ left.0,
+        (
+          a.sessions,
+          gone,
+          h.queued.1,
+          record {
+            at = lengths_of a;
+            left = left.0;
+            waits = events;
+            again = left.1;
+            begins = refl;
+            cut = record {
+              issued = ap length h.issued;
+              taken = ap length h.taken;
+              settled = ap length h.settled;
+              unsettled = ap length h.unsettled;
+              queued = ap length h.queued.2;
+              reported = ap length h.reported;
+              ends = omega (arith, ended, begun a.sessions t.queued earlier gone h.queued.1);
+            };
+            queued = left.2;
+            goes = refl;
+            first = ([], sym (append-nil events));
+            reported = left.3;
+            front = left.4;
+            few = left.5;
+          },
+        ),
+        h.queued.2 ∙ ap (λ all. gone ++ all) left.2 ∙ sym (append_assoc gone left.0 events),
+      );
+      taken = h.taken ∙ sym (append-nil (all_in (λ t. t.taken) (t ∷ earlier)));
+      settled = h.settled ∙ sym (append-nil (all_in (λ t. t.settled) (t ∷ earlier)));
+      unsettled = h.unsettled ∙ sym (append-nil (all_in (λ t. t.unsettled) (t ∷ earlier)));
+      reported = h.reported ∙ sym (append-nil (all_in (λ t. t.reported) (t ∷ earlier)));
+    }
 
 -- ---- how sessions end
 

@@ -16,9 +16,10 @@ use Rattle.osdp_controller.specs.declared.state.State.{State}
 use Rattle.osdp_controller.specs.declared.state.State.TheVariants.{Closed, Quiet, Idle, Waiting, Pausing}
 use Rattle.osdp_reader.specs.State as readers
 use Rattle.osdp_link.specs.Link as link
-use Rattle.osdp_link.specs.Link.{Link, new_account}
+use Rattle.osdp_link.specs.Link.{Link}
 use Rattle.osdp_link.specs.Refusals as refusals
 use Rattle.osdp_link.specs.Sessions as sessions
+use Rattle.osdp_link.specs.Sessions.{Leaves}
 use Rattle.osdp_link.proofs.Lines.{each_append}
 use Rattle.osdp_link.proofs.Stages.{Each}
 use Rattle.osdp_sim.specs.Account.{Account}
@@ -26,9 +27,9 @@ use Rattle.osdp_sim.specs.Line.{sent}
 use Rattle.osdp_sim.specs.State.{SimState}
 use Rattle.osdp_sim.specs.Steps as steps
 use Rattle.osdp_sim.specs.declared.fault.Cause.TheVariants.{NotQuiet}
-use Rattle.osdp_sim_laws.specs.Accounts.{IsNoRefusal}
+use Rattle.osdp_sim_laws.specs.Accounts.{IsNoRefusal, IsOf}
 use Rattle.osdp_sim_laws.specs.Moves.{in_bytes}
-use Rattle.osdp_sim_laws.proofs.Accounts.{Tells, causes_of, report_leaves, tells_report, tells_session}
+use Rattle.osdp_sim_laws.proofs.Accounts.{causes_of, report_leaves, tells_issued, tells_queued, tells_report, tells_session}
 
 sent_is : (o : Option Packet) → map spelling (option_to_list o) ≡ sent o
 sent_is None = refl
@@ -77,13 +78,13 @@ module _ {H : Type 0} where
   pub record IsCarried (s : SimState H) (l : Link H) (clock : ℕ) (a : Account) (commands : List Command) (events : List Event) (told : List Report) : Type 0 where
     pub state : s ≡ in_bytes l clock s.account
     pub packets : ArePackets l
-    pub tells : Tells s.account l.account l.earlier
+    pub tells : IsOf s.account l.account l.earlier
     pub issued : s.account.issued ≡ a.issued ++ commands
     pub queued : s.account.queued ≡ a.queued ++ events
     pub causes : Each refusals.IsNoRefusal told → Each IsNoRefusal a.ends → Each IsNoRefusal s.account.ends
 
   -- nothing happens
-  pub nothing : (l : Link H) (clock : ℕ) (a : Account) → ArePackets l → Tells a l.account l.earlier
+  pub nothing : (l : Link H) (clock : ℕ) (a : Account) → ArePackets l → IsOf a l.account l.earlier
       → IsCarried (in_bytes l clock a) l clock a [] [] []
   nothing l clock a packets tells = record {
     state = refl;
@@ -96,41 +97,31 @@ module _ {H : Type 0} where
 
   -- ---- calls
 
-  tells_issued : (command : Command) (l : Link H) (a : Account) → Tells a l.account l.earlier
-      → Tells (record a { issued = a.issued ++ command ∷ [] }) (record l.account { issued = l.account.issued ++ command ∷ [] }) l.earlier
-  tells_issued command l a h =
-      record { taken = h.taken; settled = h.settled; unsettled = h.unsettled; reported = h.reported; sessions = h.sessions }
-
-  pub issuing : (fault : Option ControllerFault) (command : Command) (l : Link H) (clock : ℕ) (a : Account) → ArePackets l → Tells a l.account l.earlier
+  pub issuing : (fault : Option ControllerFault) (command : Command) (l : Link H) (clock : ℕ) (a : Account) → ArePackets l → IsOf a l.account l.earlier
       → IsCarried (steps.issued fault command (in_bytes l clock a)) (link.submits fault command l) clock a (sessions.accepted fault command ++ []) [] []
   issuing (Some fault) command l clock a packets tells = nothing l clock a packets tells
   issuing None command l clock a packets tells = record {
     state = refl;
     packets = record { to_reader = packets.to_reader; to_controller = packets.to_controller };
-    tells = tells_issued command l a tells;
+    tells = tells_issued command a l.account l.earlier tells;
     issued = refl;
     queued = sym (append-nil a.queued);
     causes = λ told well. well;
   }
 
-  tells_queued : (event : Event) (l : Link H) (a : Account) → Tells a l.account l.earlier
-      → Tells (record a { queued = a.queued ++ event ∷ [] }) (record l.account { queued = l.account.queued ++ event ∷ [] }) l.earlier
-  tells_queued event l a h =
-      record { taken = h.taken; settled = h.settled; unsettled = h.unsettled; reported = h.reported; sessions = h.sessions }
-
-  pub queueing : (full : Bool) (event : Event) (l : Link H) (clock : ℕ) (a : Account) → ArePackets l → Tells a l.account l.earlier
+  pub queueing : (full : Bool) (event : Event) (l : Link H) (clock : ℕ) (a : Account) → ArePackets l → IsOf a l.account l.earlier
       → IsCarried (steps.queued full event (in_bytes l clock a)) (link.queues full event l) clock a [] (sessions.queued_unless full event ++ []) []
   queueing true event l clock a packets tells = nothing l clock a packets tells
   queueing false event l clock a packets tells = record {
     state = refl;
     packets = record { to_reader = packets.to_reader; to_controller = packets.to_controller };
-    tells = tells_queued event l a tells;
+    tells = tells_queued event a l.account l.earlier tells;
     issued = sym (append-nil a.issued);
     queued = refl;
     causes = λ told well. well;
   }
 
-  pub setting_busy : (busy : Bool) (l : Link H) (clock : ℕ) (a : Account) → ArePackets l → Tells a l.account l.earlier
+  pub setting_busy : (busy : Bool) (l : Link H) (clock : ℕ) (a : Account) → ArePackets l → IsOf a l.account l.earlier
       → let changed = readers.after_set_busy busy l.reader in
       IsCarried (record (in_bytes l clock a) { reader = changed }) (record l { reader = changed }) clock a [] [] []
   setting_busy busy l clock a packets tells = record {
@@ -144,7 +135,7 @@ module _ {H : Type 0} where
 
   -- ---- moments
 
-  pub ticking : (t : Ticked) (now : ℕ) (l : Link H) (clock : ℕ) (a : Account) → ArePackets l → Tells a l.account l.earlier
+  pub ticking : (t : Ticked) (now : ℕ) (l : Link H) (clock : ℕ) (a : Account) → ArePackets l → IsOf a l.account l.earlier
       → IfSome t.step.frame IsPacket
       → IsCarried (steps.ticked t now (in_bytes l clock a)) (link.ticked t l) now a [] [] (option_to_list t.step.report ++ [])
   ticking t now l clock a packets tells fits =
@@ -164,22 +155,27 @@ module _ {H : Type 0} where
 
   -- ---- sessions
 
+  -- the session has ended, and leaves what the next one begins with
+  pub record HasLeft (l : Link H) (a : Account) : Type 0 where
+    pub leaves : Leaves l.account l.controller.waiting l.reader.queue.events
+    pub ended : length a.ends ≡ length a.sessions
+
   -- a session begins again where nothing is on the line and the one before has ended
-  begins_again : (l : Link H) (clock : ℕ) (a : Account) → ArePackets l → Tells a l.account l.earlier
+  begins_again : (l : Link H) (clock : ℕ) (a : Account) → HasLeft l a → ArePackets l → IsOf a l.account l.earlier
       → IsCarried (steps.reopened (in_bytes l clock a)) (link.reopens None [] [] clock l) clock a [] [] []
-  begins_again l clock a packets tells = record {
+  begins_again l clock a left packets tells = record {
     state = refl;
     packets = record { to_reader = packets.to_reader; to_controller = packets.to_controller };
-    tells = tells_session a l.account (new_account l.controller.waiting l.reader.queue.events) l.earlier refl refl refl refl tells;
+    tells = tells_session a l.account l.controller.waiting l.reader.queue.events l.earlier left.leaves left.ended tells;
     issued = sym (append-nil a.issued);
     queued = sym (append-nil a.queued);
     causes = λ told well. well;
   }
 
   pub reopening : (ps qs : List Packet) (refusal : Option ControllerFault) (l : Link H) (clock : ℕ) (a : Account) → ps ≡ [] → qs ≡ [] → refusal ≡ None
-      → ArePackets l → Tells a l.account l.earlier
+      → HasLeft l a → ArePackets l → IsOf a l.account l.earlier
       → IsCarried (steps.reopened (in_bytes l clock a)) (link.reopens refusal ps qs clock l) clock a [] [] []
-  reopening [] [] None l clock a here there well packets tells = begins_again l clock a packets tells
-  reopening [] [] (Some fault) l clock a here there well packets tells = absurd cc
-  reopening [] (q ∷ qs) refusal l clock a here there well packets tells = absurd cc
-  reopening (p ∷ ps) qs refusal l clock a here there well packets tells = absurd cc
+  reopening [] [] None l clock a here there well left packets tells = begins_again l clock a left packets tells
+  reopening [] [] (Some fault) l clock a here there well left packets tells = absurd cc
+  reopening [] (q ∷ qs) refusal l clock a here there well left packets tells = absurd cc
+  reopening (p ∷ ps) qs refusal l clock a here there well left packets tells = absurd cc

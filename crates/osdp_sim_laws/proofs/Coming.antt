@@ -32,10 +32,11 @@ use Rattle.osdp_sim_laws.specs.Moves.{clock_after, clock_behind, delivery, first
 use Rattle.osdp_sim_laws.specs.OneLink.{OneLink}
 use Rattle.osdp_sim_laws.specs.Progress.{ComesOn, ComesThrough, IsClear, Recovers, clear, rounds}
 use Rattle.osdp_sim_laws.proofs.Clearing.{AtMost, Cleared, clears, losses_within, steps_few}
-use Rattle.osdp_sim_laws.proofs.Ends.{HaveEnded, count, run_ended, some_cut}
-use Rattle.osdp_sim_laws.proofs.Holding.{IsWithin, begins, no_account, run_within, steps_within, tells_nothing}
+use Rattle.osdp_sim_laws.proofs.Accounts.{some_begun}
+use Rattle.osdp_sim_laws.proofs.Ends.{HaveEnded, count, first_well, run_ended}
+use Rattle.osdp_sim_laws.proofs.Holding.{IsWithin, begins, goes_from_first, no_account, run_within, steps_within}
 use Rattle.osdp_sim_laws.proofs.Moments.{LinkInTime, begins_in_time, clock_on, controller_in_time, last_moment, queues_in_time, reader_in_time, submits_in_time, tick_in_time}
-use Rattle.osdp_sim_laws.proofs.Schedules.{Follows, first_well, goes_on, schedule_follows}
+use Rattle.osdp_sim_laws.proofs.Schedules.{Follows, goes_from, goes_on, schedule_follows}
 use Rattle.osdp_controller.specs.Machine as controllers
 
 -- the moments of so many rounds
@@ -131,7 +132,7 @@ module _ {H : Type 0} (answer_of : H → Command → Answer) (after : H → Comm
   well_on [] ys s well = (refl, well)
   well_on (x ∷ xs) ys s well =
       let next = after_step answer_of after x s in
-      let first = first_well answer_of after (fault_of x s) (is_well answer_of after (xs ++ ys) next) well in
+      let first = first_well (fault_of x s) (is_well answer_of after (xs ++ ys) next) well in
       let rest = well_on xs ys next first.1 in
       (none_and (fault_of x s) (is_well answer_of after xs next) first.0 rest.0, rest.1)
     where
@@ -191,13 +192,15 @@ module _ {H : Type 0} (answer_of : H → Command → Answer) (after : H → Comm
       let more = rounds m wait in
       let well = well_on steps more start is.well in
       let fits = fits_on steps more start is.fits in
-      let first = schedule_follows answer_of after given.reads steps l 0 no_account (record { to_reader = tt; to_controller = tt }) tells_nothing well.0 fits.0 in
+      let from = goes_from_first answer_of after given config handler is.settings.controller.config_in_range.address in
+      let first = schedule_follows answer_of after given.reads given.told steps l 0 no_account from well.0 fits.0 in
       let ms = moves_of steps 0 in
       let clock = clock_after steps 0 in
       let behind = link.run answer_of after ms l in
       let before = run answer_of after steps start in
       let there : before ≡ in_bytes behind clock before.account = first.carried.state in
-      let then_ = schedule_follows answer_of after given.reads more behind clock before.account first.carried.packets first.carried.tells
+      let then_ = schedule_follows answer_of after given.reads given.told more behind clock before.account
+      (goes_from answer_of after before ms l 0 clock no_account from first (run_ended answer_of after given.told steps start well.0 refl))
       (subst (λ s. is_well answer_of after more s ≡ true) there well.1) (subst (FitAlong answer_of after more) there fits.1) in
       let ns = moves_of more clock in
       let last = link.run answer_of after ns behind in
@@ -232,7 +235,8 @@ module _ {H : Type 0} (answer_of : H → Command → Answer) (after : H → Comm
         | inl closed ↦ absurd (
             let shut = ap (λ (s : SimState H). s.controller.session.state) next.carried.state ∙ subst (λ k. k.controller.session.state ≡ Closed) same closed in
             not_over end shut (subst HaveEnded ended all_ended)
-            (some_cut end.account.sessions (link.run answer_of after (ms ++ ns) l).account (link.run answer_of after (ms ++ ns) l).earlier whole.carried.tells.sessions) none)
+            (some_begun end.account.sessions (link.run answer_of after (ms ++ ns) l).account.queued (link.run answer_of after (ms ++ ns) l).earlier whole.carried.tells.queued.0
+            whole.carried.tells.queued.1) none)
         | inr on ↦ (
             let counted = subst (λ k. progress.ComeOn (moments_of m wait clock) behind.account k.account) same on in
             omega (arith, counted, count_of m wait clock, first_lists.settled, first_lists.reported, long_list.settled, long_list.reported, ap length long_list.issued, long_list.queued))
@@ -257,12 +261,14 @@ module _ {H : Type 0} (answer_of : H → Command → Answer) (after : H → Comm
       let before = run answer_of after all_steps start in
       let well = well_on all_steps more start is.well in
       let fits = fits_on all_steps more start is.fits in
-      let first = schedule_follows answer_of after given.reads all_steps l 0 no_account (record { to_reader = tt; to_controller = tt }) tells_nothing well.0 fits.0 in
+      let from = goes_from_first answer_of after given config handler is.settings.controller.config_in_range.address in
+      let first = schedule_follows answer_of after given.reads given.told all_steps l 0 no_account from well.0 fits.0 in
       let ms = moves_of all_steps 0 in
       let clock = clock_after all_steps 0 in
       let behind = link.run answer_of after ms l in
       let there : before ≡ in_bytes behind clock before.account = first.carried.state in
-      let next = schedule_follows answer_of after given.reads more behind clock before.account first.carried.packets first.carried.tells
+      let next = schedule_follows answer_of after given.reads given.told more behind clock before.account
+      (goes_from answer_of after before ms l 0 clock no_account from first (run_ended answer_of after given.told all_steps start well.0 refl))
       (subst (λ s. is_well answer_of after more s ≡ true) there well.1) (subst (FitAlong answer_of after more) there fits.1) in
       let ended : run answer_of after (all_steps ++ more) start ≡ run answer_of after more (in_bytes behind clock before.account) =
       runs_on all_steps more start ∙ ap (run answer_of after more) there in

@@ -22,13 +22,14 @@ use Rattle.osdp_sim.specs.Steps.{SaysFit, controller_hears, damage_fault, reader
 use Rattle.osdp_sim.specs.declared.step.Move as way
 use Rattle.osdp_sim.specs.declared.step.Move.TheVariants.{Deliver, Drop, Repeat, Damage}
 use Rattle.osdp_sim_laws.specs.OneLink.{ReadsPackets}
+use Rattle.osdp_sim_laws.specs.Accounts.{IsOf}
 use Rattle.osdp_sim_laws.specs.Moves.{delivery, in_bytes}
-use Rattle.osdp_sim_laws.proofs.Accounts.{Tells, causes_of, report_leaves, tells_report, tells_taken}
+use Rattle.osdp_sim_laws.proofs.Accounts.{causes_of, report_leaves, tells_report, tells_taken}
 use Rattle.osdp_sim_laws.proofs.Carrying.{ArePackets, IsCarried, packets_behind, sent_behind}
 
 module _ {H : Type 0} where
   -- nothing comes through
-  lost : (l : Link H) (s : SimState H) (clock : ℕ) (a : Account) → s ≡ in_bytes l clock a → ArePackets l → Tells a l.account l.earlier
+  lost : (l : Link H) (s : SimState H) (clock : ℕ) (a : Account) → s ≡ in_bytes l clock a → ArePackets l → IsOf a l.account l.earlier
       → IsCarried s l clock a [] [] []
   lost l s clock a is packets tells =
       let same = ap (λ (t : SimState H). t.account) is in
@@ -44,7 +45,7 @@ module _ {H : Type 0} where
   -- ---- to the controller
 
   heard : (p : Packet) (l : Link H) (line : List (List ℕ)) (clock : ℕ) (a : Account) → line ≡ map spelling l.to_controller
-      → ArePackets l → Tells a l.account l.earlier
+      → ArePackets l → IsOf a l.account l.earlier
       → IsCarried (controller_hears (p ∷ []) (record (in_bytes l clock a) { to_controller = line })) (link.controller_gets p clock l) clock a [] []
       (option_to_list (controller.hears p clock l.controller.session).report ++ [])
   heard p l line clock a is packets tells =
@@ -61,7 +62,7 @@ module _ {H : Type 0} where
       }
 
   -- nothing is on its way
-  none_to_controller : ReadsPackets → (l : Link H) (clock : ℕ) (a : Account) → l.to_controller ≡ [] → ArePackets l → Tells a l.account l.earlier
+  none_to_controller : ReadsPackets → (l : Link H) (clock : ℕ) (a : Account) → l.to_controller ≡ [] → ArePackets l → IsOf a l.account l.earlier
       → IsCarried (controller_hears (packets_in []) (record (in_bytes l clock a) { to_controller = [] })) l clock a [] [] []
   none_to_controller reads l clock a is packets tells =
       lost l _ clock a
@@ -70,7 +71,7 @@ module _ {H : Type 0} where
       packets tells
 
   pub to_controller : ReadsPackets → (ps : List Packet) (move : way.Move) (l : Link H) (clock : ℕ) (a : Account) → l.to_controller ≡ ps
-      → damage_fault move ≡ None → ArePackets l → Tells a l.account l.earlier
+      → damage_fault move ≡ None → ArePackets l → IsOf a l.account l.earlier
       → IsCarried
       (controller_hears (packets_in (handed move (map spelling ps))) (record (in_bytes l clock a) { to_controller = left move (map spelling ps) }))
       (link.to_controller ps (delivery move) clock l) clock a [] []
@@ -108,7 +109,7 @@ module _ {H : Type 0} where
 
   module _ (answer_of : H → Command → Answer) (after : H → Command → H) where
     answered : (p : Packet) (l : Link H) (line : List (List ℕ)) (clock : ℕ) (a : Account) → line ≡ map spelling l.to_reader
-        → IfSome (reader.hears answer_of after l.reader p).reply IsPacket → ArePackets l → Tells a l.account l.earlier
+        → IfSome (reader.hears answer_of after l.reader p).reply IsPacket → ArePackets l → IsOf a l.account l.earlier
         → IsCarried (reader_hears answer_of after (p ∷ []) (record (in_bytes l clock a) { to_reader = line })) (link.reader_gets answer_of after p l) clock a [] [] []
     answered p l line clock a is fits packets tells =
         let o = reader.hears answer_of after l.reader p in
@@ -121,7 +122,7 @@ module _ {H : Type 0} where
             to_reader = packets.to_reader;
             to_controller = packets_behind l.to_controller o.reply packets.to_controller fits;
           };
-          tells = tells_taken (reader.kind_of l.reader p) o.command a l.account l.earlier tells;
+          tells = tells_taken (reader.kind_of l.reader p) o.command (link.front_of l.reader) a l.account l.earlier tells;
           issued = sym (append-nil a.issued);
           queued = sym (append-nil a.queued);
           causes = λ told well. well;
@@ -129,7 +130,7 @@ module _ {H : Type 0} where
 
     pub to_reader : ReadsPackets → (ps : List Packet) (move : way.Move) (l : Link H) (clock : ℕ) (a : Account) → l.to_reader ≡ ps
         → damage_fault move ≡ None → SaysFit answer_of after (packets_in (handed move (map spelling ps))) l.reader
-        → ArePackets l → Tells a l.account l.earlier
+        → ArePackets l → IsOf a l.account l.earlier
         → IsCarried
         (reader_hears answer_of after (packets_in (handed move (map spelling ps))) (record (in_bytes l clock a) { to_reader = left move (map spelling ps) }))
         (link.to_reader answer_of after ps (delivery move) l) clock a [] [] []

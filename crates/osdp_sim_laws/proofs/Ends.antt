@@ -1,5 +1,5 @@
 -- Each session that has ended has one end.
-use Rattle.std.proofs.Common.{◌≡◌, ◌<◌, ◌+◌, ℕ, Bool, true, false, not, ◌&&◌, ◌||◌, ◌==◌, if◌then◌else◌, arith, List, [], ◌∷◌, length, Option, Some, None, inl, inr, refl, ap, ◌∙◌}
+use Rattle.std.proofs.Common.{◌≡◌, ◌<◌, ◌+◌, ℕ, Bool, true, false, not, ◌&&◌, ◌||◌, ◌==◌, if◌then◌else◌, arith, List, [], ◌∷◌, length, Option, Some, None, is_none, refl, ap, ◌∙◌}
 use Rattle.std.proofs.lemmas.List.{length-append}
 use Rattle.osdp_frame.specs.Packet.{Packet}
 use Rattle.osdp_msg.specs.declared.command.Command.{Command}
@@ -19,7 +19,6 @@ use Rattle.osdp_controller.specs.declared.state.State.{State}
 use Rattle.osdp_controller.specs.declared.state.State.TheVariants.{Closed, Quiet, Idle, Waiting, Pausing}
 use Rattle.osdp_controller_laws.specs.Commands.{tells_end}
 use Rattle.osdp_reader.specs.declared.handler.Answer.{Answer as HandlerAnswer}
-use Rattle.osdp_link.specs.Link as link
 use Rattle.osdp_link.proofs.Lines.{both}
 use Rattle.osdp_sim.specs.Account.{Account, lengths_of, with_report}
 use Rattle.osdp_sim.specs.Line.{handed, packets_in}
@@ -27,26 +26,17 @@ use Rattle.osdp_sim.specs.Runs.{is_well, run}
 use Rattle.osdp_sim.specs.State.{SimState}
 use Rattle.osdp_sim.specs.Steps as steps
 use Rattle.osdp_sim.specs.Steps.{after_step, controller_hears, fault_of, moment_behind, reader_hears}
-use Rattle.osdp_sim.specs.declared.account.Lengths.{Lengths}
 use Rattle.osdp_sim.specs.declared.account.End.TheVariants as ending
+use Rattle.osdp_sim.specs.declared.fault.Cause.{Cause}
 use Rattle.osdp_sim.specs.declared.fault.Cause.TheVariants.{NotQuiet}
 use Rattle.osdp_sim.specs.declared.step.SimStep.{SimStep}
 use Rattle.osdp_sim.specs.declared.step.SimStep.TheVariants.{Issue, Queue, Busy, Wait, ToReader, ToController, Reopen}
-use Rattle.osdp_sim_laws.specs.Accounts as accounts
-use Rattle.osdp_sim_laws.specs.Accounts.{AreCuts}
 use Rattle.osdp_sim_laws.specs.OneLink.{EndsAreTold}
-use Rattle.osdp_sim_laws.proofs.Schedules.{first_well}
 
--- a session has begun
-pub some_cut : (cuts : List Lengths) (t : link.Account) (earlier : List link.Account) → AreCuts cuts (t ∷ earlier) → 0 < length cuts
-some_cut cuts t earlier are = let whole = ap (λ l. length l) are.2 in omega (arith, whole, length-append are.0 (are.1 ∷ []))
-
--- .. one alone
-pub one_cut : (cuts : List Lengths) (t : link.Account) → AreCuts cuts (t ∷ []) → length cuts ≡ 1
-one_cut cuts t are =
-    let whole = ap (λ l. length l) are.2 in
-    let none = ap (λ l. length l) are.4 in
-    omega (arith, whole, none, length-append are.0 (are.1 ∷ []))
+-- the first step is well, and so are the others
+pub first_well : (fault : Option Cause) (rest : Bool) → (is_none fault && rest) ≡ true → (fault ≡ None) × (rest ≡ true)
+first_well None rest e = (refl, e)
+first_well (Some cause) rest e = absurd cc
 
 abbrev pub count : Bool → ℕ
 count true = 1
@@ -111,14 +101,6 @@ module _ {H : Type 0} where
   abbrev pub HaveEnded : SimState H → Type 0
   HaveEnded s = length s.account.ends + 1 ≡ length s.account.sessions + count (is_closed s.controller.session.state)
 
-  -- so each session has ended, or each but the last
-  pub all_ended : (s : SimState H) → HaveEnded s → accounts.HaveEnded s.account
-  all_ended s h = by_state (is_closed s.controller.session.state) h
-    where
-      by_state : (closed : Bool) → length s.account.ends + 1 ≡ length s.account.sessions + count closed → accounts.HaveEnded s.account
-      by_state true e = inl (omega (arith, e))
-      by_state false e = inr (omega (arith, e))
-
   -- a report, and the state behind it
   ended_by : (r : Option Report) (s : SimState H) (state : State) → is_closed state ≡ (is_closed s.controller.session.state || tells_end r)
       → (is_closed s.controller.session.state ≡ true → tells_end r ≡ false) → HaveEnded s
@@ -161,7 +143,7 @@ module _ {H : Type 0} where
     answered_ended [] s h = h
     answered_ended (p ∷ packets) s h = answered_ended packets _ h
 
-    step_ended : EndsAreTold → (step : SimStep) (s : SimState H) → fault_of step s ≡ None → HaveEnded s → HaveEnded (after_step answer_of after step s)
+    pub step_ended : EndsAreTold → (step : SimStep) (s : SimState H) → fault_of step s ≡ None → HaveEnded s → HaveEnded (after_step answer_of after step s)
     step_ended told (Issue number command) s well h =
         where_ended (number == 1) s _ h (λ there. issued_ended (controllers.submit_refusal command s.controller) command s h)
     step_ended told (Queue number event) s well h =
@@ -183,5 +165,5 @@ module _ {H : Type 0} where
     run_ended told [] s well h = h
     run_ended told (step ∷ schedule) s well h =
         let next = after_step answer_of after step s in
-        let first = first_well answer_of after (fault_of step s) (is_well answer_of after schedule next) well in
+        let first = first_well (fault_of step s) (is_well answer_of after schedule next) well in
         run_ended told schedule next first.1 (step_ended told step s first.0 h)

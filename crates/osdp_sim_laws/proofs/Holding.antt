@@ -1,47 +1,52 @@
 -- What holds of each schedule.
-use Rattle.std.proofs.Common.{◌≡◌, ◌<◌, ℕ, Bool, true, false, ◌==◌, if◌then◌else◌, arith, List, [], ◌∷◌, ◌++◌, length, All, Option, Some, None, refl, sym, subst, ap, ◌∙◌, Result, Ok, Err, ◌≤◌, ◌-◌, zero, suc, take, inl, inr, ◌⊎◌, ◌+◌}
+use Rattle.std.proofs.Common.{◌≡◌, ◌<◌, ℕ, Bool, true, false, ◌==◌, if◌then◌else◌, arith, List, [], ◌∷◌, ◌++◌, length, All, Option, Some, None, refl, sym, subst, ap, ◌∙◌, Result, Ok, Err, ◌≤◌, ◌-◌, zero, suc, take, inl, inr, ◌+◌, append_assoc, map}
+use Rattle.std.proofs.lemmas.List.{append-nil}
 use Rattle.osdp_frame.specs.Packet.{Packet}
 use Rattle.osdp_msg.specs.declared.command.Command.{Command}
 use Rattle.osdp_msg.specs.declared.event.Event.{Event}
+use Rattle.osdp_msg.specs.declared.reply.Reply.{Reply}
 use Rattle.osdp_controller.specs.Machine as controllers
+use Rattle.osdp_controller.specs.States.{is_closed}
+use Rattle.osdp_controller.specs.declared.state.State.{State}
+use Rattle.osdp_controller.specs.declared.state.State.TheVariants.{Closed, Quiet, Idle, Waiting, Pausing}
 use Rattle.osdp_controller.specs.declared.fault.ControllerFault.{ControllerFault}
 use Rattle.osdp_reader.specs.declared.config.ReaderConfig.{ReaderConfig}
 use Rattle.osdp_reader.specs.declared.handler.Answer.{Answer}
-use Rattle.osdp_link.specs.Headline.{AreOnce, Begins, IsBeginning, with_answers}
+use Rattle.osdp_link.specs.Headline.{AreOnce, Begins, IsBeginning, Once, with_answers}
 use Rattle.osdp_link.specs.Link as link
 use Rattle.osdp_link.specs.Refusals as refusals
-use Rattle.osdp_link.specs.Sessions.{HaveLeft}
+use Rattle.osdp_link.specs.Sessions.{AreInARow, LastsOrLeaves, settled_commands, told_in}
 use Rattle.osdp_link.proofs.Lines.{each_all, each_append, each_of}
+use Rattle.osdp_link.proofs.Sessions.{taken_commands}
 use Rattle.osdp_link.proofs.Stages.{Each}
 use Rattle.osdp_sim.specs.Account.{Account, empty_account, lists_of, with_session}
 use Rattle.osdp_sim.specs.Runs.{FitAlong, Stops, run, steps_done}
-use Rattle.osdp_sim.specs.State.{set_up}
+use Rattle.osdp_sim.specs.State.{SimState, set_up}
 use Rattle.osdp_sim.specs.declared.account.Account as declared
 use Rattle.osdp_sim.specs.declared.fault.Cause.{Cause}
 use Rattle.osdp_sim.specs.declared.fault.Fault.{Fault}
 use Rattle.osdp_sim.specs.declared.config.SimConfig.{SimConfig}
 use Rattle.osdp_sim.specs.declared.step.SimStep.{SimStep}
 use Rattle.osdp_sim.specs.declared.step.SimStep.TheVariants.{Issue, Queue, Busy, Wait, ToReader, ToController, Reopen}
-use Rattle.osdp_sim_laws.specs.Accounts.{IsInARow, IsInSession, IsNoRefusal, IsOf, IsOnce, IsAnswer, StaysInARow, HoldsOnce, WasSetUp, account_in, HaveEnded}
+use Rattle.osdp_sim_laws.specs.Accounts.{IsInARow, IsInSession, IsNoRefusal, IsOf, IsOnce, IsAnswer, LastsOrHasEnded, StaysInARow, HoldsOnce, WasSetUp, account_in}
 use Rattle.osdp_sim_laws.specs.OneLink.{OneLink}
 use Rattle.osdp_sim_laws.specs.Progress.{IsRun}
 use Rattle.osdp_sim_laws.specs.Moves.{clock_behind, first_link, move_of, moves_of}
-use Rattle.osdp_sim_laws.proofs.Accounts.{Tells}
-use Rattle.osdp_sim_laws.proofs.Carrying.{ArePackets}
-use Rattle.osdp_sim_laws.proofs.Ends.{all_ended, one_cut, run_ended}
-use Rattle.osdp_sim_laws.proofs.Schedules.{schedule_follows}
+use Rattle.osdp_sim_laws.proofs.Ends.{count, run_ended}
+use Rattle.osdp_sim_laws.proofs.Schedules.{GoesFrom, schedule_follows}
 
 -- nothing is sent, and nothing is told
 abbrev pub no_account : Account
 no_account = with_session empty_account
 
-pub tells_nothing : Tells no_account (link.new_account [] []) []
+pub tells_nothing : IsOf no_account (link.new_account [] []) []
 tells_nothing = record {
   taken = refl;
   settled = refl;
   unsettled = refl;
   reported = refl;
-  sessions = ([], _, refl, record { taken = refl; settled = refl; unsettled = refl; reported = refl }, refl);
+  issued = refl;
+  queued = ([], (refl, refl), refl);
 }
 
 module _ {H : Type 0} (answer_of : H → Command → Answer) (after : H → Command → H) where
@@ -56,37 +61,85 @@ module _ {H : Type 0} (answer_of : H → Command → Answer) (after : H → Comm
     earlier = refl;
   }
 
+  -- a schedule goes on from where the first session has begun
+  pub goes_from_first : OneLink answer_of after → (config : SimConfig) (handler : H) → config.controller.address < 127
+      → GoesFrom answer_of after (first_link config handler) 0 no_account
+  goes_from_first given config handler device = record {
+    packets = record { to_reader = tt; to_controller = tt };
+    tells = tells_nothing;
+    ended = refl;
+    leave = λ ms moves. given.last (first_link config handler) ms (begins config handler device) moves;
+  }
+
+  -- while the last session lasts it has told nothing unsettled, and once it has ended it leaves what a next one would begin with
+  pub last_one : (state : State) (a : Account) (l : link.Link H) → LastsOrLeaves state l
+      → length a.ends + 1 ≡ length a.sessions + count (is_closed state) → LastsOrHasEnded a l.account
+  last_one Closed a l leaves ended = inr (omega (arith, ended), (l.controller.waiting, l.reader.queue.events, leaves))
+  last_one (Quiet until) a l lasts ended = inl (omega (arith, ended), lasts)
+  last_one (Idle due) a l lasts ended = inl (omega (arith, ended), lasts)
+  last_one (Waiting until sends o) a l lasts ended = inl (omega (arith, ended), lasts)
+  last_one (Pausing until o) a l lasts ended = inl (omega (arith, ended), lasts)
+
+  -- so it told one unsettled at most, and the commands that it settled or told unsettled are a beginning of its own
+  pub one_unsettled : (a : Account) (t : link.Account) → LastsOrHasEnded a t → length t.unsettled ≤ 1
+  one_unsettled a t (inl (lasts, none)) = omega (arith, ap length none)
+  one_unsettled a t (inr (ended, (waiting, events, leaves))) = leaves.unsettled
+
+  pub told_first : (config : ReaderConfig) (handler : H) (a : Account) (t : link.Account) → Once answer_of after config handler t → LastsOrHasEnded a t
+      → IsBeginning (settled_commands t ++ t.unsettled) t.issued
+  told_first config handler a t once (inr (ended, (waiting, events, leaves))) =
+      (waiting, leaves.commands ∙ sym (append_assoc (settled_commands t) t.unsettled waiting))
+  told_first config handler a t once (inl (lasts, none)) =
+      let more = map (λ (p : Command × Reply). p.0) once.settled.0 in
+      let rest = once.taken.0 in (
+        more ++ rest,
+        once.taken.1
+            ∙ ap (λ cs. cs ++ rest) (sym (taken_commands answer_of after config handler t once.settled.0 (sym once.settled.1)))
+            ∙ append_assoc (settled_commands t) more rest
+            ∙ ap (λ cs. cs ++ (more ++ rest)) (sym (ap (λ cs. settled_commands t ++ cs) none ∙ append-nil (settled_commands t))),
+      )
+
+  pub each_one : (t : link.Account) (earlier : List link.Account) → length t.unsettled ≤ 1 → AreInARow t earlier
+      → Each (λ u. length u.unsettled ≤ 1) (t ∷ earlier)
+  each_one t [] few row = (few, tt)
+  each_one t (u ∷ earlier) few ((waiting, events, leaves, commands, waits), row) = (few, each_one u earlier leaves.unsettled row)
+
   abbrev pub in_a_row : OneLink answer_of after → (config : SimConfig) (handler : H) (steps : List SimStep) → IsRun answer_of after config handler steps
       → IsInARow answer_of after config.reader handler (run answer_of after steps (set_up config handler)).account
   in_a_row given config handler steps is =
       let l = first_link config handler in
-      let packets : ArePackets l = record { to_reader = tt; to_controller = tt } in
-      let follows = schedule_follows answer_of after given.reads steps l 0 no_account packets tells_nothing is.well is.fits in
-      let begun = begins config handler is.settings.controller.config_in_range.address in
+      let device = is.settings.controller.config_in_range.address in
+      let follows = schedule_follows answer_of after given.reads given.told steps l 0 no_account (goes_from_first given config handler device) is.well is.fits in
+      let begun = begins config handler device in
       let ms = moves_of steps 0 in
       let behind = link.run answer_of after ms l in
-      let a = (run answer_of after steps (set_up config handler)).account in
+      let s = run answer_of after steps (set_up config handler) in
+      let a = s.account in
       let moves = follows.moves in
-      let carried = follows.carried in
-      let tells = carried.tells in
+      let tells = follows.carried.tells in
+      let once = given.once l ms begun moves in
+      let row = given.row l ms begun moves in
+      let ended = subst (λ (state : State). length a.ends + 1 ≡ length a.sessions + count (is_closed state))
+      (ap (λ (t : SimState H). t.controller.session.state) follows.carried.state)
+      (run_ended answer_of after given.told steps (set_up config handler) is.well refl) in
+      let last = last_one behind.controller.session.state a behind (given.last l ms begun moves) ended in
+      let first = told_first config.reader _ a behind.account once.0 last in
       record {
         last = behind.account;
         earlier = behind.earlier;
-        lists = record {
-          issued = carried.issued ∙ given.commands l ms begun moves;
-          queued = subst (λ es. (gone : List Event) × HaveLeft es behind.earlier gone × (es ≡ gone ++ behind.account.queued)) (sym carried.queued)
-              (given.events l ms begun moves);
-          taken = tells.taken;
-          settled = tells.settled;
-          unsettled = tells.unsettled;
-          reported = tells.reported;
-          sessions = tells.sessions;
-        };
-        once = given.once l ms begun moves;
-        row = given.row l ms begun moves;
-        ends = all_ended (run answer_of after steps (set_up config handler)) (run_ended answer_of after given.told steps (set_up config handler) is.well refl);
+        lists = tells;
+        once = once;
+        row = row;
+        told = (
+          first.0,
+          tells.issued ∙ ap (λ cs. told_in behind.earlier ++ cs) first.1
+              ∙ sym (append_assoc (told_in behind.earlier) (settled_commands behind.account ++ behind.account.unsettled) first.0),
+        );
+        unsettled = each_all (λ t. length t.unsettled ≤ 1) (behind.account ∷ behind.earlier)
+            (each_one behind.account behind.earlier (one_unsettled a behind.account last) row);
+        ends = last;
         causes = each_all IsNoRefusal a.ends
-            (carried.causes (each_of refusals.IsNoRefusal (refusals.reports answer_of after ms l) (given.causes l ms begun moves)) tt);
+            (follows.carried.causes (each_of refusals.IsNoRefusal (refusals.reports answer_of after ms l) (given.causes l ms begun moves)) tt);
       }
 
   -- ---- one session
@@ -148,17 +201,17 @@ module _ {H : Type 0} (answer_of : H → Command → Answer) (after : H → Comm
       each_append IsWithin (move_of step clock) (moves_of steps (clock_behind step clock)) (step_within step clock w.0)
       (steps_within steps (clock_behind step clock) w.1)
 
-  few : (ends sessions : ℕ) → (ends ≡ sessions) ⊎ (ends + 1 ≡ sessions) → sessions ≡ 1 → ends ≤ 1
-  few ends sessions (inl same) one = omega (arith, same, one)
-  few ends sessions (inr less) one = omega (arith, less, one)
+  few : (a : Account) (t : link.Account) → LastsOrHasEnded a t → length a.sessions ≡ 1 → length a.ends ≤ 1
+  few a t (inl (lasts, none)) one = omega (arith, lasts, one)
+  few a t (inr (ended, leaves)) one = omega (arith, ended, one)
 
   -- of one session alone
   of_one : (config : ReaderConfig) (handler : H) (a : Account) (t : link.Account) (earlier : List link.Account) → earlier ≡ []
-      → IsOf a t earlier → AreOnce answer_of after config handler (t ∷ earlier) → HaveEnded a → All IsNoRefusal a.ends → IsOnce answer_of after config handler a
+      → IsOf a t earlier → AreOnce answer_of after config handler (t ∷ earlier) → LastsOrHasEnded a t → All IsNoRefusal a.ends → IsOnce answer_of after config handler a
   of_one config handler a t (u ∷ earlier) none lists once ends causes = absurd cc
   of_one config handler a t [] none lists once ends causes =
       let held = once.0 in
-      let gone : lists.queued.0 ≡ [] = lists.queued.1 in
+      let gone : lists.queued.0 ≡ [] = lists.queued.1.1 in
       let queued : a.queued ≡ t.queued = lists.queued.2 ∙ ap (λ es. es ++ t.queued) gone in
       record {
         taken = subst (λ cs. IsBeginning cs a.issued) (sym lists.taken) (subst (IsBeginning t.taken) (sym lists.issued) held.taken);
@@ -168,7 +221,7 @@ module _ {H : Type 0} (answer_of : H → Command → Answer) (after : H → Comm
           held.settled.2,
         );
         reported = subst (λ es. IsBeginning es a.queued) (sym lists.reported) (subst (IsBeginning t.reported) (sym queued) held.reported);
-        ends = few (length a.ends) (length a.sessions) ends (one_cut a.sessions t lists.sessions);
+        ends = few a t ends (ap length lists.queued.1.0);
         causes = causes;
       }
 

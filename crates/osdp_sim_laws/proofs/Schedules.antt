@@ -1,16 +1,19 @@
 -- A schedule over a line of bytes is a list of moves of the link over its packets.
-use Rattle.std.proofs.Common.{◌≡◌, ℕ, Bool, true, false, not, ◌&&◌, ◌==◌, if◌then◌else◌, List, [], ◌∷◌, ◌++◌, length, Option, Some, None, is_none, refl, sym, subst, ap, ◌∙◌, append_assoc}
+use Rattle.std.proofs.Common.{◌≡◌, ℕ, Bool, true, false, not, ◌&&◌, ◌==◌, if◌then◌else◌, List, [], ◌∷◌, ◌++◌, length, arith, ◌+◌, Option, Some, None, is_none, refl, sym, subst, ap, ◌∙◌, append_assoc}
 use Rattle.std.specs.Prelude.{option_to_list}
 use Rattle.osdp_msg.specs.declared.command.Command.{Command}
 use Rattle.osdp_controller.specs.Machine as controllers
+use Rattle.osdp_controller.specs.States.{is_closed}
 use Rattle.osdp_controller.specs.Ticking.{ticks}
+use Rattle.osdp_controller.specs.declared.state.State.{State}
+use Rattle.osdp_controller.specs.declared.state.State.TheVariants.{Closed, Quiet, Idle, Waiting, Pausing}
 use Rattle.osdp_reader.specs.declared.handler.Answer.{Answer}
 use Rattle.osdp_link.specs.Headline.{AreMoves}
 use Rattle.osdp_link.specs.Link as link
 use Rattle.osdp_link.specs.Link.{Link, after_move}
 use Rattle.osdp_link.specs.Refusals as refusals
 use Rattle.osdp_link.specs.Refusals.{reports, told_by}
-use Rattle.osdp_link.specs.Sessions.{all_queued, all_submitted, queued, submitted}
+use Rattle.osdp_link.specs.Sessions.{LastsOrLeaves, all_queued, all_submitted, queued, submitted}
 use Rattle.osdp_link.proofs.Lines.{each_front, each_rest}
 use Rattle.osdp_link.proofs.Stages.{Each}
 use Rattle.osdp_sim.specs.Account.{Account}
@@ -22,11 +25,12 @@ use Rattle.osdp_sim.specs.declared.fault.Cause.{Cause}
 use Rattle.osdp_sim.specs.declared.fault.Cause.TheVariants.{NotQuiet}
 use Rattle.osdp_sim.specs.declared.step.SimStep.{SimStep}
 use Rattle.osdp_sim.specs.declared.step.SimStep.TheVariants.{Issue, Queue, Busy, Wait, ToReader, ToController, Reopen}
-use Rattle.osdp_sim_laws.specs.OneLink.{ReadsPackets}
+use Rattle.osdp_sim_laws.specs.Accounts.{IsOf}
+use Rattle.osdp_sim_laws.specs.OneLink.{EndsAreTold, ReadsPackets}
 use Rattle.osdp_sim_laws.specs.Moves.{clock_after, clock_behind, in_bytes, move_of, moves_of}
-use Rattle.osdp_sim_laws.proofs.Accounts.{Tells}
-use Rattle.osdp_sim_laws.proofs.Carrying.{ArePackets, IsCarried, is_quiet, issuing, nothing, queueing, reopening, setting_busy, ticking}
+use Rattle.osdp_sim_laws.proofs.Carrying.{ArePackets, HasLeft, IsCarried, is_quiet, issuing, nothing, queueing, reopening, setting_busy, ticking}
 use Rattle.osdp_sim_laws.proofs.Delivering.{says_what_fits, to_controller, to_reader}
+use Rattle.osdp_sim_laws.proofs.Ends.{HaveEnded, count, first_well, step_ended}
 
 module _ {H : Type 0} (answer_of : H → Command → Answer) (after : H → Command → H) where
   -- the simulation is carried on by these moves
@@ -34,8 +38,53 @@ module _ {H : Type 0} (answer_of : H → Command → Answer) (after : H → Comm
     pub carried : IsCarried s (link.run answer_of after ms l) clock a (all_submitted answer_of after ms l) (all_queued answer_of after ms l) (reports answer_of after ms l)
     pub moves : AreMoves answer_of after ms l
 
+  -- lists of moves, one behind the other
+  run_both : (ms ns : List link.Move) (l : Link H) → link.run answer_of after (ms ++ ns) l ≡ link.run answer_of after ns (link.run answer_of after ms l)
+  run_both [] ns l = refl
+  run_both (m ∷ ms) ns l = run_both ms ns (after_move answer_of after m l)
+
+  moves_both : (ms ns : List link.Move) (l : Link H) → AreMoves answer_of after ms l → AreMoves answer_of after ns (link.run answer_of after ms l)
+      → AreMoves answer_of after (ms ++ ns) l
+  moves_both [] ns l first next = next
+  moves_both (m ∷ ms) ns l first next = (first.0, moves_both ms ns (after_move answer_of after m l) first.1 next)
+
+  -- wherever moves lead, the last session lasts, or leaves what a next one would begin with
+  abbrev pub AllLeave : Link H → Type 0
+  AllLeave l = (ms : List link.Move) → AreMoves answer_of after ms l
+      → let behind = link.run answer_of after ms l in LastsOrLeaves behind.controller.session.state behind
+
+  leave_after : (ms : List link.Move) (l : Link H) → AreMoves answer_of after ms l → AllLeave l → AllLeave (link.run answer_of after ms l)
+  leave_after ms l moves all ns more =
+      subst (λ m. LastsOrLeaves m.controller.session.state m) (run_both ms ns l) (all (ms ++ ns) (moves_both ms ns l moves more))
+
+  -- what a schedule goes on from
+  pub record GoesFrom (l : Link H) (clock : ℕ) (a : Account) : Type 0 where
+    pub packets : ArePackets l
+    pub tells : IsOf a l.account l.earlier
+    pub ended : HaveEnded (in_bytes l clock a)
+    pub leave : AllLeave l
+
+  -- .. and where it has come to
+  pub goes_from : (s : SimState H) (ms : List link.Move) (l : Link H) (clock later : ℕ) (a : Account) → GoesFrom l clock a → Follows s ms l later a
+      → HaveEnded s → GoesFrom (link.run answer_of after ms l) later s.account
+  goes_from s ms l clock later a from follows ended = record {
+    packets = follows.carried.packets;
+    tells = follows.carried.tells;
+    ended = subst HaveEnded follows.carried.state ended;
+    leave = leave_after ms l follows.moves from.leave;
+  }
+
+  -- where the controller is closed its session has ended and leaves what the next one begins with
+  has_left : (state : State) (l : Link H) (a : Account) → controllers.refused_unless_closed state ≡ None → LastsOrLeaves state l
+      → length a.ends + 1 ≡ length a.sessions + count (is_closed state) → HasLeft l a
+  has_left Closed l a may leaves ended = record { leaves = leaves; ended = omega (arith, ended) }
+  has_left (Quiet until) l a may leaves ended = absurd cc
+  has_left (Idle due) l a may leaves ended = absurd cc
+  has_left (Waiting until sends o) l a may leaves ended = absurd cc
+  has_left (Pausing until o) l a may leaves ended = absurd cc
+
   -- a step with a reader that is there or isn't
-  by_number : (there : Bool) (new : SimState H) (m : link.Move) (l : Link H) (clock : ℕ) (a : Account) → ArePackets l → Tells a l.account l.earlier
+  by_number : (there : Bool) (new : SimState H) (m : link.Move) (l : Link H) (clock : ℕ) (a : Account) → ArePackets l → IsOf a l.account l.earlier
       → (there ≡ true → Follows new (m ∷ []) l clock a)
       → Follows (if there then new else in_bytes l clock a) (if there then m ∷ [] else []) l clock a
   by_number true new m l clock a packets tells does = does refl
@@ -48,56 +97,48 @@ module _ {H : Type 0} (answer_of : H → Command → Answer) (after : H → Comm
   there_well false refused cause e is = absurd cc
 
   -- each step
-  step_follows : ReadsPackets → (step : SimStep) (l : Link H) (clock : ℕ) (a : Account) → ArePackets l → Tells a l.account l.earlier
+  step_follows : ReadsPackets → (step : SimStep) (l : Link H) (clock : ℕ) (a : Account) → GoesFrom l clock a
       → fault_of step (in_bytes l clock a) ≡ None → StepFits answer_of after step (in_bytes l clock a)
       → Follows (after_step answer_of after step (in_bytes l clock a)) (move_of step clock) l (clock_behind step clock) a
-  step_follows reads (Issue number command) l clock a packets tells well fits =
-      by_number (number == 1) _ (link.Submit command) l clock a packets tells (λ there. record {
-        carried = issuing (controllers.submit_refusal command l.controller) command l clock a packets tells;
+  step_follows reads (Issue number command) l clock a from well fits =
+      by_number (number == 1) _ (link.Submit command) l clock a from.packets from.tells (λ there. record {
+        carried = issuing (controllers.submit_refusal command l.controller) command l clock a from.packets from.tells;
         moves = (fits, tt);
       })
-  step_follows reads (Queue number event) l clock a packets tells well fits =
-      by_number (number == 1) _ (link.Queue event) l clock a packets tells (λ there. record {
-        carried = queueing (length l.reader.queue.events == l.reader.queue.capacity) event l clock a packets tells;
+  step_follows reads (Queue number event) l clock a from well fits =
+      by_number (number == 1) _ (link.Queue event) l clock a from.packets from.tells (λ there. record {
+        carried = queueing (length l.reader.queue.events == l.reader.queue.capacity) event l clock a from.packets from.tells;
         moves = (tt, tt);
       })
-  step_follows reads (Busy number busy) l clock a packets tells well fits =
-      by_number (number == 1) _ (link.SetBusy busy) l clock a packets tells (λ there. record {
-        carried = setting_busy busy l clock a packets tells;
+  step_follows reads (Busy number busy) l clock a from well fits =
+      by_number (number == 1) _ (link.SetBusy busy) l clock a from.packets from.tells (λ there. record {
+        carried = setting_busy busy l clock a from.packets from.tells;
         moves = (tt, tt);
       })
-  step_follows reads (Wait wait) l clock a packets tells well fits =
+  step_follows reads (Wait wait) l clock a from well fits =
       let now = clock_behind (Wait wait) clock in
       record {
-        carried = ticking (ticks now l.controller.session l.controller.waiting) now l clock a packets tells fits;
+        carried = ticking (ticks now l.controller.session l.controller.waiting) now l clock a from.packets from.tells fits;
         moves = (tt, tt);
       }
-  step_follows reads (ToReader move) l clock a packets tells well fits = record {
-    carried = to_reader answer_of after reads l.to_reader move l clock a refl well fits packets tells;
-    moves = (says_what_fits answer_of after reads l.to_reader move l packets.to_reader fits, tt);
+  step_follows reads (ToReader move) l clock a from well fits = record {
+    carried = to_reader answer_of after reads l.to_reader move l clock a refl well fits from.packets from.tells;
+    moves = (says_what_fits answer_of after reads l.to_reader move l from.packets.to_reader fits, tt);
   }
-  step_follows reads (ToController move) l clock a packets tells well fits = record {
-    carried = to_controller reads l.to_controller move l clock a refl well packets tells;
+  step_follows reads (ToController move) l clock a from well fits = record {
+    carried = to_controller reads l.to_controller move l clock a refl well from.packets from.tells;
     moves = (tt, tt);
   }
-  step_follows reads (Reopen number) l clock a packets tells well fits =
-      by_number (number == 1) _ (link.Reopen clock) l clock a packets tells (λ there.
+  step_follows reads (Reopen number) l clock a from well fits =
+      by_number (number == 1) _ (link.Reopen clock) l clock a from.packets from.tells (λ there.
       let quiet = is_quiet l.to_reader l.to_controller l.controller.session.state (there_well (number == 1) (not (steps.is_quiet (in_bytes l clock a))) NotQuiet well there) in
       record {
-        carried = reopening l.to_reader l.to_controller (controllers.begin_refusal l.controller) l clock a quiet.0 quiet.1 quiet.2 packets tells;
+        carried = reopening l.to_reader l.to_controller (controllers.begin_refusal l.controller) l clock a quiet.0 quiet.1 quiet.2
+            (has_left l.controller.session.state l a quiet.2 (from.leave [] tt) from.ended) from.packets from.tells;
         moves = (tt, tt);
       })
 
-  -- ---- lists of moves, one behind the other
-
-  run_both : (ms ns : List link.Move) (l : Link H) → link.run answer_of after (ms ++ ns) l ≡ link.run answer_of after ns (link.run answer_of after ms l)
-  run_both [] ns l = refl
-  run_both (m ∷ ms) ns l = run_both ms ns (after_move answer_of after m l)
-
-  moves_both : (ms ns : List link.Move) (l : Link H) → AreMoves answer_of after ms l → AreMoves answer_of after ns (link.run answer_of after ms l)
-      → AreMoves answer_of after (ms ++ ns) l
-  moves_both [] ns l first next = next
-  moves_both (m ∷ ms) ns l first next = (first.0, moves_both ms ns (after_move answer_of after m l) first.1 next)
+  -- ---- more moves
 
   submitted_both : (ms ns : List link.Move) (l : Link H)
       → all_submitted answer_of after (ms ++ ns) l ≡ all_submitted answer_of after ms l ++ all_submitted answer_of after ns (link.run answer_of after ms l)
@@ -154,25 +195,21 @@ module _ {H : Type 0} (answer_of : H → Command → Answer) (after : H → Comm
         moves = moves_both ms ns l first.moves next.moves;
       }
 
-  -- the first step is well, and so are the others
-  pub first_well : (fault : Option Cause) (rest : Bool) → (is_none fault && rest) ≡ true → (fault ≡ None) × (rest ≡ true)
-  first_well None rest e = (refl, e)
-  first_well (Some cause) rest e = absurd cc
-
   -- each schedule
-  pub schedule_follows : ReadsPackets → (steps : List SimStep) (l : Link H) (clock : ℕ) (a : Account) → ArePackets l → Tells a l.account l.earlier
+  pub schedule_follows : ReadsPackets → EndsAreTold → (steps : List SimStep) (l : Link H) (clock : ℕ) (a : Account) → GoesFrom l clock a
       → is_well answer_of after steps (in_bytes l clock a) ≡ true → FitAlong answer_of after steps (in_bytes l clock a)
       → Follows (run answer_of after steps (in_bytes l clock a)) (moves_of steps clock) l (clock_after steps clock) a
-  schedule_follows reads [] l clock a packets tells well fits = record { carried = nothing l clock a packets tells; moves = tt }
-  schedule_follows reads (step ∷ steps) l clock a packets tells well fits =
+  schedule_follows reads told [] l clock a from well fits = record { carried = nothing l clock a from.packets from.tells; moves = tt }
+  schedule_follows reads told (step ∷ steps) l clock a from well fits =
       let s = in_bytes l clock a in
       let both = first_well (fault_of step s) _ well in
-      let first = step_follows reads step l clock a packets tells both.0 fits.0 in
+      let first = step_follows reads step l clock a from both.0 fits.0 in
       let next = after_step answer_of after step s in
       let now = clock_behind step clock in
       let behind = link.run answer_of after (move_of step clock) l in
       let is = first.carried.state in
-      let rest = schedule_follows reads steps behind now next.account first.carried.packets first.carried.tells
+      let rest = schedule_follows reads told steps behind now next.account
+      (goes_from next (move_of step clock) l clock now a from first (step_ended answer_of after told step s both.0 from.ended))
       (subst (λ t. is_well answer_of after steps t ≡ true) is both.1) (subst (FitAlong answer_of after steps) is fits.1) in
       goes_on next (run answer_of after steps next) (move_of step clock) (moves_of steps now) l now (clock_after steps now) a first
       (subst (λ t. Follows (run answer_of after steps t) (moves_of steps now) behind (clock_after steps now) next.account) (sym is) rest)

@@ -8,7 +8,7 @@ use Rattle.osdp_reader.specs.declared.handler.Answer.{Answer}
 use Rattle.osdp_link.specs.Headline.{AreOnce, IsBeginning, with_answers}
 use Rattle.osdp_link.specs.Link as link
 use Rattle.osdp_link.specs.Refusals.{IsOtherCause}
-use Rattle.osdp_link.specs.Sessions.{AreInARow, HaveLeft, told_in}
+use Rattle.osdp_link.specs.Sessions.{AreInARow, Leaves, told_in}
 use Rattle.osdp_sim.specs.Account.{Account, lists_of}
 use Rattle.osdp_sim.specs.Runs.{FitAlong, RunEnds, steps_done}
 use Rattle.osdp_sim.specs.State.{set_up}
@@ -26,38 +26,66 @@ abbrev pub all_in : {A : Type 0} → (link.Account → List A) → List link.Acc
 all_in list [] = []
 all_in list (t ∷ earlier) = all_in list earlier ++ list t
 
--- how long the lists of these sessions are
-pub record IsCut (at : Lengths) (earlier : List link.Account) : Type 0 where
-  pub taken : at.taken ≡ length (all_in (λ t. t.taken) earlier)
-  pub settled : at.settled ≡ length (all_in (λ t. t.settled) earlier)
-  pub unsettled : at.unsettled ≡ length (all_in (λ t. t.unsettled) earlier)
-  pub reported : at.reported ≡ length (all_in (λ t. t.reported) earlier)
+-- all lists are empty where the first session begins
+abbrev pub no_lengths : Lengths
+no_lengths = record { issued = 0; taken = 0; settled = 0; unsettled = 0; queued = 0; reported = 0; ends = 0 }
 
--- each session begins where those before it end
-abbrev pub AreCuts : List Lengths → List link.Account → Type 0
-AreCuts cuts [] = cuts ≡ []
-AreCuts cuts (t ∷ earlier) =
-    (before : List Lengths) × (at : Lengths) × (cuts ≡ before ++ at ∷ []) × IsCut at earlier × AreCuts before earlier
+-- how long the lists are where a session begins after `t`, which came after the earlier ones: what these sessions settled or told
+-- unsettled before `t`, and all commands of `t`; what left the queue before `t`, and all events of `t`; what all of them took,
+-- settled, told unsettled and reported; and one end for each
+pub record IsCut (at : Lengths) (t : link.Account) (earlier : List link.Account) (past : List Event) : Type 0 where
+  pub issued : at.issued ≡ length (told_in earlier ++ t.issued)
+  pub taken : at.taken ≡ length (all_in (λ t. t.taken) (t ∷ earlier))
+  pub settled : at.settled ≡ length (all_in (λ t. t.settled) (t ∷ earlier))
+  pub unsettled : at.unsettled ≡ length (all_in (λ t. t.unsettled) (t ∷ earlier))
+  pub queued : at.queued ≡ length (past ++ t.queued)
+  pub reported : at.reported ≡ length (all_in (λ t. t.reported) (t ∷ earlier))
+  pub ends : at.ends ≡ length (t ∷ earlier)
 
--- the account holds what these sessions came to, the last of them first: the commands of a session are those behind the ones that
+-- session `t` is over, and the next has begun at the last of these lengths. The events in `past` had left the queue before `t`. What it
+-- reported has left too, all of that or all but the last, and what waits still are the first events of the next session.
+pub record IsOver (cuts before : List Lengths) (past gone next : List Event) (t : link.Account) (earlier : List link.Account) : Type 0 where
+  pub at : Lengths
+  pub left : List Event
+  pub waits : List Event
+  pub again : List Event
+  pub begins : cuts ≡ before ++ at ∷ []
+  pub cut : IsCut at t earlier past
+  pub queued : t.queued ≡ left ++ waits
+  pub goes : gone ≡ past ++ left
+  pub first : IsBeginning waits next
+  pub reported : t.reported ≡ left ++ again
+  pub front : IsBeginning again waits
+  pub few : length again ≤ 1
+
+-- these sessions are over, the last of them first: a session has begun at each of these lengths, the last of them with the next events,
+-- and the events in `gone` have left the queue
+abbrev pub AreOver : List Lengths → List Event → List link.Account → List Event → Type 0
+AreOver cuts next [] gone = (cuts ≡ no_lengths ∷ []) × (gone ≡ [])
+AreOver cuts next (t ∷ earlier) gone =
+    (before : List Lengths) × (past : List Event) × AreOver before t.queued earlier past × IsOver cuts before past gone next t earlier
+
+-- the account holds what these sessions came to, the last of them first: the commands of a session are those after the ones that
 -- the sessions before it settled or told unsettled, and its events those that have not left the queue before it
 pub record IsOf (a : Account) (t : link.Account) (earlier : List link.Account) : Type 0 where
   pub issued : a.issued ≡ told_in earlier ++ t.issued
-  pub queued : (gone : List Event) × HaveLeft a.queued earlier gone × (a.queued ≡ gone ++ t.queued)
+  pub queued : (gone : List Event) × AreOver a.sessions t.queued earlier gone × (a.queued ≡ gone ++ t.queued)
   pub taken : a.taken ≡ all_in (λ t. t.taken) (t ∷ earlier)
   pub settled : a.settled ≡ all_in (λ t. t.settled) (t ∷ earlier)
   pub unsettled : a.unsettled ≡ all_in (λ t. t.unsettled) (t ∷ earlier)
   pub reported : a.reported ≡ all_in (λ t. t.reported) (t ∷ earlier)
-  pub sessions : AreCuts a.sessions (t ∷ earlier)
 
 -- the reader has refused no number
 abbrev pub IsNoRefusal : End → Type 0
 IsNoRefusal (ending.Lost cause) = IsOtherCause cause
 IsNoRefusal ending.Moved = Unit {0}
 
--- each session has ended, once, or each but the last
-abbrev pub HaveEnded : Account → Type 0
-HaveEnded a = (length a.ends ≡ length a.sessions) ⊎ (length a.ends + 1 ≡ length a.sessions)
+-- each session has ended, once, or each but the last. While the last one lasts it has told no command unsettled; where it has ended it
+-- leaves what a next one would begin with
+abbrev pub LastsOrHasEnded : Account → link.Account → Type 0
+LastsOrHasEnded a t =
+    ((length a.ends + 1 ≡ length a.sessions) × (t.unsettled ≡ []))
+    ⊎ ((length a.ends ≡ length a.sessions) × ((waiting : List Command) × (events : List Event) × Leaves t waiting events))
 
 -- no session begins again
 abbrev pub IsInSession : SimStep → Type 0
@@ -84,14 +112,17 @@ module _ {H : Type 0} (answer_of : H → Command → Answer) (after : H → Comm
     pub ends : length a.ends ≤ 1
     pub causes : All IsNoRefusal a.ends
 
-  -- in sessions in a row: each is once, and the next begins with what it leaves
+  -- in sessions in a row: each is once, and the next begins with what it leaves. The commands that all sessions settled or told
+  -- unsettled are together a beginning of those issued, each session's unsettled one at most
   pub record IsInARow (config : ReaderConfig) (handler : H) (a : Account) : Type 0 where
     pub last : link.Account
     pub earlier : List link.Account
     pub lists : IsOf a last earlier
     pub once : AreOnce answer_of after config handler (last ∷ earlier)
     pub row : AreInARow last earlier
-    pub ends : HaveEnded a
+    pub told : IsBeginning (told_in (last ∷ earlier)) a.issued
+    pub unsettled : All (λ t. length t.unsettled ≤ 1) (last ∷ earlier)
+    pub ends : LastsOrHasEnded a last
     pub causes : All IsNoRefusal a.ends
 
   -- what `run_session` answers, and what went over the line in the steps that it took

@@ -8,7 +8,7 @@ use Rattle.osdp_controller_laws.specs.Commands.{TellsEnds}
 use Rattle.osdp_reader.specs.declared.handler.Answer.{Answer}
 use Rattle.osdp_link.specs.Headline.{HoldsOnce}
 use Rattle.osdp_link.specs.Refusals.{RefusesNoNumber}
-use Rattle.osdp_link.specs.Sessions.{CommandsHavePlaces, EventsHavePlaces, StayInARow}
+use Rattle.osdp_link.specs.Sessions.{CommandsHavePlaces, EventsHavePlaces, LastOneLasts, StayInARow}
 use Rattle.osdp_sim.specs.Line.{packets_in}
 
 -- a packet that goes over the line is read as it is, and where nothing comes through nothing is read
@@ -24,6 +24,7 @@ pub record OneLink {H : Type 0} (answer_of : H → Command → Answer) (after : 
   pub reads : ReadsPackets
   pub once : HoldsOnce answer_of after
   pub row : StayInARow answer_of after
+  pub last : LastOneLasts answer_of after
   pub commands : CommandsHavePlaces answer_of after
   pub events : EventsHavePlaces answer_of after
   pub causes : RefusesNoNumber answer_of after

@@ -10,6 +10,7 @@ returns g c = record {
   };
   once = c.holds_once.ensures;
   row = c.sessions_in_a_row.ensures.row;
+  last = c.sessions_in_a_row.ensures.last;
   commands = c.sessions_in_a_row.ensures.commands;
   events = c.sessions_in_a_row.ensures.events;
   causes = c.refuses_no_number.ensures;
