@@ -1,29 +1,21 @@
 -- Schedules, step by step.
-use Rattle.std.proofs.Common.{◌≡◌, ◌<◌, ◌≤◌, ◌+◌, ◌-◌, arith, ℕ, Bool, true, ◌&&◌, List, [], ◌∷◌, ◌++◌, length, take, drop, get_or, Option, Some, None, is_none, refl, sym, subst, ap, ◌∙◌}
-use Rattle.std.proofs.lemmas.List.{drop_more, take_all, take_more}
-use Rattle.osdp_msg.specs.declared.command.Command.{Command}
-use Rattle.osdp_reader.specs.declared.handler.Answer.{Answer}
+use Rattle.std.proofs.Common.{◌≡◌, ◌<◌, ◌≤◌, ◌+◌, ◌-◌, arith, ℕ, Bool, true, ◌&&◌, List, [], ◌∷◌, ◌++◌, length, take, drop, Option, Some, None, is_none, refl, sym, subst, ap, ◌∙◌}
+use Rattle.std.proofs.lemmas.List.{append-nil, append_assoc, drop_at, length-append, take_at}
 use Rattle.osdp_sim.specs.declared.fault.Cause.{Cause}
 use Rattle.osdp_sim.specs.declared.step.SimStep.{SimStep}
-use Rattle.osdp_sim.specs.Runs.{FitAlong, IsCause, StopsAt, first_fault, is_well, run}
-use Rattle.osdp_sim.specs.Account.{Account}
-use Rattle.osdp_sim.specs.State.{SimState}
-use Rattle.osdp_sim.specs.Steps.{StepFits, after_step, fault_of}
+use Rattle.osdp_sim.specs.Schedules.{HoldsAlong, IsCause, StopsAt, first_fault, is_well, run}
 
-module _ {H : Type 0} (answer_of : H → Command → Answer) (after : H → Command → H) where
+module _ {S : Type 0} (after_step : SimStep → S → S) (fault_of : SimStep → S → Option Cause) (Holds : SimStep → S → Type 0) where
   -- these steps were taken, and led here
-  pub record HasTaken (steps : List SimStep) (start s : SimState H) : Type 0 where
-    pub here : s ≡ run answer_of after steps start
-    pub well : is_well answer_of after steps start ≡ true
-    pub fits : FitAlong answer_of after steps start
+  pub record HasTaken (steps : List SimStep) (start s : S) : Type 0 where
+    pub here : s ≡ run after_step steps start
+    pub well : is_well after_step fault_of steps start ≡ true
+    pub along : HoldsAlong after_step Holds steps start
 
-  pub none_taken : (start : SimState H) → HasTaken [] start start
-  none_taken start = record { here = refl; well = refl; fits = tt }
-
-  run_behind : (steps : List SimStep) (step : SimStep) (s : SimState H)
-      → run answer_of after (steps ++ step ∷ []) s ≡ after_step answer_of after step (run answer_of after steps s)
-  run_behind [] step s = refl
-  run_behind (first ∷ steps) step s = run_behind steps step (after_step answer_of after first s)
+  run_after : (steps : List SimStep) (step : SimStep) (s : S)
+      → run after_step (steps ++ step ∷ []) s ≡ after_step step (run after_step steps s)
+  run_after [] step s = refl
+  run_after (first ∷ steps) step s = run_after steps step (after_step first s)
 
   split : (fault : Option Cause) (rest : Bool) → (is_none fault && rest) ≡ true → (fault ≡ None) × (rest ≡ true)
   split None rest e = (refl, e)
@@ -33,62 +25,91 @@ module _ {H : Type 0} (answer_of : H → Command → Answer) (after : H → Comm
   joined None rest none e = e
   joined (Some cause) rest none e = absurd cc
 
-  well_behind : (steps : List SimStep) (step : SimStep) (s : SimState H) → is_well answer_of after steps s ≡ true
-      → fault_of step (run answer_of after steps s) ≡ None → is_well answer_of after (steps ++ step ∷ []) s ≡ true
-  well_behind [] step s well none = joined (fault_of step s) true none refl
-  well_behind (first ∷ steps) step s well none =
-      let next = after_step answer_of after first s in
-      let both = split (fault_of first s) (is_well answer_of after steps next) well in
-      joined (fault_of first s) _ both.0 (well_behind steps step next both.1 none)
+  well_after : (steps : List SimStep) (step : SimStep) (s : S) → is_well after_step fault_of steps s ≡ true
+      → fault_of step (run after_step steps s) ≡ None → is_well after_step fault_of (steps ++ step ∷ []) s ≡ true
+  well_after [] step s well none = joined (fault_of step s) true none refl
+  well_after (first ∷ steps) step s well none =
+      let next = after_step first s in
+      let both = split (fault_of first s) (is_well after_step fault_of steps next) well in
+      joined (fault_of first s) _ both.0 (well_after steps step next both.1 none)
 
-  fits_behind : (steps : List SimStep) (step : SimStep) (s : SimState H) → FitAlong answer_of after steps s
-      → StepFits answer_of after step (run answer_of after steps s) → FitAlong answer_of after (steps ++ step ∷ []) s
-  fits_behind [] step s fits then = (then, tt)
-  fits_behind (first ∷ steps) step s fits then = (fits.0, fits_behind steps step (after_step answer_of after first s) fits.1 then)
+  along_after : (steps : List SimStep) (step : SimStep) (s : S) → HoldsAlong after_step Holds steps s
+      → Holds step (run after_step steps s) → HoldsAlong after_step Holds (steps ++ step ∷ []) s
+  along_after [] step s along then = (then, tt)
+  along_after (first ∷ steps) step s along then = (along.0, along_after steps step (after_step first s) along.1 then)
 
   -- one more
-  pub takes_one : (steps : List SimStep) (step : SimStep) (start here next : SimState H) → HasTaken steps start here
-      → fault_of step here ≡ None → StepFits answer_of after step here → next ≡ after_step answer_of after step here
+  takes_one : (steps : List SimStep) (step : SimStep) (start here next : S) → HasTaken steps start here
+      → fault_of step here ≡ None → Holds step here → next ≡ after_step step here
       → HasTaken (steps ++ step ∷ []) start next
-  takes_one steps step start here next taken none fits is = record {
-    here = is ∙ ap (after_step answer_of after step) taken.here ∙ sym (run_behind steps step start);
-    well = well_behind steps step start taken.well (subst (λ s. fault_of step s ≡ None) taken.here none);
-    fits = fits_behind steps step start taken.fits (subst (StepFits answer_of after step) taken.here fits);
+  takes_one steps step start here next taken none holds is = record {
+    here = is ∙ ap (after_step step) taken.here ∙ sym (run_after steps step start);
+    well = well_after steps step start taken.well (subst (λ s. fault_of step s ≡ None) taken.here none);
+    along = along_after steps step start taken.along (subst (Holds step) taken.here holds);
   }
 
-  -- the step at a place is the first of those from there on
-  pub first_there : (steps : List SimStep) (i : ℕ) (step : SimStep) (s : SimState H) → i < length steps → step ≡ get_or steps i step
-      → first_fault (drop i steps) s ≡ fault_of step s
-  first_there steps i step s within is =
-      ap (λ l. first_fault l s) (drop_more steps i step within) ∙ ap (λ x. fault_of x s) (sym is)
+  -- so many steps of a schedule were taken, and led here; the others are left
+  pub record HasCome (steps : List SimStep) (count : ℕ) (left : List SimStep) (start here : S) : Type 0 where
+    pub done : List SimStep
+    pub taken : HasTaken done start here
+    pub parts : steps ≡ done ++ left
+    pub counted : length done ≡ count
 
-  -- the step at a place is taken
-  pub takes_on : (steps : List SimStep) (i : ℕ) (step : SimStep) (start here next : SimState H) → HasTaken (take i steps) start here
-      → i < length steps → step ≡ get_or steps i step
-      → fault_of step here ≡ None → next ≡ after_step answer_of after step here → StepFits answer_of after step here
-      → HasTaken (take (i + 1) steps) start next
-  takes_on steps i step start here next taken within at none is fits =
-      let more : take (i + 1) steps ≡ take i steps ++ step ∷ [] = take_more steps i step within ∙ ap (λ x. take i steps ++ x ∷ []) (sym at) in
-      subst (λ l. HasTaken l start next) (sym more) (takes_one (take i steps) step start here next taken none fits is)
+  pub begins : (steps : List SimStep) (start : S) → HasCome steps 0 steps start start
+  begins steps start = record {
+    done = [];
+    taken = record { here = refl; well = refl; along = tt };
+    parts = refl;
+    counted = refl;
+  }
 
-  -- .. or the run stops there
-  pub stops_there : (steps : List SimStep) (i : ℕ) (step : SimStep) (start here : SimState H) (why : Cause) (lists : Account) → HasTaken (take i steps) start here
-      → i < length steps → step ≡ get_or steps i step
-      → IsCause why (fault_of step here) → lists ≡ here.account
-      → StopsAt answer_of after (i + 1) why lists steps start
-  stops_there steps i step start here why lists taken within at cause is =
-      let same : i ≡ i + 1 - 1 = omega arith in
+  -- the next step is taken
+  pub goes_on : (steps : List SimStep) (count : ℕ) (step : SimStep) (old left : List SimStep) (start here next : S)
+      → HasCome steps count old start here → old ≡ step ∷ left
+      → fault_of step here ≡ None → next ≡ after_step step here → Holds step here
+      → HasCome steps (count + 1) left start next
+  goes_on steps count step old left start here next come is none led holds = record {
+    done = come.done ++ step ∷ [];
+    taken = takes_one come.done step start here next come.taken none holds led;
+    parts = come.parts ∙ ap (λ l. come.done ++ l) is ∙ sym (append_assoc come.done (step ∷ []) left);
+    counted = length-append come.done (step ∷ []) ∙ ap (λ n. n + 1) come.counted;
+  }
+
+  -- the steps before the next one
+  pub before : (steps : List SimStep) (count : ℕ) (left : List SimStep) (start here : S) (come : HasCome steps count left start here)
+      → take (count + 1 - 1) steps ≡ come.done
+  before steps count left start here come =
+      let same : count + 1 - 1 ≡ count = omega arith in
+      ap (λ k. take k steps) same ∙ ap (take count) come.parts ∙ take_at come.done left count come.counted
+
+  -- .. or the run stops at it
+  pub stops_there : {A : Type 0} (account_of : S → A) (steps : List SimStep) (count : ℕ) (step : SimStep) (old left : List SimStep) (start here : S) (why : Cause) (account : A)
+      → HasCome steps count old start here → old ≡ step ∷ left
+      → IsCause why (fault_of step here) → account ≡ account_of here
+      → StopsAt after_step fault_of account_of (count + 1) why account steps start
+  stops_there account_of steps count step old left start here why account come is cause told =
+      let same : count + 1 - 1 ≡ count = omega arith in
+      let done = before steps count old start here come in
+      let rest : drop (count + 1 - 1) steps ≡ step ∷ left =
+      ap (λ k. drop k steps) same ∙ ap (drop count) come.parts ∙ drop_at come.done old count come.counted ∙ is in
+      let many : length steps ≡ length come.done + length (step ∷ left) =
+      ap length come.parts ∙ length-append come.done old ∙ ap (λ l. length come.done + length l) is in
       record {
-        within = omega (arith, within);
-        well = subst (λ k. is_well answer_of after (take k steps) start ≡ true) same taken.well;
-        cause = subst (λ k. IsCause why (first_fault (drop k steps) (run answer_of after (take k steps) start))) same
-            (subst (IsCause why) (sym (first_there steps i step (run answer_of after (take i steps) start) within at))
-            (subst (λ s. IsCause why (fault_of step s)) taken.here cause));
-        account = is ∙ ap (λ (s : SimState H). s.account) taken.here
-            ∙ ap (λ k. (run answer_of after (take k steps) start).account) same;
+        within = omega (arith, many, come.counted);
+        well = ap (λ l. is_well after_step fault_of l start) done ∙ come.taken.well;
+        cause = subst (λ l. IsCause why (first_fault fault_of l (run after_step (take (count + 1 - 1) steps) start))) (sym rest)
+            (subst (λ l. IsCause why (fault_of step (run after_step l start))) (sym done) (subst (λ s. IsCause why (fault_of step s)) come.taken.here cause));
+        account = told ∙ ap account_of (come.taken.here ∙ ap (λ l. run after_step l start) (sym done));
       }
 
+  -- what held along the steps before it
+  pub held_before : (steps : List SimStep) (count : ℕ) (left : List SimStep) (start here : S) → HasCome steps count left start here
+      → HoldsAlong after_step Holds (take (count + 1 - 1) steps) start
+  held_before steps count left start here come =
+      subst (λ l. HoldsAlong after_step Holds l start) (sym (before steps count left start here come)) come.taken.along
+
   -- all of them were taken
-  pub all_taken : (steps : List SimStep) (i : ℕ) (start here : SimState H) → HasTaken (take i steps) start here → length steps ≤ i
+  pub all_taken : (steps : List SimStep) (count : ℕ) (left : List SimStep) (start here : S) → HasCome steps count left start here → left ≡ []
       → HasTaken steps start here
-  all_taken steps i start here taken end = subst (λ l. HasTaken l start here) (take_all i steps end) taken
+  all_taken steps count left start here come none =
+      subst (λ l. HasTaken l start here) (sym (come.parts ∙ ap (λ l. come.done ++ l) none ∙ append-nil come.done)) come.taken

@@ -2,5 +2,6 @@ pub mod Account
 pub mod Line
 pub mod State
 pub mod Steps
+pub mod Schedules
 pub mod Runs
 pub mod Room

@@ -10,6 +10,7 @@ use Rattle.osdp_sim.specs.declared.fault.Cause.TheVariants.{HoldsPacket, NoMemor
 use Rattle.osdp_sim.specs.declared.fault.Fault.{Fault}
 use Rattle.osdp_sim.specs.declared.step.SimStep.{SimStep}
 use Rattle.osdp_sim.specs.Account.{Account, empty_account, lists_of}
+use Rattle.osdp_sim.specs.Schedules as schedules
 use Rattle.osdp_sim.specs.State.{SimState, set_up}
 use Rattle.osdp_sim.specs.Steps.{StepFits, after_step, fault_of}
 
@@ -38,35 +39,22 @@ IsSetUpCause NoMemory config = AreSettings config
 IsSetUpCause HoldsPacket config = ⊥
 IsSetUpCause NotQuiet config = ⊥
 
--- the cause of a stop: a refusal is looked at before memory is asked for
-abbrev pub IsCause : Cause → Option Cause → Type 0
-IsCause HoldsPacket fault = fault ≡ Some HoldsPacket
-IsCause NotQuiet fault = fault ≡ Some NotQuiet
-IsCause NoMemory fault = fault ≡ None
-IsCause OutOfRange fault = ⊥
-
--- why the first of these steps is refused
-abbrev pub first_fault : {H : Type 0} → List SimStep → SimState H → Option Cause
-first_fault [] s = None
-first_fault (step ∷ steps) s = fault_of step s
-
 module _ {H : Type 0} (answer_of : H → Command → Answer) (after : H → Command → H) where
-  -- the state behind these steps
+  -- the state after these steps
   abbrev pub run : List SimStep → SimState H → SimState H
-  run [] s = s
-  run (step ∷ steps) s = run steps (after_step answer_of after step s)
+  run steps s = schedules.run (after_step answer_of after) steps s
 
   -- none of them is refused
   abbrev pub is_well : List SimStep → SimState H → Bool
-  is_well [] s = true
-  is_well (step ∷ steps) s = is_none (fault_of step s) && is_well steps (after_step answer_of after step s)
+  is_well steps s = schedules.is_well (after_step answer_of after) fault_of steps s
+
+  -- what went over the line in these steps had its fields in their ranges
+  abbrev pub FitAlong : List SimStep → SimState H → Type 0
+  FitAlong steps s = schedules.HoldsAlong (after_step answer_of after) (StepFits answer_of after) steps s
 
   -- the run stops at a step, counted from 1; the account is that of the steps before it
-  pub record StopsAt (at : ℕ) (why : Cause) (lists : Account) (steps : List SimStep) (s : SimState H) : Type 0 where
-    pub within : at ≤ length steps
-    pub well : is_well (take (at - 1) steps) s ≡ true
-    pub cause : IsCause why (first_fault (drop (at - 1) steps) (run (take (at - 1) steps) s))
-    pub account : lists ≡ (run (take (at - 1) steps) s).account
+  abbrev pub StopsAt : ℕ → Cause → Account → List SimStep → SimState H → Type 0
+  StopsAt at why lists steps s = schedules.StopsAt (after_step answer_of after) fault_of (λ t. t.account) at why lists steps s
 
   -- .. or nothing was set up
   abbrev pub Stops : ℕ → Cause → Account → SimConfig → H → List SimStep → Type 0
@@ -74,18 +62,13 @@ module _ {H : Type 0} (answer_of : H → Command → Answer) (after : H → Comm
   Stops (suc before) cause account config handler steps =
       AreSettings config × StopsAt (suc before) cause account steps (set_up config handler)
 
-  abbrev pub RunEnds : SimConfig → H → List SimStep → Result declared.Account Fault → Type 0
+  abbrev pub RunEnds : SimConfig → H → List SimStep → Result declared.Account (Fault declared.Account) → Type 0
   RunEnds config handler steps (Ok account) =
       AreSettings config × (is_well steps (set_up config handler) ≡ true)
       × (lists_of account ≡ (run steps (set_up config handler)).account)
   RunEnds config handler steps (Err fault) = Stops fault.step fault.cause (lists_of fault.account) config handler steps
 
-  -- what went over the line in these steps had its fields in their ranges
-  abbrev pub FitAlong : List SimStep → SimState H → Type 0
-  FitAlong [] s = Unit {0}
-  FitAlong (step ∷ steps) s = StepFits answer_of after step s × FitAlong steps (after_step answer_of after step s)
-
 -- the steps that were taken
-abbrev pub steps_done : List SimStep → Result declared.Account Fault → List SimStep
+abbrev pub steps_done : List SimStep → Result declared.Account (Fault declared.Account) → List SimStep
 steps_done steps (Ok account) = steps
 steps_done steps (Err fault) = take (fault.step - 1) steps

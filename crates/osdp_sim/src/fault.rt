@@ -1,7 +1,5 @@
 //! Why a schedule stops.
 
-use crate::account::Account;
-
 /// Why a schedule stops.
 #[derive(Clone, Copy, Debug, PartialEq, Eq)]
 pub enum Cause {
@@ -17,11 +15,11 @@ pub enum Cause {
 
 /// Where and why a schedule stopped, and what had come of the steps before.
 #[derive(Debug, Drop)]
-pub struct Fault {
+pub struct Fault<A> {
     /// The step, counted from 1; 0 where the ends could not be set up.
     pub step: usize,
     /// Why it stopped.
     pub cause: Cause,
     /// The account of the steps before it. It is empty where the ends could not be set up.
-    pub account: Account,
+    pub account: A,
 }

@@ -68,7 +68,7 @@ pub(crate) fn framed(burst: &Burst) -> Framer
 }
 
 /// A copy of a burst.
-fn copy(burst: &Burst) -> Burst
+pub(crate) fn copy(burst: &Burst) -> Burst
     ensures { result ≡ burst.now }
 {
     let mut copy = Burst::new();

@@ -1,15 +1,17 @@
 //! A schedule, run over one line.
 
-ghost use Rattle.std.specs.Prelude.{◌≡◌, ◌≤◌, true, IfErr, IfOk, None, OnOk};
+ghost use Rattle.std.specs.Prelude.{◌≡◌, ◌≤◌, ◌<◌, ◌^◌, length, true, IfErr, IfOk, None, OnOk};
 ghost use Rattle.osdp_sim.specs.Account.{lists_of};
 ghost use Rattle.osdp_sim.specs.Room.{state_of};
-ghost use Rattle.osdp_sim.specs.Runs.{FitAlong, IsCause, RunEnds, StopsAt, is_well, run, steps_done};
+ghost use Rattle.osdp_sim.specs.Runs.{FitAlong, RunEnds, StopsAt, is_well, run, steps_done};
+ghost use Rattle.osdp_sim.specs.Schedules.{IsCause};
 ghost use Rattle.osdp_sim.specs.State.{AreSent, set_up};
 ghost use Rattle.osdp_sim.specs.Steps.{StepFits, after_step, fault_of};
 
 use crate::account::Account;
 use crate::config::SimConfig;
 use crate::fault::{Cause, Fault};
+use crate::schedule::{Listed, Schedule};
 use crate::simulation::Simulation;
 use crate::step::SimStep;
 use osdp_reader::Handler;
@@ -26,12 +28,26 @@ pub fn run_session<H: Handler>(
     config: &SimConfig,
     handler: H,
     steps: &[SimStep],
-) -> Result<Account, Fault>
+) -> Result<Account, Fault<Account>>
     ensures ends { RunEnds H.answer_of H.after config.now handler steps.now result }
     ensures fits { FitAlong H.answer_of H.after (steps_done steps.now result) (set_up config.now handler) }
 {
+    run_schedule(alloc, config, handler, Listed { rest: steps })
+}
+
+/// The same of steps that are handed out one at a time.
+pub fn run_schedule<H: Handler, S: Schedule>(
+    alloc: Global,
+    config: &SimConfig,
+    handler: H,
+    schedule: S,
+) -> Result<Account, Fault<Account>>
+    requires { length (S.left schedule) < 2 ^ 64 }
+    ensures ends { RunEnds H.answer_of H.after config.now handler (S.left schedule) result }
+    ensures fits { FitAlong H.answer_of H.after (steps_done (S.left schedule) result) (set_up config.now handler) }
+{
     match Simulation::new(alloc, config, handler) {
-        Ok(simulation) => run_steps(simulation, steps),
+        Ok(simulation) => run_steps(simulation, schedule),
         Err(cause) => Err(Fault {
             step: 0,
             cause,
@@ -41,19 +57,26 @@ pub fn run_session<H: Handler>(
 }
 
 /// Takes the steps, up to the first that is refused or finds no memory.
-fn run_steps<H: Handler>(simulation: Simulation<H>, steps: &[SimStep]) -> Result<Account, Fault>
+fn run_steps<H: Handler, S: Schedule>(
+    simulation: Simulation<H>,
+    schedule: S,
+) -> Result<Account, Fault<Account>>
     requires sent { AreSent (state_of simulation) }
-    ensures ok { IfOk result (λ account. (is_well H.answer_of H.after steps.now (state_of simulation) ≡ true)
-        × (lists_of account ≡ (run H.answer_of H.after steps.now (state_of simulation)).account)) }
+    requires count { length (S.left schedule) < 2 ^ 64 }
+    ensures ok { IfOk result (λ account. (is_well H.answer_of H.after (S.left schedule) (state_of simulation) ≡ true)
+        × (lists_of account ≡ (run H.answer_of H.after (S.left schedule) (state_of simulation)).account)) }
     ensures err { IfErr result (λ fault. (1 ≤ fault.step)
-        × StopsAt H.answer_of H.after fault.step fault.cause (lists_of fault.account) steps.now (state_of simulation)) }
-    ensures fits { FitAlong H.answer_of H.after (steps_done steps.now result) (state_of simulation) }
+        × StopsAt H.answer_of H.after fault.step fault.cause (lists_of fault.account) (S.left schedule) (state_of simulation)) }
+    ensures fits { FitAlong H.answer_of H.after (steps_done (S.left schedule) result) (state_of simulation) }
 {
     let mut simulation = simulation;
-    for (i, step) in steps.iter().enumerate() {
-        if let Err(cause) = try_step(&mut simulation, step) {
+    let mut schedule = schedule;
+    let mut at = 0;
+    'steps: while let Some(step) = schedule.next() {
+        at += 1;
+        if let Err(cause) = try_step(&mut simulation, &step) {
             return Err(Fault {
-                step: i + 1,
+                step: at,
                 cause,
                 account: simulation.account,
             });

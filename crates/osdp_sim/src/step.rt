@@ -1,5 +1,8 @@
 //! What a schedule says.
 
+ghost use Rattle.std.specs.Prelude.{◌≡◌};
+
+use crate::line::copy;
 use osdp_frame::Burst;
 use osdp_msg::{Command, Event};
 
@@ -14,6 +17,20 @@ pub enum Move {
     Repeat,
     /// These bytes come through in its place. No packet may stand among them.
     Damage(Burst),
+}
+
+impl Move {
+    /// A move equal to this one.
+    pub fn copy(&self) -> Move
+        ensures { result ≡ self.now }
+    {
+        match self {
+            Move::Deliver => Move::Deliver,
+            Move::Drop => Move::Drop,
+            Move::Repeat => Move::Repeat,
+            Move::Damage(bytes) => Move::Damage(copy(bytes)),
+        }
+    }
 }
 
 /// A step of a schedule. Readers count from 1, and a step with a reader that isn't there does nothing.
@@ -33,4 +50,21 @@ pub enum SimStep {
     ToController(Move),
     /// The session with a reader, which has ended, begins again.
     Reopen(usize),
+}
+
+impl SimStep {
+    /// A step equal to this one.
+    pub fn copy(&self) -> SimStep
+        ensures { result ≡ self.now }
+    {
+        match self {
+            SimStep::Issue(number, command) => SimStep::Issue(*number, command.copy()),
+            SimStep::Queue(number, event) => SimStep::Queue(*number, event.copy()),
+            SimStep::Busy(number, busy) => SimStep::Busy(*number, *busy),
+            SimStep::Wait(wait) => SimStep::Wait(*wait),
+            SimStep::ToReader(way) => SimStep::ToReader(way.copy()),
+            SimStep::ToController(way) => SimStep::ToController(way.copy()),
+            SimStep::Reopen(number) => SimStep::Reopen(*number),
+        }
+    }
 }

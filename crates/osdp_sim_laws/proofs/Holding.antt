@@ -237,7 +237,7 @@ module _ {H : Type 0} (answer_of : H → Command → Answer) (after : H → Comm
   -- ---- what is answered
 
   -- the account is that of the steps that were taken
-  pub answers : (P : Account → Type 0) (config : SimConfig) (handler : H) (steps : List SimStep) (answer : Result declared.Account Fault)
+  pub answers : (P : Account → Type 0) (config : SimConfig) (handler : H) (steps : List SimStep) (answer : Result declared.Account (Fault declared.Account))
       → IsAnswer answer_of after config handler steps answer → WasSetUp answer
       → (IsRun answer_of after config handler (steps_done steps answer) → P (run answer_of after (steps_done steps answer) (set_up config handler)).account)
       → P (account_in answer)

@@ -93,12 +93,12 @@ IsInSession (Reopen number) = ⊥
 IsInSession _ = Unit {0}
 
 -- the account that is handed back, with a fault too
-abbrev pub account_in : Result declared.Account Fault → Account
+abbrev pub account_in : Result declared.Account (Fault declared.Account) → Account
 account_in (Ok account) = lists_of account
 account_in (Err fault) = lists_of fault.account
 
 -- both ends were set up
-abbrev pub WasSetUp : Result declared.Account Fault → Type 0
+abbrev pub WasSetUp : Result declared.Account (Fault declared.Account) → Type 0
 WasSetUp (Ok account) = Unit {0}
 WasSetUp (Err fault) = 1 ≤ fault.step
 
@@ -126,15 +126,15 @@ module _ {H : Type 0} (answer_of : H → Command → Answer) (after : H → Comm
     pub causes : All IsNoRefusal a.ends
 
   -- what `run_session` answers, and what went over the line in the steps that it took
-  pub record IsAnswer (config : SimConfig) (handler : H) (steps : List SimStep) (answer : Result declared.Account Fault) : Type 0 where
+  pub record IsAnswer (config : SimConfig) (handler : H) (steps : List SimStep) (answer : Result declared.Account (Fault declared.Account)) : Type 0 where
     pub ends : RunEnds answer_of after config handler steps answer
     pub fits : FitAlong answer_of after (steps_done steps answer) (set_up config handler)
 
   abbrev pub StaysInARow : Type 0
-  StaysInARow = (config : SimConfig) (handler : H) (steps : List SimStep) (answer : Result declared.Account Fault)
+  StaysInARow = (config : SimConfig) (handler : H) (steps : List SimStep) (answer : Result declared.Account (Fault declared.Account))
       → IsAnswer config handler steps answer → WasSetUp answer → IsInARow config.reader handler (account_in answer)
 
   abbrev pub HoldsOnce : Type 0
-  HoldsOnce = (config : SimConfig) (handler : H) (steps : List SimStep) (answer : Result declared.Account Fault)
+  HoldsOnce = (config : SimConfig) (handler : H) (steps : List SimStep) (answer : Result declared.Account (Fault declared.Account))
       → IsAnswer config handler steps answer → WasSetUp answer → All IsInSession (steps_done steps answer)
       → IsOnce config.reader handler (account_in answer)

@@ -37,7 +37,7 @@ pub fn config(rt: &impl Abort) -> SimConfig {
 }
 
 /// What the steps of these rows come to.
-pub fn outcome(rt: &impl Abort, alloc: Global, rows: &str) -> Result<Account, Fault> {
+pub fn outcome(rt: &impl Abort, alloc: Global, rows: &str) -> Result<Account, Fault<Account>> {
     let steps = steps(rt, alloc, rows);
     run_session(alloc, &config(rt), Door::new(), steps.as_slice())
 }

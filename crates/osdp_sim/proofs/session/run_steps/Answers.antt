@@ -1,23 +1,18 @@
-use Rattle.std.proofs.Common.{ap, arith}
-use Rattle.osdp_sim.specs.Account.{lists_of}
+use Rattle.std.proofs.Common.{ap, arith, length, ◌∙◌}
 use Rattle.osdp_sim.specs.Room.{state_of}
-use Rattle.osdp_sim.specs.State.{SimState}
-use Rattle.osdp_sim.proofs.Schedules.{stops_there, takes_on}
+use Rattle.osdp_sim.specs.Steps.{StepFits, after_step, fault_of}
+use Rattle.osdp_sim.proofs.Schedules.{goes_on}
 use Rattle.osdp_sim.proofs.session.run_steps.Goals as goal
 
-pub returns-in-Err-clause-err : goal.returns-in-Err-clause-err
-returns-in-Err-clause-err g c =
-    let failed = c.in-Err.ensures.err in (
-      omega arith,
-      stops_there g.H.Handler.answer_of g.H.Handler.after c.args.steps.now c.loop-i.i c.index-steps-i.result (state_of c.args.simulation) (state_of c.loop-i.simulation)
-          c.in-Err.cause (lists_of c.try_step.new.simulation.account) c.loop-i.invariant.taken c.loop-i-test.true c.index-steps-i.is failed.0 (ap (λ (s : SimState g.row.H.Denot). s.account) failed.1),
-    )
-
-pub loop-i-preserved : goal.loop-i-preserved
-loop-i-preserved g c =
-    let well = c.in_default.ensures.ok in
+pub steps-preserved : goal.steps-preserved
+steps-preserved g c =
+    let well = c.in_default-try_step.ensures.ok in
+    let cut = c.in-Some.ensures in
     record {
-      taken = takes_on g.H.Handler.answer_of g.H.Handler.after c.args.steps.now c.loop-i.i c.index-steps-i.result (state_of c.args.simulation) (state_of c.loop-i.simulation)
-          (state_of c.try_step.new.simulation) c.loop-i.invariant.taken c.loop-i-test.true c.index-steps-i.is well.0 well.1 well.2;
+      come = goes_on (after_step g.H.Handler.answer_of g.H.Handler.after) fault_of (StepFits g.H.Handler.answer_of g.H.Handler.after)
+          (g.S.Schedule.left c.args.schedule) c.steps.at c.in-Some.step (g.S.Schedule.left c.steps.schedule) (g.S.Schedule.left c.next.new.self)
+          (state_of c.args.simulation) (state_of c.steps.simulation) (state_of c.try_step.new.simulation)
+          c.steps.invariant.come cut well.0 well.1 well.2;
       sent = well.3;
+      count = omega (arith, c.steps.invariant.count, ap length cut);
     }

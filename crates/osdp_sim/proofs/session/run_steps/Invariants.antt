@@ -1,11 +1,17 @@
-use Rattle.std.proofs.Common.{take}
+use Rattle.std.proofs.Common.{◌≡◌, ◌+◌, length}
 use Rattle.osdp_sim.specs.Room.{state_of}
 use Rattle.osdp_sim.specs.State.{AreSent}
-use Rattle.osdp_sim.proofs.Schedules.{HasTaken}
+use Rattle.osdp_sim.specs.Steps.{StepFits, after_step, fault_of}
+use Rattle.osdp_sim.proofs.Schedules.{HasCome}
 use Rattle.osdp_sim.proofs.session.run_steps.Given as goal
 
-abbrev pub invariant-loop-i : goal.invariant-loop-i
-invariant-loop-i g l = record {
-  taken : HasTaken g.H.Handler.answer_of g.H.Handler.after (take l.i l.steps) (state_of l.initial.simulation) (state_of l.simulation);
+abbrev pub invariant-steps : goal.invariant-steps
+invariant-steps g l = record {
+  come : HasCome (after_step g.H.Handler.answer_of g.H.Handler.after) fault_of (StepFits g.H.Handler.answer_of g.H.Handler.after)
+      (g.S.Schedule.left l.initial.schedule) l.at (g.S.Schedule.left l.schedule) (state_of l.initial.simulation) (state_of l.simulation);
   sent : AreSent (state_of l.simulation);
+  count : l.at + length (g.S.Schedule.left l.schedule) ≡ length (g.S.Schedule.left l.initial.schedule);
 }
+
+abbrev pub decreases-steps : goal.decreases-steps
+decreases-steps g l = length (g.S.Schedule.left l.schedule)
