@@ -72,6 +72,7 @@ expect 'a capture in a file' 1 '1:0 cmd 5 seq 0 sum ID 0
 expect 'a directory as input' 3 '' $'osdp: read failed\n' show </
 expect 'a closed input' 3 '' $'osdp: read failed\n' show <&-
 
+expect 'noise that fills all rooms' 0 "$(seq -f '1:%g skip FE' 0 8999)"$'\n' '' show --raw < <(printf '\xFE%.0s' {1..9000})
 expect 'as many bytes as are read' 0 $'runs 1 packets 0 skipped 67108864 refused 0\n' '' check --raw < <(head -c 67108864 /dev/zero)
 expect 'one byte more' 2 '' $'osdp: input too long\n' check --raw < <(head -c 67108865 /dev/zero)
 

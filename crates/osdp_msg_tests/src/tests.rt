@@ -1,13 +1,11 @@
-//! Vectors and refusals, worked by hand from the tables of the standard.
+//! Published packets, and what the program doesn't show. The tables of messages row by row stand in `tests/rows/`.
 use osdp_msg::*;
 use std::alloc::{AllocError, Global};
 use std::process::Abort;
 
-mod commands;
 mod events;
-mod largest;
+mod reasons;
 mod refusals;
-mod replies;
 mod vectors;
 
 /// The words of a text: what stands between its spaces.
@@ -56,14 +54,6 @@ fn is_command(rt: &impl Abort, alloc: Global, code: u8, data: &[u8], text: &str)
     is_command_again(rt, &parsed, &read);
 }
 
-/// So are the digits of a row, which are a code and data, and its text behind them.
-fn is_command_row(rt: &impl Abort, alloc: Global, row: &str) {
-    let (digits, text) = row.split_once(' ').expect(rt, "digits and a text");
-    let message = bytes_of(rt, alloc, digits);
-    let (code, data) = message.as_slice().split_first().expect(rt, "a code");
-    is_command(rt, alloc, *code, data, text);
-}
-
 /// A reply and its copy are the same as another.
 fn is_reply_again(rt: &impl Abort, reply: &Reply, other: &Reply) {
     assert!(rt; reply == other);
@@ -80,12 +70,4 @@ fn is_reply(rt: &impl Abort, alloc: Global, code: u8, data: &[u8], text: &str) {
     let parsed = Reply::parse(words.as_slice()).ok().expect(rt, text);
     is_spelled(rt, parsed.write().as_slice(), code, data);
     is_reply_again(rt, &parsed, &read);
-}
-
-/// So are the digits of a row, which are a code and data, and its text behind them.
-fn is_reply_row(rt: &impl Abort, alloc: Global, row: &str) {
-    let (digits, text) = row.split_once(' ').expect(rt, "digits and a text");
-    let message = bytes_of(rt, alloc, digits);
-    let (code, data) = message.as_slice().split_first().expect(rt, "a code");
-    is_reply(rt, alloc, *code, data, text);
 }
