@@ -26,3 +26,11 @@ pub mod Through
 pub mod InTime
 pub mod Refusals
 pub mod TwoLists
+pub mod Reports
+pub mod OneDevice
+pub mod ToldMoved
+pub mod Reserved
+pub mod ControllerNames
+pub mod ReaderNames
+pub mod Naming
+pub mod Endings

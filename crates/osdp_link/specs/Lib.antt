@@ -6,3 +6,5 @@ pub mod Progress
 pub mod Refusals
 pub mod Addresses
 pub mod TwoLists
+pub mod Names
+pub mod Ends

@@ -10,6 +10,9 @@ ghost use Rattle.osdp_link.specs.Refusals.{RefusesNoNumber};
 ghost use Rattle.osdp_link.specs.Sessions.{CommandsHavePlaces, EventsHavePlaces, LastOneLasts, StayInARow};
 ghost use Rattle.osdp_link.specs.TwoLists.{IsReadOff, KeepsInStep, MovesInStep, OffersOnce};
 
+pub mod ends;
+pub mod names;
+
 use osdp_reader::Handler;
 
 /// A reader reads, of the frame of an exchange, the command that the exchange asks.
