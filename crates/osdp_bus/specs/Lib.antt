@@ -3,6 +3,7 @@ pub mod Devices
 pub mod Buses
 pub mod Hearing
 pub mod Ticking
+pub mod Sending
 pub mod Machine
 pub mod Deadlines
 pub mod Private

@@ -18,12 +18,15 @@
 //! What a bus does is the definitions in `specs/`. Only `Bus::new` and `Bus::add` take memory.
 #![tactic(auto)]
 
+mod bus;
+mod calls;
 mod config;
 mod device;
 mod device_list;
 mod fault;
 mod line;
 
+pub use bus::Bus;
 pub use config::BusConfig;
 pub use fault::BusFault;
 

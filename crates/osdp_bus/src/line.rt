@@ -1,13 +1,15 @@
 //! The line of a bus: its devices, and what has come of a run that goes on.
 
-ghost use Rattle.std.specs.Prelude.{◌≡◌};
+ghost use Rattle.std.specs.Prelude.{◌≡◌, ◌++◌, None, Some, false, length, vec_capacity};
+ghost use Rattle.osdp_frame.specs.Items.{items, left_over};
 ghost use Rattle.osdp_bus.specs.Buses.{seen};
-ghost use Rattle.osdp_bus.specs.Private.{IsLine, state_of};
-ghost use Rattle.osdp_bus.specs.Ticking.{is_due_at, is_held_and_due, ticks_at};
+ghost use Rattle.osdp_bus.specs.Hearing.{after_bytes, after_silence, ends_run, ends_silent, hears_bytes, hears_items};
+ghost use Rattle.osdp_bus.specs.Private.{IsHeld, IsLine, IsRead, devices_of, rest_of, state_of};
+ghost use Rattle.osdp_bus.specs.Ticking.{bus_ticks, is_due_at, is_held_and_due, ticks_at, ticks_by};
 
 use crate::Entry;
 use crate::config::BusConfig;
-use crate::device_list::DeviceList;
+use crate::device_list::{DeviceList, first_holding, next_due};
 use osdp_controller::Step;
 use osdp_frame::{Frame, Framer};
 
@@ -25,6 +27,37 @@ pub struct Line {
     pub first: Entry,
 }
 
+/// Reads all items that the bytes held decide, and hands their packets to the devices.
+fn read_items(devices: &mut DeviceList, framer: &mut Framer, now: u64)
+    requires { IsHeld framer.old }
+    ensures devices { devices_of devices.new ≡ hears_items now (items framer.old.ended framer.old.bytes) (devices_of devices.old) }
+    ensures capacity { vec_capacity devices.new.entries ≡ vec_capacity devices.old.entries }
+    ensures count { length devices.new.entries.items ≡ length devices.old.entries.items }
+    ensures left { framer.new.bytes ≡ rest_of framer.old.ended framer.old.bytes }
+    ensures read { IsRead framer.new }
+{
+    'items: while let Some(item) = framer.next() {
+        devices.hear_item(&item, now);
+        framer.advance();
+    }
+}
+
+/// Takes bytes of a run that goes on, and reads the items that they decide.
+fn read_bytes(devices: &mut DeviceList, framer: &mut Framer, bytes: &[u8], now: u64)
+    requires { IsRead framer.old }
+    ensures devices { devices_of devices.new ≡ hears_items now (items false (framer.old.bytes ++ bytes.now)) (devices_of devices.old) }
+    ensures capacity { vec_capacity devices.new.entries ≡ vec_capacity devices.old.entries }
+    ensures count { length devices.new.entries.items ≡ length devices.old.entries.items }
+    ensures left { framer.new.bytes ≡ left_over (framer.old.bytes ++ bytes.now) }
+    ensures read { IsRead framer.new }
+{
+    let mut at = 0;
+    'pieces: while at < bytes.len() {
+        at += framer.push(&bytes[at..]);
+        read_items(devices, framer, now);
+    }
+}
+
 impl Line {
     /// Takes a moment; one that lies before the greatest seen counts as that one.
     pub(crate) fn see(&mut self, now: u64)
@@ -33,6 +66,61 @@ impl Line {
         ensures kept { IsLine self.new }
     {
         self.greatest = self.greatest.max(now);
+    }
+
+    /// The run is over.
+    fn end_run(&mut self)
+        requires { IsLine self.old }
+        ensures line { state_of self.new ≡ ends_run (state_of self.old) }
+        ensures kept { IsLine self.new }
+    {
+        self.framer.gap();
+        read_items(&mut self.devices, &mut self.framer, self.greatest);
+    }
+
+    /// The run is over where the line has been silent long enough.
+    fn end_silent(&mut self)
+        requires { IsLine self.old }
+        ensures line { state_of self.new ≡ ends_silent (state_of self.old) }
+        ensures kept { IsLine self.new }
+    {
+        if u64::from(self.config.gap) <= self.greatest - self.last {
+            self.end_run();
+        }
+    }
+
+    /// Bytes of the same run come.
+    fn hear_bytes(&mut self, bytes: &[u8])
+        requires { IsLine self.old }
+        ensures line { state_of self.new ≡ hears_bytes bytes.now (state_of self.old) }
+        ensures kept { IsLine self.new }
+    {
+        read_bytes(&mut self.devices, &mut self.framer, bytes, self.greatest);
+        self.last = self.greatest;
+    }
+
+    /// Bytes come at a moment.
+    pub(crate) fn on_bytes(&mut self, bytes: &[u8], now: u64)
+        requires { IsLine self.old }
+        ensures line { state_of self.new ≡ after_bytes bytes.now now (state_of self.old) }
+        ensures kept { IsLine self.new }
+    {
+        self.see(now);
+        if bytes.is_empty() {
+            return;
+        }
+        self.end_silent();
+        self.hear_bytes(bytes);
+    }
+
+    /// The caller saw the line silent.
+    pub(crate) fn on_silence(&mut self, now: u64)
+        requires { IsLine self.old }
+        ensures line { state_of self.new ≡ after_silence now (state_of self.old) }
+        ensures kept { IsLine self.new }
+    {
+        self.see(now);
+        self.end_run();
     }
 
     /// The device of an entry, if there is one, does what is due.
@@ -66,5 +154,55 @@ impl Line {
         entry < self.devices.entries.len()
             && self.devices.entries[entry].holds()
             && self.is_due_at(entry)
+    }
+
+    /// A tick where nobody holds the line.
+    fn tick_free(&mut self) -> Option<Frame>
+        requires { IsLine self.old }
+        ensures sent { result ≡ (ticks_by None (state_of self.old)).sent }
+        ensures line { state_of self.new ≡ (ticks_by None (state_of self.old)).bus }
+        ensures kept { IsLine self.new }
+    {
+        self.end_run();
+        if self.devices.report.is_some() {
+            return None;
+        }
+        let next = next_due(self.devices.entries.as_slice(), self.first, self.greatest);
+        self.tick_at(next)
+    }
+
+    /// A tick where this entry holds the line.
+    fn tick_held(&mut self, entry: Entry) -> Option<Frame>
+        requires { IsLine self.old }
+        ensures sent { result ≡ (ticks_by (Some entry) (state_of self.old)).sent }
+        ensures line { state_of self.new ≡ (ticks_by (Some entry) (state_of self.old)).bus }
+        ensures kept { IsLine self.new }
+    {
+        if !self.is_due_at(entry) {
+            return None;
+        }
+        self.end_run();
+        if self.devices.report.is_some() || !self.is_held_and_due(entry) {
+            return None;
+        }
+        self.tick_at(Some(entry))
+    }
+
+    /// A tick at a moment: the frame that goes out.
+    pub(crate) fn tick(&mut self, now: u64) -> Option<Frame>
+        requires { IsLine self.old }
+        ensures sent { result ≡ (bus_ticks now (state_of self.old)).sent }
+        ensures line { state_of self.new ≡ (bus_ticks now (state_of self.old)).bus }
+        ensures kept { IsLine self.new }
+    {
+        self.see(now);
+        if self.devices.report.is_some() {
+            return None;
+        }
+        self.end_silent();
+        match first_holding(self.devices.entries.as_slice()) {
+            None => self.tick_free(),
+            Some(entry) => self.tick_held(entry),
+        }
     }
 }

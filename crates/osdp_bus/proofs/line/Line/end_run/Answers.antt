@@ -1,0 +1,8 @@
+use Rattle.osdp_bus.specs.Private.{devices_of, state_of}
+use Rattle.osdp_bus.proofs.Runs.{run_over}
+use Rattle.osdp_bus.proofs.line.Line.end_run.Goals as goal
+
+pub returns-clause-line : goal.returns-clause-line
+returns-clause-line c =
+    run_over (state_of c.args.self.now) c.args.self.now.framer c.gap.new.self (devices_of c.read_items.new.devices) c.read_items.new.framer.bytes
+    c.gap.ensures c.read_items.ensures.devices c.read_items.ensures.left

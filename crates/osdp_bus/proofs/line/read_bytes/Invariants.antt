@@ -1,0 +1,20 @@
+use Rattle.std.proofs.Common.{◌≡◌, ◌≤◌, ◌-◌, ◌++◌, false, length, drop, vec_capacity}
+use Rattle.osdp_frame.specs.Items.{items, left_over}
+use Rattle.osdp_bus.specs.Hearing.{hears_items}
+use Rattle.osdp_bus.specs.Private.{IsRead, devices_of}
+use Rattle.osdp_bus.proofs.line.read_bytes.Given as goal
+
+-- the bytes that are left bring the devices to where all of them do
+abbrev pub invariant-pieces : goal.invariant-pieces
+invariant-pieces l = record {
+  within : l.at ≤ length l.bytes;
+  read : IsRead l.framer;
+  heard : hears_items l.now (items false (l.framer.bytes ++ drop l.at l.bytes)) (devices_of l.devices)
+      ≡ hears_items l.now (items false (l.initial.framer.bytes ++ l.bytes)) (devices_of l.initial.devices);
+  left : left_over (l.framer.bytes ++ drop l.at l.bytes) ≡ left_over (l.initial.framer.bytes ++ l.bytes);
+  capacity : vec_capacity l.devices.entries ≡ vec_capacity l.initial.devices.entries;
+  count : length l.devices.entries.items ≡ length l.initial.devices.entries.items;
+}
+
+abbrev pub decreases-pieces : goal.decreases-pieces
+decreases-pieces l = length l.bytes - l.at

@@ -1,0 +1,220 @@
+//! The bus: what a panel's program calls.
+
+ghost use Rattle.std.specs.Prelude.{◌≡◌, ◌≤◌, ◌==◌, IfErr, OnOk, OnErr, length, option_map, slice_get};
+ghost use Rattle.osdp_controller.specs.States.{is_closed};
+ghost use Rattle.osdp_bus.specs.Devices.{address_of};
+
+use crate::Entry;
+use crate::config::BusConfig;
+use crate::device::{Device, comset_of};
+use crate::device_list::{DeviceList, is_taken, is_taken_beside};
+use crate::fault::BusFault;
+use crate::line::Line;
+use osdp_controller::Report;
+use osdp_frame::{Address, Burst, Framer};
+use osdp_msg::Command;
+use std::alloc::Global;
+use std::marker::Model;
+
+/// How many devices there may be.
+const MOST_DEVICES: usize = 16;
+
+/// The panel's end of a line with up to sixteen devices, each with a controller of its own.
+///
+/// Moments are milliseconds that the caller hands in, of any clock that doesn't go backwards; one that lies before the
+/// greatest seen counts as that one.
+#[derive(Drop)]
+pub struct Bus {
+    alloc: Global,
+    line: Line,
+}
+
+impl Model for Bus {
+    ghost use Rattle.osdp_bus.specs.Buses.{BusState};
+
+    ghost Value = { BusState };
+
+    ghost use Rattle.osdp_bus.specs.Private.{IsLine, state_of};
+
+    ghost view = { λ b. state_of b.line };
+
+    ghost invariant = { λ b. IsLine b.line };
+}
+
+impl Bus {
+    ghost use Rattle.osdp_bus.specs.Buses.{device_of};
+    ghost use Rattle.osdp_bus.specs.Hearing.{after_bytes, after_silence};
+    ghost use Rattle.osdp_bus.specs.Machine.{AddEnds, NewEnds, after_begin_at, after_next_report, after_retarget_at, after_submit_at, after_withdraw_at, begin_refusal_at, changed_unless, retarget_refusal_at, submit_refusal_at, unless_refused, withdrawal_at};
+    ghost use Rattle.osdp_bus.specs.Sending.{IsSentAs};
+    ghost use Rattle.osdp_bus.specs.Ticking.{bus_ticks};
+
+    /// A bus without devices. It takes the memory for sixteen.
+    ///
+    /// OutOfRange (B5) where a setting is out of its range; else NoMemory (B1) where there is none.
+    pub fn new(alloc: Global, config: BusConfig) -> Result<Bus, BusFault>
+        ensures { NewEnds config result }
+    {
+        if !config.is_in_range() {
+            return Err(BusFault::OutOfRange);
+        }
+        let Ok(entries) = Vec::with_capacity(alloc, MOST_DEVICES) else {
+            return Err(BusFault::NoMemory);
+        };
+        let line = Line {
+            config,
+            devices: DeviceList {
+                entries,
+                report: None,
+            },
+            framer: Framer::new(),
+            last: 0,
+            greatest: 0,
+            first: 0,
+        };
+        Ok(Bus { alloc, line })
+    }
+
+    /// Adds a device at this address, whose session is closed. It takes the memory for its waiting commands.
+    ///
+    /// TooMany (B2) where sixteen are there; else OutOfRange (B5) for the configuration address; else AddressTaken (B3)
+    /// where the address is that of a device or reserved for one; else NoMemory (B1) where there is none. Nothing has
+    /// changed then.
+    pub fn add(&mut self, address: Address) -> Result<Entry, BusFault>
+        ensures { AddEnds address self.old self.new result }
+    {
+        let entry = self.line.devices.entries.len();
+        if entry >= MOST_DEVICES {
+            return Err(BusFault::TooMany);
+        }
+        if address.get() >= Address::CONFIGURATION {
+            return Err(BusFault::OutOfRange);
+        }
+        if is_taken(self.line.devices.entries.as_slice(), address.get()) {
+            return Err(BusFault::AddressTaken);
+        }
+        let device = Device::new(self.alloc, address, &self.line.config)?;
+        self.line.devices.entries.push_reserved(device);
+        Ok(entry)
+    }
+
+    /// Begins a session of a device: it is left quiet for the quiet wait, then the opening ID goes out in its turn.
+    ///
+    /// NoEntry (B4); else NotClosed (C5) where its session has begun. Nothing has changed then, the greatest moment
+    /// seen neither.
+    pub fn begin(&mut self, entry: Entry, now: u64) -> Result<(), BusFault>
+        ensures result { result ≡ unless_refused (begin_refusal_at entry self.old) }
+        ensures bus { self.new ≡ changed_unless (begin_refusal_at entry self.old) self.old (after_begin_at entry now self.old) }
+    {
+        self.line.begin(entry, now)
+    }
+
+    /// Puts a command behind those that wait for a device. It is accepted whether or not a session has begun. A COMSET
+    /// reserves its address for the device until it is told settled or moved, or is withdrawn; told unsettled or unread,
+    /// it reserves it until `retarget`.
+    ///
+    /// NoEntry (B4); else PollSubmitted (C4) for a POLL; else AddressTaken (B3) for a COMSET to an address of another
+    /// device or reserved for one, or where an address is reserved for this device already; else Full (C3) where as many
+    /// commands wait as there is room for. The command comes back, and nothing has changed.
+    pub fn submit(&mut self, entry: Entry, command: Command) -> Result<(), (BusFault, Command)>
+        ensures ok { OnOk result (submit_refusal_at entry command self.old ≡ None) }
+        ensures accepted { OnOk result (self.new ≡ after_submit_at entry command self.old) }
+        ensures err { IfErr result (λ e. submit_refusal_at entry command self.old ≡ Some e.0) }
+        ensures back { IfErr result (λ e. (e.1 ≡ command) × (self.new ≡ self.old)) }
+    {
+        self.line.submit(entry, command)
+    }
+
+    /// Takes back the command that has waited longest for a device: it won't be sent. None where none waits, or where its
+    /// session has begun; nothing has changed then. A withdrawn COMSET reserves its address no longer.
+    ///
+    /// NoEntry (B4).
+    pub fn withdraw(&mut self, entry: Entry) -> Result<Option<Command>, BusFault>
+        ensures result { result ≡ withdrawal_at entry self.old }
+        ensures bus { self.new ≡ after_withdraw_at entry self.old }
+    {
+        self.line.withdraw(entry)
+    }
+
+    /// Sets the address of a device, and frees the one that is reserved for it.
+    ///
+    /// NoEntry (B4); else NotClosed (C5) where its session has begun; else OutOfRange (B5) for the configuration address;
+    /// else AddressTaken (B3) where the address is that of another device or reserved for one, or where a COMSET waits for
+    /// this one. Nothing has changed then.
+    pub fn retarget(&mut self, entry: Entry, address: Address) -> Result<(), BusFault>
+        ensures result { result ≡ unless_refused (retarget_refusal_at entry address self.old) }
+        ensures bus { self.new ≡ changed_unless (retarget_refusal_at entry address self.old) self.old (after_retarget_at entry address self.old) }
+    {
+        self.line.retarget(entry, address)
+    }
+
+    /// Bytes come from the line, in any pieces. Each packet that they finish goes to the controller of its address. No
+    /// bytes move the greatest moment seen alone.
+    pub fn on_bytes(&mut self, bytes: &[u8], now: u64)
+        ensures { self.new ≡ after_bytes bytes.now now self.old }
+    {
+        self.line.on_bytes(bytes, now);
+    }
+
+    /// The caller saw the line silent: the run of bytes is over, and what was begun is no packet.
+    pub fn on_silence(&mut self, now: u64)
+        ensures { self.new ≡ after_silence now self.old }
+    {
+        self.line.on_silence(now);
+    }
+
+    /// What is due at a moment: a burst to send. While a report waits, none.
+    pub fn tick(&mut self, now: u64) -> Option<Burst>
+        ensures sent { IsSentAs (bus_ticks now self.old).sent result }
+        ensures bus { self.new ≡ (bus_ticks now self.old).bus }
+    {
+        match self.line.tick(now) {
+            Some(frame) => Some(frame.encode()),
+            None => None,
+        }
+    }
+
+    /// Takes the report that waits, with the entry of the device whose controller told it.
+    pub fn next_report(&mut self) -> Option<(Entry, Report)>
+        ensures report { result ≡ self.old.devices.report }
+        ensures bus { self.new ≡ after_next_report self.old }
+    {
+        self.line.devices.report.take()
+    }
+
+    /// How many devices there are.
+    pub fn entries(&self) -> usize
+        ensures { result ≡ length self.now.devices.entries }
+    {
+        self.line.devices.entries.len()
+    }
+
+    /// The address of a device. None where there is no such entry.
+    pub fn address(&self, entry: Entry) -> Option<Address>
+        ensures { result ≡ option_map address_of (device_of entry self.now) }
+    {
+        if entry >= self.line.devices.entries.len() {
+            return None;
+        }
+        Some(self.line.devices.entries[entry].controller.address())
+    }
+
+    /// How many commands wait for a device; the outstanding one isn't counted. None where there is no such entry.
+    pub fn waiting(&self, entry: Entry) -> Option<usize>
+        ensures { result ≡ option_map (λ d. length d.controller.waiting) (device_of entry self.now) }
+    {
+        if entry >= self.line.devices.entries.len() {
+            return None;
+        }
+        Some(self.line.devices.entries[entry].controller.waiting())
+    }
+
+    /// Whether the session of a device is closed. None where there is no such entry.
+    pub fn is_closed(&self, entry: Entry) -> Option<bool>
+        ensures { result ≡ option_map (λ d. is_closed d.controller.session.state) (device_of entry self.now) }
+    {
+        if entry >= self.line.devices.entries.len() {
+            return None;
+        }
+        Some(self.line.devices.entries[entry].controller.is_closed())
+    }
+}

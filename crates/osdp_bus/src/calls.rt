@@ -1,0 +1,129 @@
+//! The calls that a panel's program makes for one device.
+
+ghost use Rattle.std.specs.Prelude.{◌≡◌, ◌<◌, None, Some, IfErr, OnOk, length, slice_get};
+ghost use Rattle.osdp_controller.specs.Hearing.{comset_of};
+ghost use Rattle.osdp_bus.specs.declared.device.Device.{Device};
+ghost use Rattle.osdp_bus.specs.Machine.{after_begin_at, after_retarget_at, after_submit_at, after_withdraw_at, begin_refusal_at, changed_unless, is_comset_refused, retarget_refusal_at, submit_refusal_at, unless_refused, withdrawal_at};
+ghost use Rattle.osdp_bus.specs.Private.{IsLine, state_of};
+
+use crate::Entry;
+use crate::device::comset_of;
+use crate::device_list::is_taken_beside;
+use crate::fault::BusFault;
+use crate::line::Line;
+use osdp_frame::Address;
+use osdp_msg::Command;
+
+impl Line {
+    /// Why a session of the device of an entry may not begin.
+    fn begin_refusal(&self, entry: Entry) -> Option<BusFault>
+        ensures { result ≡ begin_refusal_at entry (state_of self.now) }
+    {
+        if entry >= self.devices.entries.len() {
+            return Some(BusFault::NoEntry);
+        }
+        if !self.devices.entries[entry].controller.is_closed() {
+            return Some(BusFault::NotClosed);
+        }
+        None
+    }
+
+    /// Begins a session of the device of an entry.
+    pub(crate) fn begin(&mut self, entry: Entry, now: u64) -> Result<(), BusFault>
+        requires { IsLine self.old }
+        ensures result { result ≡ unless_refused (begin_refusal_at entry (state_of self.old)) }
+        ensures line { state_of self.new ≡ changed_unless (begin_refusal_at entry (state_of self.old)) (state_of self.old) (after_begin_at entry now (state_of self.old)) }
+        ensures kept { IsLine self.new }
+    {
+        if let Some(fault) = self.begin_refusal(entry) {
+            return Err(fault);
+        }
+        self.greatest = self.greatest.max(now);
+        self.devices.entries[entry].begin(self.greatest);
+        Ok(())
+    }
+
+    /// Whether a COMSET is refused: another device takes its address up, or one is reserved for this device.
+    fn is_comset_refused(&self, entry: Entry, command: &Command) -> bool
+        requires { entry < length self.now.devices.entries.items }
+        ensures { (d : Device) → slice_get self.now.devices.entries.items entry ≡ Some d → result ≡ is_comset_refused (comset_of command.now) entry d (state_of self.now) }
+    {
+        match comset_of(command) {
+            None => false,
+            Some(asked) => {
+                is_taken_beside(self.devices.entries.as_slice(), entry, asked.address)
+                    || self.devices.entries[entry].has_reserved()
+            }
+        }
+    }
+
+    /// Puts a command behind those that wait for the device of an entry.
+    pub(crate) fn submit(
+        &mut self,
+        entry: Entry,
+        command: Command,
+    ) -> Result<(), (BusFault, Command)>
+        requires { IsLine self.old }
+        ensures ok { OnOk result (submit_refusal_at entry command (state_of self.old) ≡ None) }
+        ensures accepted { OnOk result (state_of self.new ≡ after_submit_at entry command (state_of self.old)) }
+        ensures err { IfErr result (λ e. submit_refusal_at entry command (state_of self.old) ≡ Some e.0) }
+        ensures back { IfErr result (λ e. (e.1 ≡ command) × (state_of self.new ≡ state_of self.old)) }
+        ensures kept { IsLine self.new }
+    {
+        if entry >= self.devices.entries.len() {
+            return Err((BusFault::NoEntry, command));
+        }
+        if self.is_comset_refused(entry, &command) {
+            return Err((BusFault::AddressTaken, command));
+        }
+        self.devices.entries[entry].submit(command)
+    }
+
+    /// Takes back the command that has waited longest for the device of an entry.
+    pub(crate) fn withdraw(&mut self, entry: Entry) -> Result<Option<Command>, BusFault>
+        requires { IsLine self.old }
+        ensures result { result ≡ withdrawal_at entry (state_of self.old) }
+        ensures line { state_of self.new ≡ after_withdraw_at entry (state_of self.old) }
+        ensures kept { IsLine self.new }
+    {
+        if entry >= self.devices.entries.len() {
+            return Err(BusFault::NoEntry);
+        }
+        Ok(self.devices.entries[entry].withdraw())
+    }
+
+    /// Why the device of an entry may not go to this address.
+    fn retarget_refusal(&self, entry: Entry, address: Address) -> Option<BusFault>
+        ensures { result ≡ retarget_refusal_at entry address (state_of self.now) }
+    {
+        if entry >= self.devices.entries.len() {
+            return Some(BusFault::NoEntry);
+        }
+        if !self.devices.entries[entry].controller.is_closed() {
+            return Some(BusFault::NotClosed);
+        }
+        if address.get() >= Address::CONFIGURATION {
+            return Some(BusFault::OutOfRange);
+        }
+        if is_taken_beside(self.devices.entries.as_slice(), entry, address.get())
+            || self.devices.entries[entry].controller.has_waiting_comset()
+        {
+            return Some(BusFault::AddressTaken);
+        }
+        None
+    }
+
+    /// Sets the address of the device of an entry.
+    pub(crate) fn retarget(&mut self, entry: Entry, address: Address) -> Result<(), BusFault>
+        requires { IsLine self.old }
+        ensures result { result ≡ unless_refused (retarget_refusal_at entry address (state_of self.old)) }
+        ensures line { state_of self.new ≡ changed_unless (retarget_refusal_at entry address (state_of self.old)) (state_of self.old) (after_retarget_at entry address (state_of self.old)) }
+        ensures kept { IsLine self.new }
+    {
+        if let Some(fault) = self.retarget_refusal(entry, address) {
+            return Err(fault);
+        }
+        self.devices.entries[entry].retarget(address);
+        Ok(())
+    }
+}
