@@ -9,8 +9,11 @@ use Rattle.osdp_frame.specs.Items.{items}
 use Rattle.osdp_frame.proofs.Head.{AreBytes-drop}
 use Rattle.osdp_frame.proofs.Decided.{undecided_none, undecided_ended}
 use Rattle.osdp_frame_laws.proofs.Readings.{part_size-positive, part_size-decided, decided_nothing, items_undecided, items_decided}
-use Rattle.osdp_lines.specs.Tally.{after_part, counted}
-use Rattle.osdp_lines.proofs.Lines.{after_parts-nil, after_parts-cons, counted-behind}
+use Rattle.osdp_lines.specs.Tally.{after_part, after_parts, counted}
+use Rattle.osdp_lines.specs.Told.{parts_lines}
+use Rattle.osdp_lines.proofs.Lines.{after_parts-nil, after_parts-cons, parts_lines-append, counted-behind}
+use Rattle.osdp_tool.specs.Written.{StopsWithin}
+use Rattle.osdp_tool.proofs.Beginnings.{stops_after}
 use Rattle.osdp_tool.specs.declared.report.Report.{Report}
 use Rattle.osdp_tool.specs.Machine.{Tells, Drained}
 use Rattle.osdp_tool.proofs.Reports.{tells_none, tells_more}
@@ -100,3 +103,26 @@ draining_end start now old new before after d is =
         let some = d.some h in
         let none : length now.bytes ≡ 0 = ap length bytes_none in
         absurd (omega arith)
+
+-- a call stopped at the next item
+pub draining_stops : (start now : Held) (old mid : Report) (before middle written : Option (List ℕ)) (part : Part)
+    → Draining start now old mid before middle → decided now.ended now.bytes ≡ Some part
+    → StopsWithin middle written (parts_lines mid.full mid.tally (part ∷ []))
+    → StopsWithin before written (parts_lines old.full old.tally (items start.ended start.bytes))
+draining_stops start now old mid before middle written part d is stops =
+    let rest = items now.ended (drop (part_size part) now.bytes) in
+    let f = old.full in
+    let t = old.tally in
+    let u = after_parts t d.parts in
+    let front = parts_lines f t d.parts in
+    let one = parts_lines f u (part ∷ []) in
+    let more = parts_lines f (after_parts u (part ∷ [])) rest in
+    let all_parts : items start.ended start.bytes ≡ d.parts ++ ((part ∷ []) ++ rest) =
+    d.whole ∙ ap (λ l. d.parts ++ l) (items_decided now.ended now.bytes part d.bytes is) in
+    let text : parts_lines f t (items start.ended start.bytes) ≡ (front ++ one) ++ more =
+    ap (parts_lines f t) all_parts ∙ parts_lines-append f t d.parts ((part ∷ []) ++ rest)
+    ∙ ap (λ l. front ++ l) (parts_lines-append f u (part ∷ []) rest) ∙ sym (append_assoc front one more) in
+    let here : parts_lines mid.full mid.tally (part ∷ []) ≡ one =
+    ap (λ g. parts_lines g mid.tally (part ∷ [])) d.tells.full ∙ ap (λ v. parts_lines f v (part ∷ [])) d.tells.tally in
+    stops_after before middle written front one (parts_lines f t (items start.ended start.bytes)) more d.tells.lines
+    (subst (StopsWithin middle written) here stops) text

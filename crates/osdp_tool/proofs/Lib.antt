@@ -1,3 +1,4 @@
+pub mod Beginnings
 pub mod Reports
 pub mod Drains
 pub mod Standing
@@ -7,3 +8,5 @@ pub mod Works
 pub mod Whole
 pub mod Readings
 pub mod OneInput
+pub mod Stopping
+pub mod Finishing

@@ -1,5 +1,5 @@
 -- The text of readings, and the lines that are counted on the way.
-use Rattle.std.proofs.Common.{◌≡◌, ℕ, zero, suc, drop, length-drop, ◌+◌, ◌<◌, ◌≤◌, not, Bool, true, false, cond, nat_lt, List, [], ◌∷◌, ◌++◌, length, Option, Some, None, refl, sym, subst, ap, ◌∙◌, arith, zero-add}
+use Rattle.std.proofs.Common.{◌≡◌, ℕ, zero, suc, drop, length-drop, ◌+◌, ◌<◌, ◌≤◌, not, Bool, true, false, cond, nat_lt, List, [], ◌∷◌, ◌++◌, length, Option, Some, None, ◌⊎◌, inl, inr, refl, sym, subst, ap, ◌∙◌, arith, zero-add}
 use Rattle.std.proofs.lemmas.Bool.{ne_eqb}
 use Rattle.std.proofs.lemmas.List.{get_or_past}
 use Rattle.std.specs.Prelude.{flat_map, count_by}
@@ -296,6 +296,11 @@ open_has_bytes : (form : Form) (bytes : List ℕ) → AreBytes bytes → AreByte
 open_has_bytes Raw bytes fits = fits
 open_has_bytes Joined bytes fits = concat_bytes (good_front (ended_lines bytes)) (good_front-bytes (ended_lines bytes))
 open_has_bytes Apart bytes fits = none_are_bytes
+
+pub lines_have_bytes : (form : Form) → (form ≡ Joined) ⊎ (form ≡ Apart) → (bytes : List ℕ) → AreBytes (open_run form bytes)
+lines_have_bytes Raw is bytes = elim is [ inl j ↦ cc | inr a ↦ cc ]
+lines_have_bytes Joined is bytes = concat_bytes (good_front (ended_lines bytes)) (good_front-bytes (ended_lines bytes))
+lines_have_bytes Apart is bytes = none_are_bytes
 
 pub shown_so_far_is : (full : Bool) (form : Form) (bytes : List ℕ) (runs : List (List ℕ)) (open_bytes : List ℕ) (readings : List (List Part)) (parts : List Part)
     → AreBytes bytes → HasRunsSoFar form bytes runs open_bytes → AreReadings runs readings → Drains false open_bytes parts

@@ -10,7 +10,7 @@ use Rattle.osdp_tool.specs.declared.report.Report.{Report}
 use Rattle.osdp_tool.specs.Machine.{told, Tells, KeepsReport}
 
 -- more text waits
-grown : (known : Option (List ℕ)) (old new line : List ℕ) → new ≡ old ++ line → Appends (append_known known old) (append_known known new) line
+pub grown : (known : Option (List ℕ)) (old new line : List ℕ) → new ≡ old ++ line → Appends (append_known known old) (append_known known new) line
 grown None old new line h = tt
 grown (Some x) old new line h = ap (λ l. x ++ l) h ∙ sym (append_assoc x old line)
 

@@ -17,7 +17,9 @@ use Rattle.osdp_lines.specs.Tally.{no_tally, after_parts, after_run, counted}
 use Rattle.osdp_lines.specs.Told.{parts_lines, after_runs, runs_lines, tally_so_far, lines_so_far}
 use Rattle.osdp_lines.proofs.Lines.{after_parts-nil, after_parts-append, parts_lines-nil, parts_lines-append, after_runs-append, after_runs-one, runs_lines-append, runs_lines-one, after_run-none, after_runs-place, counted-after_run}
 use Rattle.osdp_tool.specs.declared.report.Report.{Report}
-use Rattle.osdp_tool.specs.Machine.{Drained, IsSettled, Stands, Took, EndedRun}
+use Rattle.osdp_tool.specs.Machine.{Drained, IsSettled, Stands, Took, EndedRun, StopsIn, StopsAtRunEnd}
+use Rattle.osdp_tool.specs.Written.{StopsWithin}
+use Rattle.osdp_tool.proofs.Beginnings.{stops_after, stops_longer}
 
 -- ---- bytes
 
@@ -80,6 +82,15 @@ stands_settled full start now ended bytes held report s = record {
   none = subst (λ (h : Held). decided false h.bytes ≡ None) (sym s.held_is) (left_undecided bytes s.bytes);
 }
 
+-- the lines of a run that goes on by more bytes
+pub lines_more : (full : Bool) (ended : List (List ℕ)) (bytes xs : List ℕ) → AreBytes (bytes ++ xs)
+    → lines_so_far full ended (bytes ++ xs) ≡ lines_so_far full ended bytes ++ parts_lines full (tally_so_far ended bytes) (items false (left_over bytes ++ xs))
+lines_more full ended bytes xs all =
+    let whole = items-append false bytes xs all in
+    ap (λ l. runs_lines full no_tally ended ++ parts_lines full (after_runs no_tally ended) l) whole
+    ∙ ap (λ l. runs_lines full no_tally ended ++ l) (parts_lines-append full (after_runs no_tally ended) (items false bytes) (items false (left_over bytes ++ xs)))
+    ∙ sym (append_assoc (runs_lines full no_tally ended) (parts_lines full (after_runs no_tally ended) (items false bytes)) (parts_lines full (tally_so_far ended bytes) (items false (left_over bytes ++ xs))))
+
 pub stands_more : (full : Bool) (start before after : Option (List ℕ)) (ended : List (List ℕ)) (bytes xs : List ℕ) (held next : Held) (old new : Report)
     → AreBytes xs → Stands full start ended bytes held old before
     → Drained (record { bytes = held.bytes ++ xs; ended = false }) next old new before after
@@ -95,10 +106,7 @@ stands_more full start before after ended bytes xs held next old new fits s d =
     ap (λ f. parts_lines f old.tally (items false (held.bytes ++ xs))) s.full_is
     ∙ ap (λ t. parts_lines full t (items false (held.bytes ++ xs))) s.tally
     ∙ ap (parts_lines full (tally_so_far ended bytes)) parts in
-    let grown : lines_so_far full ended (bytes ++ xs) ≡ lines_so_far full ended bytes ++ parts_lines full (tally_so_far ended bytes) (items false (left_over bytes ++ xs)) =
-    ap (λ l. runs_lines full no_tally ended ++ parts_lines full (after_runs no_tally ended) l) whole
-    ∙ ap (λ l. runs_lines full no_tally ended ++ l) (parts_lines-append full (after_runs no_tally ended) (items false bytes) (items false (left_over bytes ++ xs)))
-    ∙ sym (append_assoc (runs_lines full no_tally ended) (parts_lines full (after_runs no_tally ended) (items false bytes)) (parts_lines full (tally_so_far ended bytes) (items false (left_over bytes ++ xs)))) in
+    let grown = lines_more full ended bytes xs all in
     record {
       full_is = d.tells.full ∙ s.full_is;
       tally = tally_is ∙ sym (ap (after_parts (after_runs no_tally ended)) whole ∙ after_parts-append (after_runs no_tally ended) (items false bytes) (items false (left_over bytes ++ xs)));
@@ -132,7 +140,7 @@ closed_tally ended (b ∷ bytes) fits =
     ∙ after_runs-append no_tally ended (run ∷ []) ∙ after_runs-one t run ∙ ap (λ l. after_run (after_parts t l)) (reading_split run fits)
     ∙ ap after_run (after_parts-append t (items false run) (items true (left_over run)))
 
-closed_lines : (full : Bool) (ended : List (List ℕ)) (bytes : List ℕ) → AreBytes bytes
+pub closed_lines : (full : Bool) (ended : List (List ℕ)) (bytes : List ℕ) → AreBytes bytes
     → lines_so_far full (closed_runs ended bytes) [] ≡ lines_so_far full ended bytes ++ parts_lines full (tally_so_far ended bytes) (items true (left_over bytes))
 closed_lines full ended [] fits =
     let left : items true (left_over []) ≡ [] = ap (items true) left_nothing ∙ items_nothing true in
@@ -272,3 +280,82 @@ ended_run held next old mid new before after settled d same tally =
       settled = drained_settled (after_gap held) next old mid before after settled.bytes d;
       counts = omega arith;
     }
+
+-- ---- where a call stopped
+
+-- a longer piece of a run
+pub stops_longer_run : (bytes more : List ℕ) (held : Held) (old : Report) (before written : Option (List ℕ)) → AreBytes bytes → AreBytes more
+    → StopsIn bytes held old before written → StopsIn (bytes ++ more) held old before written
+stops_longer_run bytes more held old before written fits fits_too h = λ full start ended open_bytes s.
+    let there = open_bytes ++ bytes in
+    let all = AreBytes-append there more (AreBytes-append open_bytes bytes s.bytes fits) fits_too in
+    let text = lines_more full ended there more all in
+    let regrouped : open_bytes ++ (bytes ++ more) ≡ there ++ more = sym (append_assoc open_bytes bytes more) in
+    stops_longer start written (lines_so_far full ended there) (lines_so_far full ended (open_bytes ++ (bytes ++ more)))
+    (parts_lines full (tally_so_far ended there) (items false (left_over there ++ more))) (h full start ended open_bytes s)
+    (ap (lines_so_far full ended) regrouped ∙ text)
+
+-- behind a front that was told
+pub stops_behind : (xs ys : List ℕ) (start held : Held) (first old : Report) (a b written : Option (List ℕ))
+    → Took xs start held first old a b → StopsIn ys held old b written → StopsIn (xs ++ ys) start first a written
+stops_behind xs ys start held first old a b written t h = λ full begin ended open_bytes s.
+    subst (λ l. StopsWithin begin written (lines_so_far full ended l)) (append_assoc open_bytes xs ys)
+    (h full begin ended (open_bytes ++ xs) (t.stands full begin ended open_bytes s))
+
+-- within the items that held bytes decide, once these were given
+pub held_stops : (given : List ℕ) (held : Held) (old : Report) (before written : Option (List ℕ)) → AreBytes given → IsSettled held
+    → StopsWithin before written (parts_lines old.full old.tally (items false (held.bytes ++ given))) → StopsIn given held old before written
+held_stops given held old before written fits settled h = λ full start ended open_bytes s.
+    let all = AreBytes-append open_bytes given s.bytes fits in
+    let held_bytes : held.bytes ≡ left_over open_bytes = ap (λ (x : Held). x.bytes) s.held_is in
+    let parts : items false (held.bytes ++ given) ≡ items false (left_over open_bytes ++ given) = ap (λ l. items false (l ++ given)) held_bytes in
+    let here : parts_lines old.full old.tally (items false (held.bytes ++ given)) ≡ parts_lines full (tally_so_far ended open_bytes) (items false (left_over open_bytes ++ given)) =
+    ap (λ f. parts_lines f old.tally (items false (held.bytes ++ given))) s.full_is
+    ∙ ap (λ t. parts_lines full t (items false (held.bytes ++ given))) s.tally
+    ∙ ap (parts_lines full (tally_so_far ended open_bytes)) parts in
+    stops_after start before written (lines_so_far full ended open_bytes) (parts_lines full (tally_so_far ended open_bytes) (items false (left_over open_bytes ++ given)))
+    (lines_so_far full ended (open_bytes ++ given)) [] s.lines (subst (StopsWithin before written) here h)
+    (lines_more full ended open_bytes given all ∙ sym (append-nil _))
+
+-- .. of the bytes that a framer took
+pub pushed_stops : (given : List ℕ) (held pushed : Held) (old : Report) (before written : Option (List ℕ)) → AreBytes given → IsSettled held
+    → pushed ≡ after_push held given → StopsWithin before written (parts_lines old.full old.tally (items pushed.ended pushed.bytes))
+    → StopsIn given held old before written
+pushed_stops given held pushed old before written fits settled pushes h =
+    let n = taken_count held given in
+    let front = take n given in
+    let front_fits = AreBytes-front front (drop n given) (subst AreBytes (sym (take-append-drop n given)) fits) in
+    let back_fits = AreBytes-drop n given fits in
+    let pushed_is : pushed ≡ record { bytes = held.bytes ++ front; ended = false } =
+    pushes ∙ ap (λ (e : Bool). record { bytes = held.bytes ++ front; ended = e }) settled.goes_on in
+    subst (λ l. StopsIn l held old before written) (take-append-drop n given)
+    (stops_longer_run front (drop n given) held old before written front_fits back_fits
+    (held_stops front held old before written front_fits settled
+    (subst (λ (x : Held). StopsWithin before written (parts_lines old.full old.tally (items x.ended x.bytes))) pushed_is h)))
+
+-- at the end of a run
+pub run_end_stops : (held : Held) (old : Report) (before written : Option (List ℕ))
+    → StopsWithin before written (parts_lines old.full old.tally (items (after_gap held).ended (after_gap held).bytes)) → StopsAtRunEnd held old before written
+run_end_stops held old before written h = λ full start ended bytes s.
+    let held_bytes : held.bytes ≡ left_over bytes = ap (λ (x : Held). x.bytes) s.held_is in
+    let parts : items (not (length held.bytes == 0)) held.bytes ≡ items true (left_over bytes) = gap_items held.bytes ∙ ap (items true) held_bytes in
+    let so_far = tally_so_far ended bytes in
+    let here : parts_lines old.full old.tally (items (not (length held.bytes == 0)) held.bytes) ≡ parts_lines full so_far (items true (left_over bytes)) =
+    ap (λ f. parts_lines f old.tally (items (not (length held.bytes == 0)) held.bytes)) s.full_is
+    ∙ ap (λ t. parts_lines full t (items (not (length held.bytes == 0)) held.bytes)) s.tally
+    ∙ ap (parts_lines full so_far) parts in
+    stops_after start before written (lines_so_far full ended bytes) (parts_lines full so_far (items true (left_over bytes)))
+    (lines_so_far full (closed_runs ended bytes) []) [] s.lines (subst (StopsWithin before written) here h)
+    (closed_lines full ended bytes s.bytes ∙ sym (append-nil _))
+
+-- behind a front that was told, within a part of the rest
+pub stops_in_rest : (bytes : List ℕ) (at count : ℕ) (start held : Held) (first old : Report) (a b written : Option (List ℕ)) → AreBytes bytes
+    → Took (take at bytes) start held first old a b → StopsIn (take count (drop at bytes)) held old b written → StopsIn bytes start first a written
+stops_in_rest bytes at count start held first old a b written fits t h =
+    let rest = drop at bytes in
+    let rest_fits = AreBytes-drop at bytes fits in
+    let whole : StopsIn rest held old b written =
+    subst (λ l. StopsIn l held old b written) (take-append-drop count rest)
+    (stops_longer_run (take count rest) (drop count rest) held old b written (AreBytes-take count rest rest_fits) (AreBytes-drop count rest rest_fits) h) in
+    subst (λ l. StopsIn l start first a written) (take-append-drop at bytes)
+    (stops_behind (take at bytes) rest start held first old a b written t whole)

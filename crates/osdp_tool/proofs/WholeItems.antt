@@ -1,5 +1,5 @@
 -- Items that need no framer, and pieces of a run one behind the other.
-use Rattle.std.proofs.Common.{◌≡◌, ℕ, ◌+◌, ◌≤◌, ◌==◌, not, false, List, [], ◌∷◌, ◌++◌, length, take, drop, Option, Some, None, refl, sym, subst, ap, ◌∙◌, arith, append_assoc, length-append}
+use Rattle.std.proofs.Common.{◌≡◌, ℕ, ◌+◌, ◌≤◌, ◌==◌, not, false, List, [], ◌∷◌, ◌++◌, length, take, drop, take-append-drop, Option, Some, None, refl, sym, subst, ap, ◌∙◌, arith, append_assoc, append-nil, length-append}
 use Rattle.std.proofs.Math.Seq.{take-add}
 use Rattle.std.proofs.lemmas.List.{drop_all, length-take, take-take}
 use Rattle.osdp_frame.specs.Bytes.{AreBytes}
@@ -9,9 +9,15 @@ use Rattle.osdp_frame.proofs.Head.{AreBytes-drop}
 use Rattle.osdp_frame.proofs.FirstItems.{decided_by_itself}
 use Rattle.osdp_frame_laws.proofs.Readings.{decided_nothing, part_size-decided, part_size-positive}
 use Rattle.osdp_tool.specs.declared.report.Report.{Report}
-use Rattle.osdp_tool.specs.Machine.{Tells, Drained, IsSettled, Stands, Took}
+use Rattle.osdp_lines.specs.Tally.{after_part}
+use Rattle.osdp_lines.specs.Told.{parts_lines}
+use Rattle.osdp_lines.proofs.Lines.{after_parts-nil, after_parts-cons}
+use Rattle.std.specs.Io.KnownBytes.{append_known}
+use Rattle.osdp_tool.specs.Machine.{Tells, Drained, IsSettled, Stands, Took, StopsIn}
+use Rattle.osdp_tool.specs.Written.{StopsWithin}
+use Rattle.osdp_tool.proofs.Beginnings.{known_appends, stops_by}
 use Rattle.osdp_tool.proofs.Drains.{draining_start, draining_step, draining_end}
-use Rattle.osdp_tool.proofs.Standing.{AreBytes-append, AreBytes-take, drained_settled, gap_some, stands_more, took_start, took_step}
+use Rattle.osdp_tool.proofs.Standing.{AreBytes-append, AreBytes-take, drained_settled, gap_some, lines_more, stands_more, stops_longer_run, took_start, took_step}
 
 -- a new run is settled
 pub settled_new : IsSettled new_run
@@ -116,3 +122,25 @@ drained_none held old before settled none =
     let same : start ≡ held = λ i. record { bytes = held.bytes; ended = open_still i } in
     subst (λ (h : Held). Drained start h old old before before) same
     (draining_end start start old old before before (draining_start start old before settled.bytes (gap_some held.bytes)) nothing)
+
+-- ---- where a call stopped
+
+-- at an item that its own bytes decide
+pub item_stops : (bytes : List ℕ) (at : ℕ) (first old : Report) (a b written : Option (List ℕ)) (part : Part) → AreBytes bytes → at ≤ length bytes
+    → Took (take at bytes) new_run new_run first old a b → by_itself (decided false (drop at bytes)) ≡ Some part
+    → StopsWithin b written (parts_lines old.full old.tally (part ∷ [])) → StopsIn bytes new_run first a written
+item_stops bytes at first old a b written part fits within t is h =
+    let text = parts_lines old.full old.tally (part ∷ []) in
+    let whole = append_known b text in
+    let told : Report = record { full = old.full; tally = after_part old.tally part; text = old.text } in
+    let tells : Tells old told b whole (part ∷ []) = record {
+      full = refl;
+      tally = sym (after_parts-cons old.tally part [] ∙ after_parts-nil (after_part old.tally part));
+      lines = known_appends b text;
+    } in
+    let n = at + part_size part in
+    let next = took_item bytes at first old told a b whole part fits within t is tells in
+    subst (λ l. StopsIn l new_run first a written) (take-append-drop n bytes)
+    (stops_longer_run (take n bytes) (drop n bytes) new_run first a written (AreBytes-take n bytes fits) (AreBytes-drop n bytes fits)
+    (λ full start ended open_bytes s.
+    stops_by start whole written _ _ [] ((next.stands full start ended open_bytes s).lines) h (sym (append-nil _))))

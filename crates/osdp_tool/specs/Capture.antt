@@ -8,6 +8,8 @@ use Rattle.osdp_input.specs.Runs.{ended_runs, open_run, first_bad_ended}
 use Rattle.osdp_lines.specs.Tally.{counted}
 use Rattle.osdp_tool.specs.declared.capture.Capture.{Capture}
 use Rattle.osdp_tool.specs.Machine.{Stands, IsSettled}
+use Rattle.osdp_tool.specs.Shown.{shown_so_far}
+use Rattle.osdp_tool.specs.Written.{StopsWithin}
 
 -- more than anything that is counted
 abbrev pub load : Capture → ℕ
@@ -53,3 +55,8 @@ pub record TookPiece (piece : List ℕ) (good : Bool) (old new : Capture) (befor
 abbrev pub TookPart : List ℕ → Bool → Capture → Capture → Option (List ℕ) → Option (List ℕ) → Type 0
 TookPart piece true old new before after = TookPiece piece true old new before after
 TookPart piece false old new before after = (most : ℕ) × TookPiece (take most piece) false old new before after
+
+-- a call stopped within a piece: what was written is a beginning of the text of what was read before with a front of the piece
+abbrev pub StopsInPiece : List ℕ → Capture → Option (List ℕ) → Option (List ℕ) → Type 0
+StopsInPiece piece old before now = (full : Bool) (form : Form) (start : Option (List ℕ)) (read : List ℕ) → Follows full form start read old before
+    → (front : List ℕ) × (rest : List ℕ) × (piece ≡ front ++ rest) × StopsWithin start now (shown_so_far full form (read ++ front))

@@ -1,5 +1,5 @@
 -- How show and check end: what they answer, what was read and what was printed.
-use Rattle.std.specs.Prelude.{◌≡◌, ◌⊎◌, ℕ, ◌≤◌, Bool, true, false, List, [], ◌∷◌, ◌++◌, length, Option, Some, None, Result, Ok, Err, IfSome}
+use Rattle.std.specs.Prelude.{◌≡◌, ◌⊎◌, ℕ, ◌+◌, ◌≤◌, Bool, true, false, List, [], ◌∷◌, ◌++◌, length, Option, Some, None, Result, Ok, Err, IfSome}
 use Rattle.std.specs.Io.KnownBytes.{Appends, Consumes, IsAtEnd}
 use Rattle.osdp_input.specs.declared.form.Form.{Form}
 use Rattle.osdp_input.specs.Runs.{first_bad, first_bad_ended}
@@ -8,6 +8,7 @@ use Rattle.osdp_stream.specs.declared.fault.ToolFault.TheVariants.{NotHex, TooLo
 use Rattle.osdp_stream.specs.declared.fault.ToolFault.TheVariants.{HoldsPacket, NotQuiet, ReadFailed}
 use Rattle.osdp_stream.specs.declared.fault.ToolFault.TheVariants.{WriteFailed, NoMemory}
 use Rattle.osdp_tool.specs.Shown.{shown, shown_so_far, is_refused_input, limited_text, limited_answer}
+use Rattle.osdp_tool.specs.Written.{StopsWithin}
 
 -- a stream as the call found it and as it left it: the bytes that it has, where they are known, and
 -- whether a call on it has failed in the end
@@ -61,14 +62,24 @@ pub record EndsPastLimit (full : Bool) (form : Form) (limit : ℕ) (input output
   pub input_well : input.failed ≡ false
   pub output_well : output.failed ≡ false
 
--- the input failed; unless the output did too, the items that the bytes read decide are shown
+-- the input failed; the items that the bytes read decide are shown, or a beginning of their text where the output failed too
 pub record EndsAtFailedRead (full : Bool) (form : Form) (limit : ℕ) (input output : Stream) : Type 0 where
   pub read : List ℕ
   pub taken : Consumes input.before input.after read
   pub within : length read ≤ limit
   pub good : first_bad_ended form read ≡ None
   pub text : output.failed ≡ false → Appends output.before output.after (shown_so_far full form read)
+  pub part : StopsWithin output.before output.after (shown_so_far full form read)
   pub input_failed : input.failed ≡ true
+
+-- the output failed or memory ran out: what was written is a beginning of the text of the first bytes that were read, as those of an input that
+-- goes on or of one that has ended
+pub record EndsPartWay (full : Bool) (form : Form) (limit : ℕ) (input output : Stream) : Type 0 where
+  pub read : List ℕ
+  pub more : List ℕ
+  pub taken : Consumes input.before input.after (read ++ more)
+  pub within : length (read ++ more) ≤ limit + 1
+  pub text : StopsWithin output.before output.after (shown_so_far full form read) ⊎ StopsWithin output.before output.after (shown full form read)
 
 -- by the answer
 abbrev pub Ends : Bool → Form → ℕ → Stream → Stream → Result Bool ToolFault → Type 0
@@ -76,8 +87,8 @@ Ends full form limit input output (Ok refused) = EndsAtEnd full form limit input
 Ends full form limit input output (Err (NotHex line)) = EndsAtBadLine full form limit input output line
 Ends full form limit input output (Err TooLong) = EndsPastLimit full form limit input output
 Ends full form limit input output (Err ReadFailed) = EndsAtFailedRead full form limit input output
-Ends full form limit input output (Err WriteFailed) = (input.failed ≡ false) × (output.failed ≡ true)
-Ends full form limit input output (Err NoMemory) = (input.failed ≡ false) × (output.failed ≡ false)
+Ends full form limit input output (Err WriteFailed) = (input.failed ≡ false) × (output.failed ≡ true) × EndsPartWay full form limit input output
+Ends full form limit input output (Err NoMemory) = (input.failed ≡ false) × (output.failed ≡ false) × EndsPartWay full form limit input output
 Ends full form limit input output (Err BadWords) = ⊥
 Ends full form limit input output (Err (BadStep line)) = ⊥
 Ends full form limit input output (Err (HoldsPacket step)) = ⊥

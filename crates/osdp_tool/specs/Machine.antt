@@ -13,6 +13,7 @@ use Rattle.osdp_stream.specs.declared.fault.ToolFault.TheVariants.{NotHex, TooLo
 use Rattle.osdp_stream.specs.declared.fault.ToolFault.TheVariants.{HoldsPacket, NotQuiet, ReadFailed}
 use Rattle.osdp_stream.specs.declared.fault.ToolFault.TheVariants.{WriteFailed, NoMemory}
 use Rattle.osdp_tool.specs.declared.report.Report.{Report}
+use Rattle.osdp_tool.specs.Written.{StopsWithin}
 
 -- what was written and what waits to be
 abbrev pub told : Option (List ℕ) → Report → Option (List ℕ)
@@ -77,3 +78,13 @@ pub record EndedRun (held next : Held) (old new : Report) (before after : Option
       → Stands full start ended open_bytes held old before → Stands full start (closed_runs ended open_bytes) [] next new after
   pub settled : IsSettled next
   pub counts : counted new.tally + 5 * length next.bytes ≤ counted old.tally + 5 * length held.bytes
+
+-- a call stopped while it told of these bytes of a run: what was written is a beginning of the text that has theirs
+abbrev pub StopsIn : List ℕ → Held → Report → Option (List ℕ) → Option (List ℕ) → Type 0
+StopsIn bytes held old before now = (full : Bool) (start : Option (List ℕ)) (ended : List (List ℕ)) (open_bytes : List ℕ)
+    → Stands full start ended open_bytes held old before → StopsWithin start now (lines_so_far full ended (open_bytes ++ bytes))
+
+-- .. or of the end of a run
+abbrev pub StopsAtRunEnd : Held → Report → Option (List ℕ) → Option (List ℕ) → Type 0
+StopsAtRunEnd held old before now = (full : Bool) (start : Option (List ℕ)) (ended : List (List ℕ)) (open_bytes : List ℕ)
+    → Stands full start ended open_bytes held old before → StopsWithin start now (lines_so_far full (closed_runs ended open_bytes) [])

@@ -1,6 +1,6 @@
 //! A capture: its lines, and the runs of bytes that stand in them.
 
-ghost use Rattle.std.specs.Prelude.{◌≡◌, ◌+◌, ◌*◌, ◌<◌, ◌^◌, ◌++◌, ℕ, List, [], ◌∷◌, Bool, true, false, length, Option, OnOk, IfOk, IfErr, MatchOption};
+ghost use Rattle.std.specs.Prelude.{◌≡◌, ◌+◌, ◌*◌, ◌<◌, ◌^◌, ◌++◌, ℕ, List, [], ◌∷◌, Bool, true, false, length, Option, OnOk, OnErr, IfOk, IfErr, MatchOption};
 ghost use Rattle.osdp_stream.specs.Watched.{inner_of, has_failed};
 ghost use Rattle.osdp_input.specs.Cut.{line_feed, IsLine};
 ghost use Rattle.osdp_tool.specs.Machine.{told, IsStep, IsSettled};
@@ -21,6 +21,7 @@ const ROOM: usize = 73728;
 /// A capture that is read.
 #[derive(Drop)]
 pub struct Capture {
+    /// How the input stands in runs.
     pub form: Form,
     /// The characters that count of the line that has not ended.
     pub line: Vec<u8>,
@@ -28,12 +29,14 @@ pub struct Capture {
     pub bytes: Vec<u8>,
     /// How many lines have ended.
     pub ended: u64,
+    /// The bytes of the open run that aren't decided yet.
     pub framer: Framer,
+    /// What has been told of the items.
     pub report: Report,
 }
 
 impl Capture {
-    ghost use Rattle.osdp_tool.specs.Capture.{load, Follows, TookPiece, TookPart};
+    ghost use Rattle.osdp_tool.specs.Capture.{load, Follows, TookPiece, TookPart, StopsInPiece};
 
     /// Nothing has been read.
     pub fn new(alloc: Global, full: bool, form: Form) -> Result<Capture, ToolFault>
@@ -80,6 +83,7 @@ impl Capture {
         ensures step { IsStep result (has_failed output.old) (has_failed output.new) }
         ensures took { IfOk result (λ good. TookPiece (line_feed ∷ []) good self.old self.new
             (told (W.contents (inner_of output.old)) self.old.report) (told (W.contents (inner_of output.new)) self.new.report)) }
+        ensures stops { OnErr result (StopsInPiece (line_feed ∷ []) self.old (told (W.contents (inner_of output.old)) self.old.report) (W.contents (inner_of output.new))) }
     {
         let good = match read_digits(&self.line, &mut self.bytes) {
             Ok(good) => good,
@@ -113,6 +117,7 @@ impl Capture {
         ensures step { IsStep result (has_failed output.old) (has_failed output.new) }
         ensures took { IfOk result (λ good. TookPart piece.now good self.old self.new
             (told (W.contents (inner_of output.old)) self.old.report) (told (W.contents (inner_of output.new)) self.new.report)) }
+        ensures stops { OnErr result (StopsInPiece piece.now self.old (told (W.contents (inner_of output.old)) self.old.report) (W.contents (inner_of output.new))) }
     {
         let mut at = 0;
         'lines: while let Some(length) = line_length(&piece[at..]) {
@@ -137,6 +142,7 @@ impl Capture {
         ensures step { IsStep result (has_failed output.old) (has_failed output.new) }
         ensures took { IfOk result (λ good. TookPart piece.now good self.old self.new
             (told (W.contents (inner_of output.old)) self.old.report) (told (W.contents (inner_of output.new)) self.new.report)) }
+        ensures stops { OnErr result (StopsInPiece piece.now self.old (told (W.contents (inner_of output.old)) self.old.report) (W.contents (inner_of output.new))) }
     {
         match self.form {
             Form::Raw => {
@@ -150,7 +156,7 @@ impl Capture {
 
 impl Capture {
     ghost use Rattle.osdp_tool.specs.Capture.{load};
-    ghost use Rattle.osdp_tool.specs.Works.{Closed, EndsLine};
+    ghost use Rattle.osdp_tool.specs.Works.{Closed, EndsLine, StopsAtEnd, StopsClosing};
 
     /// The input has ended, and with it its last line; false where that is bad.
     pub fn end_last_line<W: Write>(&mut self, output: &mut Watched<W>) -> Result<bool, ToolFault>
@@ -159,6 +165,7 @@ impl Capture {
         ensures step { IsStep result (has_failed output.old) (has_failed output.new) }
         ensures ends { IfOk result (λ good. EndsLine good self.old self.new
             (told (W.contents (inner_of output.old)) self.old.report) (told (W.contents (inner_of output.new)) self.new.report)) }
+        ensures stops { OnErr result (StopsAtEnd self.old (told (W.contents (inner_of output.old)) self.old.report) (W.contents (inner_of output.new))) }
     {
         match self.form {
             Form::Raw => Ok(true),
@@ -175,6 +182,7 @@ impl Capture {
         ensures step { IsStep result (has_failed output.old) (has_failed output.new) }
         ensures closed { OnOk result (Closed self.old self.new
             (told (W.contents (inner_of output.old)) self.old.report) (W.contents (inner_of output.new))) }
+        ensures stops { OnErr result (StopsClosing self.old (told (W.contents (inner_of output.old)) self.old.report) (W.contents (inner_of output.new))) }
     {
         end_run(&mut self.framer, &mut self.report, output)?;
         self.report.end(output)

@@ -27,7 +27,7 @@ fn form_of(mode: Mode) -> Form
     if mode.join { Form::Joined } else { Form::Apart }
 }
 
-/// Reads the input and prints its lines. Where memory runs out, what waits is printed still.
+/// Reads the input and prints its lines. Where memory runs out nothing more is printed.
 fn work<R: Read, W: Write>(
     alloc: Global,
     full: bool,
@@ -44,11 +44,7 @@ fn work<R: Read, W: Write>(
         (streamed (W.contents (inner_of output.old)) (W.contents (inner_of output.new)) (has_failed output.new)) result }
 {
     let mut capture = Capture::new(alloc, full, form)?;
-    let answer = capture.read(limit, input, output);
-    if let Err(ToolFault::NoMemory) = answer {
-        let _ = capture.report.write_out(output);
-    }
-    answer
+    capture.read(limit, input, output)
 }
 
 /// Either command over an input of this form, with a limit of the caller's own.

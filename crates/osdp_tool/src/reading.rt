@@ -43,7 +43,7 @@ fn read_piece<R: Read>(
 impl Capture {
     ghost use Rattle.osdp_tool.specs.Capture.{load, Follows};
     ghost use Rattle.osdp_tool.specs.Ending.{streamed};
-    ghost use Rattle.osdp_tool.specs.Works.{ReadTo, Works, Answered};
+    ghost use Rattle.osdp_tool.specs.Works.{ReadTo, ReadPart, Works, Answered};
 
     /// Reads to the end of the input, a bad line, the limit or a failed read.
     pub fn read_all<R: Read, W: Write>(
@@ -63,6 +63,8 @@ impl Capture {
             (R.remaining (inner_of input.old)) (R.remaining (inner_of input.new))
             (told (W.contents (inner_of output.old)) self.old.report) (told (W.contents (inner_of output.new)) self.new.report)
             (has_failed input.old) (has_failed input.new)) }
+        ensures stops { OnErr result (ReadPart limit self.old (R.remaining (inner_of input.old)) (R.remaining (inner_of input.new))
+            (told (W.contents (inner_of output.old)) self.old.report) (W.contents (inner_of output.new))) }
     {
         let mut piece = [0u8; 65536];
         let mut left = limit;

@@ -1,11 +1,12 @@
 //! The text that waits to be written.
 
-ghost use Rattle.std.specs.Prelude.{◌≡◌, ◌+◌, ◌<◌, ◌^◌, [], ◌∷◌, OnOk, IfErr, string_bytes};
+ghost use Rattle.std.specs.Prelude.{◌≡◌, ◌+◌, ◌<◌, ◌^◌, [], ◌∷◌, OnOk, OnErr, IfErr, string_bytes};
 ghost use Rattle.std.specs.Io.KnownBytes.{Appends, Keeps};
 ghost use Rattle.osdp_frame.specs.Reading.{part_size};
 ghost use Rattle.osdp_frame.specs.Shown.{part_of};
 ghost use Rattle.osdp_lines.specs.Tally.{counted};
-ghost use Rattle.osdp_lines.specs.Told.{end_line};
+ghost use Rattle.osdp_lines.specs.Told.{end_line, parts_lines};
+ghost use Rattle.osdp_tool.specs.Written.{IsBeginning, StopsWithin};
 ghost use Rattle.osdp_stream.specs.Watched.{inner_of, has_failed};
 
 use osdp_frame::Item;
@@ -21,7 +22,9 @@ const GATHERED: usize = 65536;
 pub struct Report {
     /// Each item has a line, and not refusals alone.
     pub full: bool,
+    /// The counts so far.
     pub tally: Tally,
+    /// The lines that aren't written yet.
     pub text: String,
 }
 
@@ -35,6 +38,7 @@ impl Report {
         ensures same { OnOk result (KeepsReport self.old self.new) }
         ensures told { OnOk result (Keeps (told (W.contents (inner_of output.old)) self.old) (told (W.contents (inner_of output.new)) self.new)) }
         ensures written { OnOk result (Keeps (told (W.contents (inner_of output.old)) self.old) (W.contents (inner_of output.new))) }
+        ensures stops { OnErr result (IsBeginning (W.contents (inner_of output.new)) (told (W.contents (inner_of output.old)) self.old)) }
     {
         write_out(output, self.text.as_bytes())?;
         self.text.clear();
@@ -52,6 +56,8 @@ impl Report {
         ensures step { IsStep result (has_failed output.old) (has_failed output.new) }
         ensures tells { OnOk result (Tells self.old self.new (told (W.contents (inner_of output.old)) self.old)
             (told (W.contents (inner_of output.new)) self.new) (part_of item.now ∷ [])) }
+        ensures stops { OnErr result (StopsWithin (told (W.contents (inner_of output.old)) self.old) (W.contents (inner_of output.new))
+            (parts_lines self.old.full self.old.tally (part_of item.now ∷ []))) }
     {
         match tell(&mut self.text, self.full, &mut self.tally, item) {
             Ok(()) => {}
@@ -68,6 +74,7 @@ impl Report {
         ensures step { IsStep result (has_failed output.old) (has_failed output.new) }
         ensures same { OnOk result (KeepsReport self.old self.new) }
         ensures written { OnOk result (Appends (told (W.contents (inner_of output.old)) self.old) (W.contents (inner_of output.new)) (end_line self.old.full self.old.tally)) }
+        ensures stops { OnErr result (StopsWithin (told (W.contents (inner_of output.old)) self.old) (W.contents (inner_of output.new)) (end_line self.old.full self.old.tally)) }
     {
         match push_end(&mut self.text, self.full, &self.tally) {
             Ok(()) => {}

@@ -1,11 +1,14 @@
 //! Runs of bytes, told item by item.
 
-ghost use Rattle.std.specs.Prelude.{◌≡◌, ◌+◌, ◌*◌, ◌<◌, ◌≤◌, ◌^◌, ◌++◌, true, false, None, length, take, IfOk, OnOk};
+ghost use Rattle.std.specs.Prelude.{◌≡◌, ◌+◌, ◌*◌, ◌<◌, ◌≤◌, ◌^◌, ◌++◌, true, false, None, length, take, IfOk, OnOk, OnErr};
 ghost use Rattle.osdp_frame.specs.Bytes.{AreBytes};
 ghost use Rattle.osdp_frame.specs.Held.{after_gap, decided, new_run};
 ghost use Rattle.osdp_lines.specs.Tally.{counted};
 ghost use Rattle.osdp_stream.specs.Watched.{inner_of, has_failed};
-ghost use Rattle.osdp_tool.specs.Machine.{told, IsStep, Drained, IsSettled, Took, EndedRun};
+ghost use Rattle.osdp_frame.specs.Items.{items};
+ghost use Rattle.osdp_lines.specs.Told.{parts_lines};
+ghost use Rattle.osdp_tool.specs.Machine.{told, IsStep, Drained, IsSettled, Took, EndedRun, StopsIn, StopsAtRunEnd};
+ghost use Rattle.osdp_tool.specs.Written.{StopsWithin};
 
 use crate::report::Report;
 use osdp_frame::{Framer, whole_item};
@@ -28,6 +31,8 @@ fn drain<W: Write>(
     ensures step { IsStep result (has_failed output.old) (has_failed output.new) }
     ensures drained { OnOk result (Drained framer.old framer.new report.old report.new
         (told (W.contents (inner_of output.old)) report.old) (told (W.contents (inner_of output.new)) report.new)) }
+    ensures stops { OnErr result (StopsWithin (told (W.contents (inner_of output.old)) report.old) (W.contents (inner_of output.new))
+        (parts_lines report.old.full report.old.tally (items framer.old.ended framer.old.bytes))) }
 {
     'items: while let Some(item) = framer.next() {
         report.tell(&item, output)?;
@@ -48,6 +53,7 @@ fn tell_whole<W: Write>(
     ensures within { IfOk result (λ count. count ≤ length bytes.now) }
     ensures took { IfOk result (λ count. Took (take count bytes.now) new_run new_run report.old report.new
         (told (W.contents (inner_of output.old)) report.old) (told (W.contents (inner_of output.new)) report.new)) }
+    ensures stops { OnErr result (StopsIn bytes.now new_run report.old (told (W.contents (inner_of output.old)) report.old) (W.contents (inner_of output.new))) }
 {
     let mut at = 0;
     'items: while let Some(item) = whole_item(&bytes[at..]) {
@@ -71,6 +77,7 @@ fn take_whole<W: Write>(
     ensures within { IfOk result (λ count. count ≤ length bytes.now) }
     ensures took { IfOk result (λ count. Took (take count bytes.now) framer.now framer.now report.old report.new
         (told (W.contents (inner_of output.old)) report.old) (told (W.contents (inner_of output.new)) report.new)) }
+    ensures stops { OnErr result (StopsIn bytes.now framer.now report.old (told (W.contents (inner_of output.old)) report.old) (W.contents (inner_of output.new))) }
 {
     if framer.is_empty() {
         tell_whole(report, bytes, output)
@@ -93,6 +100,7 @@ fn take_held<W: Write>(
     ensures some { IfOk result (λ count. 0 < length bytes.now → 0 < count) }
     ensures took { IfOk result (λ count. Took (take count bytes.now) framer.old framer.new report.old report.new
         (told (W.contents (inner_of output.old)) report.old) (told (W.contents (inner_of output.new)) report.new)) }
+    ensures stops { OnErr result (StopsIn bytes.now framer.old report.old (told (W.contents (inner_of output.old)) report.old) (W.contents (inner_of output.new))) }
 {
     if bytes.is_empty() {
         return Ok(0);
@@ -132,6 +140,7 @@ pub fn take<W: Write>(
     ensures step { IsStep result (has_failed output.old) (has_failed output.new) }
     ensures took { OnOk result (Took bytes.now framer.old framer.new report.old report.new
         (told (W.contents (inner_of output.old)) report.old) (told (W.contents (inner_of output.new)) report.new)) }
+    ensures stops { OnErr result (StopsIn bytes.now framer.old report.old (told (W.contents (inner_of output.old)) report.old) (W.contents (inner_of output.new))) }
 {
     let mut at = 0;
     let mut tries = 0;
@@ -156,6 +165,8 @@ fn end_held<W: Write>(
     ensures step { IsStep result (has_failed output.old) (has_failed output.new) }
     ensures drained { OnOk result (Drained (after_gap framer.old) framer.new report.old report.new
         (told (W.contents (inner_of output.old)) report.old) (told (W.contents (inner_of output.new)) report.new)) }
+    ensures stops { OnErr result (StopsWithin (told (W.contents (inner_of output.old)) report.old) (W.contents (inner_of output.new))
+        (parts_lines report.old.full report.old.tally (items (after_gap framer.old).ended (after_gap framer.old).bytes))) }
 {
     if framer.is_empty() {
         return Ok(());
@@ -175,6 +186,7 @@ pub fn end_run<W: Write>(
     ensures step { IsStep result (has_failed output.old) (has_failed output.new) }
     ensures ended { OnOk result (EndedRun framer.old framer.new report.old report.new
         (told (W.contents (inner_of output.old)) report.old) (told (W.contents (inner_of output.new)) report.new)) }
+    ensures stops { OnErr result (StopsAtRunEnd framer.old report.old (told (W.contents (inner_of output.old)) report.old) (W.contents (inner_of output.new))) }
 {
     end_held(framer, report, output)?;
     report.tally.end_run();

@@ -3,6 +3,8 @@ use Rattle.osdp_stream.specs.Watched.{inner_of}
 use Rattle.osdp_frame.specs.Shown.{part_of}
 use Rattle.osdp_tool.specs.Machine.{told}
 use Rattle.osdp_tool.proofs.Drains.{draining_start, draining_step, draining_end}
+use Rattle.osdp_tool.proofs.Drains.{draining_stops}
+use Rattle.osdp_tool.proofs.Beginnings.{on_err}
 use Rattle.osdp_tool.proofs.runs.drain.Goals as goal
 
 pub items-init : goal.items-init
@@ -22,3 +24,9 @@ items-preserved g c = record {
 pub returns-clause-drained : goal.returns-clause-drained
 returns-clause-drained g c =
     draining_end c.args.framer.now c.items.framer c.args.report.now c.items.report _ _ c.items.invariant.draining (sym c.in_default.ensures.shown)
+
+pub returns-in_err-tell-clause-stops : goal.returns-in_err-tell-clause-stops
+returns-in_err-tell-clause-stops g c =
+    on_err c.from_residual.result (draining_stops c.args.framer.now c.items.framer c.args.report.now c.items.report
+    (told (g.W.Write.contents (inner_of c.args.output.now)) c.args.report.now) (told (g.W.Write.contents (inner_of c.items.output)) c.items.report)
+    (g.W.Write.contents (inner_of c.tell.new.output)) (part_of c.in-Some.item) c.items.invariant.draining (sym c.in-Some.ensures.shown) c.in_err-tell.ensures.stops)

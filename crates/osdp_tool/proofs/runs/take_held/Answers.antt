@@ -3,6 +3,8 @@ use Rattle.osdp_stream.specs.Watched.{inner_of}
 use Rattle.osdp_tool.specs.Machine.{told, Took}
 use Rattle.osdp_tool.proofs.Standing.{took_some, took_start}
 use Rattle.osdp_tool.proofs.WholeItems.{took_pushed}
+use Rattle.osdp_tool.proofs.Standing.{pushed_stops}
+use Rattle.osdp_tool.proofs.Beginnings.{on_err}
 use Rattle.osdp_tool.proofs.runs.take_held.Goals as goal
 
 pub returns-clause-some : goal.returns-clause-some
@@ -19,3 +21,8 @@ returns-clause-took g c =
 
 pub returns-then-is_empty-clause-took : goal.returns-then-is_empty-clause-took
 returns-then-is_empty-clause-took g c = took_start c.args.framer.now c.args.report.now _ c.requires.settled
+
+pub returns-in_err-drain-clause-stops : goal.returns-in_err-drain-clause-stops
+returns-in_err-drain-clause-stops g c =
+    on_err c.from_residual.result (pushed_stops c.args.bytes.now c.args.framer.now c.push-count.new.self c.args.report.now (told (g.W.Write.contents (inner_of c.args.output.now)) c.args.report.now)
+    (g.W.Write.contents (inner_of c.drain.new.output)) (λ k. omega (arith, c.type_inv.bytes k)) c.requires.settled c.push-count.ensures.held c.in_err-drain.ensures.stops)

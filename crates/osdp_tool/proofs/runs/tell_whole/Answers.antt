@@ -7,6 +7,8 @@ use Rattle.osdp_frame.specs.Shown.{part_of}
 use Rattle.osdp_tool.specs.Machine.{told, Took}
 use Rattle.osdp_tool.proofs.Standing.{took_start}
 use Rattle.osdp_tool.proofs.WholeItems.{settled_new, took_item, item_within}
+use Rattle.osdp_tool.proofs.WholeItems.{item_stops}
+use Rattle.osdp_tool.proofs.Beginnings.{on_err}
 use Rattle.osdp_tool.proofs.runs.tell_whole.Goals as goal
 
 pub items-init : goal.items-init
@@ -34,3 +36,14 @@ items-preserved g c =
           c.items.invariant.took own c.in_ok-tell.ensures.tells);
       unfailed = c.in_ok-tell.ensures.step ∙ c.items.invariant.unfailed;
     }
+
+pub returns-in_err-tell-clause-stops : goal.returns-in_err-tell-clause-stops
+returns-in_err-tell-clause-stops g c =
+    let bytes = c.args.bytes.now in
+    let part = part_of c.in-Some.item in
+    let own : by_itself (decided false (drop c.items.at bytes)) ≡ Some part =
+    sym (c.in-Some.ensures.shown ∙ ap (λ l. by_itself (decided false l)) (take_rest bytes c.items.at)) in
+    on_err c.from_residual.result (item_stops bytes c.items.at c.args.report.now c.items.report
+    (told (g.W.Write.contents (inner_of c.args.output.now)) c.args.report.now) (told (g.W.Write.contents (inner_of c.items.output)) c.items.report)
+    (g.W.Write.contents (inner_of c.tell.new.output)) part (λ k. omega (arith, c.type_inv.bytes k)) c.items.invariant.within c.items.invariant.took own
+    c.in_err-tell.ensures.stops)

@@ -4,6 +4,8 @@ use Rattle.osdp_tool.specs.declared.capture.Capture.{Capture}
 use Rattle.osdp_tool.specs.Machine.{told}
 use Rattle.osdp_tool.proofs.Reports.{on_ok_both}
 use Rattle.osdp_tool.proofs.Works.{closed_by}
+use Rattle.osdp_tool.proofs.Beginnings.{on_err, on_err_map}
+use Rattle.osdp_tool.proofs.Stopping.{stops_closing_run, stops_counting}
 use Rattle.osdp_tool.proofs.capture.Capture.close.Goals as goal
 
 pub returns-clause-closed : goal.returns-clause-closed
@@ -21,3 +23,14 @@ returns-clause-closed g c =
     (told (g.W.Write.contents (inner_of c.args.output.now)) c.args.self.now.report) (told (g.W.Write.contents (inner_of c.end_run.new.output)) c.end_run.new.report)
     (g.W.Write.contents (inner_of c.end.new.output)) c.in_ok-end_run.ensures.ended kept.tally refl written)
     c.end.ensures.same c.end.ensures.written
+
+pub returns-in_err-end_run-clause-stops : goal.returns-in_err-end_run-clause-stops
+returns-in_err-end_run-clause-stops g c =
+    on_err c.from_residual.result (stops_closing_run c.args.self.now (told (g.W.Write.contents (inner_of c.args.output.now)) c.args.self.now.report)
+    (g.W.Write.contents (inner_of c.end_run.new.output)) c.in_err-end_run.ensures.stops)
+
+pub returns-clause-stops : goal.returns-clause-stops
+returns-clause-stops g c =
+    on_err_map c.end.result (stops_counting c.args.self.now c.end_run.new.framer c.end_run.new.report
+    (told (g.W.Write.contents (inner_of c.args.output.now)) c.args.self.now.report) (told (g.W.Write.contents (inner_of c.end_run.new.output)) c.end_run.new.report)
+    (g.W.Write.contents (inner_of c.end.new.output)) c.in_ok-end_run.ensures.ended) c.end.ensures.stops

@@ -4,6 +4,10 @@ use Rattle.osdp_input.specs.Line.{said}
 use Rattle.osdp_tool.specs.declared.capture.Capture.{Capture}
 use Rattle.osdp_tool.specs.Machine.{told}
 use Rattle.osdp_tool.proofs.Pieces.{fed_bad, fed_joined, fed_apart, says_none, says_bytes}
+use Rattle.osdp_input.specs.Cut.{line_feed}
+use Rattle.osdp_tool.proofs.Stopping.{stops_before, stops_line, stops_line_end}
+use Rattle.std.proofs.Common.{[], ◌∷◌}
+use Rattle.osdp_tool.proofs.Beginnings.{on_err}
 use Rattle.osdp_tool.proofs.capture.Capture.end_line.Goals as goal
 
 pub returns-then-not-good-clause-took : goal.returns-then-not-good-clause-took
@@ -72,3 +76,24 @@ returns-in_ok-end_run-in-Apart-clause-took g c =
     (told (g.W.Write.contents (inner_of c.take.new.output)) c.take.new.report)
     (told (g.W.Write.contents (inner_of c.end_run.new.output)) c.end_run.new.report)
     c.in-Apart.is refl says (omega arith) c.clear.ensures.items refl c.in_ok-take.ensures.took c.in_ok-end_run-in-Apart.ensures.ended
+
+pub returns-in-Err-clause-stops : goal.returns-in-Err-clause-stops
+returns-in-Err-clause-stops g c =
+    stops_before (line_feed ∷ []) c.args.self.now (g.W.Write.contents (inner_of c.args.output.now))
+
+pub returns-in_err-take-clause-stops : goal.returns-in_err-take-clause-stops
+returns-in_err-take-clause-stops g c =
+    let says : said c.args.self.now.line.items ≡ Some c.deref-2.result.now =
+    sym (ap said c.deref.ensures.value) ∙ says_bytes (said c.deref.result.now) c.in-Ok.good c.read_digits.new.bytes.items c.in-Ok.ensures.read c.if-not-good.false
+    ∙ ap Some (sym c.deref-2.ensures.value) in
+    on_err c.from_residual.result (stops_line c.deref-2.result.now c.args.self.now (told (g.W.Write.contents (inner_of c.args.output.now)) c.args.self.now.report)
+    (g.W.Write.contents (inner_of c.take.new.output)) c.requires.lines says c.in_err-take.ensures.stops)
+
+pub returns-in_err-end_run-in-Apart-clause-stops : goal.returns-in_err-end_run-in-Apart-clause-stops
+returns-in_err-end_run-in-Apart-clause-stops g c =
+    let says : said c.args.self.now.line.items ≡ Some c.deref-2.result.now =
+    sym (ap said c.deref.ensures.value) ∙ says_bytes (said c.deref.result.now) c.in-Ok.good c.read_digits.new.bytes.items c.in-Ok.ensures.read c.if-not-good.false
+    ∙ ap Some (sym c.deref-2.ensures.value) in
+    on_err c.from_residual-in_err-end_run-in-Apart.result (stops_line_end c.deref-2.result.now c.args.self.now c.take.new.framer c.take.new.report
+    (told (g.W.Write.contents (inner_of c.args.output.now)) c.args.self.now.report) (told (g.W.Write.contents (inner_of c.take.new.output)) c.take.new.report)
+    (g.W.Write.contents (inner_of c.end_run.new.output)) c.in-Apart.is says c.in_ok-take.ensures.took c.in_err-end_run-in-Apart.ensures.stops)

@@ -3,6 +3,8 @@ use Rattle.osdp_stream.specs.Watched.{inner_of}
 use Rattle.osdp_tool.specs.Machine.{told}
 use Rattle.osdp_tool.specs.Capture.{TookPart}
 use Rattle.osdp_tool.proofs.Works.{read_more, read_bad, read_past}
+use Rattle.osdp_tool.proofs.Works.{read_stops}
+use Rattle.osdp_tool.proofs.Beginnings.{on_err}
 use Rattle.osdp_tool.proofs.capture.Capture.read_all.Goals as goal
 
 pub returns-then-not-branch-clause-read : goal.returns-then-not-branch-clause-read
@@ -40,3 +42,11 @@ returns-else-count-eq0-2-clause-read g c = (
       c.reads.invariant.has_read c.in-Ok-read_piece.ensures.taken,
   c.in-Ok-read_piece.ensures.failed ∙ c.reads.invariant.input,
 )
+
+pub returns-in_err-take-clause-stops : goal.returns-in_err-take-clause-stops
+returns-in_err-take-clause-stops g c =
+    let room = c.min-room.ensures in
+    let bound = c.in-Ok.ensures.bound in
+    on_err c.from_residual.result (read_stops c.args.limit c.reads.left c.in-Ok.count (take c.in-Ok.count c.read_piece.new.buffer) c.args.self.now c.reads.self
+    _ _ _ _ _ (g.W.Write.contents (inner_of c.take.new.output)) c.in-Ok.ensures.length (omega arith) c.reads.invariant.has_read c.in-Ok.ensures.taken
+    c.in_err-take.ensures.stops)

@@ -7,6 +7,11 @@ use Rattle.osdp_tool.specs.Machine.{told}
 use Rattle.osdp_tool.specs.Feeds.{HasLine}
 use Rattle.osdp_tool.specs.Capture.{load, TookPiece}
 use Rattle.osdp_tool.proofs.Pieces.{took_line, took_rest}
+use Rattle.std.proofs.Common.{refl, append_assoc, append-nil, take-append-drop, ◌++◌}
+use Rattle.osdp_tool.specs.Capture.{StopsInPiece}
+use Rattle.osdp_tool.proofs.Pieces.{took_both}
+use Rattle.osdp_tool.proofs.Stopping.{stops_before, stops_further, feed_cut}
+use Rattle.osdp_tool.proofs.Beginnings.{on_err}
 use Rattle.osdp_tool.proofs.capture.Capture.take_lines.Goals as goal
 
 -- part of a slice
@@ -82,3 +87,34 @@ returns-clause-took g c =
     (ap (told contents) (sym c.in_ok-hold-2.ensures.report))
     (took_rest c.args.piece.now c.lines.at c.args.self.now c.lines.self c.hold-2.new.self _ middle c.lines.invariant.took
     (subst (λ l. TookPiece l true c.lines.self c.hold-2.new.self middle middle) (take_rest c.args.piece.now c.lines.at) (c.in_ok-hold-2.ensures.took middle)))
+
+pub returns-in_err-hold-clause-stops : goal.returns-in_err-hold-clause-stops
+returns-in_err-hold-clause-stops g c =
+    let contents = g.W.Write.contents (inner_of c.lines.output) in
+    let rest = drop c.lines.at c.args.piece.now in
+    on_err c.from_residual.result (stops_further c.args.piece.now (take c.lines.at c.args.piece.now) rest [] c.args.self.now c.lines.self _ (told contents c.lines.self.report) contents
+    c.lines.invariant.took (stops_before rest c.lines.self contents)
+    (sym (take-append-drop c.lines.at c.args.piece.now) ∙ ap (λ l. take c.lines.at c.args.piece.now ++ l) (sym (append-nil rest))))
+
+pub returns-in_err-end_line-clause-stops : goal.returns-in_err-end_line-clause-stops
+returns-in_err-end_line-clause-stops g c =
+    let contents = g.W.Write.contents (inner_of c.lines.output) in
+    let middle = told contents c.lines.self.report in
+    let now = g.W.Write.contents (inner_of c.end_line.new.output) in
+    let at = c.lines.at in
+    let count = c.in-Some.length in
+    let piece = c.args.piece.now in
+    let held = subst (λ l. TookPiece l true c.lines.self c.hold.new.self middle middle) (part_of_slice piece at count) (c.in_ok-hold.ensures.took middle) in
+    on_err c.from_residual-in_err-end_line.result (stops_further piece (take at piece ++ take count (drop at piece)) (line_feed ∷ []) (drop (count + 1) (drop at piece)) c.args.self.now c.hold.new.self
+    (told (g.W.Write.contents (inner_of c.args.output.now)) c.args.self.now.report) middle now
+    (took_both (take at piece) (take count (drop at piece)) true c.args.self.now c.lines.self c.hold.new.self _ middle middle c.lines.invariant.took held)
+    (subst (λ (m : Option (List ℕ)). StopsInPiece (line_feed ∷ []) c.hold.new.self m now) (ap (told contents) c.in_ok-hold.ensures.report) c.in_err-end_line.ensures.stops)
+    (feed_cut piece at count (line_at piece at count c.in-Some.ensures)))
+
+pub returns-in_err-hold-2-clause-stops : goal.returns-in_err-hold-2-clause-stops
+returns-in_err-hold-2-clause-stops g c =
+    let contents = g.W.Write.contents (inner_of c.lines.output) in
+    let rest = drop c.lines.at c.args.piece.now in
+    on_err c.from_residual-in_err-hold-2.result (stops_further c.args.piece.now (take c.lines.at c.args.piece.now) rest [] c.args.self.now c.lines.self _ (told contents c.lines.self.report) contents
+    c.lines.invariant.took (stops_before rest c.lines.self contents)
+    (sym (take-append-drop c.lines.at c.args.piece.now) ∙ ap (λ l. take c.lines.at c.args.piece.now ++ l) (sym (append-nil rest))))
