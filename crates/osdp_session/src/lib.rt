@@ -1,0 +1,67 @@
+//! A schedule run over a simulated line, with the headline in the contract of the call.
+//!
+//! `run_session` here is that of `osdp_sim`. Its contract says in addition what holds of the account, session by session, at the places that the
+//! account's lengths give. So nobody has to join the run's contract and a law by hand.
+#![tactic(auto)]
+
+ghost use Rattle.osdp_sim.specs.Runs.{FitAlong, RunEnds, steps_done};
+ghost use Rattle.osdp_sim.specs.State.{set_up};
+ghost use Rattle.osdp_sim_laws.specs.Accounts.{IsInSession, IsOnce, WasSetUp, account_in};
+ghost use Rattle.osdp_session.specs.Sessions.{AreInSessions, HoldsInSessions};
+ghost use Rattle.std.specs.Prelude.{◌<◌, ◌^◌, All, length};
+
+use osdp_reader::Handler;
+use osdp_sim::{Account, Fault, Schedule, SimConfig, SimStep};
+use std::alloc::Global;
+
+/// Runs a schedule over a line with one controller and one reader, as `osdp_sim::run_session` does, and gives the account of what happened, or
+/// the fault with the account of the steps before it. Once both ends are set up:
+///
+/// - `once`: where no session begins again, the commands that the reader has taken are a beginning of those issued, and hold each settled one,
+///   with the answer that the reader gave, and one more at most; the events that the controller reported are a beginning of those queued, each
+///   once and in order.
+/// - `sessions`: where sessions begin again, that holds of each, at the places that `sessions` of the account gives: a session's commands
+///   are those after the ones that the sessions before it settled or told unsettled, and its events those after the ones that were
+///   reported before it, with the last of them again or without it. Each session tells one command unsettled at most.
+pub fn run_session<H: Handler>(
+    alloc: Global,
+    config: &SimConfig,
+    handler: H,
+    steps: &[SimStep],
+) -> Result<Account, Fault<Account>>
+    ensures ends { RunEnds H.answer_of H.after config.now handler steps.now result }
+    ensures fits { FitAlong H.answer_of H.after (steps_done steps.now result) (set_up config.now handler) }
+    ensures once { WasSetUp result → All IsInSession (steps_done steps.now result)
+        → IsOnce H.answer_of H.after config.now.reader handler (account_in result) }
+    ensures sessions { WasSetUp result → HoldsInSessions H.answer_of H.after config.now.reader handler (account_in result) }
+{
+    osdp_sim_laws::holds_once::<H>();
+    osdp_sim_laws::stays_in_a_row::<H>();
+    holds_in_sessions::<H>();
+    osdp_sim::run_session(alloc, config, handler, steps)
+}
+
+/// The same of steps that are handed out one at a time, as those of a script are.
+pub fn run_schedule<H: Handler, S: Schedule>(
+    alloc: Global,
+    config: &SimConfig,
+    handler: H,
+    schedule: S,
+) -> Result<Account, Fault<Account>>
+    requires { length (S.left schedule) < 2 ^ 64 }
+    ensures ends { RunEnds H.answer_of H.after config.now handler (S.left schedule) result }
+    ensures fits { FitAlong H.answer_of H.after (steps_done (S.left schedule) result) (set_up config.now handler) }
+    ensures once { WasSetUp result → All IsInSession (steps_done (S.left schedule) result)
+        → IsOnce H.answer_of H.after config.now.reader handler (account_in result) }
+    ensures sessions { WasSetUp result → HoldsInSessions H.answer_of H.after config.now.reader handler (account_in result) }
+{
+    osdp_sim_laws::holds_once::<H>();
+    osdp_sim_laws::stays_in_a_row::<H>();
+    holds_in_sessions::<H>();
+    osdp_sim::run_schedule(alloc, config, handler, schedule)
+}
+
+/// What holds of sessions one after the other holds at the places that the account's lengths give.
+pub fn holds_in_sessions<H: Handler>()
+    ensures { AreInSessions H.answer_of H.after }
+{}
