@@ -9,9 +9,9 @@ use Rattle.osdp_stream.specs.declared.fault.ToolFault.TheVariants.{NotHex, TooLo
 use Rattle.osdp_stream.specs.declared.fault.ToolFault.TheVariants.{HoldsPacket, NotQuiet, ReadFailed}
 use Rattle.osdp_stream.specs.declared.fault.ToolFault.TheVariants.{WriteFailed, NoMemory}
 use Rattle.osdp_tool.specs.Shown.{shown, shown_so_far}
-use Rattle.osdp_tool.specs.Ending.{streamed, Ends, EndsPartWay, EndsAtFailedRead}
+use Rattle.osdp_tool.specs.Ending.{streamed, Ends, EndsPartWay}
 use Rattle.osdp_tool.specs.Works.{Works}
-use Rattle.osdp_tool.specs.Written.{IsBeginning, StopsWithin}
+use Rattle.osdp_tool.specs.Written.{StopsWithin}
 use Rattle.osdp_tool.proofs.Beginnings.{begun_all, stops_by}
 
 -- nothing was written since

@@ -1,5 +1,5 @@
 -- Where a call on a capture stopped: within a piece, at its last line, or at its end.
-use Rattle.std.proofs.Common.{◌≡◌, ℕ, ◌+◌, ◌≤◌, Bool, true, false, List, [], ◌∷◌, ◌++◌, length, take, drop, take-append-drop, Option, Some, None, ◌⊎◌, inl, inr, refl, sym, subst, ap, ◌∙◌, arith, append_assoc, append-nil, length-append}
+use Rattle.std.proofs.Common.{◌≡◌, ℕ, ◌+◌, Bool, true, List, [], ◌∷◌, ◌++◌, length, take, drop, take-append-drop, Option, Some, None, ◌⊎◌, inl, inr, refl, sym, subst, ap, ◌∙◌, arith, append_assoc, append-nil, length-append}
 use Rattle.std.proofs.lemmas.List.{take_more}
 use Rattle.osdp_frame.specs.Bytes.{AreBytes}
 use Rattle.osdp_frame.specs.Held.{Held}
@@ -8,7 +8,7 @@ use Rattle.osdp_input.specs.declared.form.Form.{Form}
 use Rattle.osdp_input.specs.declared.form.Form.TheVariants.{Raw, Joined, Apart}
 use Rattle.osdp_input.specs.Cut.{line_feed, unended_line}
 use Rattle.osdp_input.specs.Line.{said, line_bytes}
-use Rattle.osdp_input.specs.Runs.{good_front, ended_runs, open_run, runs_of, first_bad_ended, closed_runs}
+use Rattle.osdp_input.specs.Runs.{good_front, ended_runs, open_run, first_bad_ended, closed_runs}
 use Rattle.osdp_input.proofs.FormLemmas.{feed_joined, feed_apart}
 use Rattle.osdp_input.proofs.Bytes.{good_front-bytes}
 use Rattle.std.specs.List.{AllByRecursion}

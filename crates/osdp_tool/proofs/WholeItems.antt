@@ -17,7 +17,7 @@ use Rattle.osdp_tool.specs.Machine.{Tells, Drained, IsSettled, Stands, Took, Sto
 use Rattle.osdp_tool.specs.Written.{StopsWithin}
 use Rattle.osdp_tool.proofs.Beginnings.{known_appends, stops_by}
 use Rattle.osdp_tool.proofs.Drains.{draining_start, draining_step, draining_end}
-use Rattle.osdp_tool.proofs.Standing.{AreBytes-append, AreBytes-take, drained_settled, gap_some, lines_more, stands_more, stops_longer_run, took_start, took_step}
+use Rattle.osdp_tool.proofs.Standing.{AreBytes-append, AreBytes-take, drained_settled, gap_some, stands_more, stops_longer_run, took_start, took_step}
 
 -- a new run is settled
 pub settled_new : IsSettled new_run

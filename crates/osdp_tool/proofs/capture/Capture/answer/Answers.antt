@@ -1,6 +1,6 @@
-use Rattle.std.proofs.Common.{subst, sym, ◌∙◌, Err}
+use Rattle.std.proofs.Common.{subst, sym}
 use Rattle.osdp_stream.specs.Watched.{inner_of, has_failed}
-use Rattle.osdp_tool.specs.Machine.{told, IsStep}
+use Rattle.osdp_tool.specs.Machine.{told}
 use Rattle.osdp_tool.specs.Works.{Answered}
 use Rattle.osdp_tool.proofs.Works.{handed_on, still_step, stopped_at_end}
 use Rattle.osdp_tool.proofs.Stopping.{stops_ended}

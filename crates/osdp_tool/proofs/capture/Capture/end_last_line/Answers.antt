@@ -6,8 +6,6 @@ use Rattle.osdp_tool.specs.Capture.{TookPiece}
 use Rattle.osdp_tool.specs.Works.{EndsLine}
 use Rattle.osdp_tool.proofs.Reports.{if_ok_map}
 use Rattle.osdp_tool.proofs.Works.{ends_line}
-use Rattle.osdp_tool.specs.Capture.{StopsInPiece}
-use Rattle.osdp_tool.specs.Works.{StopsAtEnd}
 use Rattle.osdp_tool.proofs.Beginnings.{on_err_map}
 use Rattle.osdp_tool.proofs.Stopping.{stops_last_line}
 use Rattle.osdp_tool.proofs.capture.Capture.end_last_line.Goals as goal

@@ -7,7 +7,7 @@ use Rattle.osdp_tool.specs.Machine.{told}
 use Rattle.osdp_tool.specs.Feeds.{HasLine}
 use Rattle.osdp_tool.specs.Capture.{load, TookPiece}
 use Rattle.osdp_tool.proofs.Pieces.{took_line, took_rest}
-use Rattle.std.proofs.Common.{refl, append_assoc, append-nil, take-append-drop, ◌++◌}
+use Rattle.std.proofs.Common.{append-nil, take-append-drop, ◌++◌}
 use Rattle.osdp_tool.specs.Capture.{StopsInPiece}
 use Rattle.osdp_tool.proofs.Pieces.{took_both}
 use Rattle.osdp_tool.proofs.Stopping.{stops_before, stops_further, feed_cut}
