@@ -35,18 +35,18 @@ use Rattle.osdp_link.specs.Headline.{AreMoves, IsMove, MaySubmit}
 use Rattle.osdp_link.specs.Link as link
 use Rattle.osdp_link.specs.Link.{Delivered, Delivery, Link, Lost, Move, Queue as QueueEvent, Reopen, Repeated, SetBusy, Submit, Tick, ToController, ToReader, after_move, run}
 use Rattle.osdp_link.specs.Peers.{ReadsWhatIsAsked}
-use Rattle.osdp_link.specs.Progress.{NoComset}
+use Rattle.osdp_link.specs.Progress.{SetsNoAddress}
 use Rattle.osdp_link.specs.Addresses.{StayWhereTheyAre}
 use Rattle.osdp_link.specs.Sessions as sessions
 use Rattle.osdp_link.specs.Sessions.{all_submitted, submitted}
 use Rattle.osdp_link.proofs.Answering.{no_address}
 use Rattle.osdp_link.proofs.Lines.{both, each_append, each_front, each_of, each_rest}
-use Rattle.osdp_link.proofs.Settling.{MovesNone}
+use Rattle.osdp_link.proofs.Settling.{MovesNone, stays_put}
 use Rattle.osdp_link.proofs.Stages.{Each}
 
 -- a command that can be read and moves no reader
 abbrev IsKept : Command → Type 0
-IsKept c = NoComset c × CommandFits c
+IsKept c = SetsNoAddress c × CommandFits c
 
 abbrev AsksKept : Exchange → Type 0
 AsksKept x = MovesNone x × CommandFits (exchange_command x)
@@ -107,10 +107,6 @@ module _ (reads : ReadsWhatIsAsked) (address : ℕ) where
   command_well None c a s none is = (tt, is.1)
   command_well (Some d) c a s none is = absurd cc
 
-  moved_none : (asked came : Option Communication) → asked ≡ None → moved_by asked came ≡ None
-  moved_none None came none = refl
-  moved_none (Some d) came none = absurd cc
-
   opened_well : (id : Option PdId) (s : Session) → Stays address s → HeardWell (opening_answered id s)
   opened_well None s is = is
   opened_well (Some id) s is = (tt, is.1)
@@ -119,7 +115,7 @@ module _ (reads : ReadsWhatIsAsked) (address : ℕ) where
   answered_well Opening a s none is = opened_well (pd_id_of a) s is
   answered_well Polling a s none is = (tt, is.1)
   answered_well (Asking c) a s none is =
-      command_well (moved_by (comset_of c) (com_of a)) c a s (moved_none (comset_of c) (com_of a) none) is
+      command_well (moved_by (comset_of c) (com_of a)) c a s (stays_put c a none) is
 
   unread_well : (x : Exchange) (code : ℕ) (s : Session) → Stays address s → HeardWell (answered_unread x code s)
   unread_well Opening code s is = is
@@ -268,11 +264,11 @@ module _ {H : Type 0} (answer_of : H → Command → HandlerAnswer) (after : H �
     begins_keeps None [] [] now l h = record { waiting = h.waiting; controller = (tt, h.controller.1); line = h.line; reader = h.reader }
 
     -- a command that is accepted is among those submitted
-    accepted_kept : (refusal : Option ControllerFault) (c : Command) → CommandFits c → Each NoComset (sessions.accepted refusal c) → refusal ≡ None → IsKept c
+    accepted_kept : (refusal : Option ControllerFault) (c : Command) → CommandFits c → Each SetsNoAddress (sessions.accepted refusal c) → refusal ≡ None → IsKept c
     accepted_kept None c fits none e = (none.0, fits)
     accepted_kept (Some fault) c fits none e = absurd cc
 
-    move_keeps : (move : Move) (l : Link H) → IsMove answer_of after move l → Each NoComset (submitted move l) → Keeps l → Keeps (after_move answer_of after move l)
+    move_keeps : (move : Move) (l : Link H) → IsMove answer_of after move l → Each SetsNoAddress (submitted move l) → Keeps l → Keeps (after_move answer_of after move l)
     move_keeps (Submit c) l fits none h =
         let refusal = controllers.submit_refusal c l.controller in submits_keeps refusal c l (accepted_kept refusal c fits none) h
     move_keeps (QueueEvent e) l fits none h = queues_keeps (length l.reader.queue.events == l.reader.queue.capacity) e l h
@@ -282,15 +278,15 @@ module _ {H : Type 0} (answer_of : H → Command → HandlerAnswer) (after : H �
     move_keeps (ToController how now) l fits none h = to_controller_keeps how now l.to_controller l h
     move_keeps (Reopen now) l fits none h = begins_keeps (controllers.begin_refusal l.controller) l.to_reader l.to_controller now l h
 
-    run_keeps : (moves : List Move) (l : Link H) → AreMoves answer_of after moves l → Each NoComset (all_submitted answer_of after moves l) → Keeps l
+    run_keeps : (moves : List Move) (l : Link H) → AreMoves answer_of after moves l → Each SetsNoAddress (all_submitted answer_of after moves l) → Keeps l
         → Keeps (run answer_of after moves l)
     run_keeps [] l fits none h = h
     run_keeps (move ∷ moves) l fits none h =
         let next = after_move answer_of after move l in
-        run_keeps moves next fits.1 (each_rest NoComset (submitted move l) (all_submitted answer_of after moves next) none)
-        (move_keeps move l fits.0 (each_front NoComset (submitted move l) (all_submitted answer_of after moves next) none) h)
+        run_keeps moves next fits.1 (each_rest SetsNoAddress (submitted move l) (all_submitted answer_of after moves next) none)
+        (move_keeps move l fits.0 (each_front SetsNoAddress (submitted move l) (all_submitted answer_of after moves next) none) h)
 
-  waiting_kept : (cs : List Command) → Each MaySubmit cs → Each NoComset cs → Each IsKept cs
+  waiting_kept : (cs : List Command) → Each MaySubmit cs → Each SetsNoAddress cs → Each IsKept cs
   waiting_kept [] may none = tt
   waiting_kept (c ∷ cs) may none = ((none.0, may.0.fits), waiting_kept cs may.1 none.1)
 
@@ -299,15 +295,15 @@ module _ {H : Type 0} (answer_of : H → Command → HandlerAnswer) (after : H �
 
   pub stay_there : ReadsWhatIsAsked → StayWhereTheyAre answer_of after
   stay_there reads l moves begun fits none =
-      let all = each_of NoComset (l.controller.waiting ++ all_submitted answer_of after moves l) none in
+      let all = each_of SetsNoAddress (l.controller.waiting ++ all_submitted answer_of after moves l) none in
       let here = l.controller.session.config.address in
       let there = l.reader.config.address in
       let start : KeepsBoth here there l = record {
         waiting = waiting_kept l.controller.waiting (each_of MaySubmit l.controller.waiting begun.waiting)
-            (each_front NoComset l.controller.waiting (all_submitted answer_of after moves l) all);
+            (each_front SetsNoAddress l.controller.waiting (all_submitted answer_of after moves l) all);
         controller = (quiet_asks l.controller.session.state begun.quiet.0 begun.quiet.1, refl);
         line = subst (Each Carries) (sym begun.to_reader) tt;
         reader = refl;
       } in
-      let behind = run_keeps reads here there moves l fits (each_rest NoComset l.controller.waiting (all_submitted answer_of after moves l) all) start in
+      let behind = run_keeps reads here there moves l fits (each_rest SetsNoAddress l.controller.waiting (all_submitted answer_of after moves l) all) start in
       (behind.reader, behind.controller.1)

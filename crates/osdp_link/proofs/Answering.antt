@@ -29,23 +29,11 @@ use Rattle.osdp_link.proofs.Stages.{Acted, After, Behind, Fresh, IsAnswerTo, IsA
 pub same_some : {A : Type 0} (x y : A) → Some x ≡ Some y → x ≡ y
 same_some x y e = cc
 
--- no COMSET sets no address
+-- the exchange sets no address
 pub no_address : (x : Exchange) → MovesNone x → new_address (exchange_command x) ≡ None
 no_address Opening none = refl
 no_address Polling none = refl
-no_address (Asking command.Poll) none = refl
-no_address (Asking (command.Id a)) none = refl
-no_address (Asking (command.Cap a)) none = refl
-no_address (Asking command.LocalStatus) none = refl
-no_address (Asking command.InputStatus) none = refl
-no_address (Asking command.OutputStatus) none = refl
-no_address (Asking command.ReaderStatus) none = refl
-no_address (Asking (command.Output a)) none = refl
-no_address (Asking (command.Led a)) none = refl
-no_address (Asking (command.Buzzer a)) none = refl
-no_address (Asking (command.Text a)) none = refl
-no_address (Asking (command.Comset c)) none = absurd cc
-no_address (Asking (command.Maker a)) none = refl
+no_address (Asking c) none = none
 
 module _ (fixed : ControllerConfig) {H : Type 0} (answer_of : H → Command → Answer) (after : H → Command → H) (settings : ReaderConfig) (first : H) where
   abbrev Given : Type 0
@@ -67,7 +55,7 @@ module _ (fixed : ControllerConfig) {H : Type 0} (answer_of : H → Command → 
     pub stays : MovesNone x → IsReady (hears answer_of after r (frame fixed x n)).reader
 
   -- .. to the opening ID
-  opening : Given → (r : ReaderState H) → IsReady r → r.config.id ≡ settings.id → SaysFit (frame fixed Opening 0) r
+  pub opening : Given → (r : ReaderState H) → IsReady r → r.config.id ≡ settings.id → SaysFit (frame fixed Opening 0) r
       → Replies Opening 0 r (reply.PdId r.config.id)
   opening given r ready id fits =
       let p = frame fixed Opening 0 in

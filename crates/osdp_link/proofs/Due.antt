@@ -42,7 +42,7 @@ begun x n s waiting =
 abbrev pub SendsOrEnds : Ticked → Type 0
 SendsOrEnds t = (t.session.state ≡ Closed) ⊎ ((x : Exchange) × Sends x t)
 
-stays_rests : {P : Type 0} (s : Session) (waiting : List Command) → Acts (stays s waiting) → P
+pub stays_rests : {P : Type 0} (s : Session) (waiting : List Command) → Acts (stays s waiting) → P
 stays_rests s waiting e = absurd cc
 
 -- nothing is due in a session that is closed

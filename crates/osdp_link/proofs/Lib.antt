@@ -21,9 +21,11 @@ pub mod Due
 pub mod Settling
 pub mod Answering
 pub mod Round
+pub mod Exchanges
 pub mod Rounds
 pub mod Through
 pub mod InTime
+pub mod Clean
 pub mod Refusals
 pub mod TwoLists
 pub mod Reports

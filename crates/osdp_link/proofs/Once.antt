@@ -23,7 +23,7 @@ use Rattle.osdp_link.proofs.Stages.{Accounts, After, Answering, Behind, Each, Fr
 use Rattle.osdp_link.proofs.Parts.{At}
 
 -- POLL is refused
-not_poll : (c : Command) (m : Machine) → submit_refusal c m ≡ None → c ≢ command.Poll
+pub not_poll : (c : Command) (m : Machine) → submit_refusal c m ≡ None → c ≢ command.Poll
 not_poll c m e poll = refused (subst (λ d. submit_refusal d m ≡ None) poll e)
   where
     refused : submit_refusal command.Poll m ≢ None

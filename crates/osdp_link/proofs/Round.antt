@@ -21,7 +21,7 @@ use Rattle.osdp_reader.specs.Table.{hears, kind_of}
 use Rattle.osdp_link.specs.Headline.{SaysWhatFits}
 use Rattle.osdp_link.specs.Link as link
 use Rattle.osdp_link.specs.Link.{Account, Delivered, Link, told}
-use Rattle.osdp_link.specs.Progress.{NoComset}
+use Rattle.osdp_link.specs.Progress.{SetsNoAddress}
 use Rattle.osdp_link.specs.Sessions.{settled_commands}
 use Rattle.osdp_link.proofs.Answering.{IsReady, Replies, SaysFit, replies_at}
 use Rattle.osdp_link.proofs.Due.{Awaits, Sends}
@@ -69,19 +69,19 @@ module _ (fixed : ControllerConfig) {H : Type 0} (answer_of : H → Command → 
       record { out = tt; exchange = sym asks.1 ∙ is; session = asks.0 }
   awaited (Rest n y a) l x h (until, k, o, state, is) = absurd (subst (λ st. Rests fixed st n l.controller.session) state h.controller)
 
-  -- no COMSET was issued, so the exchange asks none
-  pub moves_none : (at : Stage) (l : Link H) → AtStage at l → IsOut at → Each NoComset l.account.issued → MovesNone (exchange_at at)
+  -- no COMSET to a device's address was issued, so the exchange asks none
+  pub moves_none : (at : Stage) (l : Link H) → AtStage at l → IsOut at → Each SetsNoAddress l.account.issued → MovesNone (exchange_at at)
   moves_none Fresh l h out all = absurd out
   moves_none (Behind past Opening) l h out all = tt
   moves_none (Behind past Polling) l h out all = tt
   moves_none (Behind past (Asking c)) l h out all =
-      (each_rest NoComset l.account.taken (c ∷ l.controller.waiting) (subst (Each NoComset) h.account.issued all)).0
+      (each_rest SetsNoAddress l.account.taken (c ∷ l.controller.waiting) (subst (Each SetsNoAddress) h.account.issued all)).0
   moves_none (Level past Opening a) l h out all = tt
   moves_none (Level past Polling a) l h out all = tt
   moves_none (Level past (Asking c) a) l h out all =
-      let taken = each_front NoComset l.account.taken l.controller.waiting (subst (Each NoComset) h.account.issued all) in
+      let taken = each_front SetsNoAddress l.account.taken l.controller.waiting (subst (Each SetsNoAddress) h.account.issued all) in
       let is = taken_commands answer_of after settings first l.account (owed (Asking c) a) h.account.settled in
-      (each_rest NoComset (settled_commands l.account) (c ∷ []) (subst (Each NoComset) (sym is) taken)).0
+      (each_rest SetsNoAddress (settled_commands l.account) (c ∷ []) (subst (Each SetsNoAddress) (sym is) taken)).0
   moves_none (Rest n y a) l h out all = absurd out
 
   -- both packets come through: the link behind them
@@ -94,7 +94,7 @@ module _ (fixed : ControllerConfig) {H : Type 0} (answer_of : H → Command → 
     account = told (report_of x a) (link.taken (kind_of l.reader p) (hears answer_of after l.reader p).command (link.front_of l.reader) l.account);
   }
 
-  come_through : (now : ℕ) (x : Exchange) (n : ℕ) (a : Reply) (l : Link H) → l.to_reader ≡ frame fixed x n ∷ [] → l.to_controller ≡ []
+  pub come_through : (now : ℕ) (x : Exchange) (n : ℕ) (a : Reply) (l : Link H) → l.to_reader ≡ frame fixed x n ∷ [] → l.to_controller ≡ []
       → (hears answer_of after l.reader (frame fixed x n)).reply ≡ Some (answer fixed n a)
       → controller.hears (answer fixed n a) now l.controller.session
       ≡ record { session = at_rest (seen now l.controller.session); report = report_of x a }
@@ -140,7 +140,7 @@ module _ (fixed : ControllerConfig) {H : Type 0} (answer_of : H → Command → 
     pub to_reader : l.to_reader ≡ []
     pub to_controller : l.to_controller ≡ []
     pub ready : IsReady fixed answer_of after settings first l.reader
-    pub issued : Each NoComset l.account.issued
+    pub issued : Each SetsNoAddress l.account.issued
 
   pub record IsIdle (l : Link H) : Type 0 where
     pub idle : (due : ℕ) × (l.controller.session.state ≡ Idle due)
@@ -169,7 +169,7 @@ module _ (fixed : ControllerConfig) {H : Type 0} (answer_of : H → Command → 
       let is = awaited at m x h sends.awaits in
       let line = sent_line now l x at still.to_reader sends is in
       let issued : m.account.issued ≡ l.account.issued = ap (λ o. (told o l.account).issued) sends.report in
-      let none = moves_none at m h is.out (subst (Each NoComset) (sym issued) still.issued) in
+      let none = moves_none at m h is.out (subst (Each SetsNoAddress) (sym issued) still.issued) in
       let stays = subst MovesNone is.exchange none in
       let fit = subst (λ ps. SaysWhatFits answer_of after ps l.reader) line fits in
       let answer = is_answered given now x at m h sends.awaits is still.ready stays line still.to_controller fit in
@@ -184,7 +184,7 @@ module _ (fixed : ControllerConfig) {H : Type 0} (answer_of : H → Command → 
             to_reader = refl;
             to_controller = refl;
             ready = answer.replies.stays stays;
-            issued = subst (Each NoComset) (sym (told_issues (report_of x answer.a) (link.taken (kind_of l.reader p) (hears answer_of after l.reader p).command (link.front_of l.reader) m.account)
+            issued = subst (Each SetsNoAddress) (sym (told_issues (report_of x answer.a) (link.taken (kind_of l.reader p) (hears answer_of after l.reader p).command (link.front_of l.reader) m.account)
                 ∙ ap (λ t. t.issued) goes.1 ∙ issued)) still.issued;
           };
         });

@@ -1,10 +1,15 @@
 -- The answer comes to the controller that waits for it: the exchange ends.
-use Rattle.std.proofs.Common.{◌≡◌, ℕ, zero, suc, true, false, cond, eqb, Option, Some, None, refl, sym, ap, ◌∙◌}
+use Rattle.std.proofs.Common.{◌≡◌, ℕ, zero, suc, arith, true, false, cond, eqb, inl, inr, Option, Some, None, refl, sym, ap, ◌∙◌}
+use Rattle.std.proofs.lemmas.Bool.{le-ltb, lt-ltb}
+use Rattle.std.proofs.lemmas.Bool.Decides.{eqb_tells, leb_tells}
 use Rattle.std.specs.Prelude.{◌&&◌, ◌||◌}
+use Rattle.osdp_msg.specs.declared.command.Command.{Command}
+use Rattle.osdp_msg.specs.declared.command.Command.TheVariants as command
+use Rattle.osdp_msg.specs.declared.command_fields.Communication.{Communication}
 use Rattle.osdp_msg.specs.declared.reply.Reply.{Reply}
 use Rattle.osdp_msg.specs.declared.reply_fields.PdId.{PdId}
 use Rattle.osdp_controller.specs.Answers.{answer_of}
-use Rattle.osdp_controller.specs.Hearing.{answered, com_of, command_answered, event_in, hears, hears_in, ignores, is_from_reader, is_numbered, moved_by, opening_answered, pd_id_of, poll_told, rests, waiting_hears}
+use Rattle.osdp_controller.specs.Hearing.{answered, com_of, command_answered, comset_of, event_in, hears, hears_in, ignores, is_from_reader, is_numbered, moved_by, opening_answered, pd_id_of, poll_told, rests, waiting_hears}
 use Rattle.osdp_controller.specs.Sessions.{seen}
 use Rattle.osdp_controller.specs.declared.answer.Answer.TheVariants.{Plain}
 use Rattle.osdp_controller.specs.declared.config.ControllerConfig.{ControllerConfig}
@@ -14,7 +19,8 @@ use Rattle.osdp_controller.specs.declared.report.Report.{Report}
 use Rattle.osdp_controller.specs.declared.report.Report.TheVariants as report
 use Rattle.osdp_controller.specs.declared.session.Session.{Session}
 use Rattle.osdp_controller.specs.declared.state.State.TheVariants.{Waiting}
-use Rattle.osdp_link.specs.Progress.{NoComset}
+use Rattle.osdp_reader.specs.Table.{new_address}
+use Rattle.osdp_link.specs.Progress.{SetsNoAddress}
 use Rattle.osdp_link.proofs.Due.{Awaits}
 use Rattle.osdp_link.proofs.Numbers.{is_true}
 use Rattle.osdp_link.proofs.Stages.{IsAnswerTo, IsOpen, answer}
@@ -29,11 +35,41 @@ report_of Opening a = opened (pd_id_of a)
 report_of Polling a = poll_told a (event_in a)
 report_of (Asking c) a = Some (report.Settled c a)
 
--- an exchange that asks no COMSET
+-- a COMSET to an address of no device moves neither end, whatever is answered
+unmoved : (c : Communication) (came : Option Communication) → new_address (command.Comset c) ≡ None → moved_by (Some c) came ≡ None
+unmoved c None none = refl
+unmoved c (Some d) none = elim (leb_tells c.address 126) [
+  | inl low ↦ absurd (let e = sym (ap (λ b. cond b (Some c.address) None) low.0) ∙ none in cc)
+  | inr high ↦ elim (eqb_tells d.address c.address) [
+    | inl same ↦ ap (λ b. cond (b && eqb d.address c.address) (Some d) None) (le-ltb d.address 127 (omega (arith, high.1, same.1)))
+    | inr other ↦ elim (leb_tells 127 d.address) [
+      | inl far ↦ ap (λ b. cond (b && eqb d.address c.address) (Some d) None) (le-ltb d.address 127 far.1)
+      | inr near ↦ ap (λ b. cond (b && eqb d.address c.address) (Some d) None) (lt-ltb d.address 127 near.1)
+          ∙ ap (λ b. cond b (Some d) None) other.0
+    ]
+  ]
+]
+
+pub stays_put : (c : Command) (a : Reply) → SetsNoAddress c → moved_by (comset_of c) (com_of a) ≡ None
+stays_put command.Poll a none = refl
+stays_put (command.Id b) a none = refl
+stays_put (command.Cap b) a none = refl
+stays_put command.LocalStatus a none = refl
+stays_put command.InputStatus a none = refl
+stays_put command.OutputStatus a none = refl
+stays_put command.ReaderStatus a none = refl
+stays_put (command.Output b) a none = refl
+stays_put (command.Led b) a none = refl
+stays_put (command.Buzzer b) a none = refl
+stays_put (command.Text b) a none = refl
+stays_put (command.Comset c) a none = unmoved c (com_of a) none
+stays_put (command.Maker b) a none = refl
+
+-- an exchange that asks no COMSET to a device's address
 abbrev pub MovesNone : Exchange → Type 0
 MovesNone Opening = Unit {0}
 MovesNone Polling = Unit {0}
-MovesNone (Asking c) = NoComset c
+MovesNone (Asking c) = SetsNoAddress c
 
 module _ (fixed : ControllerConfig) (pd : PdId) where
   rests_behind : (x : Exchange) (n : ℕ) (a : Reply) (s : Session) → MovesNone x → IsAnswerTo pd x n a → answered x a s ≡ rests (report_of x a) s
@@ -41,7 +77,7 @@ module _ (fixed : ControllerConfig) (pd : PdId) where
       ap (λ b. opening_answered (pd_id_of b) s) is ∙ sym (ap (λ b. rests (opened (pd_id_of b)) s) is)
   rests_behind Opening (suc n) a s stays is = absurd is
   rests_behind Polling n a s stays is = refl
-  rests_behind (Asking c) n a s stays is = ap (λ o. command_answered (moved_by o (com_of a)) c a s) stays
+  rests_behind (Asking c) n a s stays is = ap (λ o. command_answered o c a s) (stays_put c a stays)
 
   pub settles_now : (x : Exchange) (n : ℕ) (a : Reply) (now : ℕ) (s : Session) → Awaits x s.state → IsOpen fixed n s → MovesNone x
       → IsAnswerTo pd x n a → answer_of (answer fixed n a) ≡ Plain a → hears (answer fixed n a) now s ≡ rests (report_of x a) (seen now s)

@@ -23,7 +23,7 @@ use Rattle.osdp_reader.specs.Table.{hears, kind_of}
 use Rattle.osdp_link.specs.Headline.{AreMoves, Begins, SaysWhatFits, handler_after}
 use Rattle.osdp_link.specs.Link as link
 use Rattle.osdp_link.specs.Link.{Account, Delivered, Link, Move, Tick, ToController, ToReader, after_move, run, told}
-use Rattle.osdp_link.specs.Progress.{AreDue, ComeOn, IsClear, NoComset, round, rounds}
+use Rattle.osdp_link.specs.Progress.{AreDue, ComeOn, IsClear, SetsNoAddress, round, rounds}
 use Rattle.osdp_link.proofs.Advancing.{HoldsAtSomeStage}
 use Rattle.osdp_link.proofs.Due.{Acts, closed_rests, due_sends}
 use Rattle.osdp_link.proofs.Growing.{Grows, goes_on, taken_takes}
@@ -93,7 +93,7 @@ module _ (fixed : ControllerConfig) {H : Type 0} (answer_of : H → Command → 
   abbrev Holds : Link H → Type 0
   Holds l = HoldsAtSomeStage fixed answer_of after settings first l
 
-  held_behind : Given → (now : ℕ) (l : Link H) → SaysWhatFits answer_of after (at_tick now l).to_reader l.reader → Holds l → Holds (goes answer_of after now l)
+  pub held_behind : Given → (now : ℕ) (l : Link H) → SaysWhatFits answer_of after (at_tick now l).to_reader l.reader → Holds l → Holds (goes answer_of after now l)
   held_behind given now l fits held =
       let m = link.to_reader answer_of after (at_tick now l).to_reader Delivered (at_tick now l) in
       moving fixed answer_of after settings first given (ToController Delivered now) m tt tt
@@ -218,7 +218,7 @@ module _ {H : Type 0} (answer_of : H → Command → Answer) (after : H → Comm
         to_reader = clear.to_reader;
         to_controller = clear.to_controller;
         ready = record { here = clear.address ∙ ap (λ c. c.address) same; ready = clear.ready };
-        issued = each_of NoComset behind.account.issued clear.issued;
+        issued = each_of SetsNoAddress behind.account.issued clear.issued;
       } in
       let all = given s.fixed handler s.device in
       let first = run answer_of after (round now) behind in

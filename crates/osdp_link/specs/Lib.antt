@@ -8,3 +8,4 @@ pub mod Addresses
 pub mod TwoLists
 pub mod Names
 pub mod Ends
+pub mod Clean

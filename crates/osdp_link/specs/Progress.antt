@@ -1,12 +1,12 @@
 -- Something comes through: behind m rounds that lose nothing m - 1 more commands and events, or all of them, are settled and reported.
 use Rattle.std.specs.Prelude.{◌≡◌, ◌⊎◌, ◌≤◌, ℕ, ◌+◌, ◌-◌, min, true, false, All, List, [], ◌∷◌, ◌++◌, length, None}
 use Rattle.osdp_msg.specs.declared.command.Command.{Command}
-use Rattle.osdp_controller.specs.Hearing.{comset_of}
 use Rattle.osdp_controller.specs.Machine.{is_due}
 use Rattle.osdp_controller.specs.Sessions.{later as later_by}
 use Rattle.osdp_controller.specs.declared.state.State.TheVariants.{Closed}
 use Rattle.osdp_controller_laws.specs.Calls.{IsInRange, longest_wait}
 use Rattle.osdp_reader.specs.declared.handler.Answer.{Answer}
+use Rattle.osdp_reader.specs.Table.{new_address}
 use Rattle.osdp_link.specs.Headline.{AreMoves, Begins}
 use Rattle.osdp_link.specs.Link.{Account, Delivered, Link, Move, Tick, ToController, ToReader, run}
 
@@ -18,8 +18,9 @@ abbrev pub rounds : List ℕ → List Move
 rounds [] = []
 rounds (now ∷ later) = round now ++ rounds later
 
-abbrev pub NoComset : Command → Type 0
-NoComset command = comset_of command ≡ None
+-- no COMSET to a device's address: a reader refuses any other, and stays where it is
+abbrev pub SetsNoAddress : Command → Type 0
+SetsNoAddress command = new_address command ≡ None
 
 -- behind so many rounds as many more commands and events but one are settled and reported, or all are
 abbrev pub ComeOn : List ℕ → Account → Account → Type 0
@@ -28,13 +29,13 @@ ComeOn moments before t =
     ≤ length t.settled + length t.reported
 
 module _ {H : Type 0} where
-  -- nothing is on the line, both ends are at one address, the reader isn't busy, and no COMSET was issued
+  -- nothing is on the line, both ends are at one address, the reader isn't busy, and no COMSET to a device's address was issued
   pub record IsClear (l : Link H) : Type 0 where
     pub to_reader : l.to_reader ≡ []
     pub to_controller : l.to_controller ≡ []
     pub address : l.reader.config.address ≡ l.controller.session.config.address
     pub ready : l.reader.busy ≡ false
-    pub issued : All NoComset l.account.issued
+    pub issued : All SetsNoAddress l.account.issued
 
   module _ (answer_of : H → Command → Answer) (after : H → Command → H) where
     -- each tick is due when it comes: none is where the session has ended

@@ -6,6 +6,7 @@ ghost use Rattle.osdp_link.specs.Peers.{ReadEachOther, ReadsWhatIsAsked, ReadsWh
 ghost use Rattle.osdp_link.specs.Headline.{HoldsOnce, SaysAllPlainly};
 ghost use Rattle.osdp_link.specs.Addresses.{StayWhereTheyAre};
 ghost use Rattle.osdp_link.specs.Progress.{ComesThrough, ComesThroughInTime};
+ghost use Rattle.osdp_link.specs.Clean.{GoesInTurn};
 ghost use Rattle.osdp_link.specs.Refusals.{RefusesNoNumber};
 ghost use Rattle.osdp_link.specs.Sessions.{CommandsHavePlaces, EventsHavePlaces, LastOneLasts, StayInARow};
 ghost use Rattle.osdp_link.specs.TwoLists.{IsReadOff, KeepsInStep, MovesInStep, OffersOnce};
@@ -81,15 +82,15 @@ pub fn refuses_no_number<H: Handler>()
     read_each_other::<H>();
 }
 
-/// Where no COMSET waits or is submitted neither end goes to another address.
+/// Where no COMSET to a device's address waits or is submitted neither end goes to another address.
 pub fn stay_where_they_are<H: Handler>()
     ensures { StayWhereTheyAre H.answer_of H.after }
 {
     reads_what_is_asked();
 }
 
-/// From a link with nothing on the line, both ends at one address, the reader not busy and no COMSET issued: behind m rounds that lose
-/// nothing, each with a tick that is due, m - 1 more commands and events of this session, or all of them, are settled and reported.
+/// From a link with nothing on the line, both ends at one address, the reader not busy and no COMSET to a device's address
+/// issued: behind m rounds that lose nothing, each with a tick that is due, m - 1 more commands and events of this session, or all of them, are settled and reported.
 pub fn comes_through<H: Handler>()
     ensures { ComesThrough H.answer_of H.after }
 {
@@ -104,6 +105,15 @@ pub fn comes_through_in_time<H: Handler>()
     read_each_other::<H>();
     osdp_controller_laws::stays_in_range();
     osdp_controller_laws::ticks_come_due();
+}
+
+/// A first session without losses, with a reader at the controller's address that isn't busy, and no COMSET to a device's address: after
+/// the opening each round, as late as the poll's interval asks, settles a command, the oldest first, each with its own answer. Once all
+/// are settled each round reports an event, the oldest first. The session lasts.
+pub fn goes_in_turn<H: Handler>()
+    ensures { GoesInTurn H.answer_of H.after }
+{
+    read_each_other::<H>();
 }
 
 /// Within each session the events that the reader has offered are a beginning of those queued, and hold those reported. Of the last command

@@ -14,7 +14,7 @@ use Rattle.osdp_link.specs.Headline as headline
 use Rattle.osdp_link.specs.Link as link
 use Rattle.osdp_link.specs.Link.{Delivered, Link}
 use Rattle.osdp_link.specs.Progress as progress
-use Rattle.osdp_link.specs.Progress.{NoComset}
+use Rattle.osdp_link.specs.Progress.{SetsNoAddress}
 use Rattle.osdp_link.specs.Addresses.{StayWhereTheyAre}
 use Rattle.osdp_link.specs.Sessions.{HaveLeft, all_queued, all_submitted, told_in}
 use Rattle.osdp_link.proofs.Lines.{each_all, each_append, each_front, each_of}
@@ -220,7 +220,7 @@ module _ {H : Type 0} (answer_of : H → Command → Answer) (after : H → Comm
         to_controller = none_on behind.to_controller (sym (ap (λ (s : SimState H). s.to_controller) there) ∙ clear.to_controller);
         address = sym (ap (λ (s : SimState H). s.reader.config.address) there) ∙ clear.address ∙ ap (λ (s : SimState H). s.controller.session.config.address) there;
         ready = sym (ap (λ (s : SimState H). s.reader.busy) there) ∙ clear.ready;
-        issued = subst (All NoComset) first_lists.issued clear.issued;
+        issued = subst (All SetsNoAddress) first_lists.issued clear.issued;
       } in
       let moves = subst (λ list. headline.AreMoves answer_of after list behind) (rounds_are m wait clock) then_.moves in
       let found = in_time l ms (moments_of m wait clock) begun range first.moves quiet (are_late m wait clock behind timely.0 timely.1) moves in
@@ -273,12 +273,12 @@ module _ {H : Type 0} (answer_of : H → Command → Answer) (after : H → Comm
       let ended : run answer_of after (all_steps ++ more) start ≡ run answer_of after more (in_bytes behind clock before.account) =
       runs_on all_steps more start ∙ ap (run answer_of after more) there in
       let issued = ap (λ (s : SimState H). s.account.issued) ended ∙ next.carried.issued in
-      let none_before : Each NoComset before.account.issued =
-      each_front NoComset before.account.issued (all_submitted answer_of after (moves_of more clock) behind)
-      (subst (Each NoComset) issued (each_of NoComset (run answer_of after (all_steps ++ more) start).account.issued none)) in
+      let none_before : Each SetsNoAddress before.account.issued =
+      each_front SetsNoAddress before.account.issued (all_submitted answer_of after (moves_of more clock) behind)
+      (subst (Each SetsNoAddress) issued (each_of SetsNoAddress (run answer_of after (all_steps ++ more) start).account.issued none)) in
       let device = is.settings.controller.config_in_range.address in
       let begun = begins answer_of after config handler device in
-      let kept = stays l ms begun first.moves (each_all NoComset (all_submitted answer_of after ms l) (subst (Each NoComset) first.carried.issued none_before)) in
+      let kept = stays l ms begun first.moves (each_all SetsNoAddress (all_submitted answer_of after ms l) (subst (Each SetsNoAddress) first.carried.issued none_before)) in
       let middle = link.run answer_of after (moves_of steps 0) l in
       let at_most = steps_few answer_of after 0 steps 0 l (omega arith, omega arith) in
       let few : AtMost (length steps) middle = (omega (arith, at_most.0), omega (arith, at_most.1)) in
@@ -292,7 +292,7 @@ module _ {H : Type 0} (answer_of : H → Command → Answer) (after : H → Comm
         address = ap (λ (s : SimState H). s.reader.config.address) there ∙ kept.0 ∙ same ∙ sym kept.1
             ∙ sym (ap (λ (s : SimState H). s.controller.session.config.address) there);
         ready = ap (λ (s : SimState H). s.reader.busy) there ∙ quiet.ready;
-        issued = each_all NoComset before.account.issued none_before;
+        issued = each_all SetsNoAddress before.account.issued none_before;
       } in
       let all_within = each_all IsInSession all_steps (each_append IsInSession steps (clear steps) (each_of IsInSession steps within) (tt, losses_within steps)) in
       let on = comes given in_time ranges config handler all_steps m wait is all_within long is_clear lasts in

@@ -3,7 +3,7 @@ use Rattle.std.specs.Prelude.{◌≡◌, ◌≤◌, ℕ, zero, suc, ◌+◌, ◌
 use Rattle.osdp_msg.specs.declared.command.Command.{Command}
 use Rattle.osdp_controller_laws.specs.Calls.{longest_wait}
 use Rattle.osdp_reader.specs.declared.handler.Answer.{Answer}
-use Rattle.osdp_link.specs.Progress.{NoComset}
+use Rattle.osdp_link.specs.Progress.{SetsNoAddress}
 use Rattle.osdp_sim.specs.Account.{Account}
 use Rattle.osdp_sim.specs.Runs.{AreSettings, FitAlong, is_well, run}
 use Rattle.osdp_sim.specs.State.{SimState, set_up}
@@ -37,13 +37,13 @@ abbrev pub ComesOn : ℕ → Account → Account → Type 0
 ComesOn m before a = min (done before + (m - 1)) (length a.issued + length a.queued) ≤ done a
 
 module _ {H : Type 0} where
-  -- nothing is on the line, both ends are at one address, the reader isn't busy, and no COMSET was issued
+  -- nothing is on the line, both ends are at one address, the reader isn't busy, and no COMSET to a device's address was issued
   pub record IsClear (s : SimState H) : Type 0 where
     pub to_reader : s.to_reader ≡ []
     pub to_controller : s.to_controller ≡ []
     pub address : s.reader.config.address ≡ s.controller.session.config.address
     pub ready : s.reader.busy ≡ false
-    pub issued : All NoComset s.account.issued
+    pub issued : All SetsNoAddress s.account.issued
 
   module _ (answer_of : H → Command → Answer) (after : H → Command → H) where
     -- a schedule whose settings are in their ranges, of which no step is refused, and what goes over the line in it fits
@@ -63,11 +63,11 @@ module _ {H : Type 0} where
         last.account.ends ≡ [] → ComesOn m before.account last.account
 
     -- whatever the steps were: behind them the line is cleared, and over m rounds something comes through, where both ends are at one
-    -- address, no COMSET was issued and the session hasn't ended
+    -- address, no COMSET to a device's address was issued and the session hasn't ended
     abbrev pub Recovers : Type 0
     Recovers = (config : SimConfig) (handler : H) (steps : List SimStep) (m wait : ℕ)
         → IsRun config handler ((steps ++ clear steps) ++ rounds m wait)
         → All IsInSession steps → config.reader.address ≡ config.controller.address → longest_wait config.controller ≤ wait
         → let last = run answer_of after ((steps ++ clear steps) ++ rounds m wait) (set_up config handler) in
-        All NoComset last.account.issued → last.account.ends ≡ []
+        All SetsNoAddress last.account.issued → last.account.ends ≡ []
         → min (m - 1) (length last.account.issued + length last.account.queued) ≤ done last.account
