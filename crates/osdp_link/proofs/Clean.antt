@@ -50,7 +50,7 @@ rest_acts due s [] reached =
     subst (λ b. Acts (if b then begins Polling (next_sequence s.number) s [] else stays s [])) (sym (le-leb due s.greatest reached)) refl
 rest_acts due s (c ∷ waiting) reached = refl
 
--- its next POLL is due behind the interval
+-- its next POLL is due after the interval
 abbrev RestsFor : Session → Type 0
 RestsFor s = s.state ≡ Idle (later_by s.config.poll_interval s)
 
@@ -70,7 +70,7 @@ module _ (fixed : ControllerConfig) {H : Type 0} (answer_of : H → Command → 
   abbrev Idles : Link H → Type 0
   Idles l = IsIdle fixed answer_of after settings first l
 
-  -- a link between two rounds: the controller waits for nothing, its next POLL is due behind the interval, and no command was lost
+  -- a link between two rounds: the controller waits for nothing, its next POLL is due after the interval, and no command was lost
   record IsBetween (interval : ℕ) (l : Link H) : Type 0 where
     pub holds : Holds l
     pub idle : Idles l
@@ -99,7 +99,7 @@ module _ (fixed : ControllerConfig) {H : Type 0} (answer_of : H → Command → 
     queued = refl;
   }
 
-  -- the events that the controller has not had behind one round
+  -- the events that the controller has not had after one round
   abbrev left_by : List Command → List Event → List Event
   left_by (c ∷ waiting) events = events
   left_by [] events = drop 1 events

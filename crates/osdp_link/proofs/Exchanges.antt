@@ -1,6 +1,7 @@
--- A whole exchange without losses: what it does, and what both ends are behind it.
-use Rattle.std.proofs.Common.{◌≡◌, ◌≤◌, ℕ, arith, leb, cond, List, [], ◌∷◌, ◌++◌, drop, Some, refl, sym, subst, ap, ◌∙◌}
+-- A whole exchange without losses: what it does, and what both ends are after it.
+use Rattle.std.proofs.Common.{◌≡◌, ◌≤◌, ℕ, arith, leb, cond, List, [], ◌∷◌, ◌++◌, drop, take, Some, refl, sym, subst, ap, ◌∙◌}
 use Rattle.std.proofs.lemmas.Bool.{le-leb}
+use Rattle.std.proofs.lemmas.List.{append-nil}
 use Rattle.std.specs.Prelude.{max, false}
 use Rattle.osdp_frame.specs.Packed.{packed}
 use Rattle.osdp_frame.specs.Packet.{next_sequence}
@@ -57,14 +58,14 @@ begins_next_at state due s waiting is =
     (sym is) (begins_next due s waiting)
 
 module _ {H : Type 0} (answer_of : H → Command → Answer) (after : H → Command → H) where
-  -- the account behind an exchange from rest: the first of the commands that wait is settled, with the answer that the reader gives;
-  -- where none waits the first of these events is reported; where there is none either nothing happens
+  -- the account after an exchange from rest: the first of the commands that wait is taken and settled, with the answer that the reader
+  -- gives; where none waits the first of these events is offered and reported; where there is none either nothing happens
   abbrev pub accounted : List Command → List Event → ReaderState H → Account → Account
   accounted (c ∷ waiting) events r t = record t {
     taken = t.taken ++ c ∷ [];
     settled = t.settled ++ (c, (answer_to answer_of after r.config r.handler c).reply) ∷ [];
   }
-  accounted [] (e ∷ events) r t = record t { reported = t.reported ++ e ∷ [] }
+  accounted [] (e ∷ events) r t = record t { offered = t.offered ++ e ∷ []; reported = t.reported ++ e ∷ [] }
   accounted [] [] r t = t
 
 module _ (fixed : ControllerConfig) {H : Type 0} (answer_of : H → Command → Answer) (after : H → Command → H) (settings : ReaderConfig) (first : H) where
@@ -109,14 +110,14 @@ module _ (fixed : ControllerConfig) {H : Type 0} (answer_of : H → Command → 
       subst (λ ps. SaysWhatFits answer_of after ps l.reader)
       (ap (λ t. (link.ticked t l).to_reader) starts ∙ begun_line now x n rest l still config) fits
 
-  -- the link behind both packets, by the line of the reader's table and by what comes of the frame
+  -- the link after both packets, by the line of the reader's table and by what comes of the frame
   abbrev ended_by : ℕ → Exchange → ℕ → Reply → List Command → Kind → Outcome H → Link H → Link H
   ended_by now x n a rest kind o l = record l {
     controller = record l.controller { session = at_rest (seen now (record (seen now l.controller.session) { number = n })); waiting = rest };
     reader = o.reader;
     to_reader = [];
     to_controller = [];
-    account = told (report_of x a) (link.taken kind o.command l.account);
+    account = told (report_of x a) (link.taken kind o.command (link.front_of l.reader) l.account);
   }
 
   -- ---- the opening
@@ -158,16 +159,17 @@ module _ (fixed : ControllerConfig) {H : Type 0} (answer_of : H → Command → 
   account_is : TellsItsEvent → (waiting : List Command) (events : List Event) (r : ReaderState H) (t : Account) → Each MaySubmit waiting
       → let x = next_exchange waiting in
       let c = exchange_command x in
-      told (report_of x (event_or_answer answer_of after (event_for c events) r.config r.handler c).reply) (link.taken_command c t)
+      told (report_of x (event_or_answer answer_of after (event_for c events) r.config r.handler c).reply) (link.taken_command c (take 1 events) t)
       ≡ accounted answer_of after waiting events r t
-  account_is tells [] [] r t may = refl
-  account_is tells [] (e ∷ events) r t may = ap (λ o. told (poll_told (event_reply e) o) t) (tells e)
+  account_is tells [] [] r t may = ap (λ es. record t { offered = es }) (append-nil t.offered)
+  account_is tells [] (e ∷ events) r t may =
+      ap (λ o. told (poll_told (event_reply e) o) (record t { offered = t.offered ++ e ∷ [] })) (tells e)
   account_is tells (c ∷ waiting) events r t may =
-      ap (λ o. told (Some (report.Settled c (event_or_answer answer_of after o r.config r.handler c).reply)) (link.taken_command c t)) (no_event c events may.0.no_poll)
-      ∙ ap (told (Some (report.Settled c (answer_to answer_of after r.config r.handler c).reply))) (taken_is c t may.0.no_poll)
+      ap (λ o. told (Some (report.Settled c (event_or_answer answer_of after o r.config r.handler c).reply)) (link.taken_command c (take 1 events) t)) (no_event c events may.0.no_poll)
+      ∙ ap (told (Some (report.Settled c (answer_to answer_of after r.config r.handler c).reply))) (taken_is c (take 1 events) t may.0.no_poll)
 
-  -- the link behind an exchange from rest: its command has gone, the reader has acted on it and stores its answer, and the next POLL is
-  -- due behind the interval
+  -- the link after an exchange from rest: its command has gone, the reader has acted on it and stores its answer, and the next POLL is
+  -- due after the interval
   abbrev pub rested_link : ℕ → Link H → Link H
   rested_link now l =
       let n = next_sequence l.controller.session.number in
@@ -186,7 +188,7 @@ module _ (fixed : ControllerConfig) {H : Type 0} (answer_of : H → Command → 
         account = accounted answer_of after l.controller.waiting queue.events l.reader l.account;
       }
 
-  -- the next exchange is asked behind the one before, and moves no reader
+  -- the next exchange is asked after the one before, and moves no reader
   next_asked : (n : ℕ) (y : Exchange) (b : Reply) (waiting : List Command) → Each MaySubmit waiting → IsAsked (After n y b) (next_exchange waiting)
   next_asked n y b [] may = tt
   next_asked n y b (c ∷ waiting) may = may.0
@@ -228,6 +230,6 @@ module _ (fixed : ControllerConfig) {H : Type 0} (answer_of : H → Command → 
         });
         to_reader = [];
         to_controller = [];
-        account = told (report_of x a.reply) (link.taken_command (exchange_command x) l.account);
+        account = told (report_of x a.reply) (link.taken_command (exchange_command x) (link.front_of r) l.account);
       }) (no_address x none)
       ∙ ap (λ t. record (rested_link now l) { account = t }) (account_is given.tells w (released r.queue).events r l.account h.waiting)

@@ -20,7 +20,7 @@ IsOrder (ToController how now) = ⊥
 IsOrder (Reopen now) = ⊥
 
 module _ {H : Type 0} (answer_of : H → Command → Answer) (after : H → Command → H) where
-  -- each of so many rounds settles a command, the oldest first, with the reader's answer to it behind those before it; once all are
+  -- each of so many rounds settles a command, the oldest first, with the reader's answer to it after those before it; once all are
   -- settled each round reports an event, the oldest first
   pub record IsInTurn (config : ReaderConfig) (handler : H) (n : ℕ) (t : Account) : Type 0 where
     pub taken : t.taken ≡ take n t.issued

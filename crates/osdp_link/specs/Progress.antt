@@ -1,6 +1,7 @@
 -- Something comes through: behind m rounds that lose nothing m - 1 more commands and events, or all of them, are settled and reported.
 use Rattle.std.specs.Prelude.{◌≡◌, ◌⊎◌, ◌≤◌, ℕ, ◌+◌, ◌-◌, min, true, false, All, List, [], ◌∷◌, ◌++◌, length, None}
 use Rattle.osdp_msg.specs.declared.command.Command.{Command}
+use Rattle.osdp_controller.specs.Hearing.{comset_of}
 use Rattle.osdp_controller.specs.Machine.{is_due}
 use Rattle.osdp_controller.specs.Sessions.{later as later_by}
 use Rattle.osdp_controller.specs.declared.state.State.TheVariants.{Closed}
@@ -17,6 +18,10 @@ round now = Tick now ∷ ToReader Delivered ∷ ToController Delivered now ∷ [
 abbrev pub rounds : List ℕ → List Move
 rounds [] = []
 rounds (now ∷ later) = round now ++ rounds later
+
+-- no COMSET, to whatever address
+abbrev pub NoComset : Command → Type 0
+NoComset command = comset_of command ≡ None
 
 -- no COMSET to a device's address: a reader refuses any other, and stays where it is
 abbrev pub SetsNoAddress : Command → Type 0

@@ -12,4 +12,5 @@ fn a_session_holds_with_a_door(_rt: HostRuntime) {
     osdp_link::stay_where_they_are::<Door>();
     osdp_link::comes_through::<Door>();
     osdp_link::comes_through_in_time::<Door>();
+    osdp_link::goes_in_turn::<Door>();
 }

@@ -40,22 +40,22 @@ use Rattle.osdp_sim_laws.proofs.Schedules.{Follows, goes_from, goes_on, schedule
 use Rattle.osdp_controller.specs.Machine as controllers
 
 -- the moments of so many rounds
-abbrev moments_of : ℕ → ℕ → ℕ → List ℕ
+abbrev pub moments_of : ℕ → ℕ → ℕ → List ℕ
 moments_of zero wait clock = []
 moments_of (suc m) wait clock = moment_behind wait clock ∷ moments_of m wait (moment_behind wait clock)
 
-count_of : (m wait clock : ℕ) → length (moments_of m wait clock) ≡ m
+pub count_of : (m wait clock : ℕ) → length (moments_of m wait clock) ≡ m
 count_of zero wait clock = refl
 count_of (suc m) wait clock = ap suc (count_of m wait (moment_behind wait clock))
 
 -- the rounds are those of the link
-rounds_are : (m wait clock : ℕ) → moves_of (rounds m wait) clock ≡ progress.rounds (moments_of m wait clock)
+pub rounds_are : (m wait clock : ℕ) → moves_of (rounds m wait) clock ≡ progress.rounds (moments_of m wait clock)
 rounds_are zero wait clock = refl
 rounds_are (suc m) wait clock =
     let now = moment_behind wait clock in
     ap (λ ms. link.Tick now ∷ link.ToReader Delivered ∷ link.ToController Delivered now ∷ ms) (rounds_are m wait now)
 
-rounds_within : (m wait : ℕ) → Each IsInSession (rounds m wait)
+pub rounds_within : (m wait : ℕ) → Each IsInSession (rounds m wait)
 rounds_within zero wait = tt
 rounds_within (suc m) wait = (tt, (tt, (tt, rounds_within m wait)))
 
@@ -95,11 +95,11 @@ module _ {H : Type 0} (answer_of : H → Command → Answer) (after : H → Comm
   clock_fits (ToController move) clock fits = fits
   clock_fits (Reopen number) clock fits = fits
 
-  run_both : (ms ns : List link.Move) (l : Link H) → link.run answer_of after (ms ++ ns) l ≡ link.run answer_of after ns (link.run answer_of after ms l)
+  pub run_both : (ms ns : List link.Move) (l : Link H) → link.run answer_of after (ms ++ ns) l ≡ link.run answer_of after ns (link.run answer_of after ms l)
   run_both [] ns l = refl
   run_both (m ∷ ms) ns l = run_both ms ns (link.after_move answer_of after m l)
 
-  steps_in_time : (wait : ℕ) (steps : List SimStep) (clock : ℕ) (l : Link H) → clock ≤ last_moment → LinkInTime clock wait l
+  pub steps_in_time : (wait : ℕ) (steps : List SimStep) (clock : ℕ) (l : Link H) → clock ≤ last_moment → LinkInTime clock wait l
       → (clock_after steps clock ≤ last_moment) × LinkInTime (clock_after steps clock) wait (link.run answer_of after (moves_of steps clock) l)
   steps_in_time wait [] clock l fits is = (fits, is)
   steps_in_time wait (step ∷ steps) clock l fits is =
@@ -107,27 +107,31 @@ module _ {H : Type 0} (answer_of : H → Command → Answer) (after : H → Comm
       let rest = steps_in_time wait steps now (link.run answer_of after (move_of step clock) l) (clock_fits step clock fits) (step_in_time wait step clock l fits is) in
       (rest.0, subst (LinkInTime (clock_after steps now) wait) (sym (run_both (move_of step clock) (moves_of steps now) l)) rest.1)
 
+  -- a round that loses nothing, at a moment
+  pub round_in_time : (clock now wait : ℕ) (l : Link H) → clock ≤ now → LinkInTime clock wait l → LinkInTime now wait (link.run answer_of after (progress.round now) l)
+  round_in_time clock now wait l on is =
+      let t = link.after_move answer_of after (link.Tick now) l in
+      let heard = link.after_move answer_of after (link.ToReader Delivered) t in
+      let ticked = tick_in_time answer_of after clock now wait l on is in
+      controller_in_time answer_of after now wait Delivered heard.to_controller heard (reader_in_time answer_of after now wait Delivered t.to_reader t ticked)
+
   -- so the rounds are late
   are_late : (m wait clock : ℕ) (l : Link H) → clock ≤ last_moment → LinkInTime clock wait l → progress.AreLate answer_of after (moments_of m wait clock) l
   are_late zero wait clock l fits is = tt
   are_late (suc m) wait clock l fits is =
       let now = moment_behind wait clock in
-      let on = clock_on wait clock fits in
-      let t = link.after_move answer_of after (link.Tick now) l in
-      let heard = link.after_move answer_of after (link.ToReader Delivered) t in
-      let ticked = tick_in_time answer_of after clock now wait l on.0 is in (
+      let on = clock_on wait clock fits in (
         omega (arith, is.0, is.1, fits),
-        are_late m wait now (link.run answer_of after (progress.round now) l) on.1
-            (controller_in_time answer_of after now wait Delivered heard.to_controller heard (reader_in_time answer_of after now wait Delivered t.to_reader t ticked)),
+        are_late m wait now (link.run answer_of after (progress.round now) l) on.1 (round_in_time clock now wait l on.0 is),
       )
 
   -- ---- two schedules, one behind the other
 
-  runs_on : (xs ys : List SimStep) (s : SimState H) → run answer_of after (xs ++ ys) s ≡ run answer_of after ys (run answer_of after xs s)
+  pub runs_on : (xs ys : List SimStep) (s : SimState H) → run answer_of after (xs ++ ys) s ≡ run answer_of after ys (run answer_of after xs s)
   runs_on [] ys s = refl
   runs_on (x ∷ xs) ys s = runs_on xs ys (after_step answer_of after x s)
 
-  well_on : (xs ys : List SimStep) (s : SimState H) → is_well answer_of after (xs ++ ys) s ≡ true
+  pub well_on : (xs ys : List SimStep) (s : SimState H) → is_well answer_of after (xs ++ ys) s ≡ true
       → (is_well answer_of after xs s ≡ true) × (is_well answer_of after ys (run answer_of after xs s) ≡ true)
   well_on [] ys s well = (refl, well)
   well_on (x ∷ xs) ys s well =
@@ -140,7 +144,7 @@ module _ {H : Type 0} (answer_of : H → Command → Answer) (after : H → Comm
       none_and None more none e = e
       none_and (Some cause) more none e = absurd cc
 
-  fits_on : (xs ys : List SimStep) (s : SimState H) → FitAlong answer_of after (xs ++ ys) s
+  pub fits_on : (xs ys : List SimStep) (s : SimState H) → FitAlong answer_of after (xs ++ ys) s
       → FitAlong answer_of after xs s × FitAlong answer_of after ys (run answer_of after xs s)
   fits_on [] ys s fits = (tt, fits)
   fits_on (x ∷ xs) ys s fits =

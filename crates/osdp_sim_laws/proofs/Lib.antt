@@ -1,5 +1,7 @@
+pub mod Accepting
 pub mod Accounts
 pub mod Carrying
+pub mod Clean
 pub mod Clearing
 pub mod Coming
 pub mod Delivering

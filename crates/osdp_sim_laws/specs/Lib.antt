@@ -1,4 +1,6 @@
 pub mod Moves
 pub mod Accounts
 pub mod Progress
+pub mod Accepted
+pub mod Clean
 pub mod OneLink

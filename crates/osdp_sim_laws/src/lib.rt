@@ -1,7 +1,9 @@
 //! What the accounts of schedules come to. The functions do nothing: their contracts are laws.
 #![tactic(auto)]
 
+ghost use Rattle.osdp_sim_laws.specs.Accepted.{AcceptsByRoom};
 ghost use Rattle.osdp_sim_laws.specs.Accounts.{HoldsOnce, StaysInARow};
+ghost use Rattle.osdp_sim_laws.specs.Clean.{GoesInTurn};
 ghost use Rattle.osdp_sim_laws.specs.OneLink.{OneLink};
 ghost use Rattle.osdp_sim_laws.specs.Progress.{ComesThrough, Recovers};
 
@@ -35,9 +37,9 @@ pub fn holds_once<H: Handler>()
     stands_on_one_link::<H>();
 }
 
-/// Behind steps of one session that leave nothing on the line, both ends at one address, the reader not busy and no COMSET issued: over
-/// m rounds that lose nothing, each as long as the longest of the controller's waits or longer, m - 1 more commands and events, or all
-/// of them, are settled and reported, where the session hasn't ended.
+/// After steps of one session that leave nothing on the line, both ends at one address, the reader not busy and no COMSET to a device's
+/// address issued: over m rounds that lose nothing, each as long as the longest of the controller's waits or longer, m - 1 more commands
+/// and events, or all of them, are settled and reported, where the session hasn't ended.
 pub fn comes_through<H: Handler>()
     ensures { ComesThrough H.answer_of H.after }
 {
@@ -47,8 +49,8 @@ pub fn comes_through<H: Handler>()
 }
 
 /// Behind any steps of one session: once the reader is ready and what is on the line is lost, over m such rounds m - 1 commands and
-/// events, or all of them, are settled and reported, where both ends were at one address, no COMSET was issued and the session hasn't
-/// ended.
+/// events, or all of them, are settled and reported, where both ends were at one address, no COMSET to a device's address was issued and
+/// the session hasn't ended.
 pub fn recovers<H: Handler>()
     ensures { Recovers H.answer_of H.after }
 {
@@ -56,4 +58,22 @@ pub fn recovers<H: Handler>()
     osdp_link::comes_through_in_time::<H>();
     osdp_link::stay_where_they_are::<H>();
     osdp_controller_laws::stays_in_range();
+}
+
+/// Whatever a schedule says: of the steps that were taken, all commands for the reader but POLL are issued, and all events for it queued,
+/// where they are at most as many as may wait. Where they are more, the first of them are, as many as may wait, and some of the others,
+/// each once and in their order.
+pub fn accepts_by_room<H: Handler>()
+    ensures { AcceptsByRoom H.answer_of H.after }
+{}
+
+/// Any orders and events, and then rounds without losses: the answer is out of memory, or an account of exactly what each round does, a
+/// command settled, the oldest first, with its own answer, and once all are settled an event reported, the oldest first. Premises:
+/// settings in their ranges, both ends at one address, `quiet_wait` at most 400, `poll_interval` at most 50, and no COMSET to a device's
+/// address issued.
+pub fn goes_in_turn<H: Handler>()
+    ensures { GoesInTurn H.answer_of H.after }
+{
+    stands_on_one_link::<H>();
+    osdp_link::goes_in_turn::<H>();
 }

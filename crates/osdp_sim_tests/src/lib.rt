@@ -4,6 +4,8 @@
 #[cfg(test)]
 mod accounts;
 #[cfg(test)]
+mod clean;
+#[cfg(test)]
 mod refusals;
 #[cfg(test)]
 mod schedules;

@@ -43,7 +43,7 @@ pub fn outcome(rt: &impl Abort, alloc: Global, rows: &str) -> Result<Account, Fa
 }
 
 /// The steps of these rows come to this account.
-fn comes_to(rt: &impl Abort, alloc: Global, rows: &str, text: &str) {
+pub fn comes_to(rt: &impl Abort, alloc: Global, rows: &str, text: &str) {
     let account = outcome(rt, alloc, rows).ok().expect(rt, "an account");
     assert_eq!(rt; account_text(rt, alloc, &account).as_str(), text);
 }

@@ -54,11 +54,33 @@ fn step(rt: &impl Abort, alloc: Global, row: &str) -> SimStep {
     }
 }
 
+/// Time passes, and then nothing is lost.
+fn push_round(rt: &impl Abort, steps: &mut Vec<SimStep>, wait: u64) {
+    steps.push(SimStep::Wait(wait)).expect(rt, "memory");
+    steps
+        .push(SimStep::ToReader(Move::Deliver))
+        .expect(rt, "memory");
+    steps
+        .push(SimStep::ToController(Move::Deliver))
+        .expect(rt, "memory");
+}
+
+/// The opening, and so many rounds.
+fn push_clean(rt: &impl Abort, steps: &mut Vec<SimStep>, rounds: usize) {
+    push_round(rt, steps, 400);
+    for _ in 0..rounds {
+        push_round(rt, steps, 50);
+    }
+}
+
 /// The steps of these rows.
 pub fn steps(rt: &impl Abort, alloc: Global, rows: &str) -> Vec<SimStep> {
     let mut steps = Vec::new(alloc);
     for row in rows.lines() {
-        steps.push(step(rt, alloc, row)).expect(rt, "memory");
+        match row.strip_prefix("clean ") {
+            Some(rounds) => push_clean(rt, &mut steps, rounds.parse().expect(rt, "a count")),
+            None => steps.push(step(rt, alloc, row)).expect(rt, "memory"),
+        }
     }
     steps
 }

@@ -1,0 +1,453 @@
+-- Which orders are accepted: by the room that there is.
+use Rattle.std.proofs.Common.{◌≡◌, ◌⊎◌, ◌≤◌, ◌+◌, ◌-◌, ℕ, zero, suc, arith, Bool, true, false, ◌==◌, if◌then◌else◌, ltb, leb, eqb, List, [], ◌∷◌, ◌++◌, length, take, drop, Option, Some, None, Result, Ok, Err, inl, inr, refl, sym, subst, ap, ◌∙◌, append_assoc}
+use Rattle.std.proofs.lemmas.Bool.{le-ltb, lt-ltb}
+use Rattle.std.proofs.lemmas.Bool.Decides.{eqb_tells, leb_tells}
+use Rattle.std.proofs.lemmas.List.{append-nil, length-append, take_all}
+use Rattle.osdp_frame.specs.Packet.{Packet, next_sequence}
+use Rattle.osdp_msg.specs.declared.command.Command.{Command}
+use Rattle.osdp_msg.specs.declared.command.Command.TheVariants as command
+use Rattle.osdp_msg.specs.declared.event.Event.{Event}
+use Rattle.osdp_msg.specs.declared.fault.MsgFault.{MsgFault}
+use Rattle.osdp_controller.specs.Hearing as controller
+use Rattle.osdp_controller.specs.Machine as controllers
+use Rattle.osdp_controller.specs.Machine.{Machine}
+use Rattle.osdp_controller.specs.Ticking.{Ticked, begins, gives_up, sends_frame, stays, ticks, ticks_in, tries_again}
+use Rattle.osdp_controller.specs.declared.exchange.Exchange.TheVariants.{Opening, Polling}
+use Rattle.osdp_controller.specs.declared.fault.ControllerFault.{ControllerFault}
+use Rattle.osdp_controller.specs.declared.fault.ControllerFault.TheVariants.{Full}
+use Rattle.osdp_controller.specs.declared.session.Session.{Session}
+use Rattle.osdp_controller.specs.declared.state.State.{State}
+use Rattle.osdp_controller.specs.declared.state.State.TheVariants.{Closed, Quiet, Idle, Waiting, Pausing}
+use Rattle.osdp_reader.specs.Queue.{Queue as EventQueue}
+use Rattle.osdp_reader.specs.State.{ReaderState}
+use Rattle.osdp_reader.specs.Table as reader
+use Rattle.osdp_reader.specs.declared.handler.Answer.{Answer}
+use Rattle.osdp_reader.specs.declared.kind.Kind.{Kind}
+use Rattle.osdp_reader.specs.declared.kind.Kind.TheVariants as kind
+use Rattle.osdp_link.specs.Headline.{IsBeginning}
+use Rattle.osdp_link.proofs.Lines.{both}
+use Rattle.osdp_link.proofs.Stages.{Each}
+use Rattle.osdp_sim.specs.Account.{Account}
+use Rattle.osdp_sim.specs.Line.{handed, left, packets_in}
+use Rattle.osdp_sim.specs.Runs.{Stops, run, steps_done}
+use Rattle.osdp_sim.specs.State.{SimState, set_up}
+use Rattle.osdp_sim.specs.Steps as steps
+use Rattle.osdp_sim.specs.Steps.{after_step, controller_hears, moment_behind, reader_hears}
+use Rattle.osdp_sim.specs.declared.account.Account as declared
+use Rattle.osdp_sim.specs.declared.config.SimConfig.{SimConfig}
+use Rattle.osdp_sim.specs.declared.fault.Cause.{Cause}
+use Rattle.osdp_sim.specs.declared.fault.Fault.{Fault}
+use Rattle.osdp_sim.specs.declared.step.Move as way
+use Rattle.osdp_sim.specs.declared.step.SimStep.{SimStep}
+use Rattle.osdp_sim.specs.declared.step.SimStep.TheVariants.{Issue, Queue, Busy, Wait, ToReader, ToController, Reopen}
+use Rattle.osdp_sim_laws.specs.Accepted.{AcceptsByRoom, IsAccepted, IsAmong, but_poll, commands_of, events_of, if_there}
+use Rattle.osdp_sim_laws.specs.Accounts.{account_in}
+use Rattle.osdp_sim_laws.specs.Clean.{IsOrder}
+use Rattle.osdp_sim_laws.proofs.Accounts.{report_leaves}
+
+-- ---- lists that are accepted
+
+-- of all these some are accepted, and come last in a list
+pub record Accepts {A : Type 0} (room : ℕ) (all before behind : List A) : Type 0 where
+  pub new : List A
+  pub list : behind ≡ before ++ new
+  pub among : IsAmong new all
+  pub first : IsBeginning (take room all) new
+
+none_accepted : {A : Type 0} (room : ℕ) (before : List A) → Accepts room [] before before
+none_accepted {A} room before = record { new = []; list = sym (append-nil before); among = refl; first = by_room room }
+  where
+    by_room : (n : ℕ) → IsBeginning (take {A = A} n []) []
+    by_room zero = ([], refl)
+    by_room (suc n) = ([], refl)
+
+one_accepted : {A : Type 0} (room : ℕ) (x : A) (all before behind : List A) → Accepts (room - 1) all (before ++ x ∷ []) behind → Accepts room (x ∷ all) before behind
+one_accepted {A} room x all before behind is = record {
+  new = x ∷ is.new;
+  list = is.list ∙ append_assoc before (x ∷ []) is.new;
+  among = inr (is.new, refl, is.among);
+  first = by_room room is.first;
+}
+  where
+    by_room : (n : ℕ) → IsBeginning (take (n - 1) all) is.new → IsBeginning (take n (x ∷ all)) (x ∷ is.new)
+    by_room zero begins = (x ∷ is.new, refl)
+    by_room (suc n) begins = let less : suc n - 1 ≡ n = omega arith in (begins.0, ap (λ l. x ∷ l) (begins.1 ∙ ap (λ k. take k all ++ begins.0) less))
+
+one_refused : {A : Type 0} (room : ℕ) (x : A) (all before behind : List A) → room ≡ 0 → Accepts room all before behind → Accepts room (x ∷ all) before behind
+one_refused {A} room x all before behind full is = record {
+  new = is.new;
+  list = is.list;
+  among = inl is.among;
+  first = subst (λ k. IsBeginning (take k (x ∷ all)) is.new) (sym full) (is.new, refl);
+}
+
+-- no more than there are
+pub among_few : {A : Type 0} (some all : List A) → IsAmong some all → length some ≤ length all
+among_few some [] none = omega (arith, ap length none)
+among_few some (x ∷ all) (inl is) = omega (arith, among_few some all is)
+among_few some (x ∷ all) (inr (rest, is, more)) = omega (arith, ap length is, among_few rest all more)
+
+no_more : {A : Type 0} (xs : List A) → length xs ≤ 0 → xs ≡ []
+no_more [] few = refl
+no_more (x ∷ xs) few = absurd (omega (arith, few))
+
+pub accepted : {A : Type 0} (room : ℕ) (all behind : List A) → Accepts room all [] behind → IsAccepted room all behind
+accepted {A} room all behind is = record {
+  every = λ fits. by_beginning fits (subst (λ l. IsBeginning l is.new) (take_all room all fits) is.first);
+  first = subst (IsBeginning (take room all)) (sym is.list) is.first;
+  among = subst (λ l. IsAmong l all) (sym is.list) is.among;
+}
+  where
+    by_beginning : length all ≤ room → IsBeginning all is.new → behind ≡ all
+    by_beginning fits (rest, whole) =
+        let many = ap length whole in
+        let none = no_more rest (omega (arith, many, length-append all rest, among_few is.new all is.among)) in
+        is.list ∙ whole ∙ ap (λ l. all ++ l) none ∙ append-nil all
+
+one_less : (n k : ℕ) → n - (k + 1) ≡ n - k - 1
+one_less n k = omega arith
+
+counts : (n m : ℕ) → (n == m) ≡ true → n ≡ m
+counts n m is = elim (eqb_tells n m) [ inl same ↦ same.1 | inr other ↦ absurd (let e = sym is ∙ other.0 in cc) ]
+
+-- ---- what a step leaves
+
+-- a POLL is refused, and any other command where as many wait as there is room for
+pub submit_is : (c : Command) (m : Machine) → ((controllers.submit_refusal c m ≡ None → ⊥) × (but_poll c ≡ []))
+    ⊎ ((controllers.submit_refusal c m ≡ (if ltb (length m.waiting) m.capacity then None else Some Full)) × (but_poll c ≡ c ∷ []))
+submit_is command.Poll m = inl (λ e. absurd cc, refl)
+submit_is (command.Id a) m = inr (refl, refl)
+submit_is (command.Cap a) m = inr (refl, refl)
+submit_is command.LocalStatus m = inr (refl, refl)
+submit_is command.InputStatus m = inr (refl, refl)
+submit_is command.OutputStatus m = inr (refl, refl)
+submit_is command.ReaderStatus m = inr (refl, refl)
+submit_is (command.Output a) m = inr (refl, refl)
+submit_is (command.Led a) m = inr (refl, refl)
+submit_is (command.Buzzer a) m = inr (refl, refl)
+submit_is (command.Text a) m = inr (refl, refl)
+submit_is (command.Comset a) m = inr (refl, refl)
+submit_is (command.Maker a) m = inr (refl, refl)
+
+-- a tick makes no command wait
+abbrev Few : ℕ → Ticked → Type 0
+Few n t = length t.waiting ≤ n
+
+tick_few : (state : State) (s : Session) (w : List Command) → Few (length w) (ticks_in state s w)
+tick_few Closed s w = omega arith
+tick_few (Quiet until) s w = both (Few (length w)) (leb until s.greatest) (begins Opening 0 s w) (stays s w) (omega arith) (omega arith)
+tick_few (Idle due) s [] =
+    both (Few 0) (leb due s.greatest) (begins Polling (next_sequence s.number) s []) (stays s []) (omega arith) (omega arith)
+tick_few (Idle due) s (c ∷ w) = omega arith
+tick_few (Waiting until k o) s w =
+    both (Few (length w)) (leb until s.greatest) (tries_again k o s w) (stays s w)
+    (both (Few (length w)) (ltb k s.config.sends) (sends_frame (k + 1) o s w) (gives_up o s w) (omega arith) (omega arith)) (omega arith)
+tick_few (Pausing until o) s w = both (Few (length w)) (leb until s.greatest) (sends_frame 1 o s w) (stays s w) (omega arith) (omega arith)
+
+-- .. and no packet makes an event wait
+record FewEvents (q p : EventQueue) : Type 0 where
+  pub events : length p.events ≤ length q.events
+  pub capacity : p.capacity ≡ q.capacity
+
+dropped : {A : Type 0} (b : Bool) (xs : List A) → length (if b then drop 1 xs else xs) ≤ length xs
+dropped true [] = omega arith
+dropped true (x ∷ xs) = omega arith
+dropped false xs = omega arith
+
+module _ {H : Type 0} where
+  moved_few : (to : Option ℕ) (q : EventQueue) (r : ReaderState H) → FewEvents q r.queue → FewEvents q (reader.moved to r).queue
+  moved_few None q r is = is
+  moved_few (Some address) q r is =
+      both (λ (s : ReaderState H). FewEvents q s.queue) (eqb address r.config.address) r
+      (record r { config = record r.config { address = address }; last = None; stored = None }) is is
+
+module _ {H : Type 0} (answer_of : H → Command → Answer) (after : H → Command → H) where
+  begun_few : (c : Result Command MsgFault) (r : ReaderState H) (p : Packet) → FewEvents r.queue (reader.begun answer_of after c r p).reader.queue
+  begun_few (Err fault) r p = record { events = omega arith; capacity = refl }
+  begun_few (Ok c) r p = moved_few (reader.new_address c) r.queue _ (record { events = omega arith; capacity = refl })
+
+  taken_few : (c : Result Command MsgFault) (r : ReaderState H) (p : Packet) → FewEvents r.queue (reader.taken answer_of after c r p).reader.queue
+  taken_few (Err fault) r p = record { events = dropped r.queue.offered r.queue.events; capacity = refl }
+  taken_few (Ok c) r p =
+      moved_few (reader.new_address c) r.queue _ (record { events = dropped r.queue.offered r.queue.events; capacity = refl })
+
+  outcome_few : (k : Kind) (r : ReaderState H) (p : Packet) → FewEvents r.queue (reader.outcome answer_of after k r p).reader.queue
+  outcome_few kind.Silent r p = record { events = omega arith; capacity = refl }
+  outcome_few kind.Secured r p = record { events = omega arith; capacity = refl }
+  outcome_few kind.Zero r p = begun_few (reader.command_in p) r p
+  outcome_few kind.Repeat r p = record { events = omega arith; capacity = refl }
+  outcome_few kind.Taken r p = taken_few (reader.command_in p) r p
+  outcome_few kind.Busy r p = record { events = omega arith; capacity = refl }
+  outcome_few kind.Wrong r p = record { events = omega arith; capacity = refl }
+
+  -- nothing is accepted, and no more wait
+  record AcceptsNone (s t : SimState H) : Type 0 where
+    pub waiting : length t.controller.waiting ≤ length s.controller.waiting
+    pub commands : t.controller.capacity ≡ s.controller.capacity
+    pub events : FewEvents s.reader.queue t.reader.queue
+    pub issued : t.account.issued ≡ s.account.issued
+    pub queued : t.account.queued ≡ s.account.queued
+
+  same : (s : SimState H) → AcceptsNone s s
+  same s = record { waiting = omega arith; commands = refl; events = record { events = omega arith; capacity = refl }; issued = refl; queued = refl }
+
+  then_ : (s t u : SimState H) → AcceptsNone s t → AcceptsNone t u → AcceptsNone s u
+  then_ s t u one more = record {
+    waiting = omega (arith, one.waiting, more.waiting);
+    commands = more.commands ∙ one.commands;
+    events = record { events = omega (arith, one.events.events, more.events.events); capacity = more.events.capacity ∙ one.events.capacity };
+    issued = more.issued ∙ one.issued;
+    queued = more.queued ∙ one.queued;
+  }
+
+  reader_none : (packets : List Packet) (s : SimState H) → AcceptsNone s (reader_hears answer_of after packets s)
+  reader_none [] s = same s
+  reader_none (p ∷ packets) s =
+      let t = reader_hears answer_of after (p ∷ []) s in
+      then_ s t (reader_hears answer_of after packets t)
+      (record {
+        waiting = omega arith;
+        commands = refl;
+        events = outcome_few (reader.kind_of s.reader p) s.reader p;
+        issued = refl;
+        queued = refl;
+      })
+      (reader_none packets t)
+
+  controller_none : (packets : List Packet) (s : SimState H) → AcceptsNone s (controller_hears packets s)
+  controller_none [] s = same s
+  controller_none (p ∷ packets) s =
+      let t = controller_hears (p ∷ []) s in
+      let leaves = report_leaves (controller.hears p s.clock s.controller.session).report s.account in
+      then_ s t (controller_hears packets t)
+      (record {
+        waiting = omega arith;
+        commands = refl;
+        events = record { events = omega arith; capacity = refl };
+        issued = leaves.0;
+        queued = leaves.1;
+      })
+      (controller_none packets t)
+
+  where_none : (there : Bool) (s t : SimState H) → AcceptsNone s t → AcceptsNone s (if there then t else s)
+  where_none true s t is = is
+  where_none false s t is = same s
+
+  waits_none : (wait : ℕ) (s : SimState H) → AcceptsNone s (after_step answer_of after (Wait wait) s)
+  waits_none wait s =
+      let now = moment_behind wait s.clock in
+      let t = ticks now s.controller.session s.controller.waiting in
+      let leaves = report_leaves t.step.report s.account in
+      record {
+        waiting = tick_few s.controller.session.state _ s.controller.waiting;
+        commands = refl;
+        events = record { events = omega arith; capacity = refl };
+        issued = leaves.0;
+        queued = leaves.1;
+      }
+
+  busy_none : (number : ℕ) (busy : Bool) (s : SimState H) → AcceptsNone s (after_step answer_of after (Busy number busy) s)
+  busy_none number busy s =
+      where_none (number == 1) s (record s { reader = record s.reader { busy = busy } })
+      (record { waiting = omega arith; commands = refl; events = record { events = omega arith; capacity = refl }; issued = refl; queued = refl })
+
+  reopens_none : (number : ℕ) (s : SimState H) → AcceptsNone s (after_step answer_of after (Reopen number) s)
+  reopens_none number s =
+      where_none (number == 1) s (steps.reopened s)
+      (record { waiting = omega arith; commands = refl; events = record { events = omega arith; capacity = refl }; issued = refl; queued = refl })
+
+  -- what is on the line is no part of it
+  off_the_line : (s t u : SimState H) → t.controller ≡ s.controller → t.reader ≡ s.reader → t.account ≡ s.account → AcceptsNone t u → AcceptsNone s u
+  off_the_line s t u controller reader account is =
+      then_ s t u
+      (record {
+        waiting = omega (arith, ap (λ (m : Machine). length m.waiting) controller);
+        commands = ap (λ (m : Machine). m.capacity) controller;
+        events = record {
+          events = omega (arith, ap (λ (r : ReaderState H). length r.queue.events) reader);
+          capacity = ap (λ (r : ReaderState H). r.queue.capacity) reader;
+        };
+        issued = ap (λ (a : Account). a.issued) account;
+        queued = ap (λ (a : Account). a.queued) account;
+      })
+      is
+
+  to_reader_none : (move : way.Move) (s : SimState H) → AcceptsNone s (after_step answer_of after (ToReader move) s)
+  to_reader_none move s =
+      let t = record s { to_reader = left move s.to_reader } in
+      off_the_line s t (after_step answer_of after (ToReader move) s) refl refl refl (reader_none (packets_in (handed move s.to_reader)) t)
+
+  to_controller_none : (move : way.Move) (s : SimState H) → AcceptsNone s (after_step answer_of after (ToController move) s)
+  to_controller_none move s =
+      let t = record s { to_controller = left move s.to_controller } in
+      off_the_line s t (after_step answer_of after (ToController move) s) refl refl refl (controller_none (packets_in (handed move s.to_controller)) t)
+
+  -- ---- commands
+
+  abbrev AcceptsCommands : ℕ → List SimStep → SimState H → SimState H → Type 0
+  AcceptsCommands k list s last = Accepts (s.controller.capacity - k) (commands_of list) s.account.issued last.account.issued
+
+  carried_commands : (k : ℕ) (list : List SimStep) (s t last : SimState H) → t.controller.capacity ≡ s.controller.capacity → t.account.issued ≡ s.account.issued
+      → AcceptsCommands k list t last → AcceptsCommands k list s last
+  carried_commands k list s t last room issued is =
+      subst (λ n. Accepts (n - k) (commands_of list) s.account.issued last.account.issued) room
+      (subst (λ cs. Accepts (t.controller.capacity - k) (commands_of list) cs last.account.issued) issued is)
+
+  -- so from each state that these steps are taken from
+  abbrev RestAccepts : List SimStep → Type 0
+  RestAccepts list = (k : ℕ) (s : SimState H) → length s.controller.waiting ≤ k → AcceptsCommands k list s (run answer_of after list s)
+
+  quiet_commands : (list : List SimStep) → RestAccepts list → (k : ℕ) (s t : SimState H) → length s.controller.waiting ≤ k → AcceptsNone s t
+      → AcceptsCommands k list s (run answer_of after list t)
+  quiet_commands list rest k s t few is =
+      carried_commands k list s t (run answer_of after list t) is.commands is.issued (rest k t (omega (arith, few, is.waiting)))
+
+  issue_accepts : (number : ℕ) (c : Command) (list : List SimStep) → RestAccepts list → RestAccepts (Issue number c ∷ list)
+  issue_accepts number c list rest k s few = by_number (number == 1)
+    where
+      put : Accepts (s.controller.capacity - k) (c ∷ commands_of list) s.account.issued (run answer_of after list (steps.issued None c s)).account.issued
+      put =
+          let next = steps.issued None c s in
+          one_accepted (s.controller.capacity - k) c (commands_of list) s.account.issued (run answer_of after list next).account.issued
+          (subst (λ n. Accepts n (commands_of list) (s.account.issued ++ c ∷ []) (run answer_of after list next).account.issued) (one_less s.controller.capacity k)
+          (rest (k + 1) next (omega (arith, few, length-append s.controller.waiting (c ∷ [])))))
+
+      by_room : (fault : Option ControllerFault) → fault ≡ (if ltb (length s.controller.waiting) s.controller.capacity then None else Some Full)
+          → Accepts (s.controller.capacity - k) (c ∷ commands_of list) s.account.issued (run answer_of after list (steps.issued fault c s)).account.issued
+      by_room None is = put
+      by_room (Some fault) is = elim (leb_tells s.controller.capacity (length s.controller.waiting)) [
+        | inl full ↦ one_refused (s.controller.capacity - k) c (commands_of list) s.account.issued (run answer_of after list s).account.issued
+            (omega (arith, few, full.1)) (rest k s few)
+        | inr room ↦ absurd (let e = is ∙ ap (λ b. if b then None else Some Full) (lt-ltb (length s.controller.waiting) s.controller.capacity room.1) in cc)
+      ]
+
+      poll : (fault : Option ControllerFault) → (fault ≡ None → ⊥)
+          → Accepts (s.controller.capacity - k) (commands_of list) s.account.issued (run answer_of after list (steps.issued fault c s)).account.issued
+      poll None refused = absurd (refused refl)
+      poll (Some fault) refused = rest k s few
+
+      by_number : (there : Bool) → Accepts (s.controller.capacity - k) ((if there then but_poll c else []) ++ commands_of list) s.account.issued
+          (run answer_of after list (if there then steps.issued (controllers.submit_refusal c s.controller) c s else s)).account.issued
+      by_number false = rest k s few
+      by_number true = elim (submit_is c s.controller) [
+        | inl (refused, none) ↦ subst (λ cs. Accepts (s.controller.capacity - k) (cs ++ commands_of list) s.account.issued
+            (run answer_of after list (steps.issued (controllers.submit_refusal c s.controller) c s)).account.issued) (sym none)
+            (poll (controllers.submit_refusal c s.controller) refused)
+        | inr (is, one) ↦ subst (λ cs. Accepts (s.controller.capacity - k) (cs ++ commands_of list) s.account.issued
+            (run answer_of after list (steps.issued (controllers.submit_refusal c s.controller) c s)).account.issued) (sym one)
+            (by_room (controllers.submit_refusal c s.controller) is)
+      ]
+
+  queue_issues_none : (e : Event) (list : List SimStep) → RestAccepts list → (there full : Bool) (k : ℕ) (s : SimState H) → length s.controller.waiting ≤ k
+      → AcceptsCommands k list s (run answer_of after list (if there then steps.queued full e s else s))
+  queue_issues_none e list rest false full k s few = rest k s few
+  queue_issues_none e list rest true true k s few = rest k s few
+  queue_issues_none e list rest true false k s few = rest k (steps.queued false e s) few
+
+  pub accepts_commands : (list : List SimStep) → RestAccepts list
+  accepts_commands [] k s few = none_accepted (s.controller.capacity - k) s.account.issued
+  accepts_commands (Issue number c ∷ list) k s few = issue_accepts number c list (accepts_commands list) k s few
+  accepts_commands (Queue number e ∷ list) k s few =
+      queue_issues_none e list (accepts_commands list) (number == 1) (length s.reader.queue.events == s.reader.queue.capacity) k s few
+  accepts_commands (Busy number busy ∷ list) k s few =
+      quiet_commands list (accepts_commands list) k s (after_step answer_of after (Busy number busy) s) few (busy_none number busy s)
+  accepts_commands (Wait wait ∷ list) k s few =
+      quiet_commands list (accepts_commands list) k s (after_step answer_of after (Wait wait) s) few (waits_none wait s)
+  accepts_commands (ToReader move ∷ list) k s few =
+      quiet_commands list (accepts_commands list) k s (after_step answer_of after (ToReader move) s) few (to_reader_none move s)
+  accepts_commands (ToController move ∷ list) k s few =
+      quiet_commands list (accepts_commands list) k s (after_step answer_of after (ToController move) s) few (to_controller_none move s)
+  accepts_commands (Reopen number ∷ list) k s few =
+      quiet_commands list (accepts_commands list) k s (after_step answer_of after (Reopen number) s) few (reopens_none number s)
+
+  -- ---- events
+
+  abbrev AcceptsEvents : ℕ → List SimStep → SimState H → SimState H → Type 0
+  AcceptsEvents k list s last = Accepts (s.reader.queue.capacity - k) (events_of list) s.account.queued last.account.queued
+
+  carried_events : (k : ℕ) (list : List SimStep) (s t last : SimState H) → t.reader.queue.capacity ≡ s.reader.queue.capacity → t.account.queued ≡ s.account.queued
+      → AcceptsEvents k list t last → AcceptsEvents k list s last
+  carried_events k list s t last room queued is =
+      subst (λ n. Accepts (n - k) (events_of list) s.account.queued last.account.queued) room
+      (subst (λ es. Accepts (t.reader.queue.capacity - k) (events_of list) es last.account.queued) queued is)
+
+  abbrev RestQueues : List SimStep → Type 0
+  RestQueues list = (k : ℕ) (s : SimState H) → length s.reader.queue.events ≤ k → AcceptsEvents k list s (run answer_of after list s)
+
+  quiet_events : (list : List SimStep) → RestQueues list → (k : ℕ) (s t : SimState H) → length s.reader.queue.events ≤ k → AcceptsNone s t
+      → AcceptsEvents k list s (run answer_of after list t)
+  quiet_events list rest k s t few is =
+      carried_events k list s t (run answer_of after list t) is.events.capacity is.queued (rest k t (omega (arith, few, is.events.events)))
+
+  queue_accepts : (number : ℕ) (e : Event) (list : List SimStep) → RestQueues list → RestQueues (Queue number e ∷ list)
+  queue_accepts number e list rest k s few = by_number (number == 1)
+    where
+      put : Accepts (s.reader.queue.capacity - k) (e ∷ events_of list) s.account.queued (run answer_of after list (steps.queued false e s)).account.queued
+      put =
+          let next = steps.queued false e s in
+          one_accepted (s.reader.queue.capacity - k) e (events_of list) s.account.queued (run answer_of after list next).account.queued
+          (subst (λ n. Accepts n (events_of list) (s.account.queued ++ e ∷ []) (run answer_of after list next).account.queued) (one_less s.reader.queue.capacity k)
+          (rest (k + 1) next (omega (arith, few, length-append s.reader.queue.events (e ∷ [])))))
+
+      by_full : (full : Bool) → (full ≡ true → length s.reader.queue.events ≡ s.reader.queue.capacity)
+          → Accepts (s.reader.queue.capacity - k) (e ∷ events_of list) s.account.queued (run answer_of after list (steps.queued full e s)).account.queued
+      by_full false is = put
+      by_full true is =
+          one_refused (s.reader.queue.capacity - k) e (events_of list) s.account.queued (run answer_of after list s).account.queued
+          (omega (arith, few, is refl)) (rest k s few)
+
+      by_number : (there : Bool) → Accepts (s.reader.queue.capacity - k) ((if there then e ∷ [] else []) ++ events_of list) s.account.queued
+          (run answer_of after list (if there then steps.queued (length s.reader.queue.events == s.reader.queue.capacity) e s else s)).account.queued
+      by_number false = rest k s few
+      by_number true =
+          by_full (length s.reader.queue.events == s.reader.queue.capacity) (counts (length s.reader.queue.events) s.reader.queue.capacity)
+
+  issue_queues_none : (c : Command) (list : List SimStep) → RestQueues list → (there : Bool) (fault : Option ControllerFault) (k : ℕ) (s : SimState H)
+      → length s.reader.queue.events ≤ k → AcceptsEvents k list s (run answer_of after list (if there then steps.issued fault c s else s))
+  issue_queues_none c list rest false fault k s few = rest k s few
+  issue_queues_none c list rest true (Some fault) k s few = rest k s few
+  issue_queues_none c list rest true None k s few = rest k (steps.issued None c s) few
+
+  pub accepts_events : (list : List SimStep) → RestQueues list
+  accepts_events [] k s few = none_accepted (s.reader.queue.capacity - k) s.account.queued
+  accepts_events (Issue number c ∷ list) k s few =
+      issue_queues_none c list (accepts_events list) (number == 1) (controllers.submit_refusal c s.controller) k s few
+  accepts_events (Queue number e ∷ list) k s few = queue_accepts number e list (accepts_events list) k s few
+  accepts_events (Busy number busy ∷ list) k s few =
+      quiet_events list (accepts_events list) k s (after_step answer_of after (Busy number busy) s) few (busy_none number busy s)
+  accepts_events (Wait wait ∷ list) k s few =
+      quiet_events list (accepts_events list) k s (after_step answer_of after (Wait wait) s) few (waits_none wait s)
+  accepts_events (ToReader move ∷ list) k s few =
+      quiet_events list (accepts_events list) k s (after_step answer_of after (ToReader move) s) few (to_reader_none move s)
+  accepts_events (ToController move ∷ list) k s few =
+      quiet_events list (accepts_events list) k s (after_step answer_of after (ToController move) s) few (to_controller_none move s)
+  accepts_events (Reopen number ∷ list) k s few =
+      quiet_events list (accepts_events list) k s (after_step answer_of after (Reopen number) s) few (reopens_none number s)
+
+  -- ---- whatever is answered
+
+  abbrev IsAcceptedIn : SimConfig → List SimStep → Account → Type 0
+  IsAcceptedIn config taken a = IsAccepted config.commands (commands_of taken) a.issued × IsAccepted config.events (events_of taken) a.queued
+
+  from_set_up : (config : SimConfig) (handler : H) (list : List SimStep) → IsAcceptedIn config list (run answer_of after list (set_up config handler)).account
+  from_set_up config handler list =
+      let s = set_up config handler in
+      let last = (run answer_of after list s).account in (
+        accepted config.commands (commands_of list) last.issued
+            (subst (λ n. Accepts n (commands_of list) [] last.issued) (all_of config.commands) (accepts_commands list 0 s (omega arith))),
+        accepted config.events (events_of list) last.queued
+            (subst (λ n. Accepts n (events_of list) [] last.queued) (all_of config.events) (accepts_events list 0 s (omega arith))),
+      )
+    where
+      all_of : (n : ℕ) → n - 0 ≡ n
+      all_of n = omega arith
+
+  pub accepts_by_room : AcceptsByRoom answer_of after
+  accepts_by_room config handler list (Ok account) ends =
+      subst (IsAcceptedIn config list) (sym ends.2) (from_set_up config handler list)
+  accepts_by_room config handler list (Err fault) ends = by_step fault.step fault.cause (account_in (Err fault)) ends
+    where
+      by_step : (at : ℕ) (why : Cause) (lists : Account) → Stops answer_of after at why lists config handler list → IsAcceptedIn config (take (at - 1) list) lists
+      by_step zero why lists stops = subst (IsAcceptedIn config []) (sym stops.1) (from_set_up config handler [])
+      by_step (suc before) why lists stops =
+          subst (IsAcceptedIn config (take (suc before - 1) list)) (sym stops.1.account) (from_set_up config handler (take (suc before - 1) list))

@@ -1,0 +1,402 @@
+-- Schedules without losses, over bytes: which commands are settled and which events are reported.
+use Rattle.std.proofs.Common.{◌≡◌, ◌≤◌, ◌<◌, ◌+◌, ◌-◌, ℕ, zero, suc, arith, Bool, true, false, ◌==◌, if◌then◌else◌, ltb, All, List, [], ◌∷◌, ◌++◌, length, take, drop, Option, Some, None, Result, Ok, Err, inl, inr, refl, sym, subst, ap, ◌∙◌, append_assoc}
+use Rattle.std.proofs.lemmas.Bool.{le-ltb, lt-ltb}
+use Rattle.std.proofs.lemmas.Bool.Decides.{eqb_tells, leb_tells}
+use Rattle.std.proofs.lemmas.List.{append-nil, length-append, length-take}
+use Rattle.osdp_msg.specs.declared.command.Command.{Command}
+use Rattle.osdp_msg.specs.declared.event.Event.{Event}
+use Rattle.osdp_controller.specs.Machine as controllers
+use Rattle.osdp_controller.specs.Machine.{new_machine}
+use Rattle.osdp_controller.specs.States.{is_closed}
+use Rattle.osdp_controller.specs.declared.fault.ControllerFault.{ControllerFault}
+use Rattle.osdp_controller.specs.declared.fault.ControllerFault.TheVariants.{Full}
+use Rattle.osdp_controller_laws.specs.Calls.{longest_wait}
+use Rattle.osdp_reader.specs.declared.handler.Answer.{Answer}
+use Rattle.osdp_link.specs.Clean as clean
+use Rattle.osdp_link.specs.Link as link
+use Rattle.osdp_link.specs.Link.{Delivered, Link}
+use Rattle.osdp_link.specs.Progress as progress
+use Rattle.osdp_link.specs.Progress.{SetsNoAddress}
+use Rattle.osdp_link.specs.Sessions.{all_submitted, told_in}
+use Rattle.osdp_link.specs.Headline as headline
+use Rattle.osdp_link.specs.Headline.{with_answers}
+use Rattle.osdp_link.proofs.Lines.{each_all, each_append, each_front, each_of}
+use Rattle.osdp_link.proofs.Stages.{Each}
+use Rattle.osdp_sim.specs.Account.{Account, lists_of}
+use Rattle.osdp_sim.specs.Runs.{AreSettings, FitAlong, Stops, is_well, run}
+use Rattle.osdp_sim.specs.Schedules.{first_fault}
+use Rattle.osdp_sim.specs.State.{SimState, set_up}
+use Rattle.osdp_sim.specs.Steps as steps
+use Rattle.osdp_sim.specs.Steps.{fault_of, moment_behind}
+use Rattle.osdp_sim.specs.declared.account.Account as declared
+use Rattle.osdp_sim.specs.declared.config.SimConfig.{SimConfig}
+use Rattle.osdp_sim.specs.declared.fault.Cause.{Cause}
+use Rattle.osdp_sim.specs.declared.fault.Cause.TheVariants.{HoldsPacket, NoMemory, NotQuiet, OutOfRange}
+use Rattle.osdp_sim.specs.declared.fault.Fault.{Fault}
+use Rattle.osdp_sim.specs.declared.step.SimStep.{SimStep}
+use Rattle.osdp_sim.specs.declared.step.SimStep.TheVariants.{Issue, Queue, Busy, Wait, ToReader, ToController, Reopen}
+use Rattle.osdp_sim_laws.specs.Accepted.{IsAmong, but_poll, commands_of, events_of}
+use Rattle.osdp_sim_laws.specs.Accounts.{AreOver, IsInSession, all_in}
+use Rattle.osdp_sim_laws.specs.Clean.{GoesInTurn, IsInTurn, IsOrder, clean as clean_rounds}
+use Rattle.osdp_sim_laws.specs.Moves.{clock_after, first_link, in_bytes, moves_of}
+use Rattle.osdp_sim_laws.specs.OneLink.{OneLink}
+use Rattle.osdp_sim_laws.specs.Progress.{IsRun, round, rounds}
+use Rattle.osdp_sim_laws.proofs.Accepting.{Accepts, among_few, accepts_commands, accepts_events, submit_is}
+use Rattle.osdp_sim_laws.proofs.Coming.{count_of, fits_on, moments_of, round_in_time, rounds_are, rounds_within, run_both, runs_on, steps_in_time, well_on}
+use Rattle.osdp_sim_laws.proofs.Ends.{HaveEnded, count, run_ended}
+use Rattle.osdp_sim_laws.proofs.Holding.{IsWithin, begins, goes_from_first, no_account, run_within, steps_within}
+use Rattle.osdp_sim_laws.proofs.Moments.{LinkInTime, clock_on, controller_in_time, last_moment, reader_in_time, tick_in_time}
+use Rattle.osdp_sim_laws.proofs.Schedules.{Follows, GoesFrom, goes_from, goes_on, schedule_follows}
+
+-- ---- orders
+
+order_within : (step : SimStep) → IsOrder step → IsInSession step
+order_within (Issue number c) is = tt
+order_within (Queue number e) is = tt
+order_within (Busy number busy) is = absurd is
+order_within (Wait wait) is = absurd is
+order_within (ToReader move) is = absurd is
+order_within (ToController move) is = absurd is
+order_within (Reopen number) is = absurd is
+
+orders_within : (orders : List SimStep) → Each IsOrder orders → Each IsInSession orders
+orders_within [] are = tt
+orders_within (step ∷ orders) are = (order_within step are.0, orders_within orders are.1)
+
+there_order : (there : Bool) (m : link.Move) → clean.IsOrder m → Each clean.IsOrder (if there then m ∷ [] else [])
+there_order true m is = (is, tt)
+there_order false m is = tt
+
+-- to the link they are orders too, and no time passes
+orders_are : (orders : List SimStep) (clock : ℕ) → Each IsOrder orders → Each clean.IsOrder (moves_of orders clock) × (clock_after orders clock ≡ clock)
+orders_are [] clock are = (tt, refl)
+orders_are (Issue number c ∷ orders) clock are =
+    let rest = orders_are orders clock are.1 in
+    (each_append clean.IsOrder _ (moves_of orders clock) (there_order (number == 1) (link.Submit c) tt) rest.0, rest.1)
+orders_are (Queue number e ∷ orders) clock are =
+    let rest = orders_are orders clock are.1 in
+    (each_append clean.IsOrder _ (moves_of orders clock) (there_order (number == 1) (link.Queue e) tt) rest.0, rest.1)
+orders_are (Busy number busy ∷ orders) clock are = absurd are.0
+orders_are (Wait wait ∷ orders) clock are = absurd are.0
+orders_are (ToReader move ∷ orders) clock are = absurd are.0
+orders_are (ToController move ∷ orders) clock are = absurd are.0
+orders_are (Reopen number ∷ orders) clock are = absurd are.0
+
+-- rounds order nothing
+rounds_order : (m wait : ℕ) → (commands_of (rounds m wait) ≡ []) × (events_of (rounds m wait) ≡ [])
+rounds_order zero wait = (refl, refl)
+rounds_order (suc m) wait = rounds_order m wait
+
+clean_within : (n : ℕ) → Each IsInSession (clean_rounds n)
+clean_within n = (tt, (tt, (tt, rounds_within n 50)))
+
+-- they are the rounds of the link
+clean_are : (n : ℕ) → let opening = moment_behind 400 0 in moves_of (clean_rounds n) 0 ≡ progress.rounds (opening ∷ moments_of n 50 opening)
+clean_are n =
+    let now = moment_behind 400 0 in
+    ap (λ ms. link.Tick now ∷ link.ToReader Delivered ∷ link.ToController Delivered now ∷ ms) (rounds_are n 50 now)
+
+no_more : {A : Type 0} (xs : List A) → length xs ≤ 0 → xs ≡ []
+no_more [] few = refl
+no_more (x ∷ xs) few = absurd (omega (arith, few))
+
+-- where no more are accepted than there is room for, they are the first
+exactly : {A : Type 0} (room : ℕ) (all behind : List A) → Accepts room all [] behind → length behind ≤ room → behind ≡ take room all
+exactly room all behind is few =
+    let rest = is.first.0 in
+    let many = ap length (is.list ∙ is.first.1) in
+    let none = no_more rest (omega (arith, many, few, length-append (take room all) rest, length-take room all, among_few is.new all is.among, ap length is.list)) in
+    is.list ∙ is.first.1 ∙ ap (λ l. take room all ++ l) none ∙ append-nil (take room all)
+
+module _ {H : Type 0} (answer_of : H → Command → Answer) (after : H → Command → H) where
+  -- ---- no step is refused
+
+  abbrev IsUnrefused : SimStep → Type 0
+  IsUnrefused step = (s : SimState H) → fault_of step s ≡ None
+
+  orders_unrefused : (orders : List SimStep) → Each IsOrder orders → Each IsUnrefused orders
+  orders_unrefused [] are = tt
+  orders_unrefused (Issue number c ∷ orders) are = (λ s. refl, orders_unrefused orders are.1)
+  orders_unrefused (Queue number e ∷ orders) are = (λ s. refl, orders_unrefused orders are.1)
+  orders_unrefused (Busy number busy ∷ orders) are = absurd are.0
+  orders_unrefused (Wait wait ∷ orders) are = absurd are.0
+  orders_unrefused (ToReader move ∷ orders) are = absurd are.0
+  orders_unrefused (ToController move ∷ orders) are = absurd are.0
+  orders_unrefused (Reopen number ∷ orders) are = absurd are.0
+
+  rounds_unrefused : (m wait : ℕ) → Each IsUnrefused (rounds m wait)
+  rounds_unrefused zero wait = tt
+  rounds_unrefused (suc m) wait = (λ s. refl, (λ s. refl, (λ s. refl, rounds_unrefused m wait)))
+
+  first_unrefused : (k : ℕ) (list : List SimStep) (s : SimState H) → Each IsUnrefused list → first_fault fault_of (drop k list) s ≡ None
+  first_unrefused zero [] s are = refl
+  first_unrefused zero (step ∷ list) s are = are.0 s
+  first_unrefused (suc k) [] s are = refl
+  first_unrefused (suc k) (step ∷ list) s are = first_unrefused k list s are.1
+
+  -- so where the run stops memory was refused
+  stops_for_memory : (config : SimConfig) (handler : H) (list : List SimStep) → Each IsUnrefused list → AreSettings config
+      → (at : ℕ) (why : Cause) (lists : Account) → Stops answer_of after at why lists config handler list → why ≡ NoMemory
+  stops_for_memory config handler list are settings zero HoldsPacket lists stops = absurd stops.0
+  stops_for_memory config handler list are settings zero NoMemory lists stops = refl
+  stops_for_memory config handler list are settings zero NotQuiet lists stops = absurd stops.0
+  stops_for_memory config handler list are settings zero OutOfRange lists stops = absurd (stops.0 settings)
+  stops_for_memory config handler list are settings (suc before) HoldsPacket lists stops =
+      absurd (let e = sym (first_unrefused (suc before - 1) list _ are) ∙ stops.1.cause in cc)
+  stops_for_memory config handler list are settings (suc before) NoMemory lists stops = refl
+  stops_for_memory config handler list are settings (suc before) NotQuiet lists stops =
+      absurd (let e = sym (first_unrefused (suc before - 1) list _ are) ∙ stops.1.cause in cc)
+  stops_for_memory config handler list are settings (suc before) OutOfRange lists stops = absurd stops.1.cause
+
+  -- ---- what was accepted
+
+  -- no order was taken from where it waits
+  record IsFilled (config : SimConfig) (s : SimState H) : Type 0 where
+    pub commands : s.controller.capacity ≡ config.commands
+    pub events : s.reader.queue.capacity ≡ config.events
+    pub waiting : length s.account.issued ≡ length s.controller.waiting
+    pub queue : length s.account.queued ≡ length s.reader.queue.events
+    pub issued : length s.account.issued ≤ config.commands
+    pub queued : length s.account.queued ≤ config.events
+
+  issued_filled : (config : SimConfig) (fault : Option ControllerFault) (c : Command) (s : SimState H)
+      → (fault ≡ None → length s.controller.waiting < s.controller.capacity) → IsFilled config s → IsFilled config (steps.issued fault c s)
+  issued_filled config (Some fault) c s room h = h
+  issued_filled config None c s room h =
+      let less = room refl in
+      record {
+        commands = h.commands;
+        events = h.events;
+        waiting = omega (arith, h.waiting, length-append s.account.issued (c ∷ []), length-append s.controller.waiting (c ∷ []));
+        queue = h.queue;
+        issued = omega (arith, h.waiting, h.commands, less, length-append s.account.issued (c ∷ []));
+        queued = h.queued;
+      }
+
+  queued_filled : (config : SimConfig) (full : Bool) (e : Event) (s : SimState H)
+      → (full ≡ false → length s.reader.queue.events ≡ s.reader.queue.capacity → ⊥) → IsFilled config s → IsFilled config (steps.queued full e s)
+  queued_filled config true e s room h = h
+  queued_filled config false e s room h =
+      record {
+        commands = h.commands;
+        events = h.events;
+        waiting = h.waiting;
+        queue = omega (arith, h.queue, length-append s.account.queued (e ∷ []), length-append s.reader.queue.events (e ∷ []));
+        issued = h.issued;
+        queued = one_more (length s.account.queued) (length s.reader.queue.events) s.reader.queue.capacity config.events
+            (length (s.account.queued ++ e ∷ [])) h.queue h.events h.queued (length-append s.account.queued (e ∷ [])) (room refl);
+      }
+    where
+      one_more : (a q k n m : ℕ) → a ≡ q → k ≡ n → a ≤ n → m ≡ a + 1 → (q ≡ k → ⊥) → m ≤ n
+      one_more a q k n m same room few more differ = elim (eqb_tells q k) [
+        | inl is ↦ absurd (differ is.1)
+        | inr other ↦ below a q k n m same room few more other.1
+      ]
+        where
+          below : (a q k n m : ℕ) → a ≡ q → k ≡ n → a ≤ n → m ≡ a + 1 → (q ≡ k → ⊥) → m ≤ n
+          below a q k n m same room few more differ = omega (arith, same, room, few, more, differ)
+
+  has_room : (c : Command) (s : SimState H) → controllers.submit_refusal c s.controller ≡ None → length s.controller.waiting < s.controller.capacity
+  has_room c s none = elim (submit_is c s.controller) [
+    | inl (refused, poll) ↦ absurd (refused none)
+    | inr (is, one) ↦ elim (leb_tells s.controller.capacity (length s.controller.waiting)) [
+      | inl full ↦ absurd (let e = sym none ∙ is ∙ ap (λ b. if b then None else Some Full) (le-ltb (length s.controller.waiting) s.controller.capacity full.1) in cc)
+      | inr room ↦ room.1
+    ]
+  ]
+
+  not_full : (n m : ℕ) → (n == m) ≡ false → n ≡ m → ⊥
+  not_full n m is same = elim (eqb_tells n m) [ inl e ↦ absurd (let f = sym is ∙ e.0 in cc) | inr other ↦ other.1 same ]
+
+  there_filled : (config : SimConfig) (there : Bool) (s t : SimState H) → IsFilled config s → IsFilled config t → IsFilled config (if there then t else s)
+  there_filled config true s t before behind = behind
+  there_filled config false s t before behind = before
+
+  orders_filled : (config : SimConfig) (orders : List SimStep) (s : SimState H) → Each IsOrder orders → IsFilled config s → IsFilled config (run answer_of after orders s)
+  orders_filled config [] s are h = h
+  orders_filled config (Issue number c ∷ orders) s are h =
+      let fault = controllers.submit_refusal c s.controller in
+      orders_filled config orders _ are.1
+      (there_filled config (number == 1) s (steps.issued fault c s) h (issued_filled config fault c s (has_room c s) h))
+  orders_filled config (Queue number e ∷ orders) s are h =
+      let full = length s.reader.queue.events == s.reader.queue.capacity in
+      orders_filled config orders _ are.1
+      (there_filled config (number == 1) s (steps.queued full e s) h
+      (queued_filled config full e s (not_full (length s.reader.queue.events) s.reader.queue.capacity) h))
+  orders_filled config (Busy number busy ∷ orders) s are h = absurd are.0
+  orders_filled config (Wait wait ∷ orders) s are h = absurd are.0
+  orders_filled config (ToReader move ∷ orders) s are h = absurd are.0
+  orders_filled config (ToController move ∷ orders) s are h = absurd are.0
+  orders_filled config (Reopen number ∷ orders) s are h = absurd are.0
+
+  -- the orders that were accepted are the first, and the rounds after them accept no more
+  abbrev AreIssued : SimConfig → List SimStep → Account → Type 0
+  AreIssued config orders a = (a.issued ≡ take config.commands (commands_of orders)) × (a.queued ≡ take config.events (events_of orders))
+
+  orders_issued : (config : SimConfig) (handler : H) (orders : List SimStep) → Each IsOrder orders
+      → AreIssued config orders (run answer_of after orders (set_up config handler)).account
+  orders_issued config handler orders are =
+      let s = set_up config handler in
+      let last = (run answer_of after orders s).account in
+      let filled = orders_filled config orders s are
+      (record { commands = refl; events = refl; waiting = refl; queue = refl; issued = omega arith; queued = omega arith }) in (
+        exactly config.commands (commands_of orders) last.issued
+            (subst (λ n. Accepts n (commands_of orders) [] last.issued) (all_of config.commands) (accepts_commands answer_of after orders 0 s (omega arith))) filled.issued,
+        exactly config.events (events_of orders) last.queued
+            (subst (λ n. Accepts n (events_of orders) [] last.queued) (all_of config.events) (accepts_events answer_of after orders 0 s (omega arith))) filled.queued,
+      )
+    where
+      all_of : (n : ℕ) → n - 0 ≡ n
+      all_of n = omega arith
+
+  nothing_new : {A : Type 0} (room : ℕ) (all before behind : List A) → Accepts room all before behind → all ≡ [] → behind ≡ before
+  nothing_new room all before behind is none =
+      let few = among_few is.new all is.among in
+      is.list ∙ ap (λ l. before ++ l) (no_more is.new (omega (arith, few, ap length none))) ∙ append-nil before
+
+  clean_issued : (config : SimConfig) (handler : H) (orders : List SimStep) (n : ℕ) → Each IsOrder orders
+      → AreIssued config orders (run answer_of after (clean_rounds n) (run answer_of after orders (set_up config handler))).account
+  clean_issued config handler orders n are =
+      let s = run answer_of after orders (set_up config handler) in
+      let last = (run answer_of after (clean_rounds n) s).account in
+      let first = orders_issued config handler orders are in
+      let k = length s.controller.waiting in
+      let j = length s.reader.queue.events in (
+        nothing_new (s.controller.capacity - k) (commands_of (clean_rounds n)) s.account.issued last.issued
+            (accepts_commands answer_of after (clean_rounds n) k s (omega arith)) (rounds_order n 50).0 ∙ first.0,
+        nothing_new (s.reader.queue.capacity - j) (events_of (clean_rounds n)) s.account.queued last.queued
+            (accepts_events answer_of after (clean_rounds n) j s (omega arith)) (rounds_order n 50).1 ∙ first.1,
+      )
+
+  -- ---- the lists of one session
+
+  record SameLists (a : Account) (t : link.Account) : Type 0 where
+    pub issued : a.issued ≡ t.issued
+    pub queued : a.queued ≡ t.queued
+    pub taken : a.taken ≡ t.taken
+    pub settled : a.settled ≡ t.settled
+    pub unsettled : a.unsettled ≡ t.unsettled
+    pub reported : a.reported ≡ t.reported
+    pub sessions : length a.sessions ≡ 1
+
+  same_lists : (config : SimConfig) (handler : H) (s : SimState H) (ms : List link.Move) (clock : ℕ)
+      → Follows answer_of after s ms (first_link config handler) clock no_account → Each (IsWithin answer_of after) ms
+      → SameLists s.account (link.run answer_of after ms (first_link config handler)).account
+  same_lists config handler s ms clock follows within =
+      let l = first_link config handler in
+      let behind = link.run answer_of after ms l in
+      let t = behind.account in
+      let none : behind.earlier ≡ [] = run_within answer_of after ms l within in
+      let tells = follows.carried.tells in
+      let over = subst (λ e. AreOver s.account.sessions t.queued e tells.queued.0) none tells.queued.1 in
+      record {
+        issued = tells.issued ∙ ap (λ e. told_in e ++ t.issued) none;
+        queued = tells.queued.2 ∙ ap (λ e. e ++ t.queued) over.1;
+        taken = tells.taken ∙ ap (λ e. all_in (λ t. t.taken) (t ∷ e)) none;
+        settled = tells.settled ∙ ap (λ e. all_in (λ t. t.settled) (t ∷ e)) none;
+        unsettled = tells.unsettled ∙ ap (λ e. all_in (λ t. t.unsettled) (t ∷ e)) none;
+        reported = tells.reported ∙ ap (λ e. all_in (λ t. t.reported) (t ∷ e)) none;
+        sessions = ap length over.0;
+      }
+
+  -- ---- the rounds
+
+  -- each comes so much later than the greatest moment seen
+  are_spaced : (m wait clock longest : ℕ) (l : Link H) → clock ≤ last_moment → LinkInTime clock longest l
+      → clean.AreSpaced answer_of after wait (moments_of m wait clock) l
+  are_spaced zero wait clock longest l fits is = tt
+  are_spaced (suc m) wait clock longest l fits is =
+      let now = moment_behind wait clock in
+      let on = clock_on wait clock fits in (
+        omega (arith, is.0, fits),
+        are_spaced m wait now longest (link.run answer_of after (progress.round now) l) on.1 (round_in_time answer_of after clock now longest l on.0 is),
+      )
+
+  -- a session that isn't over has no end
+  no_end : (s : SimState H) → is_closed s.controller.session.state ≡ false → HaveEnded s → length s.account.sessions ≡ 1 → s.account.ends ≡ []
+  no_end s lasts ended one =
+      no_more s.account.ends (omega (arith, ended ∙ ap (λ b. length s.account.sessions + count b) lasts, one))
+
+  goes : OneLink answer_of after → clean.GoesInTurn answer_of after → (config : SimConfig) (handler : H) (orders : List SimStep) (n : ℕ)
+      → IsRun answer_of after config handler (orders ++ clean_rounds n) → Each IsOrder orders → config.reader.address ≡ config.controller.address
+      → config.controller.quiet_wait ≤ 400 → config.controller.poll_interval ≤ 50
+      → let a = (run answer_of after (orders ++ clean_rounds n) (set_up config handler)).account in
+      Each SetsNoAddress a.issued → IsInTurn answer_of after config handler orders n a
+  goes given law config handler orders n is are same quiet poll none =
+      let l = first_link config handler in
+      let start = set_up config handler in
+      let more = clean_rounds n in
+      let well = well_on answer_of after orders more start is.well in
+      let fits = fits_on answer_of after orders more start is.fits in
+      let device = is.settings.controller.config_in_range.address in
+      let from = goes_from_first answer_of after given config handler device in
+      let first = schedule_follows answer_of after given.reads given.told orders l 0 no_account from well.0 fits.0 in
+      let ms = moves_of orders 0 in
+      let are_moves = orders_are orders 0 are in
+      let behind = link.run answer_of after ms l in
+      let before = run answer_of after orders start in
+      let there : before ≡ in_bytes behind 0 before.account = first.carried.state ∙ ap (λ c. in_bytes behind c before.account) are_moves.1 in
+      let goes_on_from = subst (λ c. GoesFrom answer_of after behind c before.account) are_moves.1
+      (goes_from answer_of after before ms l 0 (clock_after orders 0) no_account from first (run_ended answer_of after given.told orders start well.0 refl)) in
+      let then_ = schedule_follows answer_of after given.reads given.told more behind 0 before.account goes_on_from
+      (subst (λ s. is_well answer_of after more s ≡ true) there well.1) (subst (FitAlong answer_of after more) there fits.1) in
+      let ns = moves_of more 0 in
+      let end = run answer_of after more before in
+      let next = subst (λ s. Follows answer_of after (run answer_of after more s) ns behind (clock_after more 0) before.account) (sym there) then_ in
+      let whole = goes_on answer_of after before end ms ns l (clock_after orders 0) (clock_after more 0) no_account first next in
+      let begun = begins answer_of after config handler device in
+      let kept = steps_within answer_of after orders 0 (orders_within orders are) in
+      let both = each_append (IsWithin answer_of after) ms ns kept (steps_within answer_of after more 0 (clean_within n)) in
+      let ended : run answer_of after (orders ++ more) start ≡ end = runs_on answer_of after orders more start in
+      let all_none = subst (λ s. Each SetsNoAddress s.account.issued) ended none in
+      let first_lists = same_lists config handler before ms (clock_after orders 0) first kept in
+      let none_before = subst (Each SetsNoAddress) first_lists.issued
+      (each_front SetsNoAddress before.account.issued (all_submitted answer_of after ns behind) (subst (Each SetsNoAddress) next.carried.issued all_none)) in
+      let opening = moment_behind 400 0 in
+      let moments = moments_of n 50 opening in
+      let longest = longest_wait config.controller in
+      let timely = steps_in_time answer_of after longest orders 0 l (omega arith) (omega arith, omega arith) in
+      let in_time = subst (λ c. LinkInTime c longest behind) are_moves.1 timely.1 in
+      let on = clock_on 400 0 (omega arith) in
+      let spaced = are_spaced n 50 opening longest (link.run answer_of after (progress.round opening) behind) on.1 (round_in_time answer_of after 0 opening longest behind on.0 in_time) in
+      let moves = subst (λ list. headline.AreMoves answer_of after list behind) (clean_are n) then_.moves in
+      let found = law l ms opening 50 moments begun (each_all clean.IsOrder ms are_moves.0) first.moves same refl (omega (arith, quiet)) poll
+      (each_all SetsNoAddress behind.account.issued none_before) spaced moves in
+      let joined : link.run answer_of after (progress.rounds (opening ∷ moments)) behind ≡ link.run answer_of after (ms ++ ns) l =
+      ap (λ list. link.run answer_of after list behind) (sym (clean_are n)) ∙ sym (run_both answer_of after ms ns l) in
+      let last = link.run answer_of after (ms ++ ns) l in
+      let turn = subst (λ k. clean.IsInTurn answer_of after config.reader handler (length moments) k.account) joined found.0 in
+      let lists = same_lists config handler end (ms ++ ns) (clock_after more 0) whole both in
+      let lasts : is_closed end.controller.session.state ≡ false =
+      ap (λ (s : SimState H). is_closed s.controller.session.state) whole.carried.state ∙ subst (λ k. is_closed k.controller.session.state ≡ false) joined found.1 in
+      let over = subst HaveEnded ended (run_ended answer_of after given.told (orders ++ more) start is.well refl) in
+      let accepted = clean_issued config handler orders n are in
+      subst (λ s. IsInTurn answer_of after config handler orders n s.account) (sym ended)
+      (in_turn config handler orders n end.account last.account (length moments) (count_of n 50 opening) accepted lists turn (no_end end lasts over lists.sessions))
+    where
+      in_turn : (config : SimConfig) (handler : H) (orders : List SimStep) (n : ℕ) (a : Account) (t : link.Account) (m : ℕ) → m ≡ n → AreIssued config orders a → SameLists a t
+          → clean.IsInTurn answer_of after config.reader handler m t → a.ends ≡ [] → IsInTurn answer_of after config handler orders n a
+      in_turn config handler orders n a t m many accepted lists turn none = record {
+        issued = accepted.0;
+        queued = accepted.1;
+        taken = lists.taken ∙ turn.taken ∙ ap (λ k. take k t.issued) many ∙ ap (take n) (sym lists.issued);
+        settled = lists.settled ∙ turn.settled ∙ ap (λ k. with_answers answer_of after config.reader handler (take k t.issued)) many
+            ∙ ap (λ cs. with_answers answer_of after config.reader handler (take n cs)) (sym lists.issued);
+        reported = lists.reported ∙ turn.reported ∙ ap (λ k. take (k - length t.settled) t.queued) many
+            ∙ ap (λ ps. take (n - length ps) t.queued) (sym lists.settled)
+            ∙ ap (take (n - length a.settled)) (sym lists.queued);
+        unsettled = lists.unsettled ∙ turn.unsettled;
+        ends = none;
+      }
+
+  pub goes_in_turn : OneLink answer_of after → clean.GoesInTurn answer_of after → GoesInTurn answer_of after
+  goes_in_turn given law config handler orders n (Ok account) is are settings same quiet poll none =
+      subst (IsInTurn answer_of after config handler orders n) (sym is.ends.2)
+      (goes given law config handler orders n (record { settings = is.ends.0; well = is.ends.1; fits = is.fits }) (each_of IsOrder orders are) same quiet poll
+      (each_of SetsNoAddress (run answer_of after (orders ++ clean_rounds n) (set_up config handler)).account.issued
+      (subst (λ a. All SetsNoAddress a.issued) is.ends.2 none)))
+  goes_in_turn given law config handler orders n (Err fault) is are settings same quiet poll none =
+      stops_for_memory config handler (orders ++ clean_rounds n)
+      (each_append IsUnrefused orders (clean_rounds n) (orders_unrefused orders (each_of IsOrder orders are))
+      (λ s. refl, (λ s. refl, (λ s. refl, rounds_unrefused n 50))))
+      settings fault.step fault.cause (lists_of fault.account) is.ends

@@ -1,0 +1,55 @@
+-- What is accepted: which of the commands that a schedule issues, and which of the events that it queues.
+use Rattle.std.specs.Prelude.{◌≡◌, ◌≤◌, ℕ, ◌==◌, ◌⊎◌, if◌then◌else◌, List, [], ◌∷◌, ◌++◌, length, take, Result}
+use Rattle.osdp_msg.specs.declared.command.Command.{Command}
+use Rattle.osdp_msg.specs.declared.command.Command.TheVariants.{Poll}
+use Rattle.osdp_msg.specs.declared.event.Event.{Event}
+use Rattle.osdp_reader.specs.declared.handler.Answer.{Answer}
+use Rattle.osdp_link.specs.Headline.{IsBeginning}
+use Rattle.osdp_sim.specs.Runs.{RunEnds, steps_done}
+use Rattle.osdp_sim.specs.declared.account.Account as declared
+use Rattle.osdp_sim.specs.declared.config.SimConfig.{SimConfig}
+use Rattle.osdp_sim.specs.declared.fault.Fault.{Fault}
+use Rattle.osdp_sim.specs.declared.step.SimStep.{SimStep}
+use Rattle.osdp_sim.specs.declared.step.SimStep.TheVariants.{Issue, Queue}
+use Rattle.osdp_sim_laws.specs.Accounts.{account_in}
+
+-- what a step orders, where it names the reader that is there
+abbrev pub if_there : {A : Type 0} → ℕ → List A → List A
+if_there number items = if number == 1 then items else []
+
+-- a POLL is no order
+abbrev pub but_poll : Command → List Command
+but_poll Poll = []
+but_poll command = command ∷ []
+
+-- the commands that a schedule issues for the reader, but POLL, and the events that it queues for it, in their order
+abbrev pub commands_of : List SimStep → List Command
+commands_of [] = []
+commands_of (Issue number command ∷ steps) = if_there number (but_poll command) ++ commands_of steps
+commands_of (step ∷ steps) = commands_of steps
+
+abbrev pub events_of : List SimStep → List Event
+events_of [] = []
+events_of (Queue number event ∷ steps) = if_there number (event ∷ []) ++ events_of steps
+events_of (step ∷ steps) = events_of steps
+
+-- some of a list, in its order: the first of it is left out, or comes first
+abbrev pub IsAmong : {A : Type 0} → List A → List A → Type 0
+IsAmong {A} some [] = some ≡ []
+IsAmong {A} some (x ∷ all) = IsAmong some all ⊎ ((rest : List A) × (some ≡ x ∷ rest) × IsAmong rest all)
+
+-- where so many may wait: all are accepted where there is room for all; else the first of them, as many as there is room for, and of
+-- the others some, each once and in their order
+pub record IsAccepted {A : Type 0} (room : ℕ) (all accepted : List A) : Type 0 where
+  pub every : length all ≤ room → accepted ≡ all
+  pub first : IsBeginning (take room all) accepted
+  pub among : IsAmong accepted all
+
+module _ {H : Type 0} (answer_of : H → Command → Answer) (after : H → Command → H) where
+  -- whatever the steps are: of those that were taken these commands were accepted, and these events
+  abbrev pub AcceptsByRoom : Type 0
+  AcceptsByRoom = (config : SimConfig) (handler : H) (steps : List SimStep) (answer : Result declared.Account (Fault declared.Account))
+      → RunEnds answer_of after config handler steps answer
+      → let taken = steps_done steps answer in
+      IsAccepted config.commands (commands_of taken) (account_in answer).issued
+      × IsAccepted config.events (events_of taken) (account_in answer).queued
