@@ -54,26 +54,12 @@ abbrev pub next_exchange : List Command → Exchange
 next_exchange [] = Polling
 next_exchange (c ∷ waiting) = Asking c
 
-pub idle_sends : (due : ℕ) (s : Session) (waiting : List Command) → Acts (ticks_in (Idle due) s waiting)
+idle_sends : (due : ℕ) (s : Session) (waiting : List Command) → Acts (ticks_in (Idle due) s waiting)
     → Sends (next_exchange waiting) (ticks_in (Idle due) s waiting) × ((ticks_in (Idle due) s waiting).waiting ≡ drop 1 waiting)
 idle_sends due s [] does =
     chosen Acts (λ t. Sends Polling t × (t.waiting ≡ [])) (leb due s.greatest) (begins Polling (next_sequence s.number) s []) (stays s [])
     (λ e. (begun Polling (next_sequence s.number) s [], refl)) (λ e. stays_rests s [] e) does
 idle_sends due s (c ∷ rest) does = (begun (Asking c) (next_sequence s.number) s rest, refl)
-
-pub idle_sends_at : (state : State) (due : ℕ) (s : Session) (waiting : List Command) → state ≡ Idle due → Acts (ticks_in state s waiting)
-    → Sends (next_exchange waiting) (ticks_in state s waiting) × ((ticks_in state s waiting).waiting ≡ drop 1 waiting)
-idle_sends_at state due s waiting is =
-    subst (λ st. Acts (ticks_in st s waiting) → Sends (next_exchange waiting) (ticks_in st s waiting) × ((ticks_in st s waiting).waiting ≡ drop 1 waiting))
-    (sym is) (idle_sends due s waiting)
-
--- where nothing is sent or told, nothing was due
-pub nothing_acts : (t : Ticked) → t.step.frame ≡ None → t.step.report ≡ None → Acts t → ⊥
-nothing_acts t silent quiet does =
-    none (sym (ap (λ (p : Option Packet). is_some p || is_some t.step.report) silent ∙ ap (λ (r : Option Report). false || is_some r) quiet) ∙ does)
-  where
-    none : false ≡ true → ⊥
-    none e = absurd cc
 
 due_in : (state : State) (s : Session) (waiting : List Command) → Acts (ticks_in state s waiting) → SendsOrEnds (ticks_in state s waiting)
 due_in Closed s waiting does = stays_rests s waiting does
