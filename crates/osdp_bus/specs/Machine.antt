@@ -42,7 +42,8 @@ bus_fault controllers.NotClosed = NotClosed
 abbrev pub changes_device : ℕ → (Device → Device) → BusState → BusState
 changes_device entry change b =
     option_map_or (λ d. record b {
-        devices = record b.devices { entries = slice_set b.devices.entries entry (change d) } }) (device_of entry b) b
+      devices = record b.devices { entries = slice_set b.devices.entries entry (change d) };
+    }) (device_of entry b) b
 
 -- how a new bus comes about: the settings are judged before memory is asked for
 abbrev pub NewEnds : BusConfig → Result BusState BusFault → Type 0

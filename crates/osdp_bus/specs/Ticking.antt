@@ -20,11 +20,11 @@ abbrev pub ticks_with : ℕ → Option Device → BusState → BusTicked
 ticks_with entry None b = stays b
 ticks_with entry (Some d) b = record {
   bus = record b {
-      devices = record {
-          entries = slice_set b.devices.entries entry (device_ticks b.greatest d);
-          report = waiting_after entry (step_of b.greatest d).report b.devices.report;
-      };
-      first = entry + 1;
+    devices = record {
+      entries = slice_set b.devices.entries entry (device_ticks b.greatest d);
+      report = waiting_after entry (step_of b.greatest d).report b.devices.report;
+    };
+    first = entry + 1;
   };
   sent = (step_of b.greatest d).frame;
 }

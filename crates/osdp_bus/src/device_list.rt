@@ -105,7 +105,9 @@ impl DeviceList {
         ensures capacity { vec_capacity self.new.entries ≡ vec_capacity self.old.entries }
         ensures count { length self.new.entries.items ≡ length self.old.entries.items }
     {
-        let Some(entry) = first_at(self.entries.as_slice(), frame.address().get()) else { return };
+        let Some(entry) = first_at(self.entries.as_slice(), frame.address().get()) else {
+            return
+        };
         let report = self.entries[entry].hear(frame, now);
         self.tell(entry, report);
     }
