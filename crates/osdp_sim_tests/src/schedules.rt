@@ -9,7 +9,8 @@ use osdp_door::Door;
 use osdp_frame::{Address, CheckKind};
 use osdp_msg::{PdCap, PdId};
 use osdp_reader::ReaderConfig;
-use osdp_sim::{Account, Fault, SimConfig, run_session};
+use osdp_session::run_session;
+use osdp_sim::{Account, Fault, Lengths, SimConfig};
 use std::alloc::Global;
 use std::process::Abort;
 
@@ -183,13 +184,10 @@ reported KEYPAD 0 31
     );
 }
 
-/// An event whose answers are lost until the session ends is told again in the next one.
+/// An event whose answers are lost until the session ends is told again in the next one, which begins at these lengths.
 #[test]
 fn an_event_is_told_again(rt: HostRuntime) {
-    comes_to(
-        &rt,
-        rt.alloc(),
-        "queue KEYPAD 0 31
+    let rows = "queue KEYPAD 0 31
 wait 400
 to-reader deliver
 to-controller deliver
@@ -209,13 +207,27 @@ to-reader deliver
 to-controller deliver
 wait 50
 to-reader deliver
-to-controller deliver",
-        "issued 0 taken 0 settled 0 unsettled 0 queued 1 reported 2
+to-controller deliver";
+    let account = outcome(&rt, rt.alloc(), rows)
+        .ok()
+        .expect(&rt, "an account");
+    let text = "issued 0 taken 0 settled 0 unsettled 0 queued 1 reported 2
 reported KEYPAD 0 31
 reported KEYPAD 0 31
 ended no-reply
-",
-    );
+";
+    assert_eq!(rt; account_text(&rt, rt.alloc(), &account).as_str(), text);
+    let second = Lengths {
+        issued: 0,
+        taken: 0,
+        settled: 0,
+        unsettled: 0,
+        queued: 1,
+        reported: 1,
+        ends: 1,
+    };
+    assert_eq!(rt; account.sessions.len(), 2);
+    assert_eq!(rt; account.sessions[1], second);
 }
 
 /// A command that was taken and told unsettled is no command of the next session.
@@ -313,6 +325,53 @@ reported KEYPAD 0 31
     );
 }
 
+/// A repeat is heard and comes again, a loss is neither, and damage isn't heard: in either direction.
+#[test]
+fn the_line_does_as_it_is_told(rt: HostRuntime) {
+    let text = "issued 1 taken 1 settled 1 unsettled 0 queued 0 reported 0
+taken OUT 0:2:0
+settled OUT 0:2:0 = ACK
+";
+    let rows = "issue OUT 0:2:0
+wait 400
+to-reader repeat
+to-controller drop
+to-reader deliver
+to-controller deliver
+wait 50
+to-reader deliver
+to-controller deliver";
+    comes_to(&rt, rt.alloc(), rows, text);
+    let text = "issued 1 taken 1 settled 0 unsettled 0 queued 0 reported 0
+taken OUT 0:2:0
+";
+    let rows = "issue OUT 0:2:0
+wait 400
+to-reader deliver
+to-controller repeat
+wait 50
+to-reader deliver
+to-controller deliver";
+    comes_to(&rt, rt.alloc(), rows, text);
+    let rows = "issue OUT 0:2:0
+wait 400
+to-reader deliver
+to-controller deliver
+wait 50
+to-reader deliver
+to-controller damage 00";
+    comes_to(&rt, rt.alloc(), rows, text);
+    let text = "issued 1 taken 0 settled 0 unsettled 0 queued 0 reported 0
+";
+    let rows = "issue OUT 0:2:0
+wait 400
+to-reader deliver
+to-controller deliver
+wait 50
+to-reader damage 00";
+    comes_to(&rt, rt.alloc(), rows, text);
+}
+
 /// The laws of accounts hold with a door as the reader.
 #[test]
 fn accounts_hold_with_a_door(_rt: HostRuntime) {
@@ -321,4 +380,5 @@ fn accounts_hold_with_a_door(_rt: HostRuntime) {
     osdp_sim_laws::holds_once::<Door>();
     osdp_sim_laws::comes_through::<Door>();
     osdp_sim_laws::recovers::<Door>();
+    osdp_session::holds_in_sessions::<Door>();
 }
