@@ -1,0 +1,15 @@
+//! Tests of `osdp_bus` through its public calls.
+//!
+//! They stand in a crate of their own since a crate with tests is proved twice.
+#![tactic(auto)]
+
+#[cfg(test)]
+mod changes;
+#[cfg(test)]
+mod packets;
+#[cfg(test)]
+mod reservations;
+#[cfg(test)]
+mod rows;
+#[cfg(test)]
+mod turns;
