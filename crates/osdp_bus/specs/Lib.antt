@@ -6,4 +6,5 @@ pub mod Ticking
 pub mod Sending
 pub mod Machine
 pub mod Deadlines
+pub mod Waits
 pub mod Private

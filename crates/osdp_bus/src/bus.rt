@@ -43,6 +43,7 @@ impl Model for Bus {
 
 impl Bus {
     ghost use Rattle.osdp_bus.specs.Buses.{device_of};
+    ghost use Rattle.osdp_bus.specs.Deadlines.{IsDeadline};
     ghost use Rattle.osdp_bus.specs.Hearing.{after_bytes, after_silence};
     ghost use Rattle.osdp_bus.specs.Machine.{AddEnds, NewEnds, after_begin_at, after_next_report, after_retarget_at, after_submit_at, after_withdraw_at, begin_refusal_at, changed_unless, retarget_refusal_at, submit_refusal_at, unless_refused, withdrawal_at};
     ghost use Rattle.osdp_bus.specs.Sending.{IsSentAs};
@@ -171,6 +172,15 @@ impl Bus {
             Some(frame) => Some(frame.encode()),
             None => None,
         }
+    }
+
+    /// The moment at which `tick` is to be called next, if no call comes before: from then on it gives a burst, leaves a report
+    /// or ends a run in which bytes are held, and before it doesn't. With bytes held and nobody holding the line that is at
+    /// once. None where a report waits, and where no tick would do anything.
+    pub fn next_deadline(&self) -> Option<u64>
+        ensures { IsDeadline self.now result }
+    {
+        self.line.next_deadline()
     }
 
     /// Takes the report that waits, with the entry of the device whose controller told it.

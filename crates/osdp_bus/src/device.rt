@@ -8,6 +8,7 @@ ghost use Rattle.osdp_bus.specs.declared.fault.BusFault.TheVariants.{NoMemory};
 ghost use Rattle.osdp_bus.specs.Devices.{device_hears, device_ticks, freed_with, holds, is_at, is_device_due, is_reserved, reserved_after, reserved_for, step_of, takes_up, told_of};
 ghost use Rattle.osdp_bus.specs.Machine.{bus_fault, device_begins, device_retargets, device_submits, device_withdraws, new_device, reserved_without, withdrawn_of};
 ghost use Rattle.osdp_bus.specs.Settings.{IsBusConfig};
+ghost use Rattle.osdp_bus.specs.Waits.{IsDueFrom};
 
 use crate::config::BusConfig;
 use crate::fault::BusFault;
@@ -120,6 +121,18 @@ impl Device {
         let command = self.controller.withdraw();
         self.reserved = reserved_without(&command, self.reserved);
         command
+    }
+
+    /// From when on its controller would send or report, but not before this moment. None where it never would.
+    pub(crate) fn deadline(&self, now: u64) -> Option<u64>
+        ensures { IsDueFrom (λ at. is_device_due at self.now) now result }
+    {
+        let deadline = self.controller.next_deadline()?;
+        if self.is_due(now) {
+            Some(now)
+        } else {
+            Some(deadline)
+        }
     }
 
     /// A packet comes from the line.

@@ -5,6 +5,7 @@ ghost use Rattle.osdp_bus.specs.Buses.{waiting_after};
 ghost use Rattle.osdp_bus.specs.Devices.{first_around, first_from, holds, is_at, is_device_due, is_taken, is_taken_beside};
 ghost use Rattle.osdp_bus.specs.Hearing.{hears_item, hears_packet};
 ghost use Rattle.osdp_bus.specs.Private.{devices_of};
+ghost use Rattle.osdp_bus.specs.Waits.{IsDueFrom, any_due, earlier};
 ghost use Rattle.osdp_frame.specs.Shown.{part_of};
 
 use crate::Entry;
@@ -65,6 +66,28 @@ pub(crate) fn next_due(devices: &[Device], first: Entry, now: u64) -> Option<Ent
     match first_due(&devices[first..], first, now) {
         Some(entry) => Some(entry),
         None => first_due(&devices[..first], 0, now),
+    }
+}
+
+/// From when on some device is due, but not before this moment. None where none ever is.
+pub(crate) fn earliest(devices: &[Device], now: u64) -> Option<u64>
+    ensures { IsDueFrom (any_due devices.now) now result }
+{
+    let mut first = None;
+    for device in devices {
+        first = earlier(first, device.deadline(now));
+    }
+    first
+}
+
+/// The earlier of two moments, where there is one.
+pub(crate) fn earlier(a: Option<u64>, b: Option<u64>) -> Option<u64>
+    ensures { result ≡ earlier a b }
+{
+    match (a, b) {
+        (None, b) => b,
+        (Some(a), None) => Some(a),
+        (Some(a), Some(b)) => Some(a.min(b)),
     }
 }
 

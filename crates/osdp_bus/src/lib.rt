@@ -21,6 +21,7 @@
 mod bus;
 mod calls;
 mod config;
+mod deadlines;
 mod device;
 mod device_list;
 mod fault;
