@@ -1,5 +1,5 @@
 -- Runs of bytes that are read item by item and piece by piece.
-use Rattle.std.proofs.Common.{◌≡◌, ◌≢◌, ℕ, ◌+◌, ◌-◌, ◌<◌, ◌≤◌, ◌==◌, ◌&&◌, not, Bool, true, false, cond, min, List, [], ◌∷◌, ◌++◌, length, take, drop, Option, Some, None, refl, sym, subst, ap, ◌∙◌, arith, append_assoc, append-nil, length-append, length-drop, take-append-drop}
+use Rattle.std.proofs.Common.{◌≡◌, ℕ, ◌+◌, ◌-◌, ◌<◌, ◌≤◌, ◌==◌, ◌&&◌, not, Bool, true, false, cond, min, List, [], ◌∷◌, ◌++◌, length, take, drop, Some, None, refl, sym, subst, ap, ◌∙◌, arith, append_assoc, append-nil, length-drop, take-append-drop}
 use Rattle.std.proofs.Math.Seq.{drop-drop}
 use Rattle.std.proofs.lemmas.List.{drop-append-le, take_all}
 use Rattle.std.proofs.lemmas.Bool.{ne_eqb, false≢true}
@@ -9,9 +9,9 @@ use Rattle.osdp_frame.specs.Held.{Held, decided, behind, behind_first, after_adv
 use Rattle.osdp_frame.specs.Items.{items, reading, left_over}
 use Rattle.osdp_frame.proofs.Head.{AreBytes-drop}
 use Rattle.osdp_frame.proofs.Decided.{AreBytes-front}
-use Rattle.osdp_frame_laws.proofs.LawsOfSpellings.{AreBytes-append, AreBytes-nil}
-use Rattle.osdp_frame_laws.proofs.OneByOne.{items_behind, items_on, still_ended}
-use Rattle.osdp_frame_laws.proofs.Readings.{decided_nothing, items_undecided, items-append, left_undecided, undecided_small, sizes_reading, is_reading}
+use Rattle.osdp_frame_laws.proofs.LawsOfSpellings.{AreBytes-append}
+use Rattle.osdp_frame_laws.proofs.OneByOne.{items_behind, items_on}
+use Rattle.osdp_frame_laws.proofs.Readings.{decided_nothing, items_undecided, items-append, undecided_small, sizes_reading, is_reading}
 use Rattle.osdp_bus.specs.Buses.{BusState, Devices}
 use Rattle.osdp_bus.specs.Hearing.{ends_run, hears_item, hears_items}
 use Rattle.osdp_bus.specs.Private.{IsHeld, IsRead, rest_of}

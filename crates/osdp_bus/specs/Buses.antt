@@ -1,5 +1,5 @@
 -- What a bus is.
-use Rattle.std.specs.Prelude.{ℕ, ◌+◌, ◌-◌, Bool, max, nat_le, List, [], Option, Some, None, is_some, slice_get}
+use Rattle.std.specs.Prelude.{ℕ, ◌-◌, Bool, max, nat_le, List, [], Option, Some, None, is_some, slice_get}
 use Rattle.osdp_controller.specs.declared.report.Report.{Report}
 use Rattle.osdp_bus.specs.declared.config.BusConfig.{BusConfig}
 use Rattle.osdp_bus.specs.declared.device.Device.{Device}

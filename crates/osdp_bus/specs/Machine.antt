@@ -1,5 +1,5 @@
 -- The calls of a bus's user: when each is refused, and what it changes.
-use Rattle.std.specs.Prelude.{◌≡◌, ◌⊎◌, ℕ, ◌+◌, Bool, true, false, ◌||◌, nat_le, nat_lt, if◌then◌else◌, max, List, [], ◌∷◌, ◌++◌, length, Option, Some, None, is_some, option_map, slice_set, Result, Ok, Err}
+use Rattle.std.specs.Prelude.{◌≡◌, ℕ, Bool, false, ◌||◌, nat_le, nat_lt, if◌then◌else◌, max, [], ◌∷◌, ◌++◌, length, Option, Some, None, is_some, option_map, slice_set, Result, Ok, Err}
 use Rattle.std.specs.Option.{option_map_or}
 use Rattle.osdp_msg.specs.declared.command.Command.{Command}
 use Rattle.osdp_msg.specs.declared.command_fields.Communication.{Communication}
