@@ -229,6 +229,7 @@ fn sixteen_devices_move(rt: HostRuntime) {
         moves(&rt, &mut bus, usize::from(address), address);
     }
     assert_eq!(rt; add(&rt, &mut bus, 0), Err(BusFault::TooMany));
+    assert_eq!(rt; bus.next_deadline(), None);
 }
 
 /// Adds two devices, or is told that there is no memory for one: then the bus is as it was.

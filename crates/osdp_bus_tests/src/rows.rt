@@ -25,6 +25,8 @@ pub enum Row {
     Quiet,
     /// A session begins at a moment.
     Begins(Entry, u64, Result<(), BusFault>),
+    /// The next tick that does something is at this moment.
+    Due(Option<u64>),
 }
 
 /// How the bytes of a row are handed over: those after the first so many come so much later.
@@ -112,6 +114,7 @@ pub fn run(rt: &impl Abort, bus: &mut Bus, rows: &[Row], cut: Cut) {
             Row::Told(entry, expected) => is_told(rt, bus, *entry, expected),
             Row::Quiet => is_told(rt, bus, 0, "none"),
             Row::Begins(entry, now, answer) => assert_eq!(rt; bus.begin(*entry, *now), *answer),
+            Row::Due(moment) => assert_eq!(rt; bus.next_deadline(), *moment),
         }
     }
 }

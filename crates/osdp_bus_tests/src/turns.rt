@@ -20,21 +20,26 @@ const ACK_5: &str = "538507000140E0";
 const ACK_6: &str = "538607000140DF";
 
 /// Two devices open, one after the other, and are polled in turn.
-const TWO: [Row; 21] = [
+const TWO: [Row; 26] = [
     Row::Begins(0, 0, Ok(())),
     Row::Begins(1, 0, Ok(())),
     Row::Begins(1, 7, Err(BusFault::NotClosed)),
     Row::Begins(2, 7, Err(BusFault::NoEntry)),
+    Row::Due(Some(400)),
     Row::Stays(399),
     Row::Sends(400, ID_5),
     Row::Stays(405),
+    Row::Due(Some(600)),
     Row::Hears(410, PDID_5),
+    Row::Due(None),
     Row::Stays(412),
     Row::Told(0, "opened"),
+    Row::Due(Some(412)),
     Row::Sends(420, ID_6),
     Row::Hears(430, PDID_6),
     Row::Told(1, "opened"),
     Row::Stays(440),
+    Row::Due(Some(460)),
     Row::Sends(460, POLL_5),
     Row::Hears(462, ACK_6),
     Row::Stays(463),
@@ -88,10 +93,12 @@ fn a_pause_holds_the_line(rt: HostRuntime) {
         Row::Sends(400, ID_5),
         Row::Hears(410, "538507000079A8"),
         Row::Stays(459),
+        Row::Due(Some(460)),
         Row::Sends(460, ID_5),
         Row::Stays(659),
         Row::Sends(660, ID_5),
         Row::Sends(860, ID_5),
+        Row::Due(Some(1060)),
         Row::Stays(1060),
         Row::Told(0, "lost"),
         Row::Sends(1060, ID_6),
@@ -112,7 +119,9 @@ fn runs_end(rt: HostRuntime) {
         Row::Hears(407, PDID_5),
         Row::Told(0, "opened"),
         Row::Hears(408, "53"),
+        Row::Due(Some(408)),
         Row::Stays(409),
+        Row::Due(Some(457)),
     ];
     let mut bus = new_bus(&rt, rt.alloc(), &[5]);
     run(&rt, &mut bus, &rows, WHOLE);
