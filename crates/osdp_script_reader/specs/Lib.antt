@@ -1,0 +1,4 @@
+pub mod Outputs
+pub mod Handler
+pub mod Identity
+pub mod Laws
