@@ -99,6 +99,19 @@ expect_status 'a full device for many lines' 3 "$write_failed" show < <(yes 5300
 expect_status 'a closed output' 3 "$write_failed" show <<<'53000700006046' >&-
 expect_status 'a closed output that is not written to' 0 '' show </dev/null >&-
 
+# A packet in a pipe that stays open is shown within a second.
+mkfifo "$work/line"
+"$program" show --raw <"$work/line" >"$work/out" &
+exec 7>"$work/line"
+printf '\x53\x00\x07\x00\x00\x60\x46' >&7
+for _ in 1 2 3 4 5 6 7 8 9 10; do
+  [ -s "$work/out" ] && break
+  sleep 0.1
+done
+printf '%s' "$poll" | cmp -s - "$work/out" || { echo 'a line that stays open: its packet is not shown'; failed=1; }
+exec 7>&-
+wait $! || { echo "a line that stays open: status $?"; failed=1; }
+
 # A reader that stops after the first line.
 yes 53000700006046 | head -n 100000 | "$program" show 2>"$work/err" | head -n 1 >"$work/out"
 status=${PIPESTATUS[2]}
