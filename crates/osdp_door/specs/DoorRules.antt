@@ -1,5 +1,5 @@
--- What the door does with its commands.
-use Rattle.std.specs.Prelude.{ℕ, ◌==◌, ◌&&◌, ◌||◌, nat_le, nat_lt, Bool, true, false, List, [], ◌∷◌, slice_set, if◌then◌else◌}
+-- What the door does with its commands, and what its program tells it.
+use Rattle.std.specs.Prelude.{ℕ, ◌==◌, ◌&&◌, nat_le, nat_lt, Bool, true, false, List, [], ◌∷◌, map, slice_index_or, slice_set, if◌then◌else◌}
 use Rattle.osdp_msg.specs.declared.command.Command.{Command}
 use Rattle.osdp_msg.specs.declared.command.Command.TheVariants.{LocalStatus, InputStatus, OutputStatus, ReaderStatus, Output, Led, Buzzer}
 use Rattle.osdp_msg.specs.declared.leds.LedRecord.{LedRecord}
@@ -8,9 +8,30 @@ use Rattle.osdp_msg.specs.declared.outputs.OutputRecord.{OutputRecord}
 use Rattle.osdp_reader.specs.declared.handler.Answer.{Answer}
 use Rattle.osdp_reader.specs.declared.handler.Answer.TheVariants as answer
 use Rattle.osdp_door.specs.declared.door.Door.{Door}
+use Rattle.osdp_door.specs.declared.output.DoorOutput.{DoorOutput}
+use Rattle.osdp_door.specs.Outputs.{controlled, is_on, off, passed}
 
 abbrev pub closed_door : Door
-closed_door = record { outputs = 0 ∷ 0 ∷ 0 ∷ 0 ∷ 0 ∷ 0 ∷ 0 ∷ 0 ∷ []; color = 0; sounds = false }
+closed_door = record {
+  outputs = off ∷ off ∷ off ∷ off ∷ off ∷ off ∷ off ∷ off ∷ [];
+  inputs = 0 ∷ 0 ∷ [];
+  is_tampered = false;
+  has_no_power = false;
+  color = 0;
+  sounds = false;
+}
+
+-- as a reply tells it
+abbrev pub told : Bool → ℕ
+told b = if b then 1 else 0
+
+-- an input that isn't there is none
+abbrev pub with_input : ℕ → Bool → Door → Door
+with_input input active door = record door { inputs = slice_set door.inputs input (told active) }
+
+-- after so many milliseconds
+abbrev pub after_time : ℕ → Door → Door
+after_time milliseconds door = record door { outputs = map (λ o. passed o milliseconds) door.outputs }
 
 -- there are eight outputs, and controls 0 to 6
 abbrev pub is_known : OutputRecord → Bool
@@ -20,29 +41,25 @@ abbrev pub all_known : List OutputRecord → Bool
 all_known [] = true
 all_known (r ∷ rs) = is_known r && all_known rs
 
--- 1, 3 and 6 switch off, 2, 4 and 5 on; a record of an output that isn't there switches none
-abbrev pub switched : List ℕ → OutputRecord → List ℕ
-switched outputs r =
-    if nat_le 8 r.output then outputs
-    else if r.control == 1 || r.control == 3 || r.control == 6 then slice_set outputs r.output 0
-    else if r.control == 2 || r.control == 4 || r.control == 5 then slice_set outputs r.output 1
-    else outputs
+-- a record of an output that isn't there changes none
+abbrev pub switched : List DoorOutput → OutputRecord → List DoorOutput
+switched outputs r = slice_set outputs r.output (controlled (slice_index_or outputs r.output off) r.control r.timer)
 
-abbrev pub outputs_behind : List ℕ → List OutputRecord → List ℕ
-outputs_behind outputs [] = outputs
-outputs_behind outputs (r ∷ rs) = outputs_behind (switched outputs r) rs
+abbrev pub outputs_after : List DoorOutput → List OutputRecord → List DoorOutput
+outputs_after outputs [] = outputs
+outputs_after outputs (r ∷ rs) = outputs_after (switched outputs r) rs
 
--- the last record that sets the permanent colour counts
-abbrev pub color_behind : ℕ → List LedRecord → ℕ
-color_behind color [] = color
-color_behind color (r ∷ rs) = color_behind (if r.permanent_control == 1 then r.permanent_on_color else color) rs
+-- the last record that sets the permanent color counts
+abbrev pub color_after : ℕ → List LedRecord → ℕ
+color_after color [] = color
+color_after color (r ∷ rs) = color_after (if r.permanent_control == 1 then r.permanent_on_color else color) rs
 
 -- OUT is refused as a whole where a record isn't known, and so is what the door hasn't
 abbrev pub door_answer : Door → Command → Answer
-door_answer door LocalStatus = answer.Local 0 0
-door_answer door InputStatus = answer.List (record { items = 0 ∷ [] })
+door_answer door LocalStatus = answer.Local (told door.is_tampered) (told door.has_no_power)
+door_answer door InputStatus = answer.List (record { items = door.inputs })
 door_answer door ReaderStatus = answer.List (record { items = 0 ∷ [] })
-door_answer door OutputStatus = answer.List (record { items = door.outputs })
+door_answer door OutputStatus = answer.List (record { items = map (λ o. told (is_on o)) door.outputs })
 door_answer door (Output records) = if all_known records then answer.Done else answer.Refuse RecordNotProcessed
 door_answer door (Led records) = answer.Done
 door_answer door (Buzzer b) = answer.Done
@@ -50,7 +67,7 @@ door_answer door _ = answer.Refuse RecordNotProcessed
 
 abbrev pub door_after : Door → Command → Door
 door_after door (Output records) =
-    if all_known records then record door { outputs = outputs_behind door.outputs records } else door
-door_after door (Led records) = record door { color = color_behind door.color records }
+    if all_known records then record door { outputs = outputs_after door.outputs records } else door
+door_after door (Led records) = record door { color = color_after door.color records }
 door_after door (Buzzer b) = record door { sounds = b.tone == 2 }
 door_after door _ = door

@@ -1,1 +1,3 @@
+pub mod Outputs
 pub mod DoorRules
+pub mod Laws

@@ -1,10 +1,12 @@
 //! The door.
 
-ghost use Rattle.std.specs.Prelude.{◌≡◌, ◌↔◌, ◌<◌, ◌≤◌, IfOk, IsErrOf, length};
+ghost use Rattle.std.specs.Prelude.{◌≡◌, ◌↔◌, ◌<◌, ◌≤◌, IfOk, IsErrOf, length, map};
 ghost use Rattle.osdp_reader.specs.State.{new_reader};
 ghost use Rattle.osdp_reader.specs.declared.fault.ReaderFault.TheVariants.{OutOfRange};
-ghost use Rattle.osdp_door.specs.DoorRules.{all_known, color_behind, closed_door, is_known, outputs_behind, switched};
+ghost use Rattle.osdp_door.specs.DoorRules.{after_time, all_known, closed_door, color_after, is_known, outputs_after, switched, told, with_input};
+ghost use Rattle.osdp_door.specs.Outputs.{is_on};
 
+use crate::output::DoorOutput;
 use arrayvec::ArrayVec;
 use osdp_msg::{Command, LedRecord, NakReason, OutputRecord};
 use osdp_reader::{Answer, Handler, Reader, ReaderConfig, ReaderFault};
@@ -13,32 +15,75 @@ use std::alloc::Global;
 /// How many events wait until the controller has them.
 const EVENTS: usize = 64;
 
-/// A reader at a door. The device's program reads these fields, by `Reader::handler`, and drives the hardware by them.
+/// A reader at a door. The device's program reads these fields, by `Reader::handler`, and drives the hardware by them; what it sees
+/// itself it sets by the calls below, through `Reader::handler_mut`.
 #[derive(Clone, Copy, Debug, PartialEq, Eq)]
 pub struct Door {
-    /// For each output 1 where it is on, and else 0.
-    pub outputs: [u8; 8],
-    /// The permanent colour of the LED: 0 off, 1 red, 2 green, 3 amber.
+    /// The outputs, as OSTAT tells them and OUT switches them.
+    pub outputs: [DoorOutput; 8],
+    /// For each input 1 where it is active, and else 0, as ISTAT tells them.
+    pub inputs: [u8; 2],
+    /// Whether the device is being tampered with, as LSTAT tells it.
+    pub is_tampered: bool,
+    /// Whether its power has failed, as LSTAT tells it.
+    pub has_no_power: bool,
+    /// The permanent color of the LED: 0 off, 1 red, 2 green, 3 amber.
     pub color: u8,
     /// Whether the buzzer sounds.
     pub sounds: bool,
 }
 
 impl Door {
-    /// All outputs are off, the LED is off, and the buzzer is silent.
+    /// All outputs are off, no input is active, tamper and power are well, the LED is off, and the buzzer is silent.
     pub fn new() -> Door
         ensures { result ≡ closed_door }
     {
         Door {
-            outputs: [0; 8],
+            outputs: [DoorOutput::off(); 8],
+            inputs: [0; 2],
+            is_tampered: false,
+            has_no_power: false,
             color: 0,
             sounds: false,
         }
     }
 
+    /// Input `input`, 0 or 1, is active now, or isn't. Nothing changes where there is no such input.
+    pub fn set_input(&mut self, input: usize, active: bool)
+        ensures { self.new ≡ with_input input active self.old }
+    {
+        if input < 2 {
+            self.inputs[input] = told(active);
+        }
+    }
+
+    /// The device is being tampered with now, or isn't.
+    pub fn set_tamper(&mut self, is_tampered: bool)
+        ensures { self.new ≡ record self.old { is_tampered = is_tampered } }
+    {
+        self.is_tampered = is_tampered;
+    }
+
+    /// The device's power has failed now, or is well.
+    pub fn set_power_failure(&mut self, has_no_power: bool)
+        ensures { self.new ≡ record self.old { has_no_power = has_no_power } }
+    {
+        self.has_no_power = has_no_power;
+    }
+
+    /// So many milliseconds have passed since the last call, by the clock of the device's program. An output whose time has passed is
+    /// again as it is for good.
+    pub fn pass(&mut self, milliseconds: u64)
+        ensures { self.new ≡ after_time milliseconds self.old }
+    {
+        for output in self.outputs.iter_mut() {
+            *output = output.passed(milliseconds);
+        }
+    }
+
     /// Does what the records tell the outputs, in their order.
     fn switch(&mut self, records: &[OutputRecord])
-        ensures { self.new ≡ record self.old { outputs = outputs_behind self.old.outputs records.now } }
+        ensures { self.new ≡ record self.old { outputs = outputs_after self.old.outputs records.now } }
     {
         for record in records {
             self.outputs = switch_one(self.outputs, *record);
@@ -65,25 +110,20 @@ fn are_known(records: &[OutputRecord]) -> bool
     true
 }
 
-/// The outputs behind one record: 1, 3 and 6 switch off, 2, 4 and 5 on.
-fn switch_one(mut outputs: [u8; 8], change: OutputRecord) -> [u8; 8]
+/// The outputs after one record.
+fn switch_one(mut outputs: [DoorOutput; 8], change: OutputRecord) -> [DoorOutput; 8]
     ensures { result ≡ switched outputs change }
 {
     let output = usize::from(change.output);
-    if output >= 8 {
-        return outputs;
-    }
-    match change.control {
-        1 | 3 | 6 => outputs[output] = 0,
-        2 | 4 | 5 => outputs[output] = 1,
-        _ => {}
+    if output < 8 {
+        outputs[output] = outputs[output].controlled(change.control, change.timer);
     }
     outputs
 }
 
-/// The LED's colour behind the records: the last one that sets it counts.
+/// The LED's color after the records: the last one that sets it counts.
 fn color_of(mut color: u8, records: &[LedRecord]) -> u8
-    ensures { result ≡ color_behind color records.now }
+    ensures { result ≡ color_after color records.now }
 {
     for record in records {
         if record.permanent_control == 1 {
@@ -91,6 +131,25 @@ fn color_of(mut color: u8, records: &[LedRecord]) -> u8
         }
     }
     color
+}
+
+/// The byte of a reply that tells it.
+fn told(is_so: bool) -> u8
+    ensures { result ≡ told is_so }
+{
+    u8::from(is_so)
+}
+
+/// For each output the byte that tells whether it is on.
+fn states(outputs: &[DoorOutput]) -> ArrayVec<u8, 1432>
+    requires { length outputs.now ≤ 1432 }
+    ensures { result.items ≡ map (λ o. told (is_on o)) outputs.now }
+{
+    let mut states = ArrayVec::new();
+    for output in outputs {
+        states.push(told(output.is_on()));
+    }
+    states
 }
 
 /// The bytes as a list.
@@ -112,9 +171,10 @@ impl Handler for Door {
 
     fn answer(&mut self, command: &Command) -> Answer {
         match command {
-            Command::LocalStatus => Answer::Local(0, 0),
-            Command::InputStatus | Command::ReaderStatus => Answer::List(list(&[0])),
-            Command::OutputStatus => Answer::List(list(&self.outputs)),
+            Command::LocalStatus => Answer::Local(told(self.is_tampered), told(self.has_no_power)),
+            Command::InputStatus => Answer::List(list(&self.inputs)),
+            Command::OutputStatus => Answer::List(states(&self.outputs)),
+            Command::ReaderStatus => Answer::List(list(&[0])),
             Command::Output(outputs) => {
                 if !are_known(outputs.records()) {
                     return Answer::Refuse(NakReason::RecordNotProcessed);

@@ -1,6 +1,7 @@
 //! Rows from outside, each call with ample memory, and frames of a peer that is not honest.
 
 mod damage;
+mod withdrawing;
 
 use crate::identity::IDENTITY;
 use crate::packets::{bytes_of, is_spelled};

@@ -14,3 +14,12 @@ fn a_session_holds_with_a_door(_rt: HostRuntime) {
     osdp_link::comes_through_in_time::<Door>();
     osdp_link::goes_in_turn::<Door>();
 }
+
+/// They hold too where the door's inputs change and commands are withdrawn.
+#[test]
+fn a_session_holds_with_a_door_that_changes(_rt: HostRuntime) {
+    osdp_link_changes::holds_once::<Door>();
+    osdp_link_changes::sessions_in_a_row::<Door>();
+    osdp_link_changes::gives_its_answers::<Door>();
+    osdp_link_changes::moves_as_before::<Door>();
+}

@@ -1,6 +1,6 @@
 use Rattle.std.proofs.Common.{◌≡◌, drop}
-use Rattle.osdp_door.specs.DoorRules.{color_behind}
+use Rattle.osdp_door.specs.DoorRules.{color_after}
 use Rattle.osdp_door.proofs.door.color_of.Given as goal
 
 abbrev pub invariant-loop-record : goal.invariant-loop-record
-invariant-loop-record l = color_behind l.color (drop l.record-index l.records) ≡ color_behind l.fn.color l.records
+invariant-loop-record l = color_after l.color (drop l.record-index l.records) ≡ color_after l.fn.color l.records
