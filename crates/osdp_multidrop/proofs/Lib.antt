@@ -1,3 +1,11 @@
 pub mod Sites
 pub mod Hearing
 pub mod Moving
+pub mod Apart
+pub mod Changing
+pub mod Linked
+pub mod Calling
+pub mod Delivering
+pub mod Fitting
+pub mod Running
+pub mod Linking

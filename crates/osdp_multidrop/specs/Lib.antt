@@ -1,2 +1,4 @@
 pub mod Line
 pub mod Views
+pub mod Runs
+pub mod Apart

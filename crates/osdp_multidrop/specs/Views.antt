@@ -64,13 +64,13 @@ module _ {H : Type 0} where
   move_of k s (ToControllers how now) n = front_to_controller k s n.to_controllers how now
   move_of k s (Reopen i now) n = reopens i k n.to_readers n.to_controllers now
 
-  module _ (answer_of : H → Command → Answer) (after : H → Command → H) where
-    -- no other reader is at the address of a packet to the readers, and no other controller at that of one to the controllers
-    pub record HeardByOwn (n : Net H) : Type 0 where
-      pub devices : All (λ (p : ℕ × Packet). p.1.address < 127) n.to_readers
-      pub readers : All (λ (p : ℕ × Packet). (k : ℕ) (s : Site H) → k ≢ p.0 → site_at k n.sites ≡ Some s → s.reader.config.address ≢ p.1.address) n.to_readers
-      pub controllers : All (λ (p : ℕ × Packet). (k : ℕ) (s : Site H) → k ≢ p.0 → site_at k n.sites ≡ Some s → address_of s ≢ p.1.address) n.to_controllers
+  -- no other reader is at the address of a packet to the readers, and no other controller at that of one to the controllers
+  pub record HeardByOwn (n : Net H) : Type 0 where
+    pub devices : All (λ (p : ℕ × Packet). p.1.address < 127) n.to_readers
+    pub readers : All (λ (p : ℕ × Packet). (k : ℕ) (s : Site H) → k ≢ p.0 → site_at k n.sites ≡ Some s → s.reader.config.address ≢ p.1.address) n.to_readers
+    pub controllers : All (λ (p : ℕ × Packet). (k : ℕ) (s : Site H) → k ≢ p.0 → site_at k n.sites ≡ Some s → address_of s ≢ p.1.address) n.to_controllers
 
+  module _ (answer_of : H → Command → Answer) (after : H → Command → H) where
     -- the view of this site after a move of all is the link after what that comes to for it, and so is the address that is kept for it
     pub record IsMoved (k : ℕ) (s : Site H) (moves : List Move) (n next : Net H) : Type 0 where
       pub site : Site H

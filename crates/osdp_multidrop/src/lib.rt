@@ -2,6 +2,8 @@
 //! share. The functions do nothing: their contracts are laws.
 #![tactic(auto)]
 
+ghost use Rattle.osdp_multidrop.specs.Apart.{NobodyElseHears};
+ghost use Rattle.osdp_multidrop.specs.Runs.{EachHoldsOnce, EachIsALink, EachRefusesNoNumber, EachStaysInARow};
 ghost use Rattle.osdp_multidrop.specs.Views.{EachMoveIsItsOwn};
 
 use osdp_reader::Handler;
@@ -12,3 +14,46 @@ use osdp_reader::Handler;
 pub fn each_move_is_its_own<H: Handler>()
     ensures { EachMoveIsItsOwn H.answer_of H.after }
 {}
+
+/// From controllers at different addresses, each with its reader, after every list of moves: nobody else is at such an address. No address
+/// is that of two sites, those that are kept for a COMSET included. A COMSET that takes a reader to another address, and the COM that takes
+/// its controller there, stand after all that others have sent under that address.
+pub fn nobody_else_hears<H: Handler>()
+    ensures { NobodyElseHears H.answer_of H.after }
+{
+    osdp_link::read_each_other::<H>();
+}
+
+/// So after every list of moves each reader and its controller, with what is their own on the line, are their link after the moves that
+/// the list comes to for them.
+pub fn each_is_a_link<H: Handler>()
+    ensures { EachIsALink H.answer_of H.after }
+{
+    osdp_link::read_each_other::<H>();
+}
+
+/// Within each session of each reader, over every list of losses, repeats and detected damage: its commands are taken once and in order,
+/// settled with their own answers, and its events are reported once and in order.
+pub fn each_holds_once<H: Handler>()
+    ensures { EachHoldsOnce H.answer_of H.after }
+{
+    each_is_a_link::<H>();
+    osdp_link::holds_once::<H>();
+}
+
+/// No session of any of them ends because a reader refused a number.
+pub fn each_refuses_no_number<H: Handler>()
+    ensures { EachRefusesNoNumber H.answer_of H.after }
+{
+    each_is_a_link::<H>();
+    osdp_link::refuses_no_number::<H>();
+}
+
+/// Over sessions in a row of each reader: no command that one settled or told unsettled is one of a later session, no event is skipped, and
+/// each beginning tells again one at most.
+pub fn each_stays_in_a_row<H: Handler>()
+    ensures { EachStaysInARow H.answer_of H.after }
+{
+    each_is_a_link::<H>();
+    osdp_link::sessions_in_a_row::<H>();
+}

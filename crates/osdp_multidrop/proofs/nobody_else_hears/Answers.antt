@@ -1,0 +1,5 @@
+use Rattle.osdp_multidrop.proofs.Running.{nobody_else}
+use Rattle.osdp_multidrop.proofs.nobody_else_hears.Goals as goal
+
+pub returns : goal.returns
+returns g c = nobody_else g.H.Handler.answer_of g.H.Handler.after c.read_each_other.ensures
