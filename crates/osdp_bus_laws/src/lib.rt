@@ -1,0 +1,33 @@
+//! What the calls of a bus come to, whatever is called, said apart from the tables. The functions do nothing: their contracts are laws.
+#![tactic(auto)]
+
+ghost use Rattle.osdp_bus_laws.specs.Addresses.{NoAddressOfTwo, ReservationsLast, ReserveTheirComsets};
+ghost use Rattle.osdp_bus_laws.specs.Calls.{Always};
+ghost use Rattle.osdp_bus_laws.specs.Exchanges.{HasOneExchange, KeepsReports};
+
+/// No address is that of, or reserved for, two entries.
+pub fn addresses_have_one_entry()
+    ensures { Always NoAddressOfTwo }
+{}
+
+/// A COMSET that waits or is outstanding is the only one of its entry, and its address is reserved for it.
+pub fn comsets_are_reserved()
+    ensures { Always ReserveTheirComsets }
+{}
+
+/// A reservation begins as a COMSET is accepted. It ends as the COMSET's Settled or Moved arises, as the COMSET is withdrawn or the
+/// device is sent to an address, and at nothing else: no refusal, no other withdrawal, and no report that leaves the COMSET unread
+/// or unsettled.
+pub fn reservations_last()
+    ensures { Always ReservationsLast }
+{}
+
+/// One exchange at most is outstanding on the whole line: that of who holds the line.
+pub fn one_exchange_is_outstanding()
+    ensures { Always HasOneExchange }
+{}
+
+/// A report that waits stays until it is taken, so none is lost.
+pub fn reports_wait()
+    ensures { Always KeepsReports }
+{}
