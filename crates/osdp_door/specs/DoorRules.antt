@@ -1,5 +1,5 @@
 -- What the door does with its commands, and what its program tells it.
-use Rattle.std.specs.Prelude.{ℕ, ◌==◌, ◌&&◌, nat_le, nat_lt, Bool, true, false, List, [], ◌∷◌, map, slice_index_or, slice_set, if◌then◌else◌}
+use Rattle.std.specs.Prelude.{ℕ, ◌==◌, Bool, true, false, List, [], ◌∷◌, map, slice_index_or, slice_set, if◌then◌else◌}
 use Rattle.osdp_msg.specs.declared.command.Command.{Command}
 use Rattle.osdp_msg.specs.declared.command.Command.TheVariants.{LocalStatus, InputStatus, OutputStatus, ReaderStatus, Output, Led, Buzzer}
 use Rattle.osdp_msg.specs.declared.leds.LedRecord.{LedRecord}
@@ -9,6 +9,7 @@ use Rattle.osdp_reader.specs.declared.handler.Answer.{Answer}
 use Rattle.osdp_reader.specs.declared.handler.Answer.TheVariants as answer
 use Rattle.osdp_door.specs.declared.door.Door.{Door}
 use Rattle.osdp_door.specs.declared.output.DoorOutput.{DoorOutput}
+use Rattle.osdp_door.specs.Known.{all_known}
 use Rattle.osdp_door.specs.Outputs.{controlled, is_on, off, passed}
 
 abbrev pub closed_door : Door
@@ -32,14 +33,6 @@ with_input input active door = record door { inputs = slice_set door.inputs inpu
 -- after so many milliseconds
 abbrev pub after_time : ℕ → Door → Door
 after_time milliseconds door = record door { outputs = map (λ o. passed o milliseconds) door.outputs }
-
--- there are eight outputs, and controls 0 to 6
-abbrev pub is_known : OutputRecord → Bool
-is_known r = nat_lt r.output 8 && nat_le r.control 6
-
-abbrev pub all_known : List OutputRecord → Bool
-all_known [] = true
-all_known (r ∷ rs) = is_known r && all_known rs
 
 -- a record of an output that isn't there changes none
 abbrev pub switched : List DoorOutput → OutputRecord → List DoorOutput

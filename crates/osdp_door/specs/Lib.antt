@@ -1,3 +1,4 @@
+pub mod Known
 pub mod Outputs
 pub mod DoorRules
 pub mod Laws

@@ -3,9 +3,10 @@
 ghost use Rattle.std.specs.Prelude.{◌≡◌, ◌↔◌, ◌<◌, ◌≤◌, IfOk, IsErrOf, length, map};
 ghost use Rattle.osdp_reader.specs.State.{new_reader};
 ghost use Rattle.osdp_reader.specs.declared.fault.ReaderFault.TheVariants.{OutOfRange};
-ghost use Rattle.osdp_door.specs.DoorRules.{after_time, all_known, closed_door, color_after, is_known, outputs_after, switched, told, with_input};
+ghost use Rattle.osdp_door.specs.DoorRules.{after_time, closed_door, color_after, outputs_after, switched, told, with_input};
 ghost use Rattle.osdp_door.specs.Outputs.{is_on};
 
+use crate::known::are_known;
 use crate::output::DoorOutput;
 use arrayvec::ArrayVec;
 use osdp_msg::{Command, LedRecord, NakReason, OutputRecord};
@@ -89,25 +90,6 @@ impl Door {
             self.outputs = switch_one(self.outputs, *record);
         }
     }
-}
-
-/// Whether there is such an output and such a control.
-fn is_known(change: OutputRecord) -> bool
-    ensures { result ≡ is_known change }
-{
-    change.output < 8 && change.control <= 6
-}
-
-/// Whether all records are of outputs and controls that there are.
-fn are_known(records: &[OutputRecord]) -> bool
-    ensures { result ≡ all_known records.now }
-{
-    for record in records {
-        if !is_known(*record) {
-            return false;
-        }
-    }
-    true
 }
 
 /// The outputs after one record.

@@ -7,7 +7,8 @@ use Rattle.osdp_msg.specs.declared.command_fields.MakerMessage.{MakerMessage}
 use Rattle.osdp_msg.specs.declared.nak.NakReason.TheVariants.{RecordNotProcessed}
 use Rattle.osdp_reader.specs.declared.handler.Answer.{Answer}
 use Rattle.osdp_reader.specs.declared.handler.Answer.TheVariants as answer
-use Rattle.osdp_script_reader.specs.Outputs.{all_known, outputs_after}
+use Rattle.osdp_door.specs.Known.{all_known}
+use Rattle.osdp_script_reader.specs.Outputs.{outputs_after}
 use Rattle.osdp_script_reader.specs.declared.handler.ScriptReader.{ScriptReader}
 
 -- all outputs are off

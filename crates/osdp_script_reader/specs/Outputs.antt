@@ -1,14 +1,6 @@
 -- What an OUT does to eight outputs.
-use Rattle.std.specs.Prelude.{ℕ, ◌==◌, ◌&&◌, ◌||◌, nat_le, nat_lt, Bool, true, List, [], ◌∷◌, slice_set, if◌then◌else◌}
+use Rattle.std.specs.Prelude.{ℕ, ◌==◌, ◌||◌, nat_le, Bool, List, [], ◌∷◌, slice_set, if◌then◌else◌}
 use Rattle.osdp_msg.specs.declared.outputs.OutputRecord.{OutputRecord}
-
--- there are eight outputs, and controls 0 to 6
-abbrev pub is_known : OutputRecord → Bool
-is_known r = nat_lt r.output 8 && nat_le r.control 6
-
-abbrev pub all_known : List OutputRecord → Bool
-all_known [] = true
-all_known (r ∷ rs) = is_known r && all_known rs
 
 -- 1, 3 and 6 switch off
 abbrev pub switches_off : OutputRecord → Bool

@@ -3,8 +3,9 @@
 ghost use Rattle.std.specs.Prelude.{◌≡◌, ◌≤◌, length};
 ghost use Rattle.osdp_script_reader.specs.Handler.{answer_to_maker, new_handler};
 
-use crate::outputs::{are_known, switch_all};
+use crate::outputs::switch_all;
 use arrayvec::ArrayVec;
+use osdp_door::are_known;
 use osdp_msg::{Command, MakerMessage, NakReason};
 use osdp_reader::{Answer, Handler};
 

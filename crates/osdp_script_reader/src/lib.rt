@@ -1,6 +1,6 @@
 //! The readers of a script: a handler with eight outputs, and what such a reader is.
 //!
-//! Which OUT is refused, and what its records do to the outputs, is a rule of its own (`are_known`, `switch_all`), which other handlers can take over.
+//! What the records of an OUT do to the outputs is a rule of its own (`switch_all`). Which OUT is refused is the rule of `osdp_door`.
 #![tactic(auto)]
 
 mod handler;
@@ -10,4 +10,4 @@ mod outputs;
 
 pub use handler::ScriptReader;
 pub use identity::script_config;
-pub use outputs::{are_known, switch_all};
+pub use outputs::switch_all;

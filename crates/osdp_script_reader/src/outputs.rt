@@ -1,28 +1,9 @@
 //! What an OUT does to eight outputs.
 
 ghost use Rattle.std.specs.Prelude.{◌≡◌};
-ghost use Rattle.osdp_script_reader.specs.Outputs.{all_known, is_known, outputs_after, switched};
+ghost use Rattle.osdp_script_reader.specs.Outputs.{outputs_after, switched};
 
 use osdp_msg::OutputRecord;
-
-/// Whether there is such an output and such a control.
-fn is_known(change: OutputRecord) -> bool
-    ensures { result ≡ is_known change }
-{
-    change.output < 8 && change.control <= 6
-}
-
-/// Whether all records are of outputs 0 to 7 and controls 0 to 6. Else an OUT with them is refused as a whole.
-pub fn are_known(records: &[OutputRecord]) -> bool
-    ensures { result ≡ all_known records.now }
-{
-    for record in records {
-        if !is_known(*record) {
-            return false;
-        }
-    }
-    true
-}
 
 /// The outputs after one record: 1, 3 and 6 switch off, 2, 4 and 5 on, and 0 does nothing.
 fn switch_one(mut outputs: [u8; 8], change: OutputRecord) -> [u8; 8]
