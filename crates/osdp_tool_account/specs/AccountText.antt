@@ -1,0 +1,61 @@
+-- The text of an account: lines, each of which is a list of words.
+use Rattle.std.specs.Prelude.{ℕ, List, [], ◌∷◌, ◌++◌, codes, length, map}
+use Rattle.osdp_controller.specs.declared.report.LostCause.TheVariants.{NoReply, TooBusy, NumberRefused}
+use Rattle.osdp_msg.specs.declared.command.Command.{Command}
+use Rattle.osdp_msg.specs.declared.event.Event.{Event}
+use Rattle.osdp_msg.specs.declared.reply.Reply.{Reply}
+use Rattle.osdp_msg.specs.CommandText.{command_words}
+use Rattle.osdp_msg.specs.Events.{event_words}
+use Rattle.osdp_msg.specs.ReplyText.{reply_words}
+use Rattle.osdp_sim.specs.declared.account.End.{End}
+use Rattle.osdp_sim.specs.declared.account.End.TheVariants.{Lost, Moved}
+use Rattle.osdp_sim.specs.Account.{Account}
+use Rattle.osdp_words.specs.Word.{Word, number, plain, text_of}
+
+-- the counts of the reader of this number
+abbrev pub counts_line : ℕ → Account → List Word
+counts_line reader a =
+    plain (codes "reader") ∷ number reader ∷ plain (codes "issued") ∷ number (length a.issued)
+    ∷ plain (codes "taken") ∷ number (length a.taken) ∷ plain (codes "settled") ∷ number (length a.settled)
+    ∷ plain (codes "unsettled") ∷ number (length a.unsettled) ∷ plain (codes "queued") ∷ number (length a.queued)
+    ∷ plain (codes "reported") ∷ number (length a.reported) ∷ []
+
+-- a command of the list of this name
+abbrev pub command_line : List ℕ → Command → List Word
+command_line name command = plain name ∷ command_words command
+
+-- a command that was settled, and its answer
+abbrev pub settled_line : Command × Reply → List Word
+settled_line (command, answer) = plain (codes "settled") ∷ (command_words command ++ plain (codes "=") ∷ reply_words answer)
+
+abbrev pub reported_line : Event → List Word
+reported_line event = plain (codes "reported") ∷ event_words event
+
+abbrev pub end_name : End → List ℕ
+end_name (Lost NoReply) = codes "no-reply"
+end_name (Lost TooBusy) = codes "too-busy"
+end_name (Lost NumberRefused) = codes "number-refused"
+end_name Moved = codes "moved"
+
+abbrev pub ended_line : End → List Word
+ended_line end = plain (codes "ended") ∷ plain (end_name end) ∷ []
+
+-- the counts, and then the lists in this order; what was issued and what was queued is only counted
+abbrev pub account_lines : ℕ → Account → List (List Word)
+account_lines reader a =
+    counts_line reader a ∷ (map (command_line (codes "taken")) a.taken
+    ++ (map settled_line a.settled
+    ++ (map (command_line (codes "unsettled")) a.unsettled
+    ++ (map reported_line a.reported
+    ++ map ended_line a.ends))))
+
+-- words with one space between each two, and a line feed after them
+abbrev pub line_text : List Word → List ℕ
+line_text words = text_of words ++ codes "\n"
+
+abbrev pub lines_text : List (List Word) → List ℕ
+lines_text [] = []
+lines_text (line ∷ lines) = line_text line ++ lines_text lines
+
+abbrev pub account_text : ℕ → Account → List ℕ
+account_text reader a = lines_text (account_lines reader a)
