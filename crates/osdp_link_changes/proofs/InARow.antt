@@ -16,10 +16,8 @@ use Rattle.osdp_reader.specs.declared.config.ReaderConfig.{ReaderConfig}
 use Rattle.osdp_reader.specs.declared.handler.Answer.{Answer}
 use Rattle.osdp_reader.specs.Table.{answer_to}
 use Rattle.osdp_link.specs.Headline.{Begins, IsBeginning, IsMove, MaySubmit, handler_after, with_answers}
-use Rattle.osdp_link.specs.Link as link
 use Rattle.osdp_link.specs.Link.{Account, Link, Move, Queue as QueueEvent, Reopen, SetBusy, Submit, Tick, ToController, ToReader, after_move}
-use Rattle.osdp_link.specs.Peers.{ReadEachOther}
-use Rattle.osdp_link.specs.Sessions.{Leaves, queued, submitted}
+use Rattle.osdp_link.specs.Sessions.{queued, submitted}
 use Rattle.osdp_link.proofs.Advancing.{HoldsAtSomeStage}
 use Rattle.osdp_link.proofs.Devices.{IsDevice, move_there}
 use Rattle.osdp_link.proofs.Growing.{Grows, goes_on}

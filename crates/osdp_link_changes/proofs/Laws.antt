@@ -1,7 +1,6 @@
 -- The laws, of a device that changes its state: from those of a device that reads its answers from a list.
-use Rattle.std.proofs.Common.{◌≡◌, ℕ, List, [], ◌∷◌, ◌++◌, Option, Some, None, refl, sym, subst, ap, ◌∙◌}
+use Rattle.std.proofs.Common.{◌≡◌, ℕ, List, [], ◌∷◌, ◌++◌, Option, Some, None, refl, subst, ap, ◌∙◌}
 use Rattle.osdp_msg.specs.declared.command.Command.{Command}
-use Rattle.osdp_msg.specs.declared.event.Event.{Event}
 use Rattle.osdp_controller.specs.Machine as controllers
 use Rattle.osdp_controller.specs.declared.fault.ControllerFault.{ControllerFault}
 use Rattle.osdp_frame.specs.Packet.{Packet}
@@ -10,12 +9,11 @@ use Rattle.osdp_link.specs.Headline.{Begins}
 use Rattle.osdp_link.specs.Link as link
 use Rattle.osdp_link.specs.Link.{Link, Move, Queue as QueueEvent, Reopen, SetBusy, Submit, Tick, ToController, ToReader}
 use Rattle.osdp_link.specs.Peers.{ReadEachOther}
-use Rattle.osdp_link.specs.Sessions.{HaveLeft}
 use Rattle.osdp_link.proofs.InARow.{Assumed, assumed}
 use Rattle.osdp_link_changes.specs.Changes as changed
 use Rattle.osdp_link_changes.specs.Changes.{AreChanges, Change, Changed, all_queued, all_submitted, run, session, sessions, unchanged}
-use Rattle.osdp_link_changes.specs.Handlers.{AreAnswersOf, GivesItsAnswers, KeepHandler, MovesAsBefore, as_changes}
-use Rattle.osdp_link_changes.specs.Sessions.{AreInARow, AreOnce, CommandsHavePlaces, EventsHavePlaces, HoldsOnce, LastsOrLeaves, StayInARow, accounts, done_in}
+use Rattle.osdp_link_changes.specs.Handlers.{GivesItsAnswers, MovesAsBefore, as_changes}
+use Rattle.osdp_link_changes.specs.Sessions.{AreInARow, AreOnce, CommandsHavePlaces, EventsHavePlaces, HoldsOnce, LastsOrLeaves, StayInARow}
 use Rattle.osdp_link_changes.proofs.InARow.{Stands, begins, last_one, once_now, running}
 use Rattle.osdp_link_changes.proofs.Places.{Placed, have_places}
 use Rattle.osdp_link_changes.proofs.Simulated.{answers_in, keep_without, simulated, told, told_begins, told_changes, told_link, told_peers, told_queues, told_submits, without}

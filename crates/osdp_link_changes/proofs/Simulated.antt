@@ -14,12 +14,11 @@ use Rattle.osdp_link.specs.Link as link
 use Rattle.osdp_link.specs.Link.{Delivered, Delivery, Link, Lost, Move, Queue as QueueEvent, Reopen, Repeated, SetBusy, Submit, Tick, ToController, ToReader, after_move}
 use Rattle.osdp_link.specs.Peers.{ReadEachOther}
 use Rattle.osdp_link.specs.Sessions.{queued, submitted}
-use Rattle.osdp_link.proofs.InARow.{Assumed, assumed}
 use Rattle.osdp_reader_laws.proofs.PlainReplies.{acted_plain}
 use Rattle.osdp_link_changes.specs.Changes as changed
 use Rattle.osdp_link_changes.specs.Changes.{AreChanges, Change, Changed, Moves, SetHandler, Withdraw, after_change, all_queued, all_submitted, given_at, given_by, given_to_front, queued_by, run, submitted_by}
 use Rattle.osdp_link_changes.specs.Handlers.{KeepHandler}
-use Rattle.osdp_link_changes.proofs.Told.{answer_kind, next_answer, other_answers, told_hears, told_outcome, told_reader}
+use Rattle.osdp_link_changes.proofs.Told.{answer_kind, next_answer, other_answers, told_hears, told_reader}
 
 -- without the device's changes
 abbrev pub without : {H : Type 0} → List (Change H) → List (Change (List Answer))

@@ -6,7 +6,7 @@ use Rattle.osdp_reader.specs.declared.handler.Answer.{Answer}
 use Rattle.osdp_link.specs.Headline.{Begins, handler_after, with_answers}
 use Rattle.osdp_link.specs.Link as link
 use Rattle.osdp_link.specs.Link.{Link, Move}
-use Rattle.osdp_link_changes.specs.Changes.{AreChanges, Change, Changed, Moves, Session, Withdraw, run, sessions, unchanged}
+use Rattle.osdp_link_changes.specs.Changes.{AreChanges, Change, Moves, Session, Withdraw, run, sessions, unchanged}
 use Rattle.osdp_link_changes.specs.Sessions.{accounts}
 
 -- moves, and commands withdrawn

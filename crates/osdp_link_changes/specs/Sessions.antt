@@ -10,7 +10,7 @@ use Rattle.osdp_reader.specs.declared.handler.Answer.{Answer}
 use Rattle.osdp_link.specs.Headline.{Begins, IsBeginning}
 use Rattle.osdp_link.specs.Link.{Account, Link}
 use Rattle.osdp_link.specs.Sessions.{HaveLeft, Leaves, settled_commands}
-use Rattle.osdp_link_changes.specs.Changes.{AreChanges, Change, Changed, Session, all_queued, all_submitted, run, session, sessions, unchanged}
+use Rattle.osdp_link_changes.specs.Changes.{AreChanges, Change, Session, all_queued, all_submitted, run, session, sessions, unchanged}
 
 -- the commands taken are a beginning of those issued; the reader gave an answer to each of them; the settled ones are a beginning of
 -- these, each with the answer that the reader gave, and one is missing at most; the events reported are a beginning of those queued
