@@ -1,0 +1,5 @@
+pub mod Receipt
+pub mod Sayings
+pub mod Taking
+pub mod Turning
+pub mod Pieces

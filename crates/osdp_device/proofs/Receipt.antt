@@ -1,0 +1,55 @@
+-- What holds at all times of what has come on a line.
+use Rattle.std.proofs.Common.{◌≡◌, ℕ, ◌-◌, ◌<◌, ◌≤◌, ◌==◌, ◌&&◌, not, Bool, true, false, List, [], ◌∷◌, ◌++◌, length, take, drop, Option, Some, None, refl, sym, subst, arith, length-append, take-append-drop}
+use Rattle.std.proofs.lemmas.List.{get_or_past}
+use Rattle.std.proofs.lemmas.Bool.{false≢true}
+use Rattle.osdp_frame.specs.Bytes.{AreBytes}
+use Rattle.osdp_frame.specs.Reading.{Part, part_size}
+use Rattle.osdp_frame.specs.Held.{Held, decided, behind, behind_first, after_advance, after_gap, after_push, new_run, taken_count}
+use Rattle.osdp_frame.proofs.Head.{AreBytes-drop}
+use Rattle.osdp_frame.proofs.Decided.{AreBytes-front}
+use Rattle.osdp_frame_laws.proofs.LawsOfSpellings.{AreBytes-append}
+use Rattle.osdp_device.specs.Receiving.{IsReceived, Received, comes_in, ends_run, new_line}
+
+pub AreBytes-take : (n : ℕ) (bytes : List ℕ) → AreBytes bytes → AreBytes (take n bytes)
+AreBytes-take n bytes fits = AreBytes-front (take n bytes) (drop n bytes) (subst AreBytes (sym (take-append-drop n bytes)) fits)
+
+pub no_bytes : AreBytes []
+no_bytes place = subst (λ (n : ℕ). n < 256) (sym (get_or_past [] place 0 (omega arith))) (omega arith)
+
+pub received_new : (gap : ℕ) → 1 ≤ gap → IsReceived (new_line gap)
+received_new gap some = record { gap = some; bytes = no_bytes; some = λ e. absurd (false≢true e); last = omega arith }
+
+pub received_pushed : (l : Received) (given : List ℕ) → IsReceived l → AreBytes given → IsReceived (comes_in given l)
+received_pushed l given run fits = record {
+  gap = run.gap;
+  bytes = AreBytes-append l.held.bytes (take (taken_count l.held given) given) run.bytes (AreBytes-take (taken_count l.held given) given fits);
+  some = λ e. let some = run.some e in omega (arith, length-append l.held.bytes (take (taken_count l.held given) given));
+  last = omega arith;
+}
+
+pub received_gapped : (l : Received) → IsReceived l → IsReceived (ends_run l)
+received_gapped l run = record { gap = run.gap; bytes = run.bytes; some = by_bytes l.held.bytes; last = run.last }
+  where
+    by_bytes : (bytes : List ℕ) → not (length bytes == 0) ≡ true → 0 < length bytes
+    by_bytes [] e = absurd cc
+    by_bytes (b ∷ bytes) e = omega arith
+
+behind_some : (held : Held) (part : Part) → (behind held part).ended ≡ true → 0 < length (behind held part).bytes
+behind_some held part = by_rest held.ended (drop (part_size part) held.bytes)
+  where
+    by_rest : (ended : Bool) (rest : List ℕ) → (ended && not (length rest == 0)) ≡ true → 0 < length rest
+    by_rest true [] e = absurd cc
+    by_rest false [] e = absurd cc
+    by_rest ended (b ∷ rest) e = omega arith
+
+pub received_advanced : (l : Received) → IsReceived l → IsReceived (record l { held = after_advance l.held })
+received_advanced l run = by_answer (decided l.held.ended l.held.bytes)
+  where
+    by_answer : (o : Option Part) → IsReceived (record l { held = behind_first l.held o })
+    by_answer None = run
+    by_answer (Some part) = record {
+      gap = run.gap;
+      bytes = AreBytes-drop (part_size part) l.held.bytes run.bytes;
+      some = behind_some l.held part;
+      last = run.last;
+    }

@@ -1,0 +1,66 @@
+-- What is told of items that are taken off one by one.
+use Rattle.std.proofs.Common.{◌≡◌, true, false, drop, Option, Some, None, is_some, refl, sym, ap, ◌∙◌}
+use Rattle.osdp_frame.specs.Held.{Held, decided, after_advance, behind, behind_first}
+use Rattle.osdp_frame.specs.Items.{items}
+use Rattle.osdp_frame.specs.Reading.{Part, part_size}
+use Rattle.osdp_frame_laws.proofs.OneByOne.{items_behind, still_ended}
+use Rattle.osdp_frame_laws.proofs.Readings.{items_undecided}
+use Rattle.osdp_msg.specs.declared.command.Command.{Command}
+use Rattle.osdp_reader.specs.declared.handler.Answer.{Answer}
+use Rattle.osdp_reader.specs.State.{ReaderState}
+use Rattle.std.specs.Option.{option_map}
+use Rattle.osdp_reader.specs.declared.response.Response.{Response}
+use Rattle.osdp_device.specs.Saying.{Said, after_item, said_in, said_of}
+use Rattle.osdp_device.specs.Telling.{Told, next_told, told_by, told_or}
+
+module _ {H : Type 0} (answer_of : H → Command → Answer) (after : H → Command → H) where
+  -- nothing is decided: nothing is told, and nothing changes
+  pub told_nothing : (r : ReaderState H) (held : Held) → decided held.ended held.bytes ≡ None
+      → next_told answer_of after r held ≡ record { said = None; reader = r; held = held }
+  told_nothing r held is = ap (λ parts. told_by answer_of after parts r held) (items_undecided held.ended held.bytes is)
+
+  -- what a call tells, from the calls for its first item
+  pub told_of_first : (r heard : ReaderState H) (held next : Held) (part : Part) (said : Option Said)
+      → decided held.ended held.bytes ≡ Some part → next ≡ after_advance held → said ≡ said_of answer_of after part r → heard ≡ after_item answer_of after part r
+      → next_told answer_of after r held ≡ told_or answer_of after said heard next (next_told answer_of after heard next)
+  told_of_first r heard held next part said is advanced told hears =
+      let here : next ≡ behind held part = advanced ∙ ap (behind_first held) is in
+      let left = drop (part_size part) held.bytes in
+      let item = after_item answer_of after part r in
+      let rest : items (behind held part).ended left ≡ items held.ended left = still_ended held.ended left in
+      ap (λ parts. told_by answer_of after parts r held) (items_behind held.ended held.bytes part is)
+      ∙ ap (λ parts. told_or answer_of after (said_of answer_of after part r) item (behind held part) (told_by answer_of after parts item (behind held part))) (sym rest)
+      ∙ ap (λ h. told_or answer_of after (said_of answer_of after part r) item h (next_told answer_of after item h)) (sym here)
+      ∙ ap (λ o. told_or answer_of after o item next (next_told answer_of after item next)) (sym told)
+      ∙ ap (λ h. told_or answer_of after said h next (next_told answer_of after h next)) (sym hears)
+
+  told_at_once : (said : Option Said) (r : ReaderState H) (held : Held) (later : Told H) → is_some said ≡ true
+      → told_or answer_of after said r held later ≡ record { said = said; reader = r; held = held }
+  told_at_once (Some said) r held later some = refl
+  told_at_once None r held later some = absurd cc
+
+  told_later : (said : Option Said) (r : ReaderState H) (held : Held) (later : Told H) → is_some said ≡ false → told_or answer_of after said r held later ≡ later
+  told_later (Some said) r held later none = absurd cc
+  told_later None r held later none = refl
+
+  -- it tells something
+  pub told_here : (r heard : ReaderState H) (held next : Held) (part : Part) (said : Option Said)
+      → decided held.ended held.bytes ≡ Some part → next ≡ after_advance held → said ≡ said_of answer_of after part r → heard ≡ after_item answer_of after part r
+      → is_some said ≡ true → next_told answer_of after r held ≡ record { said = said; reader = heard; held = next }
+  told_here r heard held next part said is advanced told hears some =
+      told_of_first r heard held next part said is advanced told hears ∙ told_at_once said heard next (next_told answer_of after heard next) some
+
+  -- it tells nothing, and it goes on
+  pub told_behind : (r heard : ReaderState H) (held next : Held) (part : Part) (said : Option Said)
+      → decided held.ended held.bytes ≡ Some part → next ≡ after_advance held → said ≡ said_of answer_of after part r → heard ≡ after_item answer_of after part r
+      → is_some said ≡ false → next_told answer_of after heard next ≡ next_told answer_of after r held
+  told_behind r heard held next part said is advanced told hears none =
+      sym (told_of_first r heard held next part said is advanced told hears ∙ told_later said heard next (next_told answer_of after heard next) none)
+
+-- what is answered is said
+pub some_said : (response : Option Response) → is_some response ≡ true → is_some (option_map said_in response) ≡ true
+some_said (Some response) some = refl
+some_said None some = some
+
+-- what a call tells, whether its first item tells something, tells nothing or is not there
+pub ruleset taking = (told_here, told_behind, told_nothing)

@@ -1,0 +1,147 @@
+//! A reader on a serial line.
+
+ghost use Rattle.std.specs.Prelude.{◌≡◌, ◌↔◌, IfSome, IsSome};
+ghost use Rattle.std.specs.Option.{option_copied, option_map};
+ghost use Rattle.osdp_frame.specs.Shown.{part_of};
+ghost use Rattle.osdp_device.specs.Receiving.{IsGap, after_silence, after_take, after_tick, count_taken, new_line};
+ghost use Rattle.osdp_device.specs.Saying.{after_item, again_in, but_poll, said_in, said_of, taken_in};
+ghost use Rattle.osdp_device.specs.Telling.{next_told};
+
+use crate::receiver::Receiver;
+use osdp_frame::Item;
+use osdp_msg::Command;
+use osdp_reader::{Handler, Kind, Reader, Response};
+
+/// The longest gap, in milliseconds.
+const LONGEST: u32 = 3_600_000;
+
+/// A reader, and what has come on its line.
+///
+/// Moments are milliseconds that the caller hands in, of any clock that doesn't go backwards; one that lies before the
+/// greatest seen counts as that one.
+#[derive(Drop)]
+pub struct Device<H: Handler> {
+    /// The reader's end of the link: its events, whether it is busy, its handler.
+    pub reader: Reader<H>,
+    /// The bytes that have come and aren't read yet.
+    pub line: Receiver,
+}
+
+impl<H: Handler> Device<H> {
+    /// A device to whose line nothing has come. None where the gap, in milliseconds, isn't one of 1 to 3,600,000.
+    pub fn new(reader: Reader<H>, gap: u32) -> Option<Device<H>>
+        ensures range { IsSome result ↔ IsGap gap }
+        ensures reader { IfSome result (λ d. d.reader ≡ reader) }
+        ensures line { IfSome result (λ d. d.line ≡ new_line gap) }
+    {
+        if gap < 1 || gap > LONGEST {
+            return None;
+        }
+        Some(Device {
+            reader,
+            line: Receiver::new(gap),
+        })
+    }
+
+    /// Takes bytes that have come up to a moment, and tells how many. Where it is fewer than there are, `next` makes room
+    /// for the others. No bytes change no run.
+    pub fn take(&mut self, bytes: &[u8], now: u64) -> usize
+        ensures count { result ≡ count_taken bytes.now now self.old.line }
+        ensures line { self.new.line ≡ after_take bytes.now now self.old.line }
+        ensures reader { self.new.reader ≡ self.old.reader }
+    {
+        self.line.take(bytes, now)
+    }
+
+    /// Up to a moment no bytes have come: a run after which it was silent for the gap is over.
+    pub fn tick(&mut self, now: u64)
+        ensures line { self.new.line ≡ after_tick now self.old.line }
+        ensures reader { self.new.reader ≡ self.old.reader }
+    {
+        self.line.tick(now);
+    }
+
+    /// The caller saw the line silent: the run is over.
+    pub fn silence(&mut self, now: u64)
+        ensures line { self.new.line ≡ after_silence now self.old.line }
+        ensures reader { self.new.reader ≡ self.old.reader }
+    {
+        self.line.silence(now);
+    }
+
+    /// Hands the packets that have come whole to the reader, in their order, up to and including the first that it answers.
+    /// None where none of them is left.
+    #[tactic(auto, using(crate::proofs::Taking::taking))]
+    pub fn next(&mut self) -> Option<Response>
+        ensures said { option_map said_in result ≡ (next_told H.answer_of H.after self.old.reader self.old.line.held).said }
+        ensures reader { self.new.reader ≡ (next_told H.answer_of H.after self.old.reader self.old.line.held).reader }
+        ensures line { self.new.line ≡ record self.old.line { held = (next_told H.answer_of H.after self.old.reader self.old.line.held).held } }
+    {
+        'items: while let Some(item) = self.line.next() {
+            let response = hear_item(&mut self.reader, &item);
+            self.line.advance();
+            if response.is_some() {
+                return response;
+            }
+        }
+        None
+    }
+}
+
+/// A packet is handed to the reader; another item is passed over.
+#[tactic(auto, using(crate::proofs::Sayings::said_here))]
+fn hear_item<H: Handler>(reader: &mut Reader<H>, item: &Item<'_>) -> Option<Response>
+    ensures said { option_map said_in result ≡ said_of H.answer_of H.after (part_of item.now) reader.old }
+    ensures reader { reader.new ≡ after_item H.answer_of H.after (part_of item.now) reader.old }
+{
+    match item {
+        Item::Packet(frame) => {
+            let response = reader.on_frame(frame);
+            if response.kind() == Kind::Silent {
+                return None;
+            }
+            Some(response)
+        }
+        Item::Skipped(_) | Item::Refused(_) => None,
+    }
+}
+
+/// A command that is read, but POLL.
+fn but_poll(command: &Option<Command>) -> Option<&Command>
+    ensures { option_copied result ≡ but_poll command.now }
+{
+    match command {
+        Some(Command::Poll) | None => None,
+        Some(command) => Some(command),
+    }
+}
+
+/// The command that was taken, but POLL: the device does it, once. None where none was, or it couldn't be read.
+pub fn taken(response: &Response) -> Option<&Command>
+    ensures { option_copied result ≡ taken_in response.now }
+{
+    match response {
+        Response::Taken(command, _) => but_poll(command),
+        Response::Zero(..)
+        | Response::Silent
+        | Response::Secured(_)
+        | Response::Repeat(_)
+        | Response::Busy(_)
+        | Response::Wrong(_) => None,
+    }
+}
+
+/// The command that was acted on at number 0, but POLL. The same order may come once more.
+pub fn again(response: &Response) -> Option<&Command>
+    ensures { option_copied result ≡ again_in response.now }
+{
+    match response {
+        Response::Zero(command, _) => but_poll(command),
+        Response::Taken(..)
+        | Response::Silent
+        | Response::Secured(_)
+        | Response::Repeat(_)
+        | Response::Busy(_)
+        | Response::Wrong(_) => None,
+    }
+}

@@ -1,0 +1,43 @@
+//! What a device comes to whose user asks it again and again. The functions do nothing: their contracts are laws, and hold
+//! whatever the handler does.
+
+ghost use Rattle.std.specs.Prelude.{◌≡◌, ℕ, ◌≤◌, List, [], ◌++◌};
+ghost use Rattle.osdp_frame.specs.Bytes.{AreBytes};
+ghost use Rattle.osdp_frame.specs.Held.{Held};
+ghost use Rattle.osdp_reader.specs.State.{ReaderState};
+ghost use Rattle.osdp_device.specs.Hearing.{IsAllRead, TakesInTurn, hears_bytes, then_hears};
+ghost use Rattle.osdp_device.specs.Receiving.{IsReceived, Received};
+ghost use Rattle.osdp_device.specs.Telling.{TellsInTurn, next_told};
+
+use osdp_reader::Handler;
+
+/// Of what is said to all packets that have come, a call tells the first and leaves the others, in their order and with the
+/// same reader after them. It tells nothing only where no packet is left that has come.
+pub fn tells_in_turn<H: Handler>()
+    ensures { (r : ReaderState H) (held : Held) → TellsInTurn H.answer_of H.after r held (next_told H.answer_of H.after r held) }
+{}
+
+/// A user who takes bytes, reads all that is held, and goes on with the bytes that weren't taken, comes to what the whole
+/// of the bytes does.
+pub fn takes_in_turn<H: Handler>()
+    ensures { (bytes : List ℕ) (now : ℕ) (r : ReaderState H) (l : Received) → IsReceived l → IsAllRead l → AreBytes bytes
+        → TakesInTurn H.answer_of H.after bytes now r l }
+{}
+
+/// Bytes in any cut, at one moment, come to the same: what is said, the reader, and what is held. After them all that came
+/// was read, so other pieces may follow.
+pub fn hears_the_same_in_pieces<H: Handler>()
+    ensures same { (xs ys : List ℕ) (now : ℕ) (r : ReaderState H) (l : Received) → IsReceived l → IsAllRead l
+        → AreBytes (xs ++ ys)
+        → then_hears H.answer_of H.after ys now (hears_bytes H.answer_of H.after xs now r l)
+        ≡ hears_bytes H.answer_of H.after (xs ++ ys) now r l }
+    ensures read { (bytes : List ℕ) (now : ℕ) (r : ReaderState H) (l : Received) → IsReceived l → IsAllRead l
+        → AreBytes bytes → IsAllRead (hears_bytes H.answer_of H.after bytes now r l).line }
+{}
+
+/// A read of no bytes ends no run, however long after the last bytes it is: what comes later comes to what it does without.
+pub fn hears_nothing_in_no_bytes<H: Handler>()
+    ensures { (bytes : List ℕ) (before now : ℕ) (r : ReaderState H) (l : Received) → before ≤ now → IsAllRead l
+        → then_hears H.answer_of H.after bytes now (hears_bytes H.answer_of H.after [] before r l)
+        ≡ hears_bytes H.answer_of H.after bytes now r l }
+{}
