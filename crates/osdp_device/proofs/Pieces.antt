@@ -1,11 +1,11 @@
 -- Bytes that are heard piece by piece.
-use Rattle.std.proofs.Common.{◌≡◌, ℕ, ◌+◌, ◌-◌, ◌<◌, ◌≤◌, ◌==◌, not, max, nat_le, Bool, true, false, cond, min, List, [], ◌∷◌, ◌++◌, length, take, drop, Option, Some, None, refl, sym, subst, ap, ◌∙◌, arith, append_assoc, append-nil, take-append-drop}
+use Rattle.std.proofs.Common.{◌≡◌, ℕ, ◌+◌, ◌-◌, ◌<◌, ◌≤◌, ◌==◌, not, max, nat_le, Bool, true, false, cond, List, [], ◌∷◌, ◌++◌, length, take, drop, None, refl, sym, subst, ap, ◌∙◌, arith, append_assoc, append-nil, take-append-drop}
 use Rattle.std.proofs.Math.Seq.{drop-drop}
 use Rattle.std.proofs.lemmas.List.{drop-append-le}
 use Rattle.std.proofs.lemmas.Bool.{leb-true, ne_eqb}
 use Rattle.osdp_frame.specs.Bytes.{AreBytes}
 use Rattle.osdp_frame.specs.Reading.{Part, part_size, total_size, IsReading}
-use Rattle.osdp_frame.specs.Held.{Held, decided, behind, after_gap, after_push, new_run, taken_count}
+use Rattle.osdp_frame.specs.Held.{Held, decided, behind, after_gap, new_run, taken_count}
 use Rattle.osdp_frame.specs.Items.{items, reading, left_over}
 use Rattle.osdp_frame.proofs.Head.{AreBytes-drop}
 use Rattle.osdp_frame.proofs.Decided.{AreBytes-front}
@@ -19,7 +19,7 @@ use Rattle.osdp_device.specs.Receiving.{IsReceived, Received, comes_in, ends_run
 use Rattle.osdp_device.specs.Saying.{Said, after_item, said_of}
 use Rattle.osdp_device.specs.Telling.{after_items, behind_all, items_of, listed, said_to_all}
 use Rattle.osdp_device.specs.Hearing.{Heard, IsAllRead, TakesInTurn, hears_bytes, reads_all, reads_on, then_hears, then_reads}
-use Rattle.osdp_device.proofs.Receipt.{AreBytes-take, no_bytes, received_gapped}
+use Rattle.osdp_device.proofs.Receipt.{AreBytes-take}
 use Rattle.osdp_device.proofs.Turning.{splits}
 
 -- ---- what is left of a run

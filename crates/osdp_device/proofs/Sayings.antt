@@ -1,5 +1,5 @@
 -- A response says what the reader's table says.
-use Rattle.std.proofs.Common.{◌≡◌, ◌≢◌, ℕ, List, Option, Some, None, refl, sym, ap, ◌∙◌}
+use Rattle.std.proofs.Common.{◌≡◌, ◌≢◌, ℕ, List, Option, Some, None, refl, ap, ◌∙◌}
 use Rattle.osdp_frame.specs.Packet.{Packet}
 use Rattle.osdp_frame.proofs.Spelled.{spelled_is}
 use Rattle.osdp_msg.specs.declared.command.Command.{Command}

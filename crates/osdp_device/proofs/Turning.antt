@@ -1,5 +1,5 @@
 -- Answers that are told in turn.
-use Rattle.std.proofs.Common.{◌≡◌, List, [], ◌∷◌, ◌++◌, drop, Option, Some, None, refl, sym, subst, ap, ◌∙◌}
+use Rattle.std.proofs.Common.{◌≡◌, List, [], ◌∷◌, ◌++◌, drop, Option, Some, None, refl, sym, ap, ◌∙◌}
 use Rattle.osdp_frame.specs.Held.{Held, decided, behind}
 use Rattle.osdp_frame.specs.Reading.{Part, part_size}
 use Rattle.osdp_frame_laws.proofs.OneByOne.{items_behind, still_ended}

@@ -17,7 +17,7 @@
 //!         while let Some(response) = device.next() {
 //!             .. response.bytes() goes out ..
 //!             if let Some(command) = taken(&response) { .. the device does it ..  }
-//!             if let Some(setting) = response.comset() { .. the port is set to setting.baud .. }
+//!             if let Some(setting) = response.comset() { .. the port is set to setting.baud_rate .. }
 //!         }
 //!         if at == bytes.len() { break }
 //!     }

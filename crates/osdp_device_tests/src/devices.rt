@@ -1,0 +1,95 @@
+//! Devices, and what each says.
+
+use crate::packets::{bytes_of, is_spelled};
+use arrayvec::ArrayVec;
+use osdp_device::{Device, DeviceStatus};
+use osdp_frame::Address;
+use osdp_msg::{PdCap, PdId};
+use osdp_reader::{Reader, ReaderConfig};
+use std::alloc::Global;
+use std::process::Abort;
+
+pub const ID: &str = "530508000061003F";
+
+/// What its PDID tells, as in `53851300004553494D010101000000010000E3`.
+const IDENTITY: PdId = PdId {
+    vendor: [0x53, 0x49, 0x4d],
+    model: 1,
+    version: 1,
+    serial: 1,
+    firmware_major: 1,
+    firmware_minor: 0,
+    firmware_build: 0,
+};
+
+/// A device at 5 whose program has set two inputs, two outputs and a reader.
+pub fn status() -> DeviceStatus {
+    let mut status = DeviceStatus::new();
+    status.power = 1;
+    let _ = status.inputs.try_extend_from_slice(&[1, 0]);
+    let _ = status.outputs.try_extend_from_slice(&[0, 1]);
+    let _ = status.readers.try_extend_from_slice(&[2]);
+    status
+}
+
+/// A reader at 5 with room for four events.
+pub fn new_reader(rt: &impl Abort, alloc: Global) -> Reader<DeviceStatus> {
+    let config = ReaderConfig {
+        address: Address::new(5).expect(rt, "an address"),
+        id: IDENTITY,
+        caps: PdCap {
+            capabilities: ArrayVec::new(),
+        },
+    };
+    let made = Reader::new(alloc, config, status(), 4);
+    made.ok().expect(rt, "a reader")
+}
+
+/// A device with a gap of 20 ms.
+pub fn new_device(rt: &impl Abort, alloc: Global) -> Device<DeviceStatus> {
+    Device::new(new_reader(rt, alloc), 20).expect(rt, "a device")
+}
+
+/// The bytes of these digits come at a moment: all of them are taken at once.
+pub fn hears(rt: &impl Abort, device: &mut Device<DeviceStatus>, digits: &str, now: u64) {
+    let mut buffer = [0; 32];
+    let bytes = bytes_of(rt, digits, &mut buffer);
+    assert_eq!(rt; device.take(bytes, now), bytes.len());
+}
+
+/// It says these bytes, and nothing more.
+pub fn says(rt: &impl Abort, device: &mut Device<DeviceStatus>, digits: &str) {
+    let response = device.next().expect(rt, "an answer");
+    is_spelled(rt, response.bytes(), digits);
+    is_quiet(rt, device);
+}
+
+/// It says nothing.
+pub fn is_quiet(rt: &impl Abort, device: &mut Device<DeviceStatus>) {
+    assert!(rt; device.next().is_none());
+}
+
+/// A packet comes at a moment, and is answered so.
+pub fn answers(
+    rt: &impl Abort,
+    device: &mut Device<DeviceStatus>,
+    digits: &str,
+    now: u64,
+    reply: &str,
+) {
+    hears(rt, device, digits, now);
+    says(rt, device, reply);
+}
+
+/// A device with which a session was opened by ID, at moment 1000.
+pub fn opened(rt: &impl Abort, alloc: Global) -> Device<DeviceStatus> {
+    let mut device = new_device(rt, alloc);
+    answers(
+        rt,
+        &mut device,
+        ID,
+        1000,
+        "53851300004553494D010101000000010000E3",
+    );
+    device
+}
