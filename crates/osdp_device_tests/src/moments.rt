@@ -120,18 +120,24 @@ fn packets_one_after_the_other(rt: HostRuntime) {
     says(&rt, &mut device, ACK);
 }
 
+/// All of the bytes are taken at a moment, in a few turns, and nothing is said.
+fn takes_all(rt: &impl Abort, device: &mut Device<DeviceStatus>, bytes: &[u8], now: u64) {
+    let mut at = 0;
+    for _ in 0..3 {
+        assert!(rt; at <= bytes.len());
+        at += device.take(&bytes[at..], now);
+        is_quiet(rt, device);
+    }
+    assert_eq!(rt; at, bytes.len());
+}
+
 /// Ten thousand bytes that may each begin a packet are taken, and answered by nothing.
 #[test]
 fn many_beginnings(rt: HostRuntime) {
     let bytes = [0x53; 100];
     let mut device = opened(&rt, rt.alloc());
     for _ in 0..100 {
-        let mut at = 0;
-        for _ in 0..3 {
-            at += device.take(&bytes[at..], 2000);
-            is_quiet(&rt, &mut device);
-        }
-        assert_eq!(rt; at, 100);
+        takes_all(&rt, &mut device, &bytes, 2000);
     }
     device.silence(2000);
     is_quiet(&rt, &mut device);
