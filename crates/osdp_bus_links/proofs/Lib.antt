@@ -1,0 +1,4 @@
+pub mod Devices
+pub mod Calls
+pub mod Ticks
+pub mod Bursts

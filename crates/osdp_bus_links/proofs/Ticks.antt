@@ -1,0 +1,165 @@
+-- A tick of a bus that holds no bytes is one of one of its controllers, or none.
+use Rattle.std.proofs.Common.{◌≡◌, ◌≢◌, ◌||◌, ℕ, not, Bool, true, false, cond, if◌then◌else◌, List, [], ◌∷◌, ◌++◌, map, Option, Some, None, refl, sym, subst, ap, ◌∙◌, inl, inr}
+use Rattle.std.proofs.lemmas.Bool.Decides.{eqb_tells}
+use Rattle.std.proofs.lemmas.List.{append-nil, map-append}
+use Rattle.std.specs.Prelude.{slice_get, slice_set, option_to_list}
+use Rattle.osdp_frame.specs.Items.{items}
+use Rattle.osdp_frame.specs.Packet.{Packet}
+use Rattle.osdp_msg.specs.declared.command.Command.{Command}
+use Rattle.osdp_controller.specs.Machine as controllers
+use Rattle.osdp_controller.specs.declared.report.Report.{Report}
+use Rattle.osdp_reader.specs.declared.handler.Answer.{Answer}
+use Rattle.osdp_bus.specs.Buses.{BusState, has_report, holder, is_silent, seen, waiting_after}
+use Rattle.osdp_bus.specs.Devices as devices
+use Rattle.osdp_bus.specs.Hearing.{ends_run, ends_silent, hears_items}
+use Rattle.osdp_bus.specs.Machine.{after_next_report}
+use Rattle.osdp_bus.specs.Ticking.{BusTicked, bus_ticks, is_due_at, is_held_and_due, next_due, stays, ticks_at, ticks_by, ticks_free, ticks_held, ticks_on, ticks_with}
+use Rattle.osdp_link.proofs.Numbers.{is_false, is_true}
+use Rattle.osdp_multidrop.specs.Line as line
+use Rattle.osdp_multidrop.specs.Line.{Net, NetMove, Site, Tick, changed, run, site_at, tagged, ticks_of}
+use Rattle.osdp_multidrop.proofs.Changing.{some_same}
+use Rattle.osdp_multidrop.proofs.Sites.{at_changed, at_other}
+use Rattle.osdp_bus_links.specs.Links.{IsBusOf, IsTickAt, IsTold, TellsEach, TicksAsAMove, device_of, packets_on, report_for}
+use Rattle.osdp_bus_links.proofs.Devices.{freed_same, get_device, get_none, set_device}
+
+-- ---- nothing is held
+
+pub no_items : (ended : Bool) → items ended [] ≡ []
+unfolding items
+no_items ended = refl
+
+pub nothing_ends : (b : BusState) → b.held ≡ [] → ends_run b ≡ b
+nothing_ends b held =
+    ap (λ (l : List ℕ). record b { devices = hears_items b.greatest (items true l) b.devices; held = [] }) held
+    ∙ ap (λ parts. record b { devices = hears_items b.greatest parts b.devices; held = [] }) (no_items true)
+    ∙ ap (λ (l : List ℕ). record b { held = l }) (sym held)
+
+pub nothing_silent : (b : BusState) → b.held ≡ [] → ends_silent b ≡ b
+nothing_silent b held = by_test (is_silent b)
+  where
+    by_test : (silent : Bool) → (if silent then ends_run b else b) ≡ b
+    by_test true = nothing_ends b held
+    by_test false = refl
+
+module _ (P : BusTicked → Type 0) where
+  either : (c : Bool) (t u : BusTicked) → P t → P u → P (if c then t else u)
+  either true t u here there = here
+  either false t u here there = there
+
+  -- whoever holds the line, and whoever is due
+  ticks_some : (b : BusState) → b.held ≡ [] → ((o : Option ℕ) → P (ticks_at o b)) → P (ticks_on b)
+  ticks_some b held all = by_holder (holder b)
+    where
+      by_holder : (o : Option ℕ) → P (ticks_by o b)
+      by_holder None = subst (λ c. P (ticks_free c)) (sym (nothing_ends b held)) (either (has_report b) (stays b) (ticks_at (next_due b) b) (all None) (all (next_due b)))
+      by_holder (Some entry) =
+          either (is_due_at entry b) (ticks_held entry (ends_run b)) (stays b)
+          (subst (λ c. P (ticks_held entry c)) (sym (nothing_ends b held))
+          (either (has_report b || not (is_held_and_due entry b)) (stays b) (ticks_at (Some entry) b) (all None) (all (Some entry))))
+          (all None)
+
+-- ---- what is told
+
+for_entry : (k entry : ℕ) (r : Option Report) → k ≡ entry → report_for k (waiting_after entry r None) ≡ r
+for_entry k entry None is = refl
+for_entry k entry (Some r) is = ap (λ b. cond b (Some r) None) (is_true entry k (sym is))
+
+for_others : (k entry : ℕ) (r : Option Report) → k ≢ entry → report_for k (waiting_after entry r None) ≡ None
+for_others k entry None other = refl
+for_others k entry (Some r) other = ap (λ b. cond b (Some r) None) (is_false entry k (λ e. other (sym e)))
+
+packets_tagged : (k : ℕ) (o : Option Packet) → packets_on (tagged k o) ≡ option_to_list o
+packets_tagged k None = refl
+packets_tagged k (Some p) = refl
+
+module _ {H : Type 0} where
+  pub told_nothing : (ss : List (Site H)) → TellsEach None ss ss
+  told_nothing ss k t is = (t, is, record { reader = refl; account = refl; earlier = refl })
+
+  -- one site is told
+  pub told_one : (entry : ℕ) (r : Option Report) (s t : Site H) (ss : List (Site H)) → site_at entry ss ≡ Some s → IsTold r s t
+      → TellsEach (waiting_after entry r None) ss (changed entry t ss)
+  told_one entry r s t ss at is k u there =
+      elim (eqb_tells k entry) [
+        | inl equal ↦
+            let here : site_at entry (changed entry t ss) ≡ Some u = subst (λ j. site_at j (changed entry t ss) ≡ Some u) equal.1 there in
+            let same : u ≡ t = some_same u t (sym here ∙ at_changed entry t s ss at) in (
+              s,
+              subst (λ j. site_at j ss ≡ Some s) (sym equal.1) at,
+              subst (λ o. IsTold o s u) (sym (for_entry k entry r equal.1)) (subst (IsTold r s) (sym same) is),
+            )
+        | inr differs ↦ (
+          u,
+          sym (at_other k entry t ss differs.1) ∙ there,
+          subst (λ o. IsTold o u u) (sym (for_others k entry r differs.1)) (record { reader = refl; account = refl; earlier = refl }),
+        )
+      ]
+
+  -- ---- a tick
+
+  -- the bus and the line afterwards
+  record Ends (t : BusTicked) (n next : Net H) : Type 0 where
+    bus : IsBusOf (after_next_report t.bus) next.sites
+    sent : packets_on next.to_readers ≡ packets_on n.to_readers ++ option_to_list t.sent
+    back : next.to_controllers ≡ n.to_controllers
+    told : TellsEach t.bus.devices.report n.sites next.sites
+
+  stayed : (b : BusState) (n : Net H) → IsBusOf b n.sites → Ends (stays b) n n
+  stayed b n h = record {
+    bus = record { entries = h.entries; held = h.held; report = refl };
+    sent = sym (append-nil (packets_on n.to_readers));
+    back = refl;
+    told = subst (λ o. TellsEach o n.sites n.sites) (sym h.report) (told_nothing n.sites);
+  }
+
+  one_ticked : (b : BusState) (n : Net H) (entry : ℕ) (s : Site H) → IsBusOf b n.sites → site_at entry n.sites ≡ Some s
+      → Ends (ticks_with entry (Some (device_of s)) b) n (line.tick_at entry b.greatest (Some s) n)
+  one_ticked b n entry s h at =
+      let t = ticks_of b.greatest s in
+      let u = line.ticked t s in
+      record {
+        bus = record {
+          entries = ap (λ ds. slice_set ds entry (devices.device_ticks b.greatest (device_of s))) h.entries
+              ∙ ap (λ r. slice_set (map device_of n.sites) entry (record { controller = controllers.after_tick b.greatest s.controller; reserved = r }))
+              (freed_same t.step.report s.reserved)
+              ∙ set_device entry u n.sites;
+          held = h.held;
+          report = refl;
+        };
+        sent = map-append (λ (p : ℕ × Packet). p.1) n.to_readers (tagged entry t.step.frame)
+            ∙ ap (λ l. packets_on n.to_readers ++ l) (packets_tagged entry t.step.frame);
+        back = refl;
+        told = subst (λ o. TellsEach (waiting_after entry t.step.report o) n.sites (changed entry u n.sites)) (sym h.report)
+            (told_one entry t.step.report s u n.sites at (record { reader = refl; account = refl; earlier = refl }));
+      }
+
+module _ {H : Type 0} (answer_of : H → Command → Answer) (after : H → Command → H) where
+  abbrev TicksTo : ℕ → Net H → BusTicked → Type 0
+  TicksTo now n t = (moves : List NetMove) × IsTickAt now moves × Ends t n (run answer_of after moves n)
+
+  ticked_at : (o : Option ℕ) (b : BusState) (n : Net H) → IsBusOf b n.sites → TicksTo b.greatest n (ticks_at o b)
+  ticked_at None b n h = ([], tt, stayed b n h)
+  ticked_at (Some entry) b n h = by_site (site_at entry n.sites) refl
+    where
+      by_site : (o : Option (Site H)) → site_at entry n.sites ≡ o → TicksTo b.greatest n (ticks_with entry (slice_get b.devices.entries entry) b)
+      by_site None is =
+          subst (λ d. TicksTo b.greatest n (ticks_with entry d b)) (sym (ap (λ ds. slice_get ds entry) h.entries ∙ get_none entry n.sites is))
+          ([], tt, stayed b n h)
+      by_site (Some s) is =
+          subst (λ d. TicksTo b.greatest n (ticks_with entry d b)) (sym (ap (λ ds. slice_get ds entry) h.entries ∙ get_device entry s n.sites is)) (
+            Tick entry b.greatest ∷ [],
+            refl,
+            subst (Ends (ticks_with entry (Some (device_of s)) b) n) (sym (ap (λ o. line.tick_at entry b.greatest o n) is)) (one_ticked b n entry s h is),
+          )
+
+  pub ticks_as_a_move : TicksAsAMove answer_of after
+  ticks_as_a_move b n now h =
+      let later = seen now b in
+      let at_later : IsBusOf later n.sites = record { entries = h.entries; held = h.held; report = h.report } in
+      let done : TicksTo later.greatest n (bus_ticks now b) =
+      either (TicksTo later.greatest n) (has_report b) (stays later) (ticks_on (ends_silent later)) ([], tt, stayed later n at_later)
+      (subst (λ c. TicksTo later.greatest n (ticks_on c)) (sym (nothing_silent later h.held))
+      (ticks_some (TicksTo later.greatest n) later h.held (λ o. ticked_at o later n at_later))) in (
+        done.0,
+        record { tick = done.1; bus = done.2.bus; sent = done.2.sent; back = done.2.back; told = done.2.told },
+      )
