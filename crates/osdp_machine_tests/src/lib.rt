@@ -1,4 +1,4 @@
-//! Tests of `osdp_reader` and `osdp_controller`, and of the examples of a handler and of a panel's loop, through their public calls.
+//! Tests of `osdp_reader` and `osdp_controller`, and of the example of a handler, through their public calls.
 //!
 //! They stand in a crate of their own since a crate with tests is proved twice.
 #![tactic(auto)]
@@ -15,8 +15,6 @@ mod identity;
 mod link;
 #[cfg(test)]
 mod packets;
-#[cfg(test)]
-mod panel;
 #[cfg(test)]
 mod reader;
 #[cfg(test)]

@@ -1,4 +1,1 @@
-pub mod Hearing
-pub mod Runs
-pub mod Taking
-pub mod Turning
+mod Moments

@@ -1,4 +1,2 @@
-pub mod Hearing
-pub mod Reports
-pub mod Sending
 pub mod Turns
+pub mod Laws

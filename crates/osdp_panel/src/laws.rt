@@ -1,13 +1,20 @@
-//! What a panel that is asked again and again tells. The function does nothing: its contract is a law.
+//! What a turn comes to. The functions do nothing: their contracts are laws.
 
-ghost use Rattle.std.specs.Prelude.{ℕ};
-ghost use Rattle.osdp_controller.specs.Machine.{Machine};
-ghost use Rattle.osdp_frame.specs.Held.{Held};
-ghost use Rattle.osdp_panel.specs.Reports.{next_told};
-ghost use Rattle.osdp_panel.specs.Turns.{TellsInTurn};
+ghost use Rattle.std.specs.Prelude.{ℕ, List};
+ghost use Rattle.osdp_bus.specs.Buses.{BusState};
+ghost use Rattle.osdp_panel.specs.Laws.{EndsByMoments, IsFourCalls, SleepsOverNothing};
 
-/// Of the reports of all packets that have come, a call tells the first and leaves the others, in their order and
-/// with the same controller behind them. It tells nothing only where no packet is left that has come.
-pub fn reports_in_turn()
-    ensures { (now : ℕ) (m : Machine) (held : Held) → TellsInTurn now m held (next_told now m held) }
+/// A turn is four calls of the bus, so what the bus keeps after every list of calls it keeps over turns.
+pub fn a_turn_is_four_calls()
+    ensures { (bytes : List ℕ) (now : ℕ) (b : BusState) → IsFourCalls bytes now b }
+{}
+
+/// No report waits after a turn, and where it gives no moment to sleep until, nothing would ever be done.
+pub fn a_turn_sleeps_over_nothing()
+    ensures { (bytes : List ℕ) (now : ℕ) (b : BusState) → SleepsOverNothing bytes now b }
+{}
+
+/// A read that gave nothing, for whatever cause, ends no run: moments alone do.
+pub fn runs_end_by_moments()
+    ensures { (now : ℕ) (b : BusState) → EndsByMoments now b }
 {}
