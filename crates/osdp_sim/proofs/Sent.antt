@@ -22,7 +22,7 @@ use Rattle.osdp_sim.specs.Steps.{SaysFit, StepFits, after_step, controller_hears
 abbrev pub HasSpelling : Type 0
 HasSpelling = (p : Packet) → IsPacket p → Spells p (spelling p)
 
-all_sent : HasSpelling → (o : Option Packet) → IfSome o IsPacket → All IsSent (sent o)
+pub all_sent : HasSpelling → (o : Option Packet) → IfSome o IsPacket → All IsSent (sent o)
 all_sent has None fits k d lt = absurd (omega (arith, lt))
 all_sent has (Some p) fits zero d lt = (p, has p fits)
 all_sent has (Some p) fits (suc k) d lt = absurd (omega (arith, lt))
@@ -30,7 +30,7 @@ all_sent has (Some p) fits (suc k) d lt = absurd (omega (arith, lt))
 behind_first : (burst : List ℕ) (line : List (List ℕ)) → All IsSent (burst ∷ line) → All IsSent line
 behind_first burst line all k d lt = all (suc k) d (omega (arith, lt))
 
-left_sent : (move : Move) (line : List (List ℕ)) → All IsSent line → All IsSent (left move line)
+pub left_sent : (move : Move) (line : List (List ℕ)) → All IsSent line → All IsSent (left move line)
 left_sent move [] all = all
 left_sent Deliver (burst ∷ line) all = behind_first burst line all
 left_sent Drop (burst ∷ line) all = behind_first burst line all

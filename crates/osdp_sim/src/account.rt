@@ -1,11 +1,14 @@
 //! What a schedule comes to.
 
 ghost use Rattle.std.specs.Prelude.{◌≡◌, OnOk};
-ghost use Rattle.osdp_sim.specs.Account.{empty_account, lists_of, taken_command, with_issued, with_queued, with_report, with_session, with_taken};
+ghost use Rattle.osdp_reader.specs.Responses.{response_bytes, response_command, response_kind};
+ghost use Rattle.osdp_sim.specs.Account.{empty_account, lists_of, taken_by, taken_command, with_issued, with_queued, with_report, with_session, with_taken};
 ghost use Rattle.osdp_sim.specs.Room.{HasPlaces};
 
 use osdp_controller::{LostCause, Report};
+use osdp_frame::Burst;
 use osdp_msg::{Command, Event, Reply};
+use osdp_reader::Response;
 use std::alloc::{AllocError, Global};
 
 /// How a session ended.
@@ -59,7 +62,7 @@ pub struct Account {
 
 impl Account {
     /// Nothing has happened.
-    pub(crate) fn new(alloc: Global) -> Account
+    pub fn new(alloc: Global) -> Account
         ensures { lists_of result ≡ empty_account }
     {
         Account {
@@ -75,7 +78,7 @@ impl Account {
     }
 
     /// Makes a place in each list.
-    pub(crate) fn grow(&mut self) -> Result<(), AllocError>
+    pub fn grow(&mut self) -> Result<(), AllocError>
         ensures same { lists_of self.new ≡ lists_of self.old }
         ensures places { OnOk result (HasPlaces self.new) }
     {
@@ -90,7 +93,7 @@ impl Account {
     }
 
     /// A session begins.
-    pub(crate) fn begin(&mut self)
+    pub fn begin(&mut self)
         requires { HasPlaces self.old }
         ensures { lists_of self.new ≡ with_session (lists_of self.old) }
     {
@@ -106,7 +109,7 @@ impl Account {
     }
 
     /// A command was accepted.
-    pub(crate) fn issue(&mut self, command: Command)
+    pub fn issue(&mut self, command: Command)
         requires { HasPlaces self.old }
         ensures { lists_of self.new ≡ with_issued command (lists_of self.old) }
     {
@@ -114,7 +117,7 @@ impl Account {
     }
 
     /// An event was accepted.
-    pub(crate) fn queue(&mut self, event: Event)
+    pub fn queue(&mut self, event: Event)
         requires { HasPlaces self.old }
         ensures { lists_of self.new ≡ with_queued event (lists_of self.old) }
     {
@@ -122,7 +125,7 @@ impl Account {
     }
 
     /// The reader has taken a command: a POLL isn't counted.
-    pub(crate) fn take(&mut self, command: Option<Command>)
+    pub fn take(&mut self, command: Option<Command>)
         requires { HasPlaces self.old }
         ensures { lists_of self.new ≡ with_taken (taken_command command) (lists_of self.old) }
     {
@@ -133,7 +136,7 @@ impl Account {
     }
 
     /// The controller has reported.
-    pub(crate) fn tell(&mut self, report: Option<Report>)
+    pub fn tell(&mut self, report: Option<Report>)
         requires { HasPlaces self.old }
         ensures { lists_of self.new ≡ with_report report (lists_of self.old) }
     {
@@ -152,5 +155,21 @@ impl Account {
                 self.ends.push_reserved(End::Lost(cause));
             }
         }
+    }
+}
+
+/// Of a response, the command that was taken and the burst to send, which is empty where nothing is.
+pub fn taken_and_sent(response: Response) -> (Option<Command>, Burst)
+    ensures taken { taken_command result.0 ≡ taken_by (response_kind response) (response_command response) }
+    ensures burst { result.1.items ≡ response_bytes response }
+{
+    match response {
+        Response::Silent => (None, Burst::new()),
+        Response::Taken(command, burst) => (command, burst),
+        Response::Secured(burst)
+        | Response::Zero(_, burst)
+        | Response::Repeat(burst)
+        | Response::Busy(burst)
+        | Response::Wrong(burst) => (None, burst),
     }
 }

@@ -24,15 +24,15 @@ mod account;
 mod config;
 mod fault;
 pub mod laws;
-mod line;
+pub mod line;
 mod schedule;
 mod session;
 mod simulation;
 mod step;
 
-pub use account::{Account, End, Lengths};
+pub use account::{Account, End, Lengths, taken_and_sent};
 pub use config::SimConfig;
 pub use fault::{Cause, Fault};
-pub use schedule::Schedule;
+pub use schedule::{Listed, Schedule};
 pub use session::{run_schedule, run_session};
 pub use step::{Move, SimStep};

@@ -1,4 +1,4 @@
-//! One direction of the line.
+//! One direction of a line, for what simulates one.
 
 ghost use Rattle.std.specs.Prelude.{◌≡◌, All, IfSome, MatchOption, [], None, Some, ℕ};
 ghost use Rattle.osdp_frame.specs.Held.{decided};
@@ -8,6 +8,7 @@ ghost use Rattle.osdp_frame.specs.Spelling.{Spells};
 ghost use Rattle.osdp_sim.specs.Line.{IsSent, bytes_of, handed, holds_packet, left, packets_in};
 ghost use Rattle.osdp_sim.specs.Steps.{damage_fault};
 
+use crate::fault::Cause;
 use crate::step::Move;
 use osdp_frame::{Burst, Framer, Item};
 use std::collections::VecDeque;
@@ -30,8 +31,24 @@ pub(crate) fn holds_packet(run: &Burst) -> bool
     false
 }
 
+/// Why a move of the line is refused: damage may not hold a packet.
+pub fn damage_fault(way: &Move) -> Option<Cause>
+    ensures { result ≡ damage_fault way.now }
+{
+    match way {
+        Move::Damage(run) => {
+            if holds_packet(run) {
+                Some(Cause::HoldsPacket)
+            } else {
+                None
+            }
+        }
+        Move::Deliver | Move::Drop | Move::Repeat => None,
+    }
+}
+
 /// Moves the line on, and gives the burst that comes through as it was sent. Damage holds no packet, so nothing of it does.
-pub(crate) fn move_on(line: &mut VecDeque<Burst>, way: &Move) -> Option<Burst>
+pub fn move_on(line: &mut VecDeque<Burst>, way: &Move) -> Option<Burst>
     requires well { damage_fault way.now ≡ None }
     requires sent { All IsSent (bytes_of line.old.items) }
     ensures line { bytes_of line.new.items ≡ left way.now (bytes_of line.old.items) }
@@ -53,7 +70,7 @@ pub(crate) fn move_on(line: &mut VecDeque<Burst>, way: &Move) -> Option<Burst>
 }
 
 /// A framer that holds a burst, which is a run of its own.
-pub(crate) fn framed(burst: &Burst) -> Framer
+pub fn framed(burst: &Burst) -> Framer
     requires { IsSent burst.now.items }
     ensures { (p : Packet) → Spells p burst.now.items → decided result.ended result.bytes ≡ Some (Whole p) }
 {
@@ -68,7 +85,7 @@ pub(crate) fn framed(burst: &Burst) -> Framer
 }
 
 /// A copy of a burst.
-pub(crate) fn copy(burst: &Burst) -> Burst
+pub fn copy(burst: &Burst) -> Burst
     ensures { result ≡ burst.now }
 {
     let mut copy = Burst::new();

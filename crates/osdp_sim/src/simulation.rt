@@ -4,24 +4,22 @@ ghost use Rattle.std.specs.Prelude.{◌≡◌, ◌↔◌, ◌<◌, IsTrue, IfOk,
 ghost use Rattle.std.specs.VecDeque.{deque_capacity, deque_len};
 ghost use Rattle.osdp_msg.specs.CommandTable.{CommandFits};
 ghost use Rattle.osdp_controller.specs.Machine as controllers;
-ghost use Rattle.osdp_reader.specs.Responses.{response_bytes, response_command, response_kind};
-ghost use Rattle.osdp_sim.specs.Account.{taken_by, taken_command};
 ghost use Rattle.osdp_sim.specs.Room.{HasPlaces, HasRoom, state_of};
 ghost use Rattle.osdp_sim.specs.Runs.{AreSettings, IsControllerCause, IsSetUpCause, ReaderInRange};
 ghost use Rattle.osdp_sim.specs.State.{AreSent, set_up};
 ghost use Rattle.osdp_sim.specs.Steps.{SaysFit, StepFits, after_step, damage_fault, fault_of, is_quiet, reader_hears};
 ghost use Rattle.osdp_sim.specs.declared.step.SimStep.TheVariants.{Issue, Queue, Reopen, ToController, ToReader, Wait};
 
-use crate::account::Account;
+use crate::account::{Account, taken_and_sent};
 use crate::config::SimConfig;
 use crate::fault::Cause;
 use crate::laws::reads_packets;
-use crate::line::{framed, holds_packet, move_on};
+use crate::line::{damage_fault, framed, move_on};
 use crate::step::{Move, SimStep};
 use osdp_controller::{Controller, ControllerFault, Step};
 use osdp_frame::{Burst, FrameView, Item};
 use osdp_msg::{Command, Event};
-use osdp_reader::{Handler, Reader, Response};
+use osdp_reader::{Handler, Reader};
 use std::alloc::{AllocError, Global};
 use std::collections::VecDeque;
 
@@ -268,42 +266,10 @@ impl<H: Handler> Simulation<H> {
         ensures fits { SaysFit H.answer_of H.after (packet.now ∷ []) (state_of self.old).reader }
     {
         osdp_frame_laws::one_spelling();
-        let (command, burst) = parts(self.reader.on_frame(packet));
+        let (command, burst) = taken_and_sent(self.reader.on_frame(packet));
         self.account.take(command);
         if !burst.is_empty() {
             self.to_controller.push_back_reserved(burst);
         }
-    }
-}
-
-/// Of a response, the command that was taken and the burst to send, which is empty where nothing is.
-fn parts(response: Response) -> (Option<Command>, Burst)
-    ensures taken { taken_command result.0 ≡ taken_by (response_kind response) (response_command response) }
-    ensures burst { result.1.items ≡ response_bytes response }
-{
-    match response {
-        Response::Silent => (None, Burst::new()),
-        Response::Taken(command, burst) => (command, burst),
-        Response::Secured(burst)
-        | Response::Zero(_, burst)
-        | Response::Repeat(burst)
-        | Response::Busy(burst)
-        | Response::Wrong(burst) => (None, burst),
-    }
-}
-
-/// Why a move of the line is refused: damage may not hold a packet.
-fn damage_fault(way: &Move) -> Option<Cause>
-    ensures { result ≡ damage_fault way.now }
-{
-    match way {
-        Move::Damage(run) => {
-            if holds_packet(run) {
-                Some(Cause::HoldsPacket)
-            } else {
-                None
-            }
-        }
-        Move::Deliver | Move::Drop | Move::Repeat => None,
     }
 }

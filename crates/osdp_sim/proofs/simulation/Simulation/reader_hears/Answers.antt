@@ -12,10 +12,10 @@ pub returns-then-not-is_empty-clause-state : goal.returns-then-not-is_empty-clau
 returns-then-not-is_empty-clause-state g c =
     let old = c.args.self.now in
     let o = hears g.H.Handler.answer_of g.H.Handler.after old.reader c.args.packet.now in
-    let burst = c.parts-command.result.1 in
+    let burst = c.taken_and_sent-command.result.1 in
     let bursts : bytes_of c.push_back_reserved.new.self.items ≡ bytes_of old.to_controller.items ++ burst.items ∷ [] =
     ap bytes_of c.push_back_reserved.ensures.items ∙ map-append (λ (b : ArrayVec ℕ). b.items) old.to_controller.items (burst ∷ []) in
-    let spelled = subst (IsSpelled o.reply) (sym c.parts-command.ensures.burst) c.on_frame.ensures.reply in
+    let spelled = subst (IsSpelled o.reply) (sym c.taken_and_sent-command.ensures.burst) c.on_frame.ensures.reply in
     let goes : burst.items ∷ [] ≡ sent o.reply =
     sent_burst o.reply burst.items spelled (search rules) (λ p spells. ((c.one_spelling.ensures p burst.items).0 spells).1) in
     let line : bytes_of c.push_back_reserved.new.self.items ≡ bytes_of old.to_controller.items ++ sent o.reply =

@@ -1,0 +1,76 @@
+-- Devices are added to a bus, one for each reader.
+use Rattle.std.proofs.Common.{◌≡◌, ℕ, arith, List, [], ◌∷◌, ◌++◌, length, map, Some, None, refl, sym, subst, ap, ◌∙◌}
+use Rattle.std.specs.Prelude.{slice_get, slice_set}
+use Rattle.std.specs.Option.{option_map_or}
+use Rattle.std.proofs.lemmas.List.{append-nil, append_assoc}
+use Rattle.osdp_bus.specs.Buses.{BusState, new_bus}
+use Rattle.osdp_bus.specs.Machine.{after_add, after_begin_at, begin_refusal_at, begin_refusal_of, device_begins, new_device}
+use Rattle.osdp_bus.specs.declared.config.BusConfig.{BusConfig}
+use Rattle.osdp_bus.specs.declared.device.Device.{Device}
+use Rattle.osdp_sim_bus.specs.State.{Given, address_of, begun_bus, begun_device, bus_with}
+
+-- the last one
+pub last_there : {X : Type 0} (xs : List X) (x : X) → slice_get (xs ++ x ∷ []) (length xs) ≡ Some x
+last_there [] x = refl
+last_there (y ∷ xs) x = last_there xs x
+
+pub last_set : {X : Type 0} (xs : List X) (x next : X) → slice_set (xs ++ x ∷ []) (length xs) next ≡ xs ++ next ∷ []
+last_set [] x next = refl
+last_set (y ∷ xs) x next = ap (λ l. y ∷ l) (last_set xs x next)
+
+-- a device that was added may begin
+pub may_begin : (address : ℕ) (b : BusState) → begin_refusal_at (length b.devices.entries) (after_add address b) ≡ None
+may_begin address b = ap begin_refusal_of (last_there b.devices.entries (new_device address b.config))
+
+-- one device more, whose session has begun
+pub begins_added : {H : Type 0} (config : BusConfig) (devices : List Device) (given : Given H)
+    → after_begin_at (length devices) 0 (after_add (address_of given) (bus_with config devices))
+    ≡ bus_with config (devices ++ begun_device config given ∷ [])
+begins_added config devices given =
+    let new = new_device (address_of given) config in
+    let added = after_add (address_of given) (bus_with config devices) in
+    ap (λ o. option_map_or (λ d. record added { devices = record added.devices { entries = slice_set (devices ++ new ∷ []) (length devices) (device_begins 0 d) } }) o added) (last_there devices new)
+    ∙ ap (bus_with config) (last_set devices new (device_begins 0 new))
+
+-- a device for each of the readers so far
+pub record HaveBegun {H : Type 0} (config : BusConfig) (all left : List (Given H)) (b : BusState) : Type 0 where
+  pub bus : b ≡ bus_with config b.devices.entries
+  pub devices : b.devices.entries ++ map (begun_device config) left ≡ map (begun_device config) all
+
+pub none_has_begun : {H : Type 0} (config : BusConfig) (all : List (Given H)) (bus : BusState) → bus ≡ new_bus config → HaveBegun config all all bus
+none_has_begun config all bus is =
+    subst (HaveBegun config all all) (sym is) (record { bus = refl; devices = refl })
+
+pub one_more_begun : {H : Type 0} (config : BusConfig) (all old left : List (Given H)) (given : Given H) (bus next : BusState)
+    → HaveBegun config all old bus → old ≡ given ∷ left
+    → next ≡ after_begin_at (length bus.devices.entries) 0 (after_add (address_of given) bus)
+    → HaveBegun config all left next
+one_more_begun config all old left given bus next h is led =
+    let es = bus.devices.entries in
+    let so : next ≡ bus_with config (es ++ begun_device config given ∷ []) =
+    led ∙ ap (λ b. after_begin_at (length es) 0 (after_add (address_of given) b)) h.bus ∙ begins_added config es given in
+    subst (HaveBegun config all left) (sym so) (record {
+      bus = refl;
+      devices = append_assoc es (begun_device config given ∷ []) (map (begun_device config) left)
+          ∙ ap (λ l. es ++ map (begun_device config) l) (sym is) ∙ h.devices;
+    })
+
+pub all_have_begun : {H : Type 0} (config : BusConfig) (all left : List (Given H)) (bus : BusState)
+    → HaveBegun config all left bus → left ≡ [] → bus ≡ begun_bus config all
+all_have_begun config all left bus h none =
+    h.bus ∙ ap (bus_with config) (sym (append-nil bus.devices.entries) ∙ ap (λ l. bus.devices.entries ++ map (begun_device config) l) (sym none) ∙ h.devices)
+
+-- what is put at the end of a list, one element after the other
+pub one_more_put : {X Y : Type 0} (f : X → Y) (done : List Y) (old left : List X) (x : X) (whole : List Y)
+    → done ++ map f old ≡ whole → old ≡ x ∷ left → (done ++ f x ∷ []) ++ map f left ≡ whole
+one_more_put f done old left x whole so_far is =
+    append_assoc done (f x ∷ []) (map f left) ∙ ap (λ l. done ++ map f l) (sym is) ∙ so_far
+
+pub all_put : {X Y : Type 0} (f : X → Y) (done : List Y) (left : List X) (whole : List Y)
+    → done ++ map f left ≡ whole → left ≡ [] → done ≡ whole
+all_put f done left whole so_far none =
+    sym (append-nil done) ∙ ap (λ l. done ++ map f l) (sym none) ∙ so_far
+
+pub nothing_left : {X : Type 0} (xs : List X) → length xs ≡ 0 → xs ≡ []
+nothing_left [] none = refl
+nothing_left (x ∷ xs) none = absurd (omega arith)

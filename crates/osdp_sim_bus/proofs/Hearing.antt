@@ -1,0 +1,99 @@
+-- The readers hear a packet one after the other.
+use Rattle.std.proofs.Common.{◌≡◌, ℕ, zero, suc, ◌+◌, ◌<◌, ◌≤◌, arith, All, List, [], ◌∷◌, ◌++◌, length, map, take, drop, get_or, set, refl, sym, subst, ap, ◌∙◌}
+use Rattle.std.proofs.lemmas.List.{append-nil, append_assoc, drop-set-lt, drop_more, length-set, map-append, take_all, take_more, take_more_set}
+use Rattle.std.proofs.lemmas.List.Elements.{All-append}
+use Rattle.std.proofs.lemmas.Grind.{drop_more_same, flat_map-append}
+use Rattle.std.specs.List.{flat_map}
+use Rattle.osdp_frame.specs.Packet.{Packet}
+use Rattle.osdp_msg.specs.declared.command.Command.{Command}
+use Rattle.osdp_reader.specs.declared.handler.Answer.{Answer}
+use Rattle.osdp_sim.specs.Steps.{SaysFit}
+use Rattle.osdp_sim_bus.specs.declared.site.Site as declared
+use Rattle.osdp_sim_bus.specs.Room.{site_of, sites_of}
+use Rattle.osdp_sim_bus.specs.State.{Site}
+use Rattle.osdp_sim_bus.specs.Steps.{site_hears, site_says}
+
+pub all_single : {X : Type 0} (P : X → Type 0) (x : X) → P x → All P (x ∷ [])
+all_single P x holds zero d lt = holds
+all_single P x holds (suc k) d lt = absurd (omega (arith, lt))
+
+pub all_no : {X : Type 0} (P : X → Type 0) → All P []
+all_no P k d lt = absurd (omega (arith, lt))
+
+-- what is left of two lists begins with the same
+pub same_there : {X : Type 0} (xs ys : List X) (i : ℕ) (d : X) → i < length xs → i < length ys → drop i xs ≡ drop i ys → get_or xs i d ≡ get_or ys i d
+same_there xs ys i d within also same =
+    ap (λ l. get_or l 0 d) (sym (drop_more xs i d within) ∙ same ∙ drop_more ys i d also)
+
+module _ {H : Type 0} (answer_of : H → Command → Answer) (after : H → Command → H) (p : Packet) where
+  abbrev pub Says : Site H → Type 0
+  Says site = SaysFit answer_of after (p ∷ []) site.reader
+
+  -- so many of the readers have heard the packet, and what they answered went out
+  pub record HaveHeard (count : ℕ) (old new : List (declared.Site H)) (before behind : List (List ℕ)) : Type 0 where
+    pub many : length new ≡ length old
+    pub done : sites_of (take count new) ≡ map (site_hears answer_of after p) (sites_of (take count old))
+    pub rest : drop count new ≡ drop count old
+    pub line : behind ≡ before ++ flat_map (site_says answer_of after p) (sites_of (take count old))
+    pub fits : All Says (sites_of (take count old))
+
+  pub none_has : (sites : List (declared.Site H)) (line : List (List ℕ)) → HaveHeard 0 sites sites line line
+  none_has sites line = record {
+    many = refl;
+    done = refl;
+    rest = refl;
+    line = sym (append-nil line);
+    fits = all_no Says;
+  }
+
+  one_longer : (sites : List (declared.Site H)) (count : ℕ) (site : declared.Site H) → count < length sites
+      → sites_of (take (count + 1) sites) ≡ sites_of (take count sites) ++ site_of (get_or sites count site) ∷ []
+  one_longer sites count site within =
+      ap sites_of (take_more sites count site within) ∙ map-append site_of (take count sites) (get_or sites count site ∷ [])
+
+  -- .. and one more; what stands there is named whatever default a look-up has
+  pub one_more : (count : ℕ) (old new : List (declared.Site H)) (default next : declared.Site H) (before line behind : List (List ℕ))
+      → count < length new → HaveHeard count old new before line
+      → site_of next ≡ site_hears answer_of after p (site_of (get_or new count default))
+      → behind ≡ line ++ site_says answer_of after p (site_of (get_or new count default))
+      → Says (site_of (get_or new count default))
+      → HaveHeard (count + 1) old (set new count next) before behind
+  one_more count old new default next before line behind within h heard said fit =
+      let site = site_of (get_or new count default) in
+      let also : count < length old = omega (arith, within, h.many) in
+      let there : site_of (get_or old count default) ≡ site = ap site_of (sym (same_there new old count default within also h.rest)) in
+      let longer : sites_of (take (count + 1) old) ≡ sites_of (take count old) ++ site ∷ [] =
+      one_longer old count default also ∙ ap (λ s. sites_of (take count old) ++ s ∷ []) there in
+      record {
+        many = length-set new count next ∙ h.many;
+        done =
+            ap sites_of (take_more_set new count next within) ∙ map-append site_of (take count new) (next ∷ [])
+            ∙ ap (λ l. l ++ site_of next ∷ []) h.done
+            ∙ ap (λ s. map (site_hears answer_of after p) (sites_of (take count old)) ++ s ∷ []) heard
+            ∙ sym (ap (map (site_hears answer_of after p)) longer ∙ map-append (site_hears answer_of after p) (sites_of (take count old)) (site ∷ []));
+        rest = drop-set-lt (count + 1) new count next (omega arith) ∙ drop_more_same new old count h.rest;
+        line =
+            said ∙ ap (λ l. l ++ site_says answer_of after p site) h.line
+            ∙ append_assoc before (flat_map (site_says answer_of after p) (sites_of (take count old))) (site_says answer_of after p site)
+            ∙ ap (λ l. before ++ l)
+            (ap (λ l. flat_map (site_says answer_of after p) (sites_of (take count old)) ++ l) (sym (append-nil (site_says answer_of after p site)))
+            ∙ sym (ap (flat_map (site_says answer_of after p)) longer ∙ flat_map-append (site_says answer_of after p) (sites_of (take count old)) (site ∷ [])));
+        fits = subst (All Says) (sym longer) (All-append Says (sites_of (take count old)) (site ∷ []) h.fits (all_single Says site fit));
+      }
+
+  -- all of them have
+  pub record AllHaveHeard (old new : List (declared.Site H)) (before behind : List (List ℕ)) : Type 0 where
+    pub sites : sites_of new ≡ map (site_hears answer_of after p) (sites_of old)
+    pub line : behind ≡ before ++ flat_map (site_says answer_of after p) (sites_of old)
+    pub fits : All Says (sites_of old)
+
+  pub all_have : (count : ℕ) (old new : List (declared.Site H)) (before behind : List (List ℕ)) → length new ≤ count
+      → HaveHeard count old new before behind → AllHaveHeard old new before behind
+  all_have count old new before behind over h =
+      let whole : take count old ≡ old = take_all count old (omega (arith, over, h.many)) in
+      let now : take count new ≡ new = take_all count new over in
+      record {
+        sites = ap sites_of (sym now) ∙ h.done ∙ ap (λ l. map (site_hears answer_of after p) (sites_of l)) whole;
+        line = h.line ∙ ap (λ l. before ++ flat_map (site_says answer_of after p) (sites_of l)) whole;
+        fits = subst (λ l. All Says (sites_of l)) whole h.fits;
+      }

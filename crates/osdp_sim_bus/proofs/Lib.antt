@@ -1,0 +1,7 @@
+pub mod Searches
+pub mod Hearing
+pub mod Places
+pub mod Adding
+pub mod Counts
+pub mod Rooms
+pub mod Sent

@@ -1,0 +1,32 @@
+-- A reader by its place.
+use Rattle.std.proofs.Common.{◌≡◌, ℕ, ◌<◌, ◌-◌, ◌&&◌, nat_le, Bool, true, false, arith, List, length, get_or, Some, refl, sym, ap, ◌∙◌}
+use Rattle.std.specs.Prelude.{option_map, slice_get, slice_set}
+use Rattle.std.specs.Option.{option_map_or}
+use Rattle.std.proofs.lemmas.Bool.{leb-true}
+use Rattle.std.proofs.lemmas.List.{length-map, map-set}
+use Rattle.std.proofs.lemmas.Option.{slice_get-get_or, slice_get-map}
+use Rattle.osdp_sim_bus.specs.declared.site.Site as declared
+use Rattle.osdp_sim_bus.specs.Room.{site_of, sites_of}
+use Rattle.osdp_sim_bus.specs.State.{Site}
+use Rattle.osdp_sim_bus.specs.Steps.{changed_site}
+
+-- the one at a place is changed
+pub changed_there : {H : Type 0} (change : Site H → Site H) (sites : List (declared.Site H)) (place : ℕ) (default next : declared.Site H)
+    → place < length sites → site_of next ≡ change (site_of (get_or sites place default))
+    → sites_of (slice_set sites place next) ≡ changed_site place change (sites_of sites)
+changed_there change sites place default next within is =
+    let there : slice_get (sites_of sites) place ≡ Some (site_of (get_or sites place default)) =
+    slice_get-map site_of sites place ∙ ap (option_map site_of) (slice_get-get_or sites place default within) in
+    map-set site_of sites place next ∙ ap (slice_set (sites_of sites) place) is
+    ∙ sym (ap (λ o. option_map_or (λ site. slice_set (sites_of sites) place (change site)) o (sites_of sites)) there)
+
+both : (a b : Bool) → (a && b) ≡ true → (a ≡ true) × (b ≡ true)
+both true b e = (refl, e)
+both false b e = absurd cc
+
+-- readers count from 1
+pub there_within : {H : Type 0} (number : ℕ) (sites : List (declared.Site H)) → (nat_le 1 number && nat_le number (length (sites_of sites))) ≡ true
+    → number - 1 < length sites
+there_within number sites there =
+    let parts = both (nat_le 1 number) (nat_le number (length (sites_of sites))) there in
+    omega (arith, leb-true 1 number parts.0, leb-true number (length (sites_of sites)) parts.1, length-map sites site_of)

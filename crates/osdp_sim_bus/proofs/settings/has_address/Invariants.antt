@@ -1,0 +1,8 @@
+use Rattle.std.proofs.Common.{◌≡◌, drop}
+use Rattle.std.specs.List.{list_any}
+use Rattle.osdp_sim_bus.specs.Runs.{is_at}
+use Rattle.osdp_sim_bus.proofs.settings.has_address.Given as goal
+
+-- the readers that are left tell what all of them do
+abbrev pub invariant-loop-reader : goal.invariant-loop-reader
+invariant-loop-reader g l = list_any (is_at l.address) (drop l.reader-index l.readers) ≡ list_any (is_at l.address) l.readers

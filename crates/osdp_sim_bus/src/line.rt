@@ -1,0 +1,82 @@
+//! What goes over the line.
+
+ghost use Rattle.std.specs.Prelude.{◌≡◌, ◌+◌, ◌≤◌, ◌++◌, [], ◌∷◌, All, OnOk, length, map};
+ghost use Rattle.std.specs.List.{flat_map};
+ghost use Rattle.std.specs.VecDeque.{deque_capacity, deque_len};
+ghost use Rattle.osdp_sim.specs.Line.{bytes_of, handed, left};
+ghost use Rattle.osdp_sim.specs.Steps.{SaysFit};
+ghost use Rattle.osdp_sim_bus.specs.Room.{HasPlace, sites_of};
+ghost use Rattle.osdp_sim_bus.specs.Steps.{hears_run, site_hears, site_says};
+
+use crate::site::Site;
+use osdp_bus::Bus;
+use osdp_frame::{Burst, FrameView};
+use osdp_reader::Handler;
+use osdp_sim::Move;
+use osdp_sim::line::copy;
+use std::alloc::AllocError;
+use std::collections::VecDeque;
+
+/// Moves the line on, and gives the bytes that come through; none where nothing does.
+pub fn hand_over(line: &mut VecDeque<Burst>, way: &Move) -> Burst
+    ensures line { bytes_of line.new.items ≡ left way.now (bytes_of line.old.items) }
+    ensures handed { result.items ≡ handed way.now (bytes_of line.old.items) }
+{
+    match way {
+        Move::Repeat => match line.front() {
+            Some(burst) => copy(burst),
+            None => Burst::new(),
+        },
+        Move::Deliver => match line.pop_front() {
+            Some(burst) => burst,
+            None => Burst::new(),
+        },
+        Move::Drop => {
+            let _ = line.pop_front();
+            Burst::new()
+        }
+        Move::Damage(bytes) => match line.pop_front() {
+            Some(_) => copy(bytes),
+            None => Burst::new(),
+        },
+    }
+}
+
+/// A run of bytes comes to the bus, which then sees the line silent.
+pub fn hand_in(bus: &mut Bus, run: &Burst, now: u64)
+    ensures { bus.new ≡ hears_run run.now.items now bus.old }
+{
+    if run.is_empty() {
+        return;
+    }
+    bus.on_bytes(run.as_slice(), now);
+    bus.on_silence(now);
+}
+
+/// All readers hear a packet, in their order, and what each of them answers goes out.
+pub fn hear_all<H: Handler>(
+    sites: &mut [Site<H>],
+    packet: &FrameView<'_>,
+    line: &mut VecDeque<Burst>,
+)
+    requires place { deque_len line.old + length sites.old ≤ deque_capacity line.old }
+    requires places { All HasPlace sites.old }
+    ensures sites { sites_of sites.new ≡ map (site_hears H.answer_of H.after packet.now) (sites_of sites.old) }
+    ensures line { bytes_of line.new.items ≡ bytes_of line.old.items ++ flat_map (site_says H.answer_of H.after packet.now) (sites_of sites.old) }
+    ensures fits { All (λ site. SaysFit H.answer_of H.after (packet.now ∷ []) site.reader) (sites_of sites.old) }
+{
+    for site in sites.iter_mut() {
+        site.hear(packet, line);
+    }
+}
+
+/// Makes a place in each list of each account.
+pub fn grow_all<H: Handler>(sites: &mut [Site<H>]) -> Result<(), AllocError>
+    ensures same { sites_of sites.new ≡ sites_of sites.old }
+    ensures places { OnOk result (All HasPlace sites.new) }
+{
+    for site in sites.iter_mut() {
+        site.account.grow()?;
+    }
+    Ok(())
+}

@@ -1,0 +1,215 @@
+//! The bus, the readers and the line between them.
+
+ghost use Rattle.std.specs.Prelude.{◌≡◌, All, None, OnOk};
+ghost use Rattle.osdp_msg.specs.CommandTable.{CommandFits};
+ghost use Rattle.osdp_sim.specs.Steps.{damage_fault};
+ghost use Rattle.osdp_sim.specs.declared.step.SimStep.TheVariants.{Issue, Queue, Busy, Wait, ToReader, ToController, Reopen};
+ghost use Rattle.osdp_sim_bus.specs.Room.{HasPlace, HasRoom, state_of};
+ghost use Rattle.osdp_sim_bus.specs.State.{AreSent};
+ghost use Rattle.osdp_sim_bus.specs.Steps.{StepFits, after_step, fault_of, is_quiet, is_there, takes_report};
+
+use crate::line::{grow_all, hand_in, hand_over, hear_all};
+use crate::site::Site;
+use osdp_bus::Bus;
+use osdp_frame::{Burst, Item};
+use osdp_msg::{Command, Event};
+use osdp_reader::Handler;
+use osdp_sim::laws::reads_packets;
+use osdp_sim::line::{damage_fault, framed, move_on};
+use osdp_sim::{Cause, Move, SimStep};
+use std::alloc::AllocError;
+use std::collections::VecDeque;
+
+/// A bus, readers, and the bursts that are on their way between them.
+#[derive(Drop)]
+pub struct Simulation<H: Handler> {
+    /// The panel's end. Its entries are the readers' places.
+    pub bus: Bus,
+    /// The readers in the order of their numbers, which count from 1.
+    pub sites: Vec<Site<H>>,
+    /// The bursts on their way to the readers, the first in front.
+    pub to_readers: VecDeque<Burst>,
+    /// The bursts on their way to the bus, the first in front.
+    pub to_bus: VecDeque<Burst>,
+    /// The moment, in milliseconds since the set-up.
+    pub clock: u64,
+}
+
+impl<H: Handler> Simulation<H> {
+    /// Makes room for what one step adds.
+    pub fn grow(&mut self) -> Result<(), AllocError>
+        ensures same { state_of self.new ≡ state_of self.old }
+        ensures room { OnOk result (HasRoom self.new) }
+    {
+        self.to_readers.try_reserve(1)?;
+        self.to_bus.try_reserve(self.sites.len())?;
+        grow_all(&mut self.sites)
+    }
+
+    /// Whether there is a reader with this number.
+    fn is_there(&self, number: usize) -> bool
+        ensures { result ≡ is_there number (state_of self.now) }
+    {
+        1 <= number && number <= self.sites.len()
+    }
+
+    /// Whether nothing is on the line and the session of an entry has ended.
+    fn is_quiet(&self, place: usize) -> bool
+        ensures { result ≡ is_quiet place (state_of self.now) }
+    {
+        self.to_readers.is_empty()
+            && self.to_bus.is_empty()
+            && matches!(self.bus.is_closed(place), Some(true))
+    }
+
+    /// Why a step is refused.
+    pub fn fault(&self, step: &SimStep) -> Option<Cause>
+        ensures { result ≡ fault_of step.now (state_of self.now) }
+    {
+        match step {
+            SimStep::ToReader(way) | SimStep::ToController(way) => damage_fault(way),
+            SimStep::Reopen(number) => {
+                if self.is_there(*number) && !self.is_quiet(*number - 1) {
+                    Some(Cause::NotQuiet)
+                } else {
+                    None
+                }
+            }
+            SimStep::Issue(..) | SimStep::Queue(..) | SimStep::Busy(..) | SimStep::Wait(_) => None,
+        }
+    }
+
+    /// Takes a step that isn't refused.
+    pub fn take(&mut self, step: &SimStep)
+        requires well { fault_of step.now (state_of self.old) ≡ None }
+        requires room { HasRoom self.old }
+        requires sent { AreSent (state_of self.old) }
+        ensures state { state_of self.new ≡ after_step H.answer_of H.after step.now (state_of self.old) }
+        ensures sent { AreSent (state_of self.new) }
+        ensures fits { StepFits H.answer_of H.after step.now (state_of self.old) }
+    {
+        osdp_frame_laws::one_spelling();
+        self.change(step);
+    }
+
+    /// Does what a step says.
+    fn change(&mut self, step: &SimStep)
+        requires well { fault_of step.now (state_of self.old) ≡ None }
+        requires room { HasRoom self.old }
+        requires sent { AreSent (state_of self.old) }
+        ensures state { state_of self.new ≡ after_step H.answer_of H.after step.now (state_of self.old) }
+        ensures fits { StepFits H.answer_of H.after step.now (state_of self.old) }
+    {
+        match step {
+            SimStep::Issue(number, command) => self.issue(*number, command),
+            SimStep::Queue(number, event) => self.queue(*number, event),
+            SimStep::Busy(number, busy) => self.set_busy(*number, *busy),
+            SimStep::Wait(wait) => self.wait(*wait),
+            SimStep::ToReader(way) => self.to_readers(way),
+            SimStep::ToController(way) => self.to_bus(way),
+            SimStep::Reopen(number) => self.reopen(*number),
+        }
+    }
+
+    /// The bus's user submits a command for a reader; a refused one is dropped.
+    fn issue(&mut self, number: usize, command: &Command)
+        requires room { All HasPlace self.old.sites.items }
+        ensures state { state_of self.new ≡ after_step H.answer_of H.after (Issue number command.now) (state_of self.old) }
+        ensures fits { CommandFits command.now }
+    {
+        // Writing it brings in that its fields are in their ranges.
+        let _ = command.write();
+        if !self.is_there(number) {
+            return;
+        }
+        if self.bus.submit(number - 1, command.copy()).is_ok() {
+            self.sites[number - 1].account.issue(command.copy());
+        }
+    }
+
+    /// A reader's device submits an event.
+    fn queue(&mut self, number: usize, event: &Event)
+        requires room { All HasPlace self.old.sites.items }
+        ensures state { state_of self.new ≡ after_step H.answer_of H.after (Queue number event.now) (state_of self.old) }
+    {
+        if self.is_there(number) {
+            self.sites[number - 1].queue(event);
+        }
+    }
+
+    /// A reader is busy from now on, or it isn't any more.
+    fn set_busy(&mut self, number: usize, busy: bool)
+        ensures state { state_of self.new ≡ after_step H.answer_of H.after (Busy number busy) (state_of self.old) }
+    {
+        if self.is_there(number) {
+            self.sites[number - 1].reader.set_busy(busy);
+        }
+    }
+
+    /// The session with a reader begins again.
+    fn reopen(&mut self, number: usize)
+        requires room { All HasPlace self.old.sites.items }
+        requires well { fault_of (Reopen number) (state_of self.old) ≡ None }
+        ensures state { state_of self.new ≡ after_step H.answer_of H.after (Reopen number) (state_of self.old) }
+    {
+        if self.is_there(number) {
+            let _ = self.bus.begin(number - 1, self.clock);
+            self.sites[number - 1].account.begin();
+        }
+    }
+
+    /// The report that waits, if any, goes to the account of its entry's reader.
+    fn take_report(&mut self)
+        requires room { All HasPlace self.old.sites.items }
+        ensures state { state_of self.new ≡ takes_report (state_of self.old) }
+    {
+        let Some((entry, report)) = self.bus.next_report() else {
+            return
+        };
+        if entry < self.sites.len() {
+            self.sites[entry].account.tell(Some(report));
+        }
+    }
+
+    /// Time passes, and what is due goes out.
+    fn wait(&mut self, wait: u64)
+        requires room { HasRoom self.old }
+        ensures state { state_of self.new ≡ after_step H.answer_of H.after (Wait wait) (state_of self.old) }
+        ensures fits { StepFits H.answer_of H.after (Wait wait) (state_of self.old) }
+    {
+        osdp_frame_laws::one_spelling();
+        self.clock = self.clock.saturating_add(wait);
+        if let Some(burst) = self.bus.tick(self.clock) {
+            self.to_readers.push_back_reserved(burst);
+        }
+        self.take_report();
+    }
+
+    /// The line moves on towards the readers.
+    fn to_readers(&mut self, way: &Move)
+        requires room { HasRoom self.old }
+        requires well { damage_fault way.now ≡ None }
+        requires sent { AreSent (state_of self.old) }
+        ensures state { state_of self.new ≡ after_step H.answer_of H.after (ToReader way.now) (state_of self.old) }
+        ensures fits { StepFits H.answer_of H.after (ToReader way.now) (state_of self.old) }
+    {
+        reads_packets();
+        let Some(burst) = move_on(&mut self.to_readers, way) else {
+            return
+        };
+        let framer = framed(&burst);
+        if let Some(Item::Packet(packet)) = framer.next() {
+            hear_all(&mut self.sites, &packet, &mut self.to_bus);
+        }
+    }
+
+    /// The line moves on towards the bus.
+    fn to_bus(&mut self, way: &Move)
+        requires room { HasRoom self.old }
+        ensures state { state_of self.new ≡ after_step H.answer_of H.after (ToController way.now) (state_of self.old) }
+    {
+        let run = hand_over(&mut self.to_bus, way);
+        hand_in(&mut self.bus, &run, self.clock);
+        self.take_report();
+    }
+}

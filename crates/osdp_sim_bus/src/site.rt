@@ -1,0 +1,76 @@
+//! A reader on the line.
+
+ghost use Rattle.std.specs.Prelude.{◌≡◌, ◌+◌, ◌<◌, ◌≤◌, ◌++◌, [], ◌∷◌, IfErr, IfOk};
+ghost use Rattle.std.specs.VecDeque.{deque_capacity, deque_len};
+ghost use Rattle.osdp_reader.specs.declared.config.ReaderConfig.{ReaderConfig};
+ghost use Rattle.osdp_sim.specs.Line.{bytes_of};
+ghost use Rattle.osdp_sim.specs.Steps.{SaysFit};
+ghost use Rattle.osdp_sim.specs.declared.fault.Cause.TheVariants.{NoMemory};
+ghost use Rattle.osdp_sim_bus.specs.Room.{HasPlace, site_of};
+ghost use Rattle.osdp_sim_bus.specs.State.{new_site};
+ghost use Rattle.osdp_sim_bus.specs.Steps.{site_hears, site_queues, site_says};
+
+use osdp_frame::{Burst, FrameView};
+use osdp_msg::Event;
+use osdp_reader::{Handler, Reader, ReaderConfig};
+use osdp_sim::{Account, Cause, taken_and_sent};
+use std::alloc::Global;
+use std::collections::VecDeque;
+
+/// A reader, and what has come of its schedule so far.
+#[derive(Drop)]
+pub struct Site<H: Handler> {
+    pub reader: Reader<H>,
+    pub account: Account,
+}
+
+impl<H: Handler> Site<H> {
+    /// A new reader, whose first session begins.
+    pub fn new(
+        alloc: Global,
+        config: ReaderConfig,
+        events: usize,
+        handler: H,
+    ) -> Result<Site<H>, Cause>
+        ensures made { IfOk result (λ site. site_of site ≡ new_site (config, events, handler)) }
+        ensures cause { IfErr result (λ cause. cause ≡ NoMemory) }
+    {
+        let Ok(reader) = Reader::new(alloc, config, handler, events) else {
+            return Err(Cause::NoMemory);
+        };
+        let mut account = Account::new(alloc);
+        if account.grow().is_err() {
+            return Err(Cause::NoMemory);
+        }
+        account.begin();
+        Ok(Site { reader, account })
+    }
+
+    /// The device submits an event; a refused one is dropped.
+    pub fn queue(&mut self, event: &Event)
+        requires { HasPlace self.old }
+        ensures { site_of self.new ≡ site_queues event.now (site_of self.old) }
+    {
+        if self.reader.submit_event(event.copy()).is_ok() {
+            self.account.queue(event.copy());
+        }
+    }
+
+    /// The reader hears a packet, and its answer goes out.
+    pub fn hear(&mut self, packet: &FrameView<'_>, line: &mut VecDeque<Burst>)
+        requires place { deque_len line.old < deque_capacity line.old }
+        requires places { HasPlace self.old }
+        ensures site { site_of self.new ≡ site_hears H.answer_of H.after packet.now (site_of self.old) }
+        ensures line { bytes_of line.new.items ≡ bytes_of line.old.items ++ site_says H.answer_of H.after packet.now (site_of self.old) }
+        ensures one { deque_len line.new ≤ deque_len line.old + 1 }
+        ensures room { deque_capacity line.new ≡ deque_capacity line.old }
+        ensures fits { SaysFit H.answer_of H.after (packet.now ∷ []) (site_of self.old).reader }
+    {
+        osdp_frame_laws::one_spelling();
+        let (command, burst) = taken_and_sent(self.reader.on_frame(packet));
+        self.account.take(command);
+        if !burst.is_empty() {
+            line.push_back_reserved(burst);
+        }
+    }
+}
