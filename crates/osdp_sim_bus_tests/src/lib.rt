@@ -1,0 +1,10 @@
+//! Tests of `osdp_sim_bus`: schedules over a line with several readers, each with the accounts that were worked out by hand, and readers
+//! that are refused.
+#![tactic(auto)]
+
+#[cfg(test)]
+mod accounts;
+#[cfg(test)]
+mod readers;
+#[cfg(test)]
+mod steps;
