@@ -42,13 +42,13 @@ is_false true unless = absurd (unless refl)
 pub none_at : (test : Device → Bool) (ds : List Device) (j : ℕ) (f : Device) → list_any test ds ≡ false → slice_get ds j ≡ Some f → test f ≡ false
 none_at test ds j f none at = is_false (test f) (λ h. let some = any_at test ds j f at h in absurd cc)
 
-in_taken : (i j : ℕ) (ds : List Device) (f : Device) → j < i → slice_get ds j ≡ Some f → slice_get (take i ds) j ≡ Some f
+pub in_taken : (i j : ℕ) (ds : List Device) (f : Device) → j < i → slice_get ds j ≡ Some f → slice_get (take i ds) j ≡ Some f
 in_taken zero j ds f below at = absurd (omega arith)
 in_taken (suc i) j [] f below at = absurd cc
 in_taken (suc i) zero (x ∷ ds) f below at = at
 in_taken (suc i) (suc j) (x ∷ ds) f below at = in_taken i j ds f (omega arith) at
 
-in_dropped : (i k : ℕ) (ds : List Device) (f : Device) → slice_get ds (i + k) ≡ Some f → slice_get (drop i ds) k ≡ Some f
+pub in_dropped : (i k : ℕ) (ds : List Device) (f : Device) → slice_get ds (i + k) ≡ Some f → slice_get (drop i ds) k ≡ Some f
 in_dropped zero k ds f at = ap (slice_get ds) (let e : k ≡ zero + k = omega arith in e) ∙ at
 in_dropped (suc i) k [] f at = absurd cc
 in_dropped (suc i) k (x ∷ ds) f at = in_dropped i k ds f (ap (slice_get (x ∷ ds)) (let e : suc (i + k) ≡ suc i + k = omega arith in e) ∙ at)

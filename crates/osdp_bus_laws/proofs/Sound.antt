@@ -43,18 +43,16 @@ sound_items now [] ds sound = sound
 sound_items now (part ∷ parts) ds sound = sound_items now parts (hears_item now part ds) (sound_item now part ds sound)
 
 -- who holds the line then held it before
-HeldBefore : ℕ → Devices → Type 0
+abbrev pub HeldBefore : ℕ → Devices → Type 0
 HeldBefore j ds = (d : Device) × (slice_get ds.entries j ≡ Some d) × (holds d ≡ true)
 
-abbrev WereHeld : Devices → Devices → Type 0
+abbrev pub WereHeld : Devices → Devices → Type 0
 WereHeld ds es = (j : ℕ) (f : Device) → slice_get es.entries j ≡ Some f → holds f ≡ true → HeldBefore j ds
 
-same_held : (ds : Devices) → WereHeld ds ds
-unfolding HeldBefore
+pub same_held : (ds : Devices) → WereHeld ds ds
 same_held ds j f at h = (f, at, h)
 
 held_with : (p : Packet) (now i : ℕ) (o : Option Device) (ds : Devices) → slice_get ds.entries i ≡ o → WereHeld ds (hears_with p now i o ds)
-unfolding HeldBefore
 held_with p now i None ds at = same_held ds
 held_with p now i (Some d) ds at = λ j f there h. by_place j f h (replaced ds.entries i (device_hears p now d) j f there)
   where
@@ -71,8 +69,7 @@ held_item now (Whole p) ds = held_at p now (first_from 0 (is_at p.address) ds.en
 held_item now (Passed byte) ds = same_held ds
 held_item now (Bad fault) ds = same_held ds
 
-held_items : (now : ℕ) (parts : List Part) (ds : Devices) → WereHeld ds (hears_items now parts ds)
-unfolding HeldBefore
+pub held_items : (now : ℕ) (parts : List Part) (ds : Devices) → WereHeld ds (hears_items now parts ds)
 held_items now [] ds = same_held ds
 held_items now (part ∷ parts) ds = λ j f at h. by_later j (held_items now parts (hears_item now part ds) j f at h)
   where
@@ -142,7 +139,6 @@ nobody b none j f at h =
     cc
 
 pub still_nobody : (now : ℕ) (parts : List Part) (ds : Devices) → IsNobody ds → IsNobody (hears_items now parts ds)
-unfolding HeldBefore
 still_nobody now parts ds nobody j f at h = by_before (held_items now parts ds j f at h)
   where
     by_before : HeldBefore j ds → ⊥

@@ -1,3 +1,6 @@
 pub mod Calls
 pub mod Addresses
 pub mod Exchanges
+pub mod Packets
+pub mod Turns
+pub mod Fairness

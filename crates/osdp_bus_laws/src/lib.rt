@@ -1,9 +1,13 @@
 //! What the calls of a bus come to, whatever is called, said apart from the tables. The functions do nothing: their contracts are laws.
 #![tactic(auto)]
 
+ghost use Rattle.osdp_bus.specs.Buses.{BusState};
 ghost use Rattle.osdp_bus_laws.specs.Addresses.{NoAddressOfTwo, ReservationsLast, ReserveTheirComsets};
 ghost use Rattle.osdp_bus_laws.specs.Calls.{Always};
 ghost use Rattle.osdp_bus_laws.specs.Exchanges.{HasOneExchange, KeepsReports};
+ghost use Rattle.osdp_bus_laws.specs.Fairness.{TurnsAreFair};
+ghost use Rattle.osdp_bus_laws.specs.Packets.{CutsChangeNothing, PacketsGoToTheirAddress};
+ghost use Rattle.osdp_bus_laws.specs.Turns.{TakesTurns};
 
 /// No address is that of, or reserved for, two entries.
 pub fn addresses_have_one_entry()
@@ -30,4 +34,24 @@ pub fn one_exchange_is_outstanding()
 /// A report that waits stays until it is taken, so none is lost.
 pub fn reports_wait()
     ensures { Always KeepsReports }
+{}
+
+/// A packet goes to the controller of its address, also where one before it in its run has moved a device, and changes no other device.
+pub fn packets_go_to_their_address()
+    ensures { Always PacketsGoToTheirAddress }
+{}
+
+/// Bytes in any cut, at one moment, come to the same.
+pub fn cuts_change_nothing()
+    ensures { Always CutsChangeNothing }
+{}
+
+/// Where nobody holds the line and no report waits, the first in turn that is due begins an exchange, and where none is due nothing happens.
+pub fn entries_take_turns()
+    ensures { (b : BusState) → TakesTurns b }
+{}
+
+/// Turns are fair: between two exchanges of one entry, every other entry that was due all along has begun one.
+pub fn turns_are_fair()
+    ensures { Always TurnsAreFair }
 {}
