@@ -1,0 +1,7 @@
+pub mod Cutting
+pub mod Rows
+pub mod Lines
+pub mod Judging
+pub mod Passing
+pub mod Splitting
+pub mod InTurn

@@ -1,0 +1,67 @@
+-- The pieces of a text between spaces, one after the other, and the words among them.
+use Rattle.std.proofs.Common.{lit<, ◌≡◌, ℕ, true, false, List, [], ◌∷◌, ◌++◌, length, Bor, Some, None, cond, eqb, not, refl, sym, ap, ◌∙◌, append_assoc, append-nil}
+use Rattle.std.specs.List.{slice_split}
+use Rattle.std.specs.Str.Iter.{split_has_more, split_pattern, split_steps, split_text}
+use Rattle.std.specs.Str.Pattern.{FindsChar}
+use Rattle.std.specs.declared.str.Split.{Split}
+use Rattle.std.proofs.lemmas.Iterator.{YieldsList}
+use Rattle.std.proofs.lemmas.Iterator.Splits.{YieldsList-from_str_split}
+use Rattle.osdp_script.specs.Words.{some_characters, words_in}
+
+-- the pieces that are left of a text
+abbrev pub AreLeft : Split ℕ → List (List ℕ) → Type 0
+AreLeft s left = YieldsList (split_steps FindsChar (λ a b. b ≡ a)) (λ x. x.now) s left
+
+-- a piece is the first of them
+pub next_piece : (s t : Split ℕ) (x : Bor (List ℕ)) (left : List (List ℕ)) → AreLeft s left → split_steps FindsChar (λ a b. b ≡ a) s (Some x) t
+    → (rest : List (List ℕ)) × (left ≡ x.now ∷ rest) × AreLeft t rest
+next_piece s t x [] y k = absurd (y.runs x t k)
+next_piece s t x (p ∷ ps) y k = (ps, ap (λ q. q ∷ ps) (sym (y.runs.1 x t k).0), record { runs = (y.runs.1 x t k).1 })
+
+no_piece : (s t : Split ℕ) (left : List (List ℕ)) → AreLeft s left → split_steps FindsChar (λ a b. b ≡ a) s None t → left ≡ []
+no_piece s t [] y k = refl
+no_piece s t (p ∷ ps) y k = absurd (y.runs.0 t k)
+
+empty_piece : (x : List ℕ) (rest : List (List ℕ)) → eqb (length x) 0 ≡ true → some_characters (x ∷ rest) ≡ some_characters rest
+empty_piece x rest e = ap (λ b. cond (not b) (x ∷ some_characters rest) (some_characters rest)) e
+
+a_word : (x : List ℕ) (rest : List (List ℕ)) → eqb (length x) 0 ≡ false → some_characters (x ∷ rest) ≡ x ∷ some_characters rest
+a_word x rest e = ap (λ b. cond (not b) (x ∷ some_characters rest) (some_characters rest)) e
+
+-- the words so far, and those among the pieces that are left, are all words
+pub record IsCutTo (all words : List (List ℕ)) (s : Split ℕ) : Type 0 where
+  pub left : List (List ℕ)
+  pub are : AreLeft s left
+  pub whole : words ++ some_characters left ≡ all
+
+pub begun : (text : List ℕ) (s : Split ℕ) → split_text s ≡ text → split_has_more s ≡ true → split_pattern s ≡ 32 → IsCutTo (words_in text) [] s
+begun text s rest more pattern = record {
+  left = slice_split (λ c. eqb c 32) text;
+  are = YieldsList-from_str_split 32 text (lit< tt) rest more pattern;
+  whole = refl;
+}
+
+pub passed : (all words : List (List ℕ)) (s t : Split ℕ) (x : Bor (List ℕ)) → IsCutTo all words s → split_steps FindsChar (λ a b. b ≡ a) s (Some x) t
+    → eqb (length x.now) 0 ≡ true → IsCutTo all words t
+passed all words s t x cut k e =
+    let p = next_piece s t x cut.left cut.are k in
+    record {
+      left = p.0;
+      are = p.2;
+      whole = ap (λ l. words ++ l) (sym (empty_piece x.now p.0 e)) ∙ ap (λ l. words ++ some_characters l) (sym p.1) ∙ cut.whole;
+    }
+
+pub taken : (all words : List (List ℕ)) (s t : Split ℕ) (x : Bor (List ℕ)) → IsCutTo all words s → split_steps FindsChar (λ a b. b ≡ a) s (Some x) t
+    → eqb (length x.now) 0 ≡ false → IsCutTo all (words ++ x.now ∷ []) t
+taken all words s t x cut k e =
+    let p = next_piece s t x cut.left cut.are k in
+    record {
+      left = p.0;
+      are = p.2;
+      whole = append_assoc words (x.now ∷ []) (some_characters p.0) ∙ ap (λ l. words ++ l) (sym (a_word x.now p.0 e))
+          ∙ ap (λ l. words ++ some_characters l) (sym p.1) ∙ cut.whole;
+    }
+
+pub all_taken : (all words : List (List ℕ)) (s t : Split ℕ) → IsCutTo all words s → split_steps FindsChar (λ a b. b ≡ a) s None t → words ≡ all
+all_taken all words s t cut k =
+    sym (append-nil words) ∙ ap (λ l. words ++ some_characters l) (sym (no_piece s t cut.left cut.are k)) ∙ cut.whole

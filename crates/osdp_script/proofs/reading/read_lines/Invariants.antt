@@ -1,0 +1,10 @@
+use Rattle.std.proofs.Common.{length}
+use Rattle.osdp_script.specs.Drafts.{plan_of}
+use Rattle.osdp_script.proofs.Lines.{HasRead}
+use Rattle.osdp_script.proofs.reading.read_lines.Given as goal
+
+abbrev pub invariant-lines : goal.invariant-lines
+invariant-lines l = HasRead l.fn.bytes l.rest l.count (plan_of l.draft)
+
+abbrev pub decreases-lines : goal.decreases-lines
+decreases-lines l = length l.rest

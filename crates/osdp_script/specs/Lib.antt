@@ -1,0 +1,8 @@
+pub mod Words
+pub mod Lines
+pub mod Script
+pub mod Reading
+pub mod Schedule
+pub mod Drafts
+pub mod Rounds
+pub mod Laws

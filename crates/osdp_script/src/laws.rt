@@ -1,0 +1,13 @@
+//! What holds of the lines of a script, whatever they are. The functions do nothing: their contracts are laws.
+
+ghost use Rattle.osdp_script.specs.Laws.{ReadInTurn, StaysBad};
+
+/// A line is judged by those above it and itself alone: what some lines say, and then what more of them say, is what all of them say.
+pub fn reads_in_turn()
+    ensures { ReadInTurn }
+{}
+
+/// The first bad line is that one whatever stands below it.
+pub fn stays_bad()
+    ensures { StaysBad }
+{}

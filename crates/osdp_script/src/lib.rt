@@ -1,0 +1,29 @@
+//! Scripts: a schedule of a simulated line as text, a line for each step.
+//!
+//! `read_script` reads one: which check the controller uses, the readers, and the steps. `Script::schedule` hands the steps out one at a
+//! time, as a run of `osdp_sim` takes them.
+//!
+//! ```text
+//! check crc
+//! reader 5 4              # at address 5, with room for four events
+//! issue 1 OUT 0:2:0       # for reader 1, the first one
+//! queue 1 KEYPAD 0 31
+//! clean 3                 # opens the session, and then three rounds without losses
+//! ```
+//!
+//! A comment stands on a line of its own; those above are for the reader of this page.
+#![tactic(auto)]
+
+mod draft;
+mod fault;
+pub mod laws;
+mod line;
+mod parse;
+mod reading;
+mod schedule;
+mod script;
+
+pub use fault::ScriptFault;
+pub use reading::read_script;
+pub use schedule::ScriptSteps;
+pub use script::{Script, ScriptLine, ScriptStep, Way};

@@ -1,0 +1,62 @@
+//! A line of a script: where it ends, its characters and its words.
+
+ghost use Rattle.std.specs.Prelude.{◌≡◌, ◌<◌, ◌∷◌, [], length, IfOk, IfSome, MatchOption};
+ghost use Rattle.osdp_input.specs.Cut.{lines_of};
+ghost use Rattle.osdp_words.specs.Word.{texts};
+ghost use Rattle.osdp_script.specs.Words.{characters, is_passed_over, words_in};
+
+use std::alloc::{AllocError, Global};
+
+/// The first line, without the line feed that ends it, and the bytes after it.
+#[tactic(auto, using(crate::proofs::Cutting::first_cut, crate::proofs::Cutting::last_alone))]
+pub(crate) fn first_line(bytes: &[u8]) -> Option<(&[u8], &[u8])>
+    ensures line { MatchOption result (lines_of bytes.now ≡ []) (λ cut. lines_of bytes.now ≡ cut.0.now ∷ lines_of cut.1.now) }
+    ensures shorter { IfSome result (λ cut. length cut.1.now < length bytes.now) }
+{
+    if bytes.is_empty() {
+        return None;
+    }
+    match bytes.iter().position(|byte| *byte == b'\n') {
+        Some(length) => Some((&bytes[..length], &bytes[length + 1..])),
+        None => Some((bytes, &[])),
+    }
+}
+
+/// The characters of a line that count: all but carriage returns.
+pub(crate) fn characters(alloc: Global, line: &[u8]) -> Result<Vec<u8>, AllocError>
+    ensures { IfOk result (λ kept. kept.items ≡ characters line.now) }
+{
+    let mut kept = Vec::new(alloc);
+    for byte in line {
+        if *byte != b'\r' {
+            kept.push(*byte)?;
+        }
+    }
+    Ok(kept)
+}
+
+/// Whether the characters are blank or a comment.
+#[tactic(auto, using(crate::proofs::Passing::stops_at, crate::proofs::Passing::passes_space, crate::proofs::Passing::none_left))]
+pub(crate) fn is_passed_over(characters: &[u8]) -> bool
+    ensures { result ≡ is_passed_over characters.now }
+{
+    for byte in characters {
+        if *byte != b' ' {
+            return *byte == b'#';
+        }
+    }
+    true
+}
+
+/// The words of a text, with one or more spaces between each two.
+pub(crate) fn words<'a>(alloc: Global, text: &'a str) -> Result<Vec<&'a str>, AllocError>
+    ensures { IfOk result (λ words. texts words.items ≡ words_in text.now) }
+{
+    let mut words = Vec::new(alloc);
+    for word in text.split(' ') {
+        if !word.is_empty() {
+            words.push(word)?;
+        }
+    }
+    Ok(words)
+}
