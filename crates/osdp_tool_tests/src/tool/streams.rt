@@ -76,14 +76,15 @@ fn failed_writes_are_told(rt: HostRuntime) {
     }
 }
 
-/// A failed read is told before a failed write, or flush.
+/// A failed read is told before a failed flush. Where a write fails before that read, nothing more is read.
 #[test]
-fn failed_reads_are_told_before_writes(rt: HostRuntime) {
-    for call in 1..10u64 {
-        let mut both = threes(rt.alloc(), call, Some(ErrorKind::Other));
-        let answer = shown_to(rt.alloc(), &mut both, 2);
-        assert_eq!(rt; answer, Err(ToolFault::ReadFailed));
-    }
+fn failed_reads_are_told_before_flushes(rt: HostRuntime) {
+    let mut unflushed = make_sink(rt.alloc(), 3, 0, None, true);
+    let answer = shown_to(rt.alloc(), &mut unflushed, 2);
+    assert_eq!(rt; answer, Err(ToolFault::ReadFailed));
+    let mut refusing = threes(rt.alloc(), 1, Some(ErrorKind::Other));
+    let answer = shown_to(rt.alloc(), &mut refusing, 2);
+    assert_eq!(rt; answer, Err(ToolFault::WriteFailed));
 }
 
 #[test]
