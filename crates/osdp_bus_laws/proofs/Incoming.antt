@@ -21,7 +21,7 @@ use Rattle.osdp_bus_laws.proofs.Sound.{SoundBus, sound_items}
 
 -- ---- whose a packet is
 
-set_other : (ds : List Device) (i j : ℕ) (e : Device) → j ≢ i → slice_get (slice_set ds i e) j ≡ slice_get ds j
+pub set_other : (ds : List Device) (i j : ℕ) (e : Device) → j ≢ i → slice_get (slice_set ds i e) j ≡ slice_get ds j
 set_other [] i j e other = refl
 set_other (x ∷ ds) zero zero e other = absurd (other refl)
 set_other (x ∷ ds) zero (suc j) e other = refl

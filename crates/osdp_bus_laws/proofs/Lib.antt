@@ -9,3 +9,4 @@ pub mod Reserving
 pub mod Incoming
 pub mod Turning
 pub mod Fairness
+pub mod Sending

@@ -132,7 +132,7 @@ begins_frame now d free due =
 pub begins_exchange : (now : ℕ) (d : Device) → holds d ≡ false → is_device_due now d ≡ true → holds (device_ticks now d) ≡ true
 begins_exchange now d free due = (counts_sends now d.controller.session d.controller.waiting).outstanding (begins_frame now d free due)
 
-set_here : (ds : List Device) (i : ℕ) (d e : Device) → slice_get ds i ≡ Some d → slice_get (slice_set ds i e) i ≡ Some e
+pub set_here : (ds : List Device) (i : ℕ) (d e : Device) → slice_get ds i ≡ Some d → slice_get (slice_set ds i e) i ≡ Some e
 set_here [] i d e at = absurd cc
 set_here (x ∷ ds) zero d e at = refl
 set_here (x ∷ ds) (suc i) d e at = set_here ds i d e at

@@ -4,3 +4,4 @@ pub mod Exchanges
 pub mod Packets
 pub mod Turns
 pub mod Fairness
+pub mod Sending

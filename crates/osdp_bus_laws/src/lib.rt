@@ -7,6 +7,7 @@ ghost use Rattle.osdp_bus_laws.specs.Calls.{Always};
 ghost use Rattle.osdp_bus_laws.specs.Exchanges.{HasOneExchange, KeepsReports};
 ghost use Rattle.osdp_bus_laws.specs.Fairness.{TurnsAreFair};
 ghost use Rattle.osdp_bus_laws.specs.Packets.{CutsChangeNothing, PacketsGoToTheirAddress};
+ghost use Rattle.osdp_bus_laws.specs.Sending.{HoldersSendTheirFrame, SessionsBeginAlone};
 ghost use Rattle.osdp_bus_laws.specs.Turns.{TakesTurns};
 
 /// No address is that of, or reserved for, two entries.
@@ -54,4 +55,14 @@ pub fn entries_take_turns()
 /// Turns are fair: between two exchanges of one entry, every other entry that was due all along has begun one.
 pub fn turns_are_fair()
     ensures { Always TurnsAreFair }
+{}
+
+/// A burst that goes out while an exchange holds the line is that exchange's own frame, and its deadline is reached.
+pub fn holders_send_their_frame()
+    ensures { (b : BusState) → HoldersSendTheirFrame b }
+{}
+
+/// A session that begins leaves the waiting commands of its device in their order, none outstanding, and all other devices as they were.
+pub fn sessions_begin_alone()
+    ensures { (b : BusState) → SessionsBeginAlone b }
 {}

@@ -1,0 +1,94 @@
+-- What goes out while an exchange holds the line, and what the beginning of a session leaves.
+use Rattle.std.proofs.Common.{◌≡◌, ◌∙◌, ap, sym, subst, ℕ, ◌+◌, ◌≤◌, ◌||◌, true, max, List, Some, refl}
+use Rattle.std.specs.Prelude.{IfSome, nat_le, nat_lt, not, option_map, slice_set}
+use Rattle.std.specs.Option.{option_map_or}
+use Rattle.std.proofs.lemmas.Bool.{leb-true}
+use Rattle.osdp_frame.specs.Packet.{Packet}
+use Rattle.osdp_msg.specs.declared.command.Command.{Command}
+use Rattle.osdp_controller.specs.declared.session.Session.{Session}
+use Rattle.osdp_controller.specs.declared.state.State.{State}
+use Rattle.osdp_controller.specs.declared.state.State.TheVariants.{Closed, Quiet, Idle, Waiting, Pausing}
+use Rattle.osdp_controller.specs.Machine.{is_outstanding}
+use Rattle.osdp_controller.specs.Sessions.{frame_of, seen as seen_by}
+use Rattle.osdp_controller.specs.States.{moment_of}
+use Rattle.osdp_controller.specs.Ticking.{Ticked, gives_up, sends_frame, stays as stays_in, ticks_in, tries_again}
+use Rattle.osdp_controller.proofs.Choices.{either_way}
+use Rattle.osdp_controller_laws.specs.Laws.{exchange_in}
+use Rattle.osdp_bus.specs.declared.device.Device.{Device}
+use Rattle.osdp_bus.specs.Buses.{BusState, device_of, has_report, holder, seen}
+use Rattle.osdp_bus.specs.Devices.{holds, is_device_due}
+use Rattle.osdp_bus.specs.Machine.{after_begin_at, changed_unless, device_begins}
+use Rattle.osdp_bus.specs.Ticking.{BusTicked, bus_ticks, is_due_at, is_held_and_due, stays, ticks_at, ticks_by, ticks_held, ticks_on, ticks_with}
+use Rattle.osdp_bus_laws.specs.Calls.{Begin, after_call}
+use Rattle.osdp_bus_laws.specs.Sending.{HoldersSendTheirFrame, IsReached, SessionsBeginAlone, own_frame}
+use Rattle.osdp_bus_laws.specs.Turns.{asking, judged}
+use Rattle.osdp_bus_laws.proofs.Incoming.{set_other}
+use Rattle.osdp_bus_laws.proofs.Sound.{held_there}
+use Rattle.osdp_bus_laws.proofs.Turning.{set_here}
+
+-- ---- the frame of an exchange
+
+abbrev Own : Packet → State → Session → Ticked → Type 0
+Own p state s t = t.step.frame ≡ Some p
+    → (option_map (λ x. frame_of x s) (exchange_in state) ≡ Some p) × IfSome (moment_of state) (λ moment. moment ≤ s.greatest)
+
+frame_in : (state : State) (s : Session) (w : List Command) (p : Packet) → is_outstanding state ≡ true → Own p state s (ticks_in state s w)
+frame_in Closed s w p stands = absurd cc
+frame_in (Quiet until) s w p stands = absurd cc
+frame_in (Idle due) s w p stands = absurd cc
+frame_in (Waiting until sends o) s w p stands =
+    either_way (Own p (Waiting until sends o) s) (nat_le until s.greatest) (tries_again sends o s w) (stays_in s w)
+    (λ reached. either_way (Own p (Waiting until sends o) s) (nat_lt sends s.config.sends) (sends_frame (sends + 1) o s w) (gives_up o s w)
+    (λ more h. (h, leb-true until s.greatest reached)) (λ more h. absurd cc))
+    (λ reached h. absurd cc)
+frame_in (Pausing until o) s w p stands =
+    either_way (Own p (Pausing until o) s) (nat_le until s.greatest) (sends_frame 1 o s w) (stays_in s w)
+    (λ reached h. (h, leb-true until s.greatest reached)) (λ reached h. absurd cc)
+
+module _ (now entry : ℕ) (b : BusState) (p : Packet) where
+  abbrev Sends : BusTicked → Type 0
+  Sends t = t.sent ≡ Some p → (d : Device) × (device_of entry (asking now b) ≡ Some d) × (own_frame d ≡ Some p) × IsReached (asking now b) d
+
+  by_device : (d : Device) → device_of entry (asking now b) ≡ Some d → holds d ≡ true → Sends (ticks_at (Some entry) (asking now b))
+  by_device d at stands =
+      subst Sends (sym (ap (λ o. ticks_with entry o (asking now b)) at))
+      (λ h. let own = frame_in d.controller.session.state (seen_by (asking now b).greatest d.controller.session) d.controller.waiting p stands h in
+      (d, at, own.0, own.1))
+
+  by_held : Sends (ticks_held entry (asking now b))
+  by_held =
+      let r = asking now b in
+      either_way Sends (has_report r || not (is_held_and_due entry r)) (stays r) (ticks_at (Some entry) r) (λ t h. absurd cc)
+      (λ t. by_holder (held_there entry r t).1)
+    where
+      by_holder : ((d : Device) × (device_of entry (asking now b) ≡ Some d) × (holds d ≡ true) × (is_device_due (asking now b).greatest d ≡ true))
+          → Sends (ticks_at (Some entry) (asking now b))
+      by_holder (d, at, stands, due) = by_device d at stands
+
+  by_tick : holder (judged now b) ≡ Some entry → Sends (bus_ticks now b)
+  by_tick held =
+      let j = judged now b in
+      either_way Sends (has_report b) (stays (seen now b)) (ticks_on j) (λ t h. absurd cc)
+      (λ t. subst (λ o. Sends (ticks_by o j)) (sym held)
+      (either_way Sends (is_due_at entry j) (ticks_held entry (asking now b)) (stays j) (λ due. by_held) (λ due h. absurd cc)))
+
+pub holders_send_their_frame : (b : BusState) → HoldersSendTheirFrame b
+holders_send_their_frame b now entry p held sent = by_tick now entry b p held sent
+
+-- ---- a session begins
+
+pub sessions_begin_alone : (b : BusState) → SessionsBeginAlone b
+sessions_begin_alone b entry now d at ok =
+    let change = device_begins (max b.greatest now) in
+    let after : after_call (Begin entry now) b
+    ≡ record (seen now b) { devices = record b.devices { entries = slice_set b.devices.entries entry (change d) } } =
+    ap (λ f. changed_unless f b (after_begin_at entry now b)) ok
+    ∙ ap (λ o. option_map_or (λ d. record (seen now b) { devices = record b.devices { entries = slice_set b.devices.entries entry (change d) } }) o (seen now b)) at in
+    record {
+      device = change d;
+      there = ap (device_of entry) after ∙ set_here b.devices.entries entry d (change d) at;
+      waiting = refl;
+      reserved = refl;
+      outstanding = refl;
+      others = λ other apart. ap (device_of other) after ∙ set_other b.devices.entries entry other (change d) apart;
+    }
