@@ -1,5 +1,5 @@
 -- A run of bytes that comes to a bus, and is over: what it holds is heard by the first controller at its address.
-use Rattle.std.proofs.Common.{◌≡◌, ◌⊎◌, ◌+◌, ℕ, zero, suc, max, Bool, true, false, cond, List, [], ◌∷◌, ◌++◌, map, Some, None, refl, sym, subst, ap, ◌∙◌, inl, inr, arith}
+use Rattle.std.proofs.Common.{◌≡◌, ◌⊎◌, All, ◌+◌, ℕ, zero, suc, max, Bool, true, false, cond, List, [], ◌∷◌, ◌++◌, map, Some, None, refl, sym, subst, ap, ◌∙◌, inl, inr, arith}
 use Rattle.std.proofs.lemmas.Bool.Decides.{eqb_tells}
 use Rattle.std.proofs.lemmas.List.{append-nil}
 use Rattle.std.specs.Prelude.{slice_get, slice_set}
@@ -13,12 +13,16 @@ use Rattle.osdp_bus.specs.Devices as devices
 use Rattle.osdp_bus.specs.Devices.{first_from, is_at}
 use Rattle.osdp_bus.specs.Hearing.{after_silence, hears_at, hears_bytes, hears_items, hears_packet, hears_with}
 use Rattle.osdp_bus.proofs.Runs.{hears_items-append}
+use Rattle.osdp_link.specs.Peers.{IsPlainlySaid}
+use Rattle.osdp_link.proofs.Lines.{each_of}
+use Rattle.osdp_link.proofs.Reports.{heard_so}
 use Rattle.osdp_multidrop.specs.Line as line
 use Rattle.osdp_multidrop.specs.Line.{Site, changed, first_gets, gets, site_at}
-use Rattle.osdp_sim.specs.Line.{whole_packets}
-use Rattle.osdp_bus_links.specs.Links.{HearsAsAMove, IsHeard, TellsEach, device_of, heard}
+use Rattle.osdp_sim.specs.Line.{packets_in, whole_packets}
+use Rattle.osdp_bus_links.specs.Links.{HearsAsAMove, IsHeard, IsNoRefusalOf, TellsEach, device_of, heard}
 use Rattle.osdp_bus_links.proofs.Devices.{freed_same, get_device, set_device}
-use Rattle.osdp_bus_links.proofs.Ticks.{nothing_silent, told_nothing, told_one}
+use Rattle.osdp_bus_links.proofs.Telling.{EndsAreTold, refuses_none, silent_frame, told_nothing, told_one}
+use Rattle.osdp_bus_links.proofs.Ticks.{nothing_silent}
 
 -- ---- the packets among items
 
@@ -65,7 +69,7 @@ run_heard law b now (byte ∷ rest) fits held =
     ∙ sym (hears_items-append g (items false bytes) (items true (left_over bytes)) b.devices)
     ∙ ap (λ parts. hears_items g parts b.devices) (pieces law bytes fits)
 
-module _ {H : Type 0} where
+module _ {H : Type 0} (ends : EndsAreTold) where
   -- ---- who is at the packet's address
 
   abbrev Found : Packet → ℕ → ℕ → List (Site H) → Type 0
@@ -104,42 +108,64 @@ module _ {H : Type 0} where
         ]
       ]
 
-  record Hears (ds : Devices) (ss next : List (Site H)) : Type 0 where
+  record Hears (Plain : Type 0) (ds : Devices) (ss next : List (Site H)) : Type 0 where
     entries : ds.entries ≡ map device_of next
     told : TellsEach ds.report ss next
+    plain : Plain → IsNoRefusalOf ds.report
 
   packet_heard : (p : Packet) (now : ℕ) (ds : Devices) (ss : List (Site H)) → ds.entries ≡ map device_of ss → ds.report ≡ None
-      → Hears (hears_packet p now ds) ss (first_gets p now ss)
+      → Hears (IsPlainlySaid p) (hears_packet p now ds) ss (first_gets p now ss)
   packet_heard p now ds ss entries report =
       elim (found p now 0 ss) [
         | inl none ↦
-            subst (λ o. Hears (hears_at p now o ds) ss (first_gets p now ss)) (sym (ap (first_from 0 (is_at p.address)) entries ∙ none.0))
-            (subst (Hears ds ss) (sym none.1) (record { entries = entries; told = subst (λ o. TellsEach o ss ss) (sym report) (told_nothing ss) }))
+            subst (λ o. Hears (IsPlainlySaid p) (hears_at p now o ds) ss (first_gets p now ss)) (sym (ap (first_from 0 (is_at p.address)) entries ∙ none.0))
+            (subst (Hears (IsPlainlySaid p) ds ss) (sym none.1) (record {
+              entries = entries;
+              told = subst (λ o. TellsEach o ss ss) (sym report) (told_nothing ss);
+              plain = λ said. subst IsNoRefusalOf (sym report) tt;
+            }))
         | inr (k, s, some, is, got) ↦
             let here : 0 + k ≡ k = omega arith in
-            subst (λ o. Hears (hears_at p now o ds) ss (first_gets p now ss)) (sym (ap (first_from 0 (is_at p.address)) entries ∙ some ∙ ap Some here))
-            (subst (λ d. Hears (hears_with p now k d ds) ss (first_gets p now ss)) (sym (ap (λ es. slice_get es k) entries ∙ get_device k s ss is))
-            (subst (Hears (hears_with p now k (Some (device_of s)) ds) ss) (sym got) (record {
+            subst (λ o. Hears (IsPlainlySaid p) (hears_at p now o ds) ss (first_gets p now ss)) (sym (ap (first_from 0 (is_at p.address)) entries ∙ some ∙ ap Some here))
+            (subst (λ d. Hears (IsPlainlySaid p) (hears_with p now k d ds) ss (first_gets p now ss)) (sym (ap (λ es. slice_get es k) entries ∙ get_device k s ss is))
+            (subst (Hears (IsPlainlySaid p) (hears_with p now k (Some (device_of s)) ds) ss) (sym got) (record {
               entries = ap (λ es. slice_set es k (devices.device_hears p now (device_of s))) entries
                   ∙ ap (λ r. slice_set (map device_of ss) k (record { controller = controllers.after_frame p now s.controller; reserved = r }))
                   (freed_same (devices.told_of p now (device_of s)) s.reserved)
                   ∙ set_device k (gets p now s) ss;
               told = subst (λ o. TellsEach (waiting_after k (devices.told_of p now (device_of s)) o) ss (changed k (gets p now s) ss)) (sym report)
-                  (told_one k (devices.told_of p now (device_of s)) s (gets p now s) ss is (record { reader = refl; account = refl; earlier = refl }));
+                  (told_one k (devices.told_of p now (device_of s)) s (gets p now s) ss is (record {
+                    reader = refl;
+                    account = refl;
+                    earlier = refl;
+                    closes = (ends now s.controller.session).closed_by_frame p;
+                    once = silent_frame p now s.controller.session;
+                  }));
+              plain = λ said. subst (λ o. IsNoRefusalOf (waiting_after k (devices.told_of p now (device_of s)) o)) (sym report)
+                  (heard_so (λ r. IsNoRefusalOf (waiting_after k r None)) (refuses_none k) p now s.controller.session said);
             })))
       ]
 
-  as_heard : (b : BusState) (now : ℕ) (bytes : List ℕ) (ss next : List (Site H)) → Hears (heard bytes now b).devices ss next
+  as_heard : (b : BusState) (now : ℕ) (bytes : List ℕ) (ss next : List (Site H)) → Hears (All IsPlainlySaid (packets_in bytes)) (heard bytes now b).devices ss next
       → IsHeard b now bytes ss next
-  as_heard b now bytes ss next h = record { bus = record { entries = h.entries; held = refl; report = refl }; told = h.told }
+  as_heard b now bytes ss next h = record { bus = record { entries = h.entries; held = refl; report = refl }; told = h.told; plain = h.plain }
 
   pub hears_as_a_move : InPieces → HearsAsAMove H
   hears_as_a_move law b ss now bytes h fits = (
     λ none. as_heard b now bytes ss ss
-        (subst (λ ds. Hears ds ss ss) (sym (run_heard law b now bytes fits h.held ∙ none_heard (max b.greatest now) (reading bytes) b.devices none))
-        (record { entries = h.entries; told = subst (λ o. TellsEach o ss ss) (sym h.report) (told_nothing ss) })),
-    λ p one. as_heard b now bytes ss (first_gets p (max b.greatest now) ss)
-        (subst (λ ds. Hears ds ss (first_gets p (max b.greatest now) ss))
-        (sym (run_heard law b now bytes fits h.held ∙ one_heard (max b.greatest now) p (reading bytes) b.devices one))
-        (packet_heard p (max b.greatest now) b.devices ss h.entries h.report)),
+        (subst (λ ds. Hears (All IsPlainlySaid (packets_in bytes)) ds ss ss)
+        (sym (run_heard law b now bytes fits h.held ∙ none_heard (max b.greatest now) (reading bytes) b.devices none)) (record {
+          entries = h.entries;
+          told = subst (λ o. TellsEach o ss ss) (sym h.report) (told_nothing ss);
+          plain = λ said. subst IsNoRefusalOf (sym h.report) tt;
+        })),
+    λ p one.
+        let heard_one = packet_heard p (max b.greatest now) b.devices ss h.entries h.report in
+        as_heard b now bytes ss (first_gets p (max b.greatest now) ss)
+        (subst (λ ds. Hears (All IsPlainlySaid (packets_in bytes)) ds ss (first_gets p (max b.greatest now) ss))
+        (sym (run_heard law b now bytes fits h.held ∙ one_heard (max b.greatest now) p (reading bytes) b.devices one)) (record {
+          entries = heard_one.entries;
+          told = heard_one.told;
+          plain = λ said. heard_one.plain (each_of IsPlainlySaid (p ∷ []) (subst (All IsPlainlySaid) one said)).0;
+        })),
   )

@@ -1,4 +1,5 @@
 pub mod Devices
 pub mod Calls
+pub mod Telling
 pub mod Ticks
 pub mod Bursts

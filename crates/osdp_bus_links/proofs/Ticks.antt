@@ -1,26 +1,24 @@
 -- A tick of a bus that holds no bytes is one of one of its controllers, or none.
-use Rattle.std.proofs.Common.{◌≡◌, ◌≢◌, ◌||◌, ℕ, not, Bool, true, false, cond, if◌then◌else◌, List, [], ◌∷◌, ◌++◌, map, Option, Some, None, refl, sym, subst, ap, ◌∙◌, inl, inr}
-use Rattle.std.proofs.lemmas.Bool.Decides.{eqb_tells}
+use Rattle.std.proofs.Common.{◌≡◌, ◌||◌, ℕ, not, Bool, true, false, if◌then◌else◌, List, [], ◌∷◌, ◌++◌, map, Option, Some, None, refl, sym, subst, ap, ◌∙◌}
 use Rattle.std.proofs.lemmas.List.{append-nil, map-append}
 use Rattle.std.specs.Prelude.{slice_get, slice_set, option_to_list}
 use Rattle.osdp_frame.specs.Items.{items}
 use Rattle.osdp_frame.specs.Packet.{Packet}
 use Rattle.osdp_msg.specs.declared.command.Command.{Command}
 use Rattle.osdp_controller.specs.Machine as controllers
-use Rattle.osdp_controller.specs.declared.report.Report.{Report}
+use Rattle.osdp_controller.specs.Sessions as clocks
 use Rattle.osdp_reader.specs.declared.handler.Answer.{Answer}
 use Rattle.osdp_bus.specs.Buses.{BusState, has_report, holder, is_silent, seen, waiting_after}
 use Rattle.osdp_bus.specs.Devices as devices
 use Rattle.osdp_bus.specs.Hearing.{ends_run, ends_silent, hears_items}
 use Rattle.osdp_bus.specs.Machine.{after_next_report}
 use Rattle.osdp_bus.specs.Ticking.{BusTicked, bus_ticks, is_due_at, is_held_and_due, next_due, stays, ticks_at, ticks_by, ticks_free, ticks_held, ticks_on, ticks_with}
-use Rattle.osdp_link.proofs.Numbers.{is_false, is_true}
+use Rattle.osdp_link.proofs.Reports.{tick_so}
 use Rattle.osdp_multidrop.specs.Line as line
 use Rattle.osdp_multidrop.specs.Line.{Net, NetMove, Site, Tick, changed, run, site_at, tagged, ticks_of}
-use Rattle.osdp_multidrop.proofs.Changing.{some_same}
-use Rattle.osdp_multidrop.proofs.Sites.{at_changed, at_other}
-use Rattle.osdp_bus_links.specs.Links.{IsBusOf, IsTickAt, IsTold, TellsEach, TicksAsAMove, device_of, packets_on, report_for}
+use Rattle.osdp_bus_links.specs.Links.{IsBusOf, IsNoRefusalOf, IsTickAt, TellsEach, TicksAsAMove, device_of, packets_on}
 use Rattle.osdp_bus_links.proofs.Devices.{freed_same, get_device, get_none, set_device}
+use Rattle.osdp_bus_links.proofs.Telling.{EndsAreTold, silent_tick, told_nothing, told_one}
 
 -- ---- nothing is held
 
@@ -58,43 +56,11 @@ module _ (P : BusTicked → Type 0) where
           (either (has_report b || not (is_held_and_due entry b)) (stays b) (ticks_at (Some entry) b) (all None) (all (Some entry))))
           (all None)
 
--- ---- what is told
-
-for_entry : (k entry : ℕ) (r : Option Report) → k ≡ entry → report_for k (waiting_after entry r None) ≡ r
-for_entry k entry None is = refl
-for_entry k entry (Some r) is = ap (λ b. cond b (Some r) None) (is_true entry k (sym is))
-
-for_others : (k entry : ℕ) (r : Option Report) → k ≢ entry → report_for k (waiting_after entry r None) ≡ None
-for_others k entry None other = refl
-for_others k entry (Some r) other = ap (λ b. cond b (Some r) None) (is_false entry k (λ e. other (sym e)))
-
 packets_tagged : (k : ℕ) (o : Option Packet) → packets_on (tagged k o) ≡ option_to_list o
 packets_tagged k None = refl
 packets_tagged k (Some p) = refl
 
-module _ {H : Type 0} where
-  pub told_nothing : (ss : List (Site H)) → TellsEach None ss ss
-  told_nothing ss k t is = (t, is, record { reader = refl; account = refl; earlier = refl })
-
-  -- one site is told
-  pub told_one : (entry : ℕ) (r : Option Report) (s t : Site H) (ss : List (Site H)) → site_at entry ss ≡ Some s → IsTold r s t
-      → TellsEach (waiting_after entry r None) ss (changed entry t ss)
-  told_one entry r s t ss at is k u there =
-      elim (eqb_tells k entry) [
-        | inl equal ↦
-            let here : site_at entry (changed entry t ss) ≡ Some u = subst (λ j. site_at j (changed entry t ss) ≡ Some u) equal.1 there in
-            let same : u ≡ t = some_same u t (sym here ∙ at_changed entry t s ss at) in (
-              s,
-              subst (λ j. site_at j ss ≡ Some s) (sym equal.1) at,
-              subst (λ o. IsTold o s u) (sym (for_entry k entry r equal.1)) (subst (IsTold r s) (sym same) is),
-            )
-        | inr differs ↦ (
-          u,
-          sym (at_other k entry t ss differs.1) ∙ there,
-          subst (λ o. IsTold o u u) (sym (for_others k entry r differs.1)) (record { reader = refl; account = refl; earlier = refl }),
-        )
-      ]
-
+module _ {H : Type 0} (ends : EndsAreTold) where
   -- ---- a tick
 
   -- the bus and the line afterwards
@@ -103,6 +69,7 @@ module _ {H : Type 0} where
     sent : packets_on next.to_readers ≡ packets_on n.to_readers ++ option_to_list t.sent
     back : next.to_controllers ≡ n.to_controllers
     told : TellsEach t.bus.devices.report n.sites next.sites
+    plain : IsNoRefusalOf t.bus.devices.report
 
   stayed : (b : BusState) (n : Net H) → IsBusOf b n.sites → Ends (stays b) n n
   stayed b n h = record {
@@ -110,6 +77,7 @@ module _ {H : Type 0} where
     sent = sym (append-nil (packets_on n.to_readers));
     back = refl;
     told = subst (λ o. TellsEach o n.sites n.sites) (sym h.report) (told_nothing n.sites);
+    plain = subst IsNoRefusalOf (sym h.report) tt;
   }
 
   one_ticked : (b : BusState) (n : Net H) (entry : ℕ) (s : Site H) → IsBusOf b n.sites → site_at entry n.sites ≡ Some s
@@ -130,26 +98,35 @@ module _ {H : Type 0} where
             ∙ ap (λ l. packets_on n.to_readers ++ l) (packets_tagged entry t.step.frame);
         back = refl;
         told = subst (λ o. TellsEach (waiting_after entry t.step.report o) n.sites (changed entry u n.sites)) (sym h.report)
-            (told_one entry t.step.report s u n.sites at (record { reader = refl; account = refl; earlier = refl }));
+            (told_one entry t.step.report s u n.sites at (record {
+              reader = refl;
+              account = refl;
+              earlier = refl;
+              closes = (ends b.greatest s.controller.session).closed_by_tick s.controller.waiting;
+              once = silent_tick s.controller.session.state (clocks.seen b.greatest s.controller.session) s.controller.waiting;
+            }));
+        plain = subst (λ o. IsNoRefusalOf (waiting_after entry t.step.report o)) (sym h.report)
+            (tick_so (λ r. IsNoRefusalOf (waiting_after entry r None)) tt (λ o. tt) s.controller.session.state (clocks.seen b.greatest s.controller.session)
+            s.controller.waiting);
       }
 
-module _ {H : Type 0} (answer_of : H → Command → Answer) (after : H → Command → H) where
+module _ {H : Type 0} (ends : EndsAreTold) (answer_of : H → Command → Answer) (after : H → Command → H) where
   abbrev TicksTo : ℕ → Net H → BusTicked → Type 0
-  TicksTo now n t = (moves : List NetMove) × IsTickAt now moves × Ends t n (run answer_of after moves n)
+  TicksTo now n t = (moves : List NetMove) × IsTickAt now moves × Ends ends t n (run answer_of after moves n)
 
   ticked_at : (o : Option ℕ) (b : BusState) (n : Net H) → IsBusOf b n.sites → TicksTo b.greatest n (ticks_at o b)
-  ticked_at None b n h = ([], tt, stayed b n h)
+  ticked_at None b n h = ([], tt, stayed ends b n h)
   ticked_at (Some entry) b n h = by_site (site_at entry n.sites) refl
     where
       by_site : (o : Option (Site H)) → site_at entry n.sites ≡ o → TicksTo b.greatest n (ticks_with entry (slice_get b.devices.entries entry) b)
       by_site None is =
           subst (λ d. TicksTo b.greatest n (ticks_with entry d b)) (sym (ap (λ ds. slice_get ds entry) h.entries ∙ get_none entry n.sites is))
-          ([], tt, stayed b n h)
+          ([], tt, stayed ends b n h)
       by_site (Some s) is =
           subst (λ d. TicksTo b.greatest n (ticks_with entry d b)) (sym (ap (λ ds. slice_get ds entry) h.entries ∙ get_device entry s n.sites is)) (
             Tick entry b.greatest ∷ [],
             refl,
-            subst (Ends (ticks_with entry (Some (device_of s)) b) n) (sym (ap (λ o. line.tick_at entry b.greatest o n) is)) (one_ticked b n entry s h is),
+            subst (Ends ends (ticks_with entry (Some (device_of s)) b) n) (sym (ap (λ o. line.tick_at entry b.greatest o n) is)) (one_ticked ends b n entry s h is),
           )
 
   pub ticks_as_a_move : TicksAsAMove answer_of after
@@ -157,9 +134,9 @@ module _ {H : Type 0} (answer_of : H → Command → Answer) (after : H → Comm
       let later = seen now b in
       let at_later : IsBusOf later n.sites = record { entries = h.entries; held = h.held; report = h.report } in
       let done : TicksTo later.greatest n (bus_ticks now b) =
-      either (TicksTo later.greatest n) (has_report b) (stays later) (ticks_on (ends_silent later)) ([], tt, stayed later n at_later)
+      either (TicksTo later.greatest n) (has_report b) (stays later) (ticks_on (ends_silent later)) ([], tt, stayed ends later n at_later)
       (subst (λ c. TicksTo later.greatest n (ticks_on c)) (sym (nothing_silent later h.held))
       (ticks_some (TicksTo later.greatest n) later h.held (λ o. ticked_at o later n at_later))) in (
         done.0,
-        record { tick = done.1; bus = done.2.bus; sent = done.2.sent; back = done.2.back; told = done.2.told },
+        record { tick = done.1; bus = done.2.bus; sent = done.2.sent; back = done.2.back; told = done.2.told; plain = done.2.plain },
       )

@@ -1,9 +1,11 @@
 -- A bus, seen as the controllers of several links on one line: what its calls are to them.
-use Rattle.std.specs.Prelude.{◌≡◌, ℕ, max, ◌==◌, if◌then◌else◌, List, [], ◌∷◌, ◌++◌, map, Option, Some, None, option_to_list}
+use Rattle.std.specs.Prelude.{◌≡◌, ◌||◌, ℕ, suc, max, true, false, All, ◌==◌, if◌then◌else◌, List, [], ◌∷◌, ◌++◌, map, Option, Some, None, option_to_list}
 use Rattle.osdp_frame.specs.Bytes.{AreBytes}
 use Rattle.osdp_frame.specs.Packet.{Packet}
 use Rattle.osdp_msg.specs.declared.command.Command.{Command}
+use Rattle.osdp_controller.specs.States.{is_closed}
 use Rattle.osdp_controller.specs.declared.report.Report.{Report}
+use Rattle.osdp_controller_laws.specs.Commands.{tells_end}
 use Rattle.osdp_reader.specs.declared.handler.Answer.{Answer}
 use Rattle.osdp_bus.specs.Buses.{BusState}
 use Rattle.osdp_bus.specs.Hearing.{after_bytes, after_silence}
@@ -12,6 +14,8 @@ use Rattle.osdp_bus.specs.Ticking.{bus_ticks}
 use Rattle.osdp_bus.specs.declared.device.Device.{Device}
 use Rattle.osdp_bus.specs.declared.fault.BusFault.{BusFault}
 use Rattle.osdp_link.specs.Link.{told}
+use Rattle.osdp_link.specs.Peers.{IsPlainlySaid}
+use Rattle.osdp_link.specs.Refusals.{IsNoRefusal}
 use Rattle.osdp_multidrop.specs.Line.{Net, NetMove, Reopen, Site, Submit, Tick, after_net, changed, first_gets, run, site_at, submits}
 use Rattle.osdp_sim.specs.Line.{packets_in}
 
@@ -23,6 +27,11 @@ packets_on ps = map (λ (p : ℕ × Packet). p.1) ps
 abbrev pub report_for : ℕ → Option (ℕ × Report) → Option Report
 report_for k None = None
 report_for k (Some (entry, report)) = if entry == k then Some report else None
+
+-- no reader has refused a number, as far as this report tells
+abbrev pub IsNoRefusalOf : Option (ℕ × Report) → Type 0
+IsNoRefusalOf None = Unit {0}
+IsNoRefusalOf (Some (entry, report)) = IsNoRefusal report
 
 -- at this moment one controller ticks, or none
 abbrev pub IsTickAt : ℕ → List NetMove → Type 0
@@ -44,16 +53,22 @@ module _ {H : Type 0} where
     pub held : b.held ≡ []
     pub report : b.devices.report ≡ None
 
-  -- the reader stays as it is, and the account is told the report
+  -- the reader stays as it is, and the account is told the report; the session ends exactly where that is told
   pub record IsTold (report : Option Report) (s t : Site H) : Type 0 where
     pub reader : t.reader ≡ s.reader
     pub account : t.account ≡ told report s.account
     pub earlier : t.earlier ≡ s.earlier
+    pub closes : is_closed t.controller.session.state ≡ (is_closed s.controller.session.state || tells_end report)
+    pub once : is_closed s.controller.session.state ≡ true → tells_end report ≡ false
 
-  -- .. that of its site
+  -- each of these sites, the first of them at this place, that of its own
+  abbrev pub TellsFrom : ℕ → Option (ℕ × Report) → List (Site H) → List (Site H) → Type 0
+  TellsFrom k report [] [] = Unit {0}
+  TellsFrom k report (s ∷ ss) (t ∷ ts) = IsTold (report_for k report) s t × TellsFrom (suc k) report ss ts
+  TellsFrom k report _ _ = ⊥
+
   abbrev pub TellsEach : Option (ℕ × Report) → List (Site H) → List (Site H) → Type 0
-  TellsEach report ss next = (k : ℕ) (t : Site H) → site_at k next ≡ Some t
-      → (s : Site H) × (site_at k ss ≡ Some s) × IsTold (report_for k report) s t
+  TellsEach report ss next = TellsFrom 0 report ss next
 
   module _ (answer_of : H → Command → Answer) (after : H → Command → H) where
     -- a command that the bus refuses is none for its site; one that it accepts is issued there
@@ -80,6 +95,7 @@ module _ {H : Type 0} where
       pub sent : packets_on (run answer_of after moves n).to_readers ≡ packets_on n.to_readers ++ option_to_list (bus_ticks now b).sent
       pub back : (run answer_of after moves n).to_controllers ≡ n.to_controllers
       pub told : TellsEach (bus_ticks now b).bus.devices.report n.sites (run answer_of after moves n).sites
+      pub plain : IsNoRefusalOf (bus_ticks now b).bus.devices.report
 
     abbrev pub TicksAsAMove : Type 0
     TicksAsAMove = (b : BusState) (n : Net H) (now : ℕ) → IsBusOf b n.sites → (moves : List NetMove) × IsTicked b now moves n
@@ -88,6 +104,7 @@ module _ {H : Type 0} where
   pub record IsHeard (b : BusState) (now : ℕ) (bytes : List ℕ) (ss next : List (Site H)) : Type 0 where
     pub bus : IsBusOf (after_next_report (heard bytes now b)) next
     pub told : TellsEach (heard bytes now b).devices.report ss next
+    pub plain : All IsPlainlySaid (packets_in bytes) → IsNoRefusalOf (heard bytes now b).devices.report
 
 abbrev pub HearsAsAMove : Type 0 → Type 0
 HearsAsAMove H = (b : BusState) (ss : List (Site H)) (now : ℕ) (bytes : List ℕ) → IsBusOf b ss → AreBytes bytes

@@ -20,7 +20,9 @@ pub fn begins_as_a_move<H: Handler>()
 /// sends, and what that one tells waits to be told.
 pub fn ticks_as_a_move<H: Handler>()
     ensures { TicksAsAMove H.answer_of H.after }
-{}
+{
+    osdp_controller_laws::endings_are_told();
+}
 
 /// A run of bytes that comes to such a bus, and is over: a packet in it is heard by the first controller at its address, at the greatest
 /// moment seen, and what that one tells waits to be told. Where it holds no packet no controller changes.
@@ -28,4 +30,5 @@ pub fn hears_as_a_move<H: Handler>()
     ensures { HearsAsAMove H }
 {
     osdp_frame_laws::items_in_pieces();
+    osdp_controller_laws::endings_are_told();
 }

@@ -1,0 +1,113 @@
+-- Which site is told the report that waits, and that its session ends exactly where that is told.
+use Rattle.std.proofs.Common.{◌≡◌, ◌≢◌, ◌||◌, ◌<◌, ◌+◌, ℕ, zero, suc, Bool, true, false, cond, List, [], ◌∷◌, Option, Some, None, refl, sym, subst, ap, arith}
+use Rattle.osdp_frame.specs.Packet.{Packet}
+use Rattle.osdp_msg.specs.declared.command.Command.{Command}
+use Rattle.osdp_controller.specs.Answers.{answer_of as said_by}
+use Rattle.osdp_controller.specs.Hearing.{Heard, hears, hears_in, ignores, is_from_reader}
+use Rattle.osdp_controller.specs.Sessions.{seen}
+use Rattle.osdp_controller.specs.States.{is_closed}
+use Rattle.osdp_controller.specs.Ticking.{ticks_in}
+use Rattle.osdp_controller.specs.declared.answer.Answer.{Answer}
+use Rattle.osdp_controller.specs.declared.report.Report.{Report}
+use Rattle.osdp_controller.specs.declared.session.Session.{Session}
+use Rattle.osdp_controller.specs.declared.state.State.{State}
+use Rattle.osdp_controller.specs.declared.state.State.TheVariants.{Closed, Quiet, Idle, Waiting, Pausing}
+use Rattle.osdp_controller_laws.specs.Commands.{TellsEnds, tells_end}
+use Rattle.osdp_bus.specs.Buses.{waiting_after}
+use Rattle.osdp_link.proofs.Lines.{both}
+use Rattle.osdp_link.proofs.Numbers.{is_false, is_true}
+use Rattle.osdp_link.proofs.Reports.{HoldsOfReports}
+use Rattle.osdp_multidrop.specs.Line.{Site, changed, site_at}
+use Rattle.osdp_multidrop.proofs.Changing.{some_same}
+use Rattle.osdp_bus_links.specs.Links.{IsNoRefusalOf, IsTold, TellsEach, TellsFrom, report_for}
+
+-- ---- ends
+
+abbrev pub EndsAreTold : Type 0
+EndsAreTold = (now : ℕ) (s : Session) → TellsEnds now s
+
+-- nothing ends where no session lasts
+pub silent_tick : (state : State) (s : Session) (waiting : List Command) → is_closed state ≡ true → tells_end (ticks_in state s waiting).step.report ≡ false
+silent_tick Closed s waiting e = refl
+silent_tick (Quiet until) s waiting e = absurd cc
+silent_tick (Idle due) s waiting e = absurd cc
+silent_tick (Waiting until sends o) s waiting e = absurd cc
+silent_tick (Pausing until o) s waiting e = absurd cc
+
+abbrev IsSilent : Heard → Type 0
+IsSilent h = tells_end h.report ≡ false
+
+silent_in : (state : State) (number : ℕ) (a : Answer) (s : Session) → is_closed state ≡ true → IsSilent (hears_in state number a s)
+silent_in Closed number a s e = refl
+silent_in (Quiet until) number a s e = absurd cc
+silent_in (Idle due) number a s e = absurd cc
+silent_in (Waiting until sends o) number a s e = absurd cc
+silent_in (Pausing until o) number a s e = absurd cc
+
+pub silent_frame : (p : Packet) (now : ℕ) (s : Session) → is_closed s.state ≡ true → IsSilent (hears p now s)
+silent_frame p now s e =
+    both IsSilent (is_from_reader p s) (hears_in s.state p.sequence (said_by p) (seen now s)) (ignores (seen now s))
+    (silent_in s.state p.sequence (said_by p) (seen now s) e) refl
+
+-- what a tick or a plain reply may bring refuses no number
+pub refuses_none : (entry : ℕ) → HoldsOfReports (λ r. IsNoRefusalOf (waiting_after entry r None))
+refuses_none entry = record {
+  nothing = tt;
+  opened = λ id. tt;
+  settled = λ c a is. tt;
+  moved = λ c a d is. tt;
+  event = λ e. tt;
+  polled = λ a. tt;
+  busy = λ o. tt;
+}
+
+-- ---- who is told
+
+for_entry : (k entry : ℕ) (r : Option Report) → k ≡ entry → report_for k (waiting_after entry r None) ≡ r
+for_entry k entry None is = refl
+for_entry k entry (Some r) is = ap (λ b. cond b (Some r) None) (is_true entry k (sym is))
+
+for_others : (k entry : ℕ) (r : Option Report) → k ≢ entry → report_for k (waiting_after entry r None) ≡ None
+for_others k entry None other = refl
+for_others k entry (Some r) other = ap (λ b. cond b (Some r) None) (is_false entry k (λ e. other (sym e)))
+
+or_false : (b : Bool) → b ≡ (b || false)
+or_false true = refl
+or_false false = refl
+
+module _ {H : Type 0} where
+  none_told : (s : Site H) → IsTold None s s
+  none_told s = record { reader = refl; account = refl; earlier = refl; closes = or_false (is_closed s.controller.session.state); once = λ is. refl }
+
+  nothing_from : (k : ℕ) (ss : List (Site H)) → TellsFrom k None ss ss
+  nothing_from k [] = tt
+  nothing_from k (s ∷ ss) = (none_told s, nothing_from (suc k) ss)
+
+  pub told_nothing : (ss : List (Site H)) → TellsEach None ss ss
+  told_nothing ss = nothing_from 0 ss
+
+  -- those after the one that is told
+  rest_from : (k entry : ℕ) (r : Option Report) (ss : List (Site H)) → entry < k → TellsFrom k (waiting_after entry r None) ss ss
+  rest_from k entry r [] lt = tt
+  rest_from k entry r (s ∷ ss) lt = (
+    subst (λ o. IsTold o s s) (sym (for_others k entry r (λ e. absurd (omega (arith, lt, e))))) (none_told s),
+    rest_from (suc k) entry r ss (omega (arith, lt)),
+  )
+
+  one_from : (k i entry : ℕ) (r : Option Report) (s t : Site H) (ss : List (Site H)) → entry ≡ k + i → site_at i ss ≡ Some s → IsTold r s t
+      → TellsFrom k (waiting_after entry r None) ss (changed i t ss)
+  one_from k i entry r s t [] at is told = absurd cc
+  one_from k zero entry r s t (u ∷ ss) at is told =
+      let here : k ≡ entry = omega (arith, at) in (
+        subst (λ o. IsTold o u t) (sym (for_entry k entry r here)) (subst (λ v. IsTold r v t) (some_same s u (sym is)) told),
+        rest_from (suc k) entry r ss (omega (arith, at)),
+      )
+  one_from k (suc i) entry r s t (u ∷ ss) at is told = (
+    subst (λ o. IsTold o u u) (sym (for_others k entry r (λ e. absurd (omega (arith, at, e))))) (none_told u),
+    one_from (suc k) i entry r s t ss (omega (arith, at)) is told,
+  )
+
+  -- one site is told
+  pub told_one : (entry : ℕ) (r : Option Report) (s t : Site H) (ss : List (Site H)) → site_at entry ss ≡ Some s → IsTold r s t
+      → TellsEach (waiting_after entry r None) ss (changed entry t ss)
+  told_one entry r s t ss at is = one_from 0 entry entry r s t ss (omega arith) at is

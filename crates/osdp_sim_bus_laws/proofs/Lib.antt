@@ -1,0 +1,4 @@
+pub mod Sites
+pub mod Following
+pub mod Delivering
+pub mod Stepping

@@ -1,0 +1,202 @@
+-- The readers of a simulated line and the sites whose readers they are, place by place.
+use Rattle.std.proofs.Common.{◌≡◌, ◌||◌, ◌<◌, ◌+◌, ℕ, zero, suc, Bool, true, false, cond, List, [], ◌∷◌, ◌++◌, length, map, Option, Some, None, refl, sym, subst, ap, ◌∙◌, arith}
+use Rattle.std.proofs.lemmas.List.{length-append, map-append}
+use Rattle.std.specs.Prelude.{slice_get, slice_set, option_to_list, ◌==◌}
+use Rattle.std.specs.Option.{option_map_or}
+use Rattle.std.specs.List.{flat_map}
+use Rattle.osdp_frame.specs.Packet.{Packet}
+use Rattle.osdp_frame.specs.Spelling.{spelling}
+use Rattle.osdp_msg.specs.declared.command.Command.{Command}
+use Rattle.osdp_controller.specs.States.{is_closed}
+use Rattle.osdp_controller.specs.declared.report.Report.{Report}
+use Rattle.osdp_controller.specs.declared.report.Report.TheVariants as report
+use Rattle.osdp_controller_laws.specs.Commands.{tells_end}
+use Rattle.osdp_reader.specs.Table as reader
+use Rattle.osdp_reader.specs.State.{ReaderState}
+use Rattle.osdp_reader.specs.declared.handler.Answer.{Answer}
+use Rattle.osdp_link.specs.Link as link
+use Rattle.osdp_link.specs.Refusals as refusals
+use Rattle.osdp_link.proofs.Numbers.{is_false, is_true}
+use Rattle.osdp_link.proofs.Stages.{Each}
+use Rattle.osdp_multidrop.specs.Line as line
+use Rattle.osdp_multidrop.specs.Line.{changed, said_from, site_at, tagged}
+use Rattle.osdp_bus_links.specs.Links.{IsNoRefusalOf, IsTold, TellsFrom, packets_on, report_for}
+use Rattle.osdp_sim.specs.Account.{Account, with_report}
+use Rattle.osdp_sim.specs.Line.{sent}
+use Rattle.osdp_sim.specs.declared.account.End.TheVariants as ending
+use Rattle.osdp_sim_bus.specs.State.{Site}
+use Rattle.osdp_sim_bus.specs.Steps.{changed_site, site_hears, site_is_told, site_says}
+use Rattle.osdp_sim_laws.specs.Accounts.{IsOf}
+use Rattle.osdp_sim_bus_laws.specs.Moves.{IsSiteOf, SitesOf, count}
+use Rattle.osdp_sim_laws.proofs.Accounts.{causes_of, tells_report, tells_taken}
+
+-- ---- reports and ends
+
+ends_of_report : (r : Option Report) (a : Account) → length (with_report r a).ends ≡ length a.ends + count (tells_end r)
+ends_of_report None a = omega arith
+ends_of_report (Some (report.Opened id)) a = omega arith
+ends_of_report (Some (report.Settled command answer)) a = omega arith
+ends_of_report (Some (report.Moved command answered)) a = length-append a.ends (ending.Moved ∷ [])
+ends_of_report (Some (report.Event event)) a = omega arith
+ends_of_report (Some (report.PollAnswered answer)) a = omega arith
+ends_of_report (Some (report.Unread command code)) a = omega arith
+ends_of_report (Some (report.Lost cause command)) a = length-append a.ends (ending.Lost cause ∷ [])
+
+sessions_of_report : (r : Option Report) (a : Account) → (with_report r a).sessions ≡ a.sessions
+sessions_of_report None a = refl
+sessions_of_report (Some (report.Opened id)) a = refl
+sessions_of_report (Some (report.Settled command answer)) a = refl
+sessions_of_report (Some (report.Moved command answered)) a = refl
+sessions_of_report (Some (report.Event event)) a = refl
+sessions_of_report (Some (report.PollAnswered answer)) a = refl
+sessions_of_report (Some (report.Unread command code)) a = refl
+sessions_of_report (Some (report.Lost cause command)) a = refl
+
+counts_join : (closed ends : Bool) → (closed ≡ true → ends ≡ false) → count (closed || ends) ≡ count closed + count ends
+counts_join true true one = absurd (let none = one refl in cc)
+counts_join true false one = refl
+counts_join false true one = refl
+counts_join false false one = refl
+
+plain_for : (k : ℕ) (r : Option (ℕ × Report)) → IsNoRefusalOf r → Each refusals.IsNoRefusal (option_to_list (report_for k r) ++ [])
+plain_for k None plain = tt
+plain_for k (Some (entry, r)) plain = by_test (entry == k)
+  where
+    by_test : (b : Bool) → Each refusals.IsNoRefusal (option_to_list (cond b (Some r) None) ++ [])
+    by_test true = (plain, tt)
+    by_test false = tt
+
+module _ {H : Type 0} where
+  pub get_site : (k : ℕ) (t : line.Site H) (us : List (Site H)) (ts : List (line.Site H)) → SitesOf us ts → site_at k ts ≡ Some t
+      → (u : Site H) × (slice_get us k ≡ Some u) × IsSiteOf u t
+  get_site k t [] [] all is = absurd cc
+  get_site k t [] (v ∷ ts) all is = absurd all
+  get_site k t (u ∷ us) [] all is = absurd all
+  get_site zero t (u ∷ us) (v ∷ ts) all is = let same : v ≡ t = cc in (u, refl, subst (IsSiteOf u) same all.0)
+  get_site (suc k) t (u ∷ us) (v ∷ ts) all is = get_site k t us ts all.1 is
+
+  pub get_nobody : (k : ℕ) (us : List (Site H)) (ts : List (line.Site H)) → SitesOf us ts → site_at k ts ≡ None → slice_get us k ≡ None
+  get_nobody k [] [] all is = refl
+  get_nobody k [] (v ∷ ts) all is = absurd all
+  get_nobody k (u ∷ us) [] all is = absurd all
+  get_nobody zero (u ∷ us) (v ∷ ts) all is = absurd cc
+  get_nobody (suc k) (u ∷ us) (v ∷ ts) all is = get_nobody k us ts all.1 is
+
+  pub set_site : (k : ℕ) (u : Site H) (t : line.Site H) (us : List (Site H)) (ts : List (line.Site H)) → SitesOf us ts → IsSiteOf u t
+      → SitesOf (slice_set us k u) (changed k t ts)
+  set_site k u t [] [] all is = tt
+  set_site k u t [] (v ∷ ts) all is = absurd all
+  set_site k u t (w ∷ us) [] all is = absurd all
+  set_site zero u t (w ∷ us) (v ∷ ts) all is = (is, all.1)
+  set_site (suc k) u t (w ∷ us) (v ∷ ts) all is = (all.0, set_site k u t us ts all.1 is)
+
+  -- one of them changes as its site does, or there is none
+  pub one_changes : (k : ℕ) (change : Site H → Site H) (t next : line.Site H) (us : List (Site H)) (ts : List (line.Site H)) → SitesOf us ts
+      → site_at k ts ≡ Some t → ((u : Site H) → IsSiteOf u t → IsSiteOf (change u) next) → SitesOf (changed_site k change us) (changed k next ts)
+  one_changes k change t next us ts all is does =
+      let old = get_site k t us ts all is in
+      subst (λ o. SitesOf (option_map_or (λ u. slice_set us k (change u)) o us) (changed k next ts)) (sym old.1)
+      (set_site k (change old.0) next us ts all (does old.0 old.2))
+
+  pub none_changes : (k : ℕ) (change : Site H → Site H) (us : List (Site H)) (ts : List (line.Site H)) → SitesOf us ts → site_at k ts ≡ None
+      → changed_site k change us ≡ us
+  none_changes k change us ts all is = ap (λ o. option_map_or (λ u. slice_set us k (change u)) o us) (get_nobody k us ts all is)
+
+  -- ---- a report is told
+
+  abbrev pub told_as : Option Report → Site H → Site H
+  told_as r u = record u { account = with_report r u.account }
+
+  abbrev pub told_sites : ℕ → Option (ℕ × Report) → List (Site H) → List (Site H)
+  told_sites k r [] = []
+  told_sites k r (u ∷ us) = told_as (report_for k r) u ∷ told_sites (suc k) r us
+
+  site_told : (r : Option Report) (u : Site H) (s t : line.Site H) → IsTold r s t → Each refusals.IsNoRefusal (option_to_list r ++ []) → IsSiteOf u s
+      → IsSiteOf (told_as r u) t
+  site_told r u s t is plain h = record {
+    reader = h.reader ∙ sym is.reader;
+    tells = subst (λ a. IsOf (with_report r u.account) a t.earlier) (sym is.account)
+        (subst (λ e. IsOf (with_report r u.account) (link.told r s.account) e) (sym is.earlier) (tells_report r u.account s.account s.earlier h.tells));
+    ended =
+        let ends = ends_of_report r u.account in
+        let same = ap (λ l. length l) (sessions_of_report r u.account) in
+        let behind = ap count is.closes ∙ counts_join (is_closed s.controller.session.state) (tells_end r) is.once in
+        let before = h.ended in
+        omega (arith, ends, same, behind, before);
+    causes = causes_of r u.account plain h.causes;
+  }
+
+  pub all_told : (k : ℕ) (r : Option (ℕ × Report)) (us : List (Site H)) (ss ts : List (line.Site H)) → IsNoRefusalOf r → SitesOf us ss → TellsFrom k r ss ts
+      → SitesOf (told_sites k r us) ts
+  all_told k r [] [] [] plain all told = tt
+  all_told k r [] [] (t ∷ ts) plain all told = absurd told
+  all_told k r [] (s ∷ ss) ts plain all told = absurd all
+  all_told k r (u ∷ us) [] ts plain all told = absurd all
+  all_told k r (u ∷ us) (s ∷ ss) [] plain all told = absurd told
+  all_told k r (u ∷ us) (s ∷ ss) (t ∷ ts) plain all told =
+      (site_told (report_for k r) u s t told.0 (plain_for k r plain) all.0, all_told (suc k) r us ss ts plain all.1 told.1)
+
+  pub none_told : (k : ℕ) (us : List (Site H)) → told_sites k None us ≡ us
+  none_told k [] = refl
+  none_told k (u ∷ us) = ap (λ vs. u ∷ vs) (none_told (suc k) us)
+
+  none_after : (k entry : ℕ) (r : Report) (us : List (Site H)) → entry < k → told_sites k (Some (entry, r)) us ≡ us
+  none_after k entry r [] lt = refl
+  none_after k entry r (u ∷ us) lt =
+      ap (λ b. told_as (cond b (Some r) None) u ∷ told_sites (suc k) (Some (entry, r)) us) (is_false entry k (λ e. absurd (omega (arith, lt, e))))
+      ∙ ap (λ vs. u ∷ vs) (none_after (suc k) entry r us (omega (arith, lt)))
+
+  pub told_from : (k i entry : ℕ) (r : Report) (us : List (Site H)) → entry ≡ k + i → changed_site i (site_is_told r) us ≡ told_sites k (Some (entry, r)) us
+  told_from k i entry r [] at = refl
+  told_from k zero entry r (u ∷ us) at =
+      sym (ap (λ b. told_as (cond b (Some r) None) u ∷ told_sites (suc k) (Some (entry, r)) us) (is_true entry k (omega (arith, at)))
+      ∙ ap (λ vs. told_as (Some r) u ∷ vs) (none_after (suc k) entry r us (omega (arith, at))))
+  told_from k (suc i) entry r (u ∷ us) at =
+      later (slice_get us i) us
+      ∙ ap (λ vs. u ∷ vs) (told_from (suc k) i entry r us (omega (arith, at)))
+      ∙ sym (ap (λ b. told_as (cond b (Some r) None) u ∷ told_sites (suc k) (Some (entry, r)) us) (is_false entry k (λ e. absurd (omega (arith, at, e)))))
+    where
+      later : (o : Option (Site H)) (vs : List (Site H))
+          → option_map_or (λ v. slice_set (u ∷ vs) (suc i) (site_is_told r v)) o (u ∷ vs)
+          ≡ u ∷ option_map_or (λ v. slice_set vs i (site_is_told r v)) o vs
+      later None vs = refl
+      later (Some v) vs = refl
+
+-- ---- a packet that all readers hear
+
+module _ {H : Type 0} (answer_of : H → Command → Answer) (after : H → Command → H) where
+  site_heard : (p : Packet) (u : Site H) (t : line.Site H) → IsSiteOf u t → IsSiteOf (site_hears answer_of after p u) (line.hears answer_of after p t)
+  site_heard p u t h =
+      let o = reader.hears answer_of after t.reader p in
+      subst (λ r. IsSiteOf (site_hears answer_of after p (record { reader = r; account = u.account })) (line.hears answer_of after p t)) (sym h.reader) (record {
+        reader = refl;
+        tells = tells_taken (reader.kind_of t.reader p) o.command (link.front_of t.reader) u.account t.account t.earlier h.tells;
+        ended = h.ended;
+        causes = h.causes;
+      })
+
+  pub all_heard : (p : Packet) (us : List (Site H)) (ts : List (line.Site H)) → SitesOf us ts
+      → SitesOf (map (site_hears answer_of after p) us) (map (line.hears answer_of after p) ts)
+  all_heard p [] [] all = tt
+  all_heard p [] (t ∷ ts) all = absurd all
+  all_heard p (u ∷ us) [] all = absurd all
+  all_heard p (u ∷ us) (t ∷ ts) all = (site_heard p u t all.0, all_heard p us ts all.1)
+
+  sent_tagged : (k : ℕ) (o : Option Packet) → sent o ≡ map spelling (packets_on (tagged k o))
+  sent_tagged k None = refl
+  sent_tagged k (Some p) = refl
+
+  both_on : (xs ys : List (ℕ × Packet)) → map spelling (packets_on (xs ++ ys)) ≡ map spelling (packets_on xs) ++ map spelling (packets_on ys)
+  both_on xs ys = ap (map spelling) (map-append (λ (q : ℕ × Packet). q.1) xs ys) ∙ map-append spelling (packets_on xs) (packets_on ys)
+
+  pub all_said : (p : Packet) (k : ℕ) (us : List (Site H)) (ts : List (line.Site H)) → SitesOf us ts
+      → flat_map (site_says answer_of after p) us ≡ map spelling (packets_on (said_from answer_of after k p ts))
+  all_said p k [] [] all = refl
+  all_said p k [] (t ∷ ts) all = absurd all
+  all_said p k (u ∷ us) [] all = absurd all
+  all_said p k (u ∷ us) (t ∷ ts) all =
+      let r = (reader.hears answer_of after t.reader p).reply in
+      ap (λ (s : ReaderState H). sent (reader.hears answer_of after s p).reply ++ flat_map (site_says answer_of after p) us) all.0.reader
+      ∙ ap (λ l. l ++ flat_map (site_says answer_of after p) us) (sent_tagged k r)
+      ∙ ap (λ l. map spelling (packets_on (tagged k r)) ++ l) (all_said p (suc k) us ts all.1)
+      ∙ sym (both_on (tagged k r) (said_from answer_of after (suc k) p ts))
