@@ -5,3 +5,5 @@ pub mod Adding
 pub mod Counts
 pub mod Rooms
 pub mod Sent
+pub mod Telling
+pub mod Reaching

@@ -20,7 +20,7 @@ changed_there change sites place default next within is =
     map-set site_of sites place next ∙ ap (slice_set (sites_of sites) place) is
     ∙ sym (ap (λ o. option_map_or (λ site. slice_set (sites_of sites) place (change site)) o (sites_of sites)) there)
 
-both : (a b : Bool) → (a && b) ≡ true → (a ≡ true) × (b ≡ true)
+pub both : (a b : Bool) → (a && b) ≡ true → (a ≡ true) × (b ≡ true)
 both true b e = (refl, e)
 both false b e = absurd cc
 

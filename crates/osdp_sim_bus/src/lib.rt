@@ -15,6 +15,7 @@
 //! ```
 #![tactic(auto)]
 
+pub mod laws;
 mod line;
 mod run;
 mod settings;
