@@ -2,3 +2,4 @@ pub mod Sites
 pub mod Following
 pub mod Delivering
 pub mod Stepping
+pub mod Scheduling

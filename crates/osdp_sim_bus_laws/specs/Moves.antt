@@ -11,13 +11,15 @@ use Rattle.osdp_link.specs.Sessions.{LastsOrLeaves}
 use Rattle.osdp_link.proofs.Stages.{Each}
 use Rattle.osdp_multidrop.specs.Line as line
 use Rattle.osdp_multidrop.specs.Line.{Net, NetMove, run, site_at}
-use Rattle.osdp_multidrop.specs.Runs.{AreNetMoves}
+use Rattle.osdp_multidrop.specs.Runs.{AreNetMoves, IsSetUp}
 use Rattle.osdp_multidrop.specs.Views.{view}
 use Rattle.osdp_bus_links.specs.Links.{BeginsAsAMove, HearsAsAMove, IsBusOf, SubmitsAsAMove, TicksAsAMove, packets_on}
 use Rattle.osdp_sim.specs.declared.step.Move as way
 use Rattle.osdp_sim.specs.declared.step.Move.TheVariants.{Damage}
 use Rattle.osdp_sim.specs.declared.step.SimStep.{SimStep}
 use Rattle.osdp_sim.specs.declared.step.SimStep.TheVariants.{ToController}
+use Rattle.osdp_sim_bus.specs.Runs as simulation
+use Rattle.osdp_sim_bus.specs.Runs.{FitAlong}
 use Rattle.osdp_sim_bus.specs.State.{LineState, Site}
 use Rattle.osdp_sim_bus.specs.Steps.{StepFits, after_step, fault_of}
 use Rattle.osdp_sim_laws.specs.Accounts.{IsNoRefusal, IsOf}
@@ -85,3 +87,9 @@ module _ {H : Type 0} where
     abbrev pub StepsAreMoves : Type 0
     StepsAreMoves = (step : SimStep) (s : LineState H) (n : Net H) → fault_of step s ≡ None → StepFits answer_of after step s → IsOfBytes step
         → IsKnown n → Follows s n → Done (after_step answer_of after step s) n
+
+    -- so is each schedule, as far as it isn't refused, from a line on which the first sessions begin
+    abbrev pub SchedulesAreMoves : Type 0
+    SchedulesAreMoves = (steps : List SimStep) (s : LineState H) (first : Net H) → IsSetUp first → Follows s first
+        → simulation.is_well answer_of after steps s ≡ true → FitAlong answer_of after steps s → All IsOfBytes steps
+        → Done (simulation.run answer_of after steps s) first

@@ -1,7 +1,7 @@
 //! What the run of a schedule over a bus is to the theory of several links. The functions do nothing: their contracts are laws.
 #![tactic(auto)]
 
-ghost use Rattle.osdp_sim_bus_laws.specs.Moves.{OneBus, StepsAreMoves};
+ghost use Rattle.osdp_sim_bus_laws.specs.Moves.{OneBus, SchedulesAreMoves, StepsAreMoves};
 
 use osdp_reader::Handler;
 
@@ -24,4 +24,15 @@ pub fn steps_are_moves<H: Handler>()
     ensures { StepsAreMoves H.answer_of H.after }
 {
     stands_on_one_bus::<H>();
+}
+
+/// So is each schedule, as far as it isn't refused, from a line on which the first sessions begin.
+pub fn schedules_are_moves<H: Handler>()
+    ensures { SchedulesAreMoves H.answer_of H.after }
+{
+    steps_are_moves::<H>();
+    osdp_link::read_each_other::<H>();
+    osdp_link::says_all_plainly::<H>();
+    osdp_multidrop::each_is_a_link::<H>();
+    osdp_multidrop::each_stays_in_a_row::<H>();
 }
