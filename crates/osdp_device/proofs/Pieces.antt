@@ -1,5 +1,5 @@
 -- Bytes that are heard piece by piece.
-use Rattle.std.proofs.Common.{◌≡◌, ℕ, ◌+◌, ◌-◌, ◌<◌, ◌≤◌, ◌==◌, not, max, nat_le, Bool, true, false, cond, List, [], ◌∷◌, ◌++◌, length, take, drop, None, refl, sym, subst, ap, ◌∙◌, arith, append_assoc, append-nil, take-append-drop}
+use Rattle.std.proofs.Common.{◌≡◌, ℕ, ◌+◌, ◌-◌, ◌*◌, ◌<◌, ◌≤◌, ◌==◌, not, max, nat_le, Bool, true, false, cond, min, List, [], ◌∷◌, ◌++◌, length, take, drop, None, refl, sym, subst, ap, ◌∙◌, arith, append_assoc, append-nil, length-drop, take-append-drop}
 use Rattle.std.proofs.Math.Seq.{drop-drop}
 use Rattle.std.proofs.lemmas.List.{drop-append-le}
 use Rattle.std.proofs.lemmas.Bool.{leb-true, ne_eqb}
@@ -11,14 +11,14 @@ use Rattle.osdp_frame.proofs.Head.{AreBytes-drop}
 use Rattle.osdp_frame.proofs.Decided.{AreBytes-front}
 use Rattle.osdp_frame_laws.proofs.LawsOfSpellings.{AreBytes-append}
 use Rattle.osdp_frame_laws.proofs.OneByOne.{still_ended}
-use Rattle.osdp_frame_laws.proofs.Readings.{decided_nothing, items_undecided, items-append, left_undecided, sizes_reading, is_reading}
+use Rattle.osdp_frame_laws.proofs.Readings.{decided_nothing, items_undecided, items-append, left_undecided, undecided_small, sizes_reading, is_reading}
 use Rattle.osdp_msg.specs.declared.command.Command.{Command}
 use Rattle.osdp_reader.specs.declared.handler.Answer.{Answer}
 use Rattle.osdp_reader.specs.State.{ReaderState}
-use Rattle.osdp_device.specs.Receiving.{IsReceived, Received, comes_in, ends_run, ends_silent, is_silent, seen}
+use Rattle.osdp_device.specs.Receiving.{IsReceived, Received, after_take, comes_in, ends_run, ends_silent, is_silent, seen}
 use Rattle.osdp_device.specs.Saying.{Said, after_item, said_of}
 use Rattle.osdp_device.specs.Telling.{after_items, behind_all, items_of, listed, said_to_all}
-use Rattle.osdp_device.specs.Hearing.{Heard, IsAllRead, TakesInTurn, hears_bytes, reads_all, reads_on, then_hears, then_reads}
+use Rattle.osdp_device.specs.Hearing.{Heard, IsAllRead, NeedsFewerTurns, TakesInTurn, hears_bytes, reads_all, reads_on, then_hears, then_reads, turns_left}
 use Rattle.osdp_device.proofs.Receipt.{AreBytes-take}
 use Rattle.osdp_device.proofs.Turning.{splits}
 
@@ -372,3 +372,107 @@ module _ {H : Type 0} (answer_of : H → Command → Answer) (after : H → Comm
   none_between bytes before now r l le all =
       let read : IsAllRead (seen before l) = record { goes_on = all.goes_on; undecided = all.undecided } in
       ap (then_hears answer_of after bytes now) (reads_nothing r (seen before l) read) ∙ hears_later bytes before now r l le
+
+  -- ---- turns
+
+  -- where all that is held is read, nothing more is decided
+  pub all_read : (r : ReaderState H) (l : Received) → IsReceived l → IsAllRead (reads_all answer_of after r l).line
+  all_read r l is = by_ended l.held.ended refl
+    where
+      by_ended : (e : Bool) → l.held.ended ≡ e → IsAllRead (reads_all answer_of after r l).line
+      by_ended true ended =
+          subst (λ (h : Heard H). IsAllRead h.line) (sym (reads_over r l is.bytes ended (is.some ended)))
+          (record { goes_on = refl; undecided = decided_nothing false })
+      by_ended false on =
+          let left : behind_all l.held (items_of l.held) ≡ record { bytes = left_over l.held.bytes; ended = false } =
+          ap (λ (e : Bool). behind_all (record { bytes = l.held.bytes; ended = e }) (items e l.held.bytes)) on ∙ behind_items l.held.bytes in
+          record {
+            goes_on = ap (λ (h : Held). h.ended) left;
+            undecided = ap (λ (h : Held). decided false h.bytes) left ∙ left_undecided l.held.bytes is.bytes;
+          }
+
+  abbrev turn_in : (given : List ℕ) (l : Received) → ℕ
+  turn_in given l = 2 * length given + cond l.held.ended 1 0
+
+  settled_turns : (given : List ℕ) (now : ℕ) (l : Received) → IsSettled now l → turns_left given now l ≡ 2 * length given
+  settled_turns given now l is =
+      let same : ends_silent (seen now l) ≡ l =
+      ap ends_silent (seen_again now l is.seen) ∙ ap (λ t. cond t (record l { held = after_gap l.held }) l) (no_less l.gap (l.greatest - l.last) is.gap (omega (arith, is.last))) in
+      ap (turn_in given) same ∙ ap (λ (e : Bool). 2 * length given + cond e 1 0) is.read.goes_on ∙ omega arith
+
+  fewer_open : (given : List ℕ) (now : ℕ) (r : ReaderState H) (l : Received) → IsBefore now l → AreBytes given → IsAllRead l → 0 < length given
+      → turns_left (drop (taken_count l.held given) given) now (reads_all answer_of after r (comes_in given l)).line < turn_in given l
+  fewer_open given now r l is fits all some =
+      let c = taken_count l.held given in
+      let small = undecided_small l.held.bytes all.undecided in
+      let count : c ≡ min (length given) (1440 - length l.held.bytes) = ap (λ (e : Bool). cond e 0 (min (length given) (1440 - length l.held.bytes))) all.goes_on in
+      let turns : turns_left (drop c given) now (reads_all answer_of after r (comes_in given l)).line ≡ 2 * length (drop c given) =
+      ap (λ (h : Heard H). turns_left (drop c given) now h.line) (reads_pushed given r l all.goes_on)
+      ∙ settled_turns (drop c given) now _ (settled_on (take c given) now r l is (AreBytes-take c given fits)) in
+      let mine : turn_in given l ≡ 2 * length given = ap (λ (e : Bool). 2 * length given + cond e 1 0) all.goes_on ∙ omega arith in
+      omega (arith, turns, mine, count, small, some, length-drop c given)
+
+  fewer_over : (k given : List ℕ) (now : ℕ) (r : ReaderState H) (l : Received) → l.held ≡ record { bytes = k; ended = true }
+      → IsBefore now l → 0 < length k
+      → turns_left (drop (taken_count l.held given) given) now (reads_all answer_of after r (comes_in given l)).line < turn_in given l
+  fewer_over k given now r l held is some =
+      let fits : AreBytes k = subst AreBytes (ap (λ (h : Held). h.bytes) held) is.bytes in
+      let here : Received = record l { held = record { bytes = k; ended = true } } in
+      let same : l ≡ here = ap (λ (h : Held). record l { held = h }) held in
+      let taken : comes_in given here ≡ record here { last = l.greatest } =
+      ap (λ (n : List ℕ). record l { held = record { bytes = n; ended = true }; last = l.greatest }) (append-nil k) in
+      let next : Received = record l { held = new_run; last = l.greatest } in
+      let settled : IsSettled now next = record {
+        gap = is.gap;
+        seen = is.seen;
+        last = refl;
+        read = record { goes_on = refl; undecided = decided_nothing false };
+      } in
+      let turns : turns_left (drop (taken_count l.held given) given) now (reads_all answer_of after r (comes_in given l)).line ≡ 2 * length given =
+      ap (λ m. turns_left (drop (taken_count m.held given) given) now (reads_all answer_of after r (comes_in given m)).line) same
+      ∙ ap (λ m. turns_left given now (reads_all answer_of after r m).line) taken
+      ∙ ap (λ (h : Heard H). turns_left given now h.line) (reads_over r (record here { last = l.greatest }) fits refl some)
+      ∙ settled_turns given now next settled in
+      let mine : turn_in given l ≡ 2 * length given + 1 = ap (λ m. turn_in given m) same in
+      omega (arith, turns, mine)
+
+  fewer_ended : (k given : List ℕ) (now : ℕ) (r : ReaderState H) (l : Received) → l.held ≡ record { bytes = k; ended = not (length k == 0) }
+      → IsBefore now l → AreBytes given → 0 < length given
+      → turns_left (drop (taken_count l.held given) given) now (reads_all answer_of after r (comes_in given l)).line < turn_in given l
+  fewer_ended [] given now r l held is fits some =
+      fewer_open given now r l is fits (record {
+        goes_on = ap (λ (h : Held). h.ended) held;
+        undecided = ap (λ (h : Held). decided false h.bytes) held ∙ decided_nothing false;
+      }) some
+  fewer_ended (x ∷ k) given now r l held is fits some =
+      fewer_over (x ∷ k) given now r l (held ∙ ap (λ (e : Bool). record { bytes = x ∷ k; ended = e }) (some_ended x k)) is (omega arith)
+
+  pub fewer_turns : (bytes : List ℕ) (now : ℕ) (r : ReaderState H) (l : Received) → IsReceived l → IsAllRead l → AreBytes bytes → 0 < length bytes
+      → NeedsFewerTurns answer_of after bytes now r l
+  fewer_turns [] now r l is all fits some = absurd (omega arith)
+  fewer_turns (b ∷ bytes) now r l is all fits some = by_test (is_silent (seen now l)) refl
+    where
+      given : List ℕ
+      given = b ∷ bytes
+
+      by_test : (t : Bool) → is_silent (seen now l) ≡ t
+          → let m = cond t (ends_run (seen now l)) (seen now l) in
+          turns_left (drop (taken_count m.held given) given) now (reads_all answer_of after r (comes_in given m)).line < turn_in given m
+      by_test true test = fewer_ended l.held.bytes given now r (ends_run (seen now l)) refl (record { gap = is.gap; bytes = is.bytes; seen = omega arith }) fits (omega arith)
+      by_test false test = fewer_open given now r (seen now l) (record { gap = is.gap; bytes = is.bytes; seen = omega arith }) fits
+          (record { goes_on = all.goes_on; undecided = all.undecided }) (omega arith)
+
+  -- a last turn, after which no bytes are left
+  pub last_turn : (now : ℕ) (h : Heard H) → IsAllRead h.line → now ≤ h.line.greatest
+      → then_hears answer_of after [] now h ≡ h
+  last_turn now h all le =
+      ap (λ (x : Heard H). record x { said = h.said ++ x.said }) (ap (reads_all answer_of after h.reader) (seen_again now h.line le) ∙ reads_nothing h.reader h.line all)
+      ∙ ap (λ (s : List Said). record h { said = s }) (append-nil h.said)
+
+  pub seen_in_turn : (bytes : List ℕ) (now : ℕ) (r : ReaderState H) (l : Received) → now ≤ (reads_all answer_of after r (after_take bytes now l)).line.greatest
+  seen_in_turn [] now r l = omega arith
+  seen_in_turn (b ∷ bytes) now r l = by_test (is_silent (seen now l))
+    where
+      by_test : (t : Bool) → now ≤ (cond t (ends_run (seen now l)) (seen now l)).greatest
+      by_test true = omega arith
+      by_test false = omega arith

@@ -1,5 +1,5 @@
 -- What holds at all times of what has come on a line.
-use Rattle.std.proofs.Common.{◌≡◌, ℕ, ◌<◌, ◌≤◌, ◌==◌, ◌&&◌, not, Bool, true, false, List, [], ◌∷◌, length, take, drop, Option, Some, None, sym, subst, arith, length-append, take-append-drop}
+use Rattle.std.proofs.Common.{◌≡◌, ℕ, ◌<◌, ◌≤◌, ◌==◌, ◌&&◌, not, Bool, true, false, cond, List, [], ◌∷◌, length, take, drop, Option, Some, None, sym, subst, arith, length-append, take-append-drop}
 use Rattle.std.proofs.lemmas.List.{get_or_past}
 use Rattle.std.proofs.lemmas.Bool.{false≢true}
 use Rattle.osdp_frame.specs.Bytes.{AreBytes}
@@ -8,7 +8,7 @@ use Rattle.osdp_frame.specs.Held.{Held, decided, behind, behind_first, after_adv
 use Rattle.osdp_frame.proofs.Head.{AreBytes-drop}
 use Rattle.osdp_frame.proofs.Decided.{AreBytes-front}
 use Rattle.osdp_frame_laws.proofs.LawsOfSpellings.{AreBytes-append}
-use Rattle.osdp_device.specs.Receiving.{IsReceived, Received, comes_in, ends_run, new_line}
+use Rattle.osdp_device.specs.Receiving.{IsReceived, Received, after_silence, after_tick, comes_in, ends_run, is_silent, new_line, seen}
 
 pub AreBytes-take : (n : ℕ) (bytes : List ℕ) → AreBytes bytes → AreBytes (take n bytes)
 AreBytes-take n bytes fits = AreBytes-front (take n bytes) (drop n bytes) (subst AreBytes (sym (take-append-drop n bytes)) fits)
@@ -53,3 +53,16 @@ received_advanced l run = by_answer (decided l.held.ended l.held.bytes)
       some = behind_some l.held part;
       last = run.last;
     }
+
+received_seen : (now : ℕ) (l : Received) → IsReceived l → IsReceived (seen now l)
+received_seen now l run = record { gap = run.gap; bytes = run.bytes; some = run.some; last = omega (arith, run.last) }
+
+pub received_silence : (now : ℕ) (l : Received) → IsReceived l → IsReceived (after_silence now l)
+received_silence now l run = received_gapped (seen now l) (received_seen now l run)
+
+pub received_tick : (now : ℕ) (l : Received) → IsReceived l → IsReceived (after_tick now l)
+received_tick now l run = by_test (is_silent (seen now l))
+  where
+    by_test : (t : Bool) → IsReceived (cond t (ends_run (seen now l)) (seen now l))
+    by_test true = received_silence now l run
+    by_test false = received_seen now l run

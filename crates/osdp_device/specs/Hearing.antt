@@ -1,5 +1,5 @@
 -- What a device comes to by all bytes of a call, where its user reads what is held until nothing more is said.
-use Rattle.std.specs.Prelude.{◌≡◌, ℕ, false, List, [], ◌∷◌, ◌++◌, drop, None}
+use Rattle.std.specs.Prelude.{◌≡◌, ℕ, ◌+◌, ◌*◌, ◌<◌, false, if◌then◌else◌, List, [], ◌∷◌, ◌++◌, length, drop, None}
 use Rattle.osdp_frame.specs.Held.{decided}
 use Rattle.osdp_frame.specs.Items.{items, left_over}
 use Rattle.osdp_msg.specs.declared.command.Command.{Command}
@@ -19,6 +19,10 @@ pub record Heard (H : Type 0) : Type 0 where
 pub record IsAllRead (l : Received) : Type 0 where
   pub goes_on : l.held.ended ≡ false
   pub undecided : decided false l.held.bytes ≡ None
+
+-- how many turns of taking and reading these bytes need at most: one more where a run is over before them
+abbrev pub turns_left : List ℕ → ℕ → Received → ℕ
+turns_left bytes now l = 2 * length bytes + (if (ends_silent (seen now l)).held.ended then 1 else 0)
 
 module _ {H : Type 0} (answer_of : H → Command → Answer) (after : H → Command → H) where
   -- all items that are held are read
@@ -63,3 +67,9 @@ module _ {H : Type 0} (answer_of : H → Command → Answer) (after : H → Comm
   TakesInTurn bytes now r l =
       then_hears (drop (count_taken bytes now l) bytes) now (reads_all r (after_take bytes now l))
       ≡ hears_bytes bytes now r l
+
+  -- and needs fewer turns than before
+  abbrev pub NeedsFewerTurns : List ℕ → ℕ → ReaderState H → Received → Type 0
+  NeedsFewerTurns bytes now r l =
+      turns_left (drop (count_taken bytes now l) bytes) now (reads_all r (after_take bytes now l)).line
+      < turns_left bytes now l

@@ -3,7 +3,7 @@
 ghost use Rattle.std.specs.Prelude.{◌≡◌, ◌↔◌, IfSome, IsSome};
 ghost use Rattle.std.specs.Option.{option_copied, option_map};
 ghost use Rattle.osdp_frame.specs.Shown.{part_of};
-ghost use Rattle.osdp_device.specs.Receiving.{IsGap, after_silence, after_take, after_tick, count_taken, new_line};
+ghost use Rattle.osdp_device.specs.Receiving.{IsGap, IsReceived, after_silence, after_take, after_tick, count_taken, new_line};
 ghost use Rattle.osdp_device.specs.Saying.{after_item, again_in, but_poll, said_in, said_of, taken_in};
 ghost use Rattle.osdp_device.specs.Telling.{next_told};
 
@@ -49,6 +49,7 @@ impl<H: Handler> Device<H> {
         ensures count { result ≡ count_taken bytes.now now self.old.line }
         ensures line { self.new.line ≡ after_take bytes.now now self.old.line }
         ensures reader { self.new.reader ≡ self.old.reader }
+        ensures received { IsReceived self.old.line }
     {
         self.line.take(bytes, now)
     }
@@ -57,6 +58,7 @@ impl<H: Handler> Device<H> {
     pub fn tick(&mut self, now: u64)
         ensures line { self.new.line ≡ after_tick now self.old.line }
         ensures reader { self.new.reader ≡ self.old.reader }
+        ensures received { IsReceived self.old.line }
     {
         self.line.tick(now);
     }
@@ -65,6 +67,7 @@ impl<H: Handler> Device<H> {
     pub fn silence(&mut self, now: u64)
         ensures line { self.new.line ≡ after_silence now self.old.line }
         ensures reader { self.new.reader ≡ self.old.reader }
+        ensures received { IsReceived self.old.line }
     {
         self.line.silence(now);
     }

@@ -1,11 +1,11 @@
 //! What a device comes to whose user asks it again and again. The functions do nothing: their contracts are laws, and hold
 //! whatever the handler does.
 
-ghost use Rattle.std.specs.Prelude.{◌≡◌, ℕ, ◌≤◌, List, [], ◌++◌};
+ghost use Rattle.std.specs.Prelude.{◌≡◌, ℕ, ◌<◌, ◌≤◌, List, [], ◌++◌, length};
 ghost use Rattle.osdp_frame.specs.Bytes.{AreBytes};
 ghost use Rattle.osdp_frame.specs.Held.{Held};
 ghost use Rattle.osdp_reader.specs.State.{ReaderState};
-ghost use Rattle.osdp_device.specs.Hearing.{IsAllRead, TakesInTurn, hears_bytes, then_hears};
+ghost use Rattle.osdp_device.specs.Hearing.{IsAllRead, NeedsFewerTurns, TakesInTurn, hears_bytes, reads_all, then_hears};
 ghost use Rattle.osdp_device.specs.Receiving.{IsReceived, Received};
 ghost use Rattle.osdp_device.specs.Telling.{TellsInTurn, next_told};
 
@@ -18,9 +18,12 @@ pub fn tells_in_turn<H: Handler>()
 {}
 
 /// A user who takes bytes, reads all that is held, and goes on with the bytes that weren't taken, comes to what the whole
-/// of the bytes does.
+/// of the bytes does, in so many turns at most. Where all that is held was read, nothing more is decided.
 pub fn takes_in_turn<H: Handler>()
-    ensures { (bytes : List ℕ) (now : ℕ) (r : ReaderState H) (l : Received) → IsReceived l → IsAllRead l → AreBytes bytes
+    ensures fewer { (bytes : List ℕ) (now : ℕ) (r : ReaderState H) (l : Received) → IsReceived l → IsAllRead l → AreBytes bytes
+        → 0 < length bytes → NeedsFewerTurns H.answer_of H.after bytes now r l }
+    ensures read { (r : ReaderState H) (l : Received) → IsReceived l → IsAllRead (reads_all H.answer_of H.after r l).line }
+    ensures whole { (bytes : List ℕ) (now : ℕ) (r : ReaderState H) (l : Received) → IsReceived l → IsAllRead l → AreBytes bytes
         → TakesInTurn H.answer_of H.after bytes now r l }
 {}
 

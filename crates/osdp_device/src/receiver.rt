@@ -106,7 +106,9 @@ impl Receiver {
     pub(crate) fn take(&mut self, bytes: &[u8], now: u64) -> usize
         ensures count { result ≡ count_taken bytes.now now self.old }
         ensures line { self.new ≡ after_take bytes.now now self.old }
+        ensures received { IsReceived self.old }
     {
+        let _gap = &self.gap;
         self.see(now);
         if bytes.is_empty() {
             return 0;
@@ -117,16 +119,20 @@ impl Receiver {
 
     /// No bytes came up to a moment.
     pub(crate) fn tick(&mut self, now: u64)
-        ensures { self.new ≡ after_tick now self.old }
+        ensures line { self.new ≡ after_tick now self.old }
+        ensures received { IsReceived self.old }
     {
+        let _gap = &self.gap;
         self.see(now);
         self.end_silent();
     }
 
     /// The caller saw the line silent.
     pub(crate) fn silence(&mut self, now: u64)
-        ensures { self.new ≡ after_silence now self.old }
+        ensures line { self.new ≡ after_silence now self.old }
+        ensures received { IsReceived self.old }
     {
+        let _gap = &self.gap;
         self.see(now);
         self.end_run();
     }

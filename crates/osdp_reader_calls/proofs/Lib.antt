@@ -1,0 +1,4 @@
+pub mod Decimals
+pub mod Rows
+pub mod Turns
+pub mod Calls

@@ -1,0 +1,5 @@
+pub mod Words
+pub mod Calls
+pub mod Texts
+pub mod Sessions
+pub mod Lines

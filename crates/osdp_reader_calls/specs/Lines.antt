@@ -1,0 +1,31 @@
+-- What a line is answered.
+use Rattle.std.specs.Prelude.{◌≡◌, ◌⊎◌, ℕ, ◌≤◌, List, length, IsUtf8}
+use Rattle.osdp_words.specs.Word.{AllStandFor}
+use Rattle.osdp_reader_calls.specs.declared.call.ReaderCall.{ReaderCall}
+use Rattle.osdp_reader_calls.specs.Calls.{CallFits, call_words}
+use Rattle.osdp_reader_calls.specs.Sessions.{Called, Session, answered, ended}
+use Rattle.osdp_reader_calls.specs.Texts.{no_line}
+use Rattle.osdp_reader_calls.specs.Words.{words_in}
+
+-- how many characters a line may have
+abbrev pub longest : ℕ
+longest = 8192
+
+-- the characters of a line are the words of a call
+pub record Says (line : List ℕ) (call : ReaderCall) : Type 0 where
+  pub short : length line ≤ longest
+  pub text : IsUtf8 line
+  pub words : AllStandFor (call_words call) (words_in line)
+  pub fits : CallFits call
+
+abbrev pub SaysNothing : List ℕ → Type 0
+SaysNothing line = (call : ReaderCall) → Says line call → ⊥
+
+-- a line that is none changes nothing
+abbrev pub refuses : Session → Called
+refuses s = ended (record { text = no_line; session = s })
+
+-- what a line comes to: what its call does, or else it is refused
+abbrev pub IsAnswered : List ℕ → Session → Called → Type 0
+IsAnswered line s c =
+    ((call : ReaderCall) × Says line call × (c ≡ answered call s)) ⊎ (SaysNothing line × (c ≡ refuses s))

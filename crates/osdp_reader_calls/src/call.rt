@@ -1,0 +1,148 @@
+//! What a line may order.
+
+ghost use Rattle.std.specs.Prelude.{◌≡◌, ◌<◌, ◌^◌, ◌∷◌, ◌⊎◌, ◌↔◌, ℕ, [], IsTrue, length, slice_index};
+ghost use Rattle.osdp_msg.specs.Events.{EventFits, event_words};
+ghost use Rattle.osdp_words.specs.Reading.{Reads, ReadsWords};
+ghost use Rattle.osdp_words.specs.Word.{bytes, number, texts};
+ghost use Rattle.osdp_reader_calls.specs.Calls.{AreStates, CallFits, IsLong, call_words, switch_word};
+
+use arrayvec::ArrayVec;
+use osdp_words::{byte_list, number_u8};
+
+/// What a line orders.
+#[derive(Debug, Drop, PartialEq)]
+pub enum ReaderCall {
+    /// The moment of the calls to come, in milliseconds.
+    At(u64),
+    /// Bytes have come.
+    Bytes(ArrayVec<u8, 4096>),
+    /// The line was seen silent.
+    Silence,
+    /// No bytes have come up to now.
+    Tick,
+    /// An event for the controller.
+    Event(osdp_msg::Event),
+    /// Whether the reader is busy from now on.
+    Busy(bool),
+    /// A byte for each input, from now on.
+    Inputs(ArrayVec<u8, 1432>),
+    /// A byte for each output, from now on.
+    Outputs(ArrayVec<u8, 1432>),
+    /// A byte for each reader, from now on.
+    Readers(ArrayVec<u8, 1432>),
+    /// Tamper and power, from now on.
+    Local(u8, u8),
+}
+
+/// Whether std's `parse` takes what is no decimal word.
+fn has_sign_or_leading_zero(characters: &[u8]) -> bool
+    ensures { IsTrue result
+        ↔ ((slice_index characters.now 0 ≡ 43) ⊎ ((slice_index characters.now 0 ≡ 48) × (1 < length characters.now))) }
+{
+    matches!(characters, [b'+', ..] | [b'0', _, ..])
+}
+
+/// The number from 0 to the greatest `u64` that a decimal word stands for.
+fn number_u64(word: &str) -> Option<u64>
+    ensures { Reads number (λ n. n < 2 ^ 64) word.now result }
+{
+    if has_sign_or_leading_zero(word.as_bytes()) {
+        return None;
+    }
+    word.parse().ok()
+}
+
+/// One word, and no other: a moment.
+fn parse_moment(words: &[&str]) -> Option<u64>
+    ensures { ReadsWords (λ n. number n ∷ []) (λ n. n < 2 ^ 64) (texts words.now) result }
+{
+    let [word] = words else {
+        return None;
+    };
+    number_u64(word)
+}
+
+/// One word, and no other: bytes of the line.
+fn parse_bytes(words: &[&str]) -> Option<ArrayVec<u8, 4096>>
+    ensures { ReadsWords (λ list. bytes list.items ∷ []) (λ list. IsLong list.items) (texts words.now) result }
+{
+    let [word] = words else {
+        return None;
+    };
+    byte_list(word)
+}
+
+/// One word, and no other: a byte for each input, output or reader.
+fn parse_states(words: &[&str]) -> Option<ArrayVec<u8, 1432>>
+    ensures { ReadsWords (λ list. bytes list.items ∷ []) (λ list. AreStates list.items) (texts words.now) result }
+{
+    let [word] = words else {
+        return None;
+    };
+    byte_list(word)
+}
+
+/// The words of an event.
+fn parse_event(words: &[&str]) -> Option<osdp_msg::Event>
+    ensures { ReadsWords event_words EventFits (texts words.now) result }
+{
+    osdp_msg::Event::parse(words).ok()
+}
+
+/// One word, and no other: `on` or `off`.
+fn parse_switch(words: &[&str]) -> Option<bool>
+    ensures { ReadsWords (λ busy. switch_word busy ∷ []) (λ busy. Unit {0}) (texts words.now) result }
+{
+    let [word] = words else {
+        return None;
+    };
+    match *word {
+        "on" => Some(true),
+        "off" => Some(false),
+        _ => None,
+    }
+}
+
+/// Two words, and no others: tamper and power.
+fn parse_local(words: &[&str]) -> Option<(u8, u8)>
+    ensures { ReadsWords (λ (x : ℕ × ℕ). number x.0 ∷ number x.1 ∷ []) (λ (x : ℕ × ℕ). (x.0 < 2 ^ 8) × (x.1 < 2 ^ 8)) (texts words.now) result }
+{
+    let [tamper, power] = words else {
+        return None;
+    };
+    Some((number_u8(tamper)?, number_u8(power)?))
+}
+
+/// The call whose words begin with a name and go on with these.
+fn parse_row(name: &str, words: &[&str]) -> Option<ReaderCall>
+    ensures { ReadsWords call_words CallFits (name.now ∷ texts words.now) result }
+{
+    match name {
+        "at" => Some(ReaderCall::At(parse_moment(words)?)),
+        "bytes" => Some(ReaderCall::Bytes(parse_bytes(words)?)),
+        "silence" => words.is_empty().then_some(ReaderCall::Silence),
+        "tick" => words.is_empty().then_some(ReaderCall::Tick),
+        "event" => Some(ReaderCall::Event(parse_event(words)?)),
+        "busy" => Some(ReaderCall::Busy(parse_switch(words)?)),
+        "inputs" => Some(ReaderCall::Inputs(parse_states(words)?)),
+        "outputs" => Some(ReaderCall::Outputs(parse_states(words)?)),
+        "readers" => Some(ReaderCall::Readers(parse_states(words)?)),
+        "local" => {
+            let (tamper, power) = parse_local(words)?;
+            Some(ReaderCall::Local(tamper, power))
+        }
+        _ => None,
+    }
+}
+
+impl ReaderCall {
+    /// The call that has these words.
+    pub fn parse(words: &[&str]) -> Option<ReaderCall>
+        ensures { ReadsWords call_words CallFits (texts words.now) result }
+    {
+        let [name, rest @ ..] = words else {
+            return None;
+        };
+        parse_row(name, rest)
+    }
+}

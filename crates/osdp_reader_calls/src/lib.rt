@@ -1,0 +1,20 @@
+//! A reader's device by lines of text: each line is one call, and is answered by lines.
+//!
+//! ```text
+//! at 400                       -> waiting 0
+//! bytes 530508000061003F       -> send 53851300004553494D010101000000010000E3
+//!                                 again ID 0
+//!                                 waiting 0
+//! event KEYPAD 0 31            -> waiting 1
+//! ```
+//!
+//! `LineDevice::answer` answers a line. What it answers is the definitions in `specs/`, over those of `osdp_device`.
+#![tactic(auto)]
+
+mod call;
+mod line;
+mod say;
+mod session;
+
+pub use call::ReaderCall;
+pub use session::LineDevice;
