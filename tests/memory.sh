@@ -79,6 +79,14 @@ capture | refuse_each 'check, both options' 3 check --raw --join
 refuse_each 'make' 3 make 5 1 crc OUT 0:2:0 </dev/null
 refuse_each 'make, a long text' 3 make 5 1 sum MFG 53494D "$(printf '%02858d' 0)" </dev/null
 refuse_each 'make, bad words' 3 make 5 4 sum POLL </dev/null
+script() {
+  printf '# a script\nreader 5 4\nissue 1 OUT 0:2:0\nissue 1 BUZ 0 2 5 5 1\nqueue 1 KEYPAD 0 31\n'
+  printf 'clean 3\nwait 50\nto-reader damage 53\n'
+}
+
+script | refuse_each 'sim' 20 sim
+{ script; echo 'reopen 1'; } | refuse_each 'sim, a line that isn'"'"'t quiet' 20 sim
+{ script; echo 'reader 6 4'; } | refuse_each 'sim, a bad line' 10 sim
 refuse_each 'bad words' 1 show --all </dev/null
 
 exit "$failed"

@@ -1,7 +1,8 @@
-//! The program `osdp`: it reads captures of an OSDP line and prints what stands in them.
+//! The program `osdp`: it reads captures of an OSDP line and prints what stands in them, and runs scripts of schedules.
 #![tactic(auto)]
 
 use osdp_tool::{Job, ToolFault, Watched, check, job, make, show};
+use osdp_tool_sim::sim;
 use std::env;
 use std::io::ErrorKind;
 use std::process::ExitCode;
@@ -35,7 +36,10 @@ fn run(rt: &HostRuntime) -> Result<bool, ToolFault> {
             make(rt.alloc(), words.get(1..).unwrap_or(&[]), &mut output)?;
             Ok(false)
         }
-        Job::Sim => Err(ToolFault::BadWords),
+        Job::Sim => {
+            sim(rt.alloc(), &mut input, &mut output)?;
+            Ok(false)
+        }
     }
 }
 

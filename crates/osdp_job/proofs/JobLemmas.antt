@@ -1,6 +1,8 @@
 -- Words choose a job exactly where they are its words.
-use Rattle.std.proofs.Common.{List, ℕ, false, true, refl, ◌≡◌, ◌⊎◌, Bool, [], ◌∷◌, subst, ap, inl, inr, codes, Ok, Err}
+use Rattle.std.proofs.Common.{List, ℕ, false, true, refl, ◌≡◌, ◌==◌, ◌⊎◌, ◌∙◌, length, Bool, [], ◌∷◌, subst, ap, inl, inr, codes, Ok, Err}
 use Rattle.std.specs.Str.{bytes_eq}
+use Rattle.std.proofs.lemmas.Bool.{eqb-true}
+use Rattle.std.proofs.lemmas.List.{nil_from_length}
 use Rattle.std.proofs.lemmas.Slice.Eq.{bytes_eq-Decides}
 use Rattle.osdp_stream.specs.declared.fault.ToolFault.TheVariants.{BadWords}
 use Rattle.osdp_job.specs.declared.types.Job.{Job}
@@ -23,6 +25,18 @@ job_in_mode-cases command options = go (are_options options) refl
 abbrev Chooses : Words → Type 0
 Chooses words = ((job : Job) × (job_of words ≡ Ok job) × IsWordsOf job words) ⊎ (job_of words ≡ Err BadWords)
 
+choose_alone : (command : List ℕ) (rest : Words) → bytes_eq command (codes "show") ≡ false → bytes_eq command (codes "check") ≡ false
+    → bytes_eq command (codes "make") ≡ false → Chooses (command ∷ rest)
+choose_alone command rest no_show no_check no_make = go (bytes_eq command (codes "sim")) (length rest == 0) refl refl
+  where
+    go : (sim none : Bool) → bytes_eq command (codes "sim") ≡ sim → (length rest == 0) ≡ none → Chooses (command ∷ rest)
+    go true true is_sim is_none =
+        let same : command ≡ codes "sim" = (bytes_eq-Decides command (codes "sim")).0 is_sim in
+        let nothing : rest ≡ [] = nil_from_length rest (eqb-true (length rest) 0 is_none) in
+        inl (Sim, rw (no_show, no_check, no_make, is_sim, is_none), ap (λ word. word ∷ rest) same ∙ ap (λ words. codes "sim" ∷ words) nothing)
+    go true false is_sim is_none = inr (rw (no_show, no_check, no_make, is_sim, is_none))
+    go false none is_sim is_none = inr (rw (no_show, no_check, no_make, is_sim))
+
 choose_without_mode : (command : List ℕ) (rest : Words) → bytes_eq command (codes "show") ≡ false → bytes_eq command (codes "check") ≡ false
     → Chooses (command ∷ rest)
 choose_without_mode command rest no_show no_check = go (bytes_eq command (codes "make")) refl
@@ -30,7 +44,7 @@ choose_without_mode command rest no_show no_check = go (bytes_eq command (codes 
     go : (make : Bool) → bytes_eq command (codes "make") ≡ make → Chooses (command ∷ rest)
     go true is_make =
         inl (Make, rw (no_show, no_check, is_make), (rest, ap (λ word. word ∷ rest) ((bytes_eq-Decides command (codes "make")).0 is_make)))
-    go false is_make = inr (rw (no_show, no_check, is_make))
+    go false is_make = choose_alone command rest no_show no_check is_make
 
 choose : (words : Words) → Chooses words
 choose [] = inr refl
@@ -58,7 +72,7 @@ words_choose : (job : Job) (words : Words) → IsWordsOf job words → job_of wo
 words_choose (Show mode) words (options, is, listed) = rw is (job_in_mode-options Show mode options listed)
 words_choose (Check mode) words (options, is, listed) = rw is (job_in_mode-options Check mode options listed)
 words_choose Make words (rest, is) = rw is
-words_choose Sim words none = absurd none
+words_choose Sim words is = rw is
 
 pub ChoosesByWords-all : (words : Words) → ChoosesByWords words
 ChoosesByWords-all words = record { chosen = λ job. (chosen_words job, words_choose job words); refused = (bad_words, no_words) }

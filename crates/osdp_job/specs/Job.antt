@@ -45,11 +45,11 @@ ReadsMode words mode = MatchBool (are_options words) ((mode ≡ Ok (mode_of word
 abbrev pub job_in_mode : (Mode → Job) → Words → Result Job ToolFault
 job_in_mode command rest = if are_options rest then Ok (command (mode_of rest)) else Err BadWords
 
--- A command that takes no mode, with the words behind it: `make` with whatever follows it. The program has
--- no `sim` yet, so that is bad words. Once it has, `sim` is Sim where nothing follows it; `IsWordsOf` says so
--- then too.
+-- a command that takes no mode, with the words after it: `make` with whatever follows it, and `sim` where nothing does
 abbrev pub job_without_mode : List ℕ → Words → Result Job ToolFault
-job_without_mode command rest = if bytes_eq command (codes "make") then Ok Make else Err BadWords
+job_without_mode command rest =
+    if bytes_eq command (codes "make") then Ok Make
+    else (if bytes_eq command (codes "sim") && length rest == 0 then Ok Sim else Err BadWords)
 
 -- the job that the words choose: the first is the command
 abbrev pub job_of : Words → Result Job ToolFault
@@ -89,7 +89,7 @@ abbrev pub IsWordsOf : Job → Words → Type 0
 IsWordsOf (Show mode) words = IsCommandIn mode (codes "show") words
 IsWordsOf (Check mode) words = IsCommandIn mode (codes "check") words
 IsWordsOf Make words = (rest : Words) × (words ≡ codes "make" ∷ rest)
-IsWordsOf Sim words = ⊥
+IsWordsOf Sim words = words ≡ codes "sim" ∷ []
 
 -- words choose a job exactly where they are its words, and are bad exactly where they are no job's
 pub record ChoosesByWords (words : Words) : Type 0 where

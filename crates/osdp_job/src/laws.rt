@@ -4,7 +4,7 @@
 ghost use Rattle.osdp_job.specs.Job.{Words, ChoosesByWords};
 
 /// Words choose a job exactly where they are its words: `show` or `check`, and the options of its
-/// mode in any order, or `make` and any words. They are bad exactly where they are no job's.
+/// mode in any order, or `make` and any words, or `sim` alone. They are bad exactly where they are no job's.
 pub fn words_choose_jobs()
     ensures { (words : Words) → ChoosesByWords words }
 {}

@@ -10,14 +10,14 @@ use std::alloc::Global;
 ///
 /// The first word is the command. Behind `show` and `check` the options `--raw` and `--join` may
 /// stand, in any order, each at most once. Behind `make` any words may stand, which `make` reads.
-/// Every other list of words is `BadWords`, `sim` among them: the program does not have it yet.
+/// `sim` stands alone. Every other list of words is `BadWords`.
 ///
 /// `NoMemory` comes only where options of `show` or `check` are read, which takes memory.
 pub fn job(alloc: Global, words: &[&str]) -> Result<Job, ToolFault>
     ensures choice { (result ≡ job_of (texts_of words.now)) ⊎ (result ≡ Err ToolFault.NoMemory) }
     ensures memory { IsErrOf result ToolFault.NoMemory → AsksForMode (texts_of words.now) }
 {
-    let [command, ..] = words else {
+    let [command, rest @ ..] = words else {
         return Err(ToolFault::BadWords);
     };
     if *command == "show" {
@@ -28,6 +28,9 @@ pub fn job(alloc: Global, words: &[&str]) -> Result<Job, ToolFault>
     }
     if *command == "make" {
         return Ok(Job::Make);
+    }
+    if *command == "sim" && rest.is_empty() {
+        return Ok(Job::Sim);
     }
     Err(ToolFault::BadWords)
 }

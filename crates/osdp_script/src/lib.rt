@@ -24,6 +24,7 @@ mod schedule;
 mod script;
 
 pub use fault::ScriptFault;
+pub use line::{characters, first_line};
 pub use reading::read_script;
 pub use schedule::ScriptSteps;
 pub use script::{Script, ScriptLine, ScriptStep, Way};

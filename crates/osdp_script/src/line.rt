@@ -9,7 +9,7 @@ use std::alloc::{AllocError, Global};
 
 /// The first line, without the line feed that ends it, and the bytes after it.
 #[tactic(auto, using(crate::proofs::Cutting::first_cut, crate::proofs::Cutting::last_alone))]
-pub(crate) fn first_line(bytes: &[u8]) -> Option<(&[u8], &[u8])>
+pub fn first_line(bytes: &[u8]) -> Option<(&[u8], &[u8])>
     ensures line { MatchOption result (lines_of bytes.now ≡ []) (λ cut. lines_of bytes.now ≡ cut.0.now ∷ lines_of cut.1.now) }
     ensures shorter { IfSome result (λ cut. length cut.1.now < length bytes.now) }
 {
@@ -23,7 +23,7 @@ pub(crate) fn first_line(bytes: &[u8]) -> Option<(&[u8], &[u8])>
 }
 
 /// The characters of a line that count: all but carriage returns.
-pub(crate) fn characters(alloc: Global, line: &[u8]) -> Result<Vec<u8>, AllocError>
+pub fn characters(alloc: Global, line: &[u8]) -> Result<Vec<u8>, AllocError>
     ensures { IfOk result (λ kept. kept.items ≡ characters line.now) }
 {
     let mut kept = Vec::new(alloc);

@@ -56,9 +56,8 @@ const BAD: &str = "\
     show|--help;show|--version;show|help;show|--ra;show|--RAW;show|--raw=1;show|--raw=;\
     show|--raw|--raw;show|--join|--join;show|--raw|--join|--raw;show|--raw|x;show|show;\
     check|--join|x;check|--join|--raw|--join;help;makes;simulate;\
-    sim;sim|x;sim|--raw";
+    sim|x;sim|--raw;sim|sim";
 
-/// Simulations are not there yet.
 #[test]
 fn other_words_are_bad(rt: HostRuntime) -> Result<(), Fail> {
     assert_eq!(rt; job(rt.alloc(), &[]), Err(ToolFault::BadWords));
@@ -69,6 +68,12 @@ fn other_words_are_bad(rt: HostRuntime) -> Result<(), Fail> {
             "{words}"
         );
     }
+    Ok(())
+}
+
+#[test]
+fn sim_stands_alone(rt: HostRuntime) -> Result<(), Fail> {
+    assert_eq!(rt; job_of(rt.alloc(), "sim")?, Ok(Job::Sim));
     Ok(())
 }
 

@@ -1,0 +1,4 @@
+pub mod ReadWhole
+pub mod Running
+pub mod Counting
+pub mod Finishing

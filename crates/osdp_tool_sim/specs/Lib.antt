@@ -1,0 +1,4 @@
+pub mod Reading
+pub mod SecondReader
+pub mod Told
+pub mod Ending

@@ -1,0 +1,15 @@
+#!/usr/bin/env bash
+# Runs each script of examples/ and compares its account. Takes the path of the program.
+set -u
+program=$1
+failed=0
+cd "$(dirname "$0")/../examples" || exit 1
+
+for script in *.script; do
+  if ! "$program" sim <"$script" | diff "${script%.script}.account" -; then
+    echo "$script: another account"
+    failed=1
+  fi
+done
+
+exit "$failed"
