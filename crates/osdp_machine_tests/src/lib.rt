@@ -4,6 +4,8 @@
 #![tactic(auto)]
 
 #[cfg(test)]
+mod comset;
+#[cfg(test)]
 mod controller;
 #[cfg(test)]
 mod damage;
