@@ -4,7 +4,10 @@
 - Each call, law, clause, definition and file that the tables of docs/PROOFS.md name stands in the crates that the section's heading names.
 - Each public law stands in the section of its crate. A law is a public function that gives nothing and changes nothing.
 - Each path that README names is there, and a law that stands in one row with a path is a law of that file.
-- docs/ARCHITECTURE.md has a row for each crate of crates.txt."""
+- docs/ARCHITECTURE.md has a row for each crate of crates.txt. Each file of a crate that its tables name is there, and each definition.
+- docs/PROTOCOL.md has each text that the program prints on standard error.
+- Each crate, script and folder that any page names is there.
+- README has at most 120 lines of at most 120 characters, docs/DEVELOPING.md at most 200 lines, and no row of a table more than 200 characters."""
 import re
 import sys
 from pathlib import Path
@@ -100,13 +103,82 @@ def judge_readme():
                     faults.append(f"README.md: {name} is not in {path}")
 
 
+def stems(crate, folder):
+    """The names of a crate's files in this folder."""
+    return {file.stem for file in (TOP / "crates" / crate / folder).rglob("*.antt")}
+
+
+def judge_files(crate, folder, cell):
+    """Looks up the files of a crate that a cell names."""
+    known = stems(crate, folder)
+    for name in re.findall(r"`(\w+)`", cell):
+        if name not in known:
+            faults.append(f"docs/ARCHITECTURE.md: {crate} has no file {name} in {folder}/")
+
+
+def judge_map(heading, body):
+    """Looks up the files that the part of one crate names, or of several crates, one a row."""
+    crate, folder = (re.findall(r"`(\w+)`", heading) or [None])[0], None
+    for cells in rows(body):
+        named = re.search(r"File of `(\w+)/`", " ".join(cells[:2]))
+        if named:
+            folder = named[1]
+        elif folder and crate:
+            judge_files(crate, folder, cells[0])
+        elif folder:
+            judge_files(cells[0].strip("`"), folder, cells[1])
+    for name in re.findall(r"`proofs/(\w+)`", body):
+        judge_files(crate, "proofs", f"`{name}`")
+
+
 def judge_architecture(all_crates):
-    """docs/ARCHITECTURE.md: a row for each crate."""
+    """docs/ARCHITECTURE.md: a row for each crate; its files and definitions are there."""
     text = (TOP / "docs/ARCHITECTURE.md").read_text()
     firsts = " ".join(cells[0] for cells in rows(text))
     for crate in all_crates:
         if f"`{crate}`" not in firsts:
             faults.append(f"docs/ARCHITECTURE.md: no row for {crate}")
+    for part in re.split(r"^### ", text, flags=re.M)[1:]:
+        heading, _, body = part.partition("\n")
+        judge_map(heading, body)
+    for cells in rows(text):
+        if len(cells) == 4:
+            named = [crate for crate in re.findall(r"`(\w+)`", cells[0]) if crate in all_crates]
+            known = {name for crate in named for name in WORD.findall(sources(crate, "specs")) + list(stems(crate, "specs"))}
+            for name in re.findall(r"`(\w+)`", cells[3]):
+                if name not in known:
+                    faults.append(f"docs/ARCHITECTURE.md: {name} is no definition of {', '.join(named)}")
+
+
+def judge_protocol():
+    """docs/PROTOCOL.md: each text of a fault is told, with N for its number."""
+    text = (TOP / "docs/PROTOCOL.md").read_text()
+    for fault in re.findall(r'#\[error\("(.*)"\)\]', (TOP / "crates/osdp_stream/src/fault.rt").read_text()):
+        if f"| `{fault.replace('{0}', 'N')}` |" not in text:
+            faults.append(f"docs/PROTOCOL.md: no row for {fault}")
+
+
+def judge_page(page, all_crates):
+    """Any page: the crates, scripts and folders that it names are there, and its rows are short."""
+    text = (TOP / page).read_text()
+    for name in sorted(set(re.findall(r"`(osdp_[a-z_]+)`", text))):
+        if name not in all_crates:
+            faults.append(f"{page}: there is no crate {name}")
+    for name in sorted(set(re.findall(r"`((?:bench|crates/osdp\w+|docs|examples|tests|tools)/[\w./-]*)", text))):
+        if not (TOP / name).exists():
+            faults.append(f"{page}: there is no {name}")
+    for number, line in enumerate(text.splitlines(), 1):
+        if line.startswith("|") and len(line) > 200:
+            faults.append(f"{page}, line {number}: a row of {len(line)} characters")
+
+
+def judge_lengths():
+    """The first page and the page for developers are short."""
+    readme = (TOP / "README.md").read_text().splitlines()
+    if len(readme) > 120 or max(map(len, readme)) > 120:
+        faults.append("README.md: more than 120 lines, or a line of more than 120 characters")
+    if len((TOP / "docs/DEVELOPING.md").read_text().splitlines()) > 200:
+        faults.append("docs/DEVELOPING.md: more than 200 lines")
 
 
 if __name__ == "__main__":
@@ -114,6 +186,10 @@ if __name__ == "__main__":
     judge_proofs(every)
     judge_readme()
     judge_architecture(every)
+    judge_protocol()
+    for each_page in ["README.md"] + sorted(str(file.relative_to(TOP)) for file in (TOP / "docs").glob("*.md")):
+        judge_page(each_page, every)
+    judge_lengths()
     for fault in faults:
         print(fault)
     print(f"documents: {len(faults)} faults")

@@ -1,3 +1,3 @@
 #!/usr/bin/env bash
-# Holds the documents to the tree: what docs/PROOFS.md and README name must be there, and each public law must be named.
+# Holds the documents to the tree: what they name must be there, each public law must be told, and the first pages must be short.
 exec python3 "$(dirname "$0")/documents.py"
