@@ -18,7 +18,7 @@ echo 'lending: osdp_frame' >> "$copy/crates.txt"
 try() {
   mkdir -p "$copy/crates/lending/src"
   cat > "$copy/crates/lending/src/lib.rt" <<CODE
-//! An item that is used behind a call of the framer that lent it.
+//! An item that is used after a call of the framer that lent it.
 #![tactic(auto)]
 
 use osdp_frame::Framer;

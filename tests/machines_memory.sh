@@ -1,6 +1,6 @@
 #!/usr/bin/env bash
 # Refuses each allocation of a new reader and of a new controller in turn. There is one in each: with it refused the answer is
-# want of memory, and the settings are still judged first; with a second one refused nothing changes, since no later call asks
+# out of memory, and the settings are still judged first; with a second one refused nothing changes, since no later call asks
 # for any. Tests that need the machine show that the refusal came through.
 set -u
 cd "$(dirname "$0")/../crates/osdp_machine_tests" || exit 1
@@ -22,7 +22,7 @@ tests=(
 first=$(rt try --test --fail-alloc 1 2>&1)
 second=$(rt try --test --fail-alloc 2 2>&1)
 for machine in reader controller; do
-  grep -q "test $machine::want_of_memory_is_told ... ok" <<<"$first" || fail "$machine: want of memory was not told"
+  grep -q "test $machine::want_of_memory_is_told ... ok" <<<"$first" || fail "$machine: out of memory was not told"
 done
 for name in "${tests[@]}"; do
   grep -q "test $name ... FAILED" <<<"$first" || fail "$name: no allocation was refused"
@@ -32,7 +32,7 @@ done
 cd ../osdp_sim_tests || exit 1
 for number in 1 16 17; do
   tried=$(rt try --test --fail-alloc "$number" 2>&1)
-  grep -q "test refusals::want_of_memory_is_told ... ok" <<<"$tried" || fail "simulated line: want of memory was not told"
+  grep -q "test refusals::want_of_memory_is_told ... ok" <<<"$tried" || fail "simulated line: out of memory was not told"
   needed="test refusals::memory_is_needed ... FAILED"
   [ "$number" -eq 17 ] && needed="test refusals::memory_is_needed ... ok"
   grep -q "$needed" <<<"$tried" || fail "simulated line: allocation $number is not as it should be"
