@@ -42,7 +42,7 @@ ends_of_report (Some (report.PollAnswered answer)) a = omega arith
 ends_of_report (Some (report.Unread command code)) a = omega arith
 ends_of_report (Some (report.Lost cause command)) a = length-append a.ends (ending.Lost cause ∷ [])
 
-sessions_of_report : (r : Option Report) (a : Account) → (with_report r a).sessions ≡ a.sessions
+pub sessions_of_report : (r : Option Report) (a : Account) → (with_report r a).sessions ≡ a.sessions
 sessions_of_report None a = refl
 sessions_of_report (Some (report.Opened id)) a = refl
 sessions_of_report (Some (report.Settled command answer)) a = refl

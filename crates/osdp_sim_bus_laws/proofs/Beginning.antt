@@ -1,0 +1,166 @@
+-- The line on which the first sessions of a bus's readers begin, as sites: it is set up, and the simulation begins as these.
+use Rattle.std.proofs.Common.{◌≡◌, ◌≢◌, ◌<◌, ◌&&◌, ◌||◌, not, ℕ, zero, suc, Bool, true, false, List, [], ◌∷◌, length, map, Some, None, refl, sym, subst, ap, ◌∙◌, arith}
+use Rattle.std.proofs.lemmas.Bool.{leb-true}
+use Rattle.std.specs.Prelude.{nat_le, slice_get}
+use Rattle.std.specs.List.{list_all, list_any}
+use Rattle.osdp_reader.specs.State.{new_reader}
+use Rattle.osdp_bus.specs.Machine.{most_devices}
+use Rattle.osdp_bus.specs.declared.config.BusConfig.{BusConfig}
+use Rattle.osdp_link.specs.Link.{new_account}
+use Rattle.osdp_link.specs.Names.{BeginsTogether}
+use Rattle.osdp_link.proofs.Numbers.{is_true}
+use Rattle.osdp_multidrop.specs.Line as line
+use Rattle.osdp_multidrop.specs.Line.{Net, site_at}
+use Rattle.osdp_multidrop.specs.Runs.{IsSetUp}
+use Rattle.osdp_multidrop.specs.Views.{view}
+use Rattle.osdp_bus_links.specs.Links.{device_of}
+use Rattle.osdp_sim_bus.specs.Runs.{AreSettings, are_apart, is_at, is_reader_in_range}
+use Rattle.osdp_sim_bus.specs.State.{Given, address_of, begun_device, new_site, set_up}
+use Rattle.osdp_sim_laws.proofs.Holding.{tells_nothing}
+use Rattle.osdp_sim_bus_laws.specs.Moves.{Follows, SitesOf}
+
+-- ---- tests of lists
+
+first_of : (a b : Bool) → (a && b) ≡ true → a ≡ true
+first_of true b e = refl
+first_of false b e = absurd cc
+
+rest_of : (a b : Bool) → (a && b) ≡ true → b ≡ true
+rest_of true b e = e
+rest_of false b e = absurd cc
+
+neither : (a b : Bool) → not (a || b) ≡ true → (a ≡ true → ⊥) × (not b ≡ true)
+neither true b e = absurd cc
+neither false b e = (λ is. absurd cc, e)
+
+module _ {H : Type 0} where
+  in_range : (k : ℕ) (given : Given H) (readers : List (Given H)) → list_all is_reader_in_range readers ≡ true
+      → site_at k readers ≡ Some given → address_of given < 127
+  in_range k given [] all is = absurd cc
+  in_range zero given (g ∷ readers) all is =
+      let same : g ≡ given = cc in
+      let range = first_of (is_reader_in_range g) (list_all is_reader_in_range readers) all in
+      let below = leb-true (address_of g) 126 (first_of (nat_le (address_of g) 126) (nat_le 1 g.1 && nat_le g.1 1024) range) in
+      subst (λ (h : Given H). address_of h < 127) same (omega (arith, below))
+  in_range (suc k) given (g ∷ readers) all is =
+      in_range k given readers (rest_of (is_reader_in_range g) (list_all is_reader_in_range readers) all) is
+
+  nobody_at : (address k : ℕ) (given : Given H) (readers : List (Given H)) → not (list_any (is_at address) readers) ≡ true
+      → site_at k readers ≡ Some given → address_of given ≢ address
+  nobody_at address k given [] none is = absurd cc
+  nobody_at address zero given (g ∷ readers) none is =
+      let same : g ≡ given = cc in
+      subst (λ (h : Given H). address_of h ≢ address) same
+      (λ there. (neither (is_at address g) (list_any (is_at address) readers) none).0 (is_true (address_of g) address there))
+  nobody_at address (suc k) given (g ∷ readers) none is =
+      nobody_at address k given readers (neither (is_at address g) (list_any (is_at address) readers) none).1 is
+
+  apart : (j k : ℕ) (g h : Given H) (readers : List (Given H)) → j ≢ k → are_apart readers ≡ true → site_at j readers ≡ Some g
+      → site_at k readers ≡ Some h → address_of g ≢ address_of h
+  apart j k g h [] other all at_j at_k = absurd cc
+  apart zero zero g h (r ∷ readers) other all at_j at_k = absurd (other refl)
+  apart zero (suc k) g h (r ∷ readers) other all at_j at_k =
+      let same : r ≡ g = cc in
+      let none = first_of (not (list_any (is_at (address_of r)) readers)) (are_apart readers) all in
+      λ is. nobody_at (address_of r) k h readers none at_k (sym is ∙ sym (ap (λ (p : Given H). address_of p) same))
+  apart (suc j) zero g h (r ∷ readers) other all at_j at_k =
+      let same : r ≡ h = cc in
+      let none = first_of (not (list_any (is_at (address_of r)) readers)) (are_apart readers) all in
+      λ is. nobody_at (address_of r) j g readers none at_j (is ∙ sym (ap (λ (p : Given H). address_of p) same))
+  apart (suc j) (suc k) g h (r ∷ readers) other all at_j at_k =
+      apart j k g h readers (λ e. other (ap suc e)) (rest_of (not (list_any (is_at (address_of r)) readers)) (are_apart readers) all) at_j at_k
+
+  -- ---- the sites
+
+  abbrev pub first_site : BusConfig → Given H → line.Site H
+  first_site config given = record {
+    controller = (begun_device config given).controller;
+    reserved = None;
+    reader = new_reader given.0 given.2 given.1;
+    account = new_account [] [];
+    earlier = [];
+  }
+
+  abbrev pub first_sites : BusConfig → List (Given H) → List (line.Site H)
+  first_sites config readers = map (first_site config) readers
+
+  abbrev pub first_net : BusConfig → List (Given H) → Net H
+  first_net config readers = record { sites = first_sites config readers; to_readers = []; to_controllers = [] }
+
+  -- each of them is that of a reader, and each reader has one
+  site_of : (config : BusConfig) (k : ℕ) (s : line.Site H) (readers : List (Given H)) → site_at k (first_sites config readers) ≡ Some s
+      → (given : Given H) × (site_at k readers ≡ Some given) × (first_site config given ≡ s)
+  site_of config k s [] is = absurd cc
+  site_of config zero s (g ∷ readers) is = (g, refl, cc)
+  site_of config (suc k) s (g ∷ readers) is = site_of config k s readers is
+
+  pub has_site : (config : BusConfig) (k : ℕ) (given : Given H) (readers : List (Given H)) → slice_get readers k ≡ Some given
+      → site_at k (first_sites config readers) ≡ Some (first_site config given)
+  has_site config k given [] is = absurd cc
+  has_site config zero given (g ∷ readers) is = let same : g ≡ given = cc in ap (λ (h : Given H). Some (first_site config h)) same
+  has_site config (suc k) given (g ∷ readers) is = has_site config k given readers is
+
+  begins_together : (config : BusConfig) (readers : List (Given H)) (k : ℕ) (given : Given H) → address_of given < 127
+      → BeginsTogether (view k (first_site config given) (first_net config readers))
+  begins_together config readers k given device = record {
+    begins = record {
+      quiet = (_, refl);
+      address = device;
+      waiting = λ k d lt. absurd (omega (arith, lt));
+      to_reader = refl;
+      to_controller = refl;
+      account = refl;
+      earlier = refl;
+    };
+    together = refl;
+    stored = refl;
+    waiting = λ k d lt. absurd (omega (arith, lt));
+  }
+
+  pub is_set_up : (config : BusConfig) (readers : List (Given H)) → AreSettings config readers → IsSetUp (first_net config readers)
+  is_set_up config readers settings = record {
+    to_readers = refl;
+    to_controllers = refl;
+    begins = λ k s is.
+        let its = site_of config k s readers is in
+        subst (λ (u : line.Site H). BeginsTogether (view k u (first_net config readers))) its.2
+        (begins_together config readers k its.0 (in_range k its.0 readers all its.1));
+    reserved = λ k s is.
+        let its = site_of config k s readers is in subst (λ (u : line.Site H). u.reserved ≡ None) its.2 refl;
+    apart = λ j k s t other at_j at_k.
+        let first = site_of config j s readers at_j in
+        let second = site_of config k t readers at_k in
+        subst (λ (u : line.Site H). line.address_of u ≢ line.address_of t) first.2
+        (subst (λ (u : line.Site H). line.address_of (first_site config first.0) ≢ line.address_of u) second.2
+        (apart j k first.0 second.0 readers other away first.1 second.1));
+  }
+    where
+      both : (list_all is_reader_in_range readers && are_apart readers) ≡ true
+      both = rest_of (nat_le (length readers) most_devices) (list_all is_reader_in_range readers && are_apart readers) settings.each
+
+      all : list_all is_reader_in_range readers ≡ true
+      all = first_of (list_all is_reader_in_range readers) (are_apart readers) both
+
+      away : are_apart readers ≡ true
+      away = rest_of (list_all is_reader_in_range readers) (are_apart readers) both
+
+  -- ---- the simulation begins as these sites
+
+  devices_are : (config : BusConfig) (readers : List (Given H)) → map (begun_device config) readers ≡ map device_of (first_sites config readers)
+  devices_are config [] = refl
+  devices_are config (g ∷ readers) = ap (λ ds. begun_device config g ∷ ds) (devices_are config readers)
+
+  sites_are : (config : BusConfig) (readers : List (Given H)) → SitesOf (map new_site readers) (first_sites config readers)
+  sites_are config [] = tt
+  sites_are config (g ∷ readers) =
+      (record { reader = refl; tells = tells_nothing; ended = refl; causes = tt }, sites_are config readers)
+
+  pub follows_first : (config : BusConfig) (readers : List (Given H)) → Follows (set_up config readers) (first_net config readers)
+  follows_first config readers = record {
+    bus = record { entries = devices_are config readers; held = refl; report = refl };
+    sites = sites_are config readers;
+    to_readers = refl;
+    to_bus = refl;
+    asked = tt;
+    answered = tt;
+  }

@@ -1,0 +1,136 @@
+-- Each reader's account is that of sessions in a row.
+use Rattle.std.proofs.Common.{◌≡◌, ◌+◌, ◌++◌, ◌-◌, ◌≤◌, ℕ, zero, suc, Bool, true, false, All, List, ◌∷◌, length, map, take, Some, Ok, Err, refl, sym, subst, ap, ◌∙◌, append_assoc, arith}
+use Rattle.std.proofs.lemmas.Option.{slice_get-map}
+use Rattle.std.specs.Prelude.{slice_get, option_map}
+use Rattle.osdp_msg.specs.declared.command.Command.{Command}
+use Rattle.osdp_controller.specs.States.{is_closed}
+use Rattle.osdp_reader.specs.declared.config.ReaderConfig.{ReaderConfig}
+use Rattle.osdp_reader.specs.declared.handler.Answer.{Answer}
+use Rattle.osdp_bus.specs.declared.config.BusConfig.{BusConfig}
+use Rattle.osdp_link.specs.Headline.{AreOnce}
+use Rattle.osdp_link.specs.Link as link
+use Rattle.osdp_link.specs.Sessions.{AreInARow, LastsOrLeaves, settled_commands, told_in}
+use Rattle.osdp_link.proofs.Lines.{each_all}
+use Rattle.osdp_multidrop.specs.Line as line
+use Rattle.osdp_multidrop.specs.Line.{Net, run}
+use Rattle.osdp_multidrop.specs.Runs.{EachHoldsOnce, EachIsALink, EachStaysInARow, IsSetUp}
+use Rattle.osdp_multidrop.specs.Views.{view}
+use Rattle.osdp_sim.specs.Account.{Account}
+use Rattle.osdp_sim.specs.declared.fault.Cause.{Cause}
+use Rattle.osdp_sim.specs.declared.step.SimStep.{SimStep}
+use Rattle.osdp_sim_bus.specs.Laws.{HasAnAccountEach}
+use Rattle.osdp_sim_bus.specs.Runs as simulation
+use Rattle.osdp_sim_bus.specs.Runs.{AreSettings, FitAlong, Stops, is_well, lists_of_all, steps_done}
+use Rattle.osdp_sim_bus.specs.State.{Given, LineState, Site, accounts, set_up}
+use Rattle.osdp_sim_laws.specs.Accounts.{IsInARow, IsNoRefusal, LastsOrHasEnded}
+use Rattle.osdp_sim_laws.proofs.Ends as ends
+use Rattle.osdp_sim_laws.proofs.Holding.{each_one, last_one, one_unsettled, told_first}
+use Rattle.osdp_sim_bus_laws.specs.Accounts.{BusAnswer, EachMeets, IsAnswer, StaysInARow, WasSetUp, accounts_in}
+use Rattle.osdp_sim_bus_laws.specs.Moves.{Done, IsOfBytes, IsSiteOf, SchedulesAreMoves, count}
+use Rattle.osdp_sim_bus_laws.proofs.Beginning.{first_net, first_site, follows_first, has_site, is_set_up}
+use Rattle.osdp_sim_bus_laws.proofs.Sites.{get_site}
+
+counts_alike : (closed : Bool) → count closed ≡ ends.count closed
+counts_alike true = refl
+counts_alike false = refl
+
+module _ {H : Type 0} where
+  account_at : (k : ℕ) (u : Site H) (us : List (Site H)) → slice_get us k ≡ Some u
+      → slice_get (map (λ (site : Site H). site.account) us) k ≡ Some u.account
+  account_at k u us is =
+      slice_get-map (λ (site : Site H). site.account) us k ∙ ap (option_map (λ (site : Site H). site.account)) is
+
+  module _ (answer_of : H → Command → Answer) (after : H → Command → H) where
+    -- the account of a reader, from what holds of its site
+    site_in_a_row : (config : ReaderConfig) (handler : H) (k : ℕ) (u : Site H) (t : line.Site H) (n : Net H) → IsSiteOf u t
+        → AreOnce answer_of after config handler (t.account ∷ t.earlier) → AreInARow t.account t.earlier
+        → LastsOrLeaves t.controller.session.state (view k t n) → IsInARow answer_of after config handler u.account
+    site_in_a_row config handler k u t n is once row lasts =
+        let a = u.account in
+        let closed = is_closed t.controller.session.state in
+        let ended = subst (λ m. length a.ends + 1 ≡ length a.sessions + m) (counts_alike closed) is.ended in
+        let last : LastsOrHasEnded a t.account = last_one answer_of after t.controller.session.state a (view k t n) lasts ended in
+        let first = told_first answer_of after config _ a t.account once.0 last in
+        record {
+          last = t.account;
+          earlier = t.earlier;
+          lists = is.tells;
+          once = once;
+          row = row;
+          told = (
+            first.0,
+            is.tells.issued ∙ ap (λ cs. told_in t.earlier ++ cs) first.1
+                ∙ sym (append_assoc (told_in t.earlier) (settled_commands t.account ++ t.account.unsettled) first.0),
+          );
+          unsettled = each_all (λ (v : link.Account). length v.unsettled ≤ 1) (t.account ∷ t.earlier)
+              (each_one answer_of after t.account t.earlier (one_unsettled answer_of after a t.account last) row);
+          ends = last;
+          causes = each_all IsNoRefusal a.ends is.causes;
+        }
+
+    -- ---- a run
+
+    -- none of these steps is refused, and what went over the line in them fits
+    pub record IsRun (config : BusConfig) (readers : List (Given H)) (steps : List SimStep) : Type 0 where
+      pub settings : AreSettings config readers
+      pub well : is_well answer_of after steps (set_up config readers) ≡ true
+      pub fits : FitAlong answer_of after steps (set_up config readers)
+      pub bytes : All IsOfBytes steps
+
+    abbrev pub told_by : BusConfig → List (Given H) → List SimStep → List Account
+    told_by config readers steps = accounts (simulation.run answer_of after steps (set_up config readers))
+
+    -- the accounts that are answered are those of the steps that were taken
+    pub answers : (P : List Account → Type 0) (config : BusConfig) (readers : List (Given H)) (steps : List SimStep) (answer : BusAnswer)
+        → IsAnswer answer_of after config readers steps answer → WasSetUp answer
+        → (IsRun config readers (steps_done steps answer) → P (told_by config readers (steps_done steps answer))) → P (accounts_in answer)
+    answers P config readers steps (Ok told) is was holds =
+        subst P (sym is.ends.2) (holds (record { settings = is.ends.0; well = is.ends.1; fits = is.fits; bytes = is.bytes }))
+    answers P config readers steps (Err fault) is was holds =
+        by_step fault.step fault.cause (lists_of_all fault.account.items) is.ends is.fits is.bytes was holds
+      where
+        by_step : (at : ℕ) (why : Cause) (lists : List Account) → Stops answer_of after at why lists config readers steps
+            → FitAlong answer_of after (take (at - 1) steps) (set_up config readers) → All IsOfBytes (take (at - 1) steps) → 1 ≤ at
+            → (IsRun config readers (take (at - 1) steps) → P (told_by config readers (take (at - 1) steps))) → P lists
+        by_step zero why lists stops fits bytes was holds = absurd (omega (arith, was))
+        by_step (suc before) why lists stops fits bytes was holds =
+            subst P (sym stops.1.account) (holds (record { settings = stops.0; well = stops.1.well; fits = fits; bytes = bytes }))
+
+    module _ (schedules : SchedulesAreMoves answer_of after) (links : EachIsALink answer_of after) (holds : EachHoldsOnce answer_of after)
+        (rows : EachStaysInARow answer_of after) (counts : HasAnAccountEach answer_of after) where
+      each_in_a_row : (config : BusConfig) (readers : List (Given H)) (steps : List SimStep) → IsRun config readers steps
+          → EachMeets (IsInARow answer_of after) readers (told_by config readers steps)
+      each_in_a_row config readers steps is = record { count = counts config readers steps; each = each }
+        where
+          first : Net H
+          first = first_net config readers
+
+          up : IsSetUp first
+          up = is_set_up config readers is.settings
+
+          s : LineState H
+          s = simulation.run answer_of after steps (set_up config readers)
+
+          done : Done answer_of after s first
+          done = schedules steps (set_up config readers) first up (follows_first config readers) is.well is.fits is.bytes
+
+          each : (k : ℕ) (given : Given H) → slice_get readers k ≡ Some given
+              → (a : Account) × (slice_get (accounts s) k ≡ Some a) × IsInARow answer_of after given.0 given.2 a
+          each k given at =
+              let site = first_site config given in
+              let there = has_site config k given readers at in
+              let its = links first done.0 up done.1 k site there in
+              let t = its.moved.site in
+              let last = run answer_of after done.0 first in
+              let mine = get_site k t s.sites last.sites done.2.sites its.moved.there in
+              let row = rows first done.0 up done.1 k site t there its.moved.there in
+              let once = holds first done.0 up done.1 k site t there its.moved.there in (
+                mine.0.account,
+                account_at k mine.0 s.sites mine.1,
+                site_in_a_row given.0 given.2 k mine.0 t last mine.2 once row.row row.lasts,
+              )
+
+      pub all_in_a_row : StaysInARow answer_of after
+      all_in_a_row config readers steps answer is was =
+          answers (EachMeets (IsInARow answer_of after) readers) config readers steps answer is was
+          (each_in_a_row config readers (steps_done steps answer))
