@@ -1,8 +1,8 @@
 -- The words of texts: how each is printed, what may be given for it, and how a text is made of words.
-use Rattle.std.specs.Prelude.{◌≡◌, ℕ, ◌<◌, ◌≤◌, List, [], ◌∷◌, codes, map, length}
+use Rattle.std.specs.Prelude.{◌≡◌, ℕ, ◌<◌, ◌≤◌, ◌==◌, not, List, [], ◌∷◌, codes, filter, map, length}
 use Rattle.std.specs.Borrow.{Bor}
 use Rattle.std.specs.Fmt.{decimal}
-use Rattle.std.specs.List.{AllByRecursion, AllZip, join_by}
+use Rattle.std.specs.List.{AllByRecursion, AllZip, join_by, slice_split}
 use Rattle.std.specs.Str.{str_to_ascii_uppercase}
 use Rattle.std.specs.Str.Iter.{LacksByte}
 use Rattle.hex.specs.Hex.{IsBytes, encode_upper}
@@ -44,6 +44,14 @@ numbers ns = plain (join_by decimal (codes ":") ns)
 -- a text: its words as they are printed, joined by single spaces
 abbrev pub text_of : List Word → List ℕ
 text_of words = join_by printed (codes " ") words
+
+-- those that have characters
+abbrev pub some_characters : List (List ℕ) → List (List ℕ)
+some_characters parts = filter (λ part. not (length part == 0)) parts
+
+-- the words that stand in a text: what is between spaces, one or more
+abbrev pub words_in : List ℕ → List (List ℕ)
+words_in text = some_characters (slice_split (λ c. c == 32) text)
 
 -- a word that a text can hold: one or more characters that are no spaces, or bytes
 abbrev pub IsWord : Word → Type 0

@@ -17,6 +17,7 @@ mod laws;
 mod numbers;
 mod printing;
 mod records;
+mod splitting;
 
 pub use crate::byte_lists::{byte_list, vendor};
 pub use crate::fields::Fields;
@@ -27,3 +28,4 @@ pub use crate::laws::{
 pub use crate::numbers::{number_u8, number_u16, number_u32};
 pub use crate::printing::{ByteList, Record};
 pub use crate::records::record;
+pub use crate::splitting::words_in;
