@@ -1,4 +1,4 @@
--- Places of a list of devices: what is found where one takes the place of another, or comes behind them all.
+-- Places of a list of devices: what is found where one takes the place of another, or comes after them all.
 use Rattle.std.proofs.Common.{◌≡◌, ◌∙◌, ap, sym, inl, inr, ℕ, zero, suc, ◌+◌, ◌-◌, ◌<◌, ◌≤◌, Bool, true, false, ◌||◌, ◌==◌, List, [], ◌∷◌, ◌++◌, length, take, drop, Option, Some, None, refl, arith}
 use Rattle.std.specs.Prelude.{◌⊎◌, ◌≢◌, nat_lt, if◌then◌else◌, option_and_then, slice_get, slice_set}
 use Rattle.std.specs.List.{list_any}

@@ -34,8 +34,7 @@ pub enum Way {
     Damage(Box<Burst>),
 }
 
-/// A line below those of the readers, in little memory: 64 bytes at most, and beside them a command, an event or the bytes of damage
-/// on the heap.
+/// A line below those of the readers, in little memory: a command, an event or the bytes of damage stand on the heap beside it.
 #[derive(Debug, Drop)]
 pub enum ScriptStep {
     /// The user of a reader's controller submits a command.

@@ -20,7 +20,7 @@ use Rattle.osdp_sim.specs.declared.account.End.TheVariants as ending
 use Rattle.osdp_sim.specs.declared.account.Lengths.{Lengths}
 use Rattle.osdp_sim_laws.specs.Accounts.{AreOver, IsNoRefusal, IsOf, all_in}
 
--- what comes behind the list of the last session comes behind them all
+-- what comes behind the list of the last session comes after them all
 behind : {A : Type 0} (xs before last more : List A) → xs ≡ before ++ last → xs ++ more ≡ before ++ (last ++ more)
 behind xs before last more is = ap (λ l. l ++ more) is ∙ append_assoc before last more
 
