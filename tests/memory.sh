@@ -87,6 +87,16 @@ script() {
 script | refuse_each 'sim' 20 sim
 { script; echo 'reopen 1'; } | refuse_each 'sim, a line that isn'"'"'t quiet' 20 sim
 { script; echo 'reader 6 4'; } | refuse_each 'sim, a bad line' 10 sim
+
+# Two readers, whose sessions open, and a command to each.
+two_readers() {
+  printf 'reader 5 4\nreader 6 4\nissue 1 OUT 0:2:0\nissue 2 BUZ 0 2 5 5 1\nqueue 2 KEYPAD 0 31\n'
+  printf 'wait 400\nto-reader deliver\nto-controller deliver\nwait 0\nto-reader deliver\nto-controller deliver\n'
+  printf 'wait 0\nto-reader repeat\nto-controller drop\nwait 200\nto-reader deliver\nto-controller deliver\n'
+}
+
+two_readers | refuse_each 'sim, two readers' 30 sim
+{ two_readers; echo 'to-controller damage 53000700006046'; } | refuse_each 'sim, two readers, damage' 30 sim
 refuse_each 'bad words' 1 show --all </dev/null
 
 exit "$failed"

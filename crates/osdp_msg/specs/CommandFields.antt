@@ -1,5 +1,5 @@
 -- The data of commands: their bytes, their ranges, their reading and their words.
-use Rattle.std.specs.Prelude.{ℕ, ◌<◌, ◌≤◌, ◌≡◌, ◌^◌, List, [], ◌∷◌, ◌++◌, length, slice_index, take, drop}
+use Rattle.std.specs.Prelude.{ℕ, ◌<◌, ◌≤◌, ◌≡◌, ◌^◌, ◌&&◌, nat_le, if◌then◌else◌, List, [], ◌∷◌, ◌++◌, length, slice_index, take, drop, Option, Some, None}
 use Rattle.byteorder.specs.Endian.{little_bytes, little_number}
 use Rattle.hex.specs.Hex.{IsBytes}
 use Rattle.osdp_words.specs.Word.{Word, bytes, number, numbers}
@@ -29,6 +29,10 @@ output_at bs = record {
 
 abbrev pub output_word : OutputRecord → Word
 output_word r = numbers (r.output ∷ r.control ∷ r.timer ∷ [])
+
+-- the records of one command: so many at most, and one at least
+abbrev pub records_within : {R : Type 0} → ℕ → List R → Option (List R)
+records_within most records = if nat_le 1 (length records) && nat_le (length records) most then Some records else None
 
 -- what an LED is to do: 14 bytes, the timer low byte first
 

@@ -4,7 +4,7 @@ ghost use Rattle.std.specs.Prelude.{◌≡◌, ◌<◌, ◌≤◌, ◌%◌, leng
 ghost use Rattle.std.specs.List.{All};
 ghost use Rattle.osdp_words.specs.Reading.{ReadsWords};
 ghost use Rattle.osdp_words.specs.Word.{texts};
-ghost use Rattle.osdp_msg.specs.CommandFields.{LedFits, led_at, led_word};
+ghost use Rattle.osdp_msg.specs.CommandFields.{LedFits, led_at, led_word, records_within};
 ghost use Rattle.osdp_msg.specs.Records.{records_at};
 
 use crate::parsing::parse_records;
@@ -161,7 +161,7 @@ impl Record for LedRecord {
     ghost prints = { λ r. refl };
 }
 
-/// One to 102 records of LEDs, as they were read.
+/// One to 102 records of LEDs.
 #[derive(Debug, Drop, PartialEq)]
 pub struct Leds {
     records: ArrayVec<LedRecord, 102>,
@@ -181,6 +181,18 @@ impl Model for Leds {
 }
 
 impl Leds {
+    /// These records. None where there is none, or more than 102.
+    pub fn new(records: &[LedRecord]) -> Option<Leds>
+        ensures { result ≡ records_within 102 records.now }
+    {
+        if records.is_empty() || records.len() > 102 {
+            return None;
+        }
+        Some(Leds {
+            records: list_of(records),
+        })
+    }
+
     /// The records: one at least.
     pub fn records(&self) -> &[LedRecord]
         ensures value { result.now ≡ self.now }

@@ -4,7 +4,7 @@ ghost use Rattle.std.specs.Prelude.{◌≡◌, ◌<◌, ◌≤◌, ◌%◌, leng
 ghost use Rattle.std.specs.List.{All};
 ghost use Rattle.osdp_words.specs.Reading.{ReadsWords};
 ghost use Rattle.osdp_words.specs.Word.{texts};
-ghost use Rattle.osdp_msg.specs.CommandFields.{OutputFits, output_at, output_word};
+ghost use Rattle.osdp_msg.specs.CommandFields.{OutputFits, output_at, output_word, records_within};
 ghost use Rattle.osdp_msg.specs.Records.{records_at};
 
 use crate::parsing::parse_records;
@@ -89,7 +89,7 @@ impl Record for OutputRecord {
     ghost prints = { λ r. refl };
 }
 
-/// One to 358 records of outputs, as they were read.
+/// One to 358 records of outputs.
 #[derive(Debug, Drop, PartialEq)]
 pub struct Outputs {
     records: ArrayVec<OutputRecord, 358>,
@@ -109,6 +109,18 @@ impl Model for Outputs {
 }
 
 impl Outputs {
+    /// These records. None where there is none, or more than 358.
+    pub fn new(records: &[OutputRecord]) -> Option<Outputs>
+        ensures { result ≡ records_within 358 records.now }
+    {
+        if records.is_empty() || records.len() > 358 {
+            return None;
+        }
+        Some(Outputs {
+            records: list_of(records),
+        })
+    }
+
     /// The records: one at least.
     pub fn records(&self) -> &[OutputRecord]
         ensures value { result.now ≡ self.now }

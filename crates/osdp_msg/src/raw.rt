@@ -6,6 +6,7 @@ ghost use Rattle.std.specs.Fmt.{WritesOnOk};
 ghost use Rattle.byteorder.specs.Endian.{little_number};
 ghost use Rattle.osdp_words.specs.Reading.{ReadsWords};
 ghost use Rattle.osdp_words.specs.Word.{plain, text_of, texts};
+ghost use Rattle.osdp_msg.specs.Raw.{raw_card};
 ghost use Rattle.osdp_msg.specs.ReplyFields.{RawFits, raw_at, raw_data, raw_words};
 
 use crate::spelling::{Spelling, append, append_u16, list_of, rest, with_bytes};
@@ -38,6 +39,21 @@ impl Model for Raw {
 }
 
 impl Raw {
+    /// A card's bits, read at this reader of the device. None where the bytes aren't as many as the bits need, or are more than 1,428.
+    pub fn new(reader: u8, format: u8, bits: u16, bytes: &[u8]) -> Option<Raw>
+        ensures { result ≡ raw_card reader format bits bytes.now }
+    {
+        if bytes.len() > 1428 || bytes.len() != (usize::from(bits) + 7) / 8 {
+            return None;
+        }
+        Some(Raw {
+            reader,
+            format,
+            bits,
+            bytes: list_of(bytes),
+        })
+    }
+
     /// Which reader of the device.
     pub fn reader(&self) -> u8
         ensures { result ≡ self.now.reader }

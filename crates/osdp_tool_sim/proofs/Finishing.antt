@@ -2,16 +2,16 @@
 use Rattle.std.proofs.Common.{◌≡◌, ◌<◌, ◌≤◌, ℕ, Bool, true, false, List, [], ◌∷◌, ◌++◌, length, Option, Some, None, Result, Ok, Err, inl, inr, refl, sym, subst, ap, ◌∙◌, arith, append-nil, length-append}
 use Rattle.std.specs.Io.KnownBytes.{Appends, Consumes, IsAtEnd, Keeps}
 use Rattle.std.proofs.KnownBytes.{Appends-kept}
+use Rattle.osdp_script.specs.Reading.{IsBadLine}
 use Rattle.osdp_stream.specs.FinalAnswer.{final_answer_of}
 use Rattle.osdp_stream.specs.declared.fault.ToolFault.{ToolFault}
 use Rattle.osdp_stream.specs.declared.fault.ToolFault.TheVariants.{NotHex, TooLong, BadWords, BadStep}
 use Rattle.osdp_stream.specs.declared.fault.ToolFault.TheVariants.{HoldsPacket, NotQuiet, ReadFailed}
 use Rattle.osdp_stream.specs.declared.fault.ToolFault.TheVariants.{WriteFailed, NoMemory}
-use Rattle.osdp_sim.specs.Account.{Account}
-use Rattle.osdp_tool_account.specs.AccountText.{account_text}
 use Rattle.osdp_tool_sim.specs.Ending.{AreFailed, Ends, EndsWhole, IsTold, IsWhole, PrintedPart, Says, SaysOf}
 use Rattle.osdp_tool_sim.specs.Reading.{ReadsPastLimit, ReadsToEnd}
-use Rattle.osdp_tool_sim.specs.Told.{IsBadStep, Tells}
+use Rattle.osdp_tool_sim.specs.Told.{Tells}
+use Rattle.osdp_tool_sim.proofs.Ended.{end_of}
 
 abbrev Answer : Type 0
 Answer = Result (Unit {0}) ToolFault
@@ -22,50 +22,46 @@ told_whole : (limit : ℕ) (ib ia ob oa : Option (List ℕ)) (end : Answer) → 
 told_whole limit ib ia ob oa (Ok done) told = told
 told_whole limit ib ia ob oa (Err (HoldsPacket step)) told = told
 told_whole limit ib ia ob oa (Err (NotQuiet step)) told = told
-told_whole limit ib ia ob oa (Err (NotHex line)) told = told.tells.told.run_is
-told_whole limit ib ia ob oa (Err TooLong) told = absurd told.tells.told.run_is
-told_whole limit ib ia ob oa (Err BadWords) told = told.tells.told.run_is
-told_whole limit ib ia ob oa (Err (BadStep number)) told = absurd told.tells.told.run_is
-told_whole limit ib ia ob oa (Err ReadFailed) told = absurd told.tells.told.run_is
-told_whole limit ib ia ob oa (Err WriteFailed) told = absurd told.tells.told.run_is
-told_whole limit ib ia ob oa (Err NoMemory) told = absurd told.tells.told.run_is
+told_whole limit ib ia ob oa (Err (NotHex line)) told = absurd (end_of told.read told.text (Err (NotHex line)) told.tells)
+told_whole limit ib ia ob oa (Err TooLong) told = absurd (end_of told.read told.text (Err TooLong) told.tells)
+told_whole limit ib ia ob oa (Err BadWords) told = absurd (end_of told.read told.text (Err BadWords) told.tells)
+told_whole limit ib ia ob oa (Err (BadStep number)) told = absurd (end_of told.read told.text (Err (BadStep number)) told.tells)
+told_whole limit ib ia ob oa (Err ReadFailed) told = absurd (end_of told.read told.text (Err ReadFailed) told.tells)
+told_whole limit ib ia ob oa (Err WriteFailed) told = absurd (end_of told.read told.text (Err WriteFailed) told.tells)
+told_whole limit ib ia ob oa (Err NoMemory) told = absurd (end_of told.read told.text (Err NoMemory) told.tells)
 
 pub says_of : (limit : ℕ) (bytes : List ℕ) (ib ia ob oa : Option (List ℕ)) (failed : Bool) (result : Answer) → ReadsToEnd limit ib ia bytes
     → SaysOf bytes ob oa failed result → Says limit ib ia ob oa result
-says_of limit bytes ib ia ob oa failed result reads (inl (lists, end, tells, inl (is, text, well))) =
+says_of limit bytes ib ia ob oa failed result reads (inl (text, end, tells, inl (is, written, well))) =
     subst (Says limit ib ia ob oa) (sym is)
-    (told_whole limit ib ia ob oa end (record { read = bytes; input = reads; lists = lists; tells = tells; text = text }))
-says_of limit bytes ib ia ob oa failed result reads (inl (lists, end, tells, inr (inl (is, text, ill)))) =
+    (told_whole limit ib ia ob oa end (record { read = bytes; input = reads; text = text; tells = tells; written = written }))
+says_of limit bytes ib ia ob oa failed result reads (inl (text, end, tells, inr (is, written, ill))) =
     subst (Says limit ib ia ob oa) (sym is)
-    (inr (record { read = bytes; input = reads; lists = lists; end = end; tells = tells; text = inr text }))
-says_of limit bytes ib ia ob oa failed result reads (inl (lists, end, tells, inr (inr (is, silent, well)))) =
-    subst (Says limit ib ia ob oa) (sym is) silent
+    (inr (record { read = bytes; input = reads; text = text; end = end; tells = tells; written = inr written }))
 says_of limit bytes ib ia ob oa failed result reads (inr (inl (number, is, bad, silent, well))) =
     subst (Says limit ib ia ob oa) (sym is) (record { read = bytes; input = reads; bad = bad; silent = silent })
 says_of limit bytes ib ia ob oa failed result reads (inr (inr (is, silent, well))) =
     subst (Says limit ib ia ob oa) (sym is) silent
 
 -- no stream has failed, but the output where the answer says so
-end_well : (end : Answer) (lists : Account) (bytes : List ℕ) → Tells bytes lists end → AreFailed false false end
-end_well (Ok done) lists bytes tells = (refl, refl)
-end_well (Err (HoldsPacket step)) lists bytes tells = (refl, refl)
-end_well (Err (NotQuiet step)) lists bytes tells = (refl, refl)
-end_well (Err (NotHex line)) lists bytes tells = absurd tells.told.run_is
-end_well (Err TooLong) lists bytes tells = absurd tells.told.run_is
-end_well (Err BadWords) lists bytes tells = absurd tells.told.run_is
-end_well (Err (BadStep number)) lists bytes tells = absurd tells.told.run_is
-end_well (Err ReadFailed) lists bytes tells = absurd tells.told.run_is
-end_well (Err WriteFailed) lists bytes tells = absurd tells.told.run_is
-end_well (Err NoMemory) lists bytes tells = absurd tells.told.run_is
+end_well : (end : Answer) (text bytes : List ℕ) → Tells bytes text end → AreFailed false false end
+end_well (Ok done) text bytes tells = (refl, refl)
+end_well (Err (HoldsPacket step)) text bytes tells = (refl, refl)
+end_well (Err (NotQuiet step)) text bytes tells = (refl, refl)
+end_well (Err (NotHex line)) text bytes tells = absurd (end_of bytes text (Err (NotHex line)) tells)
+end_well (Err TooLong) text bytes tells = absurd (end_of bytes text (Err TooLong) tells)
+end_well (Err BadWords) text bytes tells = absurd (end_of bytes text (Err BadWords) tells)
+end_well (Err (BadStep number)) text bytes tells = absurd (end_of bytes text (Err (BadStep number)) tells)
+end_well (Err ReadFailed) text bytes tells = absurd (end_of bytes text (Err ReadFailed) tells)
+end_well (Err WriteFailed) text bytes tells = absurd (end_of bytes text (Err WriteFailed) tells)
+end_well (Err NoMemory) text bytes tells = absurd (end_of bytes text (Err NoMemory) tells)
 
 pub failed_of : (bytes : List ℕ) (ob oa : Option (List ℕ)) (input failed : Bool) (result : Answer) → input ≡ false → SaysOf bytes ob oa failed result
     → AreFailed input failed result
-failed_of bytes ob oa input failed result good (inl (lists, end, tells, inl (is, text, well))) =
-    subst (λ r. AreFailed input failed r) (sym is) (subst (λ i. AreFailed i failed end) (sym good) (subst (λ o. AreFailed false o end) (sym well) (end_well end lists bytes tells)))
-failed_of bytes ob oa input failed result good (inl (lists, end, tells, inr (inl (is, text, ill)))) =
+failed_of bytes ob oa input failed result good (inl (text, end, tells, inl (is, written, well))) =
+    subst (λ r. AreFailed input failed r) (sym is) (subst (λ i. AreFailed i failed end) (sym good) (subst (λ o. AreFailed false o end) (sym well) (end_well end text bytes tells)))
+failed_of bytes ob oa input failed result good (inl (text, end, tells, inr (is, written, ill))) =
     subst (λ r. AreFailed input failed r) (sym is) (good, ill)
-failed_of bytes ob oa input failed result good (inl (lists, end, tells, inr (inr (is, silent, well)))) =
-    subst (λ r. AreFailed input failed r) (sym is) (good, well)
 failed_of bytes ob oa input failed result good (inr (inl (number, is, bad, silent, well))) =
     subst (λ r. AreFailed input failed r) (sym is) (good, well)
 failed_of bytes ob oa input failed result good (inr (inr (is, silent, well))) =
@@ -88,19 +84,19 @@ partly : (limit : ℕ) (ib ia a b c : Option (List ℕ)) (end : Answer) → IsTo
 partly limit ib ia a b c end told k = inr (record {
   read = told.read;
   input = told.input;
-  lists = told.lists;
+  text = told.text;
   end = end;
   tells = told.tells;
-  text = inl (Appends-kept a b c (account_text 1 told.lists) told.text k);
+  written = inl (Appends-kept a b c told.text told.written k);
 })
 
 whole_kept : (limit : ℕ) (ib ia a b c : Option (List ℕ)) (end : Answer) → IsTold limit ib ia a b end → Keeps b c → IsTold limit ib ia a c end
 whole_kept limit ib ia a b c end told k = record {
   read = told.read;
   input = told.input;
-  lists = told.lists;
+  text = told.text;
   tells = told.tells;
-  text = Appends-kept a b c (account_text 1 told.lists) told.text k;
+  written = Appends-kept a b c told.text told.written k;
 }
 
 written_kept : (limit : ℕ) (ib ia a b c : Option (List ℕ)) → Says limit ib ia a b (Err WriteFailed) → Keeps b c → Says limit ib ia a c (Err WriteFailed)
@@ -108,10 +104,10 @@ written_kept limit ib ia a b c (inl silent) k = inl (kept_twice a b c silent k)
 written_kept limit ib ia a b c (inr part) k = inr (record {
   read = part.read;
   input = part.input;
-  lists = part.lists;
+  text = part.text;
   end = part.end;
   tells = part.tells;
-  text = part_kept (account_text 1 part.lists) a b c part.text k;
+  written = part_kept part.text a b c part.written k;
 })
 
 -- a flush that failed
@@ -190,25 +186,25 @@ longer limit bytes (Some rest) past =
     omega arith
 
 whole_told : (limit : ℕ) (bytes : List ℕ) (ia ob oa : Option (List ℕ)) (end : Answer) → IsTold limit (Some bytes) ia ob oa end
-    → (length bytes ≤ limit) × ((lists : Account) × Tells bytes lists end × Appends ob oa (account_text 1 lists))
+    → (length bytes ≤ limit) × ((text : List ℕ) × Tells bytes text end × Appends ob oa text)
 whole_told limit bytes ia ob oa end told =
     let is = sym (all_read bytes told.read ia told.input.taken told.input.at_end) in (
       subst (λ (l : List ℕ). length l ≤ limit) is told.input.within,
-      (told.lists, subst (λ (l : List ℕ). Tells l told.lists end) is told.tells, told.text),
+      (told.text, subst (λ (l : List ℕ). Tells l told.text end) is told.tells, told.written),
     )
 
 whole : (limit : ℕ) (bytes : List ℕ) (ia ob oa : Option (List ℕ)) (input failed : Bool) (r : Answer)
     → Ends limit (Some bytes) ia input ob oa failed r → input ≡ false → failed ≡ false → (r ≡ Err NoMemory → ⊥) → IsWhole limit bytes ob oa r
 whole limit bytes ia ob oa input failed (Ok done) (says, h) well done_well some =
-    let t = whole_told limit bytes ia ob oa (Ok done) says in record { within = t.0; lists = t.1.0; tells = t.1.1; text = t.1.2 }
+    let t = whole_told limit bytes ia ob oa (Ok done) says in record { within = t.0; text = t.1.0; tells = t.1.1; written = t.1.2 }
 whole limit bytes ia ob oa input failed (Err (HoldsPacket step)) (says, h) well done_well some =
-    let t = whole_told limit bytes ia ob oa (Err (HoldsPacket step)) says in record { within = t.0; lists = t.1.0; tells = t.1.1; text = t.1.2 }
+    let t = whole_told limit bytes ia ob oa (Err (HoldsPacket step)) says in record { within = t.0; text = t.1.0; tells = t.1.1; written = t.1.2 }
 whole limit bytes ia ob oa input failed (Err (NotQuiet step)) (says, h) well done_well some =
-    let t = whole_told limit bytes ia ob oa (Err (NotQuiet step)) says in record { within = t.0; lists = t.1.0; tells = t.1.1; text = t.1.2 }
+    let t = whole_told limit bytes ia ob oa (Err (NotQuiet step)) says in record { within = t.0; text = t.1.0; tells = t.1.1; written = t.1.2 }
 whole limit bytes ia ob oa input failed (Err (BadStep number)) (says, h) well done_well some =
     let is = sym (all_read bytes says.read ia says.input.taken says.input.at_end) in (
       subst (λ (l : List ℕ). length l ≤ limit) is says.input.within,
-      subst (λ (l : List ℕ). IsBadStep l number) is says.bad,
+      subst (λ (l : List ℕ). IsBadLine l number) is says.bad,
       says.silent,
     )
 whole limit bytes ia ob oa input failed (Err TooLong) (says, h) well done_well some = (longer limit bytes ia says.0, says.1)

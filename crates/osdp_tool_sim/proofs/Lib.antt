@@ -1,4 +1,6 @@
 pub mod ReadWhole
 pub mod Running
 pub mod Counting
+pub mod Accounts
+pub mod Ended
 pub mod Finishing

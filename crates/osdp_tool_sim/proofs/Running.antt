@@ -16,7 +16,7 @@ use Rattle.osdp_sim.specs.Account.{Account, lists_of}
 use Rattle.osdp_sim.specs.Runs.{RunEnds, Stops, StopsAt}
 use Rattle.osdp_sim_laws.specs.Accepted.{AcceptsByRoom}
 use Rattle.osdp_stream.specs.declared.fault.ToolFault.TheVariants.{HoldsPacket, NotQuiet}
-use Rattle.osdp_tool_sim.specs.Told.{TellsRun, config_of, start_of}
+use Rattle.osdp_tool_sim.specs.One.{TellsOne, config_of, start_of}
 
 abbrev pub Holds : ℕ → Account → Type 0
 Holds address lists = HoldsInSessions handler_answer handler_after (script_config 1 address) new_handler lists
@@ -40,7 +40,7 @@ holds_as script address events config h lists e f holds =
 
 pub told_ok : (script : Script) (address events : ℕ) (account : declared.Account) → AcceptsByRoom handler_answer handler_after
     → RunEnds handler_answer handler_after (config_of script.check (address, events)) new_handler (steps_of script) (Ok account)
-    → Holds address (lists_of account) → TellsRun script (address, events) (lists_of account) (Ok tt)
+    → Holds address (lists_of account) → TellsOne script (address, events) (lists_of account) (Ok tt)
 told_ok script address events account accepts ends sessions =
     let accepted = accepts (config_of script.check (address, events)) new_handler (steps_of script) (Ok account) ends in
     record { run_is = (ends.1, ends.2); sessions = sessions; issued = accepted.0; queued = accepted.1 }
@@ -61,7 +61,7 @@ quiet_at script address events (suc before) lists stops = (omega arith, stops.1)
 pub told_packet : (script : Script) (address events : ℕ) (fault : Fault declared.Account) → AcceptsByRoom handler_answer handler_after
     → RunEnds handler_answer handler_after (config_of script.check (address, events)) new_handler (steps_of script) (Err fault)
     → (1 ≤ fault.step → Holds address (lists_of fault.account)) → fault.cause ≡ cause.HoldsPacket
-    → TellsRun script (address, events) (lists_of fault.account) (Err (HoldsPacket fault.step))
+    → TellsOne script (address, events) (lists_of fault.account) (Err (HoldsPacket fault.step))
 told_packet script address events fault accepts ends sessions is =
     let stops = packet_at script address events fault.step (lists_of fault.account)
     (subst (λ (why : Cause). Stops handler_answer handler_after fault.step why (lists_of fault.account) (config_of script.check (address, events)) new_handler (steps_of script)) is ends) in
@@ -71,7 +71,7 @@ told_packet script address events fault accepts ends sessions is =
 pub told_quiet : (script : Script) (address events : ℕ) (fault : Fault declared.Account) → AcceptsByRoom handler_answer handler_after
     → RunEnds handler_answer handler_after (config_of script.check (address, events)) new_handler (steps_of script) (Err fault)
     → (1 ≤ fault.step → Holds address (lists_of fault.account)) → fault.cause ≡ cause.NotQuiet
-    → TellsRun script (address, events) (lists_of fault.account) (Err (NotQuiet fault.step))
+    → TellsOne script (address, events) (lists_of fault.account) (Err (NotQuiet fault.step))
 told_quiet script address events fault accepts ends sessions is =
     let stops = quiet_at script address events fault.step (lists_of fault.account)
     (subst (λ (why : Cause). Stops handler_answer handler_after fault.step why (lists_of fault.account) (config_of script.check (address, events)) new_handler (steps_of script)) is ends) in

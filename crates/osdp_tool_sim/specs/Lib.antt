@@ -1,4 +1,6 @@
 pub mod Reading
-pub mod SecondReader
+pub mod Steps
+pub mod One
+pub mod Several
 pub mod Told
 pub mod Ending

@@ -1,47 +1,41 @@
 //! The command.
 
-ghost use Rattle.std.specs.Prelude.{◌≡◌, ◌<◌, ◌^◌, false, length};
-ghost use Rattle.osdp_sim.specs.Account.{lists_of};
+ghost use Rattle.std.specs.Prelude.{◌≡◌, ◌<◌, ◌^◌, false, length, string_bytes};
 ghost use Rattle.osdp_stream.specs.Watched.{inner_of, has_failed};
 ghost use Rattle.osdp_tool_sim.specs.Ending.{AreFailed, Ends, EndsWhole, Says, SaysOf, SaysTold};
 
 use crate::reading::read_all;
-use crate::run::{Told, run_script};
+use crate::run::run_script;
+use crate::told::Told;
 use osdp_stream::{ToolFault, Watched, finish, write_out};
-use osdp_tool_account::account_text;
 use std::alloc::Global;
 use std::io::{Read, Write};
 
 /// What an input holds past so many bytes is not read, but for one byte.
 pub const LIMIT: usize = 67_108_864;
 
-/// Prints the account, and answers how the script ended.
-fn print<W: Write>(alloc: Global, told: Told, output: &mut Watched<W>) -> Result<(), ToolFault>
+/// Prints what is told of a script, and answers how it ended.
+fn print<W: Write>(told: Told<String>, output: &mut Watched<W>) -> Result<(), ToolFault>
     requires { has_failed output.old ≡ false }
-    ensures { SaysTold (lists_of told.account) told.end (W.contents (inner_of output.old)) (W.contents (inner_of output.new)) (has_failed output.new) result }
+    ensures { SaysTold (string_bytes told.what) told.end (W.contents (inner_of output.old)) (W.contents (inner_of output.new)) (has_failed output.new) result }
 {
-    match account_text(alloc, 1, &told.account) {
-        Ok(text) => {
-            write_out(output, text.as_bytes())?;
-            told.end
-        }
-        Err(_) => Err(ToolFault::NoMemory),
-    }
+    write_out(output, told.what.as_bytes())?;
+    told.end
 }
 
-/// Runs the script that these bytes are, and prints its account.
+/// Runs the script that these bytes are, and prints the accounts of its readers.
 fn tell<W: Write>(alloc: Global, bytes: &[u8], output: &mut Watched<W>) -> Result<(), ToolFault>
     requires output { has_failed output.old ≡ false }
     requires limit { length bytes.now < 2 ^ 40 }
     ensures { SaysOf bytes.now (W.contents (inner_of output.old)) (W.contents (inner_of output.new)) (has_failed output.new) result }
 {
     match run_script(alloc, bytes) {
-        Ok(told) => print(alloc, told, output),
+        Ok(told) => print(told, output),
         Err(fault) => Err(fault),
     }
 }
 
-/// Reads the script whole, runs it, and prints its account.
+/// Reads the script whole, runs it, and prints the accounts of its readers.
 fn work<R: Read, W: Write>(
     alloc: Global,
     limit: usize,
@@ -61,12 +55,11 @@ fn work<R: Read, W: Write>(
     }
 }
 
-/// Runs the script on the input over a simulated line, and prints the account of what happened.
+/// Runs the script on the input over a simulated line, and prints the account of each of its readers, in their order.
 ///
-/// The script is read whole first: a line that is none of a script is told as `BadStep`, and nothing is printed then. So is the line
-/// of a second reader, since one reader can be run. At a step whose damage holds a packet, or which begins a session again where the
-/// line isn't quiet, the account of the steps before it is printed, and the step is told. More than 67,108,864 bytes are `TooLong`;
-/// then, and after a failed read, nothing is printed.
+/// The script is read whole first: a line that is none of a script is told as `BadStep`, and nothing is printed then. At a step whose
+/// damage holds a packet, or which begins a session again where the line isn't quiet, the accounts of the steps before it are printed,
+/// and the step is told. More than 67,108,864 bytes are `TooLong`; then, and after a failed read, nothing is printed.
 pub fn sim<R: Read, W: Write>(
     alloc: Global,
     input: &mut Watched<R>,

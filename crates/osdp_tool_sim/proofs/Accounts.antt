@@ -1,0 +1,91 @@
+-- What a run of several readers hands back is told.
+use Rattle.std.proofs.Common.{◌≡◌, ◌≢◌, ◌+◌, ◌<◌, ℕ, zero, suc, List, [], ◌∷◌, ◌++◌, length, map, drop, get_or, Result, Ok, Err, refl, sym, subst, ap, ◌∙◌, append_assoc, add-one, drop-cons}
+use Rattle.std.specs.Global.{Vec}
+use Rattle.osdp_bus.specs.Settings.{default_config}
+use Rattle.osdp_bus.specs.declared.config.BusConfig.{BusConfig}
+use Rattle.osdp_script.specs.declared.script.Script.{Script}
+use Rattle.osdp_script.specs.Script.{steps_of}
+use Rattle.osdp_script_reader.specs.Handler.{handler_after, handler_answer}
+use Rattle.osdp_script_reader.specs.declared.handler.ScriptReader.{ScriptReader}
+use Rattle.osdp_sim.specs.declared.account.Account as declared
+use Rattle.osdp_sim.specs.declared.fault.Cause.{Cause}
+use Rattle.osdp_sim.specs.declared.fault.Cause.TheVariants as cause
+use Rattle.osdp_sim.specs.declared.fault.Fault.{Fault}
+use Rattle.osdp_sim.specs.declared.step.SimStep.{SimStep}
+use Rattle.osdp_sim.specs.Account.{Account, lists_of}
+use Rattle.osdp_sim_bus.specs.Runs.{RunEnds, Stops, StopsAt, lists_of_all}
+use Rattle.osdp_sim_bus.specs.State.{Given}
+use Rattle.osdp_stream.specs.declared.fault.ToolFault.{ToolFault}
+use Rattle.osdp_stream.specs.declared.fault.ToolFault.TheVariants.{HoldsPacket, NotQuiet}
+use Rattle.osdp_tool_account.specs.AccountText.{account_text}
+use Rattle.osdp_tool_sim.specs.Several.{TellsEach, line_of, readers_from, texts_from}
+use Rattle.osdp_tool_sim.specs.Told.{IsTextOfEach, TellsReaders}
+
+abbrev pub Ends : Script → Result (Vec declared.Account) (Fault (Vec declared.Account)) → Type 0
+Ends script r =
+    RunEnds handler_answer handler_after (default_config script.check 64) (readers_from 1 script.readers.items) (steps_of script) r
+
+-- the settings, the readers and the steps, as they are called here
+pub bus_as : (script : Script) (config : BusConfig) (readers : List (Given ScriptReader)) (steps : List SimStep)
+    (r : Result (Vec declared.Account) (Fault (Vec declared.Account))) → config ≡ default_config script.check 64
+    → readers ≡ readers_from 1 script.readers.items → steps ≡ steps_of script → RunEnds handler_answer handler_after config readers steps r
+    → Ends script r
+bus_as script config readers steps r e f g ends =
+    subst (λ (s : List SimStep). RunEnds handler_answer handler_after (default_config script.check 64) (readers_from 1 script.readers.items) s r) g
+    (subst (λ (k : List (Given ScriptReader)). RunEnds handler_answer handler_after (default_config script.check 64) k steps r) f
+    (subst (λ (c : BusConfig). RunEnds handler_answer handler_after c readers steps r) e ends))
+
+pub each_ok : (script : Script) (told : Vec declared.Account) → Ends script (Ok told) → TellsEach script (lists_of_all told.items) (Ok tt)
+each_ok script told ends = (ends.1, ends.2)
+
+-- a step was refused, and the bus and the readers were set up
+packet_at : (script : Script) (at : ℕ) (told : List Account)
+    → Stops handler_answer handler_after at cause.HoldsPacket told (default_config script.check 64) (readers_from 1 script.readers.items) (steps_of script)
+    → StopsAt handler_answer handler_after at cause.HoldsPacket told (steps_of script) (line_of script)
+packet_at script zero told stops = absurd stops.0
+packet_at script (suc before) told stops = stops.1
+
+quiet_at : (script : Script) (at : ℕ) (told : List Account)
+    → Stops handler_answer handler_after at cause.NotQuiet told (default_config script.check 64) (readers_from 1 script.readers.items) (steps_of script)
+    → StopsAt handler_answer handler_after at cause.NotQuiet told (steps_of script) (line_of script)
+quiet_at script zero told stops = absurd stops.0
+quiet_at script (suc before) told stops = stops.1
+
+pub each_packet : (script : Script) (fault : Fault (Vec declared.Account)) → Ends script (Err fault) → fault.cause ≡ cause.HoldsPacket
+    → TellsEach script (lists_of_all fault.account.items) (Err (HoldsPacket fault.step))
+each_packet script fault ends is =
+    packet_at script fault.step (lists_of_all fault.account.items)
+    (subst (λ (why : Cause). Stops handler_answer handler_after fault.step why (lists_of_all fault.account.items)
+    (default_config script.check 64) (readers_from 1 script.readers.items) (steps_of script)) is ends)
+
+pub each_quiet : (script : Script) (fault : Fault (Vec declared.Account)) → Ends script (Err fault) → fault.cause ≡ cause.NotQuiet
+    → TellsEach script (lists_of_all fault.account.items) (Err (NotQuiet fault.step))
+each_quiet script fault ends is =
+    quiet_at script fault.step (lists_of_all fault.account.items)
+    (subst (λ (why : Cause). Stops handler_answer handler_after fault.step why (lists_of_all fault.account.items)
+    (default_config script.check 64) (readers_from 1 script.readers.items) (steps_of script)) is ends)
+
+-- a script that hasn't one reader
+pub of_each : (readers : List (ℕ × ℕ)) (script : Script) (text : List ℕ) (end : Result (Unit {0}) ToolFault)
+    → ((reader : ℕ × ℕ) → readers ≢ reader ∷ []) → IsTextOfEach script text end → TellsReaders readers script text end
+of_each [] script text end not_one is = is
+of_each (reader ∷ []) script text end not_one is = absurd (not_one reader refl)
+of_each (reader ∷ other ∷ others) script text end not_one is = is
+
+-- ---- the texts
+
+-- one text more
+pub texts_more : (accounts : List declared.Account) (i : ℕ) (account : declared.Account) (text one next whole : List ℕ) → i < length accounts
+    → account ≡ get_or accounts i account → one ≡ account_text (i + 1) (lists_of account) → next ≡ text ++ one
+    → text ++ texts_from (i + 1) (map lists_of (drop i accounts)) ≡ whole
+    → next ++ texts_from (i + 1 + 1) (map lists_of (drop (i + 1) accounts)) ≡ whole
+texts_more accounts i account text one next whole within is says written all =
+    let left = texts_from (i + 1 + 1) (map lists_of (drop (i + 1) accounts)) in
+    let cut : drop i accounts ≡ account ∷ drop (i + 1) accounts = split in
+    ap (λ l. l ++ left) (written ∙ ap (λ l. text ++ l) says)
+    ∙ append_assoc text (account_text (i + 1) (lists_of account)) left
+    ∙ ap (λ l. text ++ texts_from (i + 1) (map lists_of l)) (sym cut)
+    ∙ all
+  where
+    split : drop i accounts ≡ account ∷ drop (i + 1) accounts
+    split = rw add-one (drop-cons accounts i account within ∙ ap (λ y. y ∷ drop (suc i) accounts) (sym is))

@@ -1,0 +1,25 @@
+use Rattle.std.proofs.Common.{Ok, Err, ap, ◌∙◌}
+use Rattle.osdp_script.specs.Schedule.{steps_left}
+use Rattle.osdp_tool_sim.specs.Several.{readers_from}
+use Rattle.osdp_tool_sim.proofs.Accounts.{bus_as, each_ok, each_packet, each_quiet}
+use Rattle.osdp_tool_sim.proofs.several.run_several.Goals as goal
+
+pub returns-in-Ok-run_bus_schedule-clause-told : goal.returns-in-Ok-run_bus_schedule-clause-told
+returns-in-Ok-run_bus_schedule-clause-told c =
+    each_ok c.args.script.now c.in-Ok-run_bus_schedule.what
+    (bus_as c.args.script.now c.new-config.result c.in-Ok.readers.items (steps_left c.schedule.result) (Ok c.in-Ok-run_bus_schedule.what)
+    c.new-config.ensures (c.in-Ok.ensures ∙ ap (readers_from 1) c.deref.ensures.value) c.schedule.ensures c.in-Ok-run_bus_schedule.ensures.ends)
+
+pub returns-in-HoldsPacket-clause-told : goal.returns-in-HoldsPacket-clause-told
+returns-in-HoldsPacket-clause-told c =
+    each_packet c.args.script.now c.in-Err.fault
+    (bus_as c.args.script.now c.new-config.result c.in-Ok.readers.items (steps_left c.schedule.result) (Err c.in-Err.fault)
+    c.new-config.ensures (c.in-Ok.ensures ∙ ap (readers_from 1) c.deref.ensures.value) c.schedule.ensures c.in-Err.ensures.ends)
+    c.in-HoldsPacket.is
+
+pub returns-in-NotQuiet-clause-told : goal.returns-in-NotQuiet-clause-told
+returns-in-NotQuiet-clause-told c =
+    each_quiet c.args.script.now c.in-Err.fault
+    (bus_as c.args.script.now c.new-config.result c.in-Ok.readers.items (steps_left c.schedule.result) (Err c.in-Err.fault)
+    c.new-config.ensures (c.in-Ok.ensures ∙ ap (readers_from 1) c.deref.ensures.value) c.schedule.ensures c.in-Err.ensures.ends)
+    c.in-NotQuiet.is

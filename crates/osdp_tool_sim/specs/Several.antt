@@ -1,0 +1,33 @@
+-- What is told of a script of several readers.
+use Rattle.std.specs.Prelude.{ℕ, ◌+◌, List, [], ◌∷◌, ◌++◌, Result}
+use Rattle.osdp_bus.specs.Settings.{default_config}
+use Rattle.osdp_script.specs.declared.script.Script.{Script}
+use Rattle.osdp_script.specs.Script.{steps_of}
+use Rattle.osdp_script_reader.specs.Handler.{handler_after, handler_answer, new_handler}
+use Rattle.osdp_script_reader.specs.Identity.{script_config}
+use Rattle.osdp_script_reader.specs.declared.handler.ScriptReader.{ScriptReader}
+use Rattle.osdp_sim.specs.Account.{Account}
+use Rattle.osdp_sim_bus.specs.State.{Given, LineState, accounts, set_up}
+use Rattle.osdp_sim_bus.specs.Steps.{after_step, fault_of}
+use Rattle.osdp_stream.specs.declared.fault.ToolFault.{ToolFault}
+use Rattle.osdp_tool_account.specs.AccountText.{account_text}
+use Rattle.osdp_tool_sim.specs.Steps.{RunTells}
+
+-- the readers at these addresses, each with room for so many events; the first has this number
+abbrev pub readers_from : ℕ → List (ℕ × ℕ) → List (Given ScriptReader)
+readers_from number [] = []
+readers_from number (reader ∷ readers) =
+    (script_config number reader.0, reader.1, new_handler) ∷ readers_from (number + 1) readers
+
+-- the bus and the readers at first
+abbrev pub line_of : Script → LineState ScriptReader
+line_of script = set_up (default_config script.check 64) (readers_from 1 script.readers.items)
+
+-- these accounts are told of a script, and this end: they are those of its run, in the order of the readers
+abbrev pub TellsEach : Script → List Account → Result (Unit {0}) ToolFault → Type 0
+TellsEach script told end = RunTells (after_step handler_answer handler_after) fault_of accounts end told (steps_of script) (line_of script)
+
+-- the texts of these accounts, one after the other; the first is that of the reader of this number
+abbrev pub texts_from : ℕ → List Account → List ℕ
+texts_from number [] = []
+texts_from number (account ∷ others) = account_text number account ++ texts_from (number + 1) others

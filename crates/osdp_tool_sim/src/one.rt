@@ -1,0 +1,80 @@
+//! A script of one reader.
+
+ghost use Rattle.std.specs.Prelude.{◌≡◌, ◌<◌, ◌^◌, ℕ, length, IfErr, IfOk, string_bytes};
+ghost use Rattle.osdp_script.specs.Script.{steps_of};
+ghost use Rattle.osdp_sim.specs.Account.{lists_of};
+ghost use Rattle.osdp_tool_sim.specs.One.{TellsOne, config_of};
+ghost use Rattle.osdp_tool_sim.specs.Told.{IsTextOfOne};
+
+use crate::told::{COMMANDS, Told};
+use osdp_controller::ControllerConfig;
+use osdp_frame::{Address, CheckKind};
+use osdp_script::Script;
+use osdp_script_reader::{ScriptReader, script_config};
+use osdp_session::run_schedule;
+use osdp_sim::{Account, Cause, SimConfig};
+use osdp_stream::ToolFault;
+use osdp_tool_account::account_text;
+use std::alloc::Global;
+
+/// The settings of a line with one reader.
+fn settings(check: CheckKind, address: Address, events: usize) -> SimConfig
+    ensures { result ≡ config_of check (address, events) }
+{
+    SimConfig {
+        reader: script_config(1, address),
+        events,
+        controller: ControllerConfig::new(address, check),
+        commands: COMMANDS,
+    }
+}
+
+/// Runs a script of one reader.
+fn run_one(
+    alloc: Global,
+    script: &Script,
+    address: Address,
+    events: usize,
+) -> Result<Told<Account>, ToolFault>
+    requires { length (steps_of script.now) < 2 ^ 64 }
+    ensures told { IfOk result (λ told. TellsOne script.now (address, events) (lists_of told.what) told.end) }
+    ensures fault { IfErr result (λ fault. fault ≡ ToolFault.NoMemory) }
+{
+    osdp_sim_laws::accepts_by_room::<ScriptReader>();
+    let config = settings(script.check, address, events);
+    match run_schedule(alloc, &config, ScriptReader::new(), script.schedule()) {
+        Ok(what) => Ok(Told { what, end: Ok(()) }),
+        Err(fault) => match fault.cause {
+            Cause::HoldsPacket => Ok(Told {
+                what: fault.account,
+                end: Err(ToolFault::HoldsPacket(fault.step as u64)),
+            }),
+            Cause::NotQuiet => Ok(Told {
+                what: fault.account,
+                end: Err(ToolFault::NotQuiet(fault.step as u64)),
+            }),
+            Cause::NoMemory | Cause::OutOfRange => Err(ToolFault::NoMemory),
+        },
+    }
+}
+
+/// Runs a script of one reader, and tells its account.
+pub(crate) fn tell_one(
+    alloc: Global,
+    script: &Script,
+    address: Address,
+    events: usize,
+) -> Result<Told<String>, ToolFault>
+    requires { length (steps_of script.now) < 2 ^ 64 }
+    ensures told { IfOk result (λ told. IsTextOfOne script.now (address, events) (string_bytes told.what) told.end) }
+    ensures fault { IfErr result (λ fault. fault ≡ ToolFault.NoMemory) }
+{
+    let told = run_one(alloc, script, address, events)?;
+    match account_text(alloc, 1, &told.what) {
+        Ok(what) => Ok(Told {
+            what,
+            end: told.end,
+        }),
+        Err(_) => Err(ToolFault::NoMemory),
+    }
+}
