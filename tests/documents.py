@@ -153,7 +153,7 @@ def judge_architecture(all_crates):
 def judge_protocol():
     """docs/PROTOCOL.md: each text of a fault is told, with N for its number."""
     text = (TOP / "docs/PROTOCOL.md").read_text()
-    for fault in re.findall(r'#\[error\("(.*)"\)\]', (TOP / "crates/osdp_stream/src/fault.rt").read_text()):
+    for fault in re.findall(r'#\[error\("(.*)"\)\]', (TOP / "crates/osdp_tool_streams/src/fault.rt").read_text()):
         if f"| `{fault.replace('{0}', 'N')}` |" not in text:
             faults.append(f"docs/PROTOCOL.md: no row for {fault}")
 

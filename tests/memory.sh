@@ -28,22 +28,22 @@ refuse_each() {
   shift 2
   cat >"$work/in"
   "$program" "$@" <"$work/in" >"$work/right_out" 2>"$work/right_err"
-  local right=$? behind number got
-  for behind in '' '+'; do
+  local right=$? after number got
+  for after in '' '+'; do
     for ((number = 1; ; number++)); do
-      refused_run "$number$behind" "$@"
+      refused_run "$number$after" "$@"
       got=$?
       [ -e "$work/mark" ] || break
       if [ "$got" -ne 4 ]; then
-        echo "$name: request $number$behind refused: status $got, wanted 4"
+        echo "$name: request $number$after refused: status $got, wanted 4"
         failed=1
       fi
       if [ "$(cat "$work/err")" != 'osdp: no memory' ]; then
-        echo "$name: request $number$behind refused: other text on standard error"
+        echo "$name: request $number$after refused: other text on standard error"
         failed=1
       fi
       if ! head -c "$(stat -c %s "$work/out")" "$work/right_out" | cmp -s - "$work/out"; then
-        echo "$name: request $number$behind refused: other text on standard output"
+        echo "$name: request $number$after refused: other text on standard output"
         failed=1
       fi
     done

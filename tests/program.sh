@@ -37,7 +37,7 @@ expect 'a wrong check' 1 $'1:0 refused F3\nruns 1 packets 0 skipped 6 refused 1\
 expect 'raw bytes' 0 "$poll" '' show --raw < <(printf '\x53\x00\x07\x00\x00\x60\x46')
 expect 'raw bytes, joined' 0 "$poll" '' show --join --raw < <(printf '\x53\x00\x07\x00\x00\x60\x46')
 expect 'a bad line' 2 '' $'osdp: line 1: not hex\n' show <<<'5'
-expect 'a bad line behind a good one' 2 "$poll" $'osdp: line 2: not hex\n' show <<<$'53000700006046\n5x\n53000700006046'
+expect 'a bad line after a good one' 2 "$poll" $'osdp: line 2: not hex\n' show <<<$'53000700006046\n5x\n53000700006046'
 expect 'a bad line, counted' 2 $'runs 1 packets 1 skipped 0 refused 0\n' $'osdp: line 2: not hex\n' check <<<$'53000700006046\n5'
 expect 'comments and blank lines' 0 $'1:0 cmd 0 seq 0 sum POLL\n' '' show < <(printf ' \t# a capture\r\n\r\n 53 00\t07 00\r00 60 46')
 

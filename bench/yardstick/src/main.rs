@@ -244,7 +244,7 @@ fn digit(byte: u8) -> Option<u8> {
     }
 }
 
-/// The bytes of a line, behind those that `run` holds. False where the line is bad.
+/// The bytes of a line, after those that `run` holds. False where the line is bad.
 fn line_bytes(line: &[u8], run: &mut Vec<u8>) -> bool {
     let mut high = None;
     let mut first = true;

@@ -7,7 +7,7 @@ use std::env;
 use std::io::ErrorKind;
 use std::process::ExitCode;
 
-/// The words behind the program's name. Words that are no text are bad words.
+/// The words after the program's name. Words that are no text are bad words.
 fn arguments(rt: &HostRuntime) -> Result<Vec<String>, ToolFault> {
     let all = env::args(rt).map_err(|error| match error.kind() {
         ErrorKind::OutOfMemory => ToolFault::NoMemory,

@@ -5,12 +5,12 @@ use Rattle.std.proofs.lemmas.List.{drop-append-le, take_all}
 use Rattle.std.proofs.lemmas.Bool.{ne_eqb, false≢true}
 use Rattle.osdp_frame.specs.Bytes.{AreBytes}
 use Rattle.osdp_frame.specs.Reading.{Part, part_size, total_size, IsReading}
-use Rattle.osdp_frame.specs.Held.{Held, decided, behind, behind_first, after_advance, after_gap, after_push, taken_count}
+use Rattle.osdp_frame.specs.Held.{Held, decided, later, after_first, after_advance, after_gap, after_push, taken_count}
 use Rattle.osdp_frame.specs.Items.{items, reading, left_over}
 use Rattle.osdp_frame.proofs.Head.{AreBytes-drop}
 use Rattle.osdp_frame.proofs.Decided.{AreBytes-front}
 use Rattle.osdp_frame_laws.proofs.LawsOfSpellings.{AreBytes-append}
-use Rattle.osdp_frame_laws.proofs.OneByOne.{items_behind, items_on}
+use Rattle.osdp_frame_laws.proofs.OneByOne.{items_after, items_on}
 use Rattle.osdp_frame_laws.proofs.Readings.{decided_nothing, items_undecided, items-append, undecided_small, sizes_reading, is_reading}
 use Rattle.osdp_bus.specs.Buses.{BusState, Devices}
 use Rattle.osdp_bus.specs.Hearing.{ends_run, hears_item, hears_items}
@@ -36,7 +36,7 @@ left_after : (bytes : List ℕ) (part : Part) → decided false bytes ≡ Some p
 unfolding left_over
 left_after bytes part is =
     drop-drop (total_size (items false (drop (part_size part) bytes))) (part_size part) bytes
-    ∙ ap (λ parts. drop (total_size parts) bytes) (sym (items_behind false bytes part is))
+    ∙ ap (λ parts. drop (total_size parts) bytes) (sym (items_after false bytes part is))
 
 rest_ended : (rest : List ℕ) → rest_of (true && not (length rest == 0)) rest ≡ []
 rest_ended [] = left_nothing
@@ -47,10 +47,10 @@ rest_after : (ended : Bool) (bytes : List ℕ) (part : Part) → decided ended b
 rest_after true bytes part is = rest_ended (drop (part_size part) bytes)
 rest_after false bytes part is = left_after bytes part is
 
-advanced_is : (held next : Held) (part : Part) → decided held.ended held.bytes ≡ Some part → next ≡ after_advance held → next ≡ behind held part
-advanced_is held next part is advanced = advanced ∙ ap (behind_first held) is
+advanced_is : (held next : Held) (part : Part) → decided held.ended held.bytes ≡ Some part → next ≡ after_advance held → next ≡ later held part
+advanced_is held next part is advanced = advanced ∙ ap (after_first held) is
 
-held_after : (held : Held) (part : Part) → IsHeld held → IsHeld (behind held part)
+held_after : (held : Held) (part : Part) → IsHeld held → IsHeld (later held part)
 held_after held part run = record {
   bytes = AreBytes-drop (part_size part) held.bytes run.bytes;
   some = by_rest held.ended (drop (part_size part) held.bytes);
@@ -70,7 +70,7 @@ pub record ReadOn (now : ℕ) (held next : Held) (ds next_ds : Devices) : Type 0
 pub read_on : (now : ℕ) (held next : Held) (part : Part) (ds next_ds : Devices) → IsHeld held
     → decided held.ended held.bytes ≡ Some part → next ≡ after_advance held → next_ds ≡ hears_item now part ds → ReadOn now held next ds next_ds
 read_on now held next part ds next_ds run is advanced heard =
-    let here : next ≡ behind held part = advanced_is held next part is advanced in
+    let here : next ≡ later held part = advanced_is held next part is advanced in
     record {
       run = subst IsHeld (sym here) (held_after held part run);
       heard = ap (λ (h : Held). hears_items now (items h.ended h.bytes) next_ds) advanced

@@ -109,7 +109,7 @@ impl Bus {
         self.line.begin(entry, now)
     }
 
-    /// Puts a command behind those that wait for a device. It is accepted whether or not a session has begun. A COMSET
+    /// Puts a command after those that wait for a device. It is accepted whether or not a session has begun. A COMSET
     /// reserves its address for the device until it is told settled or moved, or is withdrawn; told unsettled or unread,
     /// it reserves it until `retarget`.
     ///

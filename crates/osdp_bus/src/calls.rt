@@ -57,7 +57,7 @@ impl Line {
         }
     }
 
-    /// Puts a command behind those that wait for the device of an entry.
+    /// Puts a command after those that wait for the device of an entry.
     pub(crate) fn submit(
         &mut self,
         entry: Entry,

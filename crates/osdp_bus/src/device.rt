@@ -88,7 +88,7 @@ impl Device {
         let _ = self.controller.begin(now);
     }
 
-    /// Puts a command behind those that wait. A COMSET reserves its address.
+    /// Puts a command after those that wait. A COMSET reserves its address.
     pub(crate) fn submit(&mut self, command: Command) -> Result<(), (BusFault, Command)>
         ensures ok { OnOk result ((submit_refusal command self.old.controller ≡ None) × (self.new ≡ device_submits command self.old)) }
         ensures err { IfErr result (λ e. (option_map bus_fault (submit_refusal command self.old.controller) ≡ Some e.0) × (self.new ≡ self.old)) }

@@ -13,9 +13,9 @@ use Rattle.osdp_bus.specs.Devices as devices
 use Rattle.osdp_bus.specs.Devices.{first_from, is_at}
 use Rattle.osdp_bus.specs.Hearing.{after_silence, hears_at, hears_bytes, hears_items, hears_packet, hears_with}
 use Rattle.osdp_bus.proofs.Runs.{hears_items-append}
-use Rattle.osdp_link.specs.Peers.{IsPlainlySaid}
-use Rattle.osdp_link.proofs.Lines.{each_of}
-use Rattle.osdp_link.proofs.Reports.{heard_so}
+use Rattle.osdp_link_laws.specs.Peers.{IsPlainlySaid}
+use Rattle.osdp_link_laws.proofs.Lines.{each_of}
+use Rattle.osdp_link_laws.proofs.Reports.{heard_so}
 use Rattle.osdp_multidrop.specs.Line as line
 use Rattle.osdp_multidrop.specs.Line.{Site, changed, first_gets, gets, site_at}
 use Rattle.osdp_sim.specs.Line.{packets_in, whole_packets}

@@ -14,9 +14,9 @@ use Rattle.osdp_controller.specs.declared.state.State.{State}
 use Rattle.osdp_controller.specs.declared.state.State.TheVariants.{Closed, Quiet, Idle, Waiting, Pausing}
 use Rattle.osdp_controller_laws.specs.Commands.{TellsEnds, tells_end}
 use Rattle.osdp_bus.specs.Buses.{waiting_after}
-use Rattle.osdp_link.proofs.Lines.{both}
-use Rattle.osdp_link.proofs.Numbers.{is_false, is_true}
-use Rattle.osdp_link.proofs.Reports.{HoldsOfReports}
+use Rattle.osdp_link_laws.proofs.Lines.{both}
+use Rattle.osdp_link_laws.proofs.Numbers.{is_false, is_true}
+use Rattle.osdp_link_laws.proofs.Reports.{HoldsOfReports}
 use Rattle.osdp_multidrop.specs.Line.{Site, changed, site_at}
 use Rattle.osdp_multidrop.proofs.Changing.{some_same}
 use Rattle.osdp_bus_links.specs.Links.{IsNoRefusalOf, IsTold, TellsEach, TellsFrom, report_for}

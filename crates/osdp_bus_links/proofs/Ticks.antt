@@ -13,7 +13,7 @@ use Rattle.osdp_bus.specs.Devices as devices
 use Rattle.osdp_bus.specs.Hearing.{ends_run, ends_silent, hears_items}
 use Rattle.osdp_bus.specs.Machine.{after_next_report}
 use Rattle.osdp_bus.specs.Ticking.{BusTicked, bus_ticks, is_due_at, is_held_and_due, next_due, stays, ticks_at, ticks_by, ticks_free, ticks_held, ticks_on, ticks_with}
-use Rattle.osdp_link.proofs.Reports.{tick_so}
+use Rattle.osdp_link_laws.proofs.Reports.{tick_so}
 use Rattle.osdp_multidrop.specs.Line as line
 use Rattle.osdp_multidrop.specs.Line.{Net, NetMove, Site, Tick, changed, run, site_at, tagged, ticks_of}
 use Rattle.osdp_bus_links.specs.Links.{IsBusOf, IsNoRefusalOf, IsTickAt, TellsEach, TicksAsAMove, device_of, packets_on}

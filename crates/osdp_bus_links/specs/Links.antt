@@ -13,9 +13,9 @@ use Rattle.osdp_bus.specs.Machine.{after_begin_at, after_next_report, after_subm
 use Rattle.osdp_bus.specs.Ticking.{bus_ticks}
 use Rattle.osdp_bus.specs.declared.device.Device.{Device}
 use Rattle.osdp_bus.specs.declared.fault.BusFault.{BusFault}
-use Rattle.osdp_link.specs.Link.{told}
-use Rattle.osdp_link.specs.Peers.{IsPlainlySaid}
-use Rattle.osdp_link.specs.Refusals.{IsNoRefusal}
+use Rattle.osdp_link_laws.specs.Link.{told}
+use Rattle.osdp_link_laws.specs.Peers.{IsPlainlySaid}
+use Rattle.osdp_link_laws.specs.Refusals.{IsNoRefusal}
 use Rattle.osdp_multidrop.specs.Line.{Net, NetMove, Reopen, Site, Submit, Tick, after_net, changed, first_gets, run, site_at, submits}
 use Rattle.osdp_sim.specs.Line.{packets_in}
 

@@ -30,7 +30,7 @@ remainder (suc place) dividend =
 unfoldable pub power : ℕ → ℕ
 power places = remainder places (2 ^ places)
 
--- the bytes and sixteen zero bits behind them, the first sixteen bits changed by start
+-- the bytes and sixteen zero bits after them, the first sixteen bits changed by start
 unfoldable pub dividend_from : ℕ → List ℕ → ℕ
 dividend_from start bytes = bit_xor (bits_of bytes * 2 ^ 16) (start * 2 ^ (8 * length bytes))
 
@@ -55,6 +55,6 @@ abbrev pub IsRemainder : ℕ → ℕ → ℕ → Type 0
 IsRemainder places dividend left =
     (left < 2 ^ 16) × ((quotient : ℕ) × (quotient < 2 ^ places) × (dividend ≡ bit_xor (product places quotient divisor) left))
 
--- the remainder of the bytes, of the sixteen zero bits behind them and of the changed first bits
+-- the remainder of the bytes, of the sixteen zero bits after them and of the changed first bits
 abbrev pub IsCrc : List ℕ → ℕ → Type 0
 IsCrc bytes check = IsRemainder (8 * length bytes) (dividend_from initial bytes) check

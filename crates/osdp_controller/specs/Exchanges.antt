@@ -22,7 +22,7 @@ submitted_command Opening = None
 submitted_command Polling = None
 submitted_command (Asking command) = Some command
 
--- the sequence number of the exchanges of a session, counted from 0: the opening has 0, and those behind it
+-- the sequence number of the exchanges of a session, counted from 0: the opening has 0, and those after it
 -- take 1, 2 and 3 in turn
 abbrev pub exchange_number : ℕ → ℕ
 exchange_number zero = 0

@@ -123,7 +123,7 @@ answered_unread Opening code s = ignores s
 answered_unread Polling code s = rests (Some (Unread None code)) s
 answered_unread (Asking command) code s = rests (Some (Unread (Some command) code)) s
 
--- while the answer is waited for; behind a NAK 1 the next tick repeats or gives up
+-- while the answer is waited for; after a NAK 1 the next tick repeats or gives up
 abbrev pub waiting_hears : Answer → ℕ → Outstanding → Session → Heard
 waiting_hears NotTaken sends o s = hears_busy o s
 waiting_hears Damaged sends o s = ignores (record s { state = Waiting s.greatest sends o })

@@ -20,7 +20,7 @@ new_session config = record { config = config; state = Closed; number = 0; great
 abbrev pub seen : ℕ → Session → Session
 seen now s = record s { greatest = max s.greatest now }
 
--- so much later than the moment, and the last moment that there is where it would lie behind that
+-- so much later than the moment, and the last moment that there is where it would lie after that
 abbrev pub later : ℕ → Session → ℕ
 later wait s = min (s.greatest + wait) (2 ^ 64 - 1)
 
@@ -33,7 +33,7 @@ abbrev pub after_send : ℕ → Outstanding → Session → Session
 after_send sends o s =
     record s { state = Waiting (later s.config.reply_wait s) sends (record o { sent = o.sent + 1 }) }
 
--- nothing is outstanding, and the next POLL is due behind the interval
+-- nothing is outstanding, and the next POLL is due after the interval
 abbrev pub at_rest : Session → Session
 at_rest s = record s { state = Idle (later s.config.poll_interval s) }
 

@@ -31,7 +31,7 @@ impl ControllerConfig {
     pub const LONGEST: u32 = 3_600_000;
 
     /// The default times: an answer is waited for 200 ms and a frame sent three times; a POLL follows 50 ms
-    /// behind an answer, a send 50 ms behind a BUSY, of which 20 are allowed; a session opens behind 400 ms
+    /// after an answer, a send 50 ms after a BUSY, of which 20 are allowed; a session opens after 400 ms
     /// of quiet.
     pub fn new(address: Address, check: CheckKind) -> ControllerConfig
         ensures { result ≡ default_config address check }

@@ -108,7 +108,7 @@ impl Controller {
         }
     }
 
-    /// Puts a command behind those that wait. It is accepted in every state.
+    /// Puts a command after those that wait. It is accepted in every state.
     ///
     /// PollSubmitted (C4) for a POLL; else Full (C3) where as many wait as there is room for. The command
     /// comes back, and nothing has changed.

@@ -42,7 +42,7 @@ impl Session {
         self.greatest = self.greatest.max(now);
     }
 
-    /// So much later than now, and the last moment that there is where it would lie behind that.
+    /// So much later than now, and the last moment that there is where it would lie after that.
     pub(crate) fn later(&self, wait: u32) -> u64
         ensures { result ≡ later wait self.now }
     {

@@ -21,7 +21,7 @@ pub enum State {
     /// The frame of the exchange went out; the wait for its answer is over at this moment.
     Waiting {
         until: u64,
-        /// How often the frame went out, beginning anew behind each BUSY.
+        /// How often the frame went out, beginning anew after each BUSY.
         sends: u8,
         outstanding: Outstanding,
     },

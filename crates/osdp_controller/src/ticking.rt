@@ -49,7 +49,7 @@ impl Session {
     pub(crate) fn begin_next(&mut self, exchange: Exchange) -> Step
         requires config { IsConfig self.old.config }
         requires command { IfSome (submitted_command exchange) IsSubmitted }
-        requires behind_opening { exchange ≢ Opening }
+        requires after_opening { exchange ≢ Opening }
         ensures step { result ≡ (begins exchange (next_sequence self.old.number) self.old []).step }
         ensures session { self.new ≡ (begins exchange (next_sequence self.old.number) self.old []).session }
         ensures kept { IsSession self.new }

@@ -249,19 +249,19 @@ call_near (Tick now) m near =
     tick_near m.session.state (seen now m.session) m.waiting same same
 call_near (Hear p now) m near = frame_near p now m.session near
 
-near_behind : (m : Machine) (call : Call) → IsInRange m.session → IsInRange (after_call call m).session
-near_behind m call near =
+near_after : (m : Machine) (call : Call) → IsInRange m.session → IsInRange (after_call call m).session
+near_after m call near =
     to_near (after_call call m).session (after_call call m).session.state refl
     (call_near call m (of_near m.session near m.session.state refl))
 
 near_all : (m : Machine) (calls : List Call) → IsInRange m.session → IsInRange (after_calls calls m).session
 near_all m [] near = near
-near_all m (call ∷ calls) near = near_all (after_call call m) calls (near_behind m call near)
+near_all m (call ∷ calls) near = near_all (after_call call m) calls (near_after m call near)
 
 pub stays_near : StaysInRange
 stays_near = record {
   new = λ config capacity. record { number = omega arith; above_zero = λ x h other. cc; deadline = tt };
-  behind = near_all;
+  later = near_all;
 }
 
 -- ticks that come so late
@@ -325,10 +325,10 @@ frame_sent (Hear q now) m p e = cc
 
 pub sends_packets : SendsPackets
 sends_packets m call p is near e fits =
-    let behind = keeps_each call m is in
-    let session = behind.session in
+    let later = keeps_each call m is in
+    let session = later.session in
     let config = session.config in
-    let ranges = near_behind m call near in
+    let ranges = near_after m call near in
     let frame = frame_sent call m p e in
     let asked = subst (λ (o : Option Exchange). IfSome (command_of o) CommandFits) frame.1 fits in
     subst IsPacket (sym frame.2) (frame_is_packet frame.0 (after_call call m).session config.address ranges.number (exchange_fits frame.0 asked))

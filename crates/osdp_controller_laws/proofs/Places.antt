@@ -21,7 +21,7 @@ use Rattle.osdp_controller.specs.Answers.{answer_of}
 use Rattle.osdp_controller.specs.Hearing.{Heard, answered, answered_unread, com_of, command_answered, comset_of, hears, hears_busy, loses, moved_by, opening_answered, pausing_hears, pd_id_of, waiting_hears}
 use Rattle.osdp_controller.specs.Private.{numbered_in}
 use Rattle.osdp_controller.specs.Machine.{Machine, after_begin, after_retarget, after_submit, changed_unless, is_outstanding, refused_unless_closed, retarget_refusal, sent_in, submit_refusal}
-use Rattle.osdp_controller_laws.specs.Runs.{Call, Submit, Begin, Retarget, Withdraw, Tick, Hear, HasNumberOfPlace, NumbersByPlace, after_call, after_calls, count_behind, count_from, exchanges_begun, sent_by}
+use Rattle.osdp_controller_laws.specs.Runs.{Call, Submit, Begin, Retarget, Withdraw, Tick, Hear, HasNumberOfPlace, NumbersByPlace, after_call, after_calls, count_after, count_from, exchanges_begun, sent_by}
 use Rattle.osdp_controller.specs.Sessions.{later, seen}
 use Rattle.osdp_controller.specs.States.{is_closed}
 use Rattle.osdp_controller.specs.Ticking.{Ticked, begins, gives_up, sends_frame, stays, ticks_in, tries_again}
@@ -158,7 +158,7 @@ placed_begins count now (Pausing until o) m at = at
 
 -- each call
 
-placed_call : (count : ℕ) (call : Call) (m : Machine) → PlacedMachine count m → PlacedMachine (count_behind call m count) (after_call call m)
+placed_call : (count : ℕ) (call : Call) (m : Machine) → PlacedMachine count m → PlacedMachine (count_after call m count) (after_call call m)
 placed_call count (Submit command) m at =
     either_machine (PlacedMachine count) (submit_refusal command m) m (after_submit command m) at at
 placed_call count (Begin now) m at = placed_begins count now m.session.state m at
@@ -172,7 +172,7 @@ placed_calls : (count : ℕ) (calls : List Call) (m : Machine) → PlacedMachine
     → PlacedMachine (count_from count calls m) (after_calls calls m)
 placed_calls count [] m at = at
 placed_calls count (call ∷ calls) m at =
-    placed_calls (count_behind call m count) calls (after_call call m) (placed_call count call m at)
+    placed_calls (count_after call m count) calls (after_call call m) (placed_call count call m at)
 
 closed_placed : (state : State) (count number : ℕ) → is_closed state ≡ true → Placed count state number
 closed_placed Closed count number h = tt
@@ -188,7 +188,7 @@ place_of (Idle due) count number h at = cc
 place_of (Waiting until sends o) count number h at = at.1
 place_of (Pausing until o) count number h at = at.1
 
--- a frame has the number of the session behind it, and its exchange is outstanding then
+-- a frame has the number of the session after it, and its exchange is outstanding then
 
 abbrev SentAs : Ticked → Option Packet → Type 0
 SentAs t None = Unit {0}
@@ -229,7 +229,7 @@ numbers_by_place m calls h =
       outstanding = λ out. place_of (after_calls calls m).session.state (exchanges_begun calls m) (after_calls calls m).session.number out at;
       sent = λ call p e.
           let is = sent_as call (after_calls calls m) p e in
-          let behind = placed_call (exchanges_begun calls m) call (after_calls calls m) at in
-          number_sent (count_behind call (after_calls calls m) (exchanges_begun calls m)) (after_call call (after_calls calls m)).session.number p.sequence is.0
-          (place_of (after_call call (after_calls calls m)).session.state (count_behind call (after_calls calls m) (exchanges_begun calls m)) (after_call call (after_calls calls m)).session.number is.1 behind);
+          let later = placed_call (exchanges_begun calls m) call (after_calls calls m) at in
+          number_sent (count_after call (after_calls calls m) (exchanges_begun calls m)) (after_call call (after_calls calls m)).session.number p.sequence is.0
+          (place_of (after_call call (after_calls calls m)).session.state (count_after call (after_calls calls m) (exchanges_begun calls m)) (after_call call (after_calls calls m)).session.number is.1 later);
     }

@@ -205,11 +205,11 @@ heard_reply x number now answered_at s q reply is =
     hears_answers q answered_at (sent x number now s) x reply
     (record { comes = record { from_reader = record { reply = from.reply; address = from.address; without_block = from.without_block }; outstanding = refl; says = is.says }; number = is.sequence })
 
-abbrev behind_tick : Machine → Ticked → Machine
-behind_tick m t = record m { session = t.session; waiting = t.waiting }
+abbrev after_tick : Machine → Ticked → Machine
+after_tick m t = record m { session = t.session; waiting = t.waiting }
 
-abbrev behind_frame : Machine → Heard → Machine
-behind_frame m h = record m { session = h.session }
+abbrev after_frame : Machine → Heard → Machine
+after_frame m h = record m { session = h.session }
 
 exchanged : (x : Exchange) (number now answered_at : ℕ) (q : Packet) (reply : Reply) (report : Option Report) (left : Session → Session) (m : Machine)
     (rest : List Command) → ticks now m.session m.waiting ≡ begins x number (seen now m.session) rest → IsReplyTo number m.session q reply
@@ -222,8 +222,8 @@ exchanged x number now answered_at q reply report left m rest e is settled =
       frame = ap (λ (t : Ticked). t.step.frame) e;
       told = ap (λ (t : Ticked). (hears q answered_at t.session).report) e ∙ ap (λ (h : Heard). h.report) heard;
       after =
-          ap (λ (t : Ticked). behind_frame (behind_tick m t) (hears q answered_at t.session)) e
-          ∙ ap (λ (h : Heard). behind_frame (behind_tick m begun) h) heard;
+          ap (λ (t : Ticked). after_frame (after_tick m t) (hears q answered_at t.session)) e
+          ∙ ap (λ (h : Heard). after_frame (after_tick m begun) h) heard;
     }
 
 command_told : (command : Command) (reply : Reply) (moved known : Option Communication) (s : Session) → moved ≡ known

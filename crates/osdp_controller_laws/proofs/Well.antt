@@ -174,5 +174,5 @@ stays_well = record {
     waiting = All-nil IsSubmitted;
     room = omega arith;
   };
-  behind = keeps_all;
+  later = keeps_all;
 }

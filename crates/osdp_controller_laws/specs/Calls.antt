@@ -18,14 +18,14 @@ use Rattle.osdp_controller.specs.Sessions.{later, seen}
 use Rattle.osdp_controller.specs.States.{moment_of}
 use Rattle.osdp_controller.specs.Ticking.{stays, ticks}
 
--- the address of the reader behind a call: another where a COM tells that the reader moved, or it is set
+-- the address of the reader after a call: another where a COM tells that the reader moved, or it is set
 abbrev pub told_address : Option Report → ℕ → ℕ
 told_address (Some (Moved command answered)) old = answered.address
 told_address _ old = old
 
-abbrev pub address_behind : Call → Machine → ℕ
-address_behind (Retarget address) m = if is_none (retarget_refusal address m) then address else m.session.config.address
-address_behind call m = told_address (told_by call m) m.session.config.address
+abbrev pub address_after : Call → Machine → ℕ
+address_after (Retarget address) m = if is_none (retarget_refusal address m) then address else m.session.config.address
+address_after call m = told_address (told_by call m) m.session.config.address
 
 -- an exchange begins with a frame, and with nothing else
 abbrev pub BeginsWithFrame : Call → Machine → Type 0
@@ -34,7 +34,7 @@ BeginsWithFrame call m = is_outstanding m.session.state ≡ false → is_outstan
 
 -- no other setting changes than the address
 abbrev pub KeepsSettings : Call → Machine → Type 0
-KeepsSettings call m = (after_call call m).session.config ≡ record m.session.config { address = address_behind call m }
+KeepsSettings call m = (after_call call m).session.config ≡ record m.session.config { address = address_after call m }
 
 -- a tick that is not due changes nothing but the greatest moment seen
 abbrev pub WaitsUntilDue : ℕ → Machine → Type 0
@@ -44,7 +44,7 @@ WaitsUntilDue now m = is_due now m ≡ false → ticks now m.session m.waiting �
 abbrev pub longest_wait : ControllerConfig → ℕ
 longest_wait c = max (max c.reply_wait c.poll_interval) (max c.busy_wait c.quiet_wait)
 
--- so much later than the greatest moment seen, and the last moment that there is where it would lie behind that
+-- so much later than the greatest moment seen, and the last moment that there is where it would lie after that
 abbrev pub latest : Session → ℕ
 latest s = max s.greatest (later (longest_wait s.config) s)
 
@@ -54,10 +54,10 @@ pub record IsInRange (s : Session) : Type 0 where
   pub above_zero : (x : Exchange) → exchange_in s.state ≡ Some x → x ≢ Opening → 0 < s.number
   pub deadline : IfSome (moment_of s.state) (λ moment. moment ≤ latest s)
 
--- these hold of a new controller, and behind whatever is called
+-- these hold of a new controller, and after whatever is called
 pub record StaysInRange : Type 0 where
   pub new : (config : ControllerConfig) (capacity : ℕ) → IsInRange (new_machine config capacity).session
-  pub behind : (m : Machine) (calls : List Call) → IsInRange m.session → IsInRange (after_calls calls m).session
+  pub later : (m : Machine) (calls : List Call) → IsInRange m.session → IsInRange (after_calls calls m).session
 
 -- then a tick that comes so much later is due, unless the controller is closed
 abbrev pub ComesDue : Type 0

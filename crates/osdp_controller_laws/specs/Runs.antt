@@ -1,4 +1,4 @@
--- Runs: one call of a controller behind the other, and what holds of the exchanges over each of them.
+-- Runs: one call of a controller after the other, and what holds of the exchanges over each of them.
 use Rattle.std.specs.Prelude.{◌≡◌, ℕ, ◌+◌, ◌*◌, ◌≤◌, Bool, true, false, ◌&&◌, ◌==◌, if◌then◌else◌, All, List, [], ◌∷◌, ◌++◌, length, Option, Some, None, is_some, option_to_list}
 use Rattle.osdp_frame.specs.Packet.{Packet}
 use Rattle.osdp_msg.specs.declared.command.Command.{Command}
@@ -19,7 +19,7 @@ pub data Call : Type 0 where
   Tick : ℕ → Call
   Hear : Packet → ℕ → Call
 
--- the machine behind it: as before where it was refused
+-- the machine after it: as before where it was refused
 abbrev pub after_call : Call → Machine → Machine
 after_call (Submit command) m = changed_unless (submit_refusal command m) m (after_submit command m)
 after_call (Begin now) m = changed_unless (begin_refusal m) m (after_begin now m)
@@ -28,7 +28,7 @@ after_call Withdraw m = after_withdraw m
 after_call (Tick now) m = after_tick now m
 after_call (Hear p now) m = after_frame p now m
 
--- the machine behind a list of them
+-- the machine after a list of them
 abbrev pub after_calls : List Call → Machine → Machine
 after_calls [] m = m
 after_calls (call ∷ calls) m = after_calls calls (after_call call m)
@@ -58,15 +58,15 @@ abbrev pub begins_session : Call → Machine → Bool
 begins_session (Begin now) m = is_closed m.session.state
 begins_session _ m = false
 
--- how many exchanges the session has begun behind a call, by how many it had before
-abbrev pub count_behind : Call → Machine → ℕ → ℕ
-count_behind call m count =
+-- how many exchanges the session has begun after a call, by how many it had before
+abbrev pub count_after : Call → Machine → ℕ → ℕ
+count_after call m count =
     if begins_session call m then 0 else if begins_exchange call m then count + 1 else count
 
--- and behind a list of calls of a machine that had no session before
+-- and after a list of calls of a machine that had no session before
 abbrev pub count_from : ℕ → List Call → Machine → ℕ
 count_from count [] m = count
-count_from count (call ∷ calls) m = count_from (count_behind call m count) calls (after_call call m)
+count_from count (call ∷ calls) m = count_from (count_after call m count) calls (after_call call m)
 
 abbrev pub exchanges_begun : List Call → Machine → ℕ
 exchanges_begun calls m = count_from 0 calls m
@@ -76,19 +76,19 @@ abbrev pub HasNumberOfPlace : ℕ → ℕ → Type 0
 HasNumberOfPlace count number = (k : ℕ) × (count ≡ k + 1) × (number ≡ exchange_number k)
 
 -- whatever is called: while exchange k of a session is outstanding the session has the number of place k, and so has
--- each frame that a call sends behind them
+-- each frame that a call sends after them
 pub record NumbersByPlace (m : Machine) (calls : List Call) : Type 0 where
   pub outstanding : is_outstanding (after_calls calls m).session.state ≡ true
       → HasNumberOfPlace (exchanges_begun calls m) (after_calls calls m).session.number
   pub sent : (call : Call) (p : Packet) → sent_by call (after_calls calls m) ≡ Some p
-      → HasNumberOfPlace (count_behind call (after_calls calls m) (exchanges_begun calls m)) p.sequence
+      → HasNumberOfPlace (count_after call (after_calls calls m) (exchanges_begun calls m)) p.sequence
 
--- an exchange is outstanding, and stays so behind each of the calls
+-- an exchange is outstanding, and stays so after each of the calls
 abbrev pub Lasts : List Call → Machine → Type 0
 Lasts [] m = is_outstanding m.session.state ≡ true
 Lasts (call ∷ calls) m = (is_outstanding m.session.state ≡ true) × Lasts calls (after_call call m)
 
--- as long as the exchange lasts each frame behind one of its frames is the same packet, byte for byte
+-- as long as the exchange lasts each frame after one of its frames is the same packet, byte for byte
 abbrev pub ResendsTheSame : Type 0
 ResendsTheSame = (m : Machine) (call : Call) (p : Packet) (calls : List Call) → sent_by call m ≡ Some p → Lasts calls (after_call call m)
     → All (λ q. q ≡ p) (frames calls (after_call call m))
@@ -98,7 +98,7 @@ abbrev pub SendsFew : Type 0
 SendsFew = (m : Machine) (call : Call) (p : Packet) (calls : List Call) → IsMachine m → sent_by call m ≡ Some p → Lasts calls (after_call call m)
     → 1 + length (frames calls (after_call call m)) ≤ m.session.config.sends * (m.session.config.busy_limit + 1)
 
--- what holds of each controller: of a new one, and behind whatever is called
+-- what holds of each controller: of a new one, and after whatever is called
 pub record StaysWell : Type 0 where
   pub new : (config : ControllerConfig) (capacity : ℕ) → AreSettings config capacity → IsMachine (new_machine config capacity)
-  pub behind : (m : Machine) (calls : List Call) → IsMachine m → IsMachine (after_calls calls m)
+  pub later : (m : Machine) (calls : List Call) → IsMachine m → IsMachine (after_calls calls m)

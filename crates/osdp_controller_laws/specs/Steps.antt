@@ -49,7 +49,7 @@ pub record TicksInSteps (now : ℕ) (s : Session) (waiting : List Command) : Typ
       → ticks now s waiting ≡ sends_frame (sends + 1) o (seen now s) waiting
   pub ends : (until sends : ℕ) (o : Outstanding) → s.state ≡ Waiting until sends o → IsReachedAt until now s → s.config.sends ≤ sends
       → ticks now s waiting ≡ gives_up o (seen now s) waiting
-  -- behind a BUSY the frame goes out anew
+  -- after a BUSY the frame goes out anew
   pub pauses : (until : ℕ) (o : Outstanding) → s.state ≡ Pausing until o → IsAheadAt until now s
       → ticks now s waiting ≡ stays (seen now s) waiting
   pub goes_on : (until : ℕ) (o : Outstanding) → s.state ≡ Pausing until o → IsReachedAt until now s

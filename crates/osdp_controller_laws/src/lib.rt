@@ -67,7 +67,7 @@ pub fn exchanges_have_their_numbers()
     ensures { (m : Machine) (calls : List Call) → is_closed m.session.state ≡ true → NumbersByPlace m calls }
 {}
 
-/// As long as an exchange lasts, each frame that goes out behind one of its frames is the same packet.
+/// As long as an exchange lasts, each frame that goes out after one of its frames is the same packet.
 pub fn resends_the_same_frame()
     ensures { ResendsTheSame }
 {}
@@ -87,7 +87,7 @@ pub fn frames_go_by_the_state()
     ensures { (p : Packet) (now : ℕ) (s : Session) → FramesInSteps p now s }
 {}
 
-/// A whole exchange: a tick sends its frame, the reply is told, and nothing is outstanding behind it.
+/// A whole exchange: a tick sends its frame, the reply is told, and nothing is outstanding after it.
 pub fn exchanges_in_steps()
     ensures { (m : Machine) (now answered_at : ℕ) (q : Packet) → ExchangesInSteps m now answered_at q }
 {}

@@ -5,7 +5,7 @@ use Rattle.std.proofs.lemmas.List.{drop-append-le}
 use Rattle.std.proofs.lemmas.Bool.{leb-true, ne_eqb}
 use Rattle.osdp_frame.specs.Bytes.{AreBytes}
 use Rattle.osdp_frame.specs.Reading.{Part, part_size, total_size, IsReading}
-use Rattle.osdp_frame.specs.Held.{Held, decided, behind, after_gap, new_run, taken_count}
+use Rattle.osdp_frame.specs.Held.{Held, decided, later, after_gap, new_run, taken_count}
 use Rattle.osdp_frame.specs.Items.{items, reading, left_over}
 use Rattle.osdp_frame.proofs.Head.{AreBytes-drop}
 use Rattle.osdp_frame.proofs.Decided.{AreBytes-front}
@@ -17,7 +17,7 @@ use Rattle.osdp_reader.specs.declared.handler.Answer.{Answer}
 use Rattle.osdp_reader.specs.State.{ReaderState}
 use Rattle.osdp_device.specs.Receiving.{IsReceived, Received, after_take, comes_in, ends_run, ends_silent, is_silent, seen}
 use Rattle.osdp_device.specs.Saying.{Said, after_item, said_of}
-use Rattle.osdp_device.specs.Telling.{after_items, behind_all, items_of, listed, said_to_all}
+use Rattle.osdp_device.specs.Telling.{after_items, after_all, items_of, listed, said_to_all}
 use Rattle.osdp_device.specs.Hearing.{Heard, IsAllRead, NeedsFewerTurns, TakesInTurn, hears_bytes, reads_all, reads_on, then_hears, then_reads, turns_left}
 use Rattle.osdp_device.proofs.Receipt.{AreBytes-take}
 use Rattle.osdp_device.proofs.Turning.{splits}
@@ -65,37 +65,37 @@ left_bytes bytes fits = AreBytes-drop (total_size (items false bytes)) bytes fit
 
 -- ---- what is held after all items
 
-behind_open : (parts : List Part) (bytes : List ℕ) → behind_all (record { bytes = bytes; ended = false }) parts ≡ record { bytes = drop (total_size parts) bytes; ended = false }
-behind_open [] bytes = refl
-behind_open (part ∷ parts) bytes =
-    behind_open parts (drop (part_size part) bytes)
+after_open : (parts : List Part) (bytes : List ℕ) → after_all (record { bytes = bytes; ended = false }) parts ≡ record { bytes = drop (total_size parts) bytes; ended = false }
+after_open [] bytes = refl
+after_open (part ∷ parts) bytes =
+    after_open parts (drop (part_size part) bytes)
     ∙ ap (λ (l : List ℕ). record { bytes = l; ended = false }) (drop-drop (total_size parts) (part_size part) bytes)
 
-behind_items : (bytes : List ℕ) → behind_all (record { bytes = bytes; ended = false }) (items false bytes) ≡ record { bytes = left_over bytes; ended = false }
-behind_items bytes = behind_open (items false bytes) bytes ∙ ap (λ (l : List ℕ). record { bytes = l; ended = false }) (left_is bytes)
+all_after_items : (bytes : List ℕ) → after_all (record { bytes = bytes; ended = false }) (items false bytes) ≡ record { bytes = left_over bytes; ended = false }
+all_after_items bytes = after_open (items false bytes) bytes ∙ ap (λ (l : List ℕ). record { bytes = l; ended = false }) (left_is bytes)
 
 some_ended : (b : ℕ) (bytes : List ℕ) → not (length (b ∷ bytes) == 0) ≡ true
 some_ended b bytes = ap not (ne_eqb (length (b ∷ bytes)) 0 (λ h. omega arith))
 
-behind_ended : (parts : List Part) (bytes : List ℕ) → AreBytes bytes → items true bytes ≡ parts
-    → behind_all (record { bytes = bytes; ended = not (length bytes == 0) }) parts ≡ new_run
-behind_ended [] bytes fits are =
+after_ended : (parts : List Part) (bytes : List ℕ) → AreBytes bytes → items true bytes ≡ parts
+    → after_all (record { bytes = bytes; ended = not (length bytes == 0) }) parts ≡ new_run
+after_ended [] bytes fits are =
     let nil : bytes ≡ [] = subst (λ l. IsReading bytes l) are (is_reading bytes fits) in
     ap (λ (l : List ℕ). record { bytes = l; ended = not (length l == 0) }) nil
-behind_ended (part ∷ parts) [] fits are = absurd (let e = sym (items_nothing true) ∙ are in cc)
-behind_ended (part ∷ parts) (b ∷ bytes) fits are =
+after_ended (part ∷ parts) [] fits are = absurd (let e = sym (items_nothing true) ∙ are in cc)
+after_ended (part ∷ parts) (b ∷ bytes) fits are =
     let rest = drop (part_size part) (b ∷ bytes) in
     let others : items true rest ≡ parts =
     sym (still_ended true rest) ∙ splits (record { bytes = b ∷ bytes; ended = true }) part parts are in
-    ap (λ (e : Bool). behind_all (record { bytes = b ∷ bytes; ended = e }) (part ∷ parts)) (some_ended b bytes)
-    ∙ behind_ended parts rest (AreBytes-drop (part_size part) (b ∷ bytes) fits) others
+    ap (λ (e : Bool). after_all (record { bytes = b ∷ bytes; ended = e }) (part ∷ parts)) (some_ended b bytes)
+    ∙ after_ended parts rest (AreBytes-drop (part_size part) (b ∷ bytes) fits) others
 
 -- nothing is left of a run that is over
-over : (bytes : List ℕ) → AreBytes bytes → 0 < length bytes → behind_all (record { bytes = bytes; ended = true }) (items true bytes) ≡ new_run
+over : (bytes : List ℕ) → AreBytes bytes → 0 < length bytes → after_all (record { bytes = bytes; ended = true }) (items true bytes) ≡ new_run
 over [] fits some = absurd (omega arith)
 over (b ∷ bytes) fits some =
-    ap (λ (e : Bool). behind_all (record { bytes = b ∷ bytes; ended = e }) (items true (b ∷ bytes))) (sym (some_ended b bytes))
-    ∙ behind_ended (items true (b ∷ bytes)) (b ∷ bytes) fits refl
+    ap (λ (e : Bool). after_all (record { bytes = b ∷ bytes; ended = e }) (items true (b ∷ bytes))) (sym (some_ended b bytes))
+    ∙ after_ended (items true (b ∷ bytes)) (b ∷ bytes) fits refl
 
 held_is : (held : Held) (ended : Bool) → held.ended ≡ ended → held ≡ record { bytes = held.bytes; ended = ended }
 held_is held ended is = (λ i. record { bytes = held.bytes; ended = is i })
@@ -141,9 +141,9 @@ before_silent now l is = by_test (is_silent (seen now l))
     by_test true = record { gap = is.gap; bytes = is.bytes; seen = omega arith }
     by_test false = record { gap = is.gap; bytes = is.bytes; seen = omega arith }
 
-AreBytes-behind : (parts : List Part) (held : Held) → AreBytes held.bytes → AreBytes (behind_all held parts).bytes
-AreBytes-behind [] held fits = fits
-AreBytes-behind (part ∷ parts) held fits = AreBytes-behind parts (behind held part) (AreBytes-drop (part_size part) held.bytes fits)
+AreBytes-later : (parts : List Part) (held : Held) → AreBytes held.bytes → AreBytes (after_all held parts).bytes
+AreBytes-later [] held fits = fits
+AreBytes-later (part ∷ parts) held fits = AreBytes-later parts (later held part) (AreBytes-drop (part_size part) held.bytes fits)
 
 module _ {H : Type 0} (answer_of : H → Command → Answer) (after : H → Command → H) where
   -- ---- items one list after the other
@@ -191,7 +191,7 @@ module _ {H : Type 0} (answer_of : H → Command → Answer) (after : H → Comm
         said = said_to_all answer_of after (items false b1) r;
         reader = after_items answer_of after (items false b1) r;
         line = record l { held = h; last = l.greatest };
-      }) (behind_items b1)
+      }) (all_after_items b1)
 
   -- nothing is read where all was
   reads_nothing : (r : ReaderState H) (l : Received) → IsAllRead l → reads_all answer_of after r l ≡ record { said = []; reader = r; line = l }
@@ -200,7 +200,7 @@ module _ {H : Type 0} (answer_of : H → Command → Answer) (after : H → Comm
       ap (λ parts. record {
         said = said_to_all answer_of after parts r;
         reader = after_items answer_of after parts r;
-        line = record l { held = behind_all l.held parts };
+        line = record l { held = after_all l.held parts };
       }) none
 
   -- a run that is over is read to its end
@@ -345,7 +345,7 @@ module _ {H : Type 0} (answer_of : H → Command → Answer) (after : H → Comm
       let l1 = ends_silent (seen now l) in
       let h = reads_all answer_of after r l1 in
       let before = before_silent now l is in
-      let bytes : AreBytes h.line.held.bytes = AreBytes-behind (items_of l1.held) l1.held before.bytes in
+      let bytes : AreBytes h.line.held.bytes = AreBytes-later (items_of l1.held) l1.held before.bytes in
       let here : IsBefore now h.line = record { gap = before.gap; bytes = bytes; seen = before.seen } in
       let a = reads_on answer_of after first h.reader h.line in
       let b = reads_on answer_of after ys a.reader a.line in
@@ -363,7 +363,7 @@ module _ {H : Type 0} (answer_of : H → Command → Answer) (after : H → Comm
       let l1 = ends_silent (seen now l) in
       let h = reads_all answer_of after r l1 in
       let before = before_silent now l is in
-      let fit : AreBytes h.line.held.bytes = AreBytes-behind (items_of l1.held) l1.held before.bytes in
+      let fit : AreBytes h.line.held.bytes = AreBytes-later (items_of l1.held) l1.held before.bytes in
       (settled_on (b ∷ bytes) now h.reader h.line (record { gap = before.gap; bytes = fit; seen = before.seen }) fits).read
 
   -- a read of none, at whatever moment
@@ -384,8 +384,8 @@ module _ {H : Type 0} (answer_of : H → Command → Answer) (after : H → Comm
           subst (λ (h : Heard H). IsAllRead h.line) (sym (reads_over r l is.bytes ended (is.some ended)))
           (record { goes_on = refl; undecided = decided_nothing false })
       by_ended false on =
-          let left : behind_all l.held (items_of l.held) ≡ record { bytes = left_over l.held.bytes; ended = false } =
-          ap (λ (e : Bool). behind_all (record { bytes = l.held.bytes; ended = e }) (items e l.held.bytes)) on ∙ behind_items l.held.bytes in
+          let left : after_all l.held (items_of l.held) ≡ record { bytes = left_over l.held.bytes; ended = false } =
+          ap (λ (e : Bool). after_all (record { bytes = l.held.bytes; ended = e }) (items e l.held.bytes)) on ∙ all_after_items l.held.bytes in
           record {
             goes_on = ap (λ (h : Held). h.ended) left;
             undecided = ap (λ (h : Held). decided false h.bytes) left ∙ left_undecided l.held.bytes is.bytes;

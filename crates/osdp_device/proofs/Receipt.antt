@@ -4,7 +4,7 @@ use Rattle.std.proofs.lemmas.List.{get_or_past}
 use Rattle.std.proofs.lemmas.Bool.{false≢true}
 use Rattle.osdp_frame.specs.Bytes.{AreBytes}
 use Rattle.osdp_frame.specs.Reading.{Part, part_size}
-use Rattle.osdp_frame.specs.Held.{Held, decided, behind, behind_first, after_advance, taken_count}
+use Rattle.osdp_frame.specs.Held.{Held, decided, later, after_first, after_advance, taken_count}
 use Rattle.osdp_frame.proofs.Head.{AreBytes-drop}
 use Rattle.osdp_frame.proofs.Decided.{AreBytes-front}
 use Rattle.osdp_frame_laws.proofs.LawsOfSpellings.{AreBytes-append}
@@ -34,8 +34,8 @@ received_gapped l run = record { gap = run.gap; bytes = run.bytes; some = by_byt
     by_bytes [] e = absurd cc
     by_bytes (b ∷ bytes) e = omega arith
 
-behind_some : (held : Held) (part : Part) → (behind held part).ended ≡ true → 0 < length (behind held part).bytes
-behind_some held part = by_rest held.ended (drop (part_size part) held.bytes)
+after_some : (held : Held) (part : Part) → (later held part).ended ≡ true → 0 < length (later held part).bytes
+after_some held part = by_rest held.ended (drop (part_size part) held.bytes)
   where
     by_rest : (ended : Bool) (rest : List ℕ) → (ended && not (length rest == 0)) ≡ true → 0 < length rest
     by_rest true [] e = absurd cc
@@ -45,12 +45,12 @@ behind_some held part = by_rest held.ended (drop (part_size part) held.bytes)
 pub received_advanced : (l : Received) → IsReceived l → IsReceived (record l { held = after_advance l.held })
 received_advanced l run = by_answer (decided l.held.ended l.held.bytes)
   where
-    by_answer : (o : Option Part) → IsReceived (record l { held = behind_first l.held o })
+    by_answer : (o : Option Part) → IsReceived (record l { held = after_first l.held o })
     by_answer None = run
     by_answer (Some part) = record {
       gap = run.gap;
       bytes = AreBytes-drop (part_size part) l.held.bytes run.bytes;
-      some = behind_some l.held part;
+      some = after_some l.held part;
       last = run.last;
     }
 

@@ -1,9 +1,9 @@
 -- What is told of items that are taken off one by one.
 use Rattle.std.proofs.Common.{◌≡◌, true, false, drop, Option, Some, None, is_some, refl, sym, ap, ◌∙◌}
-use Rattle.osdp_frame.specs.Held.{Held, decided, after_advance, behind, behind_first}
+use Rattle.osdp_frame.specs.Held.{Held, decided, after_advance, later, after_first}
 use Rattle.osdp_frame.specs.Items.{items}
 use Rattle.osdp_frame.specs.Reading.{Part, part_size}
-use Rattle.osdp_frame_laws.proofs.OneByOne.{items_behind, still_ended}
+use Rattle.osdp_frame_laws.proofs.OneByOne.{items_after, still_ended}
 use Rattle.osdp_frame_laws.proofs.Readings.{items_undecided}
 use Rattle.osdp_msg.specs.declared.command.Command.{Command}
 use Rattle.osdp_reader.specs.declared.handler.Answer.{Answer}
@@ -24,12 +24,12 @@ module _ {H : Type 0} (answer_of : H → Command → Answer) (after : H → Comm
       → decided held.ended held.bytes ≡ Some part → next ≡ after_advance held → said ≡ said_of answer_of after part r → heard ≡ after_item answer_of after part r
       → next_told answer_of after r held ≡ told_or answer_of after said heard next (next_told answer_of after heard next)
   told_of_first r heard held next part said is advanced told hears =
-      let here : next ≡ behind held part = advanced ∙ ap (behind_first held) is in
+      let here : next ≡ later held part = advanced ∙ ap (after_first held) is in
       let left = drop (part_size part) held.bytes in
       let item = after_item answer_of after part r in
-      let rest : items (behind held part).ended left ≡ items held.ended left = still_ended held.ended left in
-      ap (λ parts. told_by answer_of after parts r held) (items_behind held.ended held.bytes part is)
-      ∙ ap (λ parts. told_or answer_of after (said_of answer_of after part r) item (behind held part) (told_by answer_of after parts item (behind held part))) (sym rest)
+      let rest : items (later held part).ended left ≡ items held.ended left = still_ended held.ended left in
+      ap (λ parts. told_by answer_of after parts r held) (items_after held.ended held.bytes part is)
+      ∙ ap (λ parts. told_or answer_of after (said_of answer_of after part r) item (later held part) (told_by answer_of after parts item (later held part))) (sym rest)
       ∙ ap (λ h. told_or answer_of after (said_of answer_of after part r) item h (next_told answer_of after item h)) (sym here)
       ∙ ap (λ o. told_or answer_of after o item next (next_told answer_of after item next)) (sym told)
       ∙ ap (λ h. told_or answer_of after said h next (next_told answer_of after h next)) (sym hears)
@@ -51,10 +51,10 @@ module _ {H : Type 0} (answer_of : H → Command → Answer) (after : H → Comm
       told_of_first r heard held next part said is advanced told hears ∙ told_at_once said heard next (next_told answer_of after heard next) some
 
   -- it tells nothing, and it goes on
-  pub told_behind : (r heard : ReaderState H) (held next : Held) (part : Part) (said : Option Said)
+  pub told_after : (r heard : ReaderState H) (held next : Held) (part : Part) (said : Option Said)
       → decided held.ended held.bytes ≡ Some part → next ≡ after_advance held → said ≡ said_of answer_of after part r → heard ≡ after_item answer_of after part r
       → is_some said ≡ false → next_told answer_of after heard next ≡ next_told answer_of after r held
-  told_behind r heard held next part said is advanced told hears none =
+  told_after r heard held next part said is advanced told hears none =
       sym (told_of_first r heard held next part said is advanced told hears ∙ told_later said heard next (next_told answer_of after heard next) none)
 
 -- what is answered is said
@@ -63,4 +63,4 @@ some_said (Some response) some = refl
 some_said None some = some
 
 -- what a call tells, whether its first item tells something, tells nothing or is not there
-pub ruleset taking = (told_here, told_behind, told_nothing)
+pub ruleset taking = (told_here, told_after, told_nothing)

@@ -1,54 +1,54 @@
 -- Answers that are told in turn.
 use Rattle.std.proofs.Common.{◌≡◌, List, [], ◌∷◌, ◌++◌, drop, Option, Some, None, refl, sym, ap, ◌∙◌}
-use Rattle.osdp_frame.specs.Held.{Held, decided, behind}
+use Rattle.osdp_frame.specs.Held.{Held, decided, later}
 use Rattle.osdp_frame.specs.Reading.{Part, part_size}
-use Rattle.osdp_frame_laws.proofs.OneByOne.{items_behind, still_ended}
+use Rattle.osdp_frame_laws.proofs.OneByOne.{items_after, still_ended}
 use Rattle.osdp_frame_laws.proofs.Readings.{items_undecided}
 use Rattle.osdp_msg.specs.declared.command.Command.{Command}
 use Rattle.osdp_reader.specs.declared.handler.Answer.{Answer}
 use Rattle.osdp_reader.specs.State.{ReaderState}
 use Rattle.osdp_device.specs.Saying.{Said, after_item, said_of}
-use Rattle.osdp_device.specs.Telling.{TellsInTurn, after_items, behind_all, items_of, listed, next_told, said_to_all, told_by, told_or}
+use Rattle.osdp_device.specs.Telling.{TellsInTurn, after_items, after_all, items_of, listed, next_told, said_to_all, told_by, told_or}
 
--- behind the first of the items held are the others
-pub splits : (held : Held) (part : Part) (parts : List Part) → items_of held ≡ part ∷ parts → items_of (behind held part) ≡ parts
+-- after the first of the items held are the others
+pub splits : (held : Held) (part : Part) (parts : List Part) → items_of held ≡ part ∷ parts → items_of (later held part) ≡ parts
 splits held part parts are = by_answer (decided held.ended held.bytes) refl
   where
-    by_answer : (o : Option Part) → decided held.ended held.bytes ≡ o → items_of (behind held part) ≡ parts
+    by_answer : (o : Option Part) → decided held.ended held.bytes ≡ o → items_of (later held part) ≡ parts
     by_answer None is = absurd (let e = sym (items_undecided held.ended held.bytes is) ∙ are in cc)
     by_answer (Some first) is =
-        let both : first ∷ items_of (behind held first) ≡ part ∷ parts =
-        ap (λ l. first ∷ l) (still_ended held.ended (drop (part_size first) held.bytes)) ∙ sym (items_behind held.ended held.bytes first is) ∙ are in
+        let both : first ∷ items_of (later held first) ≡ part ∷ parts =
+        ap (λ l. first ∷ l) (still_ended held.ended (drop (part_size first) held.bytes)) ∙ sym (items_after held.ended held.bytes first is) ∙ are in
         let same : first ≡ part = cc in
-        let rest : items_of (behind held first) ≡ parts = cc in
-        ap (λ p. items_of (behind held p)) (sym same) ∙ rest
+        let rest : items_of (later held first) ≡ parts = cc in
+        ap (λ p. items_of (later held p)) (sym same) ∙ rest
 
 module _ {H : Type 0} (answer_of : H → Command → Answer) (after : H → Command → H) where
   turn : (parts : List Part) (r : ReaderState H) (held : Held) → items_of held ≡ parts → TellsInTurn answer_of after r held (told_by answer_of after parts r held)
   turn [] r held are = record { said = refl; reader = refl; left = refl; all = λ _. are }
-  turn (part ∷ parts) r held are = by_said (said_of answer_of after part r) refl (turn parts heard (behind held part) rest)
+  turn (part ∷ parts) r held are = by_said (said_of answer_of after part r) refl (turn parts heard (later held part) rest)
     where
       heard : ReaderState H
       heard = after_item answer_of after part r
 
-      rest : items_of (behind held part) ≡ parts
+      rest : items_of (later held part) ≡ parts
       rest = splits held part parts are
 
       by_said : (o : Option Said) → said_of answer_of after part r ≡ o
-          → TellsInTurn answer_of after heard (behind held part) (told_by answer_of after parts heard (behind held part))
-          → TellsInTurn answer_of after r held (told_or answer_of after o heard (behind held part) (told_by answer_of after parts heard (behind held part)))
+          → TellsInTurn answer_of after heard (afterwards held part) (told_by answer_of after parts heard (afterwards held part))
+          → TellsInTurn answer_of after r held (told_or answer_of after o heard (afterwards held part) (told_by answer_of after parts heard (afterwards held part)))
       by_said (Some said) is later = record {
         said = ap (λ l. said_to_all answer_of after l r) are ∙ ap (λ o. listed o ++ said_to_all answer_of after parts heard) is
             ∙ ap (λ l. said ∷ said_to_all answer_of after l heard) (sym rest);
         reader = ap (λ l. after_items answer_of after l r) are ∙ ap (λ l. after_items answer_of after l heard) (sym rest);
-        left = ap (λ l. behind_all held l) are ∙ ap (λ l. behind_all (behind held part) l) (sym rest);
+        left = ap (λ l. after_all held l) are ∙ ap (λ l. after_all (afterwards held part) l) (sym rest);
         all = λ e. absurd (let f : Some said ≡ None = e in cc);
       }
       by_said None is later = record {
         said = ap (λ l. said_to_all answer_of after l r) are ∙ ap (λ o. listed o ++ said_to_all answer_of after parts heard) is
             ∙ ap (λ l. said_to_all answer_of after l heard) (sym rest) ∙ later.said;
         reader = ap (λ l. after_items answer_of after l r) are ∙ ap (λ l. after_items answer_of after l heard) (sym rest) ∙ later.reader;
-        left = ap (λ l. behind_all held l) are ∙ ap (λ l. behind_all (behind held part) l) (sym rest) ∙ later.left;
+        left = ap (λ l. after_all held l) are ∙ ap (λ l. after_all (afterwards held part) l) (sym rest) ∙ later.left;
         all = later.all;
       }
 

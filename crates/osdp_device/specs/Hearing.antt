@@ -7,7 +7,7 @@ use Rattle.osdp_reader.specs.declared.handler.Answer.{Answer}
 use Rattle.osdp_reader.specs.State.{ReaderState}
 use Rattle.osdp_device.specs.Receiving.{Received, after_silence, after_take, after_tick, count_taken, ends_silent, seen}
 use Rattle.osdp_device.specs.Saying.{Said}
-use Rattle.osdp_device.specs.Telling.{after_items, behind_all, items_of, said_to_all}
+use Rattle.osdp_device.specs.Telling.{after_items, after_all, items_of, said_to_all}
 
 -- all that is said, and the reader and the line after it
 pub record Heard (H : Type 0) : Type 0 where
@@ -30,7 +30,7 @@ module _ {H : Type 0} (answer_of : H → Command → Answer) (after : H → Comm
   reads_all r l = record {
     said = said_to_all answer_of after (items_of l.held) r;
     reader = after_items answer_of after (items_of l.held) r;
-    line = record l { held = behind_all l.held (items_of l.held) };
+    line = record l { held = after_all l.held (items_of l.held) };
   }
 
   -- bytes of a run that goes on: the items that they decide are read

@@ -1,6 +1,6 @@
 -- A device that is asked for the next answer again and again.
 use Rattle.std.specs.Prelude.{◌≡◌, List, [], ◌∷◌, ◌++◌, Option, Some, None}
-use Rattle.osdp_frame.specs.Held.{Held, behind}
+use Rattle.osdp_frame.specs.Held.{Held, later}
 use Rattle.osdp_frame.specs.Items.{items}
 use Rattle.osdp_frame.specs.Reading.{Part}
 use Rattle.osdp_msg.specs.declared.command.Command.{Command}
@@ -19,9 +19,9 @@ abbrev pub items_of : Held → List Part
 items_of held = items held.ended held.bytes
 
 -- what is held after all of these items
-abbrev pub behind_all : Held → List Part → Held
-behind_all held [] = held
-behind_all held (part ∷ parts) = behind_all (behind held part) parts
+abbrev pub after_all : Held → List Part → Held
+after_all held [] = held
+after_all held (part ∷ parts) = after_all (later held part) parts
 
 abbrev pub listed : Option Said → List Said
 listed None = []
@@ -37,8 +37,8 @@ module _ {H : Type 0} (answer_of : H → Command → Answer) (after : H → Comm
   abbrev pub told_by : List Part → ReaderState H → Held → Told H
   told_by [] r held = record { said = None; reader = r; held = held }
   told_by (part ∷ parts) r held =
-      told_or (said_of answer_of after part r) (after_item answer_of after part r) (behind held part)
-      (told_by parts (after_item answer_of after part r) (behind held part))
+      told_or (said_of answer_of after part r) (after_item answer_of after part r) (later held part)
+      (told_by parts (after_item answer_of after part r) (later held part))
 
   -- the same of all items that the held bytes decide
   abbrev pub next_told : ReaderState H → Held → Told H
@@ -60,5 +60,5 @@ module _ {H : Type 0} (answer_of : H → Command → Answer) (after : H → Comm
   pub record TellsInTurn (r : ReaderState H) (held : Held) (told : Told H) : Type 0 where
     pub said : said_to_all (items_of held) r ≡ listed told.said ++ said_to_all (items_of told.held) told.reader
     pub reader : after_items (items_of held) r ≡ after_items (items_of told.held) told.reader
-    pub left : behind_all held (items_of held) ≡ behind_all told.held (items_of told.held)
+    pub left : after_all held (items_of held) ≡ after_all told.held (items_of told.held)
     pub all : told.said ≡ None → items_of told.held ≡ []

@@ -6,15 +6,15 @@ use Rattle.std.proofs.lemmas.List.{drop-take, drop-drop, take-take, take-append-
 use Rattle.osdp_frame.specs.Running.{IsRunning}
 use Rattle.osdp_frame.proofs.Running.{slice-same, length-slice, running_append, running_drop, running_none}
 
--- what is behind the first items of a piece
-pub slice_behind : (b : List ℕ) (from to size : ℕ) → from + size ≤ to → slice_range b (from + size) to ≡ drop size (slice_range b from to)
-slice_behind b from to size h =
+-- what is after the first items of a piece
+pub slice_after : (b : List ℕ) (from to size : ℕ) → from + size ≤ to → slice_range b (from + size) to ≡ drop size (slice_range b from to)
+slice_after b from to size h =
     let rest : to - from ≡ size + (to - (from + size)) = omega arith in
     ap (take (to - (from + size))) (sym (drop-drop size from b)) ∙ sym (ap (λ n. drop size (take n (drop from b))) rest ∙ drop-take size (to - (from + size)) (drop from b))
 
--- what is written behind the bytes held follows them
-pub written_behind : (new mid : List ℕ) (from n k : ℕ) → take (from + n) new ≡ take (from + n) mid → slice_range new from (from + n + k) ≡ slice_range mid from (from + n) ++ slice_range new (from + n) (from + n + k)
-written_behind new mid from n k same =
+-- what is written after the bytes held follows them
+pub written_after : (new mid : List ℕ) (from n k : ℕ) → take (from + n) new ≡ take (from + n) mid → slice_range new from (from + n + k) ≡ slice_range mid from (from + n) ++ slice_range new (from + n) (from + n + k)
+written_after new mid from n k same =
     let whole : from + n + k - from ≡ n + k = omega arith in
     let front : n ≡ from + n - from = omega arith in
     let back : k ≡ from + n + k - (from + n) = omega arith in
@@ -33,10 +33,10 @@ run_kept go old new held more bytes from ran at there all same run =
     subst (λ l. IsRunning go (slice_range new at (at + n + 1)) l) (sym front) (subst (λ l. IsRunning go l (take n held)) (sym same) run)
 
 -- and where bytes are let go
-pub run_behind : (go : ℕ → List ℕ → ℕ) (states held bytes : List ℕ) (from ran count new : ℕ) → bytes ≡ drop count held → new ≡ max ran (from + count)
+pub run_after : (go : ℕ → List ℕ → ℕ) (states held bytes : List ℕ) (from ran count new : ℕ) → bytes ≡ drop count held → new ≡ max ran (from + count)
     → IsRunning go (slice_range states from (ran + 1)) (take (ran - from) held)
     → IsRunning go (slice_range states (from + count) (new + 1)) (take (new - (from + count)) bytes)
-run_behind go states held bytes from ran count new rest most run = elim (cases_lt ran (from + count)) [
+run_after go states held bytes from ran count new rest most run = elim (cases_lt ran (from + count)) [
   | inl past ↦ running_none go (slice_range states (from + count) (new + 1)) (take (new - (from + count)) bytes)
       (omega (arith, length-take (new - (from + count)) bytes))
   | inr still ↦ (
@@ -44,10 +44,10 @@ run_behind go states held bytes from ran count new rest most run = elim (cases_l
       let split : ran - from ≡ count + (ran - (from + count)) = omega arith in
       let front : drop count (take (ran - from) held) ≡ take (ran - (from + count)) bytes =
       ap (λ n. drop count (take n held)) split ∙ drop-take count (ran - (from + count)) held ∙ ap (take (ran - (from + count))) (sym rest) in
-      let behind : IsRunning go (slice_range states (from + count) (ran + 1)) (take (ran - (from + count)) bytes) =
-      subst (λ l. IsRunning go l (take (ran - (from + count)) bytes)) (sym (slice_behind states from (ran + 1) count (omega arith)))
+      let later : IsRunning go (slice_range states (from + count) (ran + 1)) (take (ran - (from + count)) bytes) =
+      subst (λ l. IsRunning go l (take (ran - (from + count)) bytes)) (sym (slice_after states from (ran + 1) count (omega arith)))
       (subst (λ l. IsRunning go (drop count (slice_range states from (ran + 1))) l) front (running_drop go (slice_range states from (ran + 1)) (take (ran - from) held) count run)) in
-      subst (λ r. IsRunning go (slice_range states (from + count) (r + 1)) (take (r - (from + count)) bytes)) (sym end) behind)
+      subst (λ r. IsRunning go (slice_range states (from + count) (r + 1)) (take (r - (from + count)) bytes)) (sym end) later)
 ]
 
 -- they go on over the next bytes held
@@ -72,7 +72,7 @@ run_further go old new bytes from ran end to order ahead within there same run o
     let joined : IsRunning go (slice_range new from (from + n + length more + 1)) (take n held ++ more) =
     running_append go new (take n held) more from n size (subst (λ l. IsRunning go l (take n held)) kept run) on_there in
     let next : more ≡ take m (drop n held) =
-    ap (λ r. take m (drop r bytes)) place ∙ sym (take-take m (to - (from + n)) (drop (from + n) bytes) (omega arith)) ∙ ap (take m) (slice_behind bytes from to n (omega arith)) in
+    ap (λ r. take m (drop r bytes)) place ∙ sym (take-take m (to - (from + n)) (drop (from + n) bytes) (omega arith)) ∙ ap (take m) (slice_after bytes from to n (omega arith)) in
     let all : take n held ++ more ≡ take (end - from) held =
     ap (λ l. take n held ++ l) next ∙ sym (take-add n m held) ∙ ap (λ k. take k held) (let e : n + m ≡ end - from = omega arith in e) in
     subst (λ l. IsRunning go (slice_range new from (end + 1)) l) all (subst (λ k. IsRunning go (slice_range new from k) (take n held ++ more)) whole joined)

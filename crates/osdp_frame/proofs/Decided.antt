@@ -286,7 +286,7 @@ none_undecided ended bytes fits wants = by_answer (decided ended bytes) refl
     by_answer None is = refl
     by_answer (Some other) is = absurd (undecided_first ended bytes other wants (first_decided ended bytes other fits is))
 
--- ---- in a run that has ended, and with more behind
+-- ---- in a run that has ended, and with more after
 
 pub undecided_ended : (bytes : List ℕ) → IsUndecided true bytes → bytes ≡ []
 undecided_ended bytes u = elim u [
@@ -301,7 +301,7 @@ AreBytes-front bytes more fits place =
       | inr le ↦ subst (λ (b : ℕ). b < 256) (sym (get_or_past bytes place 0 le)) (omega arith)
     ]
 
--- what is first whatever comes is first with more behind it
+-- what is first whatever comes is first with more after it
 pub first_more : (ended : Bool) (bytes more : List ℕ) (part : Part) → IsFirst false bytes part → IsFirst ended (bytes ++ more) part
 first_more ended bytes more part first = λ later none.
     subst (λ l. Stands l part) (sym (append_assoc bytes more later)) (first (more ++ later) (λ t. absurd (false≢true t)))

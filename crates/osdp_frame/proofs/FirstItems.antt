@@ -27,7 +27,7 @@ packet_length-kept count rest fits =
     let m = count_at rest - check_size (check_at rest) in
     omega (arith, length-take (m - 5) (drop 5 rest), length-drop 5 rest, fits.0, fits.1, fits.2)
 
--- with more behind it, it stays the same packet
+-- with more after it, it stays the same packet
 packet_at-append : (rest more : List ℕ) → PacketFits rest (count_at rest) → packet_at (rest ++ more) ≡ packet_at rest
 packet_at-append rest more fits =
     let five : 5 ≤ length rest = omega (arith, fits.1, fits.2) in
@@ -37,13 +37,13 @@ packet_at-append rest more fits =
     let control : get_or (rest ++ more) 4 0 ≡ get_or rest 4 0 = get_or_append_left rest more 0 4 (omega arith) in
     let n = count_at rest - check_size (check_at rest) - 5 in
     let last : count_at (rest ++ more) - check_size (check_at (rest ++ more)) - 5 ≡ n = λ i. count i - check_size (check i) - 5 in
-    let behind : drop 5 (rest ++ more) ≡ drop 5 rest ++ more = drop-append-le 5 rest more five in
+    let later : drop 5 (rest ++ more) ≡ drop 5 rest ++ more = drop-append-le 5 rest more five in
     let same : take n (drop 5 rest ++ more) ≡ take n (drop 5 rest) = take-append-le n (drop 5 rest) more (omega (arith, fits.2, length-drop 5 rest)) in
     let body : take (count_at (rest ++ more) - check_size (check_at (rest ++ more)) - 5) (drop 5 (rest ++ more)) ≡ take n (drop 5 rest) =
-    (λ i. take (last i) (behind i)) ∙ same in
+    (λ i. take (last i) (later i)) ∙ same in
     λ i. packed (nat_lt 127 (address i)) (address i % 128) (control i % 4) (check i) (control i / 8 % 2 == 1) (control i / 16) (body i)
 
--- with more behind it, it stays the same item
+-- with more after it, it stays the same item
 pub part_in-append : (first : First) (rest more : List ℕ) → FirstFits rest (Some first) → part_in first (rest ++ more) ≡ part_in first rest
 part_in-append (kept.Packet count) rest more fits =
     ap Whole (packet_at-append rest more (subst (λ n. PacketFits rest n) fits.0 fits))

@@ -6,7 +6,7 @@ use Rattle.osdp_frame.specs.declared.first.First.{First}
 use Rattle.osdp_frame.specs.declared.framer.Framer.TheInside.{Inside}
 use Rattle.osdp_frame.specs.Bytes.{AreBytes}
 use Rattle.osdp_frame.specs.Reading.{Part, part_size, IsFirst, IsUndecided}
-use Rattle.osdp_frame.specs.Held.{Held, decided, behind, behind_first, after_advance}
+use Rattle.osdp_frame.specs.Held.{Held, decided, later, after_first, after_advance}
 use Rattle.osdp_frame.specs.First.{part_in, part_if, FirstFits}
 use Rattle.osdp_frame.specs.Framed.{held_of, IsFramer}
 use Rattle.osdp_frame.proofs.Decided.{first_decided, undecided_none, undecided_first}
@@ -50,5 +50,5 @@ advanced f held first size ended bytes is inv kept size-is bytes-is ended-is =
     let rest : bytes ≡ drop (part_size part) f.held.bytes = bytes-is ∙ ap (λ n. drop n f.held.bytes) (sym size-is) in
     let done : ended ≡ (f.ended && not (eqb (length (drop (part_size part) f.held.bytes)) 0)) =
     ended-is ∙ still_ended f.ended (length bytes) ∙ ap (λ (l : List ℕ). f.ended && not (eqb (length l) 0)) rest in
-    let same : record { bytes = bytes; ended = ended } ≡ behind (held_of f) part = λ i. record { bytes = rest i; ended = done i } in
-    same ∙ sym (ap (behind_first (held_of f)) decision) ∙ ap after_advance is
+    let same : record { bytes = bytes; ended = ended } ≡ later (held_of f) part = λ i. record { bytes = rest i; ended = done i } in
+    same ∙ sym (ap (after_first (held_of f)) decision) ∙ ap after_advance is

@@ -79,7 +79,7 @@ Tells-Begins p rest b =
       checked = subst (λ m. HasCheck m (check_at rest)) (sym count) (subst (λ k. HasCheck n k) (sym check) checked);
     }
 
--- with more behind it, it says the same
+-- with more after it, it says the same
 pub count_at-append : (bytes more : List ℕ) → 5 ≤ length bytes → count_at (bytes ++ more) ≡ count_at bytes
 count_at-append bytes more long =
     let low : get_or (bytes ++ more) 2 0 ≡ get_or bytes 2 0 = get_or_append_left bytes more 0 2 (omega arith) in

@@ -51,11 +51,11 @@ running_append go states held more from n size run on k h =
       | inl front ↦
           get_or-slice states from end (k + 1) (omega arith) ∙ sym (get_or-slice states from (from + n + 1) (k + 1) (omega arith)) ∙ run k (omega arith)
           ∙ (λ i. go ((get_or-slice states from (from + n + 1) k (omega arith) ∙ sym (get_or-slice states from end k (omega arith))) i) (sym (get_or_append_left held more 0 k (omega arith)) i ∷ []))
-      | inr back ↦ behind (k - n) (omega arith)
+      | inr back ↦ later (k - n) (omega arith)
     ]
   where
-    behind : (j : ℕ) → k ≡ n + j → get_or (slice_range states from (from + n + length more + 1)) (k + 1) 0 ≡ go (get_or (slice_range states from (from + n + length more + 1)) k 0) (get_or (held ++ more) k 0 ∷ [])
-    behind j e =
+    later : (j : ℕ) → k ≡ n + j → get_or (slice_range states from (from + n + length more + 1)) (k + 1) 0 ≡ go (get_or (slice_range states from (from + n + length more + 1)) k 0) (get_or (held ++ more) k 0 ∷ [])
+    later j e =
         let end = from + n + length more + 1 in
         let all = length-append held more in
         let place : from + n + j ≡ from + k = omega arith in
@@ -69,7 +69,7 @@ running_append go states held more from n size run on k h =
 
 -- ---- they go on byte by byte
 
--- behind place `from`, the states have gone on up to `place`
+-- after place `from`, the states have gone on up to `place`
 pub record HasRun (go : ℕ → List ℕ → ℕ) (old new bytes : List ℕ) (from place state : ℕ) : Type 0 where
   pub before : take (from + 1) new ≡ take (from + 1) old
   pub last : state ≡ get_or new place 0

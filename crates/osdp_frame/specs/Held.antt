@@ -8,7 +8,7 @@ use Rattle.osdp_frame.specs.Packed.{packed}
 use Rattle.osdp_frame.specs.Spelling.{start_of_message}
 use Rattle.osdp_frame.specs.Reading.{Part, Whole, Passed, Bad, part_size, count_at, check_at, smallest}
 
--- the bytes held, and whether the run has ended behind them
+-- the bytes held, and whether the run has ended after them
 pub record Held : Type 0 where
   pub bytes : List ℕ
   pub ended : Bool
@@ -56,19 +56,19 @@ after_push held given = record held { bytes = held.bytes ++ take (taken_count he
 abbrev pub after_gap : Held → Held
 after_gap held = record held { ended = not (length held.bytes == 0) }
 
--- behind an item; an ended run whose last byte goes is a new one
-abbrev pub behind : Held → Part → Held
-behind held part =
+-- after an item; an ended run whose last byte goes is a new one
+abbrev pub later : Held → Part → Held
+later held part =
     let rest = drop (part_size part) held.bytes in
     record { bytes = rest; ended = held.ended && not (length rest == 0) }
 
--- behind the first item, where it is decided
-abbrev pub behind_first : Held → Option Part → Held
-behind_first held None = held
-behind_first held (Some part) = behind held part
+-- after the first item, where it is decided
+abbrev pub after_first : Held → Option Part → Held
+after_first held None = held
+after_first held (Some part) = later held part
 
 abbrev pub after_advance : Held → Held
-after_advance held = behind_first held (decided held.ended held.bytes)
+after_advance held = after_first held (decided held.ended held.bytes)
 
 -- of an item that is decided: where its own bytes alone decide it, as they do a packet and a skipped byte
 abbrev pub by_itself : Option Part → Option Part

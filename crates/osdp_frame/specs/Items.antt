@@ -1,4 +1,4 @@
--- The items that bytes decide, one behind the other.
+-- The items that bytes decide, one after the other.
 use Rattle.std.specs.Prelude.{ℕ, zero, suc, Bool, true, false, List, [], ◌∷◌, length, drop}
 use Rattle.std.specs.Option.{option_map_or}
 use Rattle.osdp_frame.specs.Reading.{Part, part_size, total_size, IsFirst, IsUndecided}
@@ -18,7 +18,7 @@ items ended bytes = items_within (length bytes) ended bytes
 abbrev pub reading : List ℕ → List Part
 reading run = items true run
 
--- what is left behind the items that bytes decide in a run that goes on
+-- what is left after the items that bytes decide in a run that goes on
 unfoldable pub left_over : List ℕ → List ℕ
 left_over bytes = drop (total_size (items false bytes)) bytes
 

@@ -32,7 +32,7 @@ pub record Begins (p : Packet) (rest : List ℕ) : Type 0 where
   pub spelled : Spells p bytes
   pub parts : rest ≡ bytes ++ after
 
--- what the bytes behind the address say of the packet: how many bytes it has ..
+-- what the bytes after the address say of the packet: how many bytes it has ..
 abbrev pub count_at : List ℕ → ℕ
 count_at rest = get_or rest 2 0 + 256 * get_or rest 3 0
 
@@ -75,7 +75,7 @@ Stands rest (Bad f) =
     (after : List ℕ) × (rest ≡ start_of_message ∷ after) × ((p : Packet) → Begins p rest → ⊥)
     × IsFirstFault f rest
 
--- the reading of a run: item by item, each going on behind the one before
+-- the reading of a run: item by item, each going on after the one before
 abbrev pub IsReading : List ℕ → List Part → Type 0
 IsReading rest [] = rest ≡ []
 IsReading rest (part ∷ parts) = Stands rest part × IsReading (drop (part_size part) rest) parts

@@ -1,4 +1,4 @@
--- Bytes that are held with running checks: a state before each byte, and one behind the last.
+-- Bytes that are held with running checks: a state before each byte, and one after the last.
 use Rattle.std.specs.Prelude.{◌≡◌, ℕ, ◌+◌, ◌<◌, List, [], ◌∷◌, length, get_or}
 
 -- each state is the one before it, gone on by the byte between them

@@ -23,7 +23,7 @@ const ROOM: usize = 2880;
 #[derive(Debug, Drop)]
 pub struct Buffer {
     bytes: [u8; 2880],
-    /// The running checks before each of the bytes from `from` to `ran`, and behind the last of these.
+    /// The running checks before each of the bytes from `from` to `ran`, and after the last of these.
     sums: [Sum8; 2881],
     crcs: [Crc16; 2881],
     /// Where the bytes held begin, how far the running checks have come, and where the bytes end.
@@ -86,7 +86,7 @@ impl Buffer {
         self.ran - self.from
     }
 
-    /// Takes bytes in behind those that are held.
+    /// Takes bytes in after those that are held.
     pub fn push(&mut self, bytes: &[u8])
         requires { length self.old.bytes + length bytes.now ≤ 1440 }
         ensures { self.new ≡ record self.old { bytes = self.old.bytes ++ bytes.now } }

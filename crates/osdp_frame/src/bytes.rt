@@ -44,7 +44,7 @@ pub fn check_bytes(check: CheckKind, bytes: &[u8]) -> [u8; 2]
     }
 }
 
-/// Puts `bytes` behind what stands in `out`.
+/// Puts `bytes` after what stands in `out`.
 pub fn append(out: &mut Burst, bytes: &[u8])
     requires { length out.old.items + length bytes.now ≤ 1440 }
     ensures { out.new.items ≡ out.old.items ++ bytes.now }

@@ -23,7 +23,7 @@ const SHORT: usize = 32;
 #[derive(Debug, Drop)]
 pub struct Framer {
     held: Buffer,
-    /// Whether the run has ended behind the bytes held.
+    /// Whether the run has ended after the bytes held.
     ended: bool,
     /// The first item of the bytes held, where they decide it: decided once, and shown as often as is asked.
     first: Option<First>,
@@ -76,7 +76,7 @@ impl Framer {
         Some(first.shown(held))
     }
 
-    /// Takes the next item off. Without one nothing changes. Behind the last byte of a run that has
+    /// Takes the next item off. Without one nothing changes. After the last byte of a run that has
     /// ended a new run begins.
     pub fn advance(&mut self)
         ensures { self.new ≡ after_advance self.old }

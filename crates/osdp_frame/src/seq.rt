@@ -6,7 +6,7 @@ ghost use Rattle.osdp_frame.specs.Packet.{next_sequence};
 
 use std::marker::Model;
 
-/// A sequence number, 0 to 3. 0 opens a session; behind it 1, 2 and 3 take turns.
+/// A sequence number, 0 to 3. 0 opens a session; after it 1, 2 and 3 take turns.
 #[derive(Clone, Copy, Debug, PartialEq, Eq, PartialOrd, Ord, Hash)]
 pub struct Seq {
     value: u8,
@@ -47,7 +47,7 @@ impl Seq {
         self.value
     }
 
-    /// The number of the exchange behind this one: 0 to 1, 1 to 2, 2 to 3, 3 to 1.
+    /// The number of the exchange after this one: 0 to 1, 1 to 2, 2 to 3, 3 to 1.
     pub fn next(self) -> Seq
         ensures { result ≡ next_sequence self }
     {

@@ -183,7 +183,7 @@ impl<'a> FrameView<'a> {
         self.body[0]
     }
 
-    /// The body behind its first byte.
+    /// The body after its first byte.
     pub fn payload(&self) -> &'a [u8]
         ensures { result.now ≡ drop 1 self.now.body }
     {

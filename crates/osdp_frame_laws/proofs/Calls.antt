@@ -10,25 +10,25 @@ use Rattle.osdp_frame.specs.Bytes.{AreBytes}
 use Rattle.osdp_frame.specs.Packet.{largest}
 use Rattle.osdp_frame.specs.Reading.{Part, part_size, total_size, Stands, IsReading, IsFirst}
 use Rattle.osdp_frame.specs.Items.{reading}
-use Rattle.osdp_frame.specs.Held.{Held, after_gap, after_push, behind_first, decided, new_run, taken_count}
-use Rattle.osdp_frame_laws.specs.Calls.{Call, Push, Gap, Advance, IsBehind, IsOfBytes, IsRead, ReadsEachRun, ReadsOn, Run, after_call, after_calls, bytes_taken, empty_run, is_over, items_taken, last_run, run_behind, runs_over}
+use Rattle.osdp_frame.specs.Held.{Held, after_gap, after_push, after_first, decided, new_run, taken_count}
+use Rattle.osdp_frame_laws.specs.Calls.{Call, Push, Gap, Advance, IsAfter, IsOfBytes, IsRead, ReadsEachRun, ReadsOn, Run, after_call, after_calls, bytes_taken, empty_run, is_over, items_taken, last_run, run_after, runs_over}
 use Rattle.osdp_frame.proofs.Head.{AreBytes-drop, AreBytes-take}
 use Rattle.osdp_frame.proofs.Decided.{first_decided, stands_first, undecided_none, AreBytes-front, undecided_ended}
 use Rattle.osdp_frame_laws.proofs.LawsOfSpellings.{AreBytes-append, AreBytes-nil}
 use Rattle.osdp_frame_laws.proofs.Readings.{is_reading, one_reading, part_size-Stands, sizes_reading, undecided_small}
 
-pub new_behind : IsBehind new_run empty_run
-new_behind = record { ended = refl; not_over = refl; left = refl; reads = λ more others none r. r }
+pub new_after : IsAfter new_run empty_run
+new_after = record { ended = refl; not_over = refl; left = refl; reads = λ more others none r. r }
 
 total_size-append : (xs ys : List Part) → total_size (xs ++ ys) ≡ total_size xs + total_size ys
 total_size-append [] ys = omega arith
 total_size-append (x ∷ xs) ys = omega (arith, total_size-append xs ys)
 
-AreBytes-held : (held : Held) (run : Run) → IsBehind held run → AreBytes run.bytes → AreBytes held.bytes
+AreBytes-held : (held : Held) (run : Run) → IsAfter held run → AreBytes run.bytes → AreBytes held.bytes
 AreBytes-held held run b fits = subst (λ l. AreBytes l) (sym b.left) (AreBytes-drop (total_size run.parts) run.bytes fits)
 
 -- no more is taken off than has come
-within : (held : Held) (run : Run) → IsBehind held run → AreBytes run.bytes → total_size run.parts ≤ length run.bytes
+within : (held : Held) (run : Run) → IsAfter held run → AreBytes run.bytes → total_size run.parts ≤ length run.bytes
 within held run b fits =
     let others = reading (held.bytes ++ []) in
     let bytes : AreBytes (held.bytes ++ []) =
@@ -37,7 +37,7 @@ within held run b fits =
     let all = sizes_reading (run.bytes ++ []) (run.parts ++ others) whole in
     omega (arith, total_size-append run.parts others, length-append {A = ℕ} run.bytes [])
 
-length-held : (held : Held) (run : Run) → IsBehind held run → AreBytes run.bytes
+length-held : (held : Held) (run : Run) → IsAfter held run → AreBytes run.bytes
     → total_size run.parts + length held.bytes ≡ length run.bytes
 length-held held run b fits =
     omega (arith, within held run b fits, ap length b.left, length-drop (total_size run.parts) run.bytes)
@@ -73,15 +73,15 @@ nothing_taken : (held : Held) (given : List ℕ) → held.ended ≡ true → tak
 nothing_taken held given is = ap (λ e. take (taken_count (record held { ended = e }) given) given) is
 
 -- it leaves a run that is not over so
-push_never_ends : (given : List ℕ) (held : Held) (run : Run) → IsBehind held run
-    → is_over (run_behind (Push given) held run) ≡ true → ⊥
+push_never_ends : (given : List ℕ) (held : Held) (run : Run) → IsAfter held run
+    → is_over (run_after (Push given) held run) ≡ true → ⊥
 push_never_ends given held run b is =
-    let sizes = over_sizes (run_behind (Push given) held run) is in
+    let sizes = over_sizes (run_after (Push given) held run) is in
     let same : run.bytes ++ take (taken_count held given) given ≡ run.bytes =
     ap (λ l. run.bytes ++ l) (nothing_taken held given (b.ended ∙ sizes.0)) ∙ append-nil run.bytes in
     false≢true (sym b.not_over ∙ is_over-sizes run sizes.0 (sizes.1 ∙ ap length same))
 
-push_reads : (given : List ℕ) (held : Held) (run : Run) → IsBehind held run → AreBytes run.bytes → ReadsOn (Push given) held run
+push_reads : (given : List ℕ) (held : Held) (run : Run) → IsAfter held run → AreBytes run.bytes → ReadsOn (Push given) held run
 push_reads given held run b fits =
     let taken = take (taken_count held given) given in
     let none_taken : run.ended ≡ true → taken ≡ [] = λ h. nothing_taken held given (b.ended ∙ h) in
@@ -107,16 +107,16 @@ not_zero : (n : ℕ) → 0 < n → not (eqb n 0) ≡ true
 not_zero n h = grind (arith, nat_tests)
 
 -- at the end of what is held the reading is over
-read_whole : (held : Held) (run : Run) (others : List Part) → IsBehind held run → IsReading held.bytes others
+read_whole : (held : Held) (run : Run) (others : List Part) → IsAfter held run → IsReading held.bytes others
     → IsReading run.bytes (run.parts ++ others)
 read_whole held run others b r =
     subst (λ l. IsReading l (run.parts ++ others)) (append-nil run.bytes)
     (b.reads [] others (λ _. refl) (subst (λ l. IsReading l others) (sym (append-nil held.bytes)) r))
 
-gap_reads : (held : Held) (run : Run) → IsBehind held run → AreBytes run.bytes → ReadsOn Gap held run
+gap_reads : (held : Held) (run : Run) → IsAfter held run → AreBytes run.bytes → ReadsOn Gap held run
 gap_reads held run b fits =
     let size = length-held held run b fits in
-    let next = run_behind Gap held run in
+    let next = run_after Gap held run in
     let none : is_over next ≡ true → held.bytes ≡ [] = λ is. nil_of held.bytes (omega (arith, (over_sizes next is).1)) in
     record {
       on = λ not_over. record {
@@ -135,7 +135,7 @@ stays_ended : (ended : Bool) (left : ℕ) → (ended ≡ true → 0 < left) → 
 stays_ended true left some = not_zero left (some refl)
 stays_ended false left some = refl
 
-advance_reads : (held : Held) (run : Run) → IsBehind held run → AreBytes run.bytes → ReadsOn Advance held run
+advance_reads : (held : Held) (run : Run) → IsAfter held run → AreBytes run.bytes → ReadsOn Advance held run
 advance_reads held run b fits =
     let r = by_item (decided held.ended held.bytes) refl in
     record { on = r.0; over = r.1; new = r.2 }
@@ -146,16 +146,16 @@ advance_reads held run b fits =
     -- a run's end, or its next item
     Reads : Option Part → Type 0
     Reads o =
-        (is_over (next o) ≡ false → IsBehind (behind_first held o) (next o))
+        (is_over (next o) ≡ false → IsAfter (after_first held o) (next o))
         × (is_over (next o) ≡ true → IsReading run.bytes (next o).parts)
-        × (is_over (next o) ≡ true → behind_first held o ≡ new_run)
+        × (is_over (next o) ≡ true → after_first held o ≡ new_run)
 
     by_item : (o : Option Part) → decided held.ended held.bytes ≡ o → Reads o
     by_item None is =
         let same : run.parts ++ [] ≡ run.parts = append-nil run.parts in
         let never : is_over (next None) ≡ true → ⊥ =
         λ over. false≢true (sym b.not_over ∙ sym (ap (λ xs. is_over (record run { parts = xs })) same) ∙ over) in (
-          λ not_over. subst (λ xs. IsBehind held (record run { parts = xs })) (sym same) b,
+          λ not_over. subst (λ xs. IsAfter held (record run { parts = xs })) (sym same) b,
           λ over. absurd (never over),
           λ over. absurd (never over),
         )
@@ -190,15 +190,15 @@ advance_reads held run b fits =
               λ i. record { bytes = none over i; ended = ended i && not (eqb (length (none over i)) 0) },
         )
 
-pub reads_on : (call : Call) (held : Held) (run : Run) → IsBehind held run → AreBytes run.bytes → ReadsOn call held run
+pub reads_on : (call : Call) (held : Held) (run : Run) → IsAfter held run → AreBytes run.bytes → ReadsOn call held run
 reads_on (Push given) held run b fits = push_reads given held run b fits
 reads_on Gap held run b fits = gap_reads held run b fits
 reads_on Advance held run b fits = advance_reads held run b fits
 
--- ---- one call behind the other
+-- ---- one call after the other
 
 AreBytes-taken : (call : Call) (held : Held) (run : Run) → IsOfBytes call → AreBytes run.bytes
-    → AreBytes (run_behind call held run).bytes
+    → AreBytes (run_after call held run).bytes
 AreBytes-taken (Push given) held run given_fit fits =
     AreBytes-append run.bytes (take (taken_count held given) given) fits (AreBytes-take (taken_count held given) given given_fit)
 AreBytes-taken Gap held run given_fit fits = fits
@@ -207,19 +207,19 @@ AreBytes-taken Advance held run given_fit fits = fits
 -- the same from each place
 record ReadsFrom (calls : List Call) (held : Held) (run : Run) : Type 0 where
   over : All IsRead (runs_over calls held run)
-  last : IsBehind (after_calls calls held) (last_run calls held run)
+  last : IsAfter (after_calls calls held) (last_run calls held run)
 
--- behind the first call the run is over, or goes on
+-- after the first call the run is over, or goes on
 reads_first : (call : Call) (calls : List Call) (held : Held) (run : Run) → ReadsOn call held run
-    → AreBytes (run_behind call held run).bytes
-    → ((later : Held) (next : Run) → IsBehind later next → AreBytes next.bytes → ReadsFrom calls later next)
+    → AreBytes (run_after call held run).bytes
+    → ((later : Held) (next : Run) → IsAfter later next → AreBytes next.bytes → ReadsFrom calls later next)
     → ReadsFrom (call ∷ calls) held run
 reads_first call calls held run here fits from =
-    let both = by_end (is_over (run_behind call held run)) refl in
+    let both = by_end (is_over (run_after call held run)) refl in
     record { over = both.0; last = both.1 }
   where
     next : Run
-    next = run_behind call held run
+    next = run_after call held run
 
     later : Held
     later = after_call call held
@@ -227,18 +227,18 @@ reads_first call calls held run here fits from =
     Reads : Bool → Type 0
     Reads t =
         All IsRead ((if t then next ∷ [] else []) ++ runs_over calls later (if t then empty_run else next))
-        × IsBehind (after_calls calls later) (last_run calls later (if t then empty_run else next))
+        × IsAfter (after_calls calls later) (last_run calls later (if t then empty_run else next))
 
     by_end : (t : Bool) → is_over next ≡ t → Reads t
     by_end true is =
         let tail : ReadsFrom calls later empty_run =
-        subst (λ h. ReadsFrom calls h empty_run) (sym (here.new is)) (from new_run empty_run new_behind AreBytes-nil) in
+        subst (λ h. ReadsFrom calls h empty_run) (sym (here.new is)) (from new_run empty_run new_after AreBytes-nil) in
         (All-cons IsRead next (runs_over calls later empty_run) (here.over is) tail.over, tail.last)
     by_end false is =
         let tail = from later next (here.on is) fits in
         (tail.over, tail.last)
 
-reads_from : (calls : List Call) (held : Held) (run : Run) → All IsOfBytes calls → IsBehind held run → AreBytes run.bytes
+reads_from : (calls : List Call) (held : Held) (run : Run) → All IsOfBytes calls → IsAfter held run → AreBytes run.bytes
     → ReadsFrom calls held run
 reads_from [] held run of_bytes b fits = record { over = All-nil _; last = b }
 reads_from (call ∷ calls) held run of_bytes b fits =
@@ -248,7 +248,7 @@ reads_from (call ∷ calls) held run of_bytes b fits =
 
 -- what each call adds to its run is what all of them add to their runs
 parts_of_runs : {X : Type 0} (of : Run → List X) (by : Call → Held → List X) (by_calls : List Call → Held → List X)
-    → of empty_run ≡ [] → ((call : Call) (held : Held) (run : Run) → of (run_behind call held run) ≡ of run ++ by call held)
+    → of empty_run ≡ [] → ((call : Call) (held : Held) (run : Run) → of (run_after call held run) ≡ of run ++ by call held)
     → ((held : Held) → by_calls [] held ≡ [])
     → ((call : Call) (calls : List Call) (held : Held)
     → by_calls (call ∷ calls) held ≡ by call held ++ by_calls calls (after_call call held))
@@ -256,14 +256,14 @@ parts_of_runs : {X : Type 0} (of : Run → List X) (by : Call → Held → List 
     → flat_map of (runs_over calls held run) ++ of (last_run calls held run) ≡ of run ++ by_calls calls held
 parts_of_runs of by by_calls empty step none some [] held run = sym (ap (λ l. of run ++ l) (none held) ∙ append-nil (of run))
 parts_of_runs of by by_calls empty step none some (call ∷ calls) held run =
-    by_end (is_over (run_behind call held run))
+    by_end (is_over (run_after call held run))
     (λ next. parts_of_runs of by by_calls empty step none some calls (after_call call held) next)
     ∙ ap (λ l. l ++ by_calls calls (after_call call held)) (step call held run)
     ∙ append_assoc (of run) (by call held) (by_calls calls (after_call call held))
     ∙ ap (λ l. of run ++ l) (sym (some call calls held))
   where
     next : Run
-    next = run_behind call held run
+    next = run_after call held run
 
     later : Held
     later = after_call call held
@@ -284,7 +284,7 @@ taken_in (Push given) held = take (taken_count held given) given
 taken_in Gap held = []
 taken_in Advance held = []
 
-taken_in-run : (call : Call) (held : Held) (run : Run) → (run_behind call held run).bytes ≡ run.bytes ++ taken_in call held
+taken_in-run : (call : Call) (held : Held) (run : Run) → (run_after call held run).bytes ≡ run.bytes ++ taken_in call held
 unfolding taken_in
 taken_in-run (Push given) held run = refl
 taken_in-run Gap held run = sym (append-nil run.bytes)
@@ -302,7 +302,7 @@ taken_off (Push given) held = []
 taken_off Gap held = []
 taken_off Advance held = option_to_list (decided held.ended held.bytes)
 
-taken_off-run : (call : Call) (held : Held) (run : Run) → (run_behind call held run).parts ≡ run.parts ++ taken_off call held
+taken_off-run : (call : Call) (held : Held) (run : Run) → (run_after call held run).parts ≡ run.parts ++ taken_off call held
 unfolding taken_off
 taken_off-run (Push given) held run = sym (append-nil run.parts)
 taken_off-run Gap held run = sym (append-nil run.parts)
@@ -317,7 +317,7 @@ taken_off-calls Advance calls held = refl
 
 pub reads_each_run : (calls : List Call) → All IsOfBytes calls → ReadsEachRun calls
 reads_each_run calls of_bytes =
-    let from = reads_from calls new_run empty_run of_bytes new_behind AreBytes-nil in record {
+    let from = reads_from calls new_run empty_run of_bytes new_after AreBytes-nil in record {
       bytes =
           parts_of_runs (λ run. run.bytes) taken_in bytes_taken refl taken_in-run (λ held. refl) taken_in-calls calls new_run empty_run;
       items =
@@ -328,7 +328,7 @@ reads_each_run calls of_bytes =
 
 -- ---- what a run may become
 
-pub items_begin : (held : Held) (run : Run) (more : List ℕ) (all : List Part) → IsBehind held run → AreBytes (run.bytes ++ more)
+pub items_begin : (held : Held) (run : Run) (more : List ℕ) (all : List Part) → IsAfter held run → AreBytes (run.bytes ++ more)
     → (IsTrue run.ended → more ≡ []) → IsReading (run.bytes ++ more) all
     → (others : List Part) × (all ≡ run.parts ++ others) × IsReading (held.bytes ++ more) others
 items_begin held run more all b fits nothing r =
@@ -368,7 +368,7 @@ keeps_room (Push given) held room = omega (arith, length-pushed held given, coun
 keeps_room Gap held room = room
 keeps_room Advance held room = by_item (decided held.ended held.bytes)
   where
-    by_item : (o : Option Part) → length (behind_first held o).bytes ≤ largest
+    by_item : (o : Option Part) → length (after_first held o).bytes ≤ largest
     by_item None = room
     by_item (Some part) = omega (arith, length-drop (part_size part) held.bytes)
 
@@ -381,7 +381,7 @@ takes_all held given on room fewer =
     }) given = ap (λ e. taken_count (record held { ended = e }) given) on in
     omega (arith, length-pushed held given)
 
-pub takes_some : (held : Held) (run : Run) (b : ℕ) (given : List ℕ) → IsBehind held run → AreBytes run.bytes
+pub takes_some : (held : Held) (run : Run) (b : ℕ) (given : List ℕ) → IsAfter held run → AreBytes run.bytes
     → decided held.ended held.bytes ≡ None → 0 < taken_count held (b ∷ given)
 takes_some held run b given is fits none = by_end held.ended refl
   where

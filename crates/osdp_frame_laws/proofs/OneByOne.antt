@@ -3,7 +3,7 @@ use Rattle.std.proofs.Common.{◌≡◌, ℕ, zero, suc, ◌<◌, ◌≤◌, ◌
 use Rattle.std.specs.Option.{option_map_or}
 use Rattle.std.proofs.lemmas.List.{length-drop}
 use Rattle.std.proofs.lemmas.Bool.{ne_eqb}
-use Rattle.osdp_frame.specs.Held.{Held, after_advance, behind, behind_first, decided}
+use Rattle.osdp_frame.specs.Held.{Held, after_advance, later, after_first, decided}
 use Rattle.osdp_frame.specs.Items.{items, items_within}
 use Rattle.osdp_frame.specs.Reading.{Part, part_size}
 use Rattle.osdp_frame_laws.proofs.Readings.{part_size-positive, decided_nothing, items_undecided}
@@ -33,10 +33,10 @@ within_same (suc n) (suc m) ended bytes a b =
     by_answer None same = refl
     by_answer (Some part) same = ap (λ l. part ∷ l) (same part)
 
-pub items_behind : (ended : Bool) (bytes : List ℕ) (part : Part) → decided ended bytes ≡ Some part → items ended bytes ≡ part ∷ items ended (drop (part_size part) bytes)
+pub items_after : (ended : Bool) (bytes : List ℕ) (part : Part) → decided ended bytes ≡ Some part → items ended bytes ≡ part ∷ items ended (drop (part_size part) bytes)
 unfolding items
-items_behind ended [] part is = absurd (let e = sym (decided_nothing ended) ∙ is in cc)
-items_behind ended (b ∷ bytes) part is =
+items_after ended [] part is = absurd (let e = sym (decided_nothing ended) ∙ is in cc)
+items_after ended (b ∷ bytes) part is =
     ap (λ o. option_map_or (λ x. x ∷ items_within (length bytes) ended (drop (part_size x) (b ∷ bytes))) o []) is
     ∙ ap (λ l. part ∷ l) (within_same (length bytes) (length (drop (part_size part) (b ∷ bytes))) ended (drop (part_size part) (b ∷ bytes)) (some_goes (length bytes) (b ∷ bytes) part (omega arith)) (omega arith))
 
@@ -46,10 +46,10 @@ still_ended ended [] = items_undecided (ended && false) [] (decided_nothing (end
 still_ended true (b ∷ rest) = ap (λ t. items (true && not t) (b ∷ rest)) (ne_eqb (length (b ∷ rest)) 0 (λ h. omega arith))
 still_ended false (b ∷ rest) = refl
 
--- fewer bytes are held behind it
+-- fewer bytes are held after it
 pub fewer_held : (held next : Held) (part : Part) → decided held.ended held.bytes ≡ Some part → next ≡ after_advance held → length next.bytes < length held.bytes
 fewer_held held next part is advanced =
-    let here : next ≡ behind held part = advanced ∙ ap (behind_first held) is in
+    let here : next ≡ later held part = advanced ∙ ap (after_first held) is in
     let bytes_are : length next.bytes ≡ length (drop (part_size part) held.bytes) = ap (λ (h : Held). length h.bytes) here in
     let some = part_size-positive part in
     let any = some_held held.ended held.bytes part is in
@@ -63,7 +63,7 @@ fewer_held held next part is advanced =
 pub items_on : (held : Held) (part : Part) → decided held.ended held.bytes ≡ Some part
     → items held.ended held.bytes ≡ part ∷ items (after_advance held).ended (after_advance held).bytes
 items_on held part is =
-    let next = behind held part in
-    items_behind held.ended held.bytes part is
+    let next = later held part in
+    items_after held.ended held.bytes part is
     ∙ ap (λ parts. part ∷ parts) (sym (still_ended held.ended (drop (part_size part) held.bytes)))
-    ∙ ap (λ o. part ∷ items (behind_first held o).ended (behind_first held o).bytes) (sym is)
+    ∙ ap (λ o. part ∷ items (after_first held o).ended (after_first held o).bytes) (sym is)

@@ -51,10 +51,10 @@ sizes_reading rest (part ∷ parts) r =
     omega (arith, length-drop (part_size part) rest)
 
 -- a reading goes on by the rest alone
-pub reading_behind : (rest : List ℕ) (front back : List Part) → IsReading rest (front ++ back) → IsReading (drop (total_size front) rest) back
-reading_behind rest [] back r = r
-reading_behind rest (part ∷ front) back r =
-    subst (λ l. IsReading l back) (drop-drop (total_size front) (part_size part) rest) (reading_behind (drop (part_size part) rest) front back r.1)
+pub reading_after : (rest : List ℕ) (front back : List Part) → IsReading rest (front ++ back) → IsReading (drop (total_size front) rest) back
+reading_after rest [] back r = r
+reading_after rest (part ∷ front) back r =
+    subst (λ l. IsReading l back) (drop-drop (total_size front) (part_size part) rest) (reading_after (drop (part_size part) rest) front back r.1)
 
 -- ---- items by a bound on their number
 
@@ -164,9 +164,9 @@ pieces_within n ended bytes more fits h = by_bound n bytes fits h
         let short : k ≤ length bytes = part_size-decided false bytes part front is in
         let first : items false bytes ≡ part ∷ items false (drop k bytes) = items_decided false bytes part front is in
         let whole : items ended (bytes ++ more) ≡ part ∷ items ended (drop k (bytes ++ more)) = items_decided ended (bytes ++ more) part fits (decided_more ended bytes more part fits is) in
-        let behind : drop k (bytes ++ more) ≡ drop k bytes ++ more = drop-append-le k bytes more short in
+        let later : drop k (bytes ++ more) ≡ drop k bytes ++ more = drop-append-le k bytes more short in
         let there : drop (total_size (items false (drop k bytes))) (drop k bytes) ≡ drop (k + total_size (items false (drop k bytes))) bytes = drop-drop (total_size (items false (drop k bytes))) k bytes in
-        whole ∙ ap (λ l. part ∷ items ended l) behind ∙ ap (λ xs. part ∷ xs) (tails part is)
+        whole ∙ ap (λ l. part ∷ items ended l) later ∙ ap (λ xs. part ∷ xs) (tails part is)
         ∙ ap (λ l. part ∷ (items false (drop k bytes) ++ items ended (l ++ more))) there
         ∙ sym (ap (λ xs. xs ++ items ended (drop (total_size xs) bytes ++ more)) first)
 
@@ -179,8 +179,8 @@ pieces_within n ended bytes more fits h = by_bound n bytes fits h
         let k = part_size part in
         let short = part_size-decided false bytes part (AreBytes-front bytes more fits) is in
         let some = part_size-positive part in
-        let behind : drop k (bytes ++ more) ≡ drop k bytes ++ more = drop-append-le k bytes more short in
-        let fit : AreBytes (drop k bytes ++ more) = subst (λ l. AreBytes l) behind (AreBytes-drop k (bytes ++ more) fits) in
+        let later : drop k (bytes ++ more) ≡ drop k bytes ++ more = drop-append-le k bytes more short in
+        let fit : AreBytes (drop k bytes ++ more) = subst (λ l. AreBytes l) later (AreBytes-drop k (bytes ++ more) fits) in
         by_bound n (drop k bytes) fit (omega (arith, length-drop k bytes))) (decided false bytes) refl
 
 -- the items of the whole are those that the first piece decides and those of what it leaves with the rest

@@ -8,7 +8,7 @@ ghost use Rattle.osdp_frame.specs.Bytes.{AreBytes};
 ghost use Rattle.osdp_frame.specs.Packet.{IsPacket, Packet, largest};
 ghost use Rattle.osdp_frame.specs.Spelling.{Spells, spelling};
 ghost use Rattle.osdp_frame.specs.Reading.{IsFirst, IsReading, IsUndecided, Part, Stands, Whole, total_size};
-ghost use Rattle.osdp_frame_laws.specs.Calls.{Call, IsBehind, IsOfBytes, ReadsEachRun, ReadsOn, Run, after_call, empty_run};
+ghost use Rattle.osdp_frame_laws.specs.Calls.{Call, IsAfter, IsOfBytes, ReadsEachRun, ReadsOn, Run, after_call, empty_run};
 ghost use Rattle.osdp_frame.specs.Held.{Held, after_advance, after_push, decided, new_run, taken_count};
 ghost use Rattle.osdp_frame.specs.Items.{Drains, items, left_over, reading};
 
@@ -101,11 +101,11 @@ pub fn items_one_by_one()
         → length (after_advance held).bytes < length held.bytes }
 {}
 
-/// Whatever is called: what is held stands behind the items that were taken off the run, until the run is over.
+/// Whatever is called: what is held stands after the items that were taken off the run, until the run is over.
 /// Its items are then its one reading, and a new run begins.
 pub fn reads_on()
-    ensures new { IsBehind new_run empty_run }
-    ensures behind { (call : Call) (held : Held) (run : Run) → IsBehind held run → AreBytes run.bytes
+    ensures new { IsAfter new_run empty_run }
+    ensures later { (call : Call) (held : Held) (run : Run) → IsAfter held run → AreBytes run.bytes
         → ReadsOn call held run }
 {}
 
@@ -114,7 +114,7 @@ pub fn reads_on()
 /// may become.
 pub fn reads_each_run()
     ensures each { (calls : List Call) → All IsOfBytes calls → ReadsEachRun calls }
-    ensures beginning { (held : Held) (run : Run) (more : List ℕ) (all : List Part) → IsBehind held run
+    ensures beginning { (held : Held) (run : Run) (more : List ℕ) (all : List Part) → IsAfter held run
         → AreBytes (run.bytes ++ more) → (IsTrue run.ended → more ≡ []) → IsReading (run.bytes ++ more) all
         → (others : List Part) × (all ≡ run.parts ++ others) × IsReading (held.bytes ++ more) others }
 {}
@@ -127,6 +127,6 @@ pub fn takes_what_fits()
         → length (after_call call held).bytes ≤ largest }
     ensures all { (held : Held) (given : List ℕ) → held.ended ≡ false → length held.bytes ≤ largest
         → taken_count held given < length given → length (after_push held given).bytes ≡ largest }
-    ensures some { (held : Held) (run : Run) (b : ℕ) (given : List ℕ) → IsBehind held run → AreBytes run.bytes
+    ensures some { (held : Held) (run : Run) (b : ℕ) (given : List ℕ) → IsAfter held run → AreBytes run.bytes
         → decided held.ended held.bytes ≡ None → 0 < taken_count held (b ∷ given) }
 {}

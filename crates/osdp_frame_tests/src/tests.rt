@@ -315,7 +315,7 @@ fn is_packet_of(rt: &impl Abort, framer: &Framer, size: usize) {
 /// A packet of 100 bytes within the 300 that a bad one speaks of, so many times that bytes are moved to
 /// the front.
 #[test]
-fn long_packets_behind_bad_checks(rt: HostRuntime) {
+fn long_packets_after_bad_checks(rt: HostRuntime) {
     let mut run = [0u8; 300];
     run[..5].copy_from_slice(&[0x53, 0x00, 0x2c, 0x01, 0x04]);
     run[10..15].copy_from_slice(&[0x53, 0x00, 0x64, 0x00, 0x04]);

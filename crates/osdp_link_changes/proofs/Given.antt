@@ -20,15 +20,15 @@ use Rattle.osdp_reader.specs.declared.kind.Kind.TheVariants as kind
 use Rattle.osdp_reader.specs.Queue.{event_for, released}
 use Rattle.osdp_reader.specs.State.{ReaderState}
 use Rattle.osdp_reader.specs.Table.{answer_to, command_in, event_or_answer, kind_of, outcome, taken}
-use Rattle.osdp_reader_laws.specs.Answering.{handler_behind}
+use Rattle.osdp_reader_laws.specs.Answering.{handler_after_commands}
 use Rattle.std.specs.Prelude.{◌==◌, Bool, true, false, length}
 use Rattle.osdp_msg.specs.declared.event.Event.{Event}
-use Rattle.osdp_link.specs.Headline.{with_answers}
-use Rattle.osdp_link.specs.Link as link
-use Rattle.osdp_link.specs.Link.{Account, Delivered, Delivery, Link, Lost, Move, Queue as QueueEvent, Reopen, Repeated, SetBusy, Submit, Tick, ToController, ToReader, after_move, taken_command, told}
-use Rattle.osdp_link.proofs.Accounts.{one_more_answer}
-use Rattle.osdp_link.proofs.Acting.{no_event, same_answer, taken_is}
-use Rattle.osdp_link.proofs.Once.{GoesOn}
+use Rattle.osdp_link_laws.specs.Headline.{with_answers}
+use Rattle.osdp_link_laws.specs.Link as link
+use Rattle.osdp_link_laws.specs.Link.{Account, Delivered, Delivery, Link, Lost, Move, Queue as QueueEvent, Reopen, Repeated, SetBusy, Submit, Tick, ToController, ToReader, after_move, taken_command, told}
+use Rattle.osdp_link_laws.proofs.Accounts.{one_more_answer}
+use Rattle.osdp_link_laws.proofs.Acting.{no_event, same_answer, taken_is}
+use Rattle.osdp_link_laws.proofs.Once.{GoesOn}
 use Rattle.osdp_link_changes.specs.Changes.{given_at, given_by, given_to, given_to_front}
 
 poll_or_not : (c : Command) → (c ≡ command.Poll) ⊎ (c ≢ command.Poll)
@@ -76,7 +76,7 @@ module _ (fixed : ControllerConfig) {H : Type 0} (answer_of : H → Command → 
   pub record AnswersAs (r : ReaderState H) (t : Account) : Type 0 where
     pub id : r.config.id ≡ settings.id
     pub caps : r.config.caps ≡ settings.caps
-    pub handler : r.handler ≡ handler_behind answer_of after settings first t.taken
+    pub handler : r.handler ≡ handler_after_commands answer_of after settings first t.taken
 
   -- so much more is given to the commands taken
   abbrev pub Gives : Account → List (Command × Reply) → Account → Type 0
@@ -97,9 +97,9 @@ module _ (fixed : ControllerConfig) {H : Type 0} (answer_of : H → Command → 
             (sym poll) (none t (taken_command command.Poll front t) refl)
         | inr other ↦
             let answer = event_or_answer answer_of after (event_for c events) r.config r.handler c in
-            let behind = handler_behind answer_of after settings first t.taken in
-            let same : (answer_to answer_of after settings behind c).reply ≡ answer.reply =
-            ap (λ a. a.reply) (same_answer fixed answer_of after settings r.config behind c (sym facts.id) (sym facts.caps))
+            let later = handler_after_commands answer_of after settings first t.taken in
+            let same : (answer_to answer_of after settings later c).reply ≡ answer.reply =
+            ap (λ a. a.reply) (same_answer fixed answer_of after settings r.config later c (sym facts.id) (sym facts.caps))
             ∙ ap (λ h. (answer_to answer_of after r.config h c).reply) (sym facts.handler)
             ∙ ap (λ o. (event_or_answer answer_of after o r.config r.handler c).reply) (sym (no_event c events other)) in
             ap (λ u. with_answers answer_of after settings first u.taken) (taken_is c front t other)

@@ -1,4 +1,4 @@
--- From a first session that has begun to each list of moves and withdrawals behind it.
+-- From a first session that has begun to each list of moves and withdrawals after it.
 use Rattle.std.proofs.Common.{◌≡◌, ◌<◌, ◌⊎◌, ℕ, Bool, true, false, List, [], ◌∷◌, ◌++◌, Option, Some, None, refl, sym, subst, ap, ◌∙◌, inl, inr, append_assoc}
 use Rattle.std.specs.Prelude.{if◌then◌else◌, drop, slice_get, option_to_list, map}
 use Rattle.std.proofs.lemmas.List.{append-nil}
@@ -15,17 +15,17 @@ use Rattle.osdp_controller.specs.declared.state.State.TheVariants.{Closed, Quiet
 use Rattle.osdp_reader.specs.declared.config.ReaderConfig.{ReaderConfig}
 use Rattle.osdp_reader.specs.declared.handler.Answer.{Answer}
 use Rattle.osdp_reader.specs.Table.{answer_to}
-use Rattle.osdp_link.specs.Headline.{Begins, IsBeginning, IsMove, MaySubmit, handler_after, with_answers}
-use Rattle.osdp_link.specs.Link.{Account, Link, Move, Queue as QueueEvent, Reopen, SetBusy, Submit, Tick, ToController, ToReader, after_move}
-use Rattle.osdp_link.specs.Sessions.{queued, submitted}
-use Rattle.osdp_link.proofs.Advancing.{HoldsAtSomeStage}
-use Rattle.osdp_link.proofs.Devices.{IsDevice, move_there}
-use Rattle.osdp_link.proofs.Growing.{Grows, goes_on}
-use Rattle.osdp_link.proofs.InARow.{Assumed}
-use Rattle.osdp_link.proofs.Lines.{each_of, each_rest}
-use Rattle.osdp_link.proofs.Once.{GoesOn, fresh, is_once}
-use Rattle.osdp_link.proofs.Sessions.{lasts_or_leaves, leaves}
-use Rattle.osdp_link.proofs.Stages.{Fresh, Waits}
+use Rattle.osdp_link_laws.specs.Headline.{Begins, IsBeginning, IsMove, MaySubmit, handler_after, with_answers}
+use Rattle.osdp_link_laws.specs.Link.{Account, Link, Move, Queue as QueueEvent, Reopen, SetBusy, Submit, Tick, ToController, ToReader, after_move}
+use Rattle.osdp_link_laws.specs.Sessions.{queued, submitted}
+use Rattle.osdp_link_laws.proofs.Advancing.{HoldsAtSomeStage}
+use Rattle.osdp_link_laws.proofs.Devices.{IsDevice, move_there}
+use Rattle.osdp_link_laws.proofs.Growing.{Grows, goes_on}
+use Rattle.osdp_link_laws.proofs.InARow.{Assumed}
+use Rattle.osdp_link_laws.proofs.Lines.{each_of, each_rest}
+use Rattle.osdp_link_laws.proofs.Once.{GoesOn, fresh, is_once}
+use Rattle.osdp_link_laws.proofs.Sessions.{lasts_or_leaves, leaves}
+use Rattle.osdp_link_laws.proofs.Stages.{Fresh, Waits}
 use Rattle.osdp_link_changes.specs.Changes as changed
 use Rattle.osdp_link_changes.specs.Changes.{AreChanges, Change, Changed, IsChange, Moves, Session, SetHandler, Withdraw, after_change, given_at, run, session, unchanged, withdraws}
 use Rattle.osdp_link_changes.specs.Handlers.{AreAnswersOf, KeepHandler, KeepsHandler}

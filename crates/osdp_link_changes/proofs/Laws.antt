@@ -5,11 +5,11 @@ use Rattle.osdp_controller.specs.Machine as controllers
 use Rattle.osdp_controller.specs.declared.fault.ControllerFault.{ControllerFault}
 use Rattle.osdp_frame.specs.Packet.{Packet}
 use Rattle.osdp_reader.specs.declared.handler.Answer.{Answer}
-use Rattle.osdp_link.specs.Headline.{Begins}
-use Rattle.osdp_link.specs.Link as link
-use Rattle.osdp_link.specs.Link.{Link, Move, Queue as QueueEvent, Reopen, SetBusy, Submit, Tick, ToController, ToReader}
-use Rattle.osdp_link.specs.Peers.{ReadEachOther}
-use Rattle.osdp_link.proofs.InARow.{Assumed, assumed}
+use Rattle.osdp_link_laws.specs.Headline.{Begins}
+use Rattle.osdp_link_laws.specs.Link as link
+use Rattle.osdp_link_laws.specs.Link.{Link, Move, Queue as QueueEvent, Reopen, SetBusy, Submit, Tick, ToController, ToReader}
+use Rattle.osdp_link_laws.specs.Peers.{ReadEachOther}
+use Rattle.osdp_link_laws.proofs.InARow.{Assumed, assumed}
 use Rattle.osdp_link_changes.specs.Changes as changed
 use Rattle.osdp_link_changes.specs.Changes.{AreChanges, Change, Changed, all_queued, all_submitted, run, session, sessions, unchanged}
 use Rattle.osdp_link_changes.specs.Handlers.{GivesItsAnswers, MovesAsBefore, as_changes}

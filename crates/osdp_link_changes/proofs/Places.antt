@@ -8,13 +8,13 @@ use Rattle.osdp_controller.specs.Machine as controllers
 use Rattle.osdp_controller.specs.declared.fault.ControllerFault.{ControllerFault}
 use Rattle.osdp_reader.specs.declared.config.ReaderConfig.{ReaderConfig}
 use Rattle.osdp_reader.specs.declared.handler.Answer.{Answer}
-use Rattle.osdp_link.specs.Headline.{Begins, handler_after}
-use Rattle.osdp_link.specs.Link.{Account, Link, Move, Queue as QueueEvent, Reopen, SetBusy, Submit, Tick, ToController, ToReader, after_move}
-use Rattle.osdp_link.specs.Sessions.{HaveLeft, queued, settled_commands, submitted}
-use Rattle.osdp_link.proofs.Growing.{goes_on}
-use Rattle.osdp_link.proofs.InARow.{Assumed}
-use Rattle.osdp_link.proofs.Once.{GoesOn}
-use Rattle.osdp_link.proofs.Sessions.{leaves}
+use Rattle.osdp_link_laws.specs.Headline.{Begins, handler_after}
+use Rattle.osdp_link_laws.specs.Link.{Account, Link, Move, Queue as QueueEvent, Reopen, SetBusy, Submit, Tick, ToController, ToReader, after_move}
+use Rattle.osdp_link_laws.specs.Sessions.{HaveLeft, queued, settled_commands, submitted}
+use Rattle.osdp_link_laws.proofs.Growing.{goes_on}
+use Rattle.osdp_link_laws.proofs.InARow.{Assumed}
+use Rattle.osdp_link_laws.proofs.Once.{GoesOn}
+use Rattle.osdp_link_laws.proofs.Sessions.{leaves}
 use Rattle.osdp_link_changes.specs.Changes as changed
 use Rattle.osdp_link_changes.specs.Changes.{AreChanges, Change, Changed, Moves, Session, SetHandler, Withdraw, after_change, all_queued, all_submitted, given_at, queued_by, run, submitted_by, unchanged}
 use Rattle.osdp_link_changes.specs.Handlers.{KeepHandler}

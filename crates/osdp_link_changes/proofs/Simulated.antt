@@ -9,11 +9,11 @@ use Rattle.osdp_controller.specs.Machine as controllers
 use Rattle.osdp_controller.specs.declared.fault.ControllerFault.{ControllerFault}
 use Rattle.osdp_reader.specs.declared.handler.Answer.{Answer}
 use Rattle.osdp_reader.specs.Table.{Outcome, hears, kind_of}
-use Rattle.osdp_link.specs.Headline.{Begins, IsMove, SaysWhatFitsIf}
-use Rattle.osdp_link.specs.Link as link
-use Rattle.osdp_link.specs.Link.{Delivered, Delivery, Link, Lost, Move, Queue as QueueEvent, Reopen, Repeated, SetBusy, Submit, Tick, ToController, ToReader, after_move}
-use Rattle.osdp_link.specs.Peers.{ReadEachOther}
-use Rattle.osdp_link.specs.Sessions.{queued, submitted}
+use Rattle.osdp_link_laws.specs.Headline.{Begins, IsMove, SaysWhatFitsIf}
+use Rattle.osdp_link_laws.specs.Link as link
+use Rattle.osdp_link_laws.specs.Link.{Delivered, Delivery, Link, Lost, Move, Queue as QueueEvent, Reopen, Repeated, SetBusy, Submit, Tick, ToController, ToReader, after_move}
+use Rattle.osdp_link_laws.specs.Peers.{ReadEachOther}
+use Rattle.osdp_link_laws.specs.Sessions.{queued, submitted}
 use Rattle.osdp_reader_laws.proofs.PlainReplies.{acted_plain}
 use Rattle.osdp_link_changes.specs.Changes as changed
 use Rattle.osdp_link_changes.specs.Changes.{AreChanges, Change, Changed, Moves, SetHandler, Withdraw, after_change, all_queued, all_submitted, given_at, given_by, given_to_front, queued_by, run, submitted_by}

@@ -17,14 +17,14 @@ use Rattle.osdp_controller.specs.declared.session.Session.{Session}
 use Rattle.osdp_controller.specs.declared.state.State.TheVariants.{Closed}
 use Rattle.osdp_reader.specs.declared.config.ReaderConfig.{ReaderConfig}
 use Rattle.osdp_reader.specs.declared.handler.Answer.{Answer}
-use Rattle.osdp_link.specs.Headline.{IsMove}
-use Rattle.osdp_link.specs.Link as link
-use Rattle.osdp_link.specs.Link.{Delivered, Delivery, Link, Lost, Move, Queue as QueueEvent, Reopen, Repeated, SetBusy, Submit, Tick, ToController, ToReader, after_move}
-use Rattle.osdp_link.proofs.Advancing.{HoldsAtSomeStage}
-use Rattle.osdp_link.proofs.Deliveries.{coming_to_controller, coming_to_reader}
-use Rattle.osdp_link.proofs.Lines.{both}
-use Rattle.osdp_link.proofs.Moves.{Premises, being_busy, queueing, submitting, ticking}
-use Rattle.osdp_link.proofs.Once.{GoesOn}
+use Rattle.osdp_link_laws.specs.Headline.{IsMove}
+use Rattle.osdp_link_laws.specs.Link as link
+use Rattle.osdp_link_laws.specs.Link.{Delivered, Delivery, Link, Lost, Move, Queue as QueueEvent, Reopen, Repeated, SetBusy, Submit, Tick, ToController, ToReader, after_move}
+use Rattle.osdp_link_laws.proofs.Advancing.{HoldsAtSomeStage}
+use Rattle.osdp_link_laws.proofs.Deliveries.{coming_to_controller, coming_to_reader}
+use Rattle.osdp_link_laws.proofs.Lines.{both}
+use Rattle.osdp_link_laws.proofs.Moves.{Premises, being_busy, queueing, submitting, ticking}
+use Rattle.osdp_link_laws.proofs.Once.{GoesOn}
 
 -- these commands wait in front of the others
 abbrev pub waited : {H : Type 0} → List Command → Link H → Link H

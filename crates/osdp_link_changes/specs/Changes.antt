@@ -12,10 +12,10 @@ use Rattle.osdp_reader.specs.declared.kind.Kind.TheVariants as kind
 use Rattle.osdp_reader.specs.State as readers
 use Rattle.osdp_reader.specs.State.{ReaderState}
 use Rattle.osdp_reader.specs.Table as reader
-use Rattle.osdp_link.specs.Headline.{IsMove}
-use Rattle.osdp_link.specs.Link as link
-use Rattle.osdp_link.specs.Link.{Account, Delivered, Delivery, Link, Lost, Move, Queue, Reopen, Repeated, SetBusy, Submit, Tick, ToController, ToReader}
-use Rattle.osdp_link.specs.Sessions.{submitted, queued}
+use Rattle.osdp_link_laws.specs.Headline.{IsMove}
+use Rattle.osdp_link_laws.specs.Link as link
+use Rattle.osdp_link_laws.specs.Link.{Account, Delivered, Delivery, Link, Lost, Move, Queue, Reopen, Repeated, SetBusy, Submit, Tick, ToController, ToReader}
+use Rattle.osdp_link_laws.specs.Sessions.{submitted, queued}
 use Rattle.osdp_msg.specs.declared.event.Event.{Event}
 
 -- a move of the link, another handler of the device, and a command withdrawn

@@ -3,9 +3,9 @@ use Rattle.std.specs.Prelude.{◌≡◌, List, [], ◌∷◌}
 use Rattle.osdp_msg.specs.declared.command.Command.{Command}
 use Rattle.osdp_reader.specs.declared.config.ReaderConfig.{ReaderConfig}
 use Rattle.osdp_reader.specs.declared.handler.Answer.{Answer}
-use Rattle.osdp_link.specs.Headline.{Begins, handler_after, with_answers}
-use Rattle.osdp_link.specs.Link as link
-use Rattle.osdp_link.specs.Link.{Link, Move}
+use Rattle.osdp_link_laws.specs.Headline.{Begins, handler_after, with_answers}
+use Rattle.osdp_link_laws.specs.Link as link
+use Rattle.osdp_link_laws.specs.Link.{Link, Move}
 use Rattle.osdp_link_changes.specs.Changes.{AreChanges, Change, Moves, Session, Withdraw, run, sessions, unchanged}
 use Rattle.osdp_link_changes.specs.Sessions.{accounts}
 

@@ -7,9 +7,9 @@ use Rattle.osdp_msg.specs.declared.reply.Reply.{Reply}
 use Rattle.osdp_controller.specs.declared.state.State.{State}
 use Rattle.osdp_controller.specs.declared.state.State.TheVariants.{Closed}
 use Rattle.osdp_reader.specs.declared.handler.Answer.{Answer}
-use Rattle.osdp_link.specs.Headline.{Begins, IsBeginning}
-use Rattle.osdp_link.specs.Link.{Account, Link}
-use Rattle.osdp_link.specs.Sessions.{HaveLeft, Leaves, settled_commands}
+use Rattle.osdp_link_laws.specs.Headline.{Begins, IsBeginning}
+use Rattle.osdp_link_laws.specs.Link.{Account, Link}
+use Rattle.osdp_link_laws.specs.Sessions.{HaveLeft, Leaves, settled_commands}
 use Rattle.osdp_link_changes.specs.Changes.{AreChanges, Change, Session, all_queued, all_submitted, run, session, sessions, unchanged}
 
 -- the commands taken are a beginning of those issued; the reader gave an answer to each of them; the settled ones are a beginning of
@@ -66,7 +66,7 @@ module _ {H : Type 0} (answer_of : H → Command → Answer) (after : H → Comm
       × LastsOrLeaves s.link.controller.session.state (session s) s.link.controller.waiting s.link.reader.queue.events
 
   -- each command that waited at first or was accepted since has one place: settled or told unsettled by a session, withdrawn after it,
-  -- or behind all of these with the last one
+  -- or after all of these with the last one
   abbrev pub CommandsHavePlaces : Type 0
   CommandsHavePlaces = (l : Link H) (changes : List (Change H)) → Begins l → AreChanges answer_of after changes (unchanged l)
       → let s = run answer_of after changes (unchanged l) in

@@ -1,5 +1,5 @@
 //! The theory of one link whose device changes its state between packets, and whose user withdraws commands between sessions. The
-//! functions do nothing: their contracts are laws. Without these two changes a link is that of `osdp_link`, and its laws hold of it.
+//! functions do nothing: their contracts are laws. Without these two changes a link is that of `osdp_link_laws`, and its laws hold of it.
 #![tactic(auto)]
 
 ghost use Rattle.osdp_link_changes.specs.Handlers.{GivesItsAnswers, MovesAsBefore};
@@ -12,7 +12,7 @@ use osdp_reader::Handler;
 pub fn holds_once<H: Handler>()
     ensures { HoldsOnce H.answer_of H.after }
 {
-    osdp_link::read_each_other::<H>();
+    osdp_link_laws::read_each_other::<H>();
 }
 
 /// Over sessions in a row each accepted command has one place, by place and not by value: settled, told unsettled, withdrawn, or with the
@@ -22,7 +22,7 @@ pub fn sessions_in_a_row<H: Handler>()
     ensures commands { CommandsHavePlaces H.answer_of H.after }
     ensures events { EventsHavePlaces H.answer_of H.after }
 {
-    osdp_link::read_each_other::<H>();
+    osdp_link_laws::read_each_other::<H>();
 }
 
 /// Where the device never changes its state, the answers given are the configuration's to ID, CAP and COMSET, and the handler's to all
@@ -30,10 +30,10 @@ pub fn sessions_in_a_row<H: Handler>()
 pub fn gives_its_answers<H: Handler>()
     ensures { GivesItsAnswers H.answer_of H.after }
 {
-    osdp_link::read_each_other::<H>();
+    osdp_link_laws::read_each_other::<H>();
 }
 
-/// Where it never does, and no command is withdrawn, the link is the one of `osdp_link`, whose laws hold of it.
+/// Where it never does, and no command is withdrawn, the link is the one of `osdp_link_laws`, whose laws hold of it.
 pub fn moves_as_before<H: Handler>()
     ensures { MovesAsBefore H.answer_of H.after }
 {}

@@ -221,7 +221,7 @@ fn polls(rt: &impl Abort, controller: &mut Controller, now: u64, poll: &str, ack
     passes_by(rt, controller, ack, now);
 }
 
-/// The fourth exchange behind the opening goes by number 1 again.
+/// The fourth exchange after the opening goes by number 1 again.
 #[test]
 fn numbers_take_turns(rt: HostRuntime) {
     let mut controller = opened(&rt, rt.alloc());
@@ -256,7 +256,7 @@ fn a_reader_that_is_always_busy(rt: HostRuntime) {
     has_sent(&rt, &controller, 0);
 }
 
-/// Three frames go out, and the tick behind the third NAK 1 ends the session.
+/// Three frames go out, and the tick after the third NAK 1 ends the session.
 #[test]
 fn a_reader_that_finds_damage(rt: HostRuntime) {
     let mut controller = opened(&rt, rt.alloc());

@@ -1,4 +1,4 @@
-//! The door behind a reader, by packets.
+//! The door after a reader, by packets.
 
 use crate::identity::IDENTITY;
 use crate::packets::is_spelled;

@@ -5,14 +5,14 @@ use osdp_door::Door;
 /// The laws of one link hold with a door as the reader.
 #[test]
 fn a_session_holds_with_a_door(_rt: HostRuntime) {
-    osdp_link::holds_once::<Door>();
-    osdp_link::sessions_in_a_row::<Door>();
-    osdp_link::says_all_plainly::<Door>();
-    osdp_link::refuses_no_number::<Door>();
-    osdp_link::stay_where_they_are::<Door>();
-    osdp_link::comes_through::<Door>();
-    osdp_link::comes_through_in_time::<Door>();
-    osdp_link::goes_in_turn::<Door>();
+    osdp_link_laws::holds_once::<Door>();
+    osdp_link_laws::sessions_in_a_row::<Door>();
+    osdp_link_laws::says_all_plainly::<Door>();
+    osdp_link_laws::refuses_no_number::<Door>();
+    osdp_link_laws::stay_where_they_are::<Door>();
+    osdp_link_laws::comes_through::<Door>();
+    osdp_link_laws::comes_through_in_time::<Door>();
+    osdp_link_laws::goes_in_turn::<Door>();
 }
 
 /// They hold too where the door's inputs change and commands are withdrawn.

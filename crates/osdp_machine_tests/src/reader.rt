@@ -125,7 +125,7 @@ fn is_answered(rt: &impl Abort, reader: &mut Reader<Bench>, row: &str) {
     }
 }
 
-/// The packets of these rows are answered one behind the other.
+/// The packets of these rows are answered one after the other.
 fn are_answered(rt: &impl Abort, reader: &mut Reader<Bench>, rows: &str) {
     for row in rows.lines() {
         is_answered(rt, reader, row);
@@ -231,12 +231,12 @@ fn a_busy_reader_takes_nothing_but_repeats(rt: HostRuntime) {
     is_answered(&rt, &mut reader, "5305070002603F Taken 538507000240DF");
 }
 
-/// The row of a COMSET to address 7 moves a reader, which is silent to the row behind it, and hears the last one.
-fn is_moved(rt: &impl Abort, reader: &mut Reader<Bench>, comset: &str, behind: &str) {
+/// The row of a COMSET to address 7 moves a reader, which is silent to the row after it, and hears the last one.
+fn is_moved(rt: &impl Abort, reader: &mut Reader<Bench>, comset: &str, later: &str) {
     is_answered(rt, reader, comset);
     assert_eq!(rt; reader.address().get(), 7);
     is_spelled(rt, reader.stored(), "none");
-    are_answered(rt, reader, behind);
+    are_answered(rt, reader, later);
 }
 
 /// POLL 2 to address 5, and to 7.

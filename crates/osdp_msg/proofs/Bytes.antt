@@ -12,7 +12,7 @@ abbrev pub cells_from : ℕ → ℕ → List ℕ → List ℕ
 cells_from n zero bs = []
 cells_from n (suc k) bs = get_or bs n 0 ∷ cells_from (suc n) k bs
 
--- a list from place n on is its next elements, and what stands behind them
+-- a list from place n on is its next elements, and what stands after them
 pub cells : (k n : ℕ) (bs : List ℕ) → n + k ≤ length bs → drop n bs ≡ cells_from n k bs ++ drop (n + k) bs
 cells zero n bs le = ap (λ (i : ℕ). drop i bs) (sym (add-zero n))
 cells (suc k) n bs le =

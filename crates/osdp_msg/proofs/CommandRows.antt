@@ -41,16 +41,16 @@ led_again r rest fits =
 led_takes : (bs : List ℕ) → 14 ≤ length bs → IsBytes bs → bs ≡ led_data (led_at bs) ++ drop 14 bs
 led_takes bs le h =
     let front = get_or bs 0 0 ∷ get_or bs 1 0 ∷ get_or bs 2 0 ∷ get_or bs 3 0 ∷ get_or bs 4 0 ∷ get_or bs 5 0 ∷ get_or bs 6 0 ∷ [] in
-    let behind = get_or bs 9 0 ∷ get_or bs 10 0 ∷ get_or bs 11 0 ∷ get_or bs 12 0 ∷ get_or bs 13 0 ∷ [] in
-    cells 14 0 bs le ∙ ap (λ (timer : List ℕ). ((front ++ timer) ++ behind) ++ drop 14 bs) (sym (number_2_at 7 bs h))
+    let later = get_or bs 9 0 ∷ get_or bs 10 0 ∷ get_or bs 11 0 ∷ get_or bs 12 0 ∷ get_or bs 13 0 ∷ [] in
+    cells 14 0 bs le ∙ ap (λ (timer : List ℕ). ((front ++ timer) ++ later) ++ drop 14 bs) (sym (number_2_at 7 bs h))
 
 led_spells : (r : LedRecord) → LedFits r → IsBytes (led_data r)
 led_spells r fits =
     let front = r.reader ∷ r.led ∷ r.temporary_control ∷ r.temporary_on_time ∷ r.temporary_off_time ∷ r.temporary_on_color ∷ r.temporary_off_color ∷ [] in
-    let behind = r.permanent_control ∷ r.permanent_on_time ∷ r.permanent_off_time ∷ r.permanent_on_color ∷ r.permanent_off_color ∷ [] in
+    let later = r.permanent_control ∷ r.permanent_on_time ∷ r.permanent_off_time ∷ r.permanent_on_color ∷ r.permanent_off_color ∷ [] in
     let front_bytes : IsBytes front = IsBytes-each front (fits.reader, (fits.led, (fits.temporary_control, (fits.temporary_on_time, (fits.temporary_off_time, (fits.temporary_on_color, (fits.temporary_off_color, tt))))))) in
-    let behind_bytes : IsBytes behind = IsBytes-each behind (fits.permanent_control, (fits.permanent_on_time, (fits.permanent_off_time, (fits.permanent_on_color, (fits.permanent_off_color, tt))))) in
-    IsBytes-append (front ++ little_bytes 2 r.timer) behind (IsBytes-append front (little_bytes 2 r.timer) front_bytes (IsBytes-little_2 r.timer)) behind_bytes
+    let after_bytes : IsBytes later = IsBytes-each later (fits.permanent_control, (fits.permanent_on_time, (fits.permanent_off_time, (fits.permanent_on_color, (fits.permanent_off_color, tt))))) in
+    IsBytes-append (front ++ little_bytes 2 r.timer) later (IsBytes-append front (little_bytes 2 r.timer) front_bytes (IsBytes-little_2 r.timer)) after_bytes
 
 pub leds : IsRecord 14 led_data LedFits led_at
 leds = record {

@@ -1,4 +1,4 @@
--- The rows of the texts of commands: what is read behind a row's name is what the row's value is made of.
+-- The rows of the texts of commands: what is read after a row's name is what the row's value is made of.
 use Rattle.std.proofs.Common.{◌≡◌, ◌<◌, ◌^◌, ℕ, [], ◌∷◌, codes, refl}
 use Rattle.osdp_words.specs.Word.{number}
 use Rattle.osdp_msg.specs.declared.command.Command.{Command}

@@ -353,7 +353,7 @@ module _ (given mid : List (List ℕ)) where
   value_of : (k : ℕ) → Takes number_words (IsBelow (2 ^ 8)) given mid (Some k) → (first : List (List ℕ)) × (given ≡ first ++ mid) × AllStandFor (number k ∷ []) first × (k < 2 ^ 8)
   value_of k t = t.value
 
-  -- the words of the reason, and those behind
+  -- the words of the reason, and those after
   stand_reason : (k : ℕ) (ws : List Word) → Takes number_words (IsBelow (2 ^ 8)) given mid (Some k) → AllStandFor ws mid → AllStandFor (number k ∷ ws) given
   stand_reason k ws t h = front (t.value.0) t.value.1 t.value.2
     where
@@ -380,14 +380,14 @@ module _ (given mid : List (List ℕ)) where
         ∙ ap (λ (d : ArrayVec ℕ). let made : Nak = record { reason = n.reason; detail = d } in Some made) (sym same);
   }
 
-  none_behind : (d : List ℕ) → AllStandFor (detail_words d) [] → d ≡ []
-  none_behind [] h = refl
-  none_behind (b ∷ bs) h = absurd h
+  none_after : (d : List ℕ) → AllStandFor (detail_words d) [] → d ≡ []
+  none_after [] h = refl
+  none_after (b ∷ bs) h = absurd h
 
   pub nak_alone : (k : ℕ) (r : Option Nak) → Takes number_words (IsBelow (2 ^ 8)) given mid (Some k) → mid ≡ []
       → r ≡ Some (record { reason = reason_of k; detail = record { items = [] } }) → ReadsWords nak_words NakFits given r
   nak_alone k r t end e =
-      rw e (nak_read k (record { items = [] }) t (rw end tt) (omega arith) (λ i. omega arith) (λ n fits stands. ap (λ (xs : List ℕ). let made : ArrayVec ℕ = record { items = xs } in made) (none_behind n.detail.items (rw end at stands))))
+      rw e (nak_read k (record { items = [] }) t (rw end tt) (omega arith) (λ i. omega arith) (λ n fits stands. ap (λ (xs : List ℕ). let made : ArrayVec ℕ = record { items = xs } in made) (none_after n.detail.items (rw end at stands))))
 
   -- the detail that was read
   detail_found : (d : List ℕ) (r : Option (ArrayVec ℕ)) (left : List (List ℕ)) → (mid ≡ [] → ⊥) → length d ≤ 1431 → IsBytes d → AllStandFor (detail_words d) mid

@@ -18,7 +18,7 @@ length-flat_map_size spelled size each (r ∷ rs) =
     let tail = length-flat_map_size spelled size each rs in
     ap length (flat_map-cons spelled r rs) ∙ length-append (spelled r) (flat_map spelled rs) ∙ omega (arith, head, tail, mul-suc size (length rs))
 
--- reading goes on behind each record
+-- reading goes on after each record
 pub records_more : {R : Type 0} (first : List ℕ → R) (size n i : ℕ) (read : List R) (left : List ℕ) (all : List R)
     → i < n → read ++ records_from first size (n - i) left ≡ all
     → (read ++ (first left ∷ [])) ++ records_from first size (n - (i + 1)) (drop size left) ≡ all

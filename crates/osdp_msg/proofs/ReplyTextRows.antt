@@ -1,4 +1,4 @@
--- The rows of the texts of replies: what is read behind a row's name is what the row's value is made of.
+-- The rows of the texts of replies: what is read after a row's name is what the row's value is made of.
 use Rattle.std.proofs.Common.{◌≡◌, codes, refl}
 use Rattle.osdp_msg.specs.declared.reply.Reply.{Reply}
 use Rattle.osdp_msg.specs.declared.reply.Reply.TheVariants.{LocalState, Com}

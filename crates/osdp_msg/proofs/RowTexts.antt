@@ -1,4 +1,4 @@
--- A row of texts: a name, and the words of the fields behind it.
+-- A row of texts: a name, and the words of the fields after it.
 use Rattle.std.proofs.Common.{◌≡◌, ℕ, Bool, true, false, ◌&&◌, eqb, List, [], ◌∷◌, length, Option, Some, None, refl, sym, ap, subst, ◌∙◌, arith}
 use Rattle.std.specs.Bool.{then_some}
 use Rattle.std.specs.Prelude.{IfSome, option_map}

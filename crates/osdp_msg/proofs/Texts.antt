@@ -4,7 +4,7 @@ use Rattle.std.specs.List.{flat_map}
 use Rattle.std.proofs.lemmas.List.Concat.{flat_map-cons}
 use Rattle.osdp_words.specs.Word.{Word, printed}
 
--- each record's word behind a space
+-- each record's word after a space
 pub flat_map-words : {R : Type 0} (word : R → Word) (rs : List R)
     → flat_map (λ w. codes " " ++ printed w) (map word rs) ≡ flat_map (λ r. 32 ∷ printed (word r)) rs
 flat_map-words word [] = refl

@@ -53,7 +53,7 @@ bytes_one g bs cs h k s t = let e = has_one_word g (bytes bs) (bytes cs) h k tt 
     same_bytes : (bs cs : List ℕ) → bytes bs ≡ bytes cs → bs ≡ cs
     same_bytes bs cs e = cc
 
--- what is left of the words behind some numbers
+-- what is left of the words after some numbers
 pub record Behind (ns ms : List ℕ) (ws vs : List Word) : Type 0 where
   pub same : ns ≡ ms
   pub rest : List (List ℕ)
@@ -123,31 +123,31 @@ unfolding led_rest
 led_one g r o h k s t = ap led_from (record_one g r.reader o.reader (led_rest r) (led_rest o) refl (led_small r h) (led_small o k) s t)
 
 -- a value whose words are numbers, which give it back
-none_behind : {X : Type 0} (given : List (List ℕ)) (numbers_of : X → List ℕ) (from : List ℕ → X) (x y : X) → length (numbers_of x) ≡ length (numbers_of y)
+none_after : {X : Type 0} (given : List (List ℕ)) (numbers_of : X → List ℕ) (from : List ℕ → X) (x y : X) → length (numbers_of x) ≡ length (numbers_of y)
     → AreSmall (numbers_of x) → AreSmall (numbers_of y) → AllStandFor (map number (numbers_of x) ++ []) given → AllStandFor (map number (numbers_of y) ++ []) given
     → from (numbers_of x) ≡ from (numbers_of y)
-none_behind given numbers_of from x y e h k s t = ap from (numbers_then given (numbers_of x) (numbers_of y) [] [] e h k s t).same
+none_after given numbers_of from x y e h k s t = ap from (numbers_then given (numbers_of x) (numbers_of y) [] [] e h k s t).same
 
 pub buzzer_one : (given : List (List ℕ)) (b c : Buzzer) → BuzzerFits b → BuzzerFits c → AllStandFor (buzzer_words b) given → AllStandFor (buzzer_words c) given → b ≡ c
 buzzer_one given b c h k s t =
-    none_behind given (λ (x : Buzzer). x.reader ∷ x.tone ∷ x.on_time ∷ x.off_time ∷ x.count ∷ []) buzzer_at b c refl (small b h) (small c k) s t
+    none_after given (λ (x : Buzzer). x.reader ∷ x.tone ∷ x.on_time ∷ x.off_time ∷ x.count ∷ []) buzzer_at b c refl (small b h) (small c k) s t
   where
     small : (x : Buzzer) → BuzzerFits x → AreSmall (x.reader ∷ x.tone ∷ x.on_time ∷ x.off_time ∷ x.count ∷ [])
     small x f = (byte x.reader f.0, (byte x.tone f.1, (byte x.on_time f.2, (byte x.off_time f.3, (byte x.count f.4, tt)))))
 
 pub communication_one : (given : List (List ℕ)) (b c : Communication) → CommunicationFits b → CommunicationFits c → AllStandFor (communication_words b) given → AllStandFor (communication_words c) given → b ≡ c
 communication_one given b c h k s t =
-    none_behind given (λ (x : Communication). x.address ∷ x.baud_rate ∷ []) (λ ns. communication_from (get_or ns 0 0, get_or ns 1 0)) b c refl (small b h) (small c k) s t
+    none_after given (λ (x : Communication). x.address ∷ x.baud_rate ∷ []) (λ ns. communication_from (get_or ns 0 0, get_or ns 1 0)) b c refl (small b h) (small c k) s t
   where
     small : (x : Communication) → CommunicationFits x → AreSmall (x.address ∷ x.baud_rate ∷ [])
     small x f = (byte x.address f.0, (word_4 x.baud_rate f.1, tt))
 
 pub local_state_one : (given : List (List ℕ)) (b c : LocalState) → LocalStateFits b → LocalStateFits c → AllStandFor (local_state_words b) given → AllStandFor (local_state_words c) given → b ≡ c
 local_state_one given b c h k s t =
-    none_behind given (λ (x : LocalState). x.tamper ∷ x.power ∷ []) local_state_at b c refl (byte b.tamper h.0, (byte b.power h.1, tt)) (byte c.tamper k.0, (byte c.power k.1, tt)) s t
+    none_after given (λ (x : LocalState). x.tamper ∷ x.power ∷ []) local_state_at b c refl (byte b.tamper h.0, (byte b.power h.1, tt)) (byte c.tamper k.0, (byte c.power k.1, tt)) s t
 
 pub byte_one : (given : List (List ℕ)) (a b : ℕ) → a < 256 → b < 256 → AllStandFor (number a ∷ []) given → AllStandFor (number b ∷ []) given → a ≡ b
-byte_one given a b h k s t = none_behind given (λ (x : ℕ). x ∷ []) (λ ns. get_or ns 0 0) a b refl (byte a h, tt) (byte b k, tt) s t
+byte_one given a b h k s t = none_after given (λ (x : ℕ). x ∷ []) (λ ns. get_or ns 0 0) a b refl (byte a h, tt) (byte b k, tt) s t
 
 abbrev numbers_of : Text → List ℕ
 numbers_of z = z.reader ∷ z.command ∷ z.time ∷ z.row ∷ z.column ∷ []
@@ -155,8 +155,8 @@ numbers_of z = z.reader ∷ z.command ∷ z.time ∷ z.row ∷ z.column ∷ []
 pub text_one : (given : List (List ℕ)) (x y : Text) → TextFits x → TextFits y → AllStandFor (text_words x) given → AllStandFor (text_words y) given → x ≡ y
 text_one given x y h k s t =
     let front = numbers_then given (numbers_of x) (numbers_of y) (bytes x.characters.items ∷ []) (bytes y.characters.items ∷ []) refl (small x h) (small y k) s t in
-    let behind = bytes_then front.rest x.characters.items y.characters.items [] [] h.characters k.characters front.first front.second in
-    ap (λ (ns : List ℕ). text_from (ns, x.characters)) front.same ∙ ap (λ (cs : List ℕ). text_from (numbers_of y, record { items = cs })) behind.same
+    let later = bytes_then front.rest x.characters.items y.characters.items [] [] h.characters k.characters front.first front.second in
+    ap (λ (ns : List ℕ). text_from (ns, x.characters)) front.same ∙ ap (λ (cs : List ℕ). text_from (numbers_of y, record { items = cs })) later.same
   where
     small : (z : Text) → TextFits z → AreSmall (z.reader ∷ z.command ∷ z.time ∷ z.row ∷ z.column ∷ [])
     small z f = (byte z.reader f.reader, (byte z.command f.command, (byte z.time f.time, (byte z.row f.row, (byte z.column f.column, tt)))))
@@ -164,8 +164,8 @@ text_one given x y h k s t =
 pub maker_one : (given : List (List ℕ)) (x y : MakerMessage) → MakerFits x → MakerFits y → AllStandFor (maker_words x) given → AllStandFor (maker_words y) given → x ≡ y
 maker_one given x y h k s t =
     let front = bytes_then given x.vendor y.vendor (bytes x.bytes.items ∷ []) (bytes y.bytes.items ∷ []) h.vendor k.vendor s t in
-    let behind = bytes_then front.rest x.bytes.items y.bytes.items [] [] h.bytes k.bytes front.first front.second in
-    ap (λ (v : List ℕ). maker_from (v, x.bytes)) front.same ∙ ap (λ (bs : List ℕ). maker_from (y.vendor, record { items = bs })) behind.same
+    let later = bytes_then front.rest x.bytes.items y.bytes.items [] [] h.bytes k.bytes front.first front.second in
+    ap (λ (v : List ℕ). maker_from (v, x.bytes)) front.same ∙ ap (λ (bs : List ℕ). maker_from (y.vendor, record { items = bs })) later.same
 
 -- ---- fields of replies
 
@@ -179,20 +179,20 @@ states_one given a b h k s t = ap (λ (xs : List ℕ). let made : ArrayVec ℕ =
 pub formatted_one : (given : List (List ℕ)) (x y : Formatted) → FormattedFits x → FormattedFits y → AllStandFor (formatted_words x) given → AllStandFor (formatted_words y) given → x ≡ y
 formatted_one given x y h k s t =
     let front = numbers_then given (x.reader ∷ x.direction ∷ []) (y.reader ∷ y.direction ∷ []) (bytes x.digits.items ∷ []) (bytes y.digits.items ∷ []) refl (byte x.reader h.reader, (byte x.direction h.direction, tt)) (byte y.reader k.reader, (byte y.direction k.direction, tt)) s t in
-    let behind = bytes_then front.rest x.digits.items y.digits.items [] [] h.digits k.digits front.first front.second in
-    ap (λ (ns : List ℕ). formatted_from (ns, x.digits)) front.same ∙ ap (λ (ds : List ℕ). formatted_from (y.reader ∷ y.direction ∷ [], record { items = ds })) behind.same
+    let later = bytes_then front.rest x.digits.items y.digits.items [] [] h.digits k.digits front.first front.second in
+    ap (λ (ns : List ℕ). formatted_from (ns, x.digits)) front.same ∙ ap (λ (ds : List ℕ). formatted_from (y.reader ∷ y.direction ∷ [], record { items = ds })) later.same
 
 pub keypad_one : (given : List (List ℕ)) (x y : Keypad) → KeypadFits x → KeypadFits y → AllStandFor (keypad_words x) given → AllStandFor (keypad_words y) given → x ≡ y
 keypad_one given x y h k s t =
     let front = numbers_then given (x.reader ∷ []) (y.reader ∷ []) (bytes x.digits.items ∷ []) (bytes y.digits.items ∷ []) refl (byte x.reader h.reader, tt) (byte y.reader k.reader, tt) s t in
-    let behind = bytes_then front.rest x.digits.items y.digits.items [] [] h.digits k.digits front.first front.second in
-    ap (λ (ns : List ℕ). keypad_from (get_or ns 0 0, x.digits)) front.same ∙ ap (λ (ds : List ℕ). keypad_from (y.reader, record { items = ds })) behind.same
+    let later = bytes_then front.rest x.digits.items y.digits.items [] [] h.digits k.digits front.first front.second in
+    ap (λ (ns : List ℕ). keypad_from (get_or ns 0 0, x.digits)) front.same ∙ ap (λ (ds : List ℕ). keypad_from (y.reader, record { items = ds })) later.same
 
 pub raw_one : (given : List (List ℕ)) (x y : RawCard) → RawFits x → RawFits y → AllStandFor (raw_words x) given → AllStandFor (raw_words y) given → x ≡ y
 raw_one given x y h k s t =
     let front = numbers_then given (x.reader ∷ x.format ∷ x.bits ∷ []) (y.reader ∷ y.format ∷ y.bits ∷ []) (bytes x.bytes ∷ []) (bytes y.bytes ∷ []) refl (byte x.reader h.reader, (byte x.format h.format, (word_2 x.bits h.bits, tt))) (byte y.reader k.reader, (byte y.format k.format, (word_2 y.bits k.bits, tt))) s t in
-    let behind = bytes_then front.rest x.bytes y.bytes [] [] h.bytes k.bytes front.first front.second in
-    ap (λ (ns : List ℕ). record x { reader = get_or ns 0 0; format = get_or ns 1 0; bits = get_or ns 2 0 }) front.same ∙ ap (λ (bs : List ℕ). record y { bytes = bs }) behind.same
+    let later = bytes_then front.rest x.bytes y.bytes [] [] h.bytes k.bytes front.first front.second in
+    ap (λ (ns : List ℕ). record x { reader = get_or ns 0 0; format = get_or ns 1 0; bits = get_or ns 2 0 }) front.same ∙ ap (λ (bs : List ℕ). record y { bytes = bs }) later.same
 
 abbrev pd_id_numbers : PdId → List ℕ
 pd_id_numbers p = p.model ∷ p.version ∷ p.serial ∷ p.firmware_major ∷ p.firmware_minor ∷ p.firmware_build ∷ []
@@ -203,8 +203,8 @@ pd_id_of v ns = record { vendor = v; model = get_or ns 0 0; version = get_or ns 
 pub pd_id_one : (given : List (List ℕ)) (x y : PdId) → PdIdFits x → PdIdFits y → AllStandFor (pd_id_words x) given → AllStandFor (pd_id_words y) given → x ≡ y
 pd_id_one given x y h k s t =
     let front = bytes_then given x.vendor y.vendor (map number (pd_id_numbers x)) (map number (pd_id_numbers y)) h.vendor k.vendor s t in
-    let behind = numbers_then front.rest (pd_id_numbers x) (pd_id_numbers y) [] [] refl (pd_id_small x h) (pd_id_small y k) front.first front.second in
-    ap (λ (v : List ℕ). pd_id_of v (pd_id_numbers x)) front.same ∙ ap (λ (ns : List ℕ). pd_id_of y.vendor ns) behind.same
+    let later = numbers_then front.rest (pd_id_numbers x) (pd_id_numbers y) [] [] refl (pd_id_small x h) (pd_id_small y k) front.first front.second in
+    ap (λ (v : List ℕ). pd_id_of v (pd_id_numbers x)) front.same ∙ ap (λ (ns : List ℕ). pd_id_of y.vendor ns) later.same
   where
     pd_id_small : (p : PdId) → PdIdFits p → AreSmall (p.model ∷ p.version ∷ p.serial ∷ p.firmware_major ∷ p.firmware_minor ∷ p.firmware_build ∷ [])
     pd_id_small p f = (byte p.model f.model, (byte p.version f.version, (word_4 p.serial f.serial, (byte p.firmware_major f.firmware_major, (byte p.firmware_minor f.firmware_minor, (byte p.firmware_build f.firmware_build, tt))))))

@@ -1,4 +1,4 @@
--- Behind a call or a tick nobody else is at the address of what is on the line.
+-- After a call or a tick nobody else is at the address of what is on the line.
 use Rattle.std.proofs.Common.{◌≡◌, ◌⊎◌, ℕ, Bool, true, false, cond, List, [], ◌∷◌, ◌++◌, Option, Some, None, IfSome, refl, subst, inl, inr}
 use Rattle.std.specs.Prelude.{is_some}
 use Rattle.osdp_frame.specs.Packet.{Packet}
@@ -10,8 +10,8 @@ use Rattle.osdp_controller.specs.Machine as controllers
 use Rattle.osdp_controller.specs.Sessions.{seen}
 use Rattle.osdp_controller.specs.declared.fault.ControllerFault.{ControllerFault}
 use Rattle.osdp_reader.specs.declared.handler.Answer.{Answer}
-use Rattle.osdp_link.specs.Names.{IsName, MovesController, MovesReader, asked_for}
-use Rattle.osdp_link.proofs.Reserved.{tick_frees_none}
+use Rattle.osdp_link_laws.specs.Names.{IsName, MovesController, MovesReader, asked_for}
+use Rattle.osdp_link_laws.proofs.Reserved.{tick_frees_none}
 use Rattle.osdp_multidrop.specs.Apart.{IsNameOf}
 use Rattle.osdp_multidrop.specs.Line as line
 use Rattle.osdp_multidrop.specs.Line.{Net, Site, address_of, changed, is_comset_refused, is_taken_beside, queues, site_at, submits, tagged, ticks_of}

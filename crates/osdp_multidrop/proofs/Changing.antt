@@ -3,7 +3,7 @@ use Rattle.std.proofs.Common.{◌≡◌, ◌≢◌, ◌⊎◌, ℕ, zero, suc, B
 use Rattle.std.proofs.lemmas.Bool.Decides.{eqb_tells}
 use Rattle.std.specs.Prelude.{◌==◌, ◌||◌, map}
 use Rattle.osdp_frame.specs.Packet.{Packet}
-use Rattle.osdp_link.proofs.Numbers.{is_true}
+use Rattle.osdp_link_laws.proofs.Numbers.{is_true}
 use Rattle.osdp_multidrop.specs.Apart.{IsNameOf}
 use Rattle.osdp_multidrop.specs.Line.{Site, address_of, changed, first_gets, gets, is_reserved, is_taken, is_taken_beside, site_at, takes_up}
 use Rattle.osdp_multidrop.proofs.Apart.{AllStay, EndsGo, IsSited, NamesGo, Never, reader_address}

@@ -1,4 +1,4 @@
--- Behind a delivery nobody else is at the address of what is on the line.
+-- After a delivery nobody else is at the address of what is on the line.
 use Rattle.std.proofs.Common.{◌≡◌, ◌≢◌, ◌⊎◌, ◌<◌, ◌+◌, ℕ, zero, suc, List, [], ◌∷◌, ◌++◌, Option, Some, None, IfSome, refl, sym, subst, ap, ◌∙◌, inl, inr, arith}
 use Rattle.std.proofs.lemmas.Bool.Decides.{eqb_tells}
 use Rattle.std.proofs.lemmas.List.{append-nil}
@@ -11,12 +11,12 @@ use Rattle.osdp_controller.specs.Answers.{answer_of as said_by}
 use Rattle.osdp_controller.specs.Hearing as controller
 use Rattle.osdp_reader.specs.Table as reader
 use Rattle.osdp_reader.specs.declared.handler.Answer.{Answer}
-use Rattle.osdp_link.specs.Names.{MovesController, MovesReader, freed_by}
-use Rattle.osdp_link.specs.Peers.{ReadsWhatIsAnswered}
-use Rattle.osdp_link.proofs.ControllerNames.{HeardWell, StaysHere, heard_well}
-use Rattle.osdp_link.proofs.ReaderNames.{IsFrom, KeepsStill, ReaderWell, reader_well}
-use Rattle.osdp_link.proofs.Reserved.{One, asked_in}
-use Rattle.osdp_link.proofs.Stages.{Each}
+use Rattle.osdp_link_laws.specs.Names.{MovesController, MovesReader, freed_by}
+use Rattle.osdp_link_laws.specs.Peers.{ReadsWhatIsAnswered}
+use Rattle.osdp_link_laws.proofs.ControllerNames.{HeardWell, StaysHere, heard_well}
+use Rattle.osdp_link_laws.proofs.ReaderNames.{IsFrom, KeepsStill, ReaderWell, reader_well}
+use Rattle.osdp_link_laws.proofs.Reserved.{One, asked_in}
+use Rattle.osdp_link_laws.proofs.Stages.{Each}
 use Rattle.osdp_multidrop.specs.Apart.{IsNameOf}
 use Rattle.osdp_multidrop.specs.Line as line
 use Rattle.osdp_multidrop.specs.Line.{Net, Site, address_of, first_gets, gets, said_from, site_at, tagged}

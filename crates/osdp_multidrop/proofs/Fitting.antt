@@ -9,11 +9,11 @@ use Rattle.osdp_controller.specs.Hearing.{comset_of}
 use Rattle.osdp_controller.specs.Machine as controllers
 use Rattle.osdp_controller.specs.declared.fault.ControllerFault.{ControllerFault}
 use Rattle.osdp_reader.specs.declared.handler.Answer.{Answer}
-use Rattle.osdp_link.specs.Headline.{AreMoves, IsMove, SaysWhatFitsIf}
-use Rattle.osdp_link.specs.Link as link
-use Rattle.osdp_link.specs.Link.{Delivered, Delivery, Lost, Move, Repeated}
-use Rattle.osdp_link.specs.Names.{MayAsk, MayMove, MayMoves}
-use Rattle.osdp_link.proofs.Lines.{both}
+use Rattle.osdp_link_laws.specs.Headline.{AreMoves, IsMove, SaysWhatFitsIf}
+use Rattle.osdp_link_laws.specs.Link as link
+use Rattle.osdp_link_laws.specs.Link.{Delivered, Delivery, Lost, Move, Repeated}
+use Rattle.osdp_link_laws.specs.Names.{MayAsk, MayMove, MayMoves}
+use Rattle.osdp_link_laws.proofs.Lines.{both}
 use Rattle.osdp_multidrop.specs.Line as line
 use Rattle.osdp_multidrop.specs.Line.{Net, NetMove, Queue, Reopen, SetBusy, Site, Submit, Tick, ToControllers, ToReaders, address_of, after_net, changed, is_comset_refused, site_at, submits}
 use Rattle.osdp_multidrop.specs.Runs.{IsNetMove, in_front}

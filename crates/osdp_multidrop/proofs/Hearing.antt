@@ -8,9 +8,9 @@ use Rattle.osdp_msg.specs.declared.command.Command.{Command}
 use Rattle.osdp_reader.specs.Table as reader
 use Rattle.osdp_reader.specs.Table.{outcome}
 use Rattle.osdp_reader.specs.declared.handler.Answer.{Answer}
-use Rattle.osdp_link.specs.Link as link
-use Rattle.osdp_link.proofs.Numbers.{is_false, is_true}
-use Rattle.osdp_link.proofs.ReaderNames.{for_reader}
+use Rattle.osdp_link_laws.specs.Link as link
+use Rattle.osdp_link_laws.proofs.Numbers.{is_false, is_true}
+use Rattle.osdp_link_laws.proofs.ReaderNames.{for_reader}
 use Rattle.osdp_multidrop.specs.Line.{Site, address_of, first_gets, gets, hears, said_from, site_at, tagged}
 use Rattle.osdp_multidrop.specs.Views.{own}
 use Rattle.osdp_multidrop.proofs.Sites.{own_append, own_mine, own_others}

@@ -8,15 +8,15 @@ use Rattle.osdp_controller.specs.declared.session.Session.{Session}
 use Rattle.osdp_controller.specs.declared.state.State.{State}
 use Rattle.osdp_controller.specs.declared.state.State.TheVariants.{Closed, Quiet, Idle, Waiting, Pausing}
 use Rattle.osdp_reader.specs.declared.handler.Answer.{Answer}
-use Rattle.osdp_link.specs.Headline.{AreMoves}
-use Rattle.osdp_link.specs.Link.{Link, Move, run}
-use Rattle.osdp_link.specs.Names.{IsCommandTo, MayMoves, MovesController, MovesReader}
-use Rattle.osdp_link.specs.Peers.{ReadEachOther}
-use Rattle.osdp_link.proofs.InARow.{Stands, assumed, running}
-use Rattle.osdp_link.proofs.Lines.{both, each_map, each_of}
-use Rattle.osdp_link.proofs.Naming.{Keeps, keeps_all}
-use Rattle.osdp_link.proofs.OneDevice.{standing_names}
-use Rattle.osdp_link.proofs.Stages.{Each}
+use Rattle.osdp_link_laws.specs.Headline.{AreMoves}
+use Rattle.osdp_link_laws.specs.Link.{Link, Move, run}
+use Rattle.osdp_link_laws.specs.Names.{IsCommandTo, MayMoves, MovesController, MovesReader}
+use Rattle.osdp_link_laws.specs.Peers.{ReadEachOther}
+use Rattle.osdp_link_laws.proofs.InARow.{Stands, assumed, running}
+use Rattle.osdp_link_laws.proofs.Lines.{both, each_map, each_of}
+use Rattle.osdp_link_laws.proofs.Naming.{Keeps, keeps_all}
+use Rattle.osdp_link_laws.proofs.OneDevice.{standing_names}
+use Rattle.osdp_link_laws.proofs.Stages.{Each}
 use Rattle.osdp_multidrop.specs.Apart.{IsNameOf}
 use Rattle.osdp_multidrop.specs.Line.{Net, Site, site_at}
 use Rattle.osdp_multidrop.specs.Views.{IsMoved, own, view}

@@ -3,13 +3,13 @@ use Rattle.std.proofs.Common.{◌≡◌, ℕ, List, [], ◌∷◌, ◌++◌, Opt
 use Rattle.osdp_msg.specs.declared.command.Command.{Command}
 use Rattle.osdp_msg.specs.declared.event.Event.{Event}
 use Rattle.osdp_reader.specs.declared.handler.Answer.{Answer}
-use Rattle.osdp_link.specs.Headline.{AreMoves, AreOnce, HoldsOnce}
-use Rattle.osdp_link.specs.Link as link
-use Rattle.osdp_link.specs.Link.{Link, Move}
-use Rattle.osdp_link.specs.Names.{reserved_after, reserved_behind}
-use Rattle.osdp_link.specs.Peers.{ReadEachOther}
-use Rattle.osdp_link.specs.Refusals.{RefusesNoNumber}
-use Rattle.osdp_link.specs.Sessions.{AreInARow, CommandsHavePlaces, EventsHavePlaces, HaveLeft, LastOneLasts, LastsOrLeaves, StayInARow, all_queued, all_submitted, told_in}
+use Rattle.osdp_link_laws.specs.Headline.{AreMoves, AreOnce, HoldsOnce}
+use Rattle.osdp_link_laws.specs.Link as link
+use Rattle.osdp_link_laws.specs.Link.{Link, Move}
+use Rattle.osdp_link_laws.specs.Names.{reserved_after, reserved_after_moves}
+use Rattle.osdp_link_laws.specs.Peers.{ReadEachOther}
+use Rattle.osdp_link_laws.specs.Refusals.{RefusesNoNumber}
+use Rattle.osdp_link_laws.specs.Sessions.{AreInARow, CommandsHavePlaces, EventsHavePlaces, HaveLeft, LastOneLasts, LastsOrLeaves, StayInARow, all_queued, all_submitted, told_in}
 use Rattle.osdp_multidrop.specs.Line.{Net, NetMove, Site, after_net, run, site_at}
 use Rattle.osdp_multidrop.specs.Runs.{AreNetMoves, EachHoldsOnce, EachIsALink, EachRefusesNoNumber, EachStaysInARow, IsItsLink, moves_at, moves_of}
 use Rattle.osdp_multidrop.specs.Views.{IsMoved, move_of, view}
@@ -27,7 +27,7 @@ module _ {H : Type 0} (answer_of : H → Command → Answer) (after : H → Comm
   run_more (m ∷ ms) more l = run_more ms more (link.after_move answer_of after m l)
 
   reserved_more : (ms more : List Move) (l : Link H) (r : Option ℕ)
-      → reserved_behind answer_of after (ms ++ more) l r ≡ reserved_behind answer_of after more (link.run answer_of after ms l) (reserved_behind answer_of after ms l r)
+      → reserved_after_moves answer_of after (ms ++ more) l r ≡ reserved_after_moves answer_of after more (link.run answer_of after ms l) (reserved_after_moves answer_of after ms l r)
   reserved_more [] more l r = refl
   reserved_more (m ∷ ms) more l r = reserved_more ms more (link.after_move answer_of after m l) (reserved_after m l r)
 
@@ -44,8 +44,8 @@ module _ {H : Type 0} (answer_of : H → Command → Answer) (after : H → Comm
     there = rest.there;
     moved = rest.moved ∙ ap (link.run answer_of after more) m.moved ∙ sym (run_more ms more (view k s n));
     reserved = rest.reserved
-        ∙ ap (λ l. reserved_behind answer_of after more l m.site.reserved) m.moved
-        ∙ ap (reserved_behind answer_of after more (link.run answer_of after ms (view k s n))) m.reserved
+        ∙ ap (λ l. reserved_after_moves answer_of after more l m.site.reserved) m.moved
+        ∙ ap (reserved_after_moves answer_of after more (link.run answer_of after ms (view k s n))) m.reserved
         ∙ sym (reserved_more ms more (view k s n) s.reserved);
   }
 

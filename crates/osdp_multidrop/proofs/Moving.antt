@@ -11,13 +11,13 @@ use Rattle.osdp_controller.specs.Machine as controllers
 use Rattle.osdp_controller.specs.declared.fault.ControllerFault.{ControllerFault}
 use Rattle.osdp_reader.specs.State as readers
 use Rattle.osdp_reader.specs.declared.handler.Answer.{Answer}
-use Rattle.osdp_link.specs.Link as link
-use Rattle.osdp_link.specs.Link.{Delivered, Delivery, Lost, Move, Repeated}
-use Rattle.osdp_link.specs.Names.{accepted_for, freed_by, reserved_after, reserved_behind}
-use Rattle.osdp_link.specs.Refusals.{told_by_front}
-use Rattle.osdp_link.proofs.Lines.{each_of}
-use Rattle.osdp_link.proofs.Numbers.{is_false, is_true}
-use Rattle.osdp_link.proofs.Stages.{Each}
+use Rattle.osdp_link_laws.specs.Link as link
+use Rattle.osdp_link_laws.specs.Link.{Delivered, Delivery, Lost, Move, Repeated}
+use Rattle.osdp_link_laws.specs.Names.{accepted_for, freed_by, reserved_after, reserved_after_moves}
+use Rattle.osdp_link_laws.specs.Refusals.{told_by_front}
+use Rattle.osdp_link_laws.proofs.Lines.{each_of}
+use Rattle.osdp_link_laws.proofs.Numbers.{is_false, is_true}
+use Rattle.osdp_link_laws.proofs.Stages.{Each}
 use Rattle.osdp_multidrop.specs.Line as line
 use Rattle.osdp_multidrop.specs.Line.{Net, NetMove, Queue, Reopen, SetBusy, Site, Submit, Tick, ToControllers, ToReaders, address_of, after_net, changed, first_gets, is_comset_refused, queues, said_from, site_at, submits, tagged, ticks_of}
 use Rattle.osdp_multidrop.specs.Views.{EachMoveIsItsOwn, HeardByOwn, IsMoved, front_to_controller, front_to_reader, link_of, move_of, one_if, own, view}
@@ -46,7 +46,7 @@ module _ {H : Type 0} (answer_of : H → Command → Answer) (after : H → Comm
     moved = ap (λ ps. link_of s ps (own k next.to_controllers)) here
         ∙ ap (λ qs. link_of s (own k n.to_readers) qs) there
         ∙ sym (ap (λ l. link.run answer_of after l (view k s n)) none);
-    reserved = sym (ap (λ l. reserved_behind answer_of after l (view k s n) s.reserved) none);
+    reserved = sym (ap (λ l. reserved_after_moves answer_of after l (view k s n) s.reserved) none);
   }
 
   -- a site changes, and nothing on the line
@@ -60,7 +60,7 @@ module _ {H : Type 0} (answer_of : H → Command → Answer) (after : H → Comm
           site = change s;
           there = at_changed k (change s) s n.sites is;
           moved = same ∙ sym (ap (λ l. link.run answer_of after l (view k s n)) (one_is k k m refl));
-          reserved = kept ∙ sym (ap (λ l. reserved_behind answer_of after l (view k s n) s.reserved) (one_is k k m refl));
+          reserved = kept ∙ sym (ap (λ l. reserved_after_moves answer_of after l (view k s n) s.reserved) (one_is k k m refl));
         }))
         | inr differs ↦ elsewhere (site_at i n.sites) differs.1
       ]
@@ -102,7 +102,7 @@ module _ {H : Type 0} (answer_of : H → Command → Answer) (after : H → Comm
         there = at_changed k (submits fault c s) s n.sites is;
         moved = submitted fault c k s n ∙ sym (ap (λ l. link.run answer_of after l (view k s n)) (one_is k k (link.Submit c) refl));
         reserved = keeps_asked fault c s
-            ∙ sym (ap (λ l. reserved_behind answer_of after l (view k s n) s.reserved) (one_is k k (link.Submit c) refl));
+            ∙ sym (ap (λ l. reserved_after_moves answer_of after l (view k s n) s.reserved) (one_is k k (link.Submit c) refl));
       }
 
   submits_elsewhere : (i k : ℕ) (s : Site H) (c : Command) (n : Net H) (o : Option (Site H)) (mine : Bool) → i ≢ k → site_at k n.sites ≡ Some s
@@ -160,7 +160,7 @@ module _ {H : Type 0} (answer_of : H → Command → Answer) (after : H → Comm
                   (own_append k n.to_readers (tagged k (ticks_of now s).step.frame)
                   ∙ ap (λ l. own k n.to_readers ++ l) (own_mine k (ticks_of now s).step.frame))
                   ∙ sym (ap (λ l. link.run answer_of after l (view k s n)) (one_is k k (link.Tick now) refl));
-              reserved = sym (ap (λ l. reserved_behind answer_of after l (view k s n) s.reserved) (one_is k k (link.Tick now) refl));
+              reserved = sym (ap (λ l. reserved_after_moves answer_of after l (view k s n) s.reserved) (one_is k k (link.Tick now) refl));
             }))
         | inr differs ↦ ticks_elsewhere i k s now n (site_at i n.sites) differs.1 is
       ]
@@ -216,8 +216,8 @@ module _ {H : Type 0} (answer_of : H → Command → Answer) (after : H → Comm
           same ∙ ap (λ v. link.after_move answer_of after (link.ToReader m) v) (sym (front here))
           ∙ sym (ap (λ ms. link.run answer_of after ms (view k s n)) (one_is p.0 k (link.ToReader m) here))
 
-      kept : (m : Delivery) → p.0 ≡ k → s.reserved ≡ reserved_behind answer_of after (one_if p.0 k (link.ToReader m)) (view k s n) s.reserved
-      kept m here = sym (ap (λ l. reserved_behind answer_of after l (view k s n) s.reserved) (one_is p.0 k (link.ToReader m) here))
+      kept : (m : Delivery) → p.0 ≡ k → s.reserved ≡ reserved_after_moves answer_of after (one_if p.0 k (link.ToReader m)) (view k s n) s.reserved
+      kept m here = sym (ap (λ l. reserved_after_moves answer_of after l (view k s n) s.reserved) (one_is p.0 k (link.ToReader m) here))
 
       mine : (how : Delivery) → p.0 ≡ k → Moves k s (one_if p.0 k (link.ToReader how)) n (line.to_readers answer_of after (p ∷ rest) how n)
       mine Delivered here =
@@ -275,7 +275,7 @@ module _ {H : Type 0} (answer_of : H → Command → Answer) (after : H → Comm
       by_view m here l same = same ∙ ap (λ v. link.after_move answer_of after (link.ToController m now) v) (sym (front here))
 
       kept : (m : Delivery) → q.0 ≡ k → freed_by (told_by_front m (q.1 ∷ own k rest) now s.controller.session) s.reserved
-          ≡ reserved_behind answer_of after (link.ToController m now ∷ []) (view k s n) s.reserved
+          ≡ reserved_after_moves answer_of after (link.ToController m now ∷ []) (view k s n) s.reserved
       kept m here = ap (λ qs. freed_by (told_by_front m qs now s.controller.session) s.reserved) (sym (ap (own k) line_is ∙ own_first k q rest here))
 
       alone : q.0 ≡ k → (j : ℕ) (t : Site H) → j ≢ k → site_at j n.sites ≡ Some t → address_of t ≢ q.1.address

@@ -5,14 +5,14 @@ use Rattle.osdp_frame.specs.Packet.{Packet}
 use Rattle.osdp_msg.specs.declared.command.Command.{Command}
 use Rattle.osdp_reader.specs.State as readers
 use Rattle.osdp_reader.specs.declared.handler.Answer.{Answer}
-use Rattle.osdp_link.specs.Headline.{SaysWhatFitsIf}
-use Rattle.osdp_link.specs.Link.{Delivered, Delivery, Lost, Repeated}
-use Rattle.osdp_link.specs.Names.{IsName, MovesController, MovesReader}
-use Rattle.osdp_link.specs.Peers.{ReadEachOther}
-use Rattle.osdp_link.proofs.InARow.{begins}
-use Rattle.osdp_link.proofs.Lines.{each_all}
-use Rattle.osdp_link.proofs.Naming.{Keeps, starts}
-use Rattle.osdp_link.proofs.Stages.{Each}
+use Rattle.osdp_link_laws.specs.Headline.{SaysWhatFitsIf}
+use Rattle.osdp_link_laws.specs.Link.{Delivered, Delivery, Lost, Repeated}
+use Rattle.osdp_link_laws.specs.Names.{IsName, MovesController, MovesReader}
+use Rattle.osdp_link_laws.specs.Peers.{ReadEachOther}
+use Rattle.osdp_link_laws.proofs.InARow.{begins}
+use Rattle.osdp_link_laws.proofs.Lines.{each_all}
+use Rattle.osdp_link_laws.proofs.Naming.{Keeps, starts}
+use Rattle.osdp_link_laws.proofs.Stages.{Each}
 use Rattle.osdp_multidrop.specs.Apart.{IsHeardByNobodyElse, IsInOrder}
 use Rattle.osdp_multidrop.specs.Line as line
 use Rattle.osdp_multidrop.specs.Line.{Net, NetMove, Queue, Reopen, SetBusy, Site, Submit, Tick, ToControllers, ToReaders, address_of, after_net, queues, run, site_at}

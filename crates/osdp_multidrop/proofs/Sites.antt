@@ -2,8 +2,8 @@
 use Rattle.std.proofs.Common.{◌≡◌, ◌≢◌, ℕ, zero, suc, Bool, true, false, cond, eqb, List, [], ◌∷◌, ◌++◌, Option, Some, None, refl, sym, subst, ap}
 use Rattle.std.specs.Prelude.{◌==◌, option_to_list}
 use Rattle.osdp_frame.specs.Packet.{Packet}
-use Rattle.osdp_link.proofs.Numbers.{is_false, is_true}
-use Rattle.osdp_link.proofs.Stages.{Each}
+use Rattle.osdp_link_laws.proofs.Numbers.{is_false, is_true}
+use Rattle.osdp_link_laws.proofs.Stages.{Each}
 use Rattle.osdp_multidrop.specs.Line.{changed, site_at, tagged}
 use Rattle.osdp_multidrop.specs.Views.{own}
 

@@ -5,11 +5,11 @@ use Rattle.osdp_msg.specs.CommandTable.{CommandFits}
 use Rattle.osdp_msg.specs.declared.command.Command.{Command}
 use Rattle.osdp_msg.specs.declared.event.Event.{Event}
 use Rattle.osdp_reader.specs.declared.handler.Answer.{Answer}
-use Rattle.osdp_link.specs.Headline.{AreMoves, AreOnce, SaysWhatFitsIf}
-use Rattle.osdp_link.specs.Link.{Move}
-use Rattle.osdp_link.specs.Names.{BeginsTogether}
-use Rattle.osdp_link.specs.Refusals.{IsNoRefusal, reports}
-use Rattle.osdp_link.specs.Sessions.{AreInARow, HaveLeft, LastsOrLeaves, all_queued, all_submitted, told_in}
+use Rattle.osdp_link_laws.specs.Headline.{AreMoves, AreOnce, SaysWhatFitsIf}
+use Rattle.osdp_link_laws.specs.Link.{Move}
+use Rattle.osdp_link_laws.specs.Names.{BeginsTogether}
+use Rattle.osdp_link_laws.specs.Refusals.{IsNoRefusal, reports}
+use Rattle.osdp_link_laws.specs.Sessions.{AreInARow, HaveLeft, LastsOrLeaves, all_queued, all_submitted, told_in}
 use Rattle.osdp_multidrop.specs.Line.{Net, NetMove, Queue, Reopen, SetBusy, Site, Submit, Tick, ToControllers, ToReaders, address_of, after_net, run, site_at}
 use Rattle.osdp_multidrop.specs.Views.{IsMoved, move_of, view}
 

@@ -4,9 +4,9 @@ use Rattle.osdp_frame.specs.Packet.{Packet}
 use Rattle.osdp_msg.specs.declared.command.Command.{Command}
 use Rattle.osdp_controller.specs.Hearing.{comset_of}
 use Rattle.osdp_reader.specs.declared.handler.Answer.{Answer}
-use Rattle.osdp_link.specs.Link as link
-use Rattle.osdp_link.specs.Link.{Delivered, Delivery, Link, Lost, Move, Repeated}
-use Rattle.osdp_link.specs.Names.{reserved_behind}
+use Rattle.osdp_link_laws.specs.Link as link
+use Rattle.osdp_link_laws.specs.Link.{Delivered, Delivery, Link, Lost, Move, Repeated}
+use Rattle.osdp_link_laws.specs.Names.{reserved_after_moves}
 use Rattle.osdp_multidrop.specs.Line.{Net, NetMove, Site, Submit, Queue, SetBusy, Tick, ToReaders, ToControllers, Reopen, address_of, after_net, is_comset_refused, site_at}
 
 -- of what is on the line, what this site has sent
@@ -76,7 +76,7 @@ module _ {H : Type 0} where
       pub site : Site H
       pub there : site_at k next.sites ≡ Some site
       pub moved : view k site next ≡ link.run answer_of after moves (view k s n)
-      pub reserved : site.reserved ≡ reserved_behind answer_of after moves (view k s n) s.reserved
+      pub reserved : site.reserved ≡ reserved_after_moves answer_of after moves (view k s n) s.reserved
 
     abbrev pub EachMoveIsItsOwn : Type 0
     EachMoveIsItsOwn = (n : Net H) (move : NetMove) → HeardByOwn n → (k : ℕ) (s : Site H) → site_at k n.sites ≡ Some s

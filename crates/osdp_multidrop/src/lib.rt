@@ -21,7 +21,7 @@ pub fn each_move_is_its_own<H: Handler>()
 pub fn nobody_else_hears<H: Handler>()
     ensures { NobodyElseHears H.answer_of H.after }
 {
-    osdp_link::read_each_other::<H>();
+    osdp_link_laws::read_each_other::<H>();
 }
 
 /// So after every list of moves each reader and its controller, with what is their own on the line, are their link after the moves that
@@ -29,7 +29,7 @@ pub fn nobody_else_hears<H: Handler>()
 pub fn each_is_a_link<H: Handler>()
     ensures { EachIsALink H.answer_of H.after }
 {
-    osdp_link::read_each_other::<H>();
+    osdp_link_laws::read_each_other::<H>();
 }
 
 /// Within each session of each reader, over every list of losses, repeats and detected damage: its commands are taken once and in order,
@@ -38,7 +38,7 @@ pub fn each_holds_once<H: Handler>()
     ensures { EachHoldsOnce H.answer_of H.after }
 {
     each_is_a_link::<H>();
-    osdp_link::holds_once::<H>();
+    osdp_link_laws::holds_once::<H>();
 }
 
 /// No session of any of them ends because a reader refused a number.
@@ -46,7 +46,7 @@ pub fn each_refuses_no_number<H: Handler>()
     ensures { EachRefusesNoNumber H.answer_of H.after }
 {
     each_is_a_link::<H>();
-    osdp_link::refuses_no_number::<H>();
+    osdp_link_laws::refuses_no_number::<H>();
 }
 
 /// Over sessions in a row of each reader: no command that one settled or told unsettled is one of a later session, no event is skipped, and
@@ -55,5 +55,5 @@ pub fn each_stays_in_a_row<H: Handler>()
     ensures { EachStaysInARow H.answer_of H.after }
 {
     each_is_a_link::<H>();
-    osdp_link::sessions_in_a_row::<H>();
+    osdp_link_laws::sessions_in_a_row::<H>();
 }

@@ -16,7 +16,7 @@ pub record Queue : Type 0 where
 abbrev pub empty_queue : ℕ → Queue
 empty_queue capacity = record { events = []; capacity = capacity; offered = false }
 
--- an event behind the others
+-- an event after the others
 abbrev pub queued : Event → Queue → Queue
 queued event q = record q { events = q.events ++ (event ∷ []) }
 
@@ -37,6 +37,6 @@ abbrev pub event_for : Command → List Event → Option Reply
 event_for Poll events = option_map event_reply (slice_get events 0)
 event_for _ events = None
 
--- behind an answer: the front was offered where an event was told
+-- after an answer: the front was offered where an event was told
 abbrev pub offering : Option Reply → Queue → Queue
 offering told q = record q { offered = is_some told }

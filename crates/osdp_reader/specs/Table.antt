@@ -33,13 +33,13 @@ new_address _ = None
 abbrev pub command_in : Packet → Result Command MsgFault
 command_in p = command_of (slice_index p.body 0) (drop 1 p.body)
 
--- a reply, and the handler behind it
+-- a reply, and the handler after it
 pub record Answered (H : Type 0) : Type 0 where
   pub reply : Reply
   pub handler : H
 
 -- what comes of a packet: the command that was acted on and could be read, the reply that is said anew, the packet that is
--- sent back, and the reader behind it
+-- sent back, and the reader after it
 pub record Outcome (H : Type 0) : Type 0 where
   pub command : Option Command
   pub said : Option Reply

@@ -42,7 +42,7 @@ impl EventQueue {
         self.events.len()
     }
 
-    /// Puts an event behind the others. A full queue gives it back, and nothing changes.
+    /// Puts an event after the others. A full queue gives it back, and nothing changes.
     pub fn submit(&mut self, event: Event) -> Result<(), Event>
         ensures ok { OnOk result (self.new ≡ queued event self.old) }
         ensures full { IsErr result ↔ (length self.old.events ≡ self.old.capacity) }

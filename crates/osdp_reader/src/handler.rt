@@ -30,7 +30,7 @@ pub trait Handler: Drop {
     /// The answer in a state.
     ghost answer_of: { Self → Command → Answer };
 
-    /// The state behind a command.
+    /// The state after a command.
     ghost after: { Self → Command → Self };
 
     /// Acts on a command.

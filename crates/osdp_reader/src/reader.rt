@@ -71,7 +71,7 @@ impl<H: Handler> Reader<H> {
         })
     }
 
-    /// Puts an event behind those that wait. N2: where as many wait as there is room for, the event comes back, and nothing
+    /// Puts an event after those that wait. N2: where as many wait as there is room for, the event comes back, and nothing
     /// changes.
     pub fn submit_event(&mut self, event: Event) -> Result<(), Event>
         ensures ok { OnOk result (self.new ≡ after_submit event self.old) }
@@ -233,7 +233,7 @@ impl<H: Handler> Reader<H> {
         }
     }
 
-    /// Behind an accepted COMSET: the reader is at that address, and where it is another one, nothing said before counts.
+    /// After an accepted COMSET: the reader is at that address, and where it is another one, nothing said before counts.
     fn move_to(&mut self, address: Option<Address>)
         ensures { self.new ≡ moved address self.old }
     {

@@ -73,7 +73,7 @@ fn hear(
     }
 }
 
-/// Puts an event behind those that wait, or writes that there is no room for it.
+/// Puts an event after those that wait, or writes that there is no room for it.
 fn submit(
     device: &mut Device<DeviceStatus>,
     event: Event,

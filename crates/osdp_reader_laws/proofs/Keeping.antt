@@ -1,4 +1,4 @@
--- A reply is stored behind each number from 1 to 3.
+-- A reply is stored after each number from 1 to 3.
 use Rattle.std.proofs.Common.{◌≡◌, ℕ, suc, Bool, true, false, cond, eqb, Option, Some, None, Result, Ok, Err, refl, arith}
 use Rattle.osdp_frame.specs.Packet.{Packet}
 use Rattle.osdp_msg.specs.declared.command.Command.{Command}

@@ -40,10 +40,10 @@ module _ {H : Type 0} where
         (again.reply ≡ first.reply) × (again.reader ≡ first.reader) × (again.command ≡ None)
     the_same_again keeps r p q is stays comes unsecured same =
         let kept = keeps r p is stays in
-        let behind = (hears answer_of after r p).reader in
-        let repeat = is_repeat behind q (comes_there r behind q stays comes) unsecured
+        let later = (hears answer_of after r p).reader in
+        let repeat = is_repeat later q (comes_there r later q stays comes) unsecured
         (λ zero. taken_number r p is (sym same ∙ zero)) (kept.0 ∙ ap Some (sym same)) in
-        let again = of_repeat behind q repeat in
+        let again = of_repeat later q repeat in
         (again.0 ∙ kept.1, again.1, again.2)
 
     -- .. also where another handler was set in between
@@ -56,8 +56,8 @@ module _ {H : Type 0} where
         (again.reply ≡ first.reply) × (again.reader ≡ changed) × (again.command ≡ None)
     the_same_still keeps r p q handler is stays comes unsecured same =
         let kept = keeps r p is stays in
-        let behind = (hears answer_of after r p).reader in
-        let repeat = is_repeat behind q (comes_there r behind q stays comes) unsecured
+        let later = (hears answer_of after r p).reader in
+        let repeat = is_repeat later q (comes_there r later q stays comes) unsecured
         (λ zero. taken_number r p is (sym same ∙ zero)) (kept.0 ∙ ap Some (sym same)) in
-        let again = of_repeat (after_set_handler handler behind) q repeat in
+        let again = of_repeat (after_set_handler handler later) q repeat in
         (again.0 ∙ kept.1, again.1, again.2)

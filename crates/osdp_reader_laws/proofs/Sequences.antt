@@ -6,7 +6,7 @@ use Rattle.osdp_msg.specs.declared.command.Command.TheVariants as command
 use Rattle.osdp_msg.specs.declared.reply.Reply.TheVariants as reply
 use Rattle.osdp_reader.specs.declared.config.ReaderConfig.{ReaderConfig}
 use Rattle.osdp_reader.specs.declared.handler.Answer.{Answer}
-use Rattle.osdp_reader_laws.specs.Answering.{answers, handler_behind}
+use Rattle.osdp_reader_laws.specs.Answering.{answers, handler_after_commands}
 use Rattle.osdp_reader.specs.Replies.{own_reply}
 use Rattle.osdp_reader.specs.Table.{answer_to, answered}
 
@@ -45,7 +45,7 @@ module _ {H : Type 0} (answer_of : H → Command → Answer) (after : H → Comm
 module _ {H : Type 0} (answer_of : H → Command → Answer) (after : H → Command → H) (config : ReaderConfig) where
   pub answers-append : (handler : H) (first more : List Command)
       → answers answer_of after config handler (first ++ more)
-      ≡ answers answer_of after config handler first ++ answers answer_of after config (handler_behind answer_of after config handler first) more
+      ≡ answers answer_of after config handler first ++ answers answer_of after config (handler_after_commands answer_of after config handler first) more
   answers-append handler [] more = refl
   answers-append handler (c ∷ cs) more =
       ap (λ rest. (answer_to answer_of after config handler c).reply ∷ rest)

@@ -7,15 +7,15 @@ use Rattle.osdp_reader.specs.declared.handler.Answer.{Answer}
 use Rattle.osdp_reader.specs.Table.{answer_to}
 
 module _ {H : Type 0} (answer_of : H → Command → Answer) (after : H → Command → H) (config : ReaderConfig) where
-  -- each command is answered behind those before it
+  -- each command is answered after those before it
   abbrev pub answers : H → List Command → List Reply
   answers handler [] = []
   answers handler (command ∷ commands) =
       let a = answer_to answer_of after config handler command in
       a.reply ∷ answers a.handler commands
 
-  -- the handler behind them all
-  abbrev pub handler_behind : H → List Command → H
-  handler_behind handler [] = handler
-  handler_behind handler (command ∷ commands) =
-      handler_behind (answer_to answer_of after config handler command).handler commands
+  -- the handler after them all
+  abbrev pub handler_after_commands : H → List Command → H
+  handler_after_commands handler [] = handler
+  handler_after_commands handler (command ∷ commands) =
+      handler_after_commands (answer_to answer_of after config handler command).handler commands

@@ -13,7 +13,7 @@ use Rattle.osdp_msg.specs.ReplyTable.{reply_code, reply_data}
 use Rattle.osdp_reader.specs.declared.config.ReaderConfig.{ReaderConfig}
 use Rattle.osdp_reader.specs.declared.handler.Answer.{Answer}
 use Rattle.osdp_reader.specs.declared.kind.Kind.TheVariants.{Zero, Taken}
-use Rattle.osdp_reader_laws.specs.Answering.{answers, handler_behind}
+use Rattle.osdp_reader_laws.specs.Answering.{answers, handler_after_commands}
 use Rattle.osdp_reader.specs.Replies.{reply_packet}
 use Rattle.osdp_reader.specs.Spelled.{IsSpelled}
 use Rattle.osdp_reader.specs.State.{ReaderState, after_set_busy, after_set_handler, after_submit, new_reader}
@@ -64,7 +64,7 @@ abbrev pub HasOneSpelling : Type 0
 HasOneSpelling = (o : Option Packet) (a b : List ℕ) → IsSpelled o a → IsSpelled o b → a ≡ b
 
 module _ {H : Type 0} where
-  -- a reply is stored behind each number from 1 to 3
+  -- a reply is stored after each number from 1 to 3
   abbrev pub KeepsReply : ReaderState H → Type 0
   KeepsReply r = (n : ℕ) → r.last ≡ Some (suc n) → (p : Packet) × (r.stored ≡ Some p)
 
@@ -117,7 +117,7 @@ module _ {H : Type 0} where
         → ((hears answer_of after r p).reader.last ≡ Some p.sequence)
         × ((hears answer_of after r p).reader.stored ≡ (hears answer_of after r p).reply)
 
-    -- behind a taken number, a packet with this number, whatever it holds, has the same packet as its answer, changes nothing,
+    -- after a taken number, a packet with this number, whatever it holds, has the same packet as its answer, changes nothing,
     -- and no command reaches the handler
     abbrev pub AnswersTheSameAgain : Type 0
     AnswersTheSameAgain = (r : ReaderState H) (p q : Packet) → kind_of r p ≡ Taken
@@ -189,7 +189,7 @@ module _ {H : Type 0} where
         ((hears answer_of after r p).reply ≡ Some (reply_packet p p.sequence a.reply))
         × ((hears answer_of after r p).reader.handler ≡ a.handler)
 
-    -- what holds of a reader holds behind each of its calls: a packet, an event where there is room, BUSY on or off, and
+    -- what holds of a reader holds after each of its calls: a packet, an event where there is room, BUSY on or off, and
     -- another handler
     abbrev pub IsKeptByCalls : (ReaderState H → Type 0) → Type 0
     IsKeptByCalls P =
@@ -210,12 +210,12 @@ module _ {H : Type 0} where
         → HasDeviceAddress (new_reader config handler capacity))
         × IsKeptByCalls HasDeviceAddress
 
-    -- the answers to the first commands are the first answers, and the others come from the handler behind those
+    -- the answers to the first commands are the first answers, and the others come from the handler after those
     abbrev pub AnswersInOrder : Type 0
     AnswersInOrder = (config : ReaderConfig) (handler : H) (first more : List Command) →
         answers answer_of after config handler (first ++ more)
         ≡ answers answer_of after config handler first
-        ++ answers answer_of after config (handler_behind answer_of after config handler first) more
+        ++ answers answer_of after config (handler_after_commands answer_of after config handler first) more
 
     -- the answer at a place depends on the commands up to that place alone
     abbrev pub AnswersByWhatCame : Type 0
@@ -230,7 +230,7 @@ module _ {H : Type 0} where
         → config.id ≡ other.id → config.caps ≡ other.caps
         → answers answer_of after config handler commands ≡ answers answer_of after other handler commands
 
-    -- a reader that isn't busy takes the number behind the last one, and no other but 0
+    -- a reader that isn't busy takes the number after the last one, and no other but 0
     abbrev pub TakesNext : Type 0
     TakesNext = (r : ReaderState H) (p : Packet) → (kind_of r p ≡ Taken)
         ↔ (ComesTo r p × (p.block ≡ false) × (r.busy ≡ false) × (p.sequence ≢ 0)
@@ -242,7 +242,7 @@ module _ {H : Type 0} where
         → IsAnswered (hears answer_of after r p).reply p p.sequence (nak_body 5)
         × ((hears answer_of after r p).reader ≡ r)
 
-    -- a busy reader answers number 0, and the number behind the last one, by BUSY with number 0, and nothing changes
+    -- a busy reader answers number 0, and the number after the last one, by BUSY with number 0, and nothing changes
     abbrev pub SaysBusy : Type 0
     SaysBusy = (r : ReaderState H) (p : Packet) → ComesTo r p → p.block ≡ false → r.busy ≡ true
         → (p.sequence ≡ 0) ⊎ ((n : ℕ) × (r.last ≡ Some n) × (p.sequence ≡ next_sequence n))
@@ -257,7 +257,7 @@ module _ {H : Type 0} where
         → IsAnswered (hears answer_of after r p).reply p p.sequence (nak_body 4)
         × ((hears answer_of after r p).reader ≡ r)
 
-    -- behind an accepted COMSET to another address nothing that was said before counts, and the handler stays
+    -- after an accepted COMSET to another address nothing that was said before counts, and the handler stays
     abbrev pub ForgetsWhereItMoves : Type 0
     ForgetsWhereItMoves = (r : ReaderState H) (p : Packet) (asked : Communication)
         → (hears answer_of after r p).command ≡ Some (Comset asked) → asked.address ≤ 126 → asked.address ≢ r.config.address

@@ -43,7 +43,7 @@ module _ {H : Type 0} (answer_of : H → Command → Answer) (after : H → Comm
       × ((hears answer_of after r p).reply ≡ Some (reply_packet p p.sequence (refused (unread_reason fault))))
       × ((hears answer_of after r p).reader.handler ≡ r.handler)
 
-  -- behind number 0 all events wait and none is offered; where the reader isn't moved, the last number is 0 and the stored
+  -- after number 0 all events wait and none is offered; where the reader isn't moved, the last number is 0 and the stored
   -- reply is the one from before
   abbrev pub BeginsAnew : Type 0
   BeginsAnew = (r : ReaderState H) (p : Packet) → kind_of r p ≡ Zero
@@ -68,7 +68,7 @@ module _ {H : Type 0} (answer_of : H → Command → Answer) (after : H → Comm
       → (answer ≡ Some (reply_packet p p.sequence (event_reply event))) × (next.queue.offered ≡ true))
       × (next.handler ≡ r.handler)
 
-  -- .. and nothing is offered behind any other taken number
+  -- .. and nothing is offered after any other taken number
   abbrev pub OffersToPollsAlone : Type 0
   OffersToPollsAlone = (r : ReaderState H) (p : Packet) → kind_of r p ≡ Taken → command_in p ≢ Ok Poll
       → (hears answer_of after r p).reader.queue.offered ≡ false

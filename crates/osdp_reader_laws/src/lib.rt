@@ -38,7 +38,7 @@ pub fn acts_at_zero<H: Handler>()
     ensures { ActsAtZero H.answer_of H.after }
 {}
 
-/// Behind number 0 no event is offered, all of them wait, the last number is 0, and the stored reply is the one from before.
+/// After number 0 no event is offered, all of them wait, the last number is 0, and the stored reply is the one from before.
 pub fn begins_anew<H: Handler>()
     ensures { BeginsAnew H.answer_of H.after }
 {}
@@ -106,7 +106,7 @@ pub fn stays_well<H: Handler>()
     ensures address { StaysADevice H.answer_of H.after }
 {}
 
-/// Each command of a list is answered behind those before it. Whatever comes later changes no answer, nor does the address.
+/// Each command of a list is answered after those before it. Whatever comes later changes no answer, nor does the address.
 pub fn answers_in_order<H: Handler>()
     ensures order { AnswersInOrder H.answer_of H.after }
     ensures before { AnswersByWhatCame H.answer_of H.after }
@@ -118,13 +118,13 @@ pub fn replies_to_its_command()
     ensures { RepliesToItsCommand }
 {}
 
-/// A reader that isn't busy takes the number behind the last one, and, but for 0, no other.
+/// A reader that isn't busy takes the number after the last one, and, but for 0, no other.
 pub fn takes_the_next_number<H: Handler>()
     ensures { TakesNext H.answer_of H.after }
 {}
 
 /// What cannot be taken is answered and changes nothing: a security block by NAK 5, a number out of turn by NAK 4, and, while
-/// the reader is busy, number 0 and the number behind the last one by BUSY.
+/// the reader is busy, number 0 and the number after the last one by BUSY.
 pub fn refuses_and_keeps_all<H: Handler>()
     ensures blocks { RefusesBlocks H.answer_of H.after }
     ensures numbers { RefusesNumbers H.answer_of H.after }

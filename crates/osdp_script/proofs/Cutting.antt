@@ -1,8 +1,8 @@
 -- The first line of bytes, and the lines after it.
 use Rattle.std.proofs.Common.{◌≡◌, ◌≢◌, ℕ, zero, suc, ◌+◌, ◌-◌, ◌<◌, ◌≤◌, List, [], ◌∷◌, ◌++◌, length, get_or, take, drop, sym, ap, ◌∙◌, arith, take-append-drop}
 use Rattle.std.proofs.lemmas.List.{drop_more, length-drop, take_all}
-use Rattle.osdp_input.specs.Cut.{IsLine, ended_lines, last_line, line_feed, lines_of, unended_line}
-use Rattle.osdp_input.proofs.CutLemmas.{ended_behind-feed, ended_behind-line, unended_behind-feed, unended_behind-line}
+use Rattle.osdp_tool_input.specs.Cut.{IsLine, ended_lines, last_line, line_feed, lines_of, unended_line}
+use Rattle.osdp_tool_input.proofs.CutLemmas.{ended_after-feed, ended_after-line, unended_after-feed, unended_after-line}
 
 -- a beginning without a line feed
 is_line : (bytes : List ℕ) (n : ℕ) → n ≤ length bytes → ((k : ℕ) → k < n → get_or bytes k 0 ≢ line_feed) → IsLine (take n bytes)
@@ -23,8 +23,8 @@ first_ended bytes n lt feed none =
     let rest = drop (n + 1) bytes in
     let parts : bytes ≡ take n bytes ++ line_feed ∷ rest =
     sym (take-append-drop n bytes) ∙ ap (λ l. take n bytes ++ l) (drop_more bytes n 0 lt ∙ ap (λ b. b ∷ rest) feed) in
-    let ended = ended_behind-feed [] (take n bytes) rest line in
-    let unended = unended_behind-feed [] (take n bytes) rest in
+    let ended = ended_after-feed [] (take n bytes) rest line in
+    let unended = unended_after-feed [] (take n bytes) rest in
     ap lines_of parts
     ∙ ap (λ l. l ++ last_line (unended_line (take n bytes ++ line_feed ∷ rest))) ended
     ∙ ap (λ u. (take n bytes ∷ ended_lines rest) ++ last_line u) unended
@@ -40,4 +40,4 @@ first_cut bytes n lt feed none =
 pub last_alone : (bytes : List ℕ) → ((k : ℕ) → k < length bytes → get_or bytes k 0 ≢ line_feed) → lines_of bytes ≡ last_line bytes
 last_alone bytes none =
     let line = all_line bytes none in
-    ap (λ l. l ++ last_line (unended_line bytes)) (ended_behind-line [] bytes line) ∙ ap last_line (unended_behind-line [] bytes line)
+    ap (λ l. l ++ last_line (unended_line bytes)) (ended_after-line [] bytes line) ∙ ap last_line (unended_after-line [] bytes line)

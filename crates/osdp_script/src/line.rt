@@ -1,7 +1,7 @@
 //! A line of a script: where it ends, its characters and its words.
 
 ghost use Rattle.std.specs.Prelude.{◌≡◌, ◌<◌, ◌∷◌, [], length, IfOk, IfSome, MatchOption};
-ghost use Rattle.osdp_input.specs.Cut.{lines_of};
+ghost use Rattle.osdp_tool_input.specs.Cut.{lines_of};
 ghost use Rattle.osdp_words.specs.Word.{texts};
 ghost use Rattle.osdp_script.specs.Words.{characters, is_passed_over, words_in};
 

@@ -7,10 +7,10 @@ use Rattle.osdp_msg.specs.declared.reply.Reply.{Reply}
 use Rattle.osdp_reader.specs.declared.config.ReaderConfig.{ReaderConfig}
 use Rattle.osdp_reader.specs.declared.handler.Answer.{Answer}
 use Rattle.osdp_reader.specs.Table.{answer_to}
-use Rattle.osdp_reader_laws.specs.Answering.{handler_behind}
-use Rattle.osdp_link.specs.Headline.{IsBeginning, handler_after}
-use Rattle.osdp_link.specs.Link as link
-use Rattle.osdp_link.specs.Sessions.{settled_commands, told_in}
+use Rattle.osdp_reader_laws.specs.Answering.{handler_after_commands}
+use Rattle.osdp_link_laws.specs.Headline.{IsBeginning, handler_after}
+use Rattle.osdp_link_laws.specs.Link as link
+use Rattle.osdp_link_laws.specs.Sessions.{settled_commands, told_in}
 use Rattle.osdp_sim_laws.specs.Accounts.{all_in}
 use Rattle.osdp_session.specs.Sessions.{between}
 
@@ -52,14 +52,14 @@ told_length (t ∷ earlier) =
 
 module _ {H : Type 0} (answer_of : H → Command → Answer) (after : H → Command → H) (config : ReaderConfig) where
   handler_both : (h : H) (cs ds : List Command)
-      → handler_behind answer_of after config h (cs ++ ds) ≡ handler_behind answer_of after config (handler_behind answer_of after config h cs) ds
+      → handler_after_commands answer_of after config h (cs ++ ds) ≡ handler_after_commands answer_of after config (handler_after_commands answer_of after config h cs) ds
   handler_both h [] ds = refl
   handler_both h (c ∷ cs) ds = handler_both (answer_to answer_of after config h c).handler cs ds
 
-  -- the handler behind all that these sessions took
+  -- the handler after all that these sessions took
   pub handler_all : (h : H) (earlier : List link.Account)
-      → handler_behind answer_of after config h (all_in (λ t. t.taken) earlier) ≡ handler_after answer_of after config h earlier
+      → handler_after_commands answer_of after config h (all_in (λ t. t.taken) earlier) ≡ handler_after answer_of after config h earlier
   handler_all h [] = refl
   handler_all h (t ∷ earlier) =
       handler_both h (all_in (λ u. u.taken) earlier) t.taken
-      ∙ ap (λ g. handler_behind answer_of after config g t.taken) (handler_all h earlier)
+      ∙ ap (λ g. handler_after_commands answer_of after config g t.taken) (handler_all h earlier)

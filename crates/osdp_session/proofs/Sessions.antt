@@ -7,11 +7,11 @@ use Rattle.osdp_msg.specs.declared.event.Event.{Event}
 use Rattle.osdp_msg.specs.declared.reply.Reply.{Reply}
 use Rattle.osdp_reader.specs.declared.config.ReaderConfig.{ReaderConfig}
 use Rattle.osdp_reader.specs.declared.handler.Answer.{Answer}
-use Rattle.osdp_reader_laws.specs.Answering.{handler_behind}
-use Rattle.osdp_link.specs.Headline.{AreOnce, IsBeginning, Once, handler_after, with_answers}
-use Rattle.osdp_link.specs.Link as link
-use Rattle.osdp_link.specs.Sessions.{AreInARow, Leaves, settled_commands, told_in}
-use Rattle.osdp_link.proofs.Lines.{each_of}
+use Rattle.osdp_reader_laws.specs.Answering.{handler_after_commands}
+use Rattle.osdp_link_laws.specs.Headline.{AreOnce, IsBeginning, Once, handler_after, with_answers}
+use Rattle.osdp_link_laws.specs.Link as link
+use Rattle.osdp_link_laws.specs.Sessions.{AreInARow, Leaves, settled_commands, told_in}
+use Rattle.osdp_link_laws.proofs.Lines.{each_of}
 use Rattle.osdp_sim.specs.Account.{Account, lengths_of}
 use Rattle.osdp_sim.specs.declared.account.Lengths.{Lengths}
 use Rattle.osdp_sim_laws.specs.Accounts as accounts
@@ -126,8 +126,8 @@ module _ {H : Type 0} (answer_of : H → Command → Answer) (after : H → Comm
       → IsSession answer_of after config handler a from to first
   session a from to first t earlier past in_ is_from is_to good =
       let parts = is_part a from to first t earlier past in_ is_from is_to in
-      let behind : handler_behind answer_of after config handler (take from.taken a.taken) ≡ handler_after answer_of after config handler earlier =
-      ap (handler_behind answer_of after config handler)
+      let later : handler_after_commands answer_of after config handler (take from.taken a.taken) ≡ handler_after answer_of after config handler earlier =
+      ap (handler_after_commands answer_of after config handler)
       (front (all_in (λ u. u.taken) earlier) t.taken a.taken in_.taken.0 from.taken is_from.taken in_.taken.1)
       ∙ handler_all answer_of after config handler earlier in
       record {
@@ -146,7 +146,7 @@ module _ {H : Type 0} (answer_of : H → Command → Answer) (after : H → Comm
         taken = subst (λ cs. IsBeginning cs (session_commands a from to)) (sym parts.taken) (subst (IsBeginning t.taken) (sym parts.issued) good.once.taken);
         settled = (
           good.once.settled.0,
-          ap (λ h. with_answers answer_of after config h (session_taken a from to)) behind
+          ap (λ h. with_answers answer_of after config h (session_taken a from to)) later
               ∙ ap (with_answers answer_of after config (handler_after answer_of after config handler earlier)) parts.taken
               ∙ good.once.settled.1
               ∙ ap (λ l. l ++ good.once.settled.0) (sym parts.settled),

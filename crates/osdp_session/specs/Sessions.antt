@@ -5,8 +5,8 @@ use Rattle.osdp_msg.specs.declared.event.Event.{Event}
 use Rattle.osdp_msg.specs.declared.reply.Reply.{Reply}
 use Rattle.osdp_reader.specs.declared.config.ReaderConfig.{ReaderConfig}
 use Rattle.osdp_reader.specs.declared.handler.Answer.{Answer}
-use Rattle.osdp_reader_laws.specs.Answering.{handler_behind}
-use Rattle.osdp_link.specs.Headline.{IsBeginning, with_answers}
+use Rattle.osdp_reader_laws.specs.Answering.{handler_after_commands}
+use Rattle.osdp_link_laws.specs.Headline.{IsBeginning, with_answers}
 use Rattle.osdp_sim.specs.Account.{Account, lengths_of}
 use Rattle.osdp_sim.specs.declared.account.Lengths.{Lengths}
 use Rattle.osdp_sim_laws.specs.Accounts.{IsInARow, IsNoRefusal, no_lengths}
@@ -71,7 +71,7 @@ module _ {H : Type 0} (answer_of : H → Command → Answer) (after : H → Comm
     pub grow : Grow from to
     pub taken : IsBeginning (session_taken a from to) (session_commands a from to)
     pub settled : (more : List (Command × Reply))
-        × (with_answers answer_of after config (handler_behind answer_of after config handler (take from.taken a.taken)) (session_taken a from to)
+        × (with_answers answer_of after config (handler_after_commands answer_of after config handler (take from.taken a.taken)) (session_taken a from to)
         ≡ session_settled a from to ++ more) × (length more ≤ 1)
     pub reported : IsBeginning (session_reported a from to) (between first to.queued a.queued)
     pub told : IsBeginning (session_told a from to) (session_commands a from to)

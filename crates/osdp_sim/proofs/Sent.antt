@@ -16,7 +16,7 @@ use Rattle.osdp_sim.specs.declared.step.SimStep.{SimStep}
 use Rattle.osdp_sim.specs.declared.step.SimStep.TheVariants.{Issue, Queue, Busy, Wait, ToReader, ToController, Reopen}
 use Rattle.osdp_sim.specs.Line.{IsSent, handed, left, packets_in, sent}
 use Rattle.osdp_sim.specs.State.{AreSent, SimState}
-use Rattle.osdp_sim.specs.Steps.{SaysFit, StepFits, after_step, controller_hears, issued, moment_behind, queued, reader_hears}
+use Rattle.osdp_sim.specs.Steps.{SaysFit, StepFits, after_step, controller_hears, issued, moment_after, queued, reader_hears}
 
 -- each packet has a spelling
 abbrev pub HasSpelling : Type 0
@@ -27,20 +27,20 @@ all_sent has None fits k d lt = absurd (omega (arith, lt))
 all_sent has (Some p) fits zero d lt = (p, has p fits)
 all_sent has (Some p) fits (suc k) d lt = absurd (omega (arith, lt))
 
-behind_first : (burst : List ℕ) (line : List (List ℕ)) → All IsSent (burst ∷ line) → All IsSent line
-behind_first burst line all k d lt = all (suc k) d (omega (arith, lt))
+after_first : (burst : List ℕ) (line : List (List ℕ)) → All IsSent (burst ∷ line) → All IsSent line
+after_first burst line all k d lt = all (suc k) d (omega (arith, lt))
 
 pub left_sent : (move : Move) (line : List (List ℕ)) → All IsSent line → All IsSent (left move line)
 left_sent move [] all = all
-left_sent Deliver (burst ∷ line) all = behind_first burst line all
-left_sent Drop (burst ∷ line) all = behind_first burst line all
+left_sent Deliver (burst ∷ line) all = after_first burst line all
+left_sent Drop (burst ∷ line) all = after_first burst line all
 left_sent Repeat (burst ∷ line) all = all
-left_sent (Damage bytes) (burst ∷ line) all = behind_first burst line all
+left_sent (Damage bytes) (burst ∷ line) all = after_first burst line all
 
 module _ {H : Type 0} (answer_of : H → Command → Answer) (after : H → Command → H) where
   where_sent : (there : Bool) (old new : SimState H) → AreSent old → AreSent new → AreSent (if there then new else old)
-  where_sent true old new before behind = behind
-  where_sent false old new before behind = before
+  where_sent true old new before later = later
+  where_sent false old new before later = before
 
   issued_sent : (fault : Option ControllerFault) (command : Command) (s : SimState H) → AreSent s → AreSent (issued fault command s)
   issued_sent None command s h = record { to_reader = h.to_reader; to_controller = h.to_controller }
@@ -70,7 +70,7 @@ module _ {H : Type 0} (answer_of : H → Command → Answer) (after : H → Comm
   step_sent has (Busy number busy) s fits h =
       where_sent (number == 1) s _ h (record { to_reader = h.to_reader; to_controller = h.to_controller })
   step_sent has (Wait wait) s fits h =
-      let t = ticks (moment_behind wait s.clock) s.controller.session s.controller.waiting in
+      let t = ticks (moment_after wait s.clock) s.controller.session s.controller.waiting in
       record {
         to_reader = All-append IsSent s.to_reader (sent t.step.frame) h.to_reader (all_sent has t.step.frame fits);
         to_controller = h.to_controller;

@@ -38,7 +38,7 @@ handed Drop (burst ∷ rest) = []
 handed Repeat (burst ∷ rest) = burst
 handed (Damage bytes) (burst ∷ rest) = bytes.items
 
--- the bursts that are on the way behind it
+-- the bursts that are on the way after it
 abbrev pub left : Move → List (List ℕ) → List (List ℕ)
 left move [] = []
 left Deliver (burst ∷ rest) = rest

@@ -24,9 +24,9 @@ use Rattle.osdp_sim.specs.Account.{taken_by, with_issued, with_queued, with_repo
 use Rattle.osdp_sim.specs.Line.{handed, holds_packet, left, packets_in, sent}
 use Rattle.osdp_sim.specs.State.{SimState}
 
--- so much later, and the last moment that there is where it would lie behind that
-abbrev pub moment_behind : ℕ → ℕ → ℕ
-moment_behind wait clock = min (clock + wait) (2 ^ 64 - 1)
+-- so much later, and the last moment that there is where it would lie after that
+abbrev pub moment_after : ℕ → ℕ → ℕ
+moment_after wait clock = min (clock + wait) (2 ^ 64 - 1)
 
 -- damage may not hold a packet
 abbrev pub damage_fault : Move → Option Cause
@@ -60,7 +60,7 @@ module _ {H : Type 0} where
   abbrev pub waited : ℕ → SimState H → SimState H
   waited now s = ticked (ticks now s.controller.session s.controller.waiting) now s
 
-  -- the controller hears these packets, one behind the other
+  -- the controller hears these packets, one after the other
   abbrev pub controller_hears : List Packet → SimState H → SimState H
   controller_hears [] s = s
   controller_hears (p ∷ packets) s =
@@ -85,7 +85,7 @@ module _ {H : Type 0} where
   fault_of _ s = None
 
   module _ (answer_of : H → Command → Answer) (after : H → Command → H) where
-    -- the reader hears these packets, one behind the other, and each answer goes out
+    -- the reader hears these packets, one after the other, and each answer goes out
     abbrev pub reader_hears : List Packet → SimState H → SimState H
     reader_hears [] s = s
     reader_hears (p ∷ packets) s =
@@ -104,7 +104,7 @@ module _ {H : Type 0} where
         where_there number s (queued (length s.reader.queue.events == s.reader.queue.capacity) event s)
     after_step (Busy number busy) s =
         where_there number s (record s { reader = readers.after_set_busy busy s.reader })
-    after_step (Wait wait) s = waited (moment_behind wait s.clock) s
+    after_step (Wait wait) s = waited (moment_after wait s.clock) s
     after_step (ToReader move) s =
         reader_hears (packets_in (handed move s.to_reader)) (record s { to_reader = left move s.to_reader })
     after_step (ToController move) s =
@@ -124,7 +124,7 @@ module _ {H : Type 0} where
     StepFits (Queue number event) s = Unit {0}
     StepFits (Busy number busy) s = Unit {0}
     StepFits (Wait wait) s =
-        IfSome (ticks (moment_behind wait s.clock) s.controller.session s.controller.waiting).step.frame IsPacket
+        IfSome (ticks (moment_after wait s.clock) s.controller.session s.controller.waiting).step.frame IsPacket
     StepFits (ToReader move) s = SaysFit (packets_in (handed move s.to_reader)) s.reader
     StepFits (ToController move) s = Unit {0}
     StepFits (Reopen number) s = Unit {0}

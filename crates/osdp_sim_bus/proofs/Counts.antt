@@ -10,7 +10,7 @@ use Rattle.osdp_reader.specs.declared.handler.Answer.{Answer}
 use Rattle.osdp_bus.specs.Machine.{after_next_report, submit_refusal_at}
 use Rattle.osdp_bus.specs.declared.fault.BusFault.{BusFault}
 use Rattle.osdp_sim.specs.Line.{handed, left, packets_in}
-use Rattle.osdp_sim.specs.Steps.{moment_behind}
+use Rattle.osdp_sim.specs.Steps.{moment_after}
 use Rattle.osdp_sim.specs.declared.step.SimStep.{SimStep}
 use Rattle.osdp_sim.specs.declared.step.SimStep.TheVariants.{Issue, Queue, Busy, Wait, ToReader, ToController, Reopen}
 use Rattle.osdp_sim_bus.specs.State.{LineState, Site}
@@ -50,7 +50,7 @@ module _ {H : Type 0} (answer_of : H → Command → Answer) (after : H → Comm
   same_many (Busy number busy) s =
       many_where (is_there number s) _ s (many_changed (site_is_busy busy) (number - 1) s.sites (slice_get s.sites (number - 1)))
   same_many (Wait wait) s =
-      let t = waited (moment_behind wait s.clock) s in
+      let t = waited (moment_after wait s.clock) s in
       many_told t.bus.devices.report (record t { bus = after_next_report t.bus })
   same_many (ToReader move) s = many_hear (packets_in (handed move s.to_readers)) (record s { to_readers = left move s.to_readers })
   same_many (ToController move) s =

@@ -30,11 +30,11 @@ module _ {H : Type 0} (answer_of : H → Command → Answer) (after : H → Comm
   Says site = SaysFit answer_of after (p ∷ []) site.reader
 
   -- so many of the readers have heard the packet, and what they answered went out
-  pub record HaveHeard (count : ℕ) (old new : List (declared.Site H)) (before behind : List (List ℕ)) : Type 0 where
+  pub record HaveHeard (count : ℕ) (old new : List (declared.Site H)) (before later : List (List ℕ)) : Type 0 where
     pub many : length new ≡ length old
     pub done : sites_of (take count new) ≡ map (site_hears answer_of after p) (sites_of (take count old))
     pub rest : drop count new ≡ drop count old
-    pub line : behind ≡ before ++ flat_map (site_says answer_of after p) (sites_of (take count old))
+    pub line : later ≡ before ++ flat_map (site_says answer_of after p) (sites_of (take count old))
     pub fits : All Says (sites_of (take count old))
 
   pub none_has : (sites : List (declared.Site H)) (line : List (List ℕ)) → HaveHeard 0 sites sites line line
@@ -52,13 +52,13 @@ module _ {H : Type 0} (answer_of : H → Command → Answer) (after : H → Comm
       ap sites_of (take_more sites count site within) ∙ map-append site_of (take count sites) (get_or sites count site ∷ [])
 
   -- .. and one more; what stands there is named whatever default a look-up has
-  pub one_more : (count : ℕ) (old new : List (declared.Site H)) (default next : declared.Site H) (before line behind : List (List ℕ))
+  pub one_more : (count : ℕ) (old new : List (declared.Site H)) (default next : declared.Site H) (before line later : List (List ℕ))
       → count < length new → HaveHeard count old new before line
       → site_of next ≡ site_hears answer_of after p (site_of (get_or new count default))
-      → behind ≡ line ++ site_says answer_of after p (site_of (get_or new count default))
+      → later ≡ line ++ site_says answer_of after p (site_of (get_or new count default))
       → Says (site_of (get_or new count default))
-      → HaveHeard (count + 1) old (set new count next) before behind
-  one_more count old new default next before line behind within h heard said fit =
+      → HaveHeard (count + 1) old (set new count next) before later
+  one_more count old new default next before line later within h heard said fit =
       let site = site_of (get_or new count default) in
       let also : count < length old = omega (arith, within, h.many) in
       let there : site_of (get_or old count default) ≡ site = ap site_of (sym (same_there new old count default within also h.rest)) in
@@ -82,14 +82,14 @@ module _ {H : Type 0} (answer_of : H → Command → Answer) (after : H → Comm
       }
 
   -- all of them have
-  pub record AllHaveHeard (old new : List (declared.Site H)) (before behind : List (List ℕ)) : Type 0 where
+  pub record AllHaveHeard (old new : List (declared.Site H)) (before later : List (List ℕ)) : Type 0 where
     pub sites : sites_of new ≡ map (site_hears answer_of after p) (sites_of old)
-    pub line : behind ≡ before ++ flat_map (site_says answer_of after p) (sites_of old)
+    pub line : later ≡ before ++ flat_map (site_says answer_of after p) (sites_of old)
     pub fits : All Says (sites_of old)
 
-  pub all_have : (count : ℕ) (old new : List (declared.Site H)) (before behind : List (List ℕ)) → length new ≤ count
-      → HaveHeard count old new before behind → AllHaveHeard old new before behind
-  all_have count old new before behind over h =
+  pub all_have : (count : ℕ) (old new : List (declared.Site H)) (before later : List (List ℕ)) → length new ≤ count
+      → HaveHeard count old new before later → AllHaveHeard old new before later
+  all_have count old new before later over h =
       let whole : take count old ≡ old = take_all count old (omega (arith, over, h.many)) in
       let now : take count new ≡ new = take_all count new over in
       record {

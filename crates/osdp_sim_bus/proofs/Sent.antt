@@ -12,7 +12,7 @@ use Rattle.osdp_bus.specs.Machine.{after_next_report, submit_refusal_at}
 use Rattle.osdp_bus.specs.Ticking.{bus_ticks}
 use Rattle.osdp_bus.specs.declared.fault.BusFault.{BusFault}
 use Rattle.osdp_sim.specs.Line.{IsSent, handed, left, packets_in, sent}
-use Rattle.osdp_sim.specs.Steps.{SaysFit, moment_behind}
+use Rattle.osdp_sim.specs.Steps.{SaysFit, moment_after}
 use Rattle.osdp_sim.specs.declared.step.SimStep.{SimStep}
 use Rattle.osdp_sim.specs.declared.step.SimStep.TheVariants.{Issue, Queue, Busy, Wait, ToReader, ToController, Reopen}
 use Rattle.osdp_sim.proofs.Sent.{HasSpelling, all_sent, left_sent}
@@ -24,8 +24,8 @@ all_cons : {X : Type 0} (P : X → Type 0) (x : X) (xs : List X) → P x → All
 all_cons P x xs here others zero d lt = here
 all_cons P x xs here others (suc k) d lt = others k d (omega (arith, lt))
 
-all_behind : {X : Type 0} (P : X → Type 0) (x : X) (xs : List X) → All P (x ∷ xs) → All P xs
-all_behind P x xs all k d lt = all (suc k) d (omega (arith, lt))
+all_after : {X : Type 0} (P : X → Type 0) (x : X) (xs : List X) → All P (x ∷ xs) → All P xs
+all_after P x xs all k d lt = all (suc k) d (omega (arith, lt))
 
 all_first : {X : Type 0} (P : X → Type 0) (x : X) (xs : List X) → All P (x ∷ xs) → P x
 all_first P x xs all = all 0 x (omega arith)
@@ -35,8 +35,8 @@ module _ {H : Type 0} (answer_of : H → Command → Answer) (after : H → Comm
   SayFit packets site = SaysFit answer_of after packets site.reader
 
   where_sent : (there : Bool) (new old : LineState H) → AreSent old → AreSent new → AreSent (if there then new else old)
-  where_sent true new old before behind = behind
-  where_sent false new old before behind = before
+  where_sent true new old before later = later
+  where_sent false new old before later = before
 
   issued_sent : (fault : Option BusFault) (place : ℕ) (command : Command) (s : LineState H) → AreSent s → AreSent (issued fault place command s)
   issued_sent None place command s h = record { to_readers = h.to_readers; to_bus = h.to_bus }
@@ -54,7 +54,7 @@ module _ {H : Type 0} (answer_of : H → Command → Answer) (after : H → Comm
       subst (All IsSent) (sym (flat_map-cons (site_says answer_of after p) site sites))
       (All-append IsSent (site_says answer_of after p site) (flat_map (site_says answer_of after p) sites)
       (all_sent has (reader.hears answer_of after site.reader p).reply (all_first (SayFit (p ∷ packets)) site sites fit).1)
-      (says_sent has p packets sites (all_behind (SayFit (p ∷ packets)) site sites fit)))
+      (says_sent has p packets sites (all_after (SayFit (p ∷ packets)) site sites fit)))
 
   still_fit : (p : Packet) (packets : List Packet) (sites : List (Site H)) → All (SayFit (p ∷ packets)) sites
       → All (SayFit packets) (map (site_hears answer_of after p) sites)
@@ -62,7 +62,7 @@ module _ {H : Type 0} (answer_of : H → Command → Answer) (after : H → Comm
   still_fit p packets (site ∷ sites) fit =
       all_cons (SayFit packets) (site_hears answer_of after p site) (map (site_hears answer_of after p) sites)
       (all_first (SayFit (p ∷ packets)) site sites fit).2
-      (still_fit p packets sites (all_behind (SayFit (p ∷ packets)) site sites fit))
+      (still_fit p packets sites (all_after (SayFit (p ∷ packets)) site sites fit))
 
   heard_sent : HasSpelling → (packets : List Packet) (s : LineState H) → All (SayFit packets) s.sites → AreSent s
       → AreSent (all_hear_each answer_of after packets s)
@@ -82,7 +82,7 @@ module _ {H : Type 0} (answer_of : H → Command → Answer) (after : H → Comm
   step_sent has (Busy number busy) s fits h =
       where_sent (is_there number s) _ s h (record { to_readers = h.to_readers; to_bus = h.to_bus })
   step_sent has (Wait wait) s fits h =
-      let now = moment_behind wait s.clock in
+      let now = moment_after wait s.clock in
       let t = waited now s in
       told_sent t.bus.devices.report (record t { bus = after_next_report t.bus })
       (record {

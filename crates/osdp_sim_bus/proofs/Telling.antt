@@ -12,7 +12,7 @@ use Rattle.osdp_bus.specs.declared.device.Device.{Device}
 use Rattle.osdp_bus.specs.declared.fault.BusFault.{BusFault}
 use Rattle.std.specs.Prelude.{max}
 use Rattle.osdp_sim.specs.Line.{handed, left, packets_in}
-use Rattle.osdp_sim.specs.Steps.{moment_behind}
+use Rattle.osdp_sim.specs.Steps.{moment_after}
 use Rattle.osdp_sim.specs.declared.step.SimStep.{SimStep}
 use Rattle.osdp_sim.specs.declared.step.SimStep.TheVariants.{Issue, Queue, Busy, Wait, ToReader, ToController, Reopen}
 use Rattle.osdp_sim_bus.specs.Laws.{TellsAtOnce}
@@ -25,8 +25,8 @@ module _ {H : Type 0} (answer_of : H → Command → Answer) (after : H → Comm
   IsTold s = s.bus.devices.report ≡ None
 
   where_told : (there : Bool) (new old : LineState H) → IsTold old → IsTold new → IsTold (if there then new else old)
-  where_told true new old before behind = behind
-  where_told false new old before behind = before
+  where_told true new old before later = later
+  where_told false new old before later = before
 
   changed_told : (entry : ℕ) (change : Device → Device) (b : BusState) (o : Option Device) → b.devices.report ≡ None
       → (option_map_or (λ d. record b { devices = record b.devices { entries = slice_set b.devices.entries entry (change d) } }) o b).devices.report ≡ None
@@ -51,7 +51,7 @@ module _ {H : Type 0} (answer_of : H → Command → Answer) (after : H → Comm
   step_told (Queue number event) s h = where_told (is_there number s) _ s h h
   step_told (Busy number busy) s h = where_told (is_there number s) _ s h h
   step_told (Wait wait) s h =
-      let t = waited (moment_behind wait s.clock) s in
+      let t = waited (moment_after wait s.clock) s in
       told_told t.bus.devices.report (record t { bus = after_next_report t.bus }) refl
   step_told (ToReader move) s h =
       heard_told (packets_in (handed move s.to_readers)) (record s { to_readers = left move s.to_readers }) h

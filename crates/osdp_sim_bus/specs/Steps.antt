@@ -18,7 +18,7 @@ use Rattle.osdp_bus.specs.Ticking.{BusTicked, bus_ticks}
 use Rattle.osdp_bus.specs.declared.fault.BusFault.{BusFault}
 use Rattle.osdp_sim.specs.Account.{taken_by, with_issued, with_queued, with_report, with_session, with_taken}
 use Rattle.osdp_sim.specs.Line.{handed, left, packets_in, sent}
-use Rattle.osdp_sim.specs.Steps.{SaysFit, damage_fault, moment_behind}
+use Rattle.osdp_sim.specs.Steps.{SaysFit, damage_fault, moment_after}
 use Rattle.osdp_sim.specs.declared.fault.Cause.{Cause}
 use Rattle.osdp_sim.specs.declared.fault.Cause.TheVariants.{NotQuiet}
 use Rattle.osdp_sim.specs.declared.step.SimStep.{SimStep}
@@ -143,7 +143,7 @@ module _ {H : Type 0} where
         where_there number (λ place. issued (submit_refusal_at place command s.bus) place command s) s
     after_step (Queue number event) s = where_there number (λ place. changes_site place (site_queues event) s) s
     after_step (Busy number busy) s = where_there number (λ place. changes_site place (site_is_busy busy) s) s
-    after_step (Wait wait) s = takes_report (waited (moment_behind wait s.clock) s)
+    after_step (Wait wait) s = takes_report (waited (moment_after wait s.clock) s)
     after_step (ToReader move) s =
         all_hear_each (packets_in (handed move s.to_readers)) (record s { to_readers = left move s.to_readers })
     after_step (ToController move) s =
@@ -158,7 +158,7 @@ module _ {H : Type 0} where
     StepFits (Issue number command) s = CommandFits command
     StepFits (Queue number event) s = Unit {0}
     StepFits (Busy number busy) s = Unit {0}
-    StepFits (Wait wait) s = IfSome (bus_ticks (moment_behind wait s.clock) s.bus).sent IsPacket
+    StepFits (Wait wait) s = IfSome (bus_ticks (moment_after wait s.clock) s.bus).sent IsPacket
     StepFits (ToReader move) s =
         All (λ (site : Site H). SaysFit answer_of after (packets_in (handed move s.to_readers)) site.reader) s.sites
     StepFits (ToController move) s = Unit {0}

@@ -6,9 +6,9 @@ use Rattle.std.specs.List.{list_all, list_any}
 use Rattle.osdp_reader.specs.State.{new_reader}
 use Rattle.osdp_bus.specs.Machine.{most_devices}
 use Rattle.osdp_bus.specs.declared.config.BusConfig.{BusConfig}
-use Rattle.osdp_link.specs.Link.{new_account}
-use Rattle.osdp_link.specs.Names.{BeginsTogether}
-use Rattle.osdp_link.proofs.Numbers.{is_true}
+use Rattle.osdp_link_laws.specs.Link.{new_account}
+use Rattle.osdp_link_laws.specs.Names.{BeginsTogether}
+use Rattle.osdp_link_laws.proofs.Numbers.{is_true}
 use Rattle.osdp_multidrop.specs.Line as line
 use Rattle.osdp_multidrop.specs.Line.{Net, site_at}
 use Rattle.osdp_multidrop.specs.Runs.{IsSetUp}

@@ -13,11 +13,11 @@ use Rattle.osdp_reader.specs.State.{ReaderState}
 use Rattle.osdp_reader.specs.declared.handler.Answer.{Answer}
 use Rattle.osdp_bus.specs.Buses.{BusState}
 use Rattle.osdp_bus.specs.Machine.{after_next_report}
-use Rattle.osdp_link.specs.Headline.{SaysWhatFitsIf}
-use Rattle.osdp_link.specs.Link.{Delivered, Delivery, Lost, Repeated}
-use Rattle.osdp_link.specs.Peers.{IsPlainlySaid}
-use Rattle.osdp_link.proofs.Lines.{each_all, each_append, each_map}
-use Rattle.osdp_link.proofs.Stages.{Each}
+use Rattle.osdp_link_laws.specs.Headline.{SaysWhatFitsIf}
+use Rattle.osdp_link_laws.specs.Link.{Delivered, Delivery, Lost, Repeated}
+use Rattle.osdp_link_laws.specs.Peers.{IsPlainlySaid}
+use Rattle.osdp_link_laws.proofs.Lines.{each_all, each_append, each_map}
+use Rattle.osdp_link_laws.proofs.Stages.{Each}
 use Rattle.osdp_multidrop.specs.Line as line
 use Rattle.osdp_multidrop.specs.Line.{Net, NetMove, Reopen, ToControllers, ToReaders, first_gets, run, said_from, site_at, tagged}
 use Rattle.osdp_multidrop.specs.Runs.{in_front}

@@ -12,7 +12,7 @@ use Rattle.osdp_reader.specs.declared.handler.Answer.{Answer}
 use Rattle.osdp_bus.specs.Machine.{after_next_report, submit_refusal_at}
 use Rattle.osdp_bus.specs.Ticking.{bus_ticks}
 use Rattle.osdp_bus.specs.declared.fault.BusFault.{BusFault}
-use Rattle.osdp_link.proofs.Stages.{Each}
+use Rattle.osdp_link_laws.proofs.Stages.{Each}
 use Rattle.osdp_multidrop.specs.Line as line
 use Rattle.osdp_multidrop.specs.Line.{Net, NetMove, Queue, Reopen, SetBusy, Submit, Tick, ToControllers, ToReaders, changed, run, site_at, submits}
 use Rattle.osdp_multidrop.specs.Runs.{AreNetMoves}
@@ -22,7 +22,7 @@ use Rattle.osdp_sim_bus.specs.State.{LineState, Site}
 use Rattle.osdp_sim_bus.specs.Steps as steps
 use Rattle.osdp_sim_bus.specs.Steps.{changes_site, is_there, issued, site_is_busy, site_issues, site_queues, site_queues_unless, takes_report, waited, where_there}
 use Rattle.osdp_sim_laws.proofs.Accounts.{tells_issued, tells_queued}
-use Rattle.osdp_sim_laws.proofs.Carrying.{packets_behind, sent_behind}
+use Rattle.osdp_sim_laws.proofs.Carrying.{packets_after, sent_after}
 use Rattle.osdp_sim_bus_laws.specs.Moves.{Done, Follows, IsSiteOf, SitesOf}
 use Rattle.osdp_sim_bus_laws.proofs.Sites.{all_told, none_changes, none_told, one_changes, told_from, told_sites}
 
@@ -172,8 +172,8 @@ module _ {H : Type 0} (answer_of : H → Command → Answer) (after : H → Comm
         ticked.0,
         ticks_fit (max s.bus.greatest now) ticked.0 n is.tick,
         reported (waited now s) n next is.bus is.plain h.sites is.told
-            (ap (λ l. l ++ sent o) h.to_readers ∙ sent_behind (packets_on n.to_readers) o ∙ ap (map spelling) (sym is.sent))
+            (ap (λ l. l ++ sent o) h.to_readers ∙ sent_after (packets_on n.to_readers) o ∙ ap (map spelling) (sym is.sent))
             (h.to_bus ∙ ap (λ qs. map spelling (packets_on qs)) (sym is.back))
-            (subst (Each IsPacket) (sym is.sent) (packets_behind (packets_on n.to_readers) o h.asked fits))
+            (subst (Each IsPacket) (sym is.sent) (packets_after (packets_on n.to_readers) o h.asked fits))
             (subst (λ qs. Each IsPacket (packets_on qs)) (sym is.back) h.answered),
       )

@@ -12,13 +12,13 @@ use Rattle.osdp_reader.specs.declared.handler.Answer.{Answer}
 use Rattle.osdp_bus.specs.Machine.{after_next_report, submit_refusal_at}
 use Rattle.osdp_bus.specs.declared.config.BusConfig.{BusConfig}
 use Rattle.osdp_bus.specs.declared.fault.BusFault.{BusFault}
-use Rattle.osdp_link.specs.Headline.{AreOnce, IsBeginning, with_answers}
-use Rattle.osdp_link.specs.Link as link
-use Rattle.osdp_link.proofs.Lines.{each_of}
-use Rattle.osdp_link.proofs.Stages.{Each}
+use Rattle.osdp_link_laws.specs.Headline.{AreOnce, IsBeginning, with_answers}
+use Rattle.osdp_link_laws.specs.Link as link
+use Rattle.osdp_link_laws.proofs.Lines.{each_of}
+use Rattle.osdp_link_laws.proofs.Stages.{Each}
 use Rattle.osdp_sim.specs.Account.{Account}
 use Rattle.osdp_sim.specs.Line.{handed, left, packets_in}
-use Rattle.osdp_sim.specs.Steps.{moment_behind}
+use Rattle.osdp_sim.specs.Steps.{moment_after}
 use Rattle.osdp_sim.specs.declared.account.Lengths.{Lengths}
 use Rattle.osdp_sim.specs.declared.step.SimStep.{SimStep}
 use Rattle.osdp_sim.specs.declared.step.SimStep.TheVariants as step
@@ -107,7 +107,7 @@ module _ {H : Type 0} where
         one_where (is_there number s) (record s { sites = changed_site (number - 1) (site_is_busy busy) s.sites }) s
         (one_changed (site_is_busy busy) (λ u is. is) (number - 1) s.sites all) all
     one_step (step.Wait wait) s within all =
-        let t = waited (moment_behind wait s.clock) s in
+        let t = waited (moment_after wait s.clock) s in
         one_told t.bus.devices.report (record t { bus = after_next_report t.bus }) all
     one_step (step.ToReader move) s within all =
         one_hears (packets_in (handed move s.to_readers)) (record s { to_readers = left move s.to_readers }) all

@@ -7,10 +7,10 @@ use Rattle.osdp_controller.specs.States.{is_closed}
 use Rattle.osdp_reader.specs.declared.config.ReaderConfig.{ReaderConfig}
 use Rattle.osdp_reader.specs.declared.handler.Answer.{Answer}
 use Rattle.osdp_bus.specs.declared.config.BusConfig.{BusConfig}
-use Rattle.osdp_link.specs.Headline.{AreOnce}
-use Rattle.osdp_link.specs.Link as link
-use Rattle.osdp_link.specs.Sessions.{AreInARow, LastsOrLeaves, settled_commands, told_in}
-use Rattle.osdp_link.proofs.Lines.{each_all}
+use Rattle.osdp_link_laws.specs.Headline.{AreOnce}
+use Rattle.osdp_link_laws.specs.Link as link
+use Rattle.osdp_link_laws.specs.Sessions.{AreInARow, LastsOrLeaves, settled_commands, told_in}
+use Rattle.osdp_link_laws.proofs.Lines.{each_all}
 use Rattle.osdp_multidrop.specs.Line as line
 use Rattle.osdp_multidrop.specs.Line.{Net, run}
 use Rattle.osdp_multidrop.specs.Runs.{EachHoldsOnce, EachIsALink, EachStaysInARow, IsSetUp}

@@ -3,11 +3,11 @@ use Rattle.std.proofs.Common.{◌≡◌, ℕ, true, List, [], ◌∷◌, ◌++�
 use Rattle.osdp_frame.specs.Packet.{Packet}
 use Rattle.osdp_msg.specs.declared.command.Command.{Command}
 use Rattle.osdp_reader.specs.declared.handler.Answer.{Answer}
-use Rattle.osdp_link.specs.Headline.{SaysAllPlainly}
-use Rattle.osdp_link.specs.Link as link
-use Rattle.osdp_link.specs.Peers.{IsPlainlySaid, ReadEachOther}
-use Rattle.osdp_link.proofs.Lines.{each_all, each_of}
-use Rattle.osdp_link.proofs.Stages.{Each}
+use Rattle.osdp_link_laws.specs.Headline.{SaysAllPlainly}
+use Rattle.osdp_link_laws.specs.Link as link
+use Rattle.osdp_link_laws.specs.Peers.{IsPlainlySaid, ReadEachOther}
+use Rattle.osdp_link_laws.proofs.Lines.{each_all, each_of}
+use Rattle.osdp_link_laws.proofs.Stages.{Each}
 use Rattle.osdp_multidrop.specs.Line.{Net, NetMove, after_net, run}
 use Rattle.osdp_multidrop.specs.Runs.{AreNetMoves, EachIsALink, EachStaysInARow, IsSetUp, moves_of}
 use Rattle.osdp_multidrop.specs.Views.{own, view}

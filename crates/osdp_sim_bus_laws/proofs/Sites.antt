@@ -14,10 +14,10 @@ use Rattle.osdp_controller_laws.specs.Commands.{tells_end}
 use Rattle.osdp_reader.specs.Table as reader
 use Rattle.osdp_reader.specs.State.{ReaderState}
 use Rattle.osdp_reader.specs.declared.handler.Answer.{Answer}
-use Rattle.osdp_link.specs.Link as link
-use Rattle.osdp_link.specs.Refusals as refusals
-use Rattle.osdp_link.proofs.Numbers.{is_false, is_true}
-use Rattle.osdp_link.proofs.Stages.{Each}
+use Rattle.osdp_link_laws.specs.Link as link
+use Rattle.osdp_link_laws.specs.Refusals as refusals
+use Rattle.osdp_link_laws.proofs.Numbers.{is_false, is_true}
+use Rattle.osdp_link_laws.proofs.Stages.{Each}
 use Rattle.osdp_multidrop.specs.Line as line
 use Rattle.osdp_multidrop.specs.Line.{changed, said_from, site_at, tagged}
 use Rattle.osdp_bus_links.specs.Links.{IsNoRefusalOf, IsTold, TellsFrom, packets_on, report_for}
@@ -120,9 +120,9 @@ module _ {H : Type 0} where
     ended =
         let ends = ends_of_report r u.account in
         let same = ap (λ l. length l) (sessions_of_report r u.account) in
-        let behind = ap count is.closes ∙ counts_join (is_closed s.controller.session.state) (tells_end r) is.once in
+        let later = ap count is.closes ∙ counts_join (is_closed s.controller.session.state) (tells_end r) is.once in
         let before = h.ended in
-        omega (arith, ends, same, behind, before);
+        omega (arith, ends, same, later, before);
     causes = causes_of r u.account plain h.causes;
   }
 

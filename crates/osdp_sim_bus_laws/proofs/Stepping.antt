@@ -14,10 +14,10 @@ use Rattle.osdp_controller.specs.declared.state.State.TheVariants.{Closed, Quiet
 use Rattle.osdp_reader.specs.declared.handler.Answer.{Answer}
 use Rattle.osdp_bus.specs.Machine.{begin_refusal_of, begin_refusal_at, bus_fault}
 use Rattle.osdp_bus.specs.declared.device.Device.{Device}
-use Rattle.osdp_link.specs.Peers.{IsPlainlySaid}
-use Rattle.osdp_link.specs.Link as link
-use Rattle.osdp_link.specs.Sessions.{LastsOrLeaves, Leaves}
-use Rattle.osdp_link.proofs.Lines.{each_of}
+use Rattle.osdp_link_laws.specs.Peers.{IsPlainlySaid}
+use Rattle.osdp_link_laws.specs.Link as link
+use Rattle.osdp_link_laws.specs.Sessions.{LastsOrLeaves, Leaves}
+use Rattle.osdp_link_laws.proofs.Lines.{each_of}
 use Rattle.osdp_multidrop.specs.Line as line
 use Rattle.osdp_multidrop.specs.Line.{Net, Reopen, changed, site_at}
 use Rattle.osdp_multidrop.specs.Views.{view}
@@ -26,7 +26,7 @@ use Rattle.osdp_bus_links.proofs.Devices.{get_device, get_none}
 use Rattle.osdp_sim.specs.Account.{lengths_of}
 use Rattle.osdp_sim.specs.declared.fault.Cause.TheVariants.{NotQuiet}
 use Rattle.osdp_sim.specs.Line.{handed, packets_in}
-use Rattle.osdp_sim.specs.Steps.{SaysFit, moment_behind}
+use Rattle.osdp_sim.specs.Steps.{SaysFit, moment_after}
 use Rattle.osdp_sim.specs.declared.step.SimStep.TheVariants as step
 use Rattle.osdp_sim_bus.specs.State.{LineState, Site}
 use Rattle.osdp_sim_bus.specs.Steps as steps
@@ -138,7 +138,7 @@ module _ {H : Type 0} (answer_of : H → Command → Answer) (after : H → Comm
     steps_are_moves (step.Issue number c) s n well fits bytes known h = issuing answer_of after given.submits number c s n fits h
     steps_are_moves (step.Queue number e) s n well fits bytes known h = queueing answer_of after number e s n h
     steps_are_moves (step.Busy number busy) s n well fits bytes known h = setting answer_of after number busy s n h
-    steps_are_moves (step.Wait wait) s n well fits bytes known h = waiting answer_of after given.ticks (moment_behind wait s.clock) s n fits h
+    steps_are_moves (step.Wait wait) s n well fits bytes known h = waiting answer_of after given.ticks (moment_after wait s.clock) s n fits h
     steps_are_moves (step.ToReader move) s n well fits bytes known h =
         to_readers answer_of after given.reads n.to_readers move s n refl well (each_of (λ (u : Site H). SaysFit answer_of after (packets_in (handed move s.to_readers)) u.reader) s.sites fits) h
     steps_are_moves (step.ToController move) s n well fits bytes known h =

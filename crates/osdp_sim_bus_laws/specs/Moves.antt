@@ -6,9 +6,9 @@ use Rattle.osdp_frame.specs.Spelling.{spelling}
 use Rattle.osdp_msg.specs.declared.command.Command.{Command}
 use Rattle.osdp_controller.specs.States.{is_closed}
 use Rattle.osdp_reader.specs.declared.handler.Answer.{Answer}
-use Rattle.osdp_link.specs.Peers.{IsPlainlySaid}
-use Rattle.osdp_link.specs.Sessions.{LastsOrLeaves}
-use Rattle.osdp_link.proofs.Stages.{Each}
+use Rattle.osdp_link_laws.specs.Peers.{IsPlainlySaid}
+use Rattle.osdp_link_laws.specs.Sessions.{LastsOrLeaves}
+use Rattle.osdp_link_laws.proofs.Stages.{Each}
 use Rattle.osdp_multidrop.specs.Line as line
 use Rattle.osdp_multidrop.specs.Line.{Net, NetMove, run, site_at}
 use Rattle.osdp_multidrop.specs.Runs.{AreNetMoves, IsSetUp}

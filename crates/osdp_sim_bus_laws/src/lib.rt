@@ -33,8 +33,8 @@ pub fn schedules_are_moves<H: Handler>()
     ensures { SchedulesAreMoves H.answer_of H.after }
 {
     steps_are_moves::<H>();
-    osdp_link::read_each_other::<H>();
-    osdp_link::says_all_plainly::<H>();
+    osdp_link_laws::read_each_other::<H>();
+    osdp_link_laws::says_all_plainly::<H>();
     osdp_multidrop::each_is_a_link::<H>();
     osdp_multidrop::each_stays_in_a_row::<H>();
 }

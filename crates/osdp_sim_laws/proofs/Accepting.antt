@@ -24,15 +24,15 @@ use Rattle.osdp_reader.specs.Table as reader
 use Rattle.osdp_reader.specs.declared.handler.Answer.{Answer}
 use Rattle.osdp_reader.specs.declared.kind.Kind.{Kind}
 use Rattle.osdp_reader.specs.declared.kind.Kind.TheVariants as kind
-use Rattle.osdp_link.specs.Headline.{IsBeginning}
-use Rattle.osdp_link.proofs.Lines.{both}
-use Rattle.osdp_link.proofs.Stages.{Each}
+use Rattle.osdp_link_laws.specs.Headline.{IsBeginning}
+use Rattle.osdp_link_laws.proofs.Lines.{both}
+use Rattle.osdp_link_laws.proofs.Stages.{Each}
 use Rattle.osdp_sim.specs.Account.{Account}
 use Rattle.osdp_sim.specs.Line.{handed, left, packets_in}
 use Rattle.osdp_sim.specs.Runs.{Stops, run, steps_done}
 use Rattle.osdp_sim.specs.State.{SimState, set_up}
 use Rattle.osdp_sim.specs.Steps as steps
-use Rattle.osdp_sim.specs.Steps.{after_step, controller_hears, moment_behind, reader_hears}
+use Rattle.osdp_sim.specs.Steps.{after_step, controller_hears, moment_after, reader_hears}
 use Rattle.osdp_sim.specs.declared.account.Account as declared
 use Rattle.osdp_sim.specs.declared.config.SimConfig.{SimConfig}
 use Rattle.osdp_sim.specs.declared.fault.Cause.{Cause}
@@ -48,9 +48,9 @@ use Rattle.osdp_sim_laws.proofs.Accounts.{report_leaves}
 -- ---- lists that are accepted
 
 -- of all these some are accepted, and come last in a list
-pub record Accepts {A : Type 0} (room : ℕ) (all before behind : List A) : Type 0 where
+pub record Accepts {A : Type 0} (room : ℕ) (all before later : List A) : Type 0 where
   pub new : List A
-  pub list : behind ≡ before ++ new
+  pub list : later ≡ before ++ new
   pub among : IsAmong new all
   pub first : IsBeginning (take room all) new
 
@@ -61,8 +61,8 @@ none_accepted {A} room before = record { new = []; list = sym (append-nil before
     by_room zero = ([], refl)
     by_room (suc n) = ([], refl)
 
-one_accepted : {A : Type 0} (room : ℕ) (x : A) (all before behind : List A) → Accepts (room - 1) all (before ++ x ∷ []) behind → Accepts room (x ∷ all) before behind
-one_accepted {A} room x all before behind is = record {
+one_accepted : {A : Type 0} (room : ℕ) (x : A) (all before later : List A) → Accepts (room - 1) all (before ++ x ∷ []) later → Accepts room (x ∷ all) before later
+one_accepted {A} room x all before later is = record {
   new = x ∷ is.new;
   list = is.list ∙ append_assoc before (x ∷ []) is.new;
   among = inr (is.new, refl, is.among);
@@ -73,8 +73,8 @@ one_accepted {A} room x all before behind is = record {
     by_room zero begins = (x ∷ is.new, refl)
     by_room (suc n) begins = let less : suc n - 1 ≡ n = omega arith in (begins.0, ap (λ l. x ∷ l) (begins.1 ∙ ap (λ k. take k all ++ begins.0) less))
 
-one_refused : {A : Type 0} (room : ℕ) (x : A) (all before behind : List A) → room ≡ 0 → Accepts room all before behind → Accepts room (x ∷ all) before behind
-one_refused {A} room x all before behind full is = record {
+one_refused : {A : Type 0} (room : ℕ) (x : A) (all before later : List A) → room ≡ 0 → Accepts room all before later → Accepts room (x ∷ all) before later
+one_refused {A} room x all before later full is = record {
   new = is.new;
   list = is.list;
   among = inl is.among;
@@ -91,14 +91,14 @@ no_more : {A : Type 0} (xs : List A) → length xs ≤ 0 → xs ≡ []
 no_more [] few = refl
 no_more (x ∷ xs) few = absurd (omega (arith, few))
 
-pub accepted : {A : Type 0} (room : ℕ) (all behind : List A) → Accepts room all [] behind → IsAccepted room all behind
-accepted {A} room all behind is = record {
+pub accepted : {A : Type 0} (room : ℕ) (all later : List A) → Accepts room all [] later → IsAccepted room all later
+accepted {A} room all later is = record {
   every = λ fits. by_beginning fits (subst (λ l. IsBeginning l is.new) (take_all room all fits) is.first);
   first = subst (IsBeginning (take room all)) (sym is.list) is.first;
   among = subst (λ l. IsAmong l all) (sym is.list) is.among;
 }
   where
-    by_beginning : length all ≤ room → IsBeginning all is.new → behind ≡ all
+    by_beginning : length all ≤ room → IsBeginning all is.new → later ≡ all
     by_beginning fits (rest, whole) =
         let many = ap length whole in
         let none = no_more rest (omega (arith, many, length-append all rest, among_few is.new all is.among)) in
@@ -235,7 +235,7 @@ module _ {H : Type 0} (answer_of : H → Command → Answer) (after : H → Comm
 
   waits_none : (wait : ℕ) (s : SimState H) → AcceptsNone s (after_step answer_of after (Wait wait) s)
   waits_none wait s =
-      let now = moment_behind wait s.clock in
+      let now = moment_after wait s.clock in
       let t = ticks now s.controller.session s.controller.waiting in
       let leaves = report_leaves t.step.report s.account in
       record {

@@ -10,24 +10,24 @@ use Rattle.osdp_controller.specs.declared.report.Report.{Report}
 use Rattle.osdp_controller.specs.declared.report.Report.TheVariants as report
 use Rattle.osdp_reader.specs.declared.kind.Kind.{Kind}
 use Rattle.osdp_reader.specs.declared.kind.Kind.TheVariants as kind
-use Rattle.osdp_link.specs.Link as link
-use Rattle.osdp_link.specs.Refusals as refusals
-use Rattle.osdp_link.specs.Sessions.{Leaves, settled_commands, told_in}
-use Rattle.osdp_link.proofs.Lines.{each_append}
-use Rattle.osdp_link.proofs.Stages.{Each}
+use Rattle.osdp_link_laws.specs.Link as link
+use Rattle.osdp_link_laws.specs.Refusals as refusals
+use Rattle.osdp_link_laws.specs.Sessions.{Leaves, settled_commands, told_in}
+use Rattle.osdp_link_laws.proofs.Lines.{each_append}
+use Rattle.osdp_link_laws.proofs.Stages.{Each}
 use Rattle.osdp_sim.specs.Account.{Account, lengths_of, taken_by, taken_command, with_report, with_session, with_taken}
 use Rattle.osdp_sim.specs.declared.account.End.TheVariants as ending
 use Rattle.osdp_sim.specs.declared.account.Lengths.{Lengths}
 use Rattle.osdp_sim_laws.specs.Accounts.{AreOver, IsNoRefusal, IsOf, all_in}
 
--- what comes behind the list of the last session comes after them all
-behind : {A : Type 0} (xs before last more : List A) → xs ≡ before ++ last → xs ++ more ≡ before ++ (last ++ more)
-behind xs before last more is = ap (λ l. l ++ more) is ∙ append_assoc before last more
+-- what comes after the list of the last session comes after them all
+later : {A : Type 0} (xs before last more : List A) → xs ≡ before ++ last → xs ++ more ≡ before ++ (last ++ more)
+later xs before last more is = ap (λ l. l ++ more) is ∙ append_assoc before last more
 
-behind_taken : (more : List Command) (a : Account) (t : link.Account) (earlier : List link.Account) → IsOf a t earlier
+after_taken : (more : List Command) (a : Account) (t : link.Account) (earlier : List link.Account) → IsOf a t earlier
     → IsOf (with_taken more a) (record t { taken = t.taken ++ more }) earlier
-behind_taken more a t earlier h = record {
-  taken = behind a.taken (all_in (λ t. t.taken) earlier) t.taken more h.taken;
+after_taken more a t earlier h = record {
+  taken = later a.taken (all_in (λ t. t.taken) earlier) t.taken more h.taken;
   settled = h.settled;
   unsettled = h.unsettled;
   reported = h.reported;
@@ -42,7 +42,7 @@ tells_report None a t earlier h = h
 tells_report (Some (report.Opened id)) a t earlier h = h
 tells_report (Some (report.Settled command answer)) a t earlier h = record {
   taken = h.taken;
-  settled = behind a.settled (all_in (λ t. t.settled) earlier) t.settled ((command, answer) ∷ []) h.settled;
+  settled = later a.settled (all_in (λ t. t.settled) earlier) t.settled ((command, answer) ∷ []) h.settled;
   unsettled = h.unsettled;
   reported = h.reported;
   issued = h.issued;
@@ -50,7 +50,7 @@ tells_report (Some (report.Settled command answer)) a t earlier h = record {
 }
 tells_report (Some (report.Moved command answered)) a t earlier h = record {
   taken = h.taken;
-  settled = behind a.settled (all_in (λ t. t.settled) earlier) t.settled ((command, reply.Com answered) ∷ []) h.settled;
+  settled = later a.settled (all_in (λ t. t.settled) earlier) t.settled ((command, reply.Com answered) ∷ []) h.settled;
   unsettled = h.unsettled;
   reported = h.reported;
   issued = h.issued;
@@ -60,7 +60,7 @@ tells_report (Some (report.Event event)) a t earlier h = record {
   taken = h.taken;
   settled = h.settled;
   unsettled = h.unsettled;
-  reported = behind a.reported (all_in (λ t. t.reported) earlier) t.reported (event ∷ []) h.reported;
+  reported = later a.reported (all_in (λ t. t.reported) earlier) t.reported (event ∷ []) h.reported;
   issued = h.issued;
   queued = h.queued;
 }
@@ -69,7 +69,7 @@ tells_report (Some (report.Unread command code)) a t earlier h = h
 tells_report (Some (report.Lost cause command)) a t earlier h = record {
   taken = h.taken;
   settled = h.settled;
-  unsettled = behind a.unsettled (all_in (λ t. t.unsettled) earlier) t.unsettled (option_to_list command) h.unsettled;
+  unsettled = later a.unsettled (all_in (λ t. t.unsettled) earlier) t.unsettled (option_to_list command) h.unsettled;
   reported = h.reported;
   issued = h.issued;
   queued = h.queued;
@@ -86,18 +86,18 @@ taken_alike command.Poll front a t earlier h = record {
   issued = h.issued;
   queued = h.queued;
 }
-taken_alike (command.Id kept) front a t earlier h = behind_taken (command.Id kept ∷ []) a t earlier h
-taken_alike (command.Cap kept) front a t earlier h = behind_taken (command.Cap kept ∷ []) a t earlier h
-taken_alike command.LocalStatus front a t earlier h = behind_taken (command.LocalStatus ∷ []) a t earlier h
-taken_alike command.InputStatus front a t earlier h = behind_taken (command.InputStatus ∷ []) a t earlier h
-taken_alike command.OutputStatus front a t earlier h = behind_taken (command.OutputStatus ∷ []) a t earlier h
-taken_alike command.ReaderStatus front a t earlier h = behind_taken (command.ReaderStatus ∷ []) a t earlier h
-taken_alike (command.Output records) front a t earlier h = behind_taken (command.Output records ∷ []) a t earlier h
-taken_alike (command.Led records) front a t earlier h = behind_taken (command.Led records ∷ []) a t earlier h
-taken_alike (command.Buzzer b) front a t earlier h = behind_taken (command.Buzzer b ∷ []) a t earlier h
-taken_alike (command.Text text) front a t earlier h = behind_taken (command.Text text ∷ []) a t earlier h
-taken_alike (command.Comset c) front a t earlier h = behind_taken (command.Comset c ∷ []) a t earlier h
-taken_alike (command.Maker m) front a t earlier h = behind_taken (command.Maker m ∷ []) a t earlier h
+taken_alike (command.Id kept) front a t earlier h = after_taken (command.Id kept ∷ []) a t earlier h
+taken_alike (command.Cap kept) front a t earlier h = after_taken (command.Cap kept ∷ []) a t earlier h
+taken_alike command.LocalStatus front a t earlier h = after_taken (command.LocalStatus ∷ []) a t earlier h
+taken_alike command.InputStatus front a t earlier h = after_taken (command.InputStatus ∷ []) a t earlier h
+taken_alike command.OutputStatus front a t earlier h = after_taken (command.OutputStatus ∷ []) a t earlier h
+taken_alike command.ReaderStatus front a t earlier h = after_taken (command.ReaderStatus ∷ []) a t earlier h
+taken_alike (command.Output records) front a t earlier h = after_taken (command.Output records ∷ []) a t earlier h
+taken_alike (command.Led records) front a t earlier h = after_taken (command.Led records ∷ []) a t earlier h
+taken_alike (command.Buzzer b) front a t earlier h = after_taken (command.Buzzer b ∷ []) a t earlier h
+taken_alike (command.Text text) front a t earlier h = after_taken (command.Text text ∷ []) a t earlier h
+taken_alike (command.Comset c) front a t earlier h = after_taken (command.Comset c ∷ []) a t earlier h
+taken_alike (command.Maker m) front a t earlier h = after_taken (command.Maker m ∷ []) a t earlier h
 
 -- nothing is taken
 none_taken : (a : Account) (t : link.Account) (earlier : List link.Account) → IsOf a t earlier → IsOf (with_taken [] a) t earlier
@@ -138,7 +138,7 @@ over_more cuts next more (t ∷ earlier) gone (before, past, over, is) = (
     cut = is.cut;
     queued = is.queued;
     goes = is.goes;
-    first = (is.first.0 ++ more, behind next is.waits is.first.0 more is.first.1);
+    first = (is.first.0 ++ more, later next is.waits is.first.0 more is.first.1);
     reported = is.reported;
     front = is.front;
     few = is.few;
@@ -159,7 +159,7 @@ some_begun cuts next earlier gone over = omega (arith, begun cuts next earlier g
 pub tells_issued : (command : Command) (a : Account) (t : link.Account) (earlier : List link.Account) → IsOf a t earlier
     → IsOf (record a { issued = a.issued ++ command ∷ [] }) (record t { issued = t.issued ++ command ∷ [] }) earlier
 tells_issued command a t earlier h = record {
-  issued = behind a.issued (told_in earlier) t.issued (command ∷ []) h.issued;
+  issued = later a.issued (told_in earlier) t.issued (command ∷ []) h.issued;
   queued = h.queued;
   taken = h.taken;
   settled = h.settled;
@@ -174,7 +174,7 @@ tells_queued event a t earlier h = record {
   queued = (
     h.queued.0,
     over_more a.sessions t.queued (event ∷ []) earlier h.queued.0 h.queued.1,
-    behind a.queued h.queued.0 t.queued (event ∷ []) h.queued.2,
+    later a.queued h.queued.0 t.queued (event ∷ []) h.queued.2,
   );
   taken = h.taken;
   settled = h.settled;

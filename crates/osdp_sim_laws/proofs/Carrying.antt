@@ -15,13 +15,13 @@ use Rattle.osdp_controller.specs.declared.fault.ControllerFault.{ControllerFault
 use Rattle.osdp_controller.specs.declared.state.State.{State}
 use Rattle.osdp_controller.specs.declared.state.State.TheVariants.{Closed, Quiet, Idle, Waiting, Pausing}
 use Rattle.osdp_reader.specs.State as readers
-use Rattle.osdp_link.specs.Link as link
-use Rattle.osdp_link.specs.Link.{Link}
-use Rattle.osdp_link.specs.Refusals as refusals
-use Rattle.osdp_link.specs.Sessions as sessions
-use Rattle.osdp_link.specs.Sessions.{Leaves}
-use Rattle.osdp_link.proofs.Lines.{each_append}
-use Rattle.osdp_link.proofs.Stages.{Each}
+use Rattle.osdp_link_laws.specs.Link as link
+use Rattle.osdp_link_laws.specs.Link.{Link}
+use Rattle.osdp_link_laws.specs.Refusals as refusals
+use Rattle.osdp_link_laws.specs.Sessions as sessions
+use Rattle.osdp_link_laws.specs.Sessions.{Leaves}
+use Rattle.osdp_link_laws.proofs.Lines.{each_append}
+use Rattle.osdp_link_laws.proofs.Stages.{Each}
 use Rattle.osdp_sim.specs.Account.{Account}
 use Rattle.osdp_sim.specs.Line.{sent}
 use Rattle.osdp_sim.specs.State.{SimState}
@@ -35,13 +35,13 @@ sent_is : (o : Option Packet) → map spelling (option_to_list o) ≡ sent o
 sent_is None = refl
 sent_is (Some p) = refl
 
--- what is sent goes behind what is on the way
-pub sent_behind : (ps : List Packet) (o : Option Packet) → map spelling ps ++ sent o ≡ map spelling (ps ++ option_to_list o)
-sent_behind ps o = ap (λ l. map spelling ps ++ l) (sym (sent_is o)) ∙ sym (map-append spelling ps (option_to_list o))
+-- what is sent goes after what is on the way
+pub sent_after : (ps : List Packet) (o : Option Packet) → map spelling ps ++ sent o ≡ map spelling (ps ++ option_to_list o)
+sent_after ps o = ap (λ l. map spelling ps ++ l) (sym (sent_is o)) ∙ sym (map-append spelling ps (option_to_list o))
 
-pub packets_behind : (ps : List Packet) (o : Option Packet) → Each IsPacket ps → IfSome o IsPacket → Each IsPacket (ps ++ option_to_list o)
-packets_behind ps None all fits = subst (Each IsPacket) (sym (append-nil ps)) all
-packets_behind ps (Some p) all fits = each_append IsPacket ps (p ∷ []) all (fits, tt)
+pub packets_after : (ps : List Packet) (o : Option Packet) → Each IsPacket ps → IfSome o IsPacket → Each IsPacket (ps ++ option_to_list o)
+packets_after ps None all fits = subst (Each IsPacket) (sym (append-nil ps)) all
+packets_after ps (Some p) all fits = each_append IsPacket ps (p ∷ []) all (fits, tt)
 
 -- where no fault says otherwise the line is quiet
 all_true : (a b c : Bool) → (if true && not (a && b && c) then Some NotQuiet else None) ≡ None → (a ≡ true) × (b ≡ true) × (c ≡ true)
@@ -74,7 +74,7 @@ module _ {H : Type 0} where
     pub to_reader : Each IsPacket l.to_reader
     pub to_controller : Each IsPacket l.to_controller
 
-  -- the simulation is the link behind a step, and so is its account; these commands were issued, these events queued and these reports told in it
+  -- the simulation is the link after a step, and so is its account; these commands were issued, these events queued and these reports told in it
   pub record IsCarried (s : SimState H) (l : Link H) (clock : ℕ) (a : Account) (commands : List Command) (events : List Event) (told : List Report) : Type 0 where
     pub state : s ≡ in_bytes l clock s.account
     pub packets : ArePackets l
@@ -142,9 +142,9 @@ module _ {H : Type 0} where
       let s = steps.ticked t now (in_bytes l clock a) in
       let leaves = report_leaves t.step.report a in
       record {
-        state = ap (λ line. record s { to_reader = line }) (sent_behind l.to_reader t.step.frame);
+        state = ap (λ line. record s { to_reader = line }) (sent_after l.to_reader t.step.frame);
         packets = record {
-          to_reader = packets_behind l.to_reader t.step.frame packets.to_reader fits;
+          to_reader = packets_after l.to_reader t.step.frame packets.to_reader fits;
           to_controller = packets.to_controller;
         };
         tells = tells_report t.step.report a l.account l.earlier tells;

@@ -12,22 +12,22 @@ use Rattle.osdp_controller.specs.declared.fault.ControllerFault.{ControllerFault
 use Rattle.osdp_controller.specs.declared.fault.ControllerFault.TheVariants.{Full}
 use Rattle.osdp_controller_laws.specs.Calls.{longest_wait}
 use Rattle.osdp_reader.specs.declared.handler.Answer.{Answer}
-use Rattle.osdp_link.specs.Clean as clean
-use Rattle.osdp_link.specs.Link as link
-use Rattle.osdp_link.specs.Link.{Delivered, Link}
-use Rattle.osdp_link.specs.Progress as progress
-use Rattle.osdp_link.specs.Progress.{SetsNoAddress}
-use Rattle.osdp_link.specs.Sessions.{all_submitted, told_in}
-use Rattle.osdp_link.specs.Headline as headline
-use Rattle.osdp_link.specs.Headline.{with_answers}
-use Rattle.osdp_link.proofs.Lines.{each_all, each_append, each_front, each_of}
-use Rattle.osdp_link.proofs.Stages.{Each}
+use Rattle.osdp_link_laws.specs.Clean as clean
+use Rattle.osdp_link_laws.specs.Link as link
+use Rattle.osdp_link_laws.specs.Link.{Delivered, Link}
+use Rattle.osdp_link_laws.specs.Progress as progress
+use Rattle.osdp_link_laws.specs.Progress.{SetsNoAddress}
+use Rattle.osdp_link_laws.specs.Sessions.{all_submitted, told_in}
+use Rattle.osdp_link_laws.specs.Headline as headline
+use Rattle.osdp_link_laws.specs.Headline.{with_answers}
+use Rattle.osdp_link_laws.proofs.Lines.{each_all, each_append, each_front, each_of}
+use Rattle.osdp_link_laws.proofs.Stages.{Each}
 use Rattle.osdp_sim.specs.Account.{Account, lists_of}
 use Rattle.osdp_sim.specs.Runs.{AreSettings, FitAlong, Stops, is_well, run}
 use Rattle.osdp_sim.specs.Schedules.{first_fault}
 use Rattle.osdp_sim.specs.State.{SimState, set_up}
 use Rattle.osdp_sim.specs.Steps as steps
-use Rattle.osdp_sim.specs.Steps.{fault_of, moment_behind}
+use Rattle.osdp_sim.specs.Steps.{fault_of, moment_after}
 use Rattle.osdp_sim.specs.declared.account.Account as declared
 use Rattle.osdp_sim.specs.declared.config.SimConfig.{SimConfig}
 use Rattle.osdp_sim.specs.declared.fault.Cause.{Cause}
@@ -91,9 +91,9 @@ clean_within : (n : ℕ) → Each IsInSession (clean_rounds n)
 clean_within n = (tt, (tt, (tt, rounds_within n 50)))
 
 -- they are the rounds of the link
-clean_are : (n : ℕ) → let opening = moment_behind 400 0 in moves_of (clean_rounds n) 0 ≡ progress.rounds (opening ∷ moments_of n 50 opening)
+clean_are : (n : ℕ) → let opening = moment_after 400 0 in moves_of (clean_rounds n) 0 ≡ progress.rounds (opening ∷ moments_of n 50 opening)
 clean_are n =
-    let now = moment_behind 400 0 in
+    let now = moment_after 400 0 in
     ap (λ ms. link.Tick now ∷ link.ToReader Delivered ∷ link.ToController Delivered now ∷ ms) (rounds_are n 50 now)
 
 no_more : {A : Type 0} (xs : List A) → length xs ≤ 0 → xs ≡ []
@@ -101,8 +101,8 @@ no_more [] few = refl
 no_more (x ∷ xs) few = absurd (omega (arith, few))
 
 -- where no more are accepted than there is room for, they are the first
-exactly : {A : Type 0} (room : ℕ) (all behind : List A) → Accepts room all [] behind → length behind ≤ room → behind ≡ take room all
-exactly room all behind is few =
+exactly : {A : Type 0} (room : ℕ) (all later : List A) → Accepts room all [] later → length later ≤ room → later ≡ take room all
+exactly room all later is few =
     let rest = is.first.0 in
     let many = ap length (is.list ∙ is.first.1) in
     let none = no_more rest (omega (arith, many, few, length-append (take room all) rest, length-take room all, among_few is.new all is.among, ap length is.list)) in
@@ -209,8 +209,8 @@ module _ {H : Type 0} (answer_of : H → Command → Answer) (after : H → Comm
   not_full n m is same = elim (eqb_tells n m) [ inl e ↦ absurd (let f = sym is ∙ e.0 in cc) | inr other ↦ other.1 same ]
 
   there_filled : (config : SimConfig) (there : Bool) (s t : SimState H) → IsFilled config s → IsFilled config t → IsFilled config (if there then t else s)
-  there_filled config true s t before behind = behind
-  there_filled config false s t before behind = before
+  there_filled config true s t before later = later
+  there_filled config false s t before later = before
 
   orders_filled : (config : SimConfig) (orders : List SimStep) (s : SimState H) → Each IsOrder orders → IsFilled config s → IsFilled config (run answer_of after orders s)
   orders_filled config [] s are h = h
@@ -249,8 +249,8 @@ module _ {H : Type 0} (answer_of : H → Command → Answer) (after : H → Comm
       all_of : (n : ℕ) → n - 0 ≡ n
       all_of n = omega arith
 
-  nothing_new : {A : Type 0} (room : ℕ) (all before behind : List A) → Accepts room all before behind → all ≡ [] → behind ≡ before
-  nothing_new room all before behind is none =
+  nothing_new : {A : Type 0} (room : ℕ) (all before later : List A) → Accepts room all before later → all ≡ [] → later ≡ before
+  nothing_new room all before later is none =
       let few = among_few is.new all is.among in
       is.list ∙ ap (λ l. before ++ l) (no_more is.new (omega (arith, few, ap length none))) ∙ append-nil before
 
@@ -284,9 +284,9 @@ module _ {H : Type 0} (answer_of : H → Command → Answer) (after : H → Comm
       → SameLists s.account (link.run answer_of after ms (first_link config handler)).account
   same_lists config handler s ms clock follows within =
       let l = first_link config handler in
-      let behind = link.run answer_of after ms l in
-      let t = behind.account in
-      let none : behind.earlier ≡ [] = run_within answer_of after ms l within in
+      let later = link.run answer_of after ms l in
+      let t = later.account in
+      let none : later.earlier ≡ [] = run_within answer_of after ms l within in
       let tells = follows.carried.tells in
       let over = subst (λ e. AreOver s.account.sessions t.queued e tells.queued.0) none tells.queued.1 in
       record {
@@ -306,7 +306,7 @@ module _ {H : Type 0} (answer_of : H → Command → Answer) (after : H → Comm
       → clean.AreSpaced answer_of after wait (moments_of m wait clock) l
   are_spaced zero wait clock longest l fits is = tt
   are_spaced (suc m) wait clock longest l fits is =
-      let now = moment_behind wait clock in
+      let now = moment_after wait clock in
       let on = clock_on wait clock fits in (
         omega (arith, is.0, fits),
         are_spaced m wait now longest (link.run answer_of after (progress.round now) l) on.1 (round_in_time answer_of after clock now longest l on.0 is),
@@ -333,16 +333,16 @@ module _ {H : Type 0} (answer_of : H → Command → Answer) (after : H → Comm
       let first = schedule_follows answer_of after given.reads given.told orders l 0 no_account from well.0 fits.0 in
       let ms = moves_of orders 0 in
       let are_moves = orders_are orders 0 are in
-      let behind = link.run answer_of after ms l in
+      let later = link.run answer_of after ms l in
       let before = run answer_of after orders start in
-      let there : before ≡ in_bytes behind 0 before.account = first.carried.state ∙ ap (λ c. in_bytes behind c before.account) are_moves.1 in
-      let goes_on_from = subst (λ c. GoesFrom answer_of after behind c before.account) are_moves.1
+      let there : before ≡ in_bytes later 0 before.account = first.carried.state ∙ ap (λ c. in_bytes later c before.account) are_moves.1 in
+      let goes_on_from = subst (λ c. GoesFrom answer_of after later c before.account) are_moves.1
       (goes_from answer_of after before ms l 0 (clock_after orders 0) no_account from first (run_ended answer_of after given.told orders start well.0 refl)) in
-      let then_ = schedule_follows answer_of after given.reads given.told more behind 0 before.account goes_on_from
+      let then_ = schedule_follows answer_of after given.reads given.told more later 0 before.account goes_on_from
       (subst (λ s. is_well answer_of after more s ≡ true) there well.1) (subst (FitAlong answer_of after more) there fits.1) in
       let ns = moves_of more 0 in
       let end = run answer_of after more before in
-      let next = subst (λ s. Follows answer_of after (run answer_of after more s) ns behind (clock_after more 0) before.account) (sym there) then_ in
+      let next = subst (λ s. Follows answer_of after (run answer_of after more s) ns later (clock_after more 0) before.account) (sym there) then_ in
       let whole = goes_on answer_of after before end ms ns l (clock_after orders 0) (clock_after more 0) no_account first next in
       let begun = begins answer_of after config handler device in
       let kept = steps_within answer_of after orders 0 (orders_within orders are) in
@@ -351,19 +351,19 @@ module _ {H : Type 0} (answer_of : H → Command → Answer) (after : H → Comm
       let all_none = subst (λ s. Each SetsNoAddress s.account.issued) ended none in
       let first_lists = same_lists config handler before ms (clock_after orders 0) first kept in
       let none_before = subst (Each SetsNoAddress) first_lists.issued
-      (each_front SetsNoAddress before.account.issued (all_submitted answer_of after ns behind) (subst (Each SetsNoAddress) next.carried.issued all_none)) in
-      let opening = moment_behind 400 0 in
+      (each_front SetsNoAddress before.account.issued (all_submitted answer_of after ns later) (subst (Each SetsNoAddress) next.carried.issued all_none)) in
+      let opening = moment_after 400 0 in
       let moments = moments_of n 50 opening in
       let longest = longest_wait config.controller in
       let timely = steps_in_time answer_of after longest orders 0 l (omega arith) (omega arith, omega arith) in
-      let in_time = subst (λ c. LinkInTime c longest behind) are_moves.1 timely.1 in
+      let in_time = subst (λ c. LinkInTime c longest later) are_moves.1 timely.1 in
       let on = clock_on 400 0 (omega arith) in
-      let spaced = are_spaced n 50 opening longest (link.run answer_of after (progress.round opening) behind) on.1 (round_in_time answer_of after 0 opening longest behind on.0 in_time) in
-      let moves = subst (λ list. headline.AreMoves answer_of after list behind) (clean_are n) then_.moves in
+      let spaced = are_spaced n 50 opening longest (link.run answer_of after (progress.round opening) later) on.1 (round_in_time answer_of after 0 opening longest later on.0 in_time) in
+      let moves = subst (λ list. headline.AreMoves answer_of after list later) (clean_are n) then_.moves in
       let found = law l ms opening 50 moments begun (each_all clean.IsOrder ms are_moves.0) first.moves same refl (omega (arith, quiet)) poll
-      (each_all SetsNoAddress behind.account.issued none_before) spaced moves in
-      let joined : link.run answer_of after (progress.rounds (opening ∷ moments)) behind ≡ link.run answer_of after (ms ++ ns) l =
-      ap (λ list. link.run answer_of after list behind) (sym (clean_are n)) ∙ sym (run_both answer_of after ms ns l) in
+      (each_all SetsNoAddress later.account.issued none_before) spaced moves in
+      let joined : link.run answer_of after (progress.rounds (opening ∷ moments)) later ≡ link.run answer_of after (ms ++ ns) l =
+      ap (λ list. link.run answer_of after list later) (sym (clean_are n)) ∙ sym (run_both answer_of after ms ns l) in
       let last = link.run answer_of after (ms ++ ns) l in
       let turn = subst (λ k. clean.IsInTurn answer_of after config.reader handler (length moments) k.account) joined found.0 in
       let lists = same_lists config handler end (ms ++ ns) (clock_after more 0) whole both in

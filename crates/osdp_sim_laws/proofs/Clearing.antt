@@ -10,13 +10,13 @@ use Rattle.osdp_controller.specs.Ticking.{ticks}
 use Rattle.osdp_controller.specs.declared.fault.ControllerFault.{ControllerFault}
 use Rattle.osdp_reader.specs.Table as reader
 use Rattle.osdp_reader.specs.declared.handler.Answer.{Answer}
-use Rattle.osdp_link.specs.Link as link
-use Rattle.osdp_link.specs.Link.{Delivered, Delivery, Link, Lost, Repeated}
-use Rattle.osdp_link.proofs.Stages.{Each}
+use Rattle.osdp_link_laws.specs.Link as link
+use Rattle.osdp_link_laws.specs.Link.{Delivered, Delivery, Link, Lost, Repeated}
+use Rattle.osdp_link_laws.proofs.Stages.{Each}
 use Rattle.osdp_sim.specs.declared.step.SimStep.{SimStep}
 use Rattle.osdp_sim.specs.declared.step.SimStep.TheVariants.{Issue, Queue, Busy, Wait, ToReader, ToController, Reopen}
 use Rattle.osdp_sim_laws.specs.Accounts.{IsInSession}
-use Rattle.osdp_sim_laws.specs.Moves.{clock_behind, delivery, move_of, moves_of}
+use Rattle.osdp_sim_laws.specs.Moves.{step_clock, delivery, move_of, moves_of}
 use Rattle.osdp_sim_laws.specs.Progress.{clear, losses}
 
 one_at_most : {A : Type 0} (o : Option A) → length (option_to_list o) ≤ 1
@@ -74,8 +74,8 @@ module _ {H : Type 0} where
 
     where_few : (n : ℕ) (there : Bool) (m : link.Move) (l : Link H) → AtMost n l → AtMost (n + 1) (link.after_move answer_of after m l)
         → AtMost (n + 1) (link.run answer_of after (if there then m ∷ [] else []) l)
-    where_few n true m l few behind = behind
-    where_few n false m l few behind = more n l few
+    where_few n true m l few later = later
+    where_few n false m l few later = more n l few
 
     -- a step puts a packet into each direction at most
     step_few : (n : ℕ) (step : SimStep) (clock : ℕ) (l : Link H) → AtMost n l → AtMost (n + 1) (link.run answer_of after (move_of step clock) l)
@@ -86,7 +86,7 @@ module _ {H : Type 0} where
     step_few n (Busy number busy) clock l few =
         where_few n (number == 1) (link.SetBusy busy) l few (omega (arith, few.0), omega (arith, few.1))
     step_few n (Wait wait) clock l few =
-        let o = (ticks (clock_behind (Wait wait) clock) l.controller.session l.controller.waiting).step.frame in
+        let o = (ticks (step_clock (Wait wait) clock) l.controller.session l.controller.waiting).step.frame in
         (omega (arith, few.0, length-append l.to_reader (option_to_list o), one_at_most o), omega (arith, few.1))
     step_few n (ToReader move) clock l few = reader_few n (delivery move) l.to_reader l refl few
     step_few n (ToController move) clock l few = controller_few n (delivery move) l.to_controller clock l refl few
@@ -100,7 +100,7 @@ module _ {H : Type 0} where
     pub steps_few : (n : ℕ) (steps : List SimStep) (clock : ℕ) (l : Link H) → AtMost n l → AtMost (n + length steps) (link.run answer_of after (moves_of steps clock) l)
     steps_few n [] clock l few = (omega (arith, few.0), omega (arith, few.1))
     steps_few n (step ∷ steps) clock l few =
-        let now = clock_behind step clock in
+        let now = step_clock step clock in
         let rest = steps_few (n + 1) steps now (link.run answer_of after (move_of step clock) l) (step_few n step clock l few) in
         subst (AtMost (n + length (step ∷ steps))) (sym (on_both (move_of step clock) (moves_of steps now) l))
         (omega (arith, rest.0), omega (arith, rest.1))

@@ -10,25 +10,25 @@ use Rattle.osdp_controller_laws.specs.Calls.{IsInRange, StaysInRange}
 use Rattle.osdp_controller_laws.specs.Runs.{Begin}
 use Rattle.osdp_controller.specs.Machine.{new_machine}
 use Rattle.osdp_reader.specs.declared.handler.Answer.{Answer}
-use Rattle.osdp_link.specs.Headline as headline
-use Rattle.osdp_link.specs.Link as link
-use Rattle.osdp_link.specs.Link.{Delivered, Link}
-use Rattle.osdp_link.specs.Progress as progress
-use Rattle.osdp_link.specs.Progress.{SetsNoAddress}
-use Rattle.osdp_link.specs.Addresses.{StayWhereTheyAre}
-use Rattle.osdp_link.specs.Sessions.{HaveLeft, all_queued, all_submitted, told_in}
-use Rattle.osdp_link.proofs.Lines.{each_all, each_append, each_front, each_of}
-use Rattle.osdp_link.proofs.Stages.{Each}
+use Rattle.osdp_link_laws.specs.Headline as headline
+use Rattle.osdp_link_laws.specs.Link as link
+use Rattle.osdp_link_laws.specs.Link.{Delivered, Link}
+use Rattle.osdp_link_laws.specs.Progress as progress
+use Rattle.osdp_link_laws.specs.Progress.{SetsNoAddress}
+use Rattle.osdp_link_laws.specs.Addresses.{StayWhereTheyAre}
+use Rattle.osdp_link_laws.specs.Sessions.{HaveLeft, all_queued, all_submitted, told_in}
+use Rattle.osdp_link_laws.proofs.Lines.{each_all, each_append, each_front, each_of}
+use Rattle.osdp_link_laws.proofs.Stages.{Each}
 use Rattle.osdp_sim.specs.Account.{Account}
 use Rattle.osdp_sim.specs.Runs.{FitAlong, is_well, run}
 use Rattle.osdp_sim.specs.State.{SimState, set_up}
-use Rattle.osdp_sim.specs.Steps.{after_step, fault_of, moment_behind}
+use Rattle.osdp_sim.specs.Steps.{after_step, fault_of, moment_after}
 use Rattle.osdp_sim.specs.declared.fault.Cause.{Cause}
 use Rattle.osdp_sim.specs.declared.config.SimConfig.{SimConfig}
 use Rattle.osdp_sim.specs.declared.step.SimStep.{SimStep}
 use Rattle.osdp_sim.specs.declared.step.SimStep.TheVariants.{Issue, Queue, Busy, Wait, ToReader, ToController, Reopen}
 use Rattle.osdp_sim_laws.specs.Accounts.{IsInSession, all_in}
-use Rattle.osdp_sim_laws.specs.Moves.{clock_after, clock_behind, delivery, first_link, in_bytes, move_of, moves_of}
+use Rattle.osdp_sim_laws.specs.Moves.{clock_after, step_clock, delivery, first_link, in_bytes, move_of, moves_of}
 use Rattle.osdp_sim_laws.specs.OneLink.{OneLink}
 use Rattle.osdp_sim_laws.specs.Progress.{ComesOn, ComesThrough, IsClear, Recovers, clear, rounds}
 use Rattle.osdp_sim_laws.proofs.Clearing.{AtMost, Cleared, clears, losses_within, steps_few}
@@ -42,17 +42,17 @@ use Rattle.osdp_controller.specs.Machine as controllers
 -- the moments of so many rounds
 abbrev pub moments_of : ℕ → ℕ → ℕ → List ℕ
 moments_of zero wait clock = []
-moments_of (suc m) wait clock = moment_behind wait clock ∷ moments_of m wait (moment_behind wait clock)
+moments_of (suc m) wait clock = moment_after wait clock ∷ moments_of m wait (moment_after wait clock)
 
 pub count_of : (m wait clock : ℕ) → length (moments_of m wait clock) ≡ m
 count_of zero wait clock = refl
-count_of (suc m) wait clock = ap suc (count_of m wait (moment_behind wait clock))
+count_of (suc m) wait clock = ap suc (count_of m wait (moment_after wait clock))
 
 -- the rounds are those of the link
 pub rounds_are : (m wait clock : ℕ) → moves_of (rounds m wait) clock ≡ progress.rounds (moments_of m wait clock)
 rounds_are zero wait clock = refl
 rounds_are (suc m) wait clock =
-    let now = moment_behind wait clock in
+    let now = moment_after wait clock in
     ap (λ ms. link.Tick now ∷ link.ToReader Delivered ∷ link.ToController Delivered now ∷ ms) (rounds_are m wait now)
 
 pub rounds_within : (m wait : ℕ) → Each IsInSession (rounds m wait)
@@ -68,25 +68,25 @@ module _ {H : Type 0} (answer_of : H → Command → Answer) (after : H → Comm
 
   where_in_time : (clock wait : ℕ) (there : Bool) (m : link.Move) (l : Link H) → LinkInTime clock wait l
       → LinkInTime clock wait (link.after_move answer_of after m l) → LinkInTime clock wait (link.run answer_of after (if there then m ∷ [] else []) l)
-  where_in_time clock wait true m l is behind = behind
-  where_in_time clock wait false m l is behind = is
+  where_in_time clock wait true m l is later = later
+  where_in_time clock wait false m l is later = is
 
   step_in_time : (wait : ℕ) (step : SimStep) (clock : ℕ) (l : Link H) → clock ≤ last_moment → LinkInTime clock wait l
-      → LinkInTime (clock_behind step clock) wait (link.run answer_of after (move_of step clock) l)
+      → LinkInTime (step_clock step clock) wait (link.run answer_of after (move_of step clock) l)
   step_in_time wait (Issue number command) clock l fits is =
       where_in_time clock wait (number == 1) (link.Submit command) l is (submits_in_time answer_of after clock wait (controllers.submit_refusal command l.controller) command l is)
   step_in_time wait (Queue number event) clock l fits is =
       where_in_time clock wait (number == 1) (link.Queue event) l is
       (queues_in_time answer_of after clock wait (length l.reader.queue.events == l.reader.queue.capacity) event l is)
   step_in_time wait (Busy number busy) clock l fits is = where_in_time clock wait (number == 1) (link.SetBusy busy) l is is
-  step_in_time wait (Wait more) clock l fits is = tick_in_time answer_of after clock (moment_behind more clock) wait l (clock_on more clock fits).0 is
+  step_in_time wait (Wait more) clock l fits is = tick_in_time answer_of after clock (moment_after more clock) wait l (clock_on more clock fits).0 is
   step_in_time wait (ToReader move) clock l fits is = reader_in_time answer_of after clock wait (delivery move) l.to_reader l is
   step_in_time wait (ToController move) clock l fits is = controller_in_time answer_of after clock wait (delivery move) l.to_controller l is
   step_in_time wait (Reopen number) clock l fits is =
       where_in_time clock wait (number == 1) (link.Reopen clock) l is
       (begins_in_time answer_of after clock wait (controllers.begin_refusal l.controller) l.to_reader l.to_controller l is)
 
-  clock_fits : (step : SimStep) (clock : ℕ) → clock ≤ last_moment → clock_behind step clock ≤ last_moment
+  clock_fits : (step : SimStep) (clock : ℕ) → clock ≤ last_moment → step_clock step clock ≤ last_moment
   clock_fits (Issue number command) clock fits = fits
   clock_fits (Queue number event) clock fits = fits
   clock_fits (Busy number busy) clock fits = fits
@@ -103,7 +103,7 @@ module _ {H : Type 0} (answer_of : H → Command → Answer) (after : H → Comm
       → (clock_after steps clock ≤ last_moment) × LinkInTime (clock_after steps clock) wait (link.run answer_of after (moves_of steps clock) l)
   steps_in_time wait [] clock l fits is = (fits, is)
   steps_in_time wait (step ∷ steps) clock l fits is =
-      let now = clock_behind step clock in
+      let now = step_clock step clock in
       let rest = steps_in_time wait steps now (link.run answer_of after (move_of step clock) l) (clock_fits step clock fits) (step_in_time wait step clock l fits is) in
       (rest.0, subst (LinkInTime (clock_after steps now) wait) (sym (run_both (move_of step clock) (moves_of steps now) l)) rest.1)
 
@@ -119,13 +119,13 @@ module _ {H : Type 0} (answer_of : H → Command → Answer) (after : H → Comm
   are_late : (m wait clock : ℕ) (l : Link H) → clock ≤ last_moment → LinkInTime clock wait l → progress.AreLate answer_of after (moments_of m wait clock) l
   are_late zero wait clock l fits is = tt
   are_late (suc m) wait clock l fits is =
-      let now = moment_behind wait clock in
+      let now = moment_after wait clock in
       let on = clock_on wait clock fits in (
         omega (arith, is.0, is.1, fits),
         are_late m wait now (link.run answer_of after (progress.round now) l) on.1 (round_in_time clock now wait l on.0 is),
       )
 
-  -- ---- two schedules, one behind the other
+  -- ---- two schedules, one after the other
 
   pub runs_on : (xs ys : List SimStep) (s : SimState H) → run answer_of after (xs ++ ys) s ≡ run answer_of after ys (run answer_of after xs s)
   runs_on [] ys s = refl
@@ -165,18 +165,18 @@ module _ {H : Type 0} (answer_of : H → Command → Answer) (after : H → Comm
       → AsLong s.account (link.run answer_of after ms (first_link config handler)).account
   as_long given config handler device s ms clock follows within =
       let l = first_link config handler in
-      let behind = link.run answer_of after ms l in
-      let none : behind.earlier ≡ [] = run_within answer_of after ms l within in
+      let later = link.run answer_of after ms l in
+      let none : later.earlier ≡ [] = run_within answer_of after ms l within in
       let carried = follows.carried in
       let tells = carried.tells in
       let begun = begins answer_of after config handler device in
       let events = given.events l ms begun follows.moves in
       let gone : events.0 ≡ [] = subst (λ e. HaveLeft (all_queued answer_of after ms l) e events.0) none events.1 in
       record {
-        settled = ap length (tells.settled ∙ ap (λ e. all_in (λ t. t.settled) (behind.account ∷ e)) none);
-        reported = ap length (tells.reported ∙ ap (λ e. all_in (λ t. t.reported) (behind.account ∷ e)) none);
-        issued = carried.issued ∙ given.commands l ms begun follows.moves ∙ ap (λ e. told_in e ++ behind.account.issued) none;
-        queued = ap length (carried.queued ∙ events.2 ∙ ap (λ e. e ++ behind.account.queued) gone);
+        settled = ap length (tells.settled ∙ ap (λ e. all_in (λ t. t.settled) (later.account ∷ e)) none);
+        reported = ap length (tells.reported ∙ ap (λ e. all_in (λ t. t.reported) (later.account ∷ e)) none);
+        issued = carried.issued ∙ given.commands l ms begun follows.moves ∙ ap (λ e. told_in e ++ later.account.issued) none;
+        queued = ap length (carried.queued ∙ events.2 ∙ ap (λ e. e ++ later.account.queued) gone);
       }
 
   -- ---- something comes through
@@ -200,16 +200,16 @@ module _ {H : Type 0} (answer_of : H → Command → Answer) (after : H → Comm
       let first = schedule_follows answer_of after given.reads given.told steps l 0 no_account from well.0 fits.0 in
       let ms = moves_of steps 0 in
       let clock = clock_after steps 0 in
-      let behind = link.run answer_of after ms l in
+      let later = link.run answer_of after ms l in
       let before = run answer_of after steps start in
-      let there : before ≡ in_bytes behind clock before.account = first.carried.state in
-      let then_ = schedule_follows answer_of after given.reads given.told more behind clock before.account
+      let there : before ≡ in_bytes later clock before.account = first.carried.state in
+      let then_ = schedule_follows answer_of after given.reads given.told more later clock before.account
       (goes_from answer_of after before ms l 0 clock no_account from first (run_ended answer_of after given.told steps start well.0 refl))
       (subst (λ s. is_well answer_of after more s ≡ true) there well.1) (subst (FitAlong answer_of after more) there fits.1) in
       let ns = moves_of more clock in
-      let last = link.run answer_of after ns behind in
+      let last = link.run answer_of after ns later in
       let end = run answer_of after more before in
-      let next = subst (λ s. Follows answer_of after (run answer_of after more s) ns behind (clock_after more clock) before.account) (sym there) then_ in
+      let next = subst (λ s. Follows answer_of after (run answer_of after more s) ns later (clock_after more clock) before.account) (sym there) then_ in
       let whole = goes_on answer_of after before end ms ns l clock (clock_after more clock) no_account first next in
       let device = is.settings.controller.config_in_range.address in
       let begun = begins answer_of after config handler device in
@@ -218,18 +218,18 @@ module _ {H : Type 0} (answer_of : H → Command → Answer) (after : H → Comm
       let first_lists = as_long given config handler device before ms clock first kept in
       let last_lists = as_long given config handler device end (ms ++ ns) (clock_after more clock) whole both in
       let timely = steps_in_time wait steps 0 l (omega arith) (omega arith, long) in
-      let range : IsInRange l.controller.session = ranges.behind (new_machine config.controller config.commands) (Begin 0 ∷ []) (ranges.new config.controller config.commands) in
-      let quiet : progress.IsClear behind = record {
-        to_reader = none_on behind.to_reader (sym (ap (λ (s : SimState H). s.to_reader) there) ∙ clear.to_reader);
-        to_controller = none_on behind.to_controller (sym (ap (λ (s : SimState H). s.to_controller) there) ∙ clear.to_controller);
+      let range : IsInRange l.controller.session = ranges.later (new_machine config.controller config.commands) (Begin 0 ∷ []) (ranges.new config.controller config.commands) in
+      let quiet : progress.IsClear later = record {
+        to_reader = none_on later.to_reader (sym (ap (λ (s : SimState H). s.to_reader) there) ∙ clear.to_reader);
+        to_controller = none_on later.to_controller (sym (ap (λ (s : SimState H). s.to_controller) there) ∙ clear.to_controller);
         address = sym (ap (λ (s : SimState H). s.reader.config.address) there) ∙ clear.address ∙ ap (λ (s : SimState H). s.controller.session.config.address) there;
         ready = sym (ap (λ (s : SimState H). s.reader.busy) there) ∙ clear.ready;
         issued = subst (All SetsNoAddress) first_lists.issued clear.issued;
       } in
-      let moves = subst (λ list. headline.AreMoves answer_of after list behind) (rounds_are m wait clock) then_.moves in
-      let found = in_time l ms (moments_of m wait clock) begun range first.moves quiet (are_late m wait clock behind timely.0 timely.1) moves in
-      let same : link.run answer_of after (progress.rounds (moments_of m wait clock)) behind ≡ last =
-      ap (λ list. link.run answer_of after list behind) (sym (rounds_are m wait clock)) in
+      let moves = subst (λ list. headline.AreMoves answer_of after list later) (rounds_are m wait clock) then_.moves in
+      let found = in_time l ms (moments_of m wait clock) begun range first.moves quiet (are_late m wait clock later timely.0 timely.1) moves in
+      let same : link.run answer_of after (progress.rounds (moments_of m wait clock)) later ≡ last =
+      ap (λ list. link.run answer_of after list later) (sym (rounds_are m wait clock)) in
       let joined : link.run answer_of after (ms ++ ns) l ≡ last = run_both ms ns l in
       let long_list : AsLong end.account last.account = subst (λ k. AsLong end.account k.account) joined last_lists in
       let ended : run answer_of after (steps ++ more) start ≡ end = runs_on steps more start in
@@ -242,7 +242,7 @@ module _ {H : Type 0} (answer_of : H → Command → Answer) (after : H → Comm
             (some_begun end.account.sessions (link.run answer_of after (ms ++ ns) l).account.queued (link.run answer_of after (ms ++ ns) l).earlier whole.carried.tells.queued.0
             whole.carried.tells.queued.1) none)
         | inr on ↦ (
-            let counted = subst (λ k. progress.ComeOn (moments_of m wait clock) behind.account k.account) same on in
+            let counted = subst (λ k. progress.ComeOn (moments_of m wait clock) later.account k.account) same on in
             omega (arith, counted, count_of m wait clock, first_lists.settled, first_lists.reported, long_list.settled, long_list.reported, ap length long_list.issued, long_list.queued))
       ])
 
@@ -251,7 +251,7 @@ module _ {H : Type 0} (answer_of : H → Command → Answer) (after : H → Comm
   moves_on : (xs ys : List SimStep) (clock : ℕ) → moves_of (xs ++ ys) clock ≡ moves_of xs clock ++ moves_of ys (clock_after xs clock)
   moves_on [] ys clock = refl
   moves_on (x ∷ xs) ys clock =
-      let now = clock_behind x clock in
+      let now = step_clock x clock in
       ap (λ ms. move_of x clock ++ ms) (moves_on xs ys now)
       ∙ sym (append_assoc (move_of x clock) (moves_of xs now) (moves_of ys (clock_after xs now)))
 
@@ -269,16 +269,16 @@ module _ {H : Type 0} (answer_of : H → Command → Answer) (after : H → Comm
       let first = schedule_follows answer_of after given.reads given.told all_steps l 0 no_account from well.0 fits.0 in
       let ms = moves_of all_steps 0 in
       let clock = clock_after all_steps 0 in
-      let behind = link.run answer_of after ms l in
-      let there : before ≡ in_bytes behind clock before.account = first.carried.state in
-      let next = schedule_follows answer_of after given.reads given.told more behind clock before.account
+      let later = link.run answer_of after ms l in
+      let there : before ≡ in_bytes later clock before.account = first.carried.state in
+      let next = schedule_follows answer_of after given.reads given.told more later clock before.account
       (goes_from answer_of after before ms l 0 clock no_account from first (run_ended answer_of after given.told all_steps start well.0 refl))
       (subst (λ s. is_well answer_of after more s ≡ true) there well.1) (subst (FitAlong answer_of after more) there fits.1) in
-      let ended : run answer_of after (all_steps ++ more) start ≡ run answer_of after more (in_bytes behind clock before.account) =
+      let ended : run answer_of after (all_steps ++ more) start ≡ run answer_of after more (in_bytes later clock before.account) =
       runs_on all_steps more start ∙ ap (run answer_of after more) there in
       let issued = ap (λ (s : SimState H). s.account.issued) ended ∙ next.carried.issued in
       let none_before : Each SetsNoAddress before.account.issued =
-      each_front SetsNoAddress before.account.issued (all_submitted answer_of after (moves_of more clock) behind)
+      each_front SetsNoAddress before.account.issued (all_submitted answer_of after (moves_of more clock) later)
       (subst (Each SetsNoAddress) issued (each_of SetsNoAddress (run answer_of after (all_steps ++ more) start).account.issued none)) in
       let device = is.settings.controller.config_in_range.address in
       let begun = begins answer_of after config handler device in
@@ -287,9 +287,9 @@ module _ {H : Type 0} (answer_of : H → Command → Answer) (after : H → Comm
       let at_most = steps_few answer_of after 0 steps 0 l (omega arith, omega arith) in
       let few : AtMost (length steps) middle = (omega (arith, at_most.0), omega (arith, at_most.1)) in
       let over = clears answer_of after steps (clock_after steps 0) middle few in
-      let is_behind : behind ≡ link.run answer_of after (moves_of (clear steps) (clock_after steps 0)) middle =
+      let is_after : later ≡ link.run answer_of after (moves_of (clear steps) (clock_after steps 0)) middle =
       ap (λ list. link.run answer_of after list l) (moves_on steps (clear steps) 0) ∙ run_both (moves_of steps 0) (moves_of (clear steps) (clock_after steps 0)) l in
-      let quiet : Cleared answer_of after behind = subst (Cleared answer_of after) (sym is_behind) over in
+      let quiet : Cleared answer_of after later = subst (Cleared answer_of after) (sym is_after) over in
       let is_clear : IsClear before = record {
         to_reader = ap (λ (s : SimState H). s.to_reader) there ∙ ap (map spelling) quiet.to_reader;
         to_controller = ap (λ (s : SimState H). s.to_controller) there ∙ ap (map spelling) quiet.to_controller;

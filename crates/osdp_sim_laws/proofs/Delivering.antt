@@ -9,11 +9,11 @@ use Rattle.osdp_msg.specs.declared.command.Command.{Command}
 use Rattle.osdp_controller.specs.Hearing as controller
 use Rattle.osdp_reader.specs.declared.handler.Answer.{Answer}
 use Rattle.osdp_reader.specs.Table as reader
-use Rattle.osdp_link.specs.Headline.{SaysWhatFitsIf}
-use Rattle.osdp_link.specs.Link as link
-use Rattle.osdp_link.specs.Link.{Link}
-use Rattle.osdp_link.specs.Refusals.{told_by_front}
-use Rattle.osdp_link.proofs.Stages.{Each}
+use Rattle.osdp_link_laws.specs.Headline.{SaysWhatFitsIf}
+use Rattle.osdp_link_laws.specs.Link as link
+use Rattle.osdp_link_laws.specs.Link.{Link}
+use Rattle.osdp_link_laws.specs.Refusals.{told_by_front}
+use Rattle.osdp_link_laws.proofs.Stages.{Each}
 use Rattle.osdp_sim.specs.Account.{Account}
 use Rattle.osdp_sim.specs.Line.{handed, left, packets_in}
 use Rattle.osdp_sim.proofs.Bursts.{no_packets}
@@ -25,7 +25,7 @@ use Rattle.osdp_sim_laws.specs.OneLink.{ReadsPackets}
 use Rattle.osdp_sim_laws.specs.Accounts.{IsOf}
 use Rattle.osdp_sim_laws.specs.Moves.{delivery, in_bytes}
 use Rattle.osdp_sim_laws.proofs.Accounts.{causes_of, report_leaves, tells_report, tells_taken}
-use Rattle.osdp_sim_laws.proofs.Carrying.{ArePackets, IsCarried, packets_behind, sent_behind}
+use Rattle.osdp_sim_laws.proofs.Carrying.{ArePackets, IsCarried, packets_after, sent_after}
 
 module _ {H : Type 0} where
   -- nothing comes through
@@ -117,10 +117,10 @@ module _ {H : Type 0} where
         record {
           state =
               ap (λ bursts. record s { to_reader = bursts }) is
-              ∙ ap (λ bursts. record s { to_reader = map spelling l.to_reader; to_controller = bursts }) (sent_behind l.to_controller o.reply);
+              ∙ ap (λ bursts. record s { to_reader = map spelling l.to_reader; to_controller = bursts }) (sent_after l.to_controller o.reply);
           packets = record {
             to_reader = packets.to_reader;
-            to_controller = packets_behind l.to_controller o.reply packets.to_controller fits;
+            to_controller = packets_after l.to_controller o.reply packets.to_controller fits;
           };
           tells = tells_taken (reader.kind_of l.reader p) o.command (link.front_of l.reader) a l.account l.earlier tells;
           issued = sym (append-nil a.issued);

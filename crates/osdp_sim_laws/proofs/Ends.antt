@@ -19,13 +19,13 @@ use Rattle.osdp_controller.specs.declared.state.State.{State}
 use Rattle.osdp_controller.specs.declared.state.State.TheVariants.{Closed, Quiet, Idle, Waiting, Pausing}
 use Rattle.osdp_controller_laws.specs.Commands.{tells_end}
 use Rattle.osdp_reader.specs.declared.handler.Answer.{Answer as HandlerAnswer}
-use Rattle.osdp_link.proofs.Lines.{both}
+use Rattle.osdp_link_laws.proofs.Lines.{both}
 use Rattle.osdp_sim.specs.Account.{Account, lengths_of, with_report}
 use Rattle.osdp_sim.specs.Line.{handed, packets_in}
 use Rattle.osdp_sim.specs.Runs.{is_well, run}
 use Rattle.osdp_sim.specs.State.{SimState}
 use Rattle.osdp_sim.specs.Steps as steps
-use Rattle.osdp_sim.specs.Steps.{after_step, controller_hears, fault_of, moment_behind, reader_hears}
+use Rattle.osdp_sim.specs.Steps.{after_step, controller_hears, fault_of, moment_after, reader_hears}
 use Rattle.osdp_sim.specs.declared.account.End.TheVariants as ending
 use Rattle.osdp_sim.specs.declared.fault.Cause.{Cause}
 use Rattle.osdp_sim.specs.declared.fault.Cause.TheVariants.{NotQuiet}
@@ -101,19 +101,19 @@ module _ {H : Type 0} where
   abbrev pub HaveEnded : SimState H → Type 0
   HaveEnded s = length s.account.ends + 1 ≡ length s.account.sessions + count (is_closed s.controller.session.state)
 
-  -- a report, and the state behind it
+  -- a report, and the state after it
   ended_by : (r : Option Report) (s : SimState H) (state : State) → is_closed state ≡ (is_closed s.controller.session.state || tells_end r)
       → (is_closed s.controller.session.state ≡ true → tells_end r ≡ false) → HaveEnded s
       → length (with_report r s.account).ends + 1 ≡ length (with_report r s.account).sessions + count (is_closed state)
   ended_by r s state is one h =
       let ends = ends_of_report r s.account in
       let same = ap (λ l. length l) (sessions_of_report r s.account) in
-      let behind = ap count is ∙ counts_join (is_closed s.controller.session.state) (tells_end r) one in
-      omega (arith, ends, same, behind, h)
+      let later = ap count is ∙ counts_join (is_closed s.controller.session.state) (tells_end r) one in
+      omega (arith, ends, same, later, h)
 
   where_ended : (there : Bool) (old new : SimState H) → HaveEnded old → (there ≡ true → HaveEnded new) → HaveEnded (if there then new else old)
-  where_ended true old new before behind = behind refl
-  where_ended false old new before behind = before
+  where_ended true old new before later = later refl
+  where_ended false old new before later = before
 
   issued_ended : (fault : Option ControllerFault) (command : Command) (s : SimState H) → HaveEnded s → HaveEnded (steps.issued fault command s)
   issued_ended None command s h = h
@@ -150,7 +150,7 @@ module _ {H : Type 0} where
         where_ended (number == 1) s _ h (λ there. queued_ended (length s.reader.queue.events == s.reader.queue.capacity) event s h)
     step_ended told (Busy number busy) s well h = where_ended (number == 1) s _ h (λ there. h)
     step_ended told (Wait wait) s well h =
-        let now = moment_behind wait s.clock in
+        let now = moment_after wait s.clock in
         let t = ticks now s.controller.session s.controller.waiting in
         ended_by t.step.report s t.session.state ((told now s.controller.session).closed_by_tick s.controller.waiting)
         (silent_tick s.controller.session.state (seen now s.controller.session) s.controller.waiting) h

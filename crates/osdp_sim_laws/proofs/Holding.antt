@@ -12,13 +12,13 @@ use Rattle.osdp_controller.specs.declared.state.State.TheVariants.{Closed, Quiet
 use Rattle.osdp_controller.specs.declared.fault.ControllerFault.{ControllerFault}
 use Rattle.osdp_reader.specs.declared.config.ReaderConfig.{ReaderConfig}
 use Rattle.osdp_reader.specs.declared.handler.Answer.{Answer}
-use Rattle.osdp_link.specs.Headline.{AreOnce, Begins, IsBeginning, Once, with_answers}
-use Rattle.osdp_link.specs.Link as link
-use Rattle.osdp_link.specs.Refusals as refusals
-use Rattle.osdp_link.specs.Sessions.{AreInARow, LastsOrLeaves, settled_commands, told_in}
-use Rattle.osdp_link.proofs.Lines.{each_all, each_append, each_of}
-use Rattle.osdp_link.proofs.Sessions.{taken_commands}
-use Rattle.osdp_link.proofs.Stages.{Each}
+use Rattle.osdp_link_laws.specs.Headline.{AreOnce, Begins, IsBeginning, Once, with_answers}
+use Rattle.osdp_link_laws.specs.Link as link
+use Rattle.osdp_link_laws.specs.Refusals as refusals
+use Rattle.osdp_link_laws.specs.Sessions.{AreInARow, LastsOrLeaves, settled_commands, told_in}
+use Rattle.osdp_link_laws.proofs.Lines.{each_all, each_append, each_of}
+use Rattle.osdp_link_laws.proofs.Sessions.{taken_commands}
+use Rattle.osdp_link_laws.proofs.Stages.{Each}
 use Rattle.osdp_sim.specs.Account.{Account, empty_account, lists_of, with_session}
 use Rattle.osdp_sim.specs.Runs.{FitAlong, Stops, run, steps_done}
 use Rattle.osdp_sim.specs.State.{SimState, set_up}
@@ -31,7 +31,7 @@ use Rattle.osdp_sim.specs.declared.step.SimStep.TheVariants.{Issue, Queue, Busy,
 use Rattle.osdp_sim_laws.specs.Accounts.{IsInARow, IsInSession, IsNoRefusal, IsOf, IsOnce, IsAnswer, LastsOrHasEnded, StaysInARow, HoldsOnce, WasSetUp, account_in}
 use Rattle.osdp_sim_laws.specs.OneLink.{OneLink}
 use Rattle.osdp_sim_laws.specs.Progress.{IsRun}
-use Rattle.osdp_sim_laws.specs.Moves.{clock_behind, first_link, move_of, moves_of}
+use Rattle.osdp_sim_laws.specs.Moves.{step_clock, first_link, move_of, moves_of}
 use Rattle.osdp_sim_laws.proofs.Ends.{count, run_ended}
 use Rattle.osdp_sim_laws.proofs.Schedules.{GoesFrom, schedule_follows}
 
@@ -112,7 +112,7 @@ module _ {H : Type 0} (answer_of : H → Command → Answer) (after : H → Comm
       let follows = schedule_follows answer_of after given.reads given.told steps l 0 no_account (goes_from_first given config handler device) is.well is.fits in
       let begun = begins config handler device in
       let ms = moves_of steps 0 in
-      let behind = link.run answer_of after ms l in
+      let later = link.run answer_of after ms l in
       let s = run answer_of after steps (set_up config handler) in
       let a = s.account in
       let moves = follows.moves in
@@ -122,21 +122,21 @@ module _ {H : Type 0} (answer_of : H → Command → Answer) (after : H → Comm
       let ended = subst (λ (state : State). length a.ends + 1 ≡ length a.sessions + count (is_closed state))
       (ap (λ (t : SimState H). t.controller.session.state) follows.carried.state)
       (run_ended answer_of after given.told steps (set_up config handler) is.well refl) in
-      let last = last_one behind.controller.session.state a behind (given.last l ms begun moves) ended in
-      let first = told_first config.reader _ a behind.account once.0 last in
+      let last = last_one later.controller.session.state a later (given.last l ms begun moves) ended in
+      let first = told_first config.reader _ a later.account once.0 last in
       record {
-        last = behind.account;
-        earlier = behind.earlier;
+        last = later.account;
+        earlier = later.earlier;
         lists = tells;
         once = once;
         row = row;
         told = (
           first.0,
-          tells.issued ∙ ap (λ cs. told_in behind.earlier ++ cs) first.1
-              ∙ sym (append_assoc (told_in behind.earlier) (settled_commands behind.account ++ behind.account.unsettled) first.0),
+          tells.issued ∙ ap (λ cs. told_in later.earlier ++ cs) first.1
+              ∙ sym (append_assoc (told_in later.earlier) (settled_commands later.account ++ later.account.unsettled) first.0),
         );
-        unsettled = each_all (λ t. length t.unsettled ≤ 1) (behind.account ∷ behind.earlier)
-            (each_one behind.account behind.earlier (one_unsettled a behind.account last) row);
+        unsettled = each_all (λ t. length t.unsettled ≤ 1) (later.account ∷ later.earlier)
+            (each_one later.account later.earlier (one_unsettled a later.account last) row);
         ends = last;
         causes = each_all IsNoRefusal a.ends
             (follows.carried.causes (each_of refusals.IsNoRefusal (refusals.reports answer_of after ms l) (given.causes l ms begun moves)) tt);
@@ -198,8 +198,8 @@ module _ {H : Type 0} (answer_of : H → Command → Answer) (after : H → Comm
   pub steps_within : (steps : List SimStep) (clock : ℕ) → Each IsInSession steps → Each IsWithin (moves_of steps clock)
   steps_within [] clock w = tt
   steps_within (step ∷ steps) clock w =
-      each_append IsWithin (move_of step clock) (moves_of steps (clock_behind step clock)) (step_within step clock w.0)
-      (steps_within steps (clock_behind step clock) w.1)
+      each_append IsWithin (move_of step clock) (moves_of steps (step_clock step clock)) (step_within step clock w.0)
+      (steps_within steps (step_clock step clock) w.1)
 
   few : (a : Account) (t : link.Account) → LastsOrHasEnded a t → length a.sessions ≡ 1 → length a.ends ≤ 1
   few a t (inl (lasts, none)) one = omega (arith, lasts, one)

@@ -22,16 +22,16 @@ use Rattle.osdp_controller.specs.declared.state.State.{State}
 use Rattle.osdp_controller.specs.declared.state.State.TheVariants.{Closed, Quiet, Idle, Waiting, Pausing}
 use Rattle.osdp_controller_laws.specs.Calls.{longest_wait}
 use Rattle.osdp_reader.specs.declared.handler.Answer.{Answer as HandlerAnswer}
-use Rattle.osdp_link.specs.Link as link
-use Rattle.osdp_link.specs.Link.{Delivered, Delivery, Link, Lost, Move, Queue as QueueEvent, Reopen, Repeated, SetBusy, Submit, Tick, ToController, ToReader, after_move}
-use Rattle.osdp_link.proofs.Lines.{both}
-use Rattle.osdp_sim.specs.Steps.{moment_behind}
+use Rattle.osdp_link_laws.specs.Link as link
+use Rattle.osdp_link_laws.specs.Link.{Delivered, Delivery, Link, Lost, Move, Queue as QueueEvent, Reopen, Repeated, SetBusy, Submit, Tick, ToController, ToReader, after_move}
+use Rattle.osdp_link_laws.proofs.Lines.{both}
+use Rattle.osdp_sim.specs.Steps.{moment_after}
 
 -- the last moment that there is
 abbrev pub last_moment : ℕ
 last_moment = 2 ^ 64 - 1
 
--- the greatest moment seen isn't behind this one, and no wait is longer
+-- the greatest moment seen isn't after this one, and no wait is longer
 abbrev pub InTime : ℕ → ℕ → Session → Type 0
 InTime clock wait s = (s.greatest ≤ clock) × (longest_wait s.config ≤ wait)
 
@@ -147,5 +147,5 @@ module _ {H : Type 0} (answer_of : H → Command → HandlerAnswer) (after : H �
       hears_so clock wait q clock l.controller.session (omega (arith, is.0), is.1)
 
 -- the clock never goes back
-pub clock_on : (wait clock : ℕ) → clock ≤ last_moment → (clock ≤ moment_behind wait clock) × (moment_behind wait clock ≤ last_moment)
+pub clock_on : (wait clock : ℕ) → clock ≤ last_moment → (clock ≤ moment_after wait clock) × (moment_after wait clock ≤ last_moment)
 clock_on wait clock fits = (omega (arith, fits), omega (arith, fits))

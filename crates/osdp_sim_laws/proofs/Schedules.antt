@@ -8,14 +8,14 @@ use Rattle.osdp_controller.specs.Ticking.{ticks}
 use Rattle.osdp_controller.specs.declared.state.State.{State}
 use Rattle.osdp_controller.specs.declared.state.State.TheVariants.{Closed, Quiet, Idle, Waiting, Pausing}
 use Rattle.osdp_reader.specs.declared.handler.Answer.{Answer}
-use Rattle.osdp_link.specs.Headline.{AreMoves}
-use Rattle.osdp_link.specs.Link as link
-use Rattle.osdp_link.specs.Link.{Link, after_move}
-use Rattle.osdp_link.specs.Refusals as refusals
-use Rattle.osdp_link.specs.Refusals.{reports, told_by}
-use Rattle.osdp_link.specs.Sessions.{LastsOrLeaves, all_queued, all_submitted, queued, submitted}
-use Rattle.osdp_link.proofs.Lines.{each_front, each_rest}
-use Rattle.osdp_link.proofs.Stages.{Each}
+use Rattle.osdp_link_laws.specs.Headline.{AreMoves}
+use Rattle.osdp_link_laws.specs.Link as link
+use Rattle.osdp_link_laws.specs.Link.{Link, after_move}
+use Rattle.osdp_link_laws.specs.Refusals as refusals
+use Rattle.osdp_link_laws.specs.Refusals.{reports, told_by}
+use Rattle.osdp_link_laws.specs.Sessions.{LastsOrLeaves, all_queued, all_submitted, queued, submitted}
+use Rattle.osdp_link_laws.proofs.Lines.{each_front, each_rest}
+use Rattle.osdp_link_laws.proofs.Stages.{Each}
 use Rattle.osdp_sim.specs.Account.{Account}
 use Rattle.osdp_sim.specs.Runs.{FitAlong, is_well, run}
 use Rattle.osdp_sim.specs.State.{SimState}
@@ -27,7 +27,7 @@ use Rattle.osdp_sim.specs.declared.step.SimStep.{SimStep}
 use Rattle.osdp_sim.specs.declared.step.SimStep.TheVariants.{Issue, Queue, Busy, Wait, ToReader, ToController, Reopen}
 use Rattle.osdp_sim_laws.specs.Accounts.{IsOf}
 use Rattle.osdp_sim_laws.specs.OneLink.{EndsAreTold, ReadsPackets}
-use Rattle.osdp_sim_laws.specs.Moves.{clock_after, clock_behind, in_bytes, move_of, moves_of}
+use Rattle.osdp_sim_laws.specs.Moves.{clock_after, step_clock, in_bytes, move_of, moves_of}
 use Rattle.osdp_sim_laws.proofs.Carrying.{ArePackets, HasLeft, IsCarried, is_quiet, issuing, nothing, queueing, reopening, setting_busy, ticking}
 use Rattle.osdp_sim_laws.proofs.Delivering.{says_what_fits, to_controller, to_reader}
 use Rattle.osdp_sim_laws.proofs.Ends.{HaveEnded, count, first_well, step_ended}
@@ -38,7 +38,7 @@ module _ {H : Type 0} (answer_of : H → Command → Answer) (after : H → Comm
     pub carried : IsCarried s (link.run answer_of after ms l) clock a (all_submitted answer_of after ms l) (all_queued answer_of after ms l) (reports answer_of after ms l)
     pub moves : AreMoves answer_of after ms l
 
-  -- lists of moves, one behind the other
+  -- lists of moves, one after the other
   run_both : (ms ns : List link.Move) (l : Link H) → link.run answer_of after (ms ++ ns) l ≡ link.run answer_of after ns (link.run answer_of after ms l)
   run_both [] ns l = refl
   run_both (m ∷ ms) ns l = run_both ms ns (after_move answer_of after m l)
@@ -51,7 +51,7 @@ module _ {H : Type 0} (answer_of : H → Command → Answer) (after : H → Comm
   -- wherever moves lead, the last session lasts, or leaves what a next one would begin with
   abbrev pub AllLeave : Link H → Type 0
   AllLeave l = (ms : List link.Move) → AreMoves answer_of after ms l
-      → let behind = link.run answer_of after ms l in LastsOrLeaves behind.controller.session.state behind
+      → let later = link.run answer_of after ms l in LastsOrLeaves later.controller.session.state later
 
   leave_after : (ms : List link.Move) (l : Link H) → AreMoves answer_of after ms l → AllLeave l → AllLeave (link.run answer_of after ms l)
   leave_after ms l moves all ns more =
@@ -99,7 +99,7 @@ module _ {H : Type 0} (answer_of : H → Command → Answer) (after : H → Comm
   -- each step
   step_follows : ReadsPackets → (step : SimStep) (l : Link H) (clock : ℕ) (a : Account) → GoesFrom l clock a
       → fault_of step (in_bytes l clock a) ≡ None → StepFits answer_of after step (in_bytes l clock a)
-      → Follows (after_step answer_of after step (in_bytes l clock a)) (move_of step clock) l (clock_behind step clock) a
+      → Follows (after_step answer_of after step (in_bytes l clock a)) (move_of step clock) l (step_clock step clock) a
   step_follows reads (Issue number command) l clock a from well fits =
       by_number (number == 1) _ (link.Submit command) l clock a from.packets from.tells (λ there. record {
         carried = issuing (controllers.submit_refusal command l.controller) command l clock a from.packets from.tells;
@@ -116,7 +116,7 @@ module _ {H : Type 0} (answer_of : H → Command → Answer) (after : H → Comm
         moves = (tt, tt);
       })
   step_follows reads (Wait wait) l clock a from well fits =
-      let now = clock_behind (Wait wait) clock in
+      let now = step_clock (Wait wait) clock in
       record {
         carried = ticking (ticks now l.controller.session l.controller.waiting) now l clock a from.packets from.tells fits;
         moves = (tt, tt);
@@ -164,11 +164,11 @@ module _ {H : Type 0} (answer_of : H → Command → Answer) (after : H → Comm
       ap (λ rs. option_to_list (told_by m l) ++ rs) (reports_both ms ns next)
       ∙ sym (append_assoc (option_to_list (told_by m l)) (reports answer_of after ms next) (reports answer_of after ns (link.run answer_of after ms next)))
 
-  -- more behind what follows
+  -- more after what follows
   pub goes_on : (s t : SimState H) (ms ns : List link.Move) (l : Link H) (clock later : ℕ) (a : Account) → Follows s ms l clock a
       → Follows t ns (link.run answer_of after ms l) later s.account → Follows t (ms ++ ns) l later a
   goes_on s t ms ns l clock later a first next =
-      let behind = link.run answer_of after ms l in
+      let afterwards = link.run answer_of after ms l in
       let last = next.carried in
       record {
         carried = subst (λ m. IsCarried t m later a (all_submitted answer_of after (ms ++ ns) l) (all_queued answer_of after (ms ++ ns) l) (reports answer_of after (ms ++ ns) l))
@@ -179,18 +179,18 @@ module _ {H : Type 0} (answer_of : H → Command → Answer) (after : H → Comm
               tells = last.tells;
               issued =
                   last.issued
-                  ∙ ap (λ cs. cs ++ all_submitted answer_of after ns behind) first.carried.issued
-                  ∙ append_assoc a.issued (all_submitted answer_of after ms l) (all_submitted answer_of after ns behind)
+                  ∙ ap (λ cs. cs ++ all_submitted answer_of after ns afterwards) first.carried.issued
+                  ∙ append_assoc a.issued (all_submitted answer_of after ms l) (all_submitted answer_of after ns afterwards)
                   ∙ ap (λ cs. a.issued ++ cs) (sym (submitted_both ms ns l));
               queued =
                   last.queued
-                  ∙ ap (λ es. es ++ all_queued answer_of after ns behind) first.carried.queued
-                  ∙ append_assoc a.queued (all_queued answer_of after ms l) (all_queued answer_of after ns behind)
+                  ∙ ap (λ es. es ++ all_queued answer_of after ns afterwards) first.carried.queued
+                  ∙ append_assoc a.queued (all_queued answer_of after ms l) (all_queued answer_of after ns afterwards)
                   ∙ ap (λ es. a.queued ++ es) (sym (queued_both ms ns l));
               causes = λ told well.
                   let all = subst (Each refusals.IsNoRefusal) (reports_both ms ns l) told in
-                  last.causes (each_rest refusals.IsNoRefusal (reports answer_of after ms l) (reports answer_of after ns behind) all)
-                  (first.carried.causes (each_front refusals.IsNoRefusal (reports answer_of after ms l) (reports answer_of after ns behind) all) well);
+                  last.causes (each_rest refusals.IsNoRefusal (reports answer_of after ms l) (reports answer_of after ns afterwards) all)
+                  (first.carried.causes (each_front refusals.IsNoRefusal (reports answer_of after ms l) (reports answer_of after ns afterwards) all) well);
             });
         moves = moves_both ms ns l first.moves next.moves;
       }
@@ -205,11 +205,11 @@ module _ {H : Type 0} (answer_of : H → Command → Answer) (after : H → Comm
       let both = first_well (fault_of step s) _ well in
       let first = step_follows reads step l clock a from both.0 fits.0 in
       let next = after_step answer_of after step s in
-      let now = clock_behind step clock in
-      let behind = link.run answer_of after (move_of step clock) l in
+      let now = step_clock step clock in
+      let later = link.run answer_of after (move_of step clock) l in
       let is = first.carried.state in
-      let rest = schedule_follows reads told steps behind now next.account
+      let rest = schedule_follows reads told steps later now next.account
       (goes_from next (move_of step clock) l clock now a from first (step_ended answer_of after told step s both.0 from.ended))
       (subst (λ t. is_well answer_of after steps t ≡ true) is both.1) (subst (FitAlong answer_of after steps) is fits.1) in
       goes_on next (run answer_of after steps next) (move_of step clock) (moves_of steps now) l now (clock_after steps now) a first
-      (subst (λ t. Follows (run answer_of after steps t) (moves_of steps now) behind (clock_after steps now) next.account) (sym is) rest)
+      (subst (λ t. Follows (run answer_of after steps t) (moves_of steps now) later (clock_after steps now) next.account) (sym is) rest)

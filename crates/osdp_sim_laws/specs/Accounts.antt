@@ -5,10 +5,10 @@ use Rattle.osdp_msg.specs.declared.event.Event.{Event}
 use Rattle.osdp_msg.specs.declared.reply.Reply.{Reply}
 use Rattle.osdp_reader.specs.declared.config.ReaderConfig.{ReaderConfig}
 use Rattle.osdp_reader.specs.declared.handler.Answer.{Answer}
-use Rattle.osdp_link.specs.Headline.{AreOnce, IsBeginning, with_answers}
-use Rattle.osdp_link.specs.Link as link
-use Rattle.osdp_link.specs.Refusals.{IsOtherCause}
-use Rattle.osdp_link.specs.Sessions.{AreInARow, Leaves, told_in}
+use Rattle.osdp_link_laws.specs.Headline.{AreOnce, IsBeginning, with_answers}
+use Rattle.osdp_link_laws.specs.Link as link
+use Rattle.osdp_link_laws.specs.Refusals.{IsOtherCause}
+use Rattle.osdp_link_laws.specs.Sessions.{AreInARow, Leaves, told_in}
 use Rattle.osdp_sim.specs.Account.{Account, lists_of}
 use Rattle.osdp_sim.specs.Runs.{FitAlong, RunEnds, steps_done}
 use Rattle.osdp_sim.specs.State.{set_up}
@@ -21,7 +21,7 @@ use Rattle.osdp_sim.specs.declared.fault.Fault.{Fault}
 use Rattle.osdp_sim.specs.declared.step.SimStep.{SimStep}
 use Rattle.osdp_sim.specs.declared.step.SimStep.TheVariants.{Reopen}
 
--- of sessions, the last of them first, a list of each, session behind session
+-- of sessions, the last of them first, a list of each, session after session
 abbrev pub all_in : {A : Type 0} → (link.Account → List A) → List link.Account → List A
 all_in list [] = []
 all_in list (t ∷ earlier) = all_in list earlier ++ list t

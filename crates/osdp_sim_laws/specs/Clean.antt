@@ -3,8 +3,8 @@ use Rattle.std.specs.Prelude.{◌≡◌, ◌≤◌, ℕ, ◌-◌, All, List, [],
 use Rattle.osdp_msg.specs.declared.command.Command.{Command}
 use Rattle.osdp_reader.specs.declared.config.ReaderConfig.{ReaderConfig}
 use Rattle.osdp_reader.specs.declared.handler.Answer.{Answer}
-use Rattle.osdp_link.specs.Headline.{with_answers}
-use Rattle.osdp_link.specs.Progress.{SetsNoAddress}
+use Rattle.osdp_link_laws.specs.Headline.{with_answers}
+use Rattle.osdp_link_laws.specs.Progress.{SetsNoAddress}
 use Rattle.osdp_sim.specs.Account.{Account, lists_of}
 use Rattle.osdp_sim.specs.Runs.{AreSettings}
 use Rattle.osdp_sim.specs.declared.account.Account as declared

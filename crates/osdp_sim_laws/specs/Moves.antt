@@ -3,11 +3,11 @@ use Rattle.std.specs.Prelude.{ℕ, ◌==◌, if◌then◌else◌, List, [], ◌�
 use Rattle.osdp_controller.specs.Machine.{after_begin, new_machine}
 use Rattle.osdp_frame.specs.Spelling.{spelling}
 use Rattle.osdp_reader.specs.State.{new_reader}
-use Rattle.osdp_link.specs.Link as link
-use Rattle.osdp_link.specs.Link.{Delivered, Delivery, Link, Lost, Repeated, new_account}
+use Rattle.osdp_link_laws.specs.Link as link
+use Rattle.osdp_link_laws.specs.Link.{Delivered, Delivery, Link, Lost, Repeated, new_account}
 use Rattle.osdp_sim.specs.Account.{Account}
 use Rattle.osdp_sim.specs.State.{SimState}
-use Rattle.osdp_sim.specs.Steps.{moment_behind}
+use Rattle.osdp_sim.specs.Steps.{moment_after}
 use Rattle.osdp_sim.specs.declared.config.SimConfig.{SimConfig}
 use Rattle.osdp_sim.specs.declared.step.Move as way
 use Rattle.osdp_sim.specs.declared.step.Move.TheVariants.{Deliver, Drop, Repeat, Damage}
@@ -29,23 +29,23 @@ abbrev pub move_of : SimStep → ℕ → List link.Move
 move_of (Issue number command) clock = where_there number (link.Submit command)
 move_of (Queue number event) clock = where_there number (link.Queue event)
 move_of (Busy number busy) clock = where_there number (link.SetBusy busy)
-move_of (Wait wait) clock = link.Tick (moment_behind wait clock) ∷ []
+move_of (Wait wait) clock = link.Tick (moment_after wait clock) ∷ []
 move_of (ToReader move) clock = link.ToReader (delivery move) ∷ []
 move_of (ToController move) clock = link.ToController (delivery move) clock ∷ []
 move_of (Reopen number) clock = where_there number (link.Reopen clock)
 
--- the moment behind it
-abbrev pub clock_behind : SimStep → ℕ → ℕ
-clock_behind (Wait wait) clock = moment_behind wait clock
-clock_behind _ clock = clock
+-- the moment after it
+abbrev pub step_clock : SimStep → ℕ → ℕ
+step_clock (Wait wait) clock = moment_after wait clock
+step_clock _ clock = clock
 
 abbrev pub clock_after : List SimStep → ℕ → ℕ
 clock_after [] clock = clock
-clock_after (step ∷ steps) clock = clock_after steps (clock_behind step clock)
+clock_after (step ∷ steps) clock = clock_after steps (step_clock step clock)
 
 abbrev pub moves_of : List SimStep → ℕ → List link.Move
 moves_of [] clock = []
-moves_of (step ∷ steps) clock = move_of step clock ++ moves_of steps (clock_behind step clock)
+moves_of (step ∷ steps) clock = move_of step clock ++ moves_of steps (step_clock step clock)
 
 module _ {H : Type 0} where
   -- a link whose packets go over the line in bytes

@@ -6,9 +6,9 @@ use Rattle.osdp_msg.specs.declared.command.Command.{Command}
 use Rattle.osdp_controller.specs.declared.session.Session.{Session}
 use Rattle.osdp_controller_laws.specs.Commands.{TellsEnds}
 use Rattle.osdp_reader.specs.declared.handler.Answer.{Answer}
-use Rattle.osdp_link.specs.Headline.{HoldsOnce}
-use Rattle.osdp_link.specs.Refusals.{RefusesNoNumber}
-use Rattle.osdp_link.specs.Sessions.{CommandsHavePlaces, EventsHavePlaces, LastOneLasts, StayInARow}
+use Rattle.osdp_link_laws.specs.Headline.{HoldsOnce}
+use Rattle.osdp_link_laws.specs.Refusals.{RefusesNoNumber}
+use Rattle.osdp_link_laws.specs.Sessions.{CommandsHavePlaces, EventsHavePlaces, LastOneLasts, StayInARow}
 use Rattle.osdp_sim.specs.Line.{packets_in}
 
 -- a packet that goes over the line is read as it is, and where nothing comes through nothing is read

@@ -1,9 +1,9 @@
--- Something comes through: behind m rounds that lose nothing m - 1 more commands and events, or all of them, are settled and reported.
+-- Something comes through: after m rounds that lose nothing m - 1 more commands and events, or all of them, are settled and reported.
 use Rattle.std.specs.Prelude.{◌≡◌, ◌≤◌, ℕ, zero, suc, ◌+◌, ◌-◌, min, true, false, All, List, [], ◌∷◌, ◌++◌, length}
 use Rattle.osdp_msg.specs.declared.command.Command.{Command}
 use Rattle.osdp_controller_laws.specs.Calls.{longest_wait}
 use Rattle.osdp_reader.specs.declared.handler.Answer.{Answer}
-use Rattle.osdp_link.specs.Progress.{SetsNoAddress}
+use Rattle.osdp_link_laws.specs.Progress.{SetsNoAddress}
 use Rattle.osdp_sim.specs.Account.{Account}
 use Rattle.osdp_sim.specs.Runs.{AreSettings, FitAlong, is_well, run}
 use Rattle.osdp_sim.specs.State.{SimState, set_up}
@@ -32,7 +32,7 @@ clear steps = Busy 1 false ∷ losses steps
 abbrev pub done : Account → ℕ
 done a = length a.settled + length a.reported
 
--- behind so many rounds as many more commands and events but one are settled and reported, or all are
+-- after so many rounds as many more commands and events but one are settled and reported, or all are
 abbrev pub ComesOn : ℕ → Account → Account → Type 0
 ComesOn m before a = min (done before + (m - 1)) (length a.issued + length a.queued) ≤ done a
 
@@ -52,7 +52,7 @@ module _ {H : Type 0} where
       pub well : is_well answer_of after steps (set_up config handler) ≡ true
       pub fits : FitAlong answer_of after steps (set_up config handler)
 
-    -- rounds as long as the longest of the controller's waits, behind steps of one session that leave the link clear: something comes
+    -- rounds as long as the longest of the controller's waits, after steps of one session that leave the link clear: something comes
     -- through, where the session hasn't ended
     abbrev pub ComesThrough : Type 0
     ComesThrough = (config : SimConfig) (handler : H) (steps : List SimStep) (m wait : ℕ) → IsRun config handler (steps ++ rounds m wait)
@@ -62,7 +62,7 @@ module _ {H : Type 0} where
         → let last = run answer_of after (steps ++ rounds m wait) (set_up config handler) in
         last.account.ends ≡ [] → ComesOn m before.account last.account
 
-    -- whatever the steps were: behind them the line is cleared, and over m rounds something comes through, where both ends are at one
+    -- whatever the steps were: after them the line is cleared, and over m rounds something comes through, where both ends are at one
     -- address, no COMSET to a device's address was issued and the session hasn't ended
     abbrev pub Recovers : Type 0
     Recovers = (config : SimConfig) (handler : H) (steps : List SimStep) (m wait : ℕ)

@@ -15,9 +15,9 @@ pub fn stands_on_one_link<H: Handler>()
 {
     osdp_sim::laws::reads_packets();
     osdp_frame_laws::one_spelling();
-    osdp_link::holds_once::<H>();
-    osdp_link::sessions_in_a_row::<H>();
-    osdp_link::refuses_no_number::<H>();
+    osdp_link_laws::holds_once::<H>();
+    osdp_link_laws::sessions_in_a_row::<H>();
+    osdp_link_laws::refuses_no_number::<H>();
     osdp_controller_laws::endings_are_told();
 }
 
@@ -44,19 +44,19 @@ pub fn comes_through<H: Handler>()
     ensures { ComesThrough H.answer_of H.after }
 {
     stands_on_one_link::<H>();
-    osdp_link::comes_through_in_time::<H>();
+    osdp_link_laws::comes_through_in_time::<H>();
     osdp_controller_laws::stays_in_range();
 }
 
-/// Behind any steps of one session: once the reader is ready and what is on the line is lost, over m such rounds m - 1 commands and
+/// After any steps of one session: once the reader is ready and what is on the line is lost, over m such rounds m - 1 commands and
 /// events, or all of them, are settled and reported, where both ends were at one address, no COMSET to a device's address was issued and
 /// the session hasn't ended.
 pub fn recovers<H: Handler>()
     ensures { Recovers H.answer_of H.after }
 {
     stands_on_one_link::<H>();
-    osdp_link::comes_through_in_time::<H>();
-    osdp_link::stay_where_they_are::<H>();
+    osdp_link_laws::comes_through_in_time::<H>();
+    osdp_link_laws::stay_where_they_are::<H>();
     osdp_controller_laws::stays_in_range();
 }
 
@@ -75,5 +75,5 @@ pub fn goes_in_turn<H: Handler>()
     ensures { GoesInTurn H.answer_of H.after }
 {
     stands_on_one_link::<H>();
-    osdp_link::goes_in_turn::<H>();
+    osdp_link_laws::goes_in_turn::<H>();
 }

@@ -30,7 +30,7 @@ fn damage_holds_no_packet(rt: HostRuntime) {
     stops(&rt, rt.alloc(), nothing, 1, Cause::HoldsPacket);
 }
 
-/// A session begins again only behind its end, and with nothing on the line.
+/// A session begins again only after its end, and with nothing on the line.
 #[test]
 fn a_session_begins_on_a_quiet_line(rt: HostRuntime) {
     stops(&rt, rt.alloc(), "reopen 1", 1, Cause::NotQuiet);

@@ -1,5 +1,5 @@
-//! Schedules and what comes of them. All times are the default ones: a session opens behind 400 ms of quiet, a POLL follows an answer
-//! behind 50 ms, a frame is sent three times, 200 ms apart.
+//! Schedules and what comes of them. All times are the default ones: a session opens after 400 ms of quiet, a POLL follows an answer
+//! after 50 ms, a frame is sent three times, 200 ms apart.
 
 use crate::accounts::account_text;
 use crate::steps::steps;
@@ -287,7 +287,7 @@ ended moved
     );
 }
 
-/// Behind a loss and a BUSY four rounds that lose nothing, of the longest wait, open the session, settle both commands and report the event.
+/// After a loss and a BUSY four rounds that lose nothing, of the longest wait, open the session, settle both commands and report the event.
 #[test]
 fn all_comes_through(rt: HostRuntime) {
     comes_to(

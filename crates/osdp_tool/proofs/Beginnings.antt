@@ -2,7 +2,7 @@
 use Rattle.std.proofs.Common.{◌≡◌, ℕ, List, [], ◌++◌, take, drop, take-append-drop, string_bytes, Option, Some, None, Result, Ok, Err, OnErr, refl, sym, ap, ◌∙◌, append_assoc, append-nil}
 use Rattle.std.specs.Io.KnownBytes.{Appends, append_known}
 use Rattle.std.proofs.KnownBytes.{Appends-nil, Appends-trans}
-use Rattle.osdp_stream.specs.Watched.{AppendsPart}
+use Rattle.osdp_tool_streams.specs.Watched.{AppendsPart}
 use Rattle.osdp_tool.specs.declared.report.Report.{Report}
 use Rattle.osdp_tool.specs.Machine.{told}
 use Rattle.osdp_tool.specs.Written.{IsBeginning, StopsWithin}

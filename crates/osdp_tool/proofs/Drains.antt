@@ -4,14 +4,14 @@ use Rattle.std.proofs.Math.Seq.{drop-drop}
 use Rattle.std.proofs.lemmas.Bool.{ne_eqb}
 use Rattle.osdp_frame.specs.Bytes.{AreBytes}
 use Rattle.osdp_frame.specs.Reading.{Part, part_size, total_size}
-use Rattle.osdp_frame.specs.Held.{Held, decided, after_advance, behind_first, behind}
+use Rattle.osdp_frame.specs.Held.{Held, decided, after_advance, after_first, later}
 use Rattle.osdp_frame.specs.Items.{items}
 use Rattle.osdp_frame.proofs.Head.{AreBytes-drop}
 use Rattle.osdp_frame.proofs.Decided.{undecided_none, undecided_ended}
 use Rattle.osdp_frame_laws.proofs.Readings.{part_size-positive, part_size-decided, decided_nothing, items_undecided, items_decided}
-use Rattle.osdp_lines.specs.Tally.{after_part, after_parts, counted}
-use Rattle.osdp_lines.specs.Told.{parts_lines}
-use Rattle.osdp_lines.proofs.Lines.{after_parts-nil, after_parts-cons, parts_lines-append, counted-behind}
+use Rattle.osdp_tool_lines.specs.Tally.{after_part, after_parts, counted}
+use Rattle.osdp_tool_lines.specs.Told.{parts_lines}
+use Rattle.osdp_tool_lines.proofs.Lines.{after_parts-nil, after_parts-cons, parts_lines-append, counted-later}
 use Rattle.osdp_tool.specs.Written.{StopsWithin}
 use Rattle.osdp_tool.proofs.Beginnings.{stops_after}
 use Rattle.osdp_tool.specs.declared.report.Report.{Report}
@@ -59,13 +59,13 @@ draining_step start now next old mid new before middle after part d is advanced 
     let some : 0 < n = part_size-positive part in
     let short : n ≤ length now.bytes = part_size-decided now.ended now.bytes part d.bytes is in
     let left = drop n now.bytes in
-    let here : next ≡ behind now part = advanced ∙ ap (behind_first now) is in
+    let here : next ≡ later now part = advanced ∙ ap (after_first now) is in
     let first : items now.ended now.bytes ≡ part ∷ items now.ended left = items_decided now.ended now.bytes part d.bytes is in
     let same : items next.ended next.bytes ≡ items now.ended left =
     ap (λ (h : Held). items h.ended h.bytes) here ∙ still_ended now.ended left in
     let tally : new.tally ≡ after_part mid.tally part = tells.tally ∙ after_parts-cons mid.tally part [] ∙ after_parts-nil (after_part mid.tally part) in
     let bytes_are : next.bytes ≡ left = ap (λ (h : Held). h.bytes) here in
-    let grows : counted (after_part mid.tally part) + 5 * length left ≤ counted mid.tally + 5 * length now.bytes = counted-behind mid.tally part now.bytes some short in
+    let grows : counted (after_part mid.tally part) + 5 * length left ≤ counted mid.tally + 5 * length now.bytes = counted-later mid.tally part now.bytes some short in
     let tally_counts : counted new.tally ≡ counted (after_part mid.tally part) = ap counted tally in
     let lengths : length next.bytes ≡ length left = ap length bytes_are in
     let last = d.counts in

@@ -2,12 +2,12 @@
 use Rattle.std.proofs.Common.{◌≡◌, ℕ, ◌+◌, ◌≤◌, Bool, true, false, List, [], ◌∷◌, ◌++◌, length, Option, Some, None, Result, Ok, Err, ◌⊎◌, inl, inr, refl, sym, subst, ap, ◌∙◌, arith, append-nil, length-append}
 use Rattle.std.specs.Io.KnownBytes.{Appends, Consumes, Keeps}
 use Rattle.std.proofs.KnownBytes.{Appends-kept}
-use Rattle.osdp_input.specs.declared.form.Form.{Form}
-use Rattle.osdp_stream.specs.FinalAnswer.{final_answer_of}
-use Rattle.osdp_stream.specs.declared.fault.ToolFault.{ToolFault}
-use Rattle.osdp_stream.specs.declared.fault.ToolFault.TheVariants.{NotHex, TooLong, BadWords, BadStep}
-use Rattle.osdp_stream.specs.declared.fault.ToolFault.TheVariants.{HoldsPacket, NotQuiet, ReadFailed}
-use Rattle.osdp_stream.specs.declared.fault.ToolFault.TheVariants.{WriteFailed, NoMemory}
+use Rattle.osdp_tool_input.specs.declared.form.Form.{Form}
+use Rattle.osdp_tool_streams.specs.FinalAnswer.{final_answer_of}
+use Rattle.osdp_tool_streams.specs.declared.fault.ToolFault.{ToolFault}
+use Rattle.osdp_tool_streams.specs.declared.fault.ToolFault.TheVariants.{NotHex, TooLong, BadWords, BadStep}
+use Rattle.osdp_tool_streams.specs.declared.fault.ToolFault.TheVariants.{HoldsPacket, NotQuiet, ReadFailed}
+use Rattle.osdp_tool_streams.specs.declared.fault.ToolFault.TheVariants.{WriteFailed, NoMemory}
 use Rattle.osdp_tool.specs.Shown.{shown, shown_so_far}
 use Rattle.osdp_tool.specs.Ending.{streamed, Ends, EndsPartWay}
 use Rattle.osdp_tool.specs.Works.{Works}

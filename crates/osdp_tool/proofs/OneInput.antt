@@ -11,15 +11,15 @@ use Rattle.osdp_frame.specs.Reading.{Part, Whole, Passed, Bad, Begins, Stands, I
 use Rattle.osdp_frame.proofs.Head.{AreBytes-drop}
 use Rattle.osdp_frame_laws.proofs.Readings.{sizes_reading}
 use Rattle.osdp_frame.proofs.Spelled.{length-spelled, spelled_is}
-use Rattle.osdp_input.specs.declared.form.Form.{Form}
-use Rattle.osdp_input.specs.declared.form.Form.TheVariants.{Raw}
-use Rattle.osdp_input.specs.Runs.{runs_of, with_bytes}
-use Rattle.osdp_input.proofs.Lengths.{runs_short}
-use Rattle.osdp_lines.specs.ItemText.{item_line}
-use Rattle.osdp_lines.specs.Laws.{IsItem}
-use Rattle.osdp_lines.specs.Tally.{no_tally}
-use Rattle.osdp_lines.specs.Told.{runs_lines}
-use Rattle.osdp_lines.proofs.OneLine.{next_line, some_line}
+use Rattle.osdp_tool_input.specs.declared.form.Form.{Form}
+use Rattle.osdp_tool_input.specs.declared.form.Form.TheVariants.{Raw}
+use Rattle.osdp_tool_input.specs.Runs.{runs_of, with_bytes}
+use Rattle.osdp_tool_input.proofs.Lengths.{runs_short}
+use Rattle.osdp_tool_lines.specs.ItemText.{item_line}
+use Rattle.osdp_tool_lines.specs.Laws.{IsItem}
+use Rattle.osdp_tool_lines.specs.Tally.{no_tally}
+use Rattle.osdp_tool_lines.specs.Told.{runs_lines}
+use Rattle.osdp_tool_lines.proofs.OneLine.{next_line, some_line}
 use Rattle.osdp_tool.specs.Shown.{shown}
 use Rattle.osdp_tool.specs.Told.{AreReadings, HasRuns, TellsRuns, items_text, readings_text}
 use Rattle.osdp_tool.proofs.Readings.{HasBytes, runs_are, runs_have_bytes, shown_is, some_readings}
@@ -135,9 +135,9 @@ same_items run place (x ∷ xs) (y ∷ ys) rs ss room more low short hx hy hr hs
     let line = next_line run place run place x y _ _ (omega arith) (omega arith) (omega arith) (omega arith) hx.0 hy.0
     (sym first ∙ e ∙ second) in
     let size = ap part_size line.2 in
-    let behind = line.3 ∙ ap (λ (n : ℕ). items_text true run (place + n) ys ++ readings_text true (run + 1) ss) (sym size) in
+    let later = line.3 ∙ ap (λ (n : ℕ). items_text true run (place + n) ys ++ readings_text true (run + 1) ss) (sym size) in
     let more_items = same_items run (place + part_size x) xs ys rs ss room more (omega arith) (omega arith) hx.1 hy.1 hr hs
-    rest behind in
+    rest later in
     ((λ i. line.2 i ∷ more_items.0 i), more_items.1)
 
 same_readings : (run : ℕ) (rs ss : List (List Part)) → run + length rs ≤ 2 ^ 64 → run + length ss ≤ 2 ^ 64

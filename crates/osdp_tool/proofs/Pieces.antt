@@ -12,21 +12,21 @@ use Rattle.osdp_frame.specs.Reading.{total_size}
 use Rattle.osdp_frame_laws.proofs.Readings.{decided_nothing, items_undecided}
 use Rattle.osdp_frame.specs.Held.{Held, new_run}
 use Rattle.osdp_frame.specs.Items.{left_over}
-use Rattle.osdp_input.specs.declared.form.Form.{Form}
-use Rattle.osdp_input.specs.declared.form.Form.TheVariants.{Raw, Joined, Apart}
-use Rattle.osdp_input.specs.Cut.{ended_behind, unended_behind, line_feed, ended_lines, unended_line, IsLine}
-use Rattle.osdp_input.specs.Line.{is_blank, kept, said}
-use Rattle.osdp_input.specs.Runs.{good_front, bad_line, ended_runs, open_run, first_bad_ended}
-use Rattle.osdp_input.proofs.FormLemmas.{ended_lines-hold, unended_line-hold, ended_lines-feed, unended_line-feed, kept-append, hold_runs, feed_joined, feed_apart, feed_bad}
-use Rattle.osdp_lines.specs.Tally.{no_tally, counted, after_parts}
-use Rattle.osdp_lines.specs.Told.{parts_lines, after_runs, runs_lines, tally_so_far, lines_so_far}
-use Rattle.osdp_lines.proofs.Lines.{after_parts-nil, parts_lines-nil}
+use Rattle.osdp_tool_input.specs.declared.form.Form.{Form}
+use Rattle.osdp_tool_input.specs.declared.form.Form.TheVariants.{Raw, Joined, Apart}
+use Rattle.osdp_tool_input.specs.Cut.{ended_after, unended_after, line_feed, ended_lines, unended_line, IsLine}
+use Rattle.osdp_tool_input.specs.Line.{is_blank, kept, said}
+use Rattle.osdp_tool_input.specs.Runs.{good_front, bad_line, ended_runs, open_run, first_bad_ended}
+use Rattle.osdp_tool_input.proofs.FormLemmas.{ended_lines-hold, unended_line-hold, ended_lines-feed, unended_line-feed, kept-append, hold_runs, feed_joined, feed_apart, feed_bad}
+use Rattle.osdp_tool_lines.specs.Tally.{no_tally, counted, after_parts}
+use Rattle.osdp_tool_lines.specs.Told.{parts_lines, after_runs, runs_lines, tally_so_far, lines_so_far}
+use Rattle.osdp_tool_lines.proofs.Lines.{after_parts-nil, parts_lines-nil}
 use Rattle.osdp_tool.specs.declared.capture.Capture.{Capture}
 use Rattle.osdp_tool.specs.declared.report.Report.{Report}
 use Rattle.osdp_tool.specs.Machine.{told, IsSettled, Stands, Took, EndedRun}
 use Rattle.osdp_tool.specs.Capture.{LineStands, OpenLine, Follows, Stops, FollowsIf, TookPiece}
 
--- one piece behind another
+-- one piece after another
 pub took_both : (xs ys : List ℕ) (good : Bool) (a b c : Capture) (before middle after : Option (List ℕ))
     → TookPiece xs true a b before middle → TookPiece ys good b c middle after → TookPiece (xs ++ ys) good a c before after
 took_both xs ys good a b c before middle after first second =
@@ -237,25 +237,25 @@ unfolding left_over
 left_none = ap (λ l. drop (total_size l) []) (items_undecided false [] (decided_nothing false))
 
 nothing_counted : (form : Form) → tally_so_far (ended_runs form []) (open_run form []) ≡ no_tally
-unfolding good_front ended_behind after_runs
+unfolding good_front ended_after after_runs
 nothing_counted Raw = ap (after_parts no_tally) (items_undecided false [] (decided_nothing false)) ∙ after_parts-nil no_tally
 nothing_counted Joined = ap (after_parts no_tally) (items_undecided false [] (decided_nothing false)) ∙ after_parts-nil no_tally
 nothing_counted Apart = ap (after_parts no_tally) (items_undecided false [] (decided_nothing false)) ∙ after_parts-nil no_tally
 
 nothing_shown : (full : Bool) (form : Form) → lines_so_far full (ended_runs form []) (open_run form []) ≡ []
-unfolding good_front ended_behind after_runs runs_lines
+unfolding good_front ended_after after_runs runs_lines
 nothing_shown full Raw = ap (parts_lines full no_tally) (items_undecided false [] (decided_nothing false)) ∙ parts_lines-nil full no_tally
 nothing_shown full Joined = ap (parts_lines full no_tally) (items_undecided false [] (decided_nothing false)) ∙ parts_lines-nil full no_tally
 nothing_shown full Apart = ap (parts_lines full no_tally) (items_undecided false [] (decided_nothing false)) ∙ parts_lines-nil full no_tally
 
 nothing_open : (form : Form) → open_run form [] ≡ []
-unfolding good_front ended_behind
+unfolding good_front ended_after
 nothing_open Raw = refl
 nothing_open Joined = refl
 nothing_open Apart = refl
 
 pub nothing_bad : (form : Form) → first_bad_ended form [] ≡ None
-unfolding bad_line ended_behind
+unfolding bad_line ended_after
 nothing_bad Raw = refl
 nothing_bad Joined = refl
 nothing_bad Apart = refl
@@ -271,11 +271,11 @@ no_bytes : (place : ℕ) → get_or [] place 0 < 256
 no_bytes place = subst (λ (n : ℕ). n < 256) (sym (get_or_past [] place 0 (omega arith))) (omega arith)
 
 none_unended : unended_line [] ≡ []
-unfolding unended_behind
+unfolding unended_after
 none_unended = refl
 
 none_ended : ended_lines [] ≡ []
-unfolding ended_behind
+unfolding ended_after
 none_ended = refl
 
 pub begins : (full : Bool) (capture : Capture) (start : Option (List ℕ)) → capture.line.items ≡ [] → capture.ended ≡ 0
@@ -314,7 +314,7 @@ pub held_part : (piece : List ℕ) (old new : Capture) (now : Option (List ℕ))
 held_part piece old new now whole lines settled form_is ended_is framer_is report_is line_is =
     held_line piece old new now whole lines settled form_is ended_is framer_is report_is (length-kept piece) line_is
 
--- a line and its line feed, behind what was taken of the piece
+-- a line and its line feed, after what was taken of the piece
 pub took_line : (piece : List ℕ) (at count : ℕ) (good : Bool) (a b c d : Capture) (before middle after : Option (List ℕ))
     → HasLine (drop at piece) count → TookPiece (take at piece) true a b before middle → TookPiece (take count (drop at piece)) true b c middle middle
     → TookPiece (line_feed ∷ []) good c d middle after → TookPiece (take (at + (count + 1)) piece) good a d before after

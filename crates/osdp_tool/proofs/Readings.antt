@@ -13,18 +13,18 @@ use Rattle.osdp_frame.specs.Held.{decided}
 use Rattle.osdp_frame.proofs.Head.{AreBytes-drop}
 use Rattle.osdp_frame.proofs.Decided.{first_decided, undecided_none}
 use Rattle.osdp_frame_laws.proofs.Readings.{is_reading, reading_is, sizes_reading, drained_items, decided_nothing, items_undecided, items_decided, part_size-positive, part_size-decided}
-use Rattle.osdp_input.specs.declared.form.Form.{Form}
-use Rattle.osdp_input.specs.declared.form.Form.TheVariants.{Raw, Joined, Apart}
-use Rattle.osdp_input.specs.Cut.{ended_lines, unended_line, last_line, lines_of}
-use Rattle.osdp_input.specs.Line.{line_bytes}
-use Rattle.osdp_input.specs.Runs.{good_front, with_bytes, runs_of, ended_runs, open_run}
-use Rattle.osdp_input.proofs.CutLemmas.{ended_lines-cut}
-use Rattle.osdp_input.proofs.Bytes.{is_cut, good_front-bytes}
-use Rattle.osdp_lines.specs.declared.tally.Tally.{Tally}
-use Rattle.osdp_lines.specs.ItemText.{is_refusal, counts_line}
-use Rattle.osdp_lines.specs.Tally.{no_tally, one_if, after_part, after_parts, after_run}
-use Rattle.osdp_lines.specs.Told.{part_line, parts_lines, after_runs, runs_lines, end_line}
-use Rattle.osdp_lines.proofs.Lines.{after_runs-place}
+use Rattle.osdp_tool_input.specs.declared.form.Form.{Form}
+use Rattle.osdp_tool_input.specs.declared.form.Form.TheVariants.{Raw, Joined, Apart}
+use Rattle.osdp_tool_input.specs.Cut.{ended_lines, unended_line, last_line, lines_of}
+use Rattle.osdp_tool_input.specs.Line.{line_bytes}
+use Rattle.osdp_tool_input.specs.Runs.{good_front, with_bytes, runs_of, ended_runs, open_run}
+use Rattle.osdp_tool_input.proofs.CutLemmas.{ended_lines-cut}
+use Rattle.osdp_tool_input.proofs.Bytes.{is_cut, good_front-bytes}
+use Rattle.osdp_tool_lines.specs.declared.tally.Tally.{Tally}
+use Rattle.osdp_tool_lines.specs.ItemText.{is_refusal, counts_line}
+use Rattle.osdp_tool_lines.specs.Tally.{no_tally, one_if, after_part, after_parts, after_run}
+use Rattle.osdp_tool_lines.specs.Told.{part_line, parts_lines, after_runs, runs_lines, end_line}
+use Rattle.osdp_tool_lines.proofs.Lines.{after_runs-place}
 use Rattle.osdp_tool.specs.Shown.{shown, shown_so_far, is_refused_input, tally_of}
 use Rattle.osdp_tool.specs.Told.{Say, Says, SaysSoFar, HasRuns, HasRunsSoFar, AreReadings, items_text, readings_text, is_packet, is_skipped, count_items, counts_text}
 use Rattle.osdp_tool.proofs.Standing.{AreBytes-append}

@@ -3,9 +3,9 @@ use Rattle.std.proofs.Common.{◌≡◌, ℕ, Bool, List, [], ◌∷◌, ◌++�
 use Rattle.std.specs.Io.KnownBytes.{Appends, Keeps, append_known}
 use Rattle.std.proofs.KnownBytes.{Appends-trans, Appends-kept, Appends-nil}
 use Rattle.osdp_frame.specs.Reading.{Part}
-use Rattle.osdp_lines.specs.Tally.{after_part, after_parts}
-use Rattle.osdp_lines.specs.Told.{part_line, parts_lines}
-use Rattle.osdp_lines.proofs.Lines.{after_parts-nil, after_parts-cons, after_parts-append, parts_lines-nil, parts_lines-cons, parts_lines-append}
+use Rattle.osdp_tool_lines.specs.Tally.{after_part, after_parts}
+use Rattle.osdp_tool_lines.specs.Told.{part_line, parts_lines}
+use Rattle.osdp_tool_lines.proofs.Lines.{after_parts-nil, after_parts-cons, after_parts-append, parts_lines-nil, parts_lines-cons, parts_lines-append}
 use Rattle.osdp_tool.specs.declared.report.Report.{Report}
 use Rattle.osdp_tool.specs.Machine.{told, Tells, KeepsReport}
 

@@ -12,10 +12,10 @@ use Rattle.osdp_frame.specs.Items.{items, reading, left_over}
 use Rattle.osdp_frame.proofs.Decided.{undecided_none, AreBytes-front}
 use Rattle.osdp_frame.proofs.Head.{AreBytes-drop}
 use Rattle.osdp_frame_laws.proofs.Readings.{decided_nothing, items_undecided, items-append, left_undecided, sizes_reading, is_reading}
-use Rattle.osdp_input.specs.Runs.{closed_runs, with_bytes}
-use Rattle.osdp_lines.specs.Tally.{no_tally, after_parts, after_run, counted}
-use Rattle.osdp_lines.specs.Told.{parts_lines, after_runs, runs_lines, tally_so_far, lines_so_far}
-use Rattle.osdp_lines.proofs.Lines.{after_parts-nil, after_parts-append, parts_lines-nil, parts_lines-append, after_runs-append, after_runs-one, runs_lines-append, runs_lines-one, after_run-none, after_runs-place, counted-after_run}
+use Rattle.osdp_tool_input.specs.Runs.{closed_runs, with_bytes}
+use Rattle.osdp_tool_lines.specs.Tally.{no_tally, after_parts, after_run, counted}
+use Rattle.osdp_tool_lines.specs.Told.{parts_lines, after_runs, runs_lines, tally_so_far, lines_so_far}
+use Rattle.osdp_tool_lines.proofs.Lines.{after_parts-nil, after_parts-append, parts_lines-nil, parts_lines-append, after_runs-append, after_runs-one, runs_lines-append, runs_lines-one, after_run-none, after_runs-place, counted-after_run}
 use Rattle.osdp_tool.specs.declared.report.Report.{Report}
 use Rattle.osdp_tool.specs.Machine.{Drained, IsSettled, Stands, Took, EndedRun, StopsIn, StopsAtRunEnd}
 use Rattle.osdp_tool.specs.Written.{StopsWithin}
@@ -295,10 +295,10 @@ stops_longer_run bytes more held old before written fits fits_too h = λ full st
     (parts_lines full (tally_so_far ended there) (items false (left_over there ++ more))) (h full start ended open_bytes s)
     (ap (lines_so_far full ended) regrouped ∙ text)
 
--- behind a front that was told
-pub stops_behind : (xs ys : List ℕ) (start held : Held) (first old : Report) (a b written : Option (List ℕ))
+-- after a front that was told
+pub stops_after_both : (xs ys : List ℕ) (start held : Held) (first old : Report) (a b written : Option (List ℕ))
     → Took xs start held first old a b → StopsIn ys held old b written → StopsIn (xs ++ ys) start first a written
-stops_behind xs ys start held first old a b written t h = λ full begin ended open_bytes s.
+stops_after_both xs ys start held first old a b written t h = λ full begin ended open_bytes s.
     subst (λ l. StopsWithin begin written (lines_so_far full ended l)) (append_assoc open_bytes xs ys)
     (h full begin ended (open_bytes ++ xs) (t.stands full begin ended open_bytes s))
 
@@ -348,7 +348,7 @@ run_end_stops held old before written h = λ full start ended bytes s.
     (lines_so_far full (closed_runs ended bytes) []) [] s.lines (subst (StopsWithin before written) here h)
     (closed_lines full ended bytes s.bytes ∙ sym (append-nil _))
 
--- behind a front that was told, within a part of the rest
+-- after a front that was told, within a part of the rest
 pub stops_in_rest : (bytes : List ℕ) (at count : ℕ) (start held : Held) (first old : Report) (a b written : Option (List ℕ)) → AreBytes bytes
     → Took (take at bytes) start held first old a b → StopsIn (take count (drop at bytes)) held old b written → StopsIn bytes start first a written
 stops_in_rest bytes at count start held first old a b written fits t h =
@@ -358,4 +358,4 @@ stops_in_rest bytes at count start held first old a b written fits t h =
     subst (λ l. StopsIn l held old b written) (take-append-drop count rest)
     (stops_longer_run (take count rest) (drop count rest) held old b written (AreBytes-take count rest rest_fits) (AreBytes-drop count rest rest_fits) h) in
     subst (λ l. StopsIn l start first a written) (take-append-drop at bytes)
-    (stops_behind (take at bytes) rest start held first old a b written t whole)
+    (stops_after_both (take at bytes) rest start held first old a b written t whole)

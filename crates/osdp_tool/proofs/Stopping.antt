@@ -4,17 +4,17 @@ use Rattle.std.proofs.lemmas.List.{take_more}
 use Rattle.osdp_frame.specs.Bytes.{AreBytes}
 use Rattle.osdp_frame.specs.Held.{Held}
 use Rattle.osdp_frame.specs.Items.{items, left_over}
-use Rattle.osdp_input.specs.declared.form.Form.{Form}
-use Rattle.osdp_input.specs.declared.form.Form.TheVariants.{Raw, Joined, Apart}
-use Rattle.osdp_input.specs.Cut.{line_feed, unended_line}
-use Rattle.osdp_input.specs.Line.{said, line_bytes}
-use Rattle.osdp_input.specs.Runs.{good_front, ended_runs, open_run, first_bad_ended, closed_runs}
-use Rattle.osdp_input.proofs.FormLemmas.{feed_joined, feed_apart}
-use Rattle.osdp_input.proofs.Bytes.{good_front-bytes}
+use Rattle.osdp_tool_input.specs.declared.form.Form.{Form}
+use Rattle.osdp_tool_input.specs.declared.form.Form.TheVariants.{Raw, Joined, Apart}
+use Rattle.osdp_tool_input.specs.Cut.{line_feed, unended_line}
+use Rattle.osdp_tool_input.specs.Line.{said, line_bytes}
+use Rattle.osdp_tool_input.specs.Runs.{good_front, ended_runs, open_run, first_bad_ended, closed_runs}
+use Rattle.osdp_tool_input.proofs.FormLemmas.{feed_joined, feed_apart}
+use Rattle.osdp_tool_input.proofs.Bytes.{good_front-bytes}
 use Rattle.std.specs.List.{AllByRecursion}
 use Rattle.std.specs.Option.{option_map_or}
-use Rattle.osdp_lines.specs.Tally.{no_tally}
-use Rattle.osdp_lines.specs.Told.{parts_lines, after_runs, runs_lines, end_line, tally_so_far, lines_so_far}
+use Rattle.osdp_tool_lines.specs.Tally.{no_tally}
+use Rattle.osdp_tool_lines.specs.Told.{parts_lines, after_runs, runs_lines, end_line, tally_so_far, lines_so_far}
 use Rattle.osdp_tool.specs.declared.capture.Capture.{Capture}
 use Rattle.osdp_tool.specs.declared.report.Report.{Report}
 use Rattle.osdp_tool.specs.Machine.{told, Took, EndedRun, StopsIn, StopsAtRunEnd}
@@ -40,7 +40,7 @@ stops_before piece old contents = λ full form start read f. (
       (ap (shown_so_far full form) (append-nil read) ∙ sym (append-nil (shown_so_far full form read))),
 )
 
--- behind a front of the piece that was taken
+-- after a front of the piece that was taken
 pub stops_further : (piece xs ys rest : List ℕ) (a b : Capture) (before middle now : Option (List ℕ)) → TookPiece xs true a b before middle
     → StopsInPiece ys b middle now → piece ≡ xs ++ (ys ++ rest) → StopsInPiece piece a before now
 stops_further piece xs ys rest a b before middle now t h is = λ full form start read f.

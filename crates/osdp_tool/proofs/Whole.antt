@@ -5,15 +5,15 @@ use Rattle.std.specs.Io.KnownBytes.{Appends, Consumes, IsAtEnd}
 use Rattle.std.proofs.lemmas.List.{take_all}
 use Rattle.std.proofs.Math.Seq.{take-add, take-append_seam, drop-append_seam}
 use Rattle.std.proofs.lemmas.Bool.{le-leb, lt-leb}
-use Rattle.osdp_input.specs.declared.form.Form.{Form}
-use Rattle.osdp_input.specs.Runs.{first_bad, first_bad_ended}
-use Rattle.osdp_input.proofs.FormLemmas.{bad_stays}
-use Rattle.osdp_lines.specs.Tally.{no_tally}
-use Rattle.osdp_lines.specs.Told.{after_runs, runs_lines, end_line}
-use Rattle.osdp_stream.specs.declared.fault.ToolFault.{ToolFault}
-use Rattle.osdp_stream.specs.declared.fault.ToolFault.TheVariants.{NotHex, TooLong, BadWords, BadStep}
-use Rattle.osdp_stream.specs.declared.fault.ToolFault.TheVariants.{HoldsPacket, NotQuiet, ReadFailed}
-use Rattle.osdp_stream.specs.declared.fault.ToolFault.TheVariants.{WriteFailed, NoMemory}
+use Rattle.osdp_tool_input.specs.declared.form.Form.{Form}
+use Rattle.osdp_tool_input.specs.Runs.{first_bad, first_bad_ended}
+use Rattle.osdp_tool_input.proofs.FormLemmas.{bad_stays}
+use Rattle.osdp_tool_lines.specs.Tally.{no_tally}
+use Rattle.osdp_tool_lines.specs.Told.{after_runs, runs_lines, end_line}
+use Rattle.osdp_tool_streams.specs.declared.fault.ToolFault.{ToolFault}
+use Rattle.osdp_tool_streams.specs.declared.fault.ToolFault.TheVariants.{NotHex, TooLong, BadWords, BadStep}
+use Rattle.osdp_tool_streams.specs.declared.fault.ToolFault.TheVariants.{HoldsPacket, NotQuiet, ReadFailed}
+use Rattle.osdp_tool_streams.specs.declared.fault.ToolFault.TheVariants.{WriteFailed, NoMemory}
 use Rattle.osdp_tool.specs.Shown.{shown, shown_so_far, answer_to, is_refused_input, ends_within}
 use Rattle.osdp_tool.specs.Ending.{Stream, streamed, Ends, IsWhole, EndsWhole}
 
@@ -70,7 +70,7 @@ answer_good form bytes refused good is =
 answer_bad : (form : Form) (bytes : List ℕ) (line : ℕ) → first_bad form bytes ≡ Some line → Err (NotHex line) ≡ answer_to form bytes
 answer_bad form bytes line bad = sym (ap (λ o. option_map_or (λ n. Err (NotHex n)) o (Ok (is_refused_input form bytes))) bad)
 
--- behind a bad line nothing counts
+-- after a bad line nothing counts
 bad_shown : (full : Bool) (form : Form) (read more : List ℕ) (line : ℕ) → first_bad_ended form read ≡ Some line → shown full form (read ++ more) ≡ shown full form read
 bad_shown full form read more line bad =
     let one = (bad_stays form read more line bad).2 in
@@ -78,8 +78,8 @@ bad_shown full form read more line bad =
     let text = λ (runs : List (List ℕ)). runs_lines full no_tally runs ++ end_line full (after_runs no_tally runs) in
     ap text (one ∙ sym none) ∙ ap (shown full form) (append-nil read)
 
-take_behind : (n : ℕ) (xs ys : List ℕ) → length xs ≤ n → take n (xs ++ ys) ≡ xs ++ take (n - length xs) ys
-take_behind n xs ys h =
+take_after : (n : ℕ) (xs ys : List ℕ) → length xs ≤ n → take n (xs ++ ys) ≡ xs ++ take (n - length xs) ys
+take_after n xs ys h =
     let k = n - length xs in
     let sum : n ≡ length xs + k = omega arith in
     ap (λ m. take m (xs ++ ys)) sum ∙ take-add (length xs) k (xs ++ ys)
@@ -89,7 +89,7 @@ whole_at_bad_line : (full : Bool) (form : Form) (limit : ℕ) (bytes read rest :
     → first_bad_ended form read ≡ Some line → Appends output.before output.after (shown full form read) → IsWhole full form limit bytes output (Err (NotHex line))
 whole_at_bad_line full form limit bytes read rest output line parts within bad text =
     let more = take (limit - length read) rest in
-    let front : take limit bytes ≡ read ++ more = ap (take limit) parts ∙ take_behind limit read rest within in
+    let front : take limit bytes ≡ read ++ more = ap (take limit) parts ∙ take_after limit read rest within in
     let stays = bad_stays form read more line bad in
     whole_ended full form limit bytes output (Err (NotHex line)) (bad_ends form limit line bytes (ap (first_bad_ended form) front ∙ stays.1))
     (answer_bad form (read ++ more) line stays.0 ∙ sym (ap (answer_to form) front))

@@ -1,17 +1,17 @@
--- Items that need no framer, and pieces of a run one behind the other.
+-- Items that need no framer, and pieces of a run one after the other.
 use Rattle.std.proofs.Common.{◌≡◌, ℕ, ◌+◌, ◌≤◌, ◌==◌, not, false, List, [], ◌∷◌, ◌++◌, length, take, drop, take-append-drop, Option, Some, None, refl, sym, subst, ap, ◌∙◌, arith, append_assoc, append-nil, length-append}
 use Rattle.std.proofs.Math.Seq.{take-add}
 use Rattle.std.proofs.lemmas.List.{drop_all, length-take, take-take}
 use Rattle.osdp_frame.specs.Bytes.{AreBytes}
 use Rattle.osdp_frame.specs.Reading.{Part, part_size}
-use Rattle.osdp_frame.specs.Held.{Held, decided, by_itself, new_run, after_push, after_gap, after_advance, behind_first, taken_count}
+use Rattle.osdp_frame.specs.Held.{Held, decided, by_itself, new_run, after_push, after_gap, after_advance, after_first, taken_count}
 use Rattle.osdp_frame.proofs.Head.{AreBytes-drop}
 use Rattle.osdp_frame.proofs.FirstItems.{decided_by_itself}
 use Rattle.osdp_frame_laws.proofs.Readings.{decided_nothing, part_size-decided, part_size-positive}
 use Rattle.osdp_tool.specs.declared.report.Report.{Report}
-use Rattle.osdp_lines.specs.Tally.{after_part}
-use Rattle.osdp_lines.specs.Told.{parts_lines}
-use Rattle.osdp_lines.proofs.Lines.{after_parts-nil, after_parts-cons}
+use Rattle.osdp_tool_lines.specs.Tally.{after_part}
+use Rattle.osdp_tool_lines.specs.Told.{parts_lines}
+use Rattle.osdp_tool_lines.proofs.Lines.{after_parts-nil, after_parts-cons}
 use Rattle.std.specs.Io.KnownBytes.{append_known}
 use Rattle.osdp_tool.specs.Machine.{Tells, Drained, IsSettled, Stands, Took, StopsIn}
 use Rattle.osdp_tool.specs.Written.{StopsWithin}
@@ -30,7 +30,7 @@ settled_new = record {
     none_at : AreBytes []
     none_at place = omega arith
 
--- one piece behind another
+-- one piece after another
 pub took_more : (xs ys : List ℕ) (start held next : Held) (first old new : Report) (a b c : Option (List ℕ))
     → Took xs start held first old a b → Took ys held next old new b c → Took (xs ++ ys) start next first new a c
 took_more xs ys start held next first old new a b c s t =
@@ -43,15 +43,15 @@ took_more xs ys start held next first old new a b c s t =
       counts = omega (arith, length-append xs ys);
     }
 
-pub took_behind : (bytes : List ℕ) (at n m : ℕ) (start held next : Held) (first old new : Report) (a b c : Option (List ℕ)) → n ≤ m
+pub took_after : (bytes : List ℕ) (at n m : ℕ) (start held next : Held) (first old new : Report) (a b c : Option (List ℕ)) → n ≤ m
     → Took (take at bytes) start held first old a b → Took (take n (take m (drop at bytes))) held next old new b c
     → Took (take (at + n) bytes) start next first new a c
-took_behind bytes at n m start held next first old new a b c there s t =
+took_after bytes at n m start held next first old new a b c there s t =
     subst (λ l. Took l start next first new a c) (sym (take-add at n bytes))
     (took_more (take at bytes) (take n (drop at bytes)) start held next first old new a b c s
     (subst (λ l. Took l held next old new b c) (take-take n m (drop at bytes) there) t))
 
--- bytes behind those held, of which the items that they decide are told
+-- bytes after those held, of which the items that they decide are told
 took_drained : (given : List ℕ) (held next : Held) (old new : Report) (b c : Option (List ℕ)) → AreBytes given → IsSettled held
     → Drained (record { bytes = held.bytes ++ given; ended = false }) next old new b c → Took given held next old new b c
 took_drained given held next old new b c fits settled d =
@@ -78,7 +78,7 @@ one_drained given part old new b c fits size is tells =
     let whole : Held = record { bytes = given; ended = false } in
     let none : drop (part_size part) given ≡ [] = drop_all (part_size part) given (omega arith) in
     let next : new_run ≡ after_advance whole =
-    sym (ap (behind_first whole) is ∙ ap (λ (l : List ℕ). record { bytes = l; ended = false }) none) in
+    sym (ap (after_first whole) is ∙ ap (λ (l : List ℕ). record { bytes = l; ended = false }) none) in
     draining_end whole new_run old new b c
     (draining_step whole whole new_run old old new b b c part (draining_start whole old b fits (λ e. absurd cc)) is next tells)
     (decided_nothing false)

@@ -6,21 +6,21 @@ use Rattle.std.proofs.KnownBytes.{Consumes-nil, Consumes-trans}
 use Rattle.std.proofs.KnownBytes.{Appends-nil, Appends-trans, Appends-kept}
 use Rattle.osdp_frame.specs.Held.{Held}
 use Rattle.osdp_frame_laws.proofs.Readings.{decided_nothing, items_undecided}
-use Rattle.osdp_input.specs.declared.form.Form.{Form}
-use Rattle.osdp_input.specs.declared.form.Form.TheVariants.{Raw, Joined, Apart}
-use Rattle.osdp_input.specs.Cut.{line_feed, unended_line}
-use Rattle.osdp_input.specs.Line.{line_bytes}
-use Rattle.osdp_input.specs.Runs.{ended_runs, open_run, runs_of, first_bad, first_bad_ended, closed_runs}
-use Rattle.osdp_input.proofs.FormLemmas.{feed_joined, feed_apart, feed_bad, end_joined, end_apart, end_bad, bad_stays}
-use Rattle.osdp_lines.specs.Tally.{no_tally, after_parts}
-use Rattle.osdp_lines.specs.Told.{parts_lines, after_runs, runs_lines, end_line, tally_so_far, lines_so_far}
-use Rattle.osdp_lines.proofs.Lines.{after_parts-nil, parts_lines-nil}
+use Rattle.osdp_tool_input.specs.declared.form.Form.{Form}
+use Rattle.osdp_tool_input.specs.declared.form.Form.TheVariants.{Raw, Joined, Apart}
+use Rattle.osdp_tool_input.specs.Cut.{line_feed, unended_line}
+use Rattle.osdp_tool_input.specs.Line.{line_bytes}
+use Rattle.osdp_tool_input.specs.Runs.{ended_runs, open_run, runs_of, first_bad, first_bad_ended, closed_runs}
+use Rattle.osdp_tool_input.proofs.FormLemmas.{feed_joined, feed_apart, feed_bad, end_joined, end_apart, end_bad, bad_stays}
+use Rattle.osdp_tool_lines.specs.Tally.{no_tally, after_parts}
+use Rattle.osdp_tool_lines.specs.Told.{parts_lines, after_runs, runs_lines, end_line, tally_so_far, lines_so_far}
+use Rattle.osdp_tool_lines.proofs.Lines.{after_parts-nil, parts_lines-nil}
 use Rattle.osdp_tool.specs.declared.capture.Capture.{Capture}
 use Rattle.osdp_tool.specs.declared.report.Report.{Report}
-use Rattle.osdp_stream.specs.declared.fault.ToolFault.{ToolFault}
-use Rattle.osdp_stream.specs.declared.fault.ToolFault.TheVariants.{NotHex, TooLong, BadWords, BadStep}
-use Rattle.osdp_stream.specs.declared.fault.ToolFault.TheVariants.{HoldsPacket, NotQuiet, ReadFailed}
-use Rattle.osdp_stream.specs.declared.fault.ToolFault.TheVariants.{WriteFailed, NoMemory}
+use Rattle.osdp_tool_streams.specs.declared.fault.ToolFault.{ToolFault}
+use Rattle.osdp_tool_streams.specs.declared.fault.ToolFault.TheVariants.{NotHex, TooLong, BadWords, BadStep}
+use Rattle.osdp_tool_streams.specs.declared.fault.ToolFault.TheVariants.{HoldsPacket, NotQuiet, ReadFailed}
+use Rattle.osdp_tool_streams.specs.declared.fault.ToolFault.TheVariants.{WriteFailed, NoMemory}
 use Rattle.osdp_tool.specs.Machine.{IsSettled, IsStep, EndedRun}
 use Rattle.osdp_tool.specs.Written.{IsBeginning, StopsWithin}
 use Rattle.osdp_tool.proofs.Beginnings.{begun_all, stops_by}
@@ -286,7 +286,7 @@ part_at_once full form limit input output input_failed output_failed = record {
   text = inl (stops_by output output output [] (shown_so_far full form []) (shown_so_far full form []) (Appends-nil output) (begun_all output) refl);
 }
 
--- a step that fails behind one that went well
+-- a step that fails after one that went well
 pub still_step : (fault : ToolFault) (was mid failed : Bool) → mid ≡ was → IsStep {T = Unit {0}} (Err fault) mid failed → IsStep {T = Unit {0}} (Err fault) was failed
 still_step fault was mid failed same s = subst (λ b. IsStep {T = Unit {0}} (Err fault) b failed) same s
 

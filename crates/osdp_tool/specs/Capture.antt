@@ -1,11 +1,11 @@
 -- A capture that is read, and what has come of it.
 use Rattle.std.specs.Prelude.{◌≡◌, ℕ, ◌+◌, ◌*◌, ◌≤◌, Bool, true, false, List, ◌++◌, length, take, Option, Some, None}
-use Rattle.osdp_input.specs.declared.form.Form.{Form}
-use Rattle.osdp_input.specs.declared.form.Form.TheVariants.{Raw, Joined, Apart}
-use Rattle.osdp_input.specs.Cut.{ended_lines, unended_line}
-use Rattle.osdp_input.specs.Line.{kept}
-use Rattle.osdp_input.specs.Runs.{ended_runs, open_run, first_bad_ended}
-use Rattle.osdp_lines.specs.Tally.{counted}
+use Rattle.osdp_tool_input.specs.declared.form.Form.{Form}
+use Rattle.osdp_tool_input.specs.declared.form.Form.TheVariants.{Raw, Joined, Apart}
+use Rattle.osdp_tool_input.specs.Cut.{ended_lines, unended_line}
+use Rattle.osdp_tool_input.specs.Line.{kept}
+use Rattle.osdp_tool_input.specs.Runs.{ended_runs, open_run, first_bad_ended}
+use Rattle.osdp_tool_lines.specs.Tally.{counted}
 use Rattle.osdp_tool.specs.declared.capture.Capture.{Capture}
 use Rattle.osdp_tool.specs.Machine.{Stands, IsSettled}
 use Rattle.osdp_tool.specs.Shown.{shown_so_far}
@@ -51,7 +51,7 @@ pub record TookPiece (piece : List ℕ) (good : Bool) (old new : Capture) (befor
   pub load_is : load new ≤ load old + 5 * length piece
 
 -- The capture went on by these bytes, all of them where no bad line ended, else by those to the end of the bad
--- line, and what stands behind it changes nothing.
+-- line, and what stands after it changes nothing.
 abbrev pub TookPart : List ℕ → Bool → Capture → Capture → Option (List ℕ) → Option (List ℕ) → Type 0
 TookPart piece true old new before after = TookPiece piece true old new before after
 TookPart piece false old new before after = (most : ℕ) × TookPiece (take most piece) false old new before after

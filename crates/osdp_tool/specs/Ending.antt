@@ -1,12 +1,12 @@
 -- How show and check end: what they answer, what was read and what was printed.
 use Rattle.std.specs.Prelude.{◌≡◌, ◌⊎◌, ℕ, ◌+◌, ◌≤◌, Bool, true, false, List, [], ◌∷◌, ◌++◌, length, Option, Some, None, Result, Ok, Err, IfSome}
 use Rattle.std.specs.Io.KnownBytes.{Appends, Consumes, IsAtEnd}
-use Rattle.osdp_input.specs.declared.form.Form.{Form}
-use Rattle.osdp_input.specs.Runs.{first_bad, first_bad_ended}
-use Rattle.osdp_stream.specs.declared.fault.ToolFault.{ToolFault}
-use Rattle.osdp_stream.specs.declared.fault.ToolFault.TheVariants.{NotHex, TooLong, BadWords, BadStep}
-use Rattle.osdp_stream.specs.declared.fault.ToolFault.TheVariants.{HoldsPacket, NotQuiet, ReadFailed}
-use Rattle.osdp_stream.specs.declared.fault.ToolFault.TheVariants.{WriteFailed, NoMemory}
+use Rattle.osdp_tool_input.specs.declared.form.Form.{Form}
+use Rattle.osdp_tool_input.specs.Runs.{first_bad, first_bad_ended}
+use Rattle.osdp_tool_streams.specs.declared.fault.ToolFault.{ToolFault}
+use Rattle.osdp_tool_streams.specs.declared.fault.ToolFault.TheVariants.{NotHex, TooLong, BadWords, BadStep}
+use Rattle.osdp_tool_streams.specs.declared.fault.ToolFault.TheVariants.{HoldsPacket, NotQuiet, ReadFailed}
+use Rattle.osdp_tool_streams.specs.declared.fault.ToolFault.TheVariants.{WriteFailed, NoMemory}
 use Rattle.osdp_tool.specs.Shown.{shown, shown_so_far, is_refused_input, limited_text, limited_answer}
 use Rattle.osdp_tool.specs.Written.{StopsWithin}
 
@@ -37,7 +37,7 @@ pub record EndsAtEnd (full : Bool) (form : Form) (limit : ℕ) (input output : S
   pub output_well : output.failed ≡ false
 
 -- A bad line ended the input, and what stands before it is shown. It has ended, at a line feed or with the
--- input, and nothing was read behind the piece in which it did.
+-- input, and nothing was read after the piece in which it did.
 pub record EndsAtBadLine (full : Bool) (form : Form) (limit : ℕ) (input output : Stream) (line : ℕ) : Type 0 where
   pub earlier : List ℕ
   pub piece : List ℕ

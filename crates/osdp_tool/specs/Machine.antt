@@ -5,13 +5,13 @@ use Rattle.osdp_frame.specs.Reading.{Part, total_size}
 use Rattle.osdp_frame.specs.Held.{Held, decided}
 use Rattle.osdp_frame.specs.Bytes.{AreBytes}
 use Rattle.osdp_frame.specs.Items.{items, left_over}
-use Rattle.osdp_input.specs.Runs.{closed_runs}
-use Rattle.osdp_lines.specs.Tally.{after_parts, counted}
-use Rattle.osdp_lines.specs.Told.{parts_lines, tally_so_far, lines_so_far}
-use Rattle.osdp_stream.specs.declared.fault.ToolFault.{ToolFault}
-use Rattle.osdp_stream.specs.declared.fault.ToolFault.TheVariants.{NotHex, TooLong, BadWords, BadStep}
-use Rattle.osdp_stream.specs.declared.fault.ToolFault.TheVariants.{HoldsPacket, NotQuiet, ReadFailed}
-use Rattle.osdp_stream.specs.declared.fault.ToolFault.TheVariants.{WriteFailed, NoMemory}
+use Rattle.osdp_tool_input.specs.Runs.{closed_runs}
+use Rattle.osdp_tool_lines.specs.Tally.{after_parts, counted}
+use Rattle.osdp_tool_lines.specs.Told.{parts_lines, tally_so_far, lines_so_far}
+use Rattle.osdp_tool_streams.specs.declared.fault.ToolFault.{ToolFault}
+use Rattle.osdp_tool_streams.specs.declared.fault.ToolFault.TheVariants.{NotHex, TooLong, BadWords, BadStep}
+use Rattle.osdp_tool_streams.specs.declared.fault.ToolFault.TheVariants.{HoldsPacket, NotQuiet, ReadFailed}
+use Rattle.osdp_tool_streams.specs.declared.fault.ToolFault.TheVariants.{WriteFailed, NoMemory}
 use Rattle.osdp_tool.specs.declared.report.Report.{Report}
 use Rattle.osdp_tool.specs.Written.{StopsWithin}
 

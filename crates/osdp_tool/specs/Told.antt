@@ -4,12 +4,12 @@ use Rattle.std.specs.List.{concat}
 use Rattle.osdp_frame.specs.Bytes.{AreBytes}
 use Rattle.osdp_frame.specs.Reading.{Part, Whole, Passed, Bad, part_size, IsReading}
 use Rattle.osdp_frame.specs.Items.{Drains}
-use Rattle.osdp_input.specs.declared.form.Form.{Form}
-use Rattle.osdp_input.specs.declared.form.Form.TheVariants.{Raw, Joined, Apart}
-use Rattle.osdp_input.specs.Cut.{IsCut, last_line}
-use Rattle.osdp_input.specs.Line.{line_bytes}
-use Rattle.osdp_input.specs.Runs.{with_bytes}
-use Rattle.osdp_lines.specs.ItemText.{is_refusal, item_line, counts_line}
+use Rattle.osdp_tool_input.specs.declared.form.Form.{Form}
+use Rattle.osdp_tool_input.specs.declared.form.Form.TheVariants.{Raw, Joined, Apart}
+use Rattle.osdp_tool_input.specs.Cut.{IsCut, last_line}
+use Rattle.osdp_tool_input.specs.Line.{line_bytes}
+use Rattle.osdp_tool_input.specs.Runs.{with_bytes}
+use Rattle.osdp_tool_lines.specs.ItemText.{is_refusal, item_line, counts_line}
 use Rattle.osdp_tool.specs.Shown.{shown, shown_so_far, is_refused_input}
 
 -- ---- the runs of an input

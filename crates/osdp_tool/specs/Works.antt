@@ -1,14 +1,14 @@
 -- How a capture is read to its end.
 use Rattle.std.specs.Prelude.{◌≡◌, ◌⊎◌, ℕ, ◌+◌, ◌≤◌, Bool, true, false, if◌then◌else◌, List, [], ◌∷◌, ◌++◌, length, take, Option, Some, None, Result, Ok, Err}
 use Rattle.std.specs.Io.KnownBytes.{Appends, Consumes, IsAtEnd}
-use Rattle.osdp_input.specs.declared.form.Form.{Form}
-use Rattle.osdp_input.specs.Runs.{runs_of, first_bad, closed_runs}
-use Rattle.osdp_lines.specs.Tally.{no_tally}
-use Rattle.osdp_lines.specs.Told.{after_runs, runs_lines, end_line}
-use Rattle.osdp_stream.specs.declared.fault.ToolFault.{ToolFault}
-use Rattle.osdp_stream.specs.declared.fault.ToolFault.TheVariants.{NotHex, TooLong, BadWords, BadStep}
-use Rattle.osdp_stream.specs.declared.fault.ToolFault.TheVariants.{HoldsPacket, NotQuiet, ReadFailed}
-use Rattle.osdp_stream.specs.declared.fault.ToolFault.TheVariants.{WriteFailed, NoMemory}
+use Rattle.osdp_tool_input.specs.declared.form.Form.{Form}
+use Rattle.osdp_tool_input.specs.Runs.{runs_of, first_bad, closed_runs}
+use Rattle.osdp_tool_lines.specs.Tally.{no_tally}
+use Rattle.osdp_tool_lines.specs.Told.{after_runs, runs_lines, end_line}
+use Rattle.osdp_tool_streams.specs.declared.fault.ToolFault.{ToolFault}
+use Rattle.osdp_tool_streams.specs.declared.fault.ToolFault.TheVariants.{NotHex, TooLong, BadWords, BadStep}
+use Rattle.osdp_tool_streams.specs.declared.fault.ToolFault.TheVariants.{HoldsPacket, NotQuiet, ReadFailed}
+use Rattle.osdp_tool_streams.specs.declared.fault.ToolFault.TheVariants.{WriteFailed, NoMemory}
 use Rattle.osdp_tool.specs.declared.capture.Capture.{Capture}
 use Rattle.osdp_tool.specs.declared.reading.Ending.{Ending}
 use Rattle.osdp_tool.specs.declared.reading.Ending.TheVariants.{AtEnd, AtBadLine, PastLimit, AtFailedRead}
@@ -29,7 +29,7 @@ pub record Closed (old new : Capture) (before written : Option (List ℕ)) : Typ
       → new.report.tally ≡ after_runs no_tally (closed_runs ended open_bytes)
   pub same : new.ended ≡ old.ended
 
--- the input has ended behind these bytes, and its last line has been told
+-- the input has ended after these bytes, and its last line has been told
 pub record EndedInput (full : Bool) (form : Form) (start : Option (List ℕ)) (read : List ℕ) (good : Bool) (capture : Capture) (now : Option (List ℕ)) : Type 0 where
   pub ended : List (List ℕ)
   pub open_bytes : List ℕ

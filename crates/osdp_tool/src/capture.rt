@@ -1,21 +1,21 @@
 //! A capture: its lines, and the runs of bytes that stand in them.
 
 ghost use Rattle.std.specs.Prelude.{◌≡◌, ◌+◌, ◌*◌, ◌<◌, ◌^◌, ◌++◌, ℕ, List, [], ◌∷◌, Bool, true, false, length, Option, OnOk, OnErr, IfOk, IfErr, MatchOption};
-ghost use Rattle.osdp_stream.specs.Watched.{inner_of, has_failed};
-ghost use Rattle.osdp_input.specs.Cut.{line_feed, IsLine};
+ghost use Rattle.osdp_tool_streams.specs.Watched.{inner_of, has_failed};
+ghost use Rattle.osdp_tool_input.specs.Cut.{line_feed, IsLine};
 ghost use Rattle.osdp_tool.specs.Machine.{told, IsStep, IsSettled};
 ghost use Rattle.osdp_tool.specs.Feeds.{HasLine};
 
 use crate::report::Report;
 use crate::runs::{end_run, take};
 use osdp_frame::Framer;
-use osdp_input::{Form, keep, read_digits};
-use osdp_lines::Tally;
-use osdp_stream::{ToolFault, Watched};
+use osdp_tool_input::{Form, keep, read_digits};
+use osdp_tool_lines::Tally;
+use osdp_tool_streams::{ToolFault, Watched};
 use std::alloc::Global;
 use std::io::Write;
 
-/// Room for the text that is gathered and the longest line behind it, so that no line needs memory.
+/// Room for the text that is gathered and the longest line after it, so that no line needs memory.
 const ROOM: usize = 73728;
 
 /// A capture that is read.

@@ -2,19 +2,19 @@
 
 ghost use Rattle.std.specs.Prelude.{◌≡◌, ◌<◌, ◌^◌, true, false};
 ghost use Rattle.std.specs.Io.KnownBytes.{Keeps};
-ghost use Rattle.osdp_stream.specs.Watched.{inner_of, has_failed};
+ghost use Rattle.osdp_tool_streams.specs.Watched.{inner_of, has_failed};
 ghost use Rattle.osdp_tool.specs.Ending.{streamed, Ends, EndsWhole};
 ghost use Rattle.osdp_tool.specs.Shown.{form_of};
 ghost use Rattle.osdp_tool.specs.Works.{Works};
 
 use crate::capture::Capture;
-use osdp_input::Form;
-use osdp_job::Mode;
-use osdp_stream::{ToolFault, Watched, finish};
+use osdp_tool_input::Form;
+use osdp_tool_job::Mode;
+use osdp_tool_streams::{ToolFault, Watched, finish};
 use std::alloc::Global;
 use std::io::{Read, Write};
 
-/// What an input holds behind so many bytes is not shown. One byte of it is read to tell.
+/// What an input holds after so many bytes is not shown. One byte of it is read to tell.
 pub const LIMIT: usize = 67_108_864;
 
 /// How the input of a mode stands in runs.
@@ -50,7 +50,7 @@ fn work<R: Read, W: Write>(
 /// Either command over an input of this form, with a limit of the caller's own.
 ///
 /// With `full` it prints as `show` does, else as `check`. An input of more than `limit` bytes, below 2^40, is `TooLong`, and what
-/// it holds behind them is not shown. A stream that has failed before is told, the input first, and nothing is read or printed.
+/// it holds after them is not shown. A stream that has failed before is told, the input first, and nothing is read or printed.
 pub fn command<R: Read, W: Write>(
     alloc: Global,
     full: bool,
@@ -101,7 +101,7 @@ pub fn show<R: Read, W: Write>(
     command(alloc, true, form_of(mode), LIMIT, input, output)
 }
 
-/// Prints the lines of the refusals of the input, and behind them a line of counts.
+/// Prints the lines of the refusals of the input, and after them a line of counts.
 ///
 /// It reads its input and answers as `show` does. The counts are printed where the input has ended, also at a
 /// bad line.

@@ -9,7 +9,7 @@ mod report;
 mod runs;
 
 pub use commands::{LIMIT, check, command, show};
-pub use osdp_input::Form;
-pub use osdp_job::{Job, Mode, job};
-pub use osdp_make::make;
-pub use osdp_stream::{ToolFault, Watched};
+pub use osdp_tool_input::Form;
+pub use osdp_tool_job::{Job, Mode, job};
+pub use osdp_tool_make::make;
+pub use osdp_tool_streams::{ToolFault, Watched};

@@ -2,12 +2,12 @@
 
 ghost use Rattle.std.specs.Prelude.{◌≡◌, ◌+◌, ◌*◌, ◌<◌, ◌≤◌, ◌^◌, ◌↔◌, ℕ, List, [], length, take, Bool, Option, is_err, true, false, string_bytes, if◌then◌else◌, Result, IfOk, OnOk, OnErr, IfErr};
 ghost use Rattle.std.specs.Io.KnownBytes.{Consumes, IsAtEnd, Keeps};
-ghost use Rattle.osdp_input.specs.declared.form.Form.{Form};
-ghost use Rattle.osdp_stream.specs.Watched.{inner_of, has_failed};
+ghost use Rattle.osdp_tool_input.specs.declared.form.Form.{Form};
+ghost use Rattle.osdp_tool_streams.specs.Watched.{inner_of, has_failed};
 ghost use Rattle.osdp_tool.specs.Machine.{told, IsStep, IsSettled};
 
 use crate::capture::Capture;
-use osdp_stream::{ToolFault, Watched, read_some};
+use osdp_tool_streams::{ToolFault, Watched, read_some};
 use std::io::{Read, Write};
 
 /// At most so many bytes are asked for at once.

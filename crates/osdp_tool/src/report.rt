@@ -4,14 +4,14 @@ ghost use Rattle.std.specs.Prelude.{◌≡◌, ◌+◌, ◌<◌, ◌^◌, [], �
 ghost use Rattle.std.specs.Io.KnownBytes.{Appends, Keeps};
 ghost use Rattle.osdp_frame.specs.Reading.{part_size};
 ghost use Rattle.osdp_frame.specs.Shown.{part_of};
-ghost use Rattle.osdp_lines.specs.Tally.{counted};
-ghost use Rattle.osdp_lines.specs.Told.{end_line, parts_lines};
+ghost use Rattle.osdp_tool_lines.specs.Tally.{counted};
+ghost use Rattle.osdp_tool_lines.specs.Told.{end_line, parts_lines};
 ghost use Rattle.osdp_tool.specs.Written.{IsBeginning, StopsWithin};
-ghost use Rattle.osdp_stream.specs.Watched.{inner_of, has_failed};
+ghost use Rattle.osdp_tool_streams.specs.Watched.{inner_of, has_failed};
 
 use osdp_frame::Item;
-use osdp_lines::{Tally, push_end, tell};
-use osdp_stream::{ToolFault, Watched, write_out};
+use osdp_tool_lines::{Tally, push_end, tell};
+use osdp_tool_streams::{ToolFault, Watched, write_out};
 use std::io::Write;
 
 /// So much text is written out at once.

@@ -3,16 +3,16 @@
 ghost use Rattle.std.specs.Prelude.{◌≡◌, ◌+◌, ◌*◌, ◌<◌, ◌≤◌, ◌^◌, ◌++◌, true, false, None, length, take, IfOk, OnOk, OnErr};
 ghost use Rattle.osdp_frame.specs.Bytes.{AreBytes};
 ghost use Rattle.osdp_frame.specs.Held.{after_gap, decided, new_run};
-ghost use Rattle.osdp_lines.specs.Tally.{counted};
-ghost use Rattle.osdp_stream.specs.Watched.{inner_of, has_failed};
+ghost use Rattle.osdp_tool_lines.specs.Tally.{counted};
+ghost use Rattle.osdp_tool_streams.specs.Watched.{inner_of, has_failed};
 ghost use Rattle.osdp_frame.specs.Items.{items};
-ghost use Rattle.osdp_lines.specs.Told.{parts_lines};
+ghost use Rattle.osdp_tool_lines.specs.Told.{parts_lines};
 ghost use Rattle.osdp_tool.specs.Machine.{told, IsStep, Drained, IsSettled, Took, EndedRun, StopsIn, StopsAtRunEnd};
 ghost use Rattle.osdp_tool.specs.Written.{StopsWithin};
 
 use crate::report::Report;
 use osdp_frame::{Framer, whole_item};
-use osdp_stream::{ToolFault, Watched};
+use osdp_tool_streams::{ToolFault, Watched};
 use std::io::Write;
 
 /// So many bytes are given to a framer one by one before it is given all that there are.
@@ -110,7 +110,7 @@ fn take_held<W: Write>(
     Ok(count)
 }
 
-/// How many of so many bytes the framer is given: one at a time at first, since where nothing is held behind an
+/// How many of so many bytes the framer is given: one at a time at first, since where nothing is held after an
 /// item the next ones need no framer.
 fn given_count(tries: u8, left: usize) -> usize
     ensures within { result ≤ left }
@@ -119,7 +119,7 @@ fn given_count(tries: u8, left: usize) -> usize
     if tries < TRIES { left.min(1) } else { left }
 }
 
-/// The tries behind one at which so many bytes needed no framer.
+/// The tries after one at which so many bytes needed no framer.
 fn next_tries(tries: u8, whole: usize) -> u8 {
     if whole == 0 && tries < TRIES {
         tries + 1

@@ -1,6 +1,6 @@
 -- How many steps and readers a script has.
 use Rattle.std.proofs.Common.{◌≡◌, ◌+◌, ◌*◌, ◌<◌, ◌≤◌, ◌^◌, ◌==◌, ℕ, zero, suc, Bool, true, false, List, [], ◌∷◌, ◌++◌, length, inl, inr, refl, sym, subst, ap, arith, length-append}
-use Rattle.osdp_input.specs.Cut.{ended_behind, last_line, line_feed, lines_of, unended_behind}
+use Rattle.osdp_tool_input.specs.Cut.{ended_after, last_line, line_feed, lines_of, unended_after}
 use Rattle.osdp_script.specs.declared.script.Script.{Script}
 use Rattle.osdp_script.specs.declared.script.ScriptLine.{ScriptLine}
 use Rattle.osdp_script.specs.declared.script.ScriptLine.TheVariants.{Check, Reader, Step, Clean}
@@ -11,15 +11,15 @@ use Rattle.osdp_script.specs.Script.{Plan, no_plan, line_steps, lines_steps, ste
 
 -- ---- lines
 
-lines_from : (line bytes : List ℕ) → length (ended_behind line bytes ++ last_line (unended_behind line bytes)) ≤ 2 * length bytes + 1
-unfolding ended_behind unended_behind
+lines_from : (line bytes : List ℕ) → length (ended_after line bytes ++ last_line (unended_after line bytes)) ≤ 2 * length bytes + 1
+unfolding ended_after unended_after
 lines_from [] [] = omega arith
 lines_from (c ∷ line) [] = omega arith
 lines_from line (b ∷ bytes) = go (b == line_feed) refl (lines_from [] bytes) (lines_from (line ++ b ∷ []) bytes)
   where
-    go : (feed : Bool) → (b == line_feed) ≡ feed → length (ended_behind [] bytes ++ last_line (unended_behind [] bytes)) ≤ 2 * length bytes + 1
-        → length (ended_behind (line ++ b ∷ []) bytes ++ last_line (unended_behind (line ++ b ∷ []) bytes)) ≤ 2 * length bytes + 1
-        → length (ended_behind line (b ∷ bytes) ++ last_line (unended_behind line (b ∷ bytes))) ≤ 2 * length (b ∷ bytes) + 1
+    go : (feed : Bool) → (b == line_feed) ≡ feed → length (ended_after [] bytes ++ last_line (unended_after [] bytes)) ≤ 2 * length bytes + 1
+        → length (ended_after (line ++ b ∷ []) bytes ++ last_line (unended_after (line ++ b ∷ []) bytes)) ≤ 2 * length bytes + 1
+        → length (ended_after line (b ∷ bytes) ++ last_line (unended_after line (b ∷ bytes))) ≤ 2 * length (b ∷ bytes) + 1
     go true is ended open_line = rw is (omega arith)
     go false is ended open_line = rw is (omega arith)
 

@@ -15,7 +15,7 @@ use Rattle.osdp_sim.specs.declared.fault.Fault.{Fault}
 use Rattle.osdp_sim.specs.Account.{Account, lists_of}
 use Rattle.osdp_sim.specs.Runs.{RunEnds, Stops, StopsAt}
 use Rattle.osdp_sim_laws.specs.Accepted.{AcceptsByRoom}
-use Rattle.osdp_stream.specs.declared.fault.ToolFault.TheVariants.{HoldsPacket, NotQuiet}
+use Rattle.osdp_tool_streams.specs.declared.fault.ToolFault.TheVariants.{HoldsPacket, NotQuiet}
 use Rattle.osdp_tool_sim.specs.One.{TellsOne, config_of, start_of}
 
 abbrev pub Holds : ℕ → Account → Type 0

@@ -13,7 +13,7 @@ use Rattle.osdp_sim.specs.Account.{Account}
 use Rattle.osdp_sim.specs.State.{SimState, set_up}
 use Rattle.osdp_sim.specs.Steps.{after_step, fault_of}
 use Rattle.osdp_sim_laws.specs.Accepted.{IsAccepted, commands_of, events_of}
-use Rattle.osdp_stream.specs.declared.fault.ToolFault.{ToolFault}
+use Rattle.osdp_tool_streams.specs.declared.fault.ToolFault.{ToolFault}
 use Rattle.osdp_tool_sim.specs.Steps.{RunTells, steps_taken}
 
 -- the settings of both ends, with a reader at this address and room for so many events

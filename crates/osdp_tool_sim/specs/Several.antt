@@ -9,7 +9,7 @@ use Rattle.osdp_script_reader.specs.declared.handler.ScriptReader.{ScriptReader}
 use Rattle.osdp_sim.specs.Account.{Account}
 use Rattle.osdp_sim_bus.specs.State.{Given, LineState, accounts, set_up}
 use Rattle.osdp_sim_bus.specs.Steps.{after_step, fault_of}
-use Rattle.osdp_stream.specs.declared.fault.ToolFault.{ToolFault}
+use Rattle.osdp_tool_streams.specs.declared.fault.ToolFault.{ToolFault}
 use Rattle.osdp_tool_account.specs.AccountText.{account_text}
 use Rattle.osdp_tool_sim.specs.Steps.{RunTells}
 

@@ -3,8 +3,8 @@ use Rattle.std.specs.Prelude.{◌≡◌, ℕ, List, [], ◌∷◌, Result}
 use Rattle.osdp_script.specs.declared.script.Script.{Script}
 use Rattle.osdp_script.specs.Reading.{IsBadLine, IsScriptOf}
 use Rattle.osdp_sim.specs.Account.{Account}
-use Rattle.osdp_stream.specs.declared.fault.ToolFault.{ToolFault}
-use Rattle.osdp_stream.specs.declared.fault.ToolFault.TheVariants.{BadStep, NoMemory}
+use Rattle.osdp_tool_streams.specs.declared.fault.ToolFault.{ToolFault}
+use Rattle.osdp_tool_streams.specs.declared.fault.ToolFault.TheVariants.{BadStep, NoMemory}
 use Rattle.osdp_tool_account.specs.AccountText.{account_text}
 use Rattle.osdp_tool_sim.specs.One.{TellsOne}
 use Rattle.osdp_tool_sim.specs.Several.{TellsEach, texts_from}

@@ -1,13 +1,13 @@
 //! The command.
 
 ghost use Rattle.std.specs.Prelude.{◌≡◌, ◌<◌, ◌^◌, false, length, string_bytes};
-ghost use Rattle.osdp_stream.specs.Watched.{inner_of, has_failed};
+ghost use Rattle.osdp_tool_streams.specs.Watched.{inner_of, has_failed};
 ghost use Rattle.osdp_tool_sim.specs.Ending.{AreFailed, Ends, EndsWhole, Says, SaysOf, SaysTold};
 
 use crate::reading::read_all;
 use crate::run::run_script;
 use crate::told::Told;
-use osdp_stream::{ToolFault, Watched, finish, write_out};
+use osdp_tool_streams::{ToolFault, Watched, finish, write_out};
 use std::alloc::Global;
 use std::io::{Read, Write};
 

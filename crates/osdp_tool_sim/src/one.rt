@@ -13,8 +13,8 @@ use osdp_script::Script;
 use osdp_script_reader::{ScriptReader, script_config};
 use osdp_session::run_schedule;
 use osdp_sim::{Account, Cause, SimConfig};
-use osdp_stream::ToolFault;
 use osdp_tool_account::account_text;
+use osdp_tool_streams::ToolFault;
 use std::alloc::Global;
 
 /// The settings of a line with one reader.

@@ -2,10 +2,10 @@
 
 ghost use Rattle.std.specs.Prelude.{◌≡◌, ◌<◌, ◌≤◌, length, take, is_err, true, if◌then◌else◌, IfOk};
 ghost use Rattle.std.specs.Io.KnownBytes.{Consumes, IsAtEnd, Keeps};
-ghost use Rattle.osdp_stream.specs.Watched.{inner_of, has_failed};
+ghost use Rattle.osdp_tool_streams.specs.Watched.{inner_of, has_failed};
 ghost use Rattle.osdp_tool_sim.specs.Reading.{ReadsAll, ReadsPiece};
 
-use osdp_stream::{ToolFault, Watched, read_some};
+use osdp_tool_streams::{ToolFault, Watched, read_some};
 use std::alloc::Global;
 use std::io::Read;
 

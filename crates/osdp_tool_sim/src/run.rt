@@ -9,7 +9,7 @@ use crate::several::tell_several;
 use crate::told::Told;
 use osdp_frame::Address;
 use osdp_script::{Script, ScriptFault, read_script};
-use osdp_stream::ToolFault;
+use osdp_tool_streams::ToolFault;
 use std::alloc::Global;
 
 /// The only reader, where there is one.

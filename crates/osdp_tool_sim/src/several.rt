@@ -15,8 +15,8 @@ use osdp_script::Script;
 use osdp_script_reader::{ScriptReader, script_config};
 use osdp_sim::{Account, Cause};
 use osdp_sim_bus::run_bus_schedule;
-use osdp_stream::ToolFault;
 use osdp_tool_account::account_text;
+use osdp_tool_streams::ToolFault;
 use std::alloc::{AllocError, Global};
 
 /// The readers at these addresses, each with room for so many events.

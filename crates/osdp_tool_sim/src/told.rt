@@ -1,6 +1,6 @@
 //! What is told of a script.
 
-use osdp_stream::ToolFault;
+use osdp_tool_streams::ToolFault;
 
 /// How many commands may wait for each reader.
 pub(crate) const COMMANDS: usize = 64;

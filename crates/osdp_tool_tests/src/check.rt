@@ -34,7 +34,7 @@ fn add_all(check: &mut impl Check, bytes: &[u8]) {
 
 /// A check that was spelled can go on.
 #[test]
-fn goes_on_behind_a_spelling(rt: HostRuntime) {
+fn goes_on_after_a_spelling(rt: HostRuntime) {
     let mut sum = Sum8::start();
     sum.add(0xff);
     assert_eq!(rt; sum.spell(), [1, 0]);

@@ -1,5 +1,5 @@
-use osdp_job::*;
-use osdp_stream::ToolFault;
+use osdp_tool_job::*;
+use osdp_tool_streams::ToolFault;
 use std::alloc::{AllocError, Global};
 use std::process::Abort;
 use std::test::Fail;
@@ -30,7 +30,7 @@ fn job_of(alloc: Global, text: &str) -> Result<Result<Job, ToolFault>, AllocErro
     Ok(job(alloc, words.as_slice()))
 }
 
-/// The options, each behind a bar, make this mode of both commands that have one.
+/// The options, each after a bar, make this mode of both commands that have one.
 fn is_mode(rt: &impl Abort, alloc: Global, options: &str, mode: Mode) -> Result<(), Fail> {
     let mut text = String::from_str(alloc, "show")?;
     text.push_str(options)?;

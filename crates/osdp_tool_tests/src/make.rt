@@ -1,8 +1,8 @@
 //! Packets from words, each worked by hand, and outputs that fail.
 
 use crate::faulty::{Refusal, Sink, make_sink};
-use osdp_make::*;
-use osdp_stream::{ToolFault, Watched};
+use osdp_tool_make::*;
+use osdp_tool_streams::{ToolFault, Watched};
 use std::alloc::{AllocError, Global};
 use std::io::{ErrorKind, Write};
 use std::process::Abort;
@@ -94,7 +94,7 @@ fn no_words_order_none(rt: HostRuntime) {
 
 const BUSY: [&str; 4] = ["5", "0", "sum", "BUSY"];
 
-/// 15 bytes, which take four writes of at most four, and a flush behind them.
+/// 15 bytes, which take four writes of at most four, and a flush after them.
 const BUSY_LINE: &str = "538507000079A8\n";
 
 /// The sink takes this many bytes of the line, and the call after this many writes and flushes is not made.

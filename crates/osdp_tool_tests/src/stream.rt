@@ -1,5 +1,5 @@
 use crate::faulty::{Pieces, Refusal, make_pieces, make_sink};
-use osdp_stream::*;
+use osdp_tool_streams::*;
 use std::alloc::{AllocError, Global};
 use std::io::{ErrorKind, Read, Write};
 use std::process::Abort;

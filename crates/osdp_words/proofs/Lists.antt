@@ -178,8 +178,8 @@ module _ {A : Type 0} (word : A → Word) (Allowed : A → Type 0) (one : HasOne
 
 -- ---- printing
 
--- the words of values behind a text's name, each behind a space
-pub words_behind : {A : Type 0} (word : A → Word) (list : List A)
+-- the words of values after a text's name, each after a space
+pub words_after : {A : Type 0} (word : A → Word) (list : List A)
     → flat_map (λ w. 32 ∷ printed w) (map word list) ≡ flat_map (λ x. 32 ∷ printed (word x)) list
-words_behind word [] = refl
-words_behind word (x ∷ list) = ap (λ (rest : List ℕ). (32 ∷ printed (word x)) ++ rest) (words_behind word list)
+words_after word [] = refl
+words_after word (x ∷ list) = ap (λ (rest : List ℕ). (32 ∷ printed (word x)) ++ rest) (words_after word list)

@@ -130,7 +130,7 @@ module _ {A : Type 0} (words : A → List Word) (Allowed : A → Type 0) (given 
   ended_read true a h taken = all_read words Allowed given left a (h.0 refl) taken
   ended_read false a h taken = more_left words Allowed given left a (λ e. false≢true (h.1 e)) taken
 
--- behind a name
+-- after a name
 module _ {A : Type 0} (name : List ℕ) (words : A → List Word) (Allowed : A → Type 0) (rest : List (List ℕ)) where
   named_value : (r : Option A) → IfSome r (λ a. AllStandFor (words a) rest × Allowed a)
       → IfSome r (λ a. AllStandFor (plain name ∷ words a) (name ∷ rest) × Allowed a)

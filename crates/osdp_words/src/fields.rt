@@ -30,7 +30,7 @@ impl<'a> Model for Fields<'a> {
 }
 
 impl<'a> Fields<'a> {
-    /// All words of a text, or those behind its name.
+    /// All words of a text, or those after its name.
     pub fn new(words: &'a [&'a str]) -> Self
         ensures { result ≡ texts words.now }
     {

@@ -33,7 +33,7 @@ pub fn are_all_words()
     ensures { AreAllWords }
 {}
 
-/// A text is its words, each behind a space but the first.
+/// A text is its words, each after a space but the first.
 pub fn joins_words()
     ensures { JoinsWords }
 {}

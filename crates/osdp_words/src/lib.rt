@@ -7,7 +7,7 @@
 //! of the field that it is given for.
 //!
 //! [`Fields`] takes the words of a text from its front, and [`number_u8`] and the like read one word.
-//! Each gives the one value behind what was given, and None exactly where there is none. [`ByteList`]
+//! Each gives the one value after what was given, and None exactly where there is none. [`ByteList`]
 //! and [`Record`] print words inside a `write!`. Nothing here takes memory.
 #![tactic(auto)]
 

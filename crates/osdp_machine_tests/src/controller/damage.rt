@@ -193,7 +193,7 @@ fn opens_again(rt: &impl Abort, controller: &mut Controller, command: &Command) 
     assert_eq!(rt; ask(rt, controller, command), 1);
 }
 
-/// The bytes of the length aside, each change is a packet, or, of the kind of check, may be. A session opens behind all.
+/// The bytes of the length aside, each change is a packet, or, of the kind of check, may be. A session opens after all.
 fn changes_are_answered(rt: &impl Abort, alloc: Global, packet: &[u8], place: usize) {
     let output = command(rt, &["OUT", "0:2:0"]);
     let mut controller = new_controller(rt, alloc, 1);
@@ -217,7 +217,7 @@ fn reply_is_answered(rt: &impl Abort, alloc: Global, digits: &str) -> usize {
     1
 }
 
-/// Each frame that comes with a right check has its one effect, and behind each a session opens.
+/// Each frame that comes with a right check has its one effect, and after each a session opens.
 #[test]
 fn replies_with_one_byte_changed(rt: HostRuntime) {
     let mut replies = 0usize;

@@ -22,7 +22,7 @@ const OTHERS: [&str; 7] = [
     "MFGREP 53494D 01",
 ];
 
-/// A command, and behind a bar the names of the replies that fit it.
+/// A command, and after a bar the names of the replies that fit it.
 const FITTING: &str = "\
 POLL|ACK NAK RAW FMT KEYPAD LSTATR ISTATR OSTATR RSTATR
 ID 0|NAK PDID

@@ -86,7 +86,7 @@ fn bad_lines_are_told(rt: HostRuntime) {
     );
 }
 
-/// The line of counts stands behind the refusals, and behind what came before a bad line.
+/// The line of counts stands after the refusals, and after what came before a bad line.
 #[test]
 fn refusals_and_counts_are_told(rt: HostRuntime) {
     let counts = "1:0 refused F3\nruns 1 packets 0 skipped 6 refused 1\n";

@@ -70,7 +70,7 @@ fn failed_writes_are_told(rt: HostRuntime) {
     for call in 1..10u64 {
         let mut refusing = threes(alloc, call, Some(ErrorKind::Other));
         assert_eq!(rt; shown_to(alloc, &mut refusing, 0), failed);
-        assert_eq!(rt; refusing.writes, call, "nothing is written behind it");
+        assert_eq!(rt; refusing.writes, call, "nothing is written after it");
         let mut full = threes(alloc, call, None);
         assert_eq!(rt; shown_to(alloc, &mut full, 0), failed);
     }

@@ -72,7 +72,7 @@ const LARGEST: &str = "\
     538508010153FFFF|255|CC|1:0 reply 5 seq 1 sum KEYPAD 255 |FF|255;\
     53859F050190FFFFFF|1429|8B|1:0 reply 5 seq 1 sum MFGREP FFFFFF |FF|1429";
 
-/// A text, as many times another behind it as a number tells, and a last one.
+/// A text, as many times another after it as a number tells, and a last one.
 fn repeated(
     alloc: Global,
     front: &str,

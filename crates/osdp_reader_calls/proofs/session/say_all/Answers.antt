@@ -3,7 +3,7 @@ use Rattle.osdp_device.specs.Receiving.{Received}
 use Rattle.osdp_frame.specs.Held.{Held}
 use Rattle.osdp_device.specs.Saying.{said_in}
 use Rattle.osdp_device.specs.Status.{status_after, status_answer}
-use Rattle.osdp_device.specs.Telling.{after_items, behind_all, items_of, said_to_all}
+use Rattle.osdp_device.specs.Telling.{after_items, after_all, items_of, said_to_all}
 use Rattle.osdp_reader_calls.specs.Texts.{all_lines}
 use Rattle.osdp_reader_calls.proofs.Turns.{line_on, turned, written}
 use Rattle.osdp_reader_calls.proofs.session.say_all.Goals as goal
@@ -45,6 +45,6 @@ pub returns-clause-line : goal.returns-clause-line
 returns-clause-line c =
     let t = turned c.responses.device.reader c.responses.device.line.held None c.next.new.self.reader c.next.new.self.line.held
     c.in_default.ensures.said c.next.ensures.reader (ap (λ (l : Received). l.held) c.next.ensures.line) in
-    let left = sym (t.left ∙ ap (λ parts. behind_all c.next.new.self.line.held parts) (t.all refl)) ∙ c.responses.invariant.left in
+    let left = sym (t.left ∙ ap (λ parts. after_all c.next.new.self.line.held parts) (t.all refl)) ∙ c.responses.invariant.left in
     line_on c.args.device.now.line c.responses.device.line c.next.new.self.line _ c.responses.invariant.line c.next.ensures.line
     ∙ ap (λ (h : Held). record c.args.device.now.line { held = h }) left

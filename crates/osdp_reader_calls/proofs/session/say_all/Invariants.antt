@@ -1,7 +1,7 @@
 use Rattle.std.proofs.Common.{◌≡◌, ◌++◌, length, string_bytes}
 use Rattle.osdp_device.specs.Receiving.{Received}
 use Rattle.osdp_device.specs.Status.{status_after, status_answer}
-use Rattle.osdp_device.specs.Telling.{after_items, behind_all, items_of, said_to_all}
+use Rattle.osdp_device.specs.Telling.{after_items, after_all, items_of, said_to_all}
 use Rattle.osdp_reader_calls.specs.Texts.{all_lines}
 use Rattle.osdp_reader_calls.proofs.session.say_all.Given as goal
 
@@ -13,8 +13,8 @@ invariant-responses l = record {
       ++ all_lines (said_to_all status_answer status_after (items_of l.initial.device.line.held) l.initial.device.reader);
   reader : after_items status_answer status_after (items_of l.device.line.held) l.device.reader
       ≡ after_items status_answer status_after (items_of l.initial.device.line.held) l.initial.device.reader;
-  left : behind_all l.device.line.held (items_of l.device.line.held)
-      ≡ behind_all l.initial.device.line.held (items_of l.initial.device.line.held);
+  left : after_all l.device.line.held (items_of l.device.line.held)
+      ≡ after_all l.initial.device.line.held (items_of l.initial.device.line.held);
   line : ◌≡◌ {A = Received} l.device.line (record l.initial.device.line { held = l.device.line.held });
 }
 

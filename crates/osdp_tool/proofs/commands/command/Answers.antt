@@ -1,7 +1,7 @@
 use Rattle.std.proofs.Common.{sym, subst, ap, ◌∙◌}
-use Rattle.osdp_stream.specs.FinalAnswer.{final_answer_of}
+use Rattle.osdp_tool_streams.specs.FinalAnswer.{final_answer_of}
 use Rattle.osdp_tool.specs.Ending.{streamed, Ends}
-use Rattle.osdp_stream.specs.Watched.{inner_of, has_failed}
+use Rattle.osdp_tool_streams.specs.Watched.{inner_of, has_failed}
 use Rattle.osdp_tool.proofs.Whole.{ends_whole}
 use Rattle.osdp_tool.proofs.Finishing.{ends_final}
 use Rattle.osdp_tool.proofs.Works.{ends_at_once, part_at_once}

@@ -1,5 +1,5 @@
 use Rattle.std.proofs.Common.{subst, sym, ap, ◌∙◌, Err}
-use Rattle.osdp_stream.specs.Watched.{inner_of, has_failed}
+use Rattle.osdp_tool_streams.specs.Watched.{inner_of, has_failed}
 use Rattle.osdp_tool.specs.Ending.{streamed}
 use Rattle.osdp_tool.specs.Works.{Works}
 use Rattle.osdp_tool.proofs.Works.{handed_on, part_at_once}

@@ -1,5 +1,5 @@
 use Rattle.std.proofs.Common.{sym, ◌∙◌, refl}
-use Rattle.osdp_stream.specs.Watched.{inner_of}
+use Rattle.osdp_tool_streams.specs.Watched.{inner_of}
 use Rattle.osdp_frame.specs.Shown.{part_of}
 use Rattle.osdp_tool.specs.Machine.{told}
 use Rattle.osdp_tool.proofs.Drains.{draining_start, draining_step, draining_end}

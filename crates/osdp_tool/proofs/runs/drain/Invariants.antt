@@ -1,5 +1,5 @@
 use Rattle.std.proofs.Common.{◌≡◌, length}
-use Rattle.osdp_stream.specs.Watched.{inner_of, has_failed}
+use Rattle.osdp_tool_streams.specs.Watched.{inner_of, has_failed}
 use Rattle.osdp_tool.specs.Machine.{told}
 use Rattle.osdp_tool.proofs.Drains.{Draining}
 use Rattle.osdp_tool.proofs.runs.drain.Given as goal

@@ -1,5 +1,5 @@
 use Rattle.std.proofs.Common.{◌<◌, take, subst, sym, arith}
-use Rattle.osdp_stream.specs.Watched.{inner_of}
+use Rattle.osdp_tool_streams.specs.Watched.{inner_of}
 use Rattle.osdp_tool.specs.Machine.{told, Took}
 use Rattle.osdp_tool.proofs.Standing.{took_some, took_start}
 use Rattle.osdp_tool.proofs.WholeItems.{took_pushed}

@@ -1,6 +1,6 @@
 use Rattle.std.proofs.Common.{refl, ◌≡◌, ◌+◌, ◌≤◌, ◌∙◌, Some, length, length-drop, drop, take, false, subst, sym, ap, arith}
 use Rattle.std.proofs.lemmas.List.{take_rest}
-use Rattle.osdp_stream.specs.Watched.{inner_of}
+use Rattle.osdp_tool_streams.specs.Watched.{inner_of}
 use Rattle.osdp_frame.specs.Held.{new_run, by_itself, decided}
 use Rattle.osdp_frame.specs.Reading.{part_size}
 use Rattle.osdp_frame.specs.Shown.{part_of}

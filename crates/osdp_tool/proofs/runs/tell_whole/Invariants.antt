@@ -1,6 +1,6 @@
 use Rattle.std.proofs.Common.{◌≡◌, ◌≤◌, ◌-◌, length, take}
 use Rattle.osdp_frame.specs.Held.{new_run}
-use Rattle.osdp_stream.specs.Watched.{inner_of, has_failed}
+use Rattle.osdp_tool_streams.specs.Watched.{inner_of, has_failed}
 use Rattle.osdp_tool.specs.Machine.{told, Took}
 use Rattle.osdp_tool.proofs.runs.tell_whole.Given as goal
 

@@ -1,5 +1,5 @@
 use Rattle.std.proofs.Common.{◌∙◌, arith}
-use Rattle.osdp_stream.specs.Watched.{inner_of}
+use Rattle.osdp_tool_streams.specs.Watched.{inner_of}
 use Rattle.osdp_tool_sim.proofs.ReadWhole.{read_past, read_some_more}
 use Rattle.osdp_tool_sim.proofs.reading.read_all.Goals as goal
 

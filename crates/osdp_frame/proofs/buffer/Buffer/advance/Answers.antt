@@ -2,7 +2,7 @@ use Rattle.std.proofs.Common.{◌≡◌, ◌-◌, ◌+◌, ◌≤◌, length, dr
 use Rattle.osdp_check.specs.Checksum.{sum_from}
 use Rattle.osdp_check.specs.Crc.{crc_from}
 use Rattle.osdp_frame.specs.Running.{Buffered}
-use Rattle.osdp_frame.proofs.Buffering.{slice_behind, run_behind}
+use Rattle.osdp_frame.proofs.Buffering.{slice_after, run_after}
 use Rattle.osdp_frame.proofs.Running.{length-slice}
 use Rattle.osdp_frame.proofs.buffer.Buffer.advance.Goals as goal
 
@@ -13,14 +13,14 @@ invariant_of-self c =
     let i = c.self.invariant in
     let size = length-slice b.bytes b.from b.to (omega arith) (omega (arith, i.within)) in
     let there : b.from + c.args.count ≤ b.to = omega (arith, ap (λ (v : Buffered). length v.bytes) c.self.view_is) in
-    let rest = slice_behind b.bytes b.from b.to c.args.count there in
+    let rest = slice_after b.bytes b.from b.to c.args.count there in
     record {
       order = omega arith;
       run = omega arith;
       within = i.within;
       room = omega arith;
-      sums = run_behind sum_from b.sums held (slice_range b.bytes (b.from + c.args.count) b.to) b.from b.ran c.args.count _ rest c.max-self-inside.ensures i.sums;
-      crcs = run_behind crc_from b.crcs held (slice_range b.bytes (b.from + c.args.count) b.to) b.from b.ran c.args.count _ rest c.max-self-inside.ensures i.crcs;
+      sums = run_after sum_from b.sums held (slice_range b.bytes (b.from + c.args.count) b.to) b.from b.ran c.args.count _ rest c.max-self-inside.ensures i.sums;
+      crcs = run_after crc_from b.crcs held (slice_range b.bytes (b.from + c.args.count) b.to) b.from b.ran c.args.count _ rest c.max-self-inside.ensures i.crcs;
     }
 
 pub returns : goal.returns
@@ -30,5 +30,5 @@ returns c =
     let size = length-slice b.bytes b.from b.to (omega arith) (omega (arith, i.within)) in
     let there : b.from + c.args.count ≤ b.to = omega (arith, ap (λ (v : Buffered). length v.bytes) c.self.view_is) in
     let run : c.max-self-inside.result - (b.from + c.args.count) ≡ b.ran - b.from - c.args.count = omega arith in
-    (λ j. record { bytes = slice_behind b.bytes b.from b.to c.args.count there j; run = run j })
+    (λ j. record { bytes = slice_after b.bytes b.from b.to c.args.count there j; run = run j })
     ∙ ap (λ (v : Buffered). record { bytes = drop c.args.count v.bytes; run = v.run - c.args.count }) c.self.view_is

@@ -2,7 +2,7 @@ use Rattle.std.proofs.Common.{◌≡◌, ◌+◌, ◌-◌, ◌++◌, length, sli
 use Rattle.osdp_check.specs.Checksum.{sum_from}
 use Rattle.osdp_check.specs.Crc.{crc_from}
 use Rattle.osdp_frame.specs.Running.{Buffered}
-use Rattle.osdp_frame.proofs.Buffering.{written_behind, run_kept}
+use Rattle.osdp_frame.proofs.Buffering.{written_after, run_kept}
 use Rattle.osdp_frame.proofs.Running.{length-slice}
 use Rattle.osdp_frame.proofs.buffer.Buffer.push.Goals as goal
 
@@ -17,7 +17,7 @@ invariant_of-self c =
     let bytes = slice_range c.put.new.buffer at (at + n + k) in
     let size = length-slice b.bytes b.from b.to (omega arith) (omega (arith, i.within)) in
     let all : bytes ≡ held ++ c.args.bytes.now =
-    written_behind c.put.new.buffer c.make_room-from.new.bytes at n k c.put.ensures.before ∙ (λ j. c.make_room-from.ensures.bytes j ++ c.put.ensures.there j) in
+    written_after c.put.new.buffer c.make_room-from.new.bytes at n k c.put.ensures.before ∙ (λ j. c.make_room-from.ensures.bytes j ++ c.put.ensures.there j) in
     record {
       order = omega arith;
       run = omega arith;
@@ -33,7 +33,7 @@ returns c =
     let at = c.make_room-from.result in
     let n = b.to - b.from in
     let k = length c.args.bytes.now in
-    let all = written_behind c.put.new.buffer c.make_room-from.new.bytes at n k c.put.ensures.before
+    let all = written_after c.put.new.buffer c.make_room-from.new.bytes at n k c.put.ensures.before
     ∙ (λ j. c.make_room-from.ensures.bytes j ++ c.put.ensures.there j) in
     let run : at + (b.ran - b.from) - at ≡ b.ran - b.from = omega arith in
     (λ j. record { bytes = all j; run = run j })

@@ -1,5 +1,5 @@
 use Rattle.std.proofs.Common.{subst, sym}
-use Rattle.osdp_stream.specs.Watched.{inner_of, has_failed}
+use Rattle.osdp_tool_streams.specs.Watched.{inner_of, has_failed}
 use Rattle.osdp_tool.specs.Machine.{told}
 use Rattle.osdp_tool.specs.Works.{Answered}
 use Rattle.osdp_tool.proofs.Works.{handed_on, still_step, stopped_at_end}

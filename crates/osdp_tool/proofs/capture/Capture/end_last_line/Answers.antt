@@ -1,6 +1,6 @@
 use Rattle.std.proofs.Common.{inl, inr, [], ◌∷◌}
-use Rattle.osdp_stream.specs.Watched.{inner_of}
-use Rattle.osdp_input.specs.Cut.{line_feed}
+use Rattle.osdp_tool_streams.specs.Watched.{inner_of}
+use Rattle.osdp_tool_input.specs.Cut.{line_feed}
 use Rattle.osdp_tool.specs.Machine.{told}
 use Rattle.osdp_tool.specs.Capture.{TookPiece}
 use Rattle.osdp_tool.specs.Works.{EndsLine}

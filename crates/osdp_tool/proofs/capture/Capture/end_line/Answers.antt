@@ -1,10 +1,10 @@
 use Rattle.std.proofs.Common.{refl, ◌≡◌, ◌+◌, length, ap, sym, ◌∙◌, arith, Some, None}
-use Rattle.osdp_stream.specs.Watched.{inner_of}
-use Rattle.osdp_input.specs.Line.{said}
+use Rattle.osdp_tool_streams.specs.Watched.{inner_of}
+use Rattle.osdp_tool_input.specs.Line.{said}
 use Rattle.osdp_tool.specs.declared.capture.Capture.{Capture}
 use Rattle.osdp_tool.specs.Machine.{told}
 use Rattle.osdp_tool.proofs.Pieces.{fed_bad, fed_joined, fed_apart, says_none, says_bytes}
-use Rattle.osdp_input.specs.Cut.{line_feed}
+use Rattle.osdp_tool_input.specs.Cut.{line_feed}
 use Rattle.osdp_tool.proofs.Stopping.{stops_before, stops_line, stops_line_end}
 use Rattle.std.proofs.Common.{[], ◌∷◌}
 use Rattle.osdp_tool.proofs.Beginnings.{on_err}

@@ -1,5 +1,5 @@
 use Rattle.std.proofs.Common.{subst, sym, ◌∙◌}
-use Rattle.osdp_stream.specs.Watched.{inner_of, has_failed}
+use Rattle.osdp_tool_streams.specs.Watched.{inner_of, has_failed}
 use Rattle.osdp_tool.specs.declared.reading.Ending.{Ending}
 use Rattle.osdp_tool.specs.Machine.{told, IsStep}
 use Rattle.osdp_tool.specs.Ending.{streamed}

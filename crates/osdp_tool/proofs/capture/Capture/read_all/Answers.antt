@@ -1,5 +1,5 @@
 use Rattle.std.proofs.Common.{take, subst, ◌∙◌, arith}
-use Rattle.osdp_stream.specs.Watched.{inner_of}
+use Rattle.osdp_tool_streams.specs.Watched.{inner_of}
 use Rattle.osdp_tool.specs.Machine.{told}
 use Rattle.osdp_tool.specs.Capture.{TookPart}
 use Rattle.osdp_tool.proofs.Works.{read_more, read_bad, read_past}

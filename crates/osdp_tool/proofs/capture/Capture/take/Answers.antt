@@ -1,5 +1,5 @@
 use Rattle.std.proofs.Common.{refl}
-use Rattle.osdp_stream.specs.Watched.{inner_of}
+use Rattle.osdp_tool_streams.specs.Watched.{inner_of}
 use Rattle.osdp_tool.specs.Machine.{told}
 use Rattle.osdp_tool.proofs.Pieces.{took_raw}
 use Rattle.osdp_tool.proofs.Stopping.{stops_raw}

@@ -1,7 +1,7 @@
 use Rattle.std.proofs.Common.{sym, subst, ap, ◌∙◌, arith, ℕ, true, false, List, [], ◌∷◌, Option, ◌≡◌, ◌+◌, ◌-◌, ◌*◌, ◌^◌, ◌<◌, ◌≤◌, length, take, drop, length-take, length-drop}
 use Rattle.std.proofs.lemmas.List.{take_rest}
-use Rattle.osdp_stream.specs.Watched.{inner_of}
-use Rattle.osdp_input.specs.Cut.{line_feed}
+use Rattle.osdp_tool_streams.specs.Watched.{inner_of}
+use Rattle.osdp_tool_input.specs.Cut.{line_feed}
 use Rattle.osdp_tool.specs.declared.capture.Capture.{Capture}
 use Rattle.osdp_tool.specs.Machine.{told}
 use Rattle.osdp_tool.specs.Feeds.{HasLine}
@@ -22,9 +22,9 @@ part_of_slice piece at count = ap (λ n. take n (drop at piece)) (omega arith)
 line_at : (piece : List ℕ) (at count : ℕ) → HasLine (take (length piece - at) (drop at piece)) count → HasLine (drop at piece) count
 line_at piece at count h = subst (λ l. HasLine l count) (take_rest piece at) h
 
-load_behind : (piece : List ℕ) (at count : ℕ) (a b c : Capture) (before middle : Option (List ℕ)) → at ≤ length piece → load a + 5 * length piece < 2 ^ 61
+load_after : (piece : List ℕ) (at count : ℕ) (a b c : Capture) (before middle : Option (List ℕ)) → at ≤ length piece → load a + 5 * length piece < 2 ^ 61
     → HasLine (drop at piece) count → TookPiece (take at piece) true a b before middle → TookPiece (take count (drop at piece)) true b c middle middle → load c < 2 ^ 61
-load_behind piece at count a b c before middle within bound h first second =
+load_after piece at count a b c before middle within bound h first second =
     let p = first.load_is in
     let q = second.load_is in
     let below = h.below in
@@ -44,7 +44,7 @@ end_line-requires-clause-lines g c =
 pub end_line-requires-clause-load : goal.end_line-requires-clause-load
 end_line-requires-clause-load g c =
     let middle = told (g.W.Write.contents (inner_of c.lines.output)) c.lines.self.report in
-    load_behind c.args.piece.now c.lines.at c.in-Some.length c.args.self.now c.lines.self c.hold.new.self _ middle c.lines.invariant.within c.requires.load
+    load_after c.args.piece.now c.lines.at c.in-Some.length c.args.self.now c.lines.self c.hold.new.self _ middle c.lines.invariant.within c.requires.load
     (line_at c.args.piece.now c.lines.at c.in-Some.length c.in-Some.ensures) c.lines.invariant.took
     (subst (λ l. TookPiece l true c.lines.self c.hold.new.self middle middle) (part_of_slice c.args.piece.now c.lines.at c.in-Some.length) (c.in_ok-hold.ensures.took middle))
 

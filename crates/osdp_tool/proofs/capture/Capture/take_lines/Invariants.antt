@@ -1,5 +1,5 @@
 use Rattle.std.proofs.Common.{◌≡◌, ◌≤◌, ◌-◌, length, take, true}
-use Rattle.osdp_stream.specs.Watched.{inner_of, has_failed}
+use Rattle.osdp_tool_streams.specs.Watched.{inner_of, has_failed}
 use Rattle.osdp_tool.specs.Machine.{told}
 use Rattle.osdp_tool.specs.Capture.{TookPiece}
 use Rattle.osdp_tool.proofs.capture.Capture.take_lines.Given as goal

@@ -1,4 +1,4 @@
-use Rattle.osdp_stream.specs.Watched.{inner_of}
+use Rattle.osdp_tool_streams.specs.Watched.{inner_of}
 use Rattle.osdp_tool.specs.Machine.{told}
 use Rattle.osdp_tool.proofs.Beginnings.{on_err}
 use Rattle.osdp_tool.proofs.ShortReads.{stops_written}

@@ -1,6 +1,6 @@
 use Rattle.std.proofs.Common.{string_bytes}
-use Rattle.osdp_lines.specs.Told.{end_line}
-use Rattle.osdp_stream.specs.Watched.{inner_of}
+use Rattle.osdp_tool_lines.specs.Told.{end_line}
+use Rattle.osdp_tool_streams.specs.Watched.{inner_of}
 use Rattle.osdp_tool.specs.declared.report.Report.{Report}
 use Rattle.osdp_tool.specs.Machine.{told}
 use Rattle.osdp_tool.proofs.Reports.{grown}

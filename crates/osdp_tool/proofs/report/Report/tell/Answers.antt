@@ -1,10 +1,10 @@
 use Rattle.std.proofs.Common.{refl}
 use Rattle.osdp_frame.specs.Shown.{part_of}
 use Rattle.osdp_tool.specs.declared.report.Report.{Report}
-use Rattle.osdp_stream.specs.Watched.{inner_of}
+use Rattle.osdp_tool_streams.specs.Watched.{inner_of}
 use Rattle.osdp_tool.proofs.Reports.{tells_one, tells_kept, on_ok_both}
 use Rattle.std.proofs.Common.{[], ◌∷◌}
-use Rattle.osdp_lines.specs.Told.{parts_lines}
+use Rattle.osdp_tool_lines.specs.Told.{parts_lines}
 use Rattle.osdp_tool.specs.Machine.{told}
 use Rattle.osdp_tool.proofs.Beginnings.{on_err_map, stops_all, stops_at_once}
 use Rattle.osdp_tool.proofs.report.Report.tell.Goals as goal

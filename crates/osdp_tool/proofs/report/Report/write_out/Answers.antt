@@ -1,6 +1,6 @@
 use Rattle.std.proofs.Common.{subst}
 use Rattle.std.specs.Io.KnownBytes.{append_known}
-use Rattle.osdp_stream.specs.Watched.{inner_of}
+use Rattle.osdp_tool_streams.specs.Watched.{inner_of}
 use Rattle.osdp_tool.specs.Written.{IsBeginning}
 use Rattle.osdp_tool.proofs.Beginnings.{on_err, begun_write}
 use Rattle.osdp_tool.proofs.report.Report.write_out.Goals as goal

@@ -1,8 +1,0 @@
-use Rattle.osdp_link.proofs.InARow.{assumed}
-use Rattle.osdp_link.proofs.Naming.{keep_to_names}
-use Rattle.osdp_link.proofs.names.keep_to_names.Goals as goal
-
-pub returns : goal.returns
-returns g c l moves begins fits may =
-    keep_to_names g.H.Handler.answer_of g.H.Handler.after c.reads_what_is_asked.ensures c.reads_what_is_answered.ensures l moves
-    (assumed g.H.Handler.answer_of g.H.Handler.after l.reader.config l.reader.handler c.read_each_other.ensures) begins fits may

@@ -1,8 +1,0 @@
-use Rattle.osdp_link.proofs.InARow.{assumed}
-use Rattle.osdp_link.proofs.Refusals.{no_refusal}
-use Rattle.osdp_link.proofs.refuses_no_number.Goals as goal
-
-pub returns : goal.returns
-returns g c l moves begins fits =
-    no_refusal g.H.Handler.answer_of g.H.Handler.after l moves
-    (assumed g.H.Handler.answer_of g.H.Handler.after l.reader.config l.reader.handler c.read_each_other.ensures) begins fits

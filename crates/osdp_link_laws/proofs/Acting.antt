@@ -1,0 +1,190 @@
+-- What a frame does to the reader: which line of its table it meets, and what the reader keeps.
+use Rattle.std.proofs.Common.{◌≡◌, ◌≢◌, ◌<◌, ℕ, Bool, false, not, cond, eqb, List, [], ◌∷◌, ◌++◌, drop, take, Option, Some, None, refl, sym, subst, ap, ◌∙◌, inl, inr, arith, append_assoc}
+use Rattle.std.proofs.lemmas.List.{append-nil}
+use Rattle.std.specs.Prelude.{◌||◌, is_some, option_to_list}
+use Rattle.std.proofs.lemmas.Bool.Decides.{eqb_tells}
+use Rattle.osdp_frame.specs.Packet.{next_sequence}
+use Rattle.osdp_msg.specs.declared.command.Command.{Command}
+use Rattle.osdp_msg.specs.declared.command.Command.TheVariants as command
+use Rattle.osdp_msg.specs.declared.event.Event.{Event}
+use Rattle.osdp_msg.specs.declared.event.Event.TheVariants as event
+use Rattle.osdp_msg.specs.declared.reply.Reply.{Reply}
+use Rattle.osdp_msg.specs.declared.reply.Reply.TheVariants as reply
+use Rattle.osdp_controller.specs.declared.config.ControllerConfig.{ControllerConfig}
+use Rattle.osdp_controller.specs.declared.exchange.Exchange.{Exchange}
+use Rattle.osdp_controller.specs.declared.exchange.Exchange.TheVariants.{Opening, Polling, Asking}
+use Rattle.osdp_controller.specs.Hearing.{event_in}
+use Rattle.osdp_reader.specs.declared.config.ReaderConfig.{ReaderConfig}
+use Rattle.osdp_reader.specs.declared.handler.Answer.{Answer}
+use Rattle.osdp_reader.specs.declared.kind.Kind.TheVariants.{Silent, Zero, Repeat, Taken, Busy, Wrong}
+use Rattle.osdp_reader.specs.Queue.{Queue, event_for, released}
+use Rattle.osdp_reader.specs.Replies.{own_reply}
+use Rattle.osdp_reader.specs.State.{ReaderState}
+use Rattle.osdp_reader.specs.Table.{answer_to, answered, event_or_answer, kind_by_number, kind_of, moved}
+use Rattle.osdp_link_laws.specs.Link.{Account, taken_command}
+use Rattle.osdp_link_laws.proofs.Lines.{both}
+use Rattle.osdp_link_laws.proofs.Numbers.{is_true, is_false, next_above_zero, next_differs}
+use Rattle.osdp_link_laws.proofs.Stages.{HasActed, Offers, OffersEvent, frame, shown}
+
+module _ (fixed : ControllerConfig) {H : Type 0} where
+  -- a frame for another address
+  pub kind_away : (r : ReaderState H) (x : Exchange) (n : ℕ) → r.config.address ≢ fixed.address → fixed.address < 127
+      → kind_of r (frame fixed x n) ≡ Silent
+  kind_away r x n differ device =
+      let here = is_false fixed.address r.config.address (λ e. differ (sym e)) in
+      let all = is_false fixed.address 127 (λ e. omega (arith, device, e)) in
+      ap (λ a. cond (not (a || eqb fixed.address 127)) Silent (cond (eqb n 0) (cond r.busy Busy Zero) (kind_by_number r.last n r.busy))) here
+      ∙ ap (λ b. cond (not b) Silent (cond (eqb n 0) (cond r.busy Busy Zero) (kind_by_number r.last n r.busy))) all
+
+  -- a frame for this one
+  kind_here : (r : ReaderState H) (x : Exchange) (n : ℕ) → r.config.address ≡ fixed.address
+      → kind_of r (frame fixed x n) ≡ cond (eqb n 0) (cond r.busy Busy Zero) (kind_by_number r.last n r.busy)
+  kind_here r x n here =
+      ap (λ a. cond (not (a || eqb fixed.address 127)) Silent (cond (eqb n 0) (cond r.busy Busy Zero) (kind_by_number r.last n r.busy)))
+      (is_true fixed.address r.config.address (sym here))
+
+  pub kind_zero : (r : ReaderState H) (x : Exchange) → r.config.address ≡ fixed.address
+      → kind_of r (frame fixed x 0) ≡ cond r.busy Busy Zero
+  kind_zero r x here = kind_here r x 0 here
+
+  kind_numbered : (r : ReaderState H) (x : Exchange) (n : ℕ) → r.config.address ≡ fixed.address → n ≢ 0
+      → kind_of r (frame fixed x n) ≡ kind_by_number r.last n r.busy
+  kind_numbered r x n here above =
+      kind_here r x n here ∙ ap (λ b. cond b (cond r.busy Busy Zero) (kind_by_number r.last n r.busy)) (is_false n 0 above)
+
+  pub kind_again : (r : ReaderState H) (x : Exchange) (n : ℕ) → r.config.address ≡ fixed.address → n ≢ 0 → r.last ≡ Some n
+      → kind_of r (frame fixed x n) ≡ Repeat
+  kind_again r x n here above last =
+      kind_numbered r x n here above
+      ∙ ap (λ l. kind_by_number l n r.busy) last
+      ∙ ap (λ b. cond b Repeat (cond (eqb n (next_sequence n)) (cond r.busy Busy Taken) Wrong)) (is_true n n refl)
+
+  pub kind_next : (r : ReaderState H) (x : Exchange) (n : ℕ) → r.config.address ≡ fixed.address → r.last ≡ Some n
+      → kind_of r (frame fixed x (next_sequence n)) ≡ cond r.busy Busy Taken
+  kind_next r x n here last =
+      kind_numbered r x (next_sequence n) here (next_above_zero n)
+      ∙ ap (λ l. kind_by_number l (next_sequence n) r.busy) last
+      ∙ ap (λ b. cond b Repeat (cond (eqb (next_sequence n) (next_sequence n)) (cond r.busy Busy Taken) Wrong)) (is_false (next_sequence n) n (next_differs n))
+      ∙ ap (λ b. cond b (cond r.busy Busy Taken) Wrong) (is_true (next_sequence n) (next_sequence n) refl)
+
+  -- a COMSET that moves the reader, or none
+  pub moved_acted : (to : Option ℕ) (n : ℕ) (x : Exchange) (a : Reply) (r : ReaderState H) → r.config.address ≡ fixed.address
+      → HasActed fixed n x a r → HasActed fixed n x a (moved to r)
+  moved_acted None n x a r here acted = acted
+  moved_acted (Some address) n x a r here acted =
+      elim (eqb_tells address r.config.address) [
+        | inl same ↦ subst (λ b. HasActed fixed n x a (cond b r (record r { config = record r.config { address = address }; last = None; stored = None }))) (sym same.0) acted
+        | inr other ↦ subst (λ b. HasActed fixed n x a (cond b r (record r { config = record r.config { address = address }; last = None; stored = None }))) (sym other.0)
+            (record { here = λ e. absurd (other.1 (e ∙ sym here)); offer = acted.offer })
+      ]
+
+  pub moved_keeps : (P : ReaderConfig → Queue → H → Type 0) → (to : Option ℕ) (r : ReaderState H)
+      → ((address : ℕ) → P (record r.config { address = address }) r.queue r.handler) → P r.config r.queue r.handler
+      → P (moved to r).config (moved to r).queue (moved to r).handler
+  moved_keeps P None r elsewhere here = here
+  moved_keeps P (Some address) r elsewhere here =
+      both (λ s. P s.config s.queue s.handler) (eqb address r.config.address) r
+      (record r { config = record r.config { address = address }; last = None; stored = None }) here (elsewhere address)
+
+  -- a POLL: the front is told and offered, or nothing is
+  pub polled : (events : List Event) (capacity : ℕ) (offered : Bool) (answer_of : H → Command → Answer) (after : H → Command → H) (config : ReaderConfig) (handler : H)
+      → let told = event_for command.Poll events in
+      let a = event_or_answer answer_of after told config handler command.Poll in
+      Offers Polling a.reply (record { events = events; capacity = capacity; offered = is_some told }) × (a.handler ≡ handler)
+  polled [] capacity offered answer_of after config handler = (refl, refl)
+  polled (event.LocalState s ∷ rest) capacity offered answer_of after config handler = ((refl, (rest, refl)), refl)
+  polled (event.Inputs s ∷ rest) capacity offered answer_of after config handler = ((refl, (rest, refl)), refl)
+  polled (event.Outputs s ∷ rest) capacity offered answer_of after config handler = ((refl, (rest, refl)), refl)
+  polled (event.Readers s ∷ rest) capacity offered answer_of after config handler = ((refl, (rest, refl)), refl)
+  polled (event.Raw s ∷ rest) capacity offered answer_of after config handler = ((refl, (rest, refl)), refl)
+  polled (event.Formatted s ∷ rest) capacity offered answer_of after config handler = ((refl, (rest, refl)), refl)
+  polled (event.Keypad s ∷ rest) capacity offered answer_of after config handler = ((refl, (rest, refl)), refl)
+
+  -- the event that its answer tells is the front
+  pub polled_front : (events : List Event) (answer_of : H → Command → Answer) (after : H → Command → H) (config : ReaderConfig) (handler : H)
+      → option_to_list (event_in (event_or_answer answer_of after (event_for command.Poll events) config handler command.Poll).reply) ≡ take 1 events
+  polled_front [] answer_of after config handler = refl
+  polled_front (event.LocalState s ∷ rest) answer_of after config handler = refl
+  polled_front (event.Inputs s ∷ rest) answer_of after config handler = refl
+  polled_front (event.Outputs s ∷ rest) answer_of after config handler = refl
+  polled_front (event.Readers s ∷ rest) answer_of after config handler = refl
+  polled_front (event.Raw s ∷ rest) answer_of after config handler = refl
+  polled_front (event.Formatted s ∷ rest) answer_of after config handler = refl
+  polled_front (event.Keypad s ∷ rest) answer_of after config handler = refl
+
+  -- the answer depends on the settings for ID and CAP alone
+  pub same_answer : (answer_of : H → Command → Answer) (after : H → Command → H) (config other : ReaderConfig) (handler : H) (c : Command)
+      → config.id ≡ other.id → config.caps ≡ other.caps
+      → answer_to answer_of after config handler c ≡ answer_to answer_of after other handler c
+  same_answer answer_of after config other handler c id caps =
+      ap (λ o. answered answer_of after o handler c) (own config other c id caps)
+    where
+      own : (config other : ReaderConfig) (c : Command) → config.id ≡ other.id → config.caps ≡ other.caps → own_reply config c ≡ own_reply other c
+      own config other command.Poll id caps = refl
+      own config other (command.Id kept) id caps = ap (λ i. Some (reply.PdId i)) id
+      own config other (command.Cap kept) id caps = ap (λ i. Some (reply.PdCap i)) caps
+      own config other command.LocalStatus id caps = refl
+      own config other command.InputStatus id caps = refl
+      own config other command.OutputStatus id caps = refl
+      own config other command.ReaderStatus id caps = refl
+      own config other (command.Output records) id caps = refl
+      own config other (command.Led records) id caps = refl
+      own config other (command.Buzzer b) id caps = refl
+      own config other (command.Text t) id caps = refl
+      own config other (command.Comset c) id caps = refl
+      own config other (command.Maker m) id caps = refl
+
+-- a command other than POLL has no event for its answer, and is taken as one
+pub no_event : (c : Command) (events : List Event) → c ≢ command.Poll → event_for c events ≡ None
+no_event command.Poll events other = absurd (other refl)
+no_event (command.Id kept) events other = refl
+no_event (command.Cap kept) events other = refl
+no_event command.LocalStatus events other = refl
+no_event command.InputStatus events other = refl
+no_event command.OutputStatus events other = refl
+no_event command.ReaderStatus events other = refl
+no_event (command.Output records) events other = refl
+no_event (command.Led records) events other = refl
+no_event (command.Buzzer b) events other = refl
+no_event (command.Text t) events other = refl
+no_event (command.Comset c) events other = refl
+no_event (command.Maker m) events other = refl
+
+pub taken_is : (c : Command) (front : List Event) (t : Account) → c ≢ command.Poll → taken_command c front t ≡ record t { taken = t.taken ++ c ∷ [] }
+taken_is command.Poll front t other = absurd (other refl)
+taken_is (command.Id kept) front t other = refl
+taken_is (command.Cap kept) front t other = refl
+taken_is command.LocalStatus front t other = refl
+taken_is command.InputStatus front t other = refl
+taken_is command.OutputStatus front t other = refl
+taken_is command.ReaderStatus front t other = refl
+taken_is (command.Output records) front t other = refl
+taken_is (command.Led records) front t other = refl
+taken_is (command.Buzzer b) front t other = refl
+taken_is (command.Text s) front t other = refl
+taken_is (command.Comset c) front t other = refl
+taken_is (command.Maker m) front t other = refl
+
+-- an event that was reported leaves when the next number is taken
+abbrev pub PastIs : List Event → List Event → List Event → List Event → Type 0
+PastIs queued reported front events = (past : List Event) × (queued ≡ past ++ events) × (reported ≡ past ++ front)
+
+kept : (queued reported : List Event) (q : Queue) → q.offered ≡ false → PastIs queued reported [] q.events
+    → PastIs queued reported [] (released q).events
+kept queued reported q off past = subst (λ b. PastIs queued reported [] (cond b (drop 1 q.events) q.events)) (sym off) past
+
+released_event : (told : Option Event) (queued reported : List Event) (q : Queue) → OffersEvent told q
+    → PastIs queued reported (option_to_list told) q.events → PastIs queued reported [] (released q).events
+released_event None queued reported q off past = kept queued reported q off past
+released_event (Some e) queued reported q (on, (rest, is)) (past, all, some) = (
+  past ++ e ∷ [],
+  all ∙ ap (λ l. past ++ l) is ∙ sym (append_assoc past (e ∷ []) rest)
+      ∙ ap (λ l. (past ++ e ∷ []) ++ l) (sym (ap (λ b. cond b (drop 1 q.events) q.events) on ∙ ap (drop 1) is)),
+  some ∙ sym (append-nil (past ++ e ∷ [])),
+)
+
+pub released_past : (x : Exchange) (a : Reply) (queued reported : List Event) (q : Queue) → Offers x a q
+    → PastIs queued reported (shown x a) q.events → PastIs queued reported [] (released q).events
+released_past Opening a queued reported q off past = kept queued reported q off past
+released_past Polling a queued reported q offers past = released_event (event_in a) queued reported q offers past
+released_past (Asking c) a queued reported q off past = kept queued reported q off past

@@ -1,0 +1,340 @@
+-- Rounds without losses, from the first: what they settle and report, exactly.
+use Rattle.std.proofs.Common.{◌≡◌, ◌≤◌, ◌-◌, ℕ, zero, suc, All, arith, Bool, true, false, if◌then◌else◌, List, [], ◌∷◌, ◌++◌, length, take, drop, Option, Some, None, refl, sym, subst, ap, ◌∙◌, append_assoc}
+use Rattle.std.proofs.lemmas.Bool.{le-leb}
+use Rattle.std.proofs.lemmas.List.{append-nil, length-take}
+use Rattle.std.specs.Prelude.{◌==◌, IfSome, min}
+use Rattle.osdp_msg.specs.declared.command.Command.{Command}
+use Rattle.osdp_msg.specs.declared.event.Event.{Event}
+use Rattle.osdp_controller.specs.Machine.{submit_refusal}
+use Rattle.osdp_controller.specs.Sessions.{later as later_by, seen}
+use Rattle.osdp_controller.specs.States.{is_closed, moment_of}
+use Rattle.osdp_controller.specs.Ticking.{begins, stays, ticks, ticks_in}
+use Rattle.osdp_controller.specs.declared.config.ControllerConfig.{ControllerConfig}
+use Rattle.osdp_controller.specs.declared.exchange.Exchange.TheVariants.{Polling}
+use Rattle.osdp_controller.specs.declared.fault.ControllerFault.{ControllerFault}
+use Rattle.osdp_controller.specs.declared.session.Session.{Session}
+use Rattle.osdp_controller.specs.declared.state.State.TheVariants.{Quiet, Idle}
+use Rattle.osdp_frame.specs.Packet.{next_sequence}
+use Rattle.osdp_controller.specs.Exchanges.{exchange_command}
+use Rattle.osdp_reader.specs.Queue.{event_for, offering, released}
+use Rattle.osdp_reader.specs.State.{ReaderState}
+use Rattle.osdp_reader.specs.Table.{answer_to}
+use Rattle.osdp_reader.specs.declared.config.ReaderConfig.{ReaderConfig}
+use Rattle.osdp_reader.specs.declared.handler.Answer.{Answer}
+use Rattle.osdp_link_laws.specs.Clean.{AreSpaced, IsInTurn, IsOrder}
+use Rattle.osdp_link_laws.specs.Headline.{AreMoves, Begins, MaySubmit, with_answers}
+use Rattle.osdp_link_laws.specs.Link as link
+use Rattle.osdp_link_laws.specs.Link.{Account, Link, Move, Queue as QueueEvent, Reopen, SetBusy, Submit, Tick, ToController, ToReader, after_move, new_account, run}
+use Rattle.osdp_link_laws.specs.Progress.{SetsNoAddress, round, rounds}
+use Rattle.osdp_link_laws.proofs.Advancing.{HoldsAtSomeStage}
+use Rattle.osdp_link_laws.proofs.Acting.{no_event}
+use Rattle.osdp_link_laws.proofs.Due.{Acts, next_exchange}
+use Rattle.osdp_link_laws.proofs.Exchanges.{accounted, opening_exchange}
+use Rattle.osdp_link_laws.proofs.InARow.{Assumed}
+use Rattle.osdp_link_laws.proofs.Lines.{each_append, each_of}
+use Rattle.osdp_link_laws.proofs.Moves.{Premises}
+use Rattle.osdp_link_laws.proofs.Once.{fresh, not_poll}
+use Rattle.osdp_link_laws.proofs.Parts.{At}
+use Rattle.osdp_link_laws.proofs.Round.{IsIdle, IsStill, goes}
+use Rattle.osdp_link_laws.proofs.Rounds.{idle_exchange, rested_idle}
+use Rattle.osdp_link_laws.proofs.Stages.{Asks, Behind, Each, Fresh, Level, Rest, Stage, Waits, number_after}
+use Rattle.osdp_link_laws.proofs.Through.{held_after}
+
+none_of : {A : Type 0} (n : ℕ) → take {A = A} n [] ≡ []
+none_of zero = refl
+none_of (suc n) = refl
+
+-- a controller at rest acts once its POLL is due, or where a command waits
+rest_acts : (due : ℕ) (s : Session) (waiting : List Command) → due ≤ s.greatest → Acts (ticks_in (Idle due) s waiting)
+rest_acts due s [] reached =
+    subst (λ b. Acts (if b then begins Polling (next_sequence s.number) s [] else stays s [])) (sym (le-leb due s.greatest reached)) refl
+rest_acts due s (c ∷ waiting) reached = refl
+
+-- its next POLL is due after the interval
+abbrev RestsFor : Session → Type 0
+RestsFor s = s.state ≡ Idle (later_by s.config.poll_interval s)
+
+spaced_acts : (wait now : ℕ) (s : Session) (waiting : List Command) → RestsFor s → s.config.poll_interval ≤ wait → later_by wait s ≤ now
+    → Acts (ticks now s waiting)
+spaced_acts wait now s waiting rests short late =
+    subst (λ st. Acts (ticks_in st (seen now s) waiting)) (sym rests)
+    (rest_acts (later_by s.config.poll_interval s) (seen now s) waiting (omega (arith, short, late)))
+
+module _ (fixed : ControllerConfig) {H : Type 0} (answer_of : H → Command → Answer) (after : H → Command → H) (settings : ReaderConfig) (first : H) where
+  abbrev Given : Type 0
+  Given = Premises fixed answer_of after settings first
+
+  abbrev Holds : Link H → Type 0
+  Holds l = HoldsAtSomeStage fixed answer_of after settings first l
+
+  abbrev Idles : Link H → Type 0
+  Idles l = IsIdle fixed answer_of after settings first l
+
+  -- a link between two rounds: the controller waits for nothing, its next POLL is due after the interval, and no command was lost
+  record IsBetween (interval : ℕ) (l : Link H) : Type 0 where
+    pub holds : Holds l
+    pub idle : Idles l
+    pub rests : RestsFor l.controller.session
+    pub keeps : l.controller.session.config.poll_interval ≡ interval
+
+  -- the events that the controller has not had yet
+  abbrev unreported : Link H → List Event
+  unreported l = (released l.reader.queue).events
+
+  -- what n rounds make of an account, from these commands that wait and these events
+  record Made (n : ℕ) (waiting : List Command) (events : List Event) (t u : Account) : Type 0 where
+    pub taken : u.taken ≡ t.taken ++ take n waiting
+    pub reported : u.reported ≡ t.reported ++ take (n - length waiting) events
+    pub issued : u.issued ≡ t.issued
+    pub queued : u.queued ≡ t.queued
+
+  nothing_less : (k : ℕ) → 0 - k ≡ 0
+  nothing_less k = omega arith
+
+  made_none : (waiting : List Command) (events : List Event) (t : Account) → Made 0 waiting events t t
+  made_none waiting events t = record {
+    taken = sym (append-nil t.taken);
+    reported = sym (ap (λ k. t.reported ++ take k events) (nothing_less (length waiting)) ∙ append-nil t.reported);
+    issued = refl;
+    queued = refl;
+  }
+
+  -- the events that the controller has not had after one round
+  abbrev left_by : List Command → List Event → List Event
+  left_by (c ∷ waiting) events = events
+  left_by [] events = drop 1 events
+
+  -- one round first
+  made_more : (n : ℕ) (waiting : List Command) (events : List Event) (r : ReaderState H) (t u : Account)
+      → Made n (drop 1 waiting) (left_by waiting events) (accounted answer_of after waiting events r t) u → Made (suc n) waiting events t u
+  made_more n (c ∷ waiting) events r t u made = record {
+    taken = made.taken ∙ append_assoc t.taken (c ∷ []) (take n waiting);
+    reported = made.reported ∙ ap (λ k. t.reported ++ take k events) (shorter n (length waiting));
+    issued = made.issued;
+    queued = made.queued;
+  }
+    where
+      shorter : (n k : ℕ) → n - k ≡ suc n - suc k
+      shorter n k = omega arith
+  made_more n [] (e ∷ events) r t u made = record {
+    taken = made.taken ∙ ap (λ cs. t.taken ++ cs) (none_of n);
+    reported = made.reported ∙ append_assoc t.reported (e ∷ []) (take (n - 0) events)
+        ∙ ap (λ k. t.reported ++ take k (e ∷ events)) (longer n);
+    issued = made.issued;
+    queued = made.queued;
+  }
+    where
+      longer : (n : ℕ) → suc (n - 0) ≡ suc n - 0
+      longer n = omega arith
+  made_more n [] [] r t u made = record {
+    taken = made.taken ∙ ap (λ cs. t.taken ++ cs) (none_of n);
+    reported = made.reported ∙ ap (λ es. t.reported ++ es) (none_of (n - 0) ∙ sym (none_of (suc n - 0)));
+    issued = made.issued;
+    queued = made.queued;
+  }
+
+  left_is : (waiting : List Command) (events : List Event) (capacity : ℕ) → Each MaySubmit waiting
+      → (released (offering (event_for (exchange_command (next_exchange waiting)) events) (record { events = events; capacity = capacity; offered = false }))).events
+      ≡ left_by waiting events
+  left_is [] [] capacity may = refl
+  left_is [] (e ∷ events) capacity may = refl
+  left_is (c ∷ waiting) events capacity may =
+      ap (λ o. (released (offering o (record { events = events; capacity = capacity; offered = false }))).events) (no_event c events may.0.no_poll)
+
+  -- each round is an exchange from rest
+  rounds_make : Given → (wait interval : ℕ) → interval ≤ wait → (moments : List ℕ) (l : Link H) → IsBetween interval l → AreSpaced answer_of after wait moments l
+      → AreMoves answer_of after (rounds moments) l
+      → let last = run answer_of after (rounds moments) l in
+      IsBetween interval last × Made (length moments) l.controller.waiting (unreported l) l.account last.account
+  rounds_make given wait interval short [] l b spaced fits = (b, made_none l.controller.waiting (unreported l) l.account)
+  rounds_make given wait interval short (now ∷ later) l b spaced fits =
+      let w = l.controller.waiting in
+      let does = spaced_acts wait now l.controller.session w b.rests (omega (arith, short, b.keeps)) spaced.0 in
+      let is = idle_exchange fixed answer_of after settings first given now l b.holds b.idle does fits.1.0 in
+      let m = goes answer_of after now l in
+      let next : IsBetween interval m = record {
+        holds = held_after fixed answer_of after settings first given now l fits.1.0 b.holds;
+        idle = subst Idles (sym is) (rested_idle fixed answer_of after settings first now l b.idle);
+        rests = subst (λ k. RestsFor k.controller.session) (sym is) refl;
+        keeps = ap (λ k. k.controller.session.config.poll_interval) is ∙ b.keeps;
+      } in
+      let last = run answer_of after (rounds later) m in
+      let rest = rounds_make given wait interval short later m next spaced.1 fits.1.1.1 in
+      let afterwards = subst (λ k. Made (length later) k.controller.waiting (unreported k) k.account last.account) is rest.1 in
+      let left = left_is w (unreported l) l.reader.queue.capacity b.holds.1.waiting in (
+        rest.0,
+        made_more (length later) w (unreported l) l.reader l.account last.account
+            (subst (λ es. Made (length later) (drop 1 w) es (accounted answer_of after w (unreported l) l.reader l.account) last.account) left afterwards),
+      )
+
+  -- at rest each command that was taken is settled, and none is told unsettled
+  settled_all : (at : Stage) (l : Link H) → At fixed answer_of after settings first at l → (due : ℕ) → l.controller.session.state ≡ Idle due
+      → (l.account.settled ≡ with_answers answer_of after settings first l.account.taken) × (l.account.unsettled ≡ [])
+  settled_all Fresh l h due idle = absurd (subst (λ st. Waits fixed st l.controller.session) idle h.controller)
+  settled_all (Behind past x) l h due idle =
+      absurd (subst (λ st. Asks fixed st (number_after past) x l.controller.session) idle h.controller)
+  settled_all (Level past x a) l h due idle =
+      absurd (subst (λ st. Asks fixed st (number_after past) x l.controller.session) idle h.controller)
+  settled_all (Rest n x a) l h due idle = (sym (append-nil l.account.settled) ∙ h.account.settled, h.account.unsettled)
+
+  as_many : (h : H) (cs : List Command) → length (with_answers answer_of after settings h cs) ≡ length cs
+  as_many h [] = refl
+  as_many h (c ∷ cs) = ap suc (as_many (answer_to answer_of after settings h c).handler cs)
+
+  -- so they were settled and reported in turn
+  in_turn : (n interval : ℕ) (waiting : List Command) (events : List Event) (l : Link H) → IsBetween interval l
+      → Made n waiting events (new_account waiting events) l.account → IsInTurn answer_of after settings first n l.account
+  in_turn n interval waiting events l b made =
+      let all = settled_all b.holds.0 l b.holds.1 b.idle.idle.0 b.idle.idle.1 in
+      let taken : l.account.taken ≡ take n l.account.issued = made.taken ∙ ap (take n) (sym made.issued) in
+      let settled = all.0 ∙ ap (with_answers answer_of after settings first) taken in
+      let count = ap length settled ∙ as_many first (take n l.account.issued) ∙ length-take n l.account.issued in
+      let many = ap length made.issued in
+      record {
+        taken = taken;
+        settled = settled;
+        reported = made.reported ∙ ap (λ k. take k events) (rest_of n (length waiting) (length l.account.issued) (length l.account.settled) many count)
+            ∙ ap (take (n - length l.account.settled)) (sym made.queued);
+        unsettled = all.1;
+      }
+    where
+      rest_of : (n w i s : ℕ) → i ≡ w → s ≡ min n i → n - w ≡ n - s
+      rest_of n w i s many count = omega (arith, many, count)
+
+  -- ---- before the opening
+
+  -- a session that has begun, of which nothing was sent yet
+  pub record IsReadied (s : Session) (l : Link H) : Type 0 where
+    pub session : l.controller.session ≡ s
+    pub waiting : Each MaySubmit l.controller.waiting
+    pub config : l.reader.config ≡ settings
+    pub handler : l.reader.handler ≡ first
+    pub ready : l.reader.busy ≡ false
+    pub to_reader : l.to_reader ≡ []
+    pub to_controller : l.to_controller ≡ []
+    pub account : l.account ≡ new_account l.controller.waiting l.reader.queue.events
+
+  submits_ready : (s : Session) (refusal : Option ControllerFault) (c : Command) (l : Link H) → (refusal ≡ None → MaySubmit c) → IsReadied s l
+      → IsReadied s (link.submits refusal c l)
+  submits_ready s (Some fault) c l may h = h
+  submits_ready s None c l may h = record {
+    session = h.session;
+    waiting = each_append MaySubmit l.controller.waiting (c ∷ []) h.waiting (may refl, tt);
+    config = h.config;
+    handler = h.handler;
+    ready = h.ready;
+    to_reader = h.to_reader;
+    to_controller = h.to_controller;
+    account = ap (λ (t : Account). record t { issued = t.issued ++ c ∷ [] }) h.account;
+  }
+
+  queues_ready : (s : Session) (full : Bool) (e : Event) (l : Link H) → IsReadied s l → IsReadied s (link.queues full e l)
+  queues_ready s true e l h = h
+  queues_ready s false e l h = record {
+    session = h.session;
+    waiting = h.waiting;
+    config = h.config;
+    handler = h.handler;
+    ready = h.ready;
+    to_reader = h.to_reader;
+    to_controller = h.to_controller;
+    account = ap (λ (t : Account). record t { queued = t.queued ++ e ∷ [] }) h.account;
+  }
+
+  orders_ready : (s : Session) (orders : List Move) (l : Link H) → Each IsOrder orders → AreMoves answer_of after orders l → IsReadied s l
+      → IsReadied s (run answer_of after orders l)
+  orders_ready s [] l all fits h = h
+  orders_ready s (Submit c ∷ orders) l all fits h =
+      let refusal = submit_refusal c l.controller in
+      orders_ready s orders (link.submits refusal c l) all.1 fits.1
+      (submits_ready s refusal c l (λ e. record { no_poll = not_poll c l.controller e; fits = fits.0 }) h)
+  orders_ready s (QueueEvent e ∷ orders) l all fits h =
+      let full = length l.reader.queue.events == l.reader.queue.capacity in
+      orders_ready s orders (link.queues full e l) all.1 fits.1 (queues_ready s full e l h)
+  orders_ready s (SetBusy busy ∷ orders) l all fits h = absurd all.0
+  orders_ready s (Tick now ∷ orders) l all fits h = absurd all.0
+  orders_ready s (ToReader how ∷ orders) l all fits h = absurd all.0
+  orders_ready s (ToController how now ∷ orders) l all fits h = absurd all.0
+  orders_ready s (Reopen now ∷ orders) l all fits h = absurd all.0
+
+  -- ---- from the opening on
+
+  pub opens_and_goes : Given → (until opening wait : ℕ) (moments : List ℕ) (s : Session) (l : Link H) → IsReadied s l → s.config ≡ fixed → s.state ≡ Quiet until
+      → settings.address ≡ fixed.address → until ≤ opening → s.config.poll_interval ≤ wait → Each SetsNoAddress l.account.issued
+      → AreSpaced answer_of after wait moments (run answer_of after (round opening) l) → AreMoves answer_of after (rounds (opening ∷ moments)) l
+      → let last = run answer_of after (rounds (opening ∷ moments)) l in
+      IsInTurn answer_of after settings first (length moments) last.account × (is_closed last.controller.session.state ≡ false)
+  opens_and_goes given until opening wait moments s l h same quiet here reached short none spaced fits =
+      let w = l.controller.waiting in
+      let events = l.reader.queue.events in
+      let state : l.controller.session.state ≡ Quiet until = ap (λ (t : Session). t.state) h.session ∙ quiet in
+      let config : l.controller.session.config ≡ fixed = ap (λ (t : Session). t.config) h.session ∙ same in
+      let held : Holds l = (
+        Fresh,
+        fresh fixed answer_of after settings first l (record {
+          controller = subst (λ st. Waits fixed st l.controller.session) (sym state) config;
+          waiting = h.waiting;
+          answering = record { id = ap (λ c. c.id) h.config; caps = ap (λ c. c.caps) h.config; handler = h.handler };
+          to_reader = h.to_reader;
+          to_controller = h.to_controller;
+          account = h.account;
+        }),
+      ) in
+      let still : IsStill fixed answer_of after settings first l = record {
+        to_reader = h.to_reader;
+        to_controller = h.to_controller;
+        ready = record { here = ap (λ c. c.address) h.config ∙ here; ready = h.ready };
+        issued = none;
+      } in
+      let is = opening_exchange fixed answer_of after settings first given until opening l still config (ap (λ c. c.id) h.config) state (omega (arith, reached)) fits.1.0 in
+      let m = goes answer_of after opening l in
+      let interval = s.config.poll_interval in
+      let between : IsBetween interval m = record {
+        holds = held_after fixed answer_of after settings first given opening l fits.1.0 held;
+        idle = subst Idles (sym is) (record {
+          idle = (later_by l.controller.session.config.poll_interval (seen opening (record (seen opening l.controller.session) { number = 0 })), refl);
+          still = record {
+            to_reader = refl;
+            to_controller = refl;
+            ready = record { here = still.ready.here; ready = still.ready.ready };
+            issued = still.issued;
+          };
+        });
+        rests = subst (λ k. RestsFor k.controller.session) (sym is) refl;
+        keeps = ap (λ k. k.controller.session.config.poll_interval) is ∙ ap (λ (t : Session). t.config.poll_interval) h.session;
+      } in
+      let made = rounds_make given wait interval short moments m between spaced fits.1.1.1 in
+      let last = run answer_of after (rounds moments) m in
+      let all = subst (λ k. Made (length moments) k.controller.waiting (unreported k) k.account last.account) is made.1 in (
+        in_turn (length moments) interval w events last made.0 (subst (λ t. Made (length moments) w events t last.account) h.account all),
+        ap is_closed made.0.idle.idle.1,
+      )
+
+module _ {H : Type 0} (answer_of : H → Command → Answer) (after : H → Command → H) where
+  pub goes_in_turn : (l : Link H) (orders : List Move) (opening wait : ℕ) (moments : List ℕ) → Assumed answer_of after l.reader.config l.reader.handler
+      → Begins l → All IsOrder orders → AreMoves answer_of after orders l
+      → l.reader.config.address ≡ l.controller.session.config.address → l.reader.busy ≡ false
+      → IfSome (moment_of l.controller.session.state) (λ quiet. quiet ≤ opening) → l.controller.session.config.poll_interval ≤ wait
+      → let before = run answer_of after orders l in
+      All SetsNoAddress before.account.issued
+      → AreSpaced answer_of after wait moments (run answer_of after (round opening) before) → AreMoves answer_of after (rounds (opening ∷ moments)) before
+      → let last = run answer_of after (rounds (opening ∷ moments)) before in
+      IsInTurn answer_of after l.reader.config l.reader.handler (length moments) last.account × (is_closed last.controller.session.state ≡ false)
+  goes_in_turn l orders opening wait moments given b are fits here ready reached short none spaced more =
+      let s = l.controller.session in
+      let config = l.reader.config in
+      let before = run answer_of after orders l in
+      let until = b.quiet.0 in
+      let readied = orders_ready s.config answer_of after config l.reader.handler s orders l (each_of IsOrder orders are) fits (record {
+        session = refl;
+        waiting = each_of MaySubmit l.controller.waiting b.waiting;
+        config = refl;
+        handler = refl;
+        ready = ready;
+        to_reader = b.to_reader;
+        to_controller = b.to_controller;
+        account = b.account;
+      }) in
+      let due : until ≤ opening = subst (λ state. IfSome (moment_of state) (λ quiet. quiet ≤ opening)) b.quiet.1 reached in
+      opens_and_goes s.config answer_of after config l.reader.handler (given s.config l.reader.handler b.address) until opening wait moments s before readied
+      refl b.quiet.1 here due short (each_of SetsNoAddress before.account.issued none) spaced more

@@ -1,0 +1,121 @@
+-- What a move adds to an account: the command that it submits, or the event that it queues.
+use Rattle.std.proofs.Common.{◌≡◌, ℕ, List, [], ◌∷◌, ◌++◌, length, Bool, true, false, Option, Some, None, refl, sym, ◌∙◌, ap}
+use Rattle.std.proofs.lemmas.List.{append-nil}
+use Rattle.std.specs.Prelude.{◌==◌}
+use Rattle.osdp_frame.specs.Packet.{Packet}
+use Rattle.osdp_msg.specs.declared.command.Command.{Command}
+use Rattle.osdp_msg.specs.declared.command.Command.TheVariants as command
+use Rattle.osdp_msg.specs.declared.event.Event.{Event}
+use Rattle.osdp_controller.specs.Hearing as controller
+use Rattle.osdp_controller.specs.Machine as controllers
+use Rattle.osdp_controller.specs.Ticking.{ticks}
+use Rattle.osdp_controller.specs.declared.fault.ControllerFault.{ControllerFault}
+use Rattle.osdp_controller.specs.declared.report.Report.{Report}
+use Rattle.osdp_controller.specs.declared.report.Report.TheVariants as report
+use Rattle.osdp_reader.specs.declared.handler.Answer.{Answer}
+use Rattle.osdp_reader.specs.declared.kind.Kind.{Kind}
+use Rattle.osdp_reader.specs.declared.kind.Kind.TheVariants as kind
+use Rattle.osdp_reader.specs.Table as reader
+use Rattle.osdp_link_laws.specs.Link as link
+use Rattle.osdp_link_laws.specs.Link.{Account, Delivered, Delivery, Link, Lost, Move, Queue as QueueEvent, Reopen, Repeated, SetBusy, Submit, Tick, ToController, ToReader, after_move, run, told}
+use Rattle.osdp_link_laws.specs.Sessions.{accepted, queued, queued_unless, submitted}
+use Rattle.osdp_link_laws.proofs.Once.{GoesOn}
+
+-- an account that goes on with these commands and events
+pub record Grows (cs : List Command) (es : List Event) (t u : Account) : Type 0 where
+  pub issued : u.issued ≡ t.issued ++ cs
+  pub queued : u.queued ≡ t.queued ++ es
+
+as_before : (t u : Account) → u.issued ≡ t.issued → u.queued ≡ t.queued → Grows [] [] t u
+as_before t u issued queued = record { issued = issued ∙ sym (append-nil t.issued); queued = queued ∙ sym (append-nil t.queued) }
+
+told_keeps : (r : Option Report) (t : Account) → Grows [] [] t (told r t)
+told_keeps None t = as_before t t refl refl
+told_keeps (Some (report.Opened id)) t = as_before t t refl refl
+told_keeps (Some (report.Settled c a)) t = as_before t (told (Some (report.Settled c a)) t) refl refl
+told_keeps (Some (report.Moved c a)) t = as_before t (told (Some (report.Moved c a)) t) refl refl
+told_keeps (Some (report.Event e)) t = as_before t (told (Some (report.Event e)) t) refl refl
+told_keeps (Some (report.PollAnswered a)) t = as_before t t refl refl
+told_keeps (Some (report.Unread c code)) t = as_before t t refl refl
+told_keeps (Some (report.Lost cause c)) t = as_before t (told (Some (report.Lost cause c)) t) refl refl
+
+pub told_issues : (r : Option Report) (t : Account) → (told r t).issued ≡ t.issued
+told_issues r t = (told_keeps r t).issued ∙ append-nil t.issued
+
+-- a taken command changes nothing but the commands taken and the events offered
+abbrev pub TakesMore : Account → Account → Type 0
+TakesMore t u = (all : List Command × List Event) × (u ≡ record t { taken = all.0; offered = all.1 })
+
+command_takes : (c : Command) (front : List Event) (t : Account) → TakesMore t (link.taken_command c front t)
+command_takes command.Poll front t = ((t.taken, t.offered ++ front), refl)
+command_takes (command.Id a) front t = ((t.taken ++ (command.Id a) ∷ [], t.offered), refl)
+command_takes (command.Cap a) front t = ((t.taken ++ (command.Cap a) ∷ [], t.offered), refl)
+command_takes command.LocalStatus front t = ((t.taken ++ command.LocalStatus ∷ [], t.offered), refl)
+command_takes command.InputStatus front t = ((t.taken ++ command.InputStatus ∷ [], t.offered), refl)
+command_takes command.OutputStatus front t = ((t.taken ++ command.OutputStatus ∷ [], t.offered), refl)
+command_takes command.ReaderStatus front t = ((t.taken ++ command.ReaderStatus ∷ [], t.offered), refl)
+command_takes (command.Output a) front t = ((t.taken ++ (command.Output a) ∷ [], t.offered), refl)
+command_takes (command.Led a) front t = ((t.taken ++ (command.Led a) ∷ [], t.offered), refl)
+command_takes (command.Buzzer a) front t = ((t.taken ++ (command.Buzzer a) ∷ [], t.offered), refl)
+command_takes (command.Text a) front t = ((t.taken ++ (command.Text a) ∷ [], t.offered), refl)
+command_takes (command.Comset a) front t = ((t.taken ++ (command.Comset a) ∷ [], t.offered), refl)
+command_takes (command.Maker a) front t = ((t.taken ++ (command.Maker a) ∷ [], t.offered), refl)
+
+pub taken_takes : (k : Kind) (c : Option Command) (front : List Event) (t : Account) → TakesMore t (link.taken k c front t)
+taken_takes kind.Silent c front t = ((t.taken, t.offered), refl)
+taken_takes kind.Secured c front t = ((t.taken, t.offered), refl)
+taken_takes kind.Zero c front t = ((t.taken, t.offered), refl)
+taken_takes kind.Repeat c front t = ((t.taken, t.offered), refl)
+taken_takes kind.Taken None front t = ((t.taken, t.offered), refl)
+taken_takes kind.Taken (Some c) front t = command_takes c front t
+taken_takes kind.Busy c front t = ((t.taken, t.offered), refl)
+taken_takes kind.Wrong c front t = ((t.taken, t.offered), refl)
+
+taken_keeps : (k : Kind) (c : Option Command) (front : List Event) (t : Account) → Grows [] [] t (link.taken k c front t)
+taken_keeps k c front t =
+    let more = taken_takes k c front t in
+    as_before t (link.taken k c front t) (ap (λ u. u.issued) more.1) (ap (λ u. u.queued) more.1)
+
+module _ {H : Type 0} (answer_of : H → Command → Answer) (after : H → Command → H) where
+  -- within a session the account goes on, and those before it stay
+  abbrev pub SameSession : List Command → List Event → Link H → Link H → Type 0
+  SameSession cs es l m = Grows cs es l.account m.account × (m.earlier ≡ l.earlier)
+
+  same : (l : Link H) → SameSession [] [] l l
+  same l = (as_before l.account l.account refl refl, refl)
+
+  submits_on : (refusal : Option ControllerFault) (c : Command) (l : Link H) → SameSession (accepted refusal c) [] l (link.submits refusal c l)
+  submits_on (Some fault) c l = same l
+  submits_on None c l = (record { issued = refl; queued = sym (append-nil l.account.queued) }, refl)
+
+  queues_on : (full : Bool) (e : Event) (l : Link H) → SameSession [] (queued_unless full e) l (link.queues full e l)
+  queues_on true e l = same l
+  queues_on false e l = (record { issued = sym (append-nil l.account.issued); queued = refl }, refl)
+
+  reader_gets_on : (p : Packet) (l : Link H) → SameSession [] [] l (link.reader_gets answer_of after p l)
+  reader_gets_on p l =
+      (taken_keeps (reader.kind_of l.reader p) (reader.hears answer_of after l.reader p).command (link.front_of l.reader) l.account, refl)
+
+  controller_gets_on : (p : Packet) (now : ℕ) (l : Link H) → SameSession [] [] l (link.controller_gets p now l)
+  controller_gets_on p now l = (told_keeps (controller.hears p now l.controller.session).report l.account, refl)
+
+  to_reader_on : (how : Delivery) (ps : List Packet) (l : Link H) → SameSession [] [] l (link.to_reader answer_of after ps how l)
+  to_reader_on how [] l = same l
+  to_reader_on Delivered (p ∷ ps) l = reader_gets_on p (record l { to_reader = ps })
+  to_reader_on Lost (p ∷ ps) l = (as_before l.account l.account refl refl, refl)
+  to_reader_on Repeated (p ∷ ps) l = reader_gets_on p l
+
+  to_controller_on : (how : Delivery) (now : ℕ) (ps : List Packet) (l : Link H) → SameSession [] [] l (link.to_controller ps how now l)
+  to_controller_on how now [] l = same l
+  to_controller_on Delivered now (p ∷ ps) l = controller_gets_on p now (record l { to_controller = ps })
+  to_controller_on Lost now (p ∷ ps) l = (as_before l.account l.account refl refl, refl)
+  to_controller_on Repeated now (p ∷ ps) l = controller_gets_on p now l
+
+  pub goes_on : (move : Move) (l : Link H) → GoesOn move → SameSession (submitted move l) (queued move l) l (after_move answer_of after move l)
+  goes_on (Submit c) l on = submits_on (controllers.submit_refusal c l.controller) c l
+  goes_on (QueueEvent e) l on = queues_on (length l.reader.queue.events == l.reader.queue.capacity) e l
+  goes_on (SetBusy busy) l on = (as_before l.account l.account refl refl, refl)
+  goes_on (Tick now) l on = (told_keeps (ticks now l.controller.session l.controller.waiting).step.report l.account, refl)
+  goes_on (ToReader how) l on = to_reader_on how l.to_reader l
+  goes_on (ToController how now) l on = to_controller_on how now l.to_controller l
+  goes_on (Reopen now) l on = absurd on

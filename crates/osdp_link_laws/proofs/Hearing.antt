@@ -1,0 +1,213 @@
+-- What a packet does to the controller, by how far the session has come.
+use Rattle.std.proofs.Common.{◌≡◌, ◌≢◌, ◌⊎◌, ℕ, zero, suc, ◌+◌, Bool, true, false, cond, eqb, ltb, List, [], ◌∷◌, ◌++◌, Option, Some, None, refl, sym, subst, ap, ◌∙◌, inl, inr}
+use Rattle.std.proofs.lemmas.List.{append-nil}
+use Rattle.std.specs.Prelude.{◌&&◌, ◌||◌, option_to_list}
+use Rattle.osdp_frame.specs.Packet.{Packet}
+use Rattle.osdp_msg.specs.declared.command.Command.{Command}
+use Rattle.osdp_msg.specs.declared.command_fields.Communication.{Communication}
+use Rattle.osdp_msg.specs.declared.event.Event.{Event}
+use Rattle.osdp_msg.specs.declared.reply.Reply.{Reply}
+use Rattle.osdp_msg.specs.declared.reply.Reply.TheVariants as reply
+use Rattle.osdp_msg.specs.declared.reply_fields.PdId.{PdId}
+use Rattle.osdp_controller.specs.declared.answer.Answer.{Answer}
+use Rattle.osdp_controller.specs.declared.answer.Answer.TheVariants.{NotTaken, Plain}
+use Rattle.osdp_controller.specs.declared.config.ControllerConfig.{ControllerConfig}
+use Rattle.osdp_controller.specs.declared.exchange.Exchange.{Exchange}
+use Rattle.osdp_controller.specs.declared.exchange.Exchange.TheVariants.{Opening, Polling, Asking}
+use Rattle.osdp_controller.specs.declared.exchange.Outstanding.{Outstanding}
+use Rattle.osdp_controller.specs.declared.report.LostCause.TheVariants.{TooBusy}
+use Rattle.osdp_controller.specs.declared.report.Report.TheVariants as report
+use Rattle.osdp_controller.specs.declared.session.Session.{Session}
+use Rattle.osdp_controller.specs.declared.state.State.{State}
+use Rattle.osdp_controller.specs.declared.state.State.TheVariants.{Closed, Quiet, Idle, Waiting, Pausing}
+use Rattle.osdp_controller.specs.Answers.{answer_of}
+use Rattle.osdp_controller.specs.Hearing.{Heard, answered, com_of, command_answered, comset_of, event_in, hears, hears_busy, hears_in, ignores, is_ack, is_from_reader, is_numbered, loses, moved_by, pausing_hears, poll_told, rests, waiting_hears}
+use Rattle.osdp_controller.specs.Sessions.{later, seen}
+use Rattle.osdp_link_laws.specs.Link.{Account, told}
+use Rattle.osdp_link_laws.proofs.Lines.{both}
+use Rattle.osdp_link_laws.proofs.Numbers.{is_false}
+use Rattle.osdp_link_laws.proofs.Stages.{Asks, IsAnswerTo, IsOpen, Rests, given_up}
+use Rattle.osdp_link_laws.proofs.Ticks.{LeavesUnsettled, asks_seen, ended, nothing_told, rests_seen}
+
+and_false : (b : Bool) → (b && false) ≡ false
+and_false true = refl
+and_false false = refl
+
+module _ (fixed : ControllerConfig) where
+  -- the exchange stays outstanding, or the session ends; nothing is settled or reported
+  abbrev pub Ignored : ℕ → Exchange → List Command → Heard → Type 0
+  Ignored n x before h = LeavesUnsettled before x h.report h.session.state × Asks fixed h.session.state n x h.session
+
+  ignored : (state : State) (n : ℕ) (x : Exchange) (s : Session) → s.state ≡ state → Asks fixed state n x s
+      → Ignored n x (given_up state x) (ignores s)
+  ignored state n x s e asks =
+      (nothing_told (given_up state x) x s.state (ap (λ st. given_up st x) e), subst (λ st. Asks fixed st n x s) (sym e) asks)
+
+  busy_heard : (n : ℕ) (x : Exchange) (o : Outstanding) (s : Session) → IsOpen fixed n s → o.exchange ≡ x
+      → Ignored n x [] (hears_busy o s)
+  busy_heard n x o s at is =
+      both (Ignored n x []) (ltb s.config.busy_limit (o.busies + 1)) (loses TooBusy o s)
+      (record {
+        session = record s { state = Pausing (later s.config.busy_wait s) (record o { busies = o.busies + 1 }) };
+        report = None;
+      })
+      (ended TooBusy o.exchange x is, tt)
+      (nothing_told [] x (Pausing (later s.config.busy_wait s) (record o { busies = o.busies + 1 })) refl, (at, is))
+
+  -- BUSY changes no account
+  busy_in : (state : State) (number n : ℕ) (x : Exchange) (s : Session) → s.state ≡ state → Asks fixed state n x s
+      → Ignored n x (given_up state x) (hears_in state number NotTaken s)
+  busy_in Closed number n x s e asks = ignored Closed n x s e asks
+  busy_in (Quiet until) number n x s e asks = absurd asks
+  busy_in (Idle due) number n x s e asks = absurd asks
+  busy_in (Waiting until k o) number n x s e asks =
+      both (Ignored n x []) (is_numbered number NotTaken s) (hears_busy o s) (ignores s)
+      (busy_heard n x o s asks.0 asks.1) (ignored (Waiting until k o) n x s e asks)
+  busy_in (Pausing until o) number n x s e asks =
+      both (Ignored n x []) (is_numbered number NotTaken s) (ignores s) (ignores s)
+      (ignored (Pausing until o) n x s e asks) (ignored (Pausing until o) n x s e asks)
+
+  other_number : (number n : ℕ) (r : Reply) (s : Session) → number ≢ n → s.number ≡ n → is_numbered number (Plain r) s ≡ false
+  other_number number n r s differ is =
+      let zero_is = and_false (eqb number 0) in
+      let differs = is_false number s.number (λ same. differ (same ∙ is)) in
+      ap (λ b. b || (eqb number 0 && false)) differs ∙ zero_is
+
+  -- nor does an answer with another number
+  other_in : (state : State) (number n : ℕ) (x : Exchange) (r : Reply) (s : Session) → number ≢ n → s.state ≡ state → Asks fixed state n x s
+      → Ignored n x (given_up state x) (hears_in state number (Plain r) s)
+  other_in Closed number n x r s differ e asks = ignored Closed n x s e asks
+  other_in (Quiet until) number n x r s differ e asks = absurd asks
+  other_in (Idle due) number n x r s differ e asks = absurd asks
+  other_in (Waiting until k o) number n x r s differ e asks =
+      subst (λ b. Ignored n x [] (cond b (waiting_hears (Plain r) k o s) (ignores s))) (sym (other_number number n r s differ asks.0.1))
+      (ignored (Waiting until k o) n x s e asks)
+  other_in (Pausing until o) number n x r s differ e asks =
+      subst (λ b. Ignored n x [] (cond b (pausing_hears (Plain r) o s) (ignores s))) (sym (other_number number n r s differ asks.0.1))
+      (ignored (Pausing until o) n x s e asks)
+
+  -- a packet that is BUSY, or has another number
+  pub hears_other : (p : Packet) (now n : ℕ) (x : Exchange) (s : Session)
+      → (answer_of p ≡ NotTaken) ⊎ ((p.sequence ≢ n) × ((r : Reply) × (answer_of p ≡ Plain r)))
+      → Asks fixed s.state n x s → Ignored n x (given_up s.state x) (hears p now s)
+  hears_other p now n x s (inl busy) asks =
+      let there = asks_seen fixed s.state n x s now asks in
+      both (Ignored n x (given_up s.state x)) (is_from_reader p s) (hears_in s.state p.sequence (answer_of p) (seen now s)) (ignores (seen now s))
+      (subst (λ a. Ignored n x (given_up s.state x) (hears_in s.state p.sequence a (seen now s))) (sym busy)
+      (busy_in s.state p.sequence n x (seen now s) refl there))
+      (ignored s.state n x (seen now s) refl there)
+  hears_other p now n x s (inr (differ, (r, plain))) asks =
+      let there = asks_seen fixed s.state n x s now asks in
+      both (Ignored n x (given_up s.state x)) (is_from_reader p s) (hears_in s.state p.sequence (answer_of p) (seen now s)) (ignores (seen now s))
+      (subst (λ a. Ignored n x (given_up s.state x) (hears_in s.state p.sequence a (seen now s))) (sym plain)
+      (other_in s.state p.sequence n x r (seen now s) differ refl there))
+      (ignored s.state n x (seen now s) refl there)
+
+  -- no exchange is outstanding: a packet changes nothing
+  rest_in : (state : State) (number n : ℕ) (a : Answer) (s : Session) → Rests fixed state n s → hears_in state number a s ≡ ignores s
+  rest_in Closed number n a s rests = refl
+  rest_in (Quiet until) number n a s rests = absurd rests
+  rest_in (Idle due) number n a s rests = refl
+  rest_in (Waiting until k o) number n a s rests = absurd rests
+  rest_in (Pausing until o) number n a s rests = absurd rests
+
+  -- .. but the moment
+  abbrev pub Passed : ℕ → Heard → Type 0
+  Passed n h = (h.report ≡ None) × Rests fixed h.session.state n h.session
+
+  pub hears_resting : (p : Packet) (now n : ℕ) (s : Session) → Rests fixed s.state n s → Passed n (hears p now s)
+  hears_resting p now n s rests =
+      let there = rests_seen fixed s.state n s now rests in
+      both (Passed n) (is_from_reader p s) (hears_in s.state p.sequence (answer_of p) (seen now s)) (ignores (seen now s))
+      (subst (Passed n) (sym (rest_in s.state p.sequence n (answer_of p) (seen now s) there)) (refl, there))
+      (refl, there)
+
+  -- what an answer settles or reports
+  abbrev pub settled_by : Exchange → Reply → Account → Account
+  settled_by Opening r t = t
+  settled_by Polling r t = record t { reported = t.reported ++ option_to_list (event_in r) }
+  settled_by (Asking c) r t = record t { settled = t.settled ++ (c, r) ∷ [] }
+
+  abbrev pub Settles : ℕ → Exchange → Reply → Heard → Type 0
+  Settles n x r h = ((a : Account) → told h.report a ≡ settled_by x r a) × Rests fixed h.session.state n h.session
+
+poll_tells : (event : Option Event) (r : Reply) (a : Account) → told (poll_told r event) a ≡ record a { reported = a.reported ++ option_to_list event }
+poll_tells (Some event) r a = refl
+poll_tells None r a =
+    both (λ o. told o a ≡ a) (is_ack r) None (Some (report.PollAnswered r)) refl refl
+    ∙ sym (ap (λ l. record a { reported = l }) (append-nil a.reported))
+
+com_is : (r : Reply) (c : Communication) → com_of r ≡ Some c → reply.Com c ≡ r
+com_is reply.Ack c e = absurd cc
+com_is (reply.Nak n) c e = absurd cc
+com_is (reply.PdId i) c e = absurd cc
+com_is (reply.PdCap p) c e = absurd cc
+com_is (reply.LocalState s) c e = absurd cc
+com_is (reply.Inputs s) c e = absurd cc
+com_is (reply.Outputs s) c e = absurd cc
+com_is (reply.Readers s) c e = absurd cc
+com_is (reply.Raw r) c e = absurd cc
+com_is (reply.Formatted f) c e = absurd cc
+com_is (reply.Keypad k) c e = absurd cc
+com_is (reply.Com d) c e = cc
+com_is reply.Busy c e = absurd cc
+com_is (reply.MakerReply m) c e = absurd cc
+
+only_if : (b : Bool) (y c : Communication) → cond b (Some y) None ≡ Some c → Some y ≡ Some c
+only_if true y c e = e
+only_if false y c e = absurd cc
+
+moved_is : (asked came : Option Communication) (c : Communication) → moved_by asked came ≡ Some c → came ≡ Some c
+moved_is (Some x) (Some y) c e = only_if (ltb y.address 127 && eqb y.address x.address) y c e
+moved_is (Some x) None c e = absurd cc
+moved_is None came c e = absurd cc
+
+module _ (fixed : ControllerConfig) where
+  command_settles : (moved : Option Communication) (n : ℕ) (c : Command) (r : Reply) (s : Session)
+      → ((to : Communication) → moved ≡ Some to → reply.Com to ≡ r) → IsOpen fixed n s
+      → Settles fixed n (Asking c) r (command_answered moved c r s)
+  command_settles None n c r s is at = ((λ a. refl), at)
+  command_settles (Some to) n c r s is at =
+      ((λ a. ap (λ q. record a { settled = a.settled ++ (c, q) ∷ [] }) (is to refl)), tt)
+
+  opening_settles : (pd : PdId) (n : ℕ) (r : Reply) (s : Session) → r ≡ reply.PdId pd → IsOpen fixed n s
+      → Settles fixed n Opening r (answered Opening r s)
+  opening_settles pd n r s is at =
+      subst (λ q. Settles fixed n Opening q (answered Opening q s)) (sym is) ((λ a. refl), at)
+
+  answer_settles : (pd : PdId) (x : Exchange) (n : ℕ) (r : Reply) (s : Session) → IsAnswerTo pd x n r → IsOpen fixed n s
+      → Settles fixed n x r (answered x r s)
+  answer_settles pd Opening zero r s is at = opening_settles pd 0 r s is at
+  answer_settles pd Opening (suc n) r s is at = absurd is
+  answer_settles pd Polling n r s is at = ((λ a. poll_tells (event_in r) r a), at)
+  answer_settles pd (Asking c) n r s is at =
+      command_settles (moved_by (comset_of c) (com_of r)) n c r s
+      (λ to e. com_is r to (moved_is (comset_of c) (com_of r) to e)) at
+
+  -- it is passed over, or it settles the exchange
+  abbrev pub MaySettle : ℕ → Exchange → List Command → Reply → Heard → Type 0
+  MaySettle n x before r h = Ignored fixed n x before h ⊎ ((before ≡ []) × Settles fixed n x r h)
+
+  answer_in : (pd : PdId) (state : State) (number n : ℕ) (x : Exchange) (r : Reply) (s : Session) → IsAnswerTo pd x n r → s.state ≡ state
+      → Asks fixed state n x s → MaySettle n x (given_up state x) r (hears_in state number (Plain r) s)
+  answer_in pd Closed number n x r s is e asks = inl (ignored fixed Closed n x s e asks)
+  answer_in pd (Quiet until) number n x r s is e asks = absurd asks
+  answer_in pd (Idle due) number n x r s is e asks = absurd asks
+  answer_in pd (Waiting until k o) number n x r s is e asks =
+      both (MaySettle n x [] r) (is_numbered number (Plain r) s) (waiting_hears (Plain r) k o s) (ignores s)
+      (inr (refl, subst (λ y. Settles fixed n x r (answered y r s)) (sym asks.1) (answer_settles pd x n r s is asks.0)))
+      (inl (ignored fixed (Waiting until k o) n x s e asks))
+  answer_in pd (Pausing until o) number n x r s is e asks =
+      both (MaySettle n x [] r) (is_numbered number (Plain r) s) (pausing_hears (Plain r) o s) (ignores s)
+      (inr (refl, subst (λ y. Settles fixed n x r (answered y r s)) (sym asks.1) (answer_settles pd x n r s is asks.0)))
+      (inl (ignored fixed (Pausing until o) n x s e asks))
+
+  -- a packet that says the answer
+  pub hears_answer : (pd : PdId) (p : Packet) (now n : ℕ) (x : Exchange) (r : Reply) (s : Session) → answer_of p ≡ Plain r
+      → IsAnswerTo pd x n r → Asks fixed s.state n x s → MaySettle n x (given_up s.state x) r (hears p now s)
+  hears_answer pd p now n x r s says is asks =
+      let there = asks_seen fixed s.state n x s now asks in
+      both (MaySettle n x (given_up s.state x) r) (is_from_reader p s) (hears_in s.state p.sequence (answer_of p) (seen now s)) (ignores (seen now s))
+      (subst (λ a. MaySettle n x (given_up s.state x) r (hears_in s.state p.sequence a (seen now s))) (sym says)
+      (answer_in pd s.state p.sequence n x r (seen now s) is refl there))
+      (inl (ignored fixed s.state n x (seen now s) refl there))

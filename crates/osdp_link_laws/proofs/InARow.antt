@@ -1,0 +1,320 @@
+-- From the beginning of a first session to each list of moves after it.
+use Rattle.std.proofs.Common.{◌≡◌, ◌<◌, ℕ, List, [], ◌∷◌, ◌++◌, All, Option, Some, None, refl, sym, subst, ap, ◌∙◌, append_assoc}
+use Rattle.std.proofs.lemmas.List.{append-nil}
+use Rattle.osdp_frame.specs.Packet.{Packet}
+use Rattle.osdp_msg.specs.declared.command.Command.{Command}
+use Rattle.osdp_msg.specs.declared.event.Event.{Event}
+use Rattle.osdp_controller.specs.Machine as controllers
+use Rattle.osdp_controller.specs.declared.config.ControllerConfig.{ControllerConfig}
+use Rattle.osdp_controller.specs.declared.exchange.Exchange.TheVariants.{Polling}
+use Rattle.osdp_controller.specs.declared.fault.ControllerFault.{ControllerFault}
+use Rattle.osdp_controller.specs.declared.state.State.{State}
+use Rattle.osdp_controller.specs.declared.state.State.TheVariants.{Closed, Quiet, Idle, Waiting, Pausing}
+use Rattle.osdp_reader.specs.declared.config.ReaderConfig.{ReaderConfig}
+use Rattle.osdp_reader.specs.declared.handler.Answer.{Answer}
+use Rattle.osdp_link_laws.specs.Headline.{AreMoves, AreOnce, Begins, IsMove, MaySubmit, handler_after, IsBeginning}
+use Rattle.osdp_link_laws.specs.Link as link
+use Rattle.osdp_link_laws.specs.Link.{Account, Delivered, Delivery, Link, Lost, Move, Queue as QueueEvent, Reopen, Repeated, SetBusy, Submit, Tick, ToController, ToReader, after_move, run, told}
+use Rattle.osdp_link_laws.specs.Peers.{IsPlainlySaid, ReadEachOther}
+use Rattle.osdp_link_laws.specs.Sessions.{AreInARow, HaveLeft, LastsOrLeaves, all_queued, all_submitted, told_in, queued, settled_commands, submitted}
+use Rattle.osdp_link_laws.proofs.Advancing.{HoldsAtSomeStage}
+use Rattle.osdp_link_laws.proofs.Deliveries.{all_said}
+use Rattle.osdp_link_laws.proofs.Devices.{IsDevice, move_there}
+use Rattle.osdp_link_laws.proofs.Growing.{Grows, goes_on}
+use Rattle.osdp_link_laws.proofs.Lines.{each_all, each_of}
+use Rattle.osdp_link_laws.proofs.Moves.{Premises}
+use Rattle.osdp_link_laws.proofs.Once.{GoesOn, fresh, is_once, moving}
+use Rattle.osdp_link_laws.proofs.Sessions.{lasts_or_leaves, leaves}
+use Rattle.osdp_link_laws.proofs.Stages.{Fresh, Waits, frame}
+
+begins_more : {A : Type 0} (xs ys zs more : List A) → IsBeginning xs ys → zs ≡ ys ++ more → IsBeginning xs zs
+begins_more xs ys zs more (rest, is) longer =
+    (rest ++ more, longer ∙ ap (λ l. l ++ more) is ∙ append_assoc xs rest more)
+
+-- a session goes on after those before it
+row_goes_on : (t u : Account) (cs : List Command) (es : List Event) (earlier : List Account) → Grows cs es t u → AreInARow t earlier → AreInARow u earlier
+row_goes_on t u cs es [] grows row = tt
+row_goes_on t u cs es (before ∷ earlier) grows ((waiting, events, left, commands, waits), row) = (
+  (waiting, events, left, begins_more waiting t.issued u.issued cs commands grows.issued, begins_more events t.queued u.queued es waits grows.queued),
+  row,
+)
+
+-- more events come after all of them
+left_more : (all more : List Event) (earlier : List Account) (gone : List Event) → HaveLeft all earlier gone → HaveLeft (all ++ more) earlier gone
+left_more all more [] gone none = none
+left_more all more (t ∷ earlier) gone (before, left, again, prior, stands, is, told_is, few) = (
+  before,
+  left,
+  again,
+  left_more all more earlier before prior,
+  begins_more (before ++ t.queued) all (all ++ more) more stands refl,
+  is,
+  told_is,
+  few,
+)
+
+module _ {H : Type 0} where
+  -- every command and event so far has its place
+  pub record Placed (cs : List Command) (es : List Event) (l : Link H) : Type 0 where
+    pub commands : cs ≡ told_in l.earlier ++ l.account.issued
+    pub events : (gone : List Event) × HaveLeft es l.earlier gone × (es ≡ gone ++ l.account.queued)
+
+module _ {H : Type 0} (answer_of : H → Command → Answer) (after : H → Command → H) where
+  -- a session that holds, after sessions that were once and in a row
+  pub record Stands (settings : ReaderConfig) (first : H) (l : Link H) : Type 0 where
+    pub fixed : ControllerConfig
+    pub device : fixed.address < 127
+    pub current : IsDevice answer_of after l
+    pub holds : HoldsAtSomeStage fixed answer_of after settings (handler_after answer_of after settings first l.earlier) l
+    pub once : AreOnce answer_of after settings first l.earlier
+    pub row : AreInARow l.account l.earlier
+
+module _ {H : Type 0} (answer_of : H → Command → Answer) (after : H → Command → H) (settings : ReaderConfig) (first : H) where
+  -- what the ends read of each other's packets, at each device's address
+  abbrev pub Assumed : Type 0
+  Assumed = (fixed : ControllerConfig) (handler : H) → fixed.address < 127 → Premises fixed answer_of after settings handler
+
+  pub assumed : ReadEachOther answer_of after → Assumed
+  assumed peers fixed handler device = record {
+    device = device;
+    reads = λ x n fit. peers.asked x (record { config = fixed; state = Closed; number = n; greatest = 0 }) fit;
+    hears = λ n r fit. peers.answered (frame fixed Polling 0) n r fit;
+    plain = peers.plain;
+    tells = peers.tells;
+    plainly = peers.plainly;
+  }
+
+  abbrev AllStands : Link H → Type 0
+  AllStands l = Stands answer_of after settings first l
+
+  is_closed : (state : State) → controllers.refused_unless_closed state ≡ None → state ≡ Closed
+  is_closed Closed e = refl
+  is_closed (Quiet until) e = absurd cc
+  is_closed (Idle due) e = absurd cc
+  is_closed (Waiting until sends o) e = absurd cc
+  is_closed (Pausing until o) e = absurd cc
+
+  -- a move within the session
+  keeps_on : Assumed → (move : Move) (l : Link H) → GoesOn move → IsMove answer_of after move l → AllStands l
+      → AllStands (after_move answer_of after move l)
+  keeps_on given move l on fits h =
+      let handler = handler_after answer_of after settings first l.earlier in
+      let new = after_move answer_of after move l in
+      let goes = goes_on answer_of after move l on in
+      record {
+        fixed = h.fixed;
+        device = h.device;
+        current = move_there answer_of after move l h.current;
+        holds = subst (λ earlier. HoldsAtSomeStage h.fixed answer_of after settings (handler_after answer_of after settings first earlier) new) (sym goes.1)
+            (moving h.fixed answer_of after settings handler (given h.fixed handler h.device) move l on fits h.holds);
+        once = subst (AreOnce answer_of after settings first) (sym goes.1) h.once;
+        row = subst (AreInARow new.account) (sym goes.1) (row_goes_on l.account new.account (submitted move l) (queued move l) l.earlier goes.0 h.row);
+      }
+
+  -- a session begins again
+  reopening : (refusal : Option ControllerFault) (ps qs : List Packet) (now : ℕ) (l : Link H) → controllers.begin_refusal l.controller ≡ refusal
+      → l.to_reader ≡ ps → l.to_controller ≡ qs → AllStands l → AllStands (link.reopens refusal ps qs now l)
+  reopening (Some fault) ps qs now l may here there h = h
+  reopening None (p ∷ ps) qs now l may here there h = h
+  reopening None [] (q ∷ qs) now l may here there h = h
+  reopening None [] [] now l may here there h =
+      let fixed = l.controller.session.config in
+      let handler = handler_after answer_of after settings first l.earlier in
+      let new = link.reopens None [] [] now l in
+      let at = h.holds.0 in
+      let held = h.holds.1 in
+      record {
+        fixed = fixed;
+        device = h.current;
+        current = h.current;
+        holds = (
+          Fresh,
+          fresh fixed answer_of after settings (handler_after answer_of after settings first new.earlier) new (record {
+            controller = refl;
+            waiting = held.waiting;
+            answering = record { id = held.answering.id; caps = held.answering.caps; handler = held.answering.handler };
+            to_reader = here;
+            to_controller = there;
+            account = refl;
+          }),
+        );
+        once = (is_once h.fixed answer_of after settings handler l h.holds, h.once);
+        row = (
+          (
+            l.controller.waiting,
+            l.reader.queue.events,
+            leaves h.fixed answer_of after settings handler at l held (is_closed l.controller.session.state may),
+            ([], sym (append-nil l.controller.waiting)),
+            ([], sym (append-nil l.reader.queue.events)),
+          ),
+          h.row,
+        );
+      }
+
+  pub standing : Assumed → (move : Move) (l : Link H) → IsMove answer_of after move l → AllStands l → AllStands (after_move answer_of after move l)
+  standing given (Submit c) l fits h = keeps_on given (Submit c) l tt fits h
+  standing given (QueueEvent e) l fits h = keeps_on given (QueueEvent e) l tt fits h
+  standing given (SetBusy busy) l fits h = keeps_on given (SetBusy busy) l tt fits h
+  standing given (Tick now) l fits h = keeps_on given (Tick now) l tt fits h
+  standing given (ToReader how) l fits h = keeps_on given (ToReader how) l tt fits h
+  standing given (ToController how now) l fits h = keeps_on given (ToController how now) l tt fits h
+  standing given (Reopen now) l fits h =
+      reopening (controllers.begin_refusal l.controller) l.to_reader l.to_controller now l refl refl refl h
+
+  -- one move more: what it submits or queues comes last
+  placing : (move : Move) (l : Link H) (cs : List Command) (es : List Event) → AllStands l → Placed cs es l
+      → Placed (cs ++ submitted move l) (es ++ queued move l) (after_move answer_of after move l)
+  placing move l cs es h placed = by_move move
+    where
+      on : (move : Move) → GoesOn move → Placed (cs ++ submitted move l) (es ++ queued move l) (after_move answer_of after move l)
+      on move goes =
+          let g = goes_on answer_of after move l goes in
+          let new = after_move answer_of after move l in
+          let gone = placed.events.0 in
+          record {
+            commands = ap (λ all. all ++ submitted move l) placed.commands
+                ∙ append_assoc (told_in l.earlier) l.account.issued (submitted move l)
+                ∙ ap (λ all. told_in l.earlier ++ all) (sym g.0.issued)
+                ∙ ap (λ earlier. told_in earlier ++ new.account.issued) (sym g.1);
+            events = (
+              gone,
+              subst (λ earlier. HaveLeft (es ++ queued move l) earlier gone) (sym g.1)
+                  (left_more es (queued move l) l.earlier gone placed.events.1),
+              ap (λ all. all ++ queued move l) placed.events.2
+                  ∙ append_assoc gone l.account.queued (queued move l)
+                  ∙ ap (λ all. gone ++ all) (sym g.0.queued),
+            );
+          }
+
+      again : (refusal : Option ControllerFault) (ps qs : List Packet) (now : ℕ) → controllers.begin_refusal l.controller ≡ refusal
+          → Placed cs es (link.reopens refusal ps qs now l)
+      again (Some fault) ps qs now may = placed
+      again None (p ∷ ps) qs now may = placed
+      again None [] (q ∷ qs) now may = placed
+      again None [] [] now may =
+          let left = leaves h.fixed answer_of after settings (handler_after answer_of after settings first l.earlier) h.holds.0 l h.holds.1
+          (is_closed l.controller.session.state may) in
+          record {
+            commands = placed.commands
+                ∙ ap (λ all. told_in l.earlier ++ all) (left.commands ∙ sym (append_assoc (settled_commands l.account) l.account.unsettled l.controller.waiting))
+                ∙ sym (append_assoc (told_in l.earlier) (settled_commands l.account ++ l.account.unsettled) l.controller.waiting);
+            events = (
+              placed.events.0 ++ left.reported.0,
+              (
+                placed.events.0,
+                left.reported.0,
+                left.reported.1,
+                placed.events.1,
+                ([], placed.events.2 ∙ sym (append-nil (placed.events.0 ++ l.account.queued))),
+                refl,
+                left.reported.3,
+                left.reported.5,
+              ),
+              placed.events.2
+                  ∙ ap (λ all. placed.events.0 ++ all) left.reported.2
+                  ∙ sym (append_assoc placed.events.0 left.reported.0 l.reader.queue.events),
+            );
+          }
+
+      by_move : (move : Move) → Placed (cs ++ submitted move l) (es ++ queued move l) (after_move answer_of after move l)
+      by_move (Submit c) = on (Submit c) tt
+      by_move (QueueEvent e) = on (QueueEvent e) tt
+      by_move (SetBusy busy) = on (SetBusy busy) tt
+      by_move (Tick now) = on (Tick now) tt
+      by_move (ToReader how) = on (ToReader how) tt
+      by_move (ToController how now) = on (ToController how now) tt
+      by_move (Reopen now) =
+          let new = link.reopens (controllers.begin_refusal l.controller) l.to_reader l.to_controller now l in
+          subst (λ all. Placed all (es ++ []) new) (sym (append-nil cs))
+          (subst (λ all. Placed cs all new) (sym (append-nil es))
+          (again (controllers.begin_refusal l.controller) l.to_reader l.to_controller now refl))
+
+  all_placed : Assumed → (moves : List Move) (l : Link H) (cs : List Command) (es : List Event) → AreMoves answer_of after moves l → AllStands l
+      → Placed cs es l
+      → Placed (cs ++ all_submitted answer_of after moves l) (es ++ all_queued answer_of after moves l) (run answer_of after moves l)
+  all_placed given [] l cs es fits h placed =
+      subst (λ all. Placed all (es ++ []) l) (sym (append-nil cs))
+      (subst (λ all. Placed cs all l) (sym (append-nil es)) placed)
+  all_placed given (move ∷ moves) l cs es fits h placed =
+      let new = after_move answer_of after move l in
+      let last = run answer_of after moves new in
+      subst (λ all. Placed all (es ++ (queued move l ++ all_queued answer_of after moves new)) last)
+      (append_assoc cs (submitted move l) (all_submitted answer_of after moves new))
+      (subst (λ all. Placed ((cs ++ submitted move l) ++ all_submitted answer_of after moves new) all last)
+      (append_assoc es (queued move l) (all_queued answer_of after moves new))
+      (all_placed given moves new (cs ++ submitted move l) (es ++ queued move l) fits.1 (standing given move l fits.0 h) (placing move l cs es h placed)))
+
+  pub running : Assumed → (moves : List Move) (l : Link H) → AreMoves answer_of after moves l → AllStands l → AllStands (run answer_of after moves l)
+  running given [] l fits h = h
+  running given (move ∷ moves) l fits h = running given moves (after_move answer_of after move l) fits.1 (standing given move l fits.0 h)
+
+-- all of it, from a first session that has begun
+module _ {H : Type 0} (answer_of : H → Command → Answer) (after : H → Command → H) where
+  pub begins : (l : Link H) → Begins l → Stands answer_of after l.reader.config l.reader.handler l
+  begins l b =
+      let fixed = l.controller.session.config in
+      subst (λ earlier. Stands answer_of after l.reader.config l.reader.handler (record l { earlier = earlier })) (sym b.earlier) (record {
+        fixed = fixed;
+        device = b.address;
+        current = b.address;
+        holds = (
+          Fresh,
+          fresh fixed answer_of after l.reader.config l.reader.handler (record l { earlier = [] }) (record {
+            controller = subst (λ state. Waits fixed state l.controller.session) (sym b.quiet.1) refl;
+            waiting = each_of MaySubmit l.controller.waiting b.waiting;
+            answering = record { id = refl; caps = refl; handler = refl };
+            to_reader = b.to_reader;
+            to_controller = b.to_controller;
+            account = b.account;
+          }),
+        );
+        once = tt;
+        row = tt;
+      })
+
+  pub all_once : (l : Link H) (moves : List Move) → Assumed answer_of after l.reader.config l.reader.handler → Begins l → AreMoves answer_of after moves l
+      → let later = run answer_of after moves l in AreOnce answer_of after l.reader.config l.reader.handler (later.account ∷ later.earlier)
+  all_once l moves given b fits =
+      let s = running answer_of after l.reader.config l.reader.handler given moves l fits (begins l b) in
+      (is_once s.fixed answer_of after l.reader.config _ (run answer_of after moves l) s.holds, s.once)
+
+  pub all_in_a_row : (l : Link H) (moves : List Move) → Assumed answer_of after l.reader.config l.reader.handler → Begins l → AreMoves answer_of after moves l
+      → let later = run answer_of after moves l in AreInARow later.account later.earlier
+  all_in_a_row l moves given b fits = (running answer_of after l.reader.config l.reader.handler given moves l fits (begins l b)).row
+
+  pub all_plainly : (l : Link H) (moves : List Move) → Assumed answer_of after l.reader.config l.reader.handler → Begins l → AreMoves answer_of after moves l
+      → All IsPlainlySaid (run answer_of after moves l).to_controller
+  all_plainly l moves given b fits =
+      let later = run answer_of after moves l in
+      let s = running answer_of after l.reader.config l.reader.handler given moves l fits (begins l b) in
+      let handler = handler_after answer_of after l.reader.config l.reader.handler later.earlier in
+      each_all IsPlainlySaid later.to_controller
+      (all_said s.fixed answer_of after l.reader.config handler (given s.fixed handler s.device) s.holds.0 later s.holds.1)
+
+  have_places : (l : Link H) (moves : List Move) → Assumed answer_of after l.reader.config l.reader.handler → Begins l → AreMoves answer_of after moves l
+      → Placed (l.controller.waiting ++ all_submitted answer_of after moves l) (l.reader.queue.events ++ all_queued answer_of after moves l)
+      (run answer_of after moves l)
+  have_places l moves given b fits =
+      all_placed answer_of after l.reader.config l.reader.handler given moves l l.controller.waiting l.reader.queue.events fits (begins l b) (record {
+        commands = sym (ap (λ t. t.issued) b.account) ∙ sym (ap (λ earlier. told_in earlier ++ l.account.issued) b.earlier);
+        events = ([], subst (λ earlier. HaveLeft l.reader.queue.events earlier []) (sym b.earlier) refl, sym (ap (λ t. t.queued) b.account));
+      })
+
+  pub commands_have_places : (l : Link H) (moves : List Move) → Assumed answer_of after l.reader.config l.reader.handler → Begins l → AreMoves answer_of after moves l
+      → let later = run answer_of after moves l in
+      l.controller.waiting ++ all_submitted answer_of after moves l ≡ told_in later.earlier ++ later.account.issued
+  commands_have_places l moves given b fits = (have_places l moves given b fits).commands
+
+  pub events_have_places : (l : Link H) (moves : List Move) → Assumed answer_of after l.reader.config l.reader.handler → Begins l → AreMoves answer_of after moves l
+      → let later = run answer_of after moves l in
+      let all = l.reader.queue.events ++ all_queued answer_of after moves l in
+      (gone : List Event) × HaveLeft all later.earlier gone × (all ≡ gone ++ later.account.queued)
+  events_have_places l moves given b fits = (have_places l moves given b fits).events
+
+  pub last_one_lasts : (l : Link H) (moves : List Move) → Assumed answer_of after l.reader.config l.reader.handler → Begins l → AreMoves answer_of after moves l
+      → let later = run answer_of after moves l in LastsOrLeaves later.controller.session.state later
+  last_one_lasts l moves given b fits =
+      let later = run answer_of after moves l in
+      let s = running answer_of after l.reader.config l.reader.handler given moves l fits (begins l b) in
+      lasts_or_leaves s.fixed answer_of after l.reader.config (handler_after answer_of after l.reader.config l.reader.handler later.earlier)
+      later.controller.session.state s.holds.0 later refl s.holds.1

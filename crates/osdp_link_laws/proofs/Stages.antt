@@ -1,0 +1,295 @@
+-- How far a session has come, and what holds of each part of the link then.
+use Rattle.std.proofs.Common.{◌≡◌, ◌≢◌, ◌⊎◌, ℕ, zero, suc, true, false, List, [], ◌∷◌, ◌++◌, Option, Some, None}
+use Rattle.std.specs.Prelude.{option_to_list}
+use Rattle.osdp_frame.specs.Packed.{packed}
+use Rattle.osdp_frame.specs.Packet.{Packet, next_sequence}
+use Rattle.osdp_msg.specs.ReplyTable.{ReplyFits, reply_code, reply_data}
+use Rattle.osdp_msg.specs.declared.command.Command.{Command}
+use Rattle.osdp_msg.specs.declared.event.Event.{Event}
+use Rattle.osdp_msg.specs.declared.reply.Reply.{Reply}
+use Rattle.osdp_msg.specs.declared.reply.Reply.TheVariants as reply
+use Rattle.osdp_msg.specs.declared.reply_fields.PdId.{PdId}
+use Rattle.osdp_controller.specs.declared.config.ControllerConfig.{ControllerConfig}
+use Rattle.osdp_controller.specs.declared.exchange.Exchange.{Exchange}
+use Rattle.osdp_controller.specs.declared.exchange.Exchange.TheVariants.{Opening, Polling, Asking}
+use Rattle.osdp_controller.specs.declared.session.Session.{Session}
+use Rattle.osdp_controller.specs.declared.state.State.{State}
+use Rattle.osdp_controller.specs.declared.state.State.TheVariants.{Closed, Quiet, Idle, Waiting, Pausing}
+use Rattle.osdp_controller.specs.Exchanges.{exchange_body}
+use Rattle.osdp_controller.specs.Hearing.{event_in}
+use Rattle.osdp_reader.specs.declared.config.ReaderConfig.{ReaderConfig}
+use Rattle.osdp_reader.specs.declared.handler.Answer.{Answer}
+use Rattle.osdp_reader.specs.Queue.{Queue}
+use Rattle.osdp_reader.specs.State.{ReaderState}
+use Rattle.osdp_reader_laws.specs.Answering.{handler_after_commands}
+use Rattle.osdp_reader_laws.specs.Laws.{IsPlain}
+use Rattle.osdp_link_laws.specs.Headline.{MaySubmit, with_answers}
+use Rattle.osdp_link_laws.specs.Link.{Account, Link}
+
+-- the exchange that was answered last, with its number and its answer
+pub data Past : Type 0 where
+  Start : Past
+  After : ℕ → Exchange → Reply → Past
+
+-- nothing was sent yet; the reader has not acted on the current exchange; it has, and the answer has not come; the answer has come
+pub data Stage : Type 0 where
+  Fresh : Stage
+  Behind : Past → Exchange → Stage
+  Level : Past → Exchange → Reply → Stage
+  Rest : ℕ → Exchange → Reply → Stage
+
+-- the number of the exchange after it
+abbrev pub number_after : Past → ℕ
+number_after Start = 0
+number_after (After n x r) = next_sequence n
+
+-- each of a list
+abbrev pub Each : {A : Type 0} → (A → Type 0) → List A → Type 0
+Each P [] = Unit {0}
+Each P (x ∷ xs) = P x × Each P xs
+
+-- a line: first some of the one kind, then only of the other
+abbrev pub Runs : (Packet → Type 0) → (Packet → Type 0) → List Packet → Type 0
+Runs P Q [] = Unit {0}
+Runs P Q (p ∷ ps) = (P p × Runs P Q ps) ⊎ (Q p × Each Q ps)
+
+-- the exchange that is outstanding after another
+abbrev pub IsAsked : Past → Exchange → Type 0
+IsAsked Start Opening = Unit {0}
+IsAsked Start Polling = ⊥
+IsAsked Start (Asking command) = ⊥
+IsAsked (After n x r) Opening = ⊥
+IsAsked (After n x r) Polling = Unit {0}
+IsAsked (After n x r) (Asking command) = MaySubmit command
+
+-- the exchange of a stage, with its number
+abbrev pub exchange_at : Stage → Exchange
+exchange_at Fresh = Opening
+exchange_at (Behind past x) = x
+exchange_at (Level past x r) = x
+exchange_at (Rest n x r) = x
+
+abbrev pub number_at : Stage → ℕ
+number_at Fresh = 0
+number_at (Behind past x) = number_after past
+number_at (Level past x r) = number_after past
+number_at (Rest n x r) = n
+
+-- .. which is outstanding
+abbrev pub IsOut : Stage → Type 0
+IsOut Fresh = ⊥
+IsOut (Behind past x) = Unit {0}
+IsOut (Level past x r) = Unit {0}
+IsOut (Rest n x r) = ⊥
+
+-- the command that is outstanding and that the reader has not acted on
+abbrev pub pending : Exchange → List Command
+pending Opening = []
+pending Polling = []
+pending (Asking command) = command ∷ []
+
+abbrev pub pending_at : Stage → List Command
+pending_at Fresh = []
+pending_at (Behind past x) = pending x
+pending_at (Level past x r) = []
+pending_at (Rest n x r) = []
+
+-- .. where the session has ended it is unsettled
+abbrev pub given_up : State → Exchange → List Command
+given_up Closed x = pending x
+given_up (Quiet until) x = []
+given_up (Idle due) x = []
+given_up (Waiting until sends o) x = []
+given_up (Pausing until o) x = []
+
+abbrev pub given_up_at : Stage → State → List Command
+given_up_at Fresh state = []
+given_up_at (Behind past x) state = given_up state x
+given_up_at (Level past x r) state = given_up state x
+given_up_at (Rest n x r) state = []
+
+-- the answer that is on its way
+abbrev pub owed : Exchange → Reply → List (Command × Reply)
+owed Opening r = []
+owed Polling r = []
+owed (Asking command) r = (command, r) ∷ []
+
+abbrev pub owed_at : Stage → List (Command × Reply)
+owed_at Fresh = []
+owed_at (Behind past x) = []
+owed_at (Level past x r) = owed x r
+owed_at (Rest n x r) = []
+
+-- the event that was reported and is still in front of the queue
+abbrev pub shown : Exchange → Reply → List Event
+shown Opening r = []
+shown Polling r = option_to_list (event_in r)
+shown (Asking command) r = []
+
+abbrev pub shown_after : Past → List Event
+shown_after Start = []
+shown_after (After n x r) = shown x r
+
+abbrev pub shown_at : Stage → List Event
+shown_at Fresh = []
+shown_at (Behind past x) = shown_after past
+shown_at (Level past x r) = []
+shown_at (Rest n x r) = shown x r
+
+-- the event that was offered and isn't reported yet
+abbrev pub unreported_at : Stage → List Event
+unreported_at Fresh = []
+unreported_at (Behind past x) = []
+unreported_at (Level past x r) = shown x r
+unreported_at (Rest n x r) = []
+
+-- the event that the last answer told is offered, and stands in front
+abbrev pub OffersEvent : Option Event → Queue → Type 0
+OffersEvent None q = q.offered ≡ false
+OffersEvent (Some event) q = (q.offered ≡ true) × ((rest : List Event) × (q.events ≡ event ∷ rest))
+
+abbrev pub Offers : Exchange → Reply → Queue → Type 0
+Offers Opening r q = q.offered ≡ false
+Offers Polling r q = OffersEvent (event_in r) q
+Offers (Asking command) r q = q.offered ≡ false
+
+module _ (pd : PdId) where
+  -- the answer to an exchange with this number
+  pub record IsAnswer (r : Reply) : Type 0 where
+    pub plain : IsPlain r
+    pub fits : ReplyFits r
+
+  abbrev pub IsAnswerTo : Exchange → ℕ → Reply → Type 0
+  IsAnswerTo Opening zero r = r ≡ reply.PdId pd
+  IsAnswerTo Opening (suc n) r = ⊥
+  IsAnswerTo Polling n r = n ≢ 0
+  IsAnswerTo (Asking command) n r = n ≢ 0
+
+  abbrev pub Acted : ℕ → Exchange → Reply → Type 0
+  Acted n x r = IsAnswer r × IsAnswerTo x n r
+
+  abbrev pub IsPast : Past → Type 0
+  IsPast Start = Unit {0}
+  IsPast (After n x r) = Acted n x r
+
+  abbrev pub IsStage : Stage → Type 0
+  IsStage Fresh = Unit {0}
+  IsStage (Behind past x) = IsPast past × IsAsked past x
+  IsStage (Level past x r) = IsPast past × IsAsked past x × Acted (number_after past) x r
+  IsStage (Rest n x r) = Acted n x r
+
+module _ (fixed : ControllerConfig) where
+  -- the frame of an exchange with a number, and the packet of an answer to it
+  abbrev pub frame : Exchange → ℕ → Packet
+  frame x n = packed false fixed.address n fixed.check false 0 (exchange_body x)
+
+  abbrev pub answer : ℕ → Reply → Packet
+  answer n r = packed true fixed.address n fixed.check false 0 (reply_code r ∷ reply_data r)
+
+  -- a session that is open, with this number
+  abbrev pub IsOpen : ℕ → Session → Type 0
+  IsOpen n s = (s.config ≡ fixed) × (s.number ≡ n)
+
+  -- this exchange is outstanding, or the session has ended
+  abbrev pub Asks : State → ℕ → Exchange → Session → Type 0
+  Asks Closed n x s = Unit {0}
+  Asks (Quiet until) n x s = ⊥
+  Asks (Idle due) n x s = ⊥
+  Asks (Waiting until sends o) n x s = IsOpen n s × (o.exchange ≡ x)
+  Asks (Pausing until o) n x s = IsOpen n s × (o.exchange ≡ x)
+
+  -- none is outstanding
+  abbrev pub Rests : State → ℕ → Session → Type 0
+  Rests Closed n s = Unit {0}
+  Rests (Quiet until) n s = ⊥
+  Rests (Idle due) n s = IsOpen n s
+  Rests (Waiting until sends o) n s = ⊥
+  Rests (Pausing until o) n s = ⊥
+
+  -- none was sent yet
+  abbrev pub Waits : State → Session → Type 0
+  Waits Closed s = ⊥
+  Waits (Quiet until) s = s.config ≡ fixed
+  Waits (Idle due) s = ⊥
+  Waits (Waiting until sends o) s = ⊥
+  Waits (Pausing until o) s = ⊥
+
+  abbrev pub ControllerAt : Stage → Session → Type 0
+  ControllerAt Fresh s = Waits s.state s
+  ControllerAt (Behind past x) s = Asks s.state (number_after past) x s
+  ControllerAt (Level past x r) s = Asks s.state (number_after past) x s
+  ControllerAt (Rest n x r) s = Rests s.state n s
+
+  -- what is on the line to the reader
+  abbrev pub IsFrame : Exchange → ℕ → Packet → Type 0
+  IsFrame x n p = p ≡ frame x n
+
+  abbrev pub IsOldFrame : Past → Packet → Type 0
+  IsOldFrame Start p = ⊥
+  IsOldFrame (After n x r) p = IsFrame x n p
+
+  abbrev pub ToReaderAt : Stage → List Packet → Type 0
+  ToReaderAt Fresh ps = ps ≡ []
+  ToReaderAt (Behind past x) ps = Runs (IsOldFrame past) (IsFrame x (number_after past)) ps
+  ToReaderAt (Level past x r) ps = Each (IsFrame x (number_after past)) ps
+  ToReaderAt (Rest n x r) ps = Each (IsFrame x n) ps
+
+  -- what is on the line to the controller: BUSY may stand everywhere
+  abbrev pub Says : ℕ → Reply → Packet → Type 0
+  Says n r p = (p ≡ answer 0 reply.Busy) ⊎ (p ≡ answer n r)
+
+  abbrev pub SaysOld : Past → Packet → Type 0
+  SaysOld Start p = p ≡ answer 0 reply.Busy
+  SaysOld (After n x r) p = Says n r p
+
+  abbrev pub ToControllerAt : Stage → List Packet → Type 0
+  ToControllerAt Fresh ps = ps ≡ []
+  ToControllerAt (Behind past x) ps = Each (SaysOld past) ps
+  ToControllerAt (Level past x r) ps = Runs (SaysOld past) (Says (number_after past) r) ps
+  ToControllerAt (Rest n x r) ps = Each (Says n r) ps
+
+  module _ {H : Type 0} where
+    -- what a reader keeps of the command that it acted on last
+    abbrev pub IsStored : Exchange → ℕ → Reply → ReaderState H → Type 0
+    IsStored Opening n r reader = Unit {0}
+    IsStored Polling n r reader = reader.stored ≡ Some (answer n r)
+    IsStored (Asking command) n r reader = reader.stored ≡ Some (answer n r)
+
+    pub record HasActed (n : ℕ) (x : Exchange) (r : Reply) (reader : ReaderState H) : Type 0 where
+      pub here : reader.config.address ≡ fixed.address → (reader.last ≡ Some n) × IsStored x n r reader
+      pub offer : Offers x r reader.queue
+
+    abbrev pub ReaderBehind : Past → ReaderState H → Type 0
+    ReaderBehind Start reader = Unit {0}
+    ReaderBehind (After n x r) reader = HasActed n x r reader
+
+    abbrev pub ReaderAt : Stage → ReaderState H → Type 0
+    ReaderAt Fresh reader = Unit {0}
+    ReaderAt (Behind past x) reader = ReaderBehind past reader
+    ReaderAt (Level past x r) reader = HasActed (number_after past) x r reader
+    ReaderAt (Rest n x r) reader = HasActed n x r reader
+
+    module _ (answer_of : H → Command → Answer) (after : H → Command → H) (settings : ReaderConfig) (first : H) where
+      -- what the reader answers to ID and CAP, and its handler
+      pub record Answering (taken : List Command) (reader : ReaderState H) : Type 0 where
+        pub id : reader.config.id ≡ settings.id
+        pub caps : reader.config.caps ≡ settings.caps
+        pub handler : reader.handler ≡ handler_after_commands answer_of after settings first taken
+
+      pub record Accounts (pend : List Command) (owing : List (Command × Reply)) (lost : List Command) (front new : List Event) (waiting : List Command) (events : List Event) (t : Account) : Type 0 where
+        pub issued : t.issued ≡ t.taken ++ (pend ++ waiting)
+        pub settled : t.settled ++ owing ≡ with_answers answer_of after settings first t.taken
+        pub unsettled : t.unsettled ≡ lost
+        pub told : (past : List Event) × (t.queued ≡ past ++ events) × (t.reported ≡ past ++ front)
+        pub offered : t.offered ≡ t.reported ++ new
+
+      -- all of it
+      pub record Holds (pd : PdId) (at : Stage) (l : Link H) : Type 0 where
+        pub stage : IsStage pd at
+        pub controller : ControllerAt at l.controller.session
+        pub waiting : Each MaySubmit l.controller.waiting
+        pub reader : ReaderAt at l.reader
+        pub answering : Answering l.account.taken l.reader
+        pub to_reader : ToReaderAt at l.to_reader
+        pub to_controller : ToControllerAt at l.to_controller
+        pub account : Accounts (pending_at at) (owed_at at) (given_up_at at l.controller.session.state) (shown_at at) (unreported_at at) l.controller.waiting l.reader.queue.events l.account

@@ -1,0 +1,231 @@
+-- From a link without losses over its rounds.
+use Rattle.std.proofs.Common.{◌≡◌, ◌⊎◌, ◌≤◌, ◌+◌, ◌-◌, ℕ, List, [], ◌∷◌, length, refl, sym, subst, ap, ◌∙◌, inl, inr, arith, Option, Some, None}
+use Rattle.std.proofs.Math.Nat.{min-le_left, min-le_right}
+use Rattle.std.proofs.lemmas.List.{append-nil, length-append}
+use Rattle.osdp_frame.specs.Packet.{Packet}
+use Rattle.osdp_msg.specs.declared.command.Command.{Command}
+use Rattle.osdp_msg.specs.declared.reply.Reply.TheVariants as reply
+use Rattle.osdp_controller.specs.Answers.{answer_of as said_by}
+use Rattle.osdp_controller.specs.Hearing as controller
+use Rattle.osdp_controller.specs.Hearing.{hears_in, ignores, is_from_reader}
+use Rattle.osdp_controller.specs.Sessions.{seen}
+use Rattle.osdp_controller.specs.Ticking.{ticks}
+use Rattle.osdp_controller.specs.declared.config.ControllerConfig.{ControllerConfig}
+use Rattle.osdp_controller.specs.declared.exchange.Exchange.{Exchange}
+use Rattle.osdp_controller.specs.declared.report.Report.{Report}
+use Rattle.osdp_controller.specs.declared.report.Report.TheVariants as report
+use Rattle.osdp_controller.specs.declared.session.Session.{Session}
+use Rattle.osdp_controller.specs.declared.state.State.{State}
+use Rattle.osdp_controller.specs.declared.state.State.TheVariants.{Closed, Quiet, Idle, Waiting, Pausing}
+use Rattle.osdp_reader.specs.declared.config.ReaderConfig.{ReaderConfig}
+use Rattle.osdp_reader.specs.declared.handler.Answer.{Answer}
+use Rattle.osdp_reader.specs.Table.{hears, kind_of}
+use Rattle.osdp_link_laws.specs.Headline.{AreMoves, Begins, SaysWhatFits, handler_after}
+use Rattle.osdp_link_laws.specs.Link as link
+use Rattle.osdp_link_laws.specs.Link.{Account, Delivered, Link, Move, Tick, ToController, ToReader, after_move, run, told}
+use Rattle.osdp_link_laws.specs.Progress.{AreDue, ComeOn, IsClear, SetsNoAddress, round, rounds}
+use Rattle.osdp_link_laws.proofs.Advancing.{HoldsAtSomeStage}
+use Rattle.osdp_link_laws.proofs.Due.{Acts, closed_rests, due_sends}
+use Rattle.osdp_link_laws.proofs.Growing.{Grows, goes_on, taken_takes}
+use Rattle.osdp_link_laws.proofs.InARow.{Assumed, begins, running}
+use Rattle.osdp_link_laws.proofs.Lines.{both, each_of}
+use Rattle.osdp_link_laws.proofs.Moves.{Premises}
+use Rattle.osdp_link_laws.proofs.Once.{moving}
+use Rattle.osdp_link_laws.proofs.Parts.{At}
+use Rattle.osdp_link_laws.proofs.Round.{IsIdle, IsStill, at_tick, goes, has_come}
+use Rattle.osdp_link_laws.proofs.Rounds.{all_of, counted, idle_round}
+use Rattle.osdp_link_laws.proofs.Stages.{Asks, Behind, Fresh, Level, Rest, Rests, Stage, Waits, number_after}
+
+module _ (fixed : ControllerConfig) where
+  waits_config : (state : State) (s : Session) → Waits fixed state s → s.config ≡ fixed
+  waits_config Closed s waits = absurd waits
+  waits_config (Quiet until) s waits = waits
+  waits_config (Idle due) s waits = absurd waits
+  waits_config (Waiting until k o) s waits = absurd waits
+  waits_config (Pausing until o) s waits = absurd waits
+
+  asks_config : (state : State) (n : ℕ) (x : Exchange) (s : Session) → (state ≡ Closed → ⊥) → Asks fixed state n x s → s.config ≡ fixed
+  asks_config Closed n x s not asks = absurd (not refl)
+  asks_config (Quiet until) n x s not asks = absurd asks
+  asks_config (Idle due) n x s not asks = absurd asks
+  asks_config (Waiting until k o) n x s not asks = asks.0.0
+  asks_config (Pausing until o) n x s not asks = asks.0.0
+
+  rests_config : (state : State) (n : ℕ) (s : Session) → (state ≡ Closed → ⊥) → Rests fixed state n s → s.config ≡ fixed
+  rests_config Closed n s not rests = absurd (not refl)
+  rests_config (Quiet until) n s not rests = absurd rests
+  rests_config (Idle due) n s not rests = rests.0
+  rests_config (Waiting until k o) n s not rests = absurd rests
+  rests_config (Pausing until o) n s not rests = absurd rests
+
+module _ {H : Type 0} (answer_of : H → Command → Answer) (after : H → Command → H) where
+  -- what has ended stays so
+  pub to_reader_closed : (ps : List Packet) (l : Link H) → l.controller.session.state ≡ Closed
+      → (link.to_reader answer_of after ps Delivered l).controller.session.state ≡ Closed
+  to_reader_closed [] l closed = closed
+  to_reader_closed (p ∷ ps) l closed = closed
+
+  pub to_controller_closed : (qs : List Packet) (now : ℕ) (l : Link H) → l.controller.session.state ≡ Closed
+      → (link.to_controller qs Delivered now l).controller.session.state ≡ Closed
+  to_controller_closed [] now l closed = closed
+  to_controller_closed (q ∷ qs) now l closed =
+      let s = l.controller.session in
+      both (λ heard. heard.session.state ≡ Closed) (is_from_reader q s) (hears_in s.state q.sequence (said_by q) (seen now s)) (ignores (seen now s))
+      (subst (λ state. (hears_in state q.sequence (said_by q) (seen now s)).session.state ≡ Closed) (sym closed) closed) closed
+
+module _ (fixed : ControllerConfig) {H : Type 0} (answer_of : H → Command → Answer) (after : H → Command → H) (settings : ReaderConfig) (first : H) where
+  -- a session that has not ended has the settings that it began with
+  config_is : (at : Stage) (l : Link H) → At fixed answer_of after settings first at l → (l.controller.session.state ≡ Closed → ⊥)
+      → l.controller.session.config ≡ fixed
+  config_is Fresh l h not = waits_config fixed l.controller.session.state l.controller.session h.controller
+  config_is (Behind past x) l h not = asks_config fixed l.controller.session.state (number_after past) x l.controller.session not h.controller
+  config_is (Level past x a) l h not = asks_config fixed l.controller.session.state (number_after past) x l.controller.session not h.controller
+  config_is (Rest n x a) l h not = rests_config fixed l.controller.session.state n l.controller.session not h.controller
+
+  closed_after : (now : ℕ) (l : Link H) → (at_tick now l).controller.session.state ≡ Closed → (goes answer_of after now l).controller.session.state ≡ Closed
+  closed_after now l closed =
+      let m = link.to_reader answer_of after (at_tick now l).to_reader Delivered (at_tick now l) in
+      to_controller_closed answer_of after m.to_controller now m (to_reader_closed answer_of after (at_tick now l).to_reader (at_tick now l) closed)
+
+  abbrev Given : Type 0
+  Given = Premises fixed answer_of after settings first
+
+  abbrev Holds : Link H → Type 0
+  Holds l = HoldsAtSomeStage fixed answer_of after settings first l
+
+  pub held_after : Given → (now : ℕ) (l : Link H) → SaysWhatFits answer_of after (at_tick now l).to_reader l.reader → Holds l → Holds (goes answer_of after now l)
+  held_after given now l fits held =
+      let m = link.to_reader answer_of after (at_tick now l).to_reader Delivered (at_tick now l) in
+      moving fixed answer_of after settings first given (ToController Delivered now) m tt tt
+      (moving fixed answer_of after settings first given (ToReader Delivered) (at_tick now l) tt fits
+      (moving fixed answer_of after settings first given (Tick now) l tt tt held))
+
+  -- the first round: the controller comes to rest, or the session ends
+  first_round : Given → (now : ℕ) (l : Link H) → Holds l → IsStill fixed answer_of after settings first l
+      → Acts (ticks now l.controller.session l.controller.waiting) → SaysWhatFits answer_of after (at_tick now l).to_reader l.reader
+      → ((goes answer_of after now l).controller.session.state ≡ Closed) ⊎ IsIdle fixed answer_of after settings first (goes answer_of after now l)
+  first_round given now l held still does fits =
+      let there = moving fixed answer_of after settings first given (Tick now) l tt tt held in
+      elim (due_sends now l.controller.session l.controller.waiting does) [
+        | inl closed ↦ inl (closed_after now l closed)
+        | inr (x, sends) ↦ inr (has_come fixed answer_of after settings first given now x there.0 l still sends there.1 fits).idle
+      ]
+
+  same_length : (t u : Account) → Grows [] [] t u → all_of u ≡ all_of t
+  same_length t u grows =
+      let issued = ap length (grows.issued ∙ append-nil t.issued) in
+      let queued = ap length (grows.queued ∙ append-nil t.queued) in
+      omega (arith, issued, queued)
+
+  all_same : (now : ℕ) (l : Link H) → all_of (goes answer_of after now l).account ≡ all_of l.account
+  all_same now l =
+      let m = link.to_reader answer_of after (at_tick now l).to_reader Delivered (at_tick now l) in
+      same_length m.account (goes answer_of after now l).account (goes_on answer_of after (ToController Delivered now) m tt).0
+      ∙ same_length (at_tick now l).account m.account (goes_on answer_of after (ToReader Delivered) (at_tick now l) tt).0
+      ∙ same_length l.account (at_tick now l).account (goes_on answer_of after (Tick now) l tt).0
+
+  -- no report makes what is settled and reported less
+  told_more : (r : Option Report) (u : Account) → counted u ≤ counted (told r u)
+  told_more None u = omega arith
+  told_more (Some (report.Opened id)) u = omega arith
+  told_more (Some (report.Settled c a)) u = omega (arith, length-append u.settled ((c, a) ∷ []))
+  told_more (Some (report.Moved c a)) u = omega (arith, length-append u.settled ((c, reply.Com a) ∷ []))
+  told_more (Some (report.Event e)) u = omega (arith, length-append u.reported (e ∷ []))
+  told_more (Some (report.PollAnswered a)) u = omega arith
+  told_more (Some (report.Unread c code)) u = omega arith
+  told_more (Some (report.Lost cause c)) u = omega arith
+
+  to_reader_more : (ps : List Packet) (l : Link H) → counted l.account ≤ counted (link.to_reader answer_of after ps Delivered l).account
+  to_reader_more [] l = omega arith
+  to_reader_more (p ∷ ps) l =
+      let is = (taken_takes (kind_of l.reader p) (hears answer_of after l.reader p).command (link.front_of l.reader) l.account).1 in
+      omega (arith, ap counted is)
+
+  to_controller_more : (qs : List Packet) (now : ℕ) (l : Link H) → counted l.account ≤ counted (link.to_controller qs Delivered now l).account
+  to_controller_more [] now l = omega arith
+  to_controller_more (q ∷ qs) now l = told_more (controller.hears q now l.controller.session).report l.account
+
+  goes_more : (now : ℕ) (l : Link H) → counted l.account ≤ counted (goes answer_of after now l).account
+  goes_more now l =
+      let m = link.to_reader answer_of after (at_tick now l).to_reader Delivered (at_tick now l) in
+      let tick = told_more (ticks now l.controller.session l.controller.waiting).step.report l.account in
+      omega (arith, tick, to_reader_more (at_tick now l).to_reader (at_tick now l), to_controller_more m.to_controller now m)
+
+  -- one more with each round, until it is all
+  abbrev Through : List ℕ → Link H → Link H → Type 0
+  Through moments l m =
+      ((counted l.account + length moments ≤ counted m.account) ⊎ (all_of l.account ≤ counted m.account)) × (all_of m.account ≡ all_of l.account)
+
+  through : Given → (moments : List ℕ) (l : Link H) → Holds l → IsIdle fixed answer_of after settings first l → AreDue answer_of after moments l
+      → AreMoves answer_of after (rounds moments) l → Through moments l (run answer_of after (rounds moments) l)
+  through given [] l held idle due fits = (inl (omega arith), refl)
+  through given (now ∷ later) l held idle due fits =
+      let afterwards = held_after given now l fits.1.0 held in
+      let one = idle_round fixed answer_of after settings first given now l held idle due.0 fits.1.0 afterwards in
+      let more = through given later (goes answer_of after now l) afterwards one.0 due.1 fits.1.1.1 in
+      let same = all_same now l in (
+        elim one.1 [
+          | inl first ↦ elim more.0 [
+            | inl far ↦ inl (omega (arith, first, far))
+            | inr all ↦ inr (omega (arith, same, all))
+          ]
+          | inr done ↦ elim more.0 [
+            | inl far ↦ inr (omega (arith, same, done, far))
+            | inr all ↦ inr (omega (arith, same, all))
+          ]
+        ],
+        more.1 ∙ same,
+      )
+
+  at_least : (moments : List ℕ) (now : ℕ) (before : Account) (l m : Link H) → counted before ≤ counted l.account → Through moments l m
+      → ComeOn (now ∷ moments) before m.account
+  at_least moments now before l m more (far, same) =
+      let few = min-le_left (counted before + (length (now ∷ moments) - 1)) (all_of m.account) in
+      let all = min-le_right (counted before + (length (now ∷ moments) - 1)) (all_of m.account) in
+      elim far [
+        | inl one ↦ omega (arith, one, few, more)
+        | inr done ↦ omega (arith, done, same, all)
+      ]
+
+module _ {H : Type 0} (answer_of : H → Command → Answer) (after : H → Command → H) where
+  -- once a session has ended no more tick is due, so there was one round
+  ended : (now : ℕ) (later : List ℕ) (before : Account) (m : Link H) → m.controller.session.state ≡ Closed → AreDue answer_of after later m
+      → counted before ≤ counted m.account → ComeOn (now ∷ later) before (run answer_of after (rounds later) m).account
+  ended now [] before m closed due more =
+      let few = min-le_left (counted before + (length (now ∷ []) - 1)) (all_of m.account) in
+      omega (arith, few, more)
+  ended now (next ∷ later) before m closed due more =
+      absurd (closed_rests m.controller.session.state (seen next m.controller.session) m.controller.waiting closed due.0)
+
+  pub comes_through : (l : Link H) (moves : List Move) (moments : List ℕ) → Assumed answer_of after l.reader.config l.reader.handler
+      → Begins l → AreMoves answer_of after moves l
+      → let afterwards = run answer_of after moves l in
+      IsClear afterwards → AreDue answer_of after moments afterwards → AreMoves answer_of after (rounds moments) afterwards
+      → ComeOn moments afterwards.account (run answer_of after (rounds moments) afterwards).account
+  comes_through l moves [] given b fits clear due more =
+      let t = (run answer_of after moves l).account in
+      let few = min-le_left (counted t + (length {A = ℕ} [] - 1)) (all_of t) in
+      omega (arith, few)
+  comes_through l moves (now ∷ later) given b fits clear due more =
+      let config = l.reader.config in
+      let afterwards = run answer_of after moves l in
+      let s = running answer_of after config l.reader.handler given moves l fits (begins answer_of after l b) in
+      let handler = handler_after answer_of after config l.reader.handler afterwards.earlier in
+      let session = afterwards.controller.session in
+      let same = config_is s.fixed answer_of after config handler s.holds.0 afterwards s.holds.1
+      (λ closed. closed_rests session.state (seen now session) afterwards.controller.waiting closed due.0) in
+      let still : IsStill s.fixed answer_of after config handler afterwards = record {
+        to_reader = clear.to_reader;
+        to_controller = clear.to_controller;
+        ready = record { here = clear.address ∙ ap (λ c. c.address) same; ready = clear.ready };
+        issued = each_of SetsNoAddress afterwards.account.issued clear.issued;
+      } in
+      let all = given s.fixed handler s.device in
+      let first = run answer_of after (round now) afterwards in
+      let held = held_after s.fixed answer_of after config handler all now afterwards more.1.0 s.holds in
+      let more_first = goes_more s.fixed answer_of after config handler now afterwards in
+      elim (first_round s.fixed answer_of after config handler all now afterwards s.holds still due.0 more.1.0) [
+        | inl closed ↦ ended now later afterwards.account first closed due.1 more_first
+        | inr idle ↦ at_least s.fixed answer_of after config handler later now afterwards.account first (run answer_of after (rounds later) first) more_first
+            (through s.fixed answer_of after config handler all later first held idle due.1 more.1.1.1)
+      ]

@@ -1,0 +1,47 @@
+-- Without losses: which commands are settled, and which events are reported.
+use Rattle.std.specs.Prelude.{◌≡◌, ◌≤◌, ℕ, ◌-◌, false, All, IfSome, List, [], ◌∷◌, length, take}
+use Rattle.osdp_msg.specs.declared.command.Command.{Command}
+use Rattle.osdp_controller.specs.Sessions.{later as later_by}
+use Rattle.osdp_controller.specs.States.{is_closed, moment_of}
+use Rattle.osdp_reader.specs.declared.config.ReaderConfig.{ReaderConfig}
+use Rattle.osdp_reader.specs.declared.handler.Answer.{Answer}
+use Rattle.osdp_link_laws.specs.Headline.{AreMoves, Begins, with_answers}
+use Rattle.osdp_link_laws.specs.Link.{Account, Link, Move, Queue, Reopen, SetBusy, Submit, Tick, ToController, ToReader, run}
+use Rattle.osdp_link_laws.specs.Progress.{SetsNoAddress, round, rounds}
+
+-- a command that is submitted, or an event that is queued
+abbrev pub IsOrder : Move → Type 0
+IsOrder (Submit command) = Unit {0}
+IsOrder (Queue event) = Unit {0}
+IsOrder (SetBusy busy) = ⊥
+IsOrder (Tick now) = ⊥
+IsOrder (ToReader how) = ⊥
+IsOrder (ToController how now) = ⊥
+IsOrder (Reopen now) = ⊥
+
+module _ {H : Type 0} (answer_of : H → Command → Answer) (after : H → Command → H) where
+  -- each of so many rounds settles a command, the oldest first, with the reader's answer to it after those before it; once all are
+  -- settled each round reports an event, the oldest first
+  pub record IsInTurn (config : ReaderConfig) (handler : H) (n : ℕ) (t : Account) : Type 0 where
+    pub taken : t.taken ≡ take n t.issued
+    pub settled : t.settled ≡ with_answers answer_of after config handler (take n t.issued)
+    pub reported : t.reported ≡ take (n - length t.settled) t.queued
+    pub unsettled : t.unsettled ≡ []
+
+  -- each tick comes so much later than the greatest moment seen
+  abbrev pub AreSpaced : ℕ → List ℕ → Link H → Type 0
+  AreSpaced wait [] l = Unit {0}
+  AreSpaced wait (now ∷ later) l = (later_by wait l.controller.session ≤ now) × AreSpaced wait later (run answer_of after (round now) l)
+
+  -- a first session, at a reader at the controller's address that isn't busy: whatever was submitted and queued, the opening round and n
+  -- more, each as late as the poll's interval asks, settle and report in turn, and the session lasts
+  abbrev pub GoesInTurn : Type 0
+  GoesInTurn = (l : Link H) (orders : List Move) (opening wait : ℕ) (moments : List ℕ) → Begins l → All IsOrder orders
+      → AreMoves answer_of after orders l
+      → l.reader.config.address ≡ l.controller.session.config.address → l.reader.busy ≡ false
+      → IfSome (moment_of l.controller.session.state) (λ quiet. quiet ≤ opening) → l.controller.session.config.poll_interval ≤ wait
+      → let before = run answer_of after orders l in
+      All SetsNoAddress before.account.issued
+      → AreSpaced wait moments (run answer_of after (round opening) before) → AreMoves answer_of after (rounds (opening ∷ moments)) before
+      → let last = run answer_of after (rounds (opening ∷ moments)) before in
+      IsInTurn l.reader.config l.reader.handler (length moments) last.account × (is_closed last.controller.session.state ≡ false)

@@ -1,0 +1,31 @@
+-- Each session ends once at most, and the next begins only then.
+use Rattle.std.specs.Prelude.{◌≡◌, ℕ, ◌+◌, Bool, true, false, List, [], ◌∷◌, length, Some}
+use Rattle.osdp_msg.specs.declared.command.Command.{Command}
+use Rattle.osdp_controller.specs.States.{is_closed}
+use Rattle.osdp_controller.specs.declared.report.Report.{Report}
+use Rattle.osdp_controller.specs.declared.state.State.{State}
+use Rattle.osdp_controller_laws.specs.Commands.{tells_end}
+use Rattle.osdp_reader.specs.declared.handler.Answer.{Answer}
+use Rattle.osdp_link_laws.specs.Headline.{Begins}
+use Rattle.osdp_link_laws.specs.Link.{Link, Move, run}
+use Rattle.osdp_link_laws.specs.Refusals.{reports}
+
+abbrev pub count : Bool → ℕ
+count true = 1
+count false = 0
+
+-- how many of these reports tell that a session has ended
+abbrev pub ends_in : List Report → ℕ
+ends_in [] = 0
+ends_in (r ∷ rs) = count (tells_end (Some r)) + ends_in rs
+
+-- a session that lasts
+abbrev pub lasting : Bool → ℕ
+lasting true = 0
+lasting false = 1
+
+-- as many ends are told as sessions have begun, but for the last one while it lasts
+abbrev pub EndOnce : {H : Type 0} → (H → Command → Answer) → (H → Command → H) → Type 0
+EndOnce {H} answer_of after = (l : Link H) (moves : List Move) → Begins l
+    → let last = run answer_of after moves l in
+    ends_in (reports answer_of after moves l) + lasting (is_closed last.controller.session.state) ≡ length last.earlier + 1

@@ -1,0 +1,166 @@
+-- One link: a controller, a reader, and the packets that are on the way between them.
+use Rattle.std.specs.Prelude.{ℕ, Bool, true, false, ◌==◌, List, [], ◌∷◌, ◌++◌, length, take, Option, Some, None, option_to_list}
+use Rattle.osdp_frame.specs.Packet.{Packet}
+use Rattle.osdp_msg.specs.declared.command.Command.{Command}
+use Rattle.osdp_msg.specs.declared.command.Command.TheVariants.{Poll}
+use Rattle.osdp_msg.specs.declared.event.Event.{Event}
+use Rattle.osdp_msg.specs.declared.reply.Reply.{Reply}
+use Rattle.osdp_msg.specs.declared.reply.Reply.TheVariants as reply
+use Rattle.osdp_controller.specs.declared.fault.ControllerFault.{ControllerFault}
+use Rattle.osdp_controller.specs.declared.report.Report.{Report}
+use Rattle.osdp_controller.specs.declared.report.Report.TheVariants as report
+use Rattle.osdp_controller.specs.Hearing as controller
+use Rattle.osdp_controller.specs.Machine as controllers
+use Rattle.osdp_controller.specs.Machine.{Machine}
+use Rattle.osdp_controller.specs.Ticking.{Ticked, ticks}
+use Rattle.osdp_reader.specs.declared.handler.Answer.{Answer}
+use Rattle.osdp_reader.specs.declared.kind.Kind.{Kind}
+use Rattle.osdp_reader.specs.declared.kind.Kind.TheVariants as kind
+use Rattle.osdp_reader.specs.Queue.{released}
+use Rattle.osdp_reader.specs.State as readers
+use Rattle.osdp_reader.specs.State.{ReaderState}
+use Rattle.osdp_reader.specs.Table as reader
+
+-- what a session comes to: the commands that waited when it began and those accepted since, the events likewise, the commands
+-- other than POLL that the reader has taken, those settled, each with its answer, those told unsettled, the events that the reader has
+-- offered, and those reported
+pub record Account : Type 0 where
+  pub issued : List Command
+  pub queued : List Event
+  pub taken : List Command
+  pub settled : List (Command × Reply)
+  pub unsettled : List Command
+  pub offered : List Event
+  pub reported : List Event
+
+abbrev pub new_account : List Command → List Event → Account
+new_account waiting events =
+    record { issued = waiting; queued = events; taken = []; settled = []; unsettled = []; offered = []; reported = [] }
+
+-- both ends, what either has sent and the other has not had yet, the oldest first, the account of the session, and those of the
+-- sessions before it, the last of them first
+pub record Link (H : Type 0) : Type 0 where
+  pub controller : Machine
+  pub reader : ReaderState H
+  pub to_reader : List Packet
+  pub to_controller : List Packet
+  pub account : Account
+  pub earlier : List Account
+
+-- what the line does with the packet in front: it comes through, is lost, or comes through and will come again. Damage that is
+-- detected is a loss.
+pub data Delivery : Type 0 where
+  Delivered : Delivery
+  Lost : Delivery
+  Repeated : Delivery
+
+-- what may happen to a link, at any moment: the last is a session that begins again
+pub data Move : Type 0 where
+  Submit : Command → Move
+  Queue : Event → Move
+  SetBusy : Bool → Move
+  Tick : ℕ → Move
+  ToReader : Delivery → Move
+  ToController : Delivery → ℕ → Move
+  Reopen : ℕ → Move
+
+-- the account after a report: a COMSET that moves the reader is settled by its COM
+abbrev pub told : Option Report → Account → Account
+told None t = t
+told (Some (report.Opened id)) t = t
+told (Some (report.Settled command answer)) t = record t { settled = t.settled ++ (command, answer) ∷ [] }
+told (Some (report.Moved command answered)) t = record t { settled = t.settled ++ (command, reply.Com answered) ∷ [] }
+told (Some (report.Event event)) t = record t { reported = t.reported ++ event ∷ [] }
+told (Some (report.PollAnswered answer)) t = t
+told (Some (report.Unread command code)) t = t
+told (Some (report.Lost cause command)) t = record t { unsettled = t.unsettled ++ option_to_list command }
+
+-- .. and after a command with a number that is taken: a POLL offers the event in front, if there is one
+abbrev pub taken_command : Command → List Event → Account → Account
+taken_command Poll front t = record t { offered = t.offered ++ front }
+taken_command command front t = record t { taken = t.taken ++ command ∷ [] }
+
+abbrev pub taken : Kind → Option Command → List Event → Account → Account
+taken kind.Taken (Some command) front t = taken_command command front t
+taken _ _ front t = t
+
+module _ {H : Type 0} where
+  -- the event that comes next, once an offered one has left
+  abbrev pub front_of : ReaderState H → List Event
+  front_of r = take 1 (released r.queue).events
+
+  abbrev pub submits : Option ControllerFault → Command → Link H → Link H
+  submits (Some fault) command l = l
+  submits None command l = record l {
+    controller = controllers.after_submit command l.controller;
+    account = record l.account { issued = l.account.issued ++ command ∷ [] };
+  }
+
+  abbrev pub queues : Bool → Event → Link H → Link H
+  queues true event l = l
+  queues false event l = record l {
+    reader = readers.after_submit event l.reader;
+    account = record l.account { queued = l.account.queued ++ event ∷ [] };
+  }
+
+  -- the controller's frame goes after those that are on the way
+  abbrev pub ticked : Ticked → Link H → Link H
+  ticked t l = record l {
+    controller = record l.controller { session = t.session; waiting = t.waiting };
+    to_reader = l.to_reader ++ option_to_list t.step.frame;
+    account = told t.step.report l.account;
+  }
+
+  abbrev pub controller_gets : Packet → ℕ → Link H → Link H
+  controller_gets p now l =
+      let heard = controller.hears p now l.controller.session in
+      record l {
+        controller = record l.controller { session = heard.session };
+        account = told heard.report l.account;
+      }
+
+  -- a session begins again where nothing is on the line and the controller is closed; else nothing happens
+  abbrev pub reopens : Option ControllerFault → List Packet → List Packet → ℕ → Link H → Link H
+  reopens None [] [] now l = record l {
+    controller = controllers.after_begin now l.controller;
+    account = new_account l.controller.waiting l.reader.queue.events;
+    earlier = l.account ∷ l.earlier;
+  }
+  reopens _ _ _ now l = l
+
+  abbrev pub to_controller : List Packet → Delivery → ℕ → Link H → Link H
+  to_controller [] how now l = l
+  to_controller (p ∷ rest) Delivered now l = controller_gets p now (record l { to_controller = rest })
+  to_controller (p ∷ rest) Lost now l = record l { to_controller = rest }
+  to_controller (p ∷ rest) Repeated now l = controller_gets p now l
+
+  module _ (answer_of : H → Command → Answer) (after : H → Command → H) where
+    -- the reader's answer goes after those that are on the way
+    abbrev pub reader_gets : Packet → Link H → Link H
+    reader_gets p l =
+        let outcome = reader.hears answer_of after l.reader p in
+        record l {
+          reader = outcome.reader;
+          to_controller = l.to_controller ++ option_to_list outcome.reply;
+          account = taken (reader.kind_of l.reader p) outcome.command (front_of l.reader) l.account;
+        }
+
+    abbrev pub to_reader : List Packet → Delivery → Link H → Link H
+    to_reader [] how l = l
+    to_reader (p ∷ rest) Delivered l = reader_gets p (record l { to_reader = rest })
+    to_reader (p ∷ rest) Lost l = record l { to_reader = rest }
+    to_reader (p ∷ rest) Repeated l = reader_gets p l
+
+    abbrev pub after_move : Move → Link H → Link H
+    after_move (Submit command) l = submits (controllers.submit_refusal command l.controller) command l
+    after_move (Queue event) l = queues (length l.reader.queue.events == l.reader.queue.capacity) event l
+    after_move (SetBusy busy) l = record l { reader = readers.after_set_busy busy l.reader }
+    after_move (Tick now) l = ticked (ticks now l.controller.session l.controller.waiting) l
+    after_move (ToReader how) l = to_reader l.to_reader how l
+    after_move (ToController how now) l = to_controller l.to_controller how now l
+    after_move (Reopen now) l = reopens (controllers.begin_refusal l.controller) l.to_reader l.to_controller now l
+
+    -- the link after a list of moves
+    abbrev pub run : List Move → Link H → Link H
+    run [] l = l
+    run (move ∷ moves) l = run moves (after_move move l)

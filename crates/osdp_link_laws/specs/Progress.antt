@@ -1,0 +1,70 @@
+-- Something comes through: after m rounds that lose nothing m - 1 more commands and events, or all of them, are settled and reported.
+use Rattle.std.specs.Prelude.{◌≡◌, ◌⊎◌, ◌≤◌, ℕ, ◌+◌, ◌-◌, min, true, false, All, List, [], ◌∷◌, ◌++◌, length, None}
+use Rattle.osdp_msg.specs.declared.command.Command.{Command}
+use Rattle.osdp_controller.specs.Hearing.{comset_of}
+use Rattle.osdp_controller.specs.Machine.{is_due}
+use Rattle.osdp_controller.specs.Sessions.{later as later_by}
+use Rattle.osdp_controller.specs.declared.state.State.TheVariants.{Closed}
+use Rattle.osdp_controller_laws.specs.Calls.{IsInRange, longest_wait}
+use Rattle.osdp_reader.specs.declared.handler.Answer.{Answer}
+use Rattle.osdp_reader.specs.Table.{new_address}
+use Rattle.osdp_link_laws.specs.Headline.{AreMoves, Begins}
+use Rattle.osdp_link_laws.specs.Link.{Account, Delivered, Link, Move, Tick, ToController, ToReader, run}
+
+-- a round that loses nothing: a tick, then the packet to the reader, then the one to the controller
+abbrev pub round : ℕ → List Move
+round now = Tick now ∷ ToReader Delivered ∷ ToController Delivered now ∷ []
+
+abbrev pub rounds : List ℕ → List Move
+rounds [] = []
+rounds (now ∷ later) = round now ++ rounds later
+
+-- no COMSET, to whatever address
+abbrev pub NoComset : Command → Type 0
+NoComset command = comset_of command ≡ None
+
+-- no COMSET to a device's address: a reader refuses any other, and stays where it is
+abbrev pub SetsNoAddress : Command → Type 0
+SetsNoAddress command = new_address command ≡ None
+
+-- after so many rounds as many more commands and events but one are settled and reported, or all are
+abbrev pub ComeOn : List ℕ → Account → Account → Type 0
+ComeOn moments before t =
+    min (length before.settled + length before.reported + (length moments - 1)) (length t.issued + length t.queued)
+    ≤ length t.settled + length t.reported
+
+module _ {H : Type 0} where
+  -- nothing is on the line, both ends are at one address, the reader isn't busy, and no COMSET to a device's address was issued
+  pub record IsClear (l : Link H) : Type 0 where
+    pub to_reader : l.to_reader ≡ []
+    pub to_controller : l.to_controller ≡ []
+    pub address : l.reader.config.address ≡ l.controller.session.config.address
+    pub ready : l.reader.busy ≡ false
+    pub issued : All SetsNoAddress l.account.issued
+
+  module _ (answer_of : H → Command → Answer) (after : H → Command → H) where
+    -- each tick is due when it comes: none is where the session has ended
+    abbrev pub AreDue : List ℕ → Link H → Type 0
+    AreDue [] l = Unit {0}
+    AreDue (now ∷ later) l = (is_due now l.controller ≡ true) × AreDue later (run answer_of after (round now) l)
+
+    abbrev pub ComesThrough : Type 0
+    ComesThrough = (l : Link H) (moves : List Move) (moments : List ℕ) → Begins l → AreMoves answer_of after moves l
+        → let later = run answer_of after moves l in
+        IsClear later → AreDue moments later → AreMoves answer_of after (rounds moments) later
+        → ComeOn moments later.account (run answer_of after (rounds moments) later).account
+
+    -- each tick comes so much later than the greatest moment seen as the longest of the controller's waits
+    abbrev pub AreLate : List ℕ → Link H → Type 0
+    AreLate [] l = Unit {0}
+    AreLate (now ∷ later) l =
+        (later_by (longest_wait l.controller.session.config) l.controller.session ≤ now) × AreLate later (run answer_of after (round now) l)
+
+    -- then the session has ended, or the same comes through
+    abbrev pub ComesThroughInTime : Type 0
+    ComesThroughInTime = (l : Link H) (moves : List Move) (moments : List ℕ) → Begins l → IsInRange l.controller.session
+        → AreMoves answer_of after moves l
+        → let later = run answer_of after moves l in
+        IsClear later → AreLate moments later → AreMoves answer_of after (rounds moments) later
+        → let last = run answer_of after (rounds moments) later in
+        (last.controller.session.state ≡ Closed) ⊎ ComeOn moments later.account last.account

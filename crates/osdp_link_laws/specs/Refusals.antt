@@ -1,0 +1,43 @@
+-- What the controller's user is told over a run, and that no session ends by a refused number.
+use Rattle.std.specs.Prelude.{ℕ, All, List, [], ◌∷◌, ◌++◌, Option, None, option_to_list}
+use Rattle.osdp_frame.specs.Packet.{Packet}
+use Rattle.osdp_msg.specs.declared.command.Command.{Command}
+use Rattle.osdp_controller.specs.Hearing.{hears}
+use Rattle.osdp_controller.specs.Ticking.{ticks}
+use Rattle.osdp_controller.specs.declared.report.LostCause.{LostCause}
+use Rattle.osdp_controller.specs.declared.report.LostCause.TheVariants.{NoReply, TooBusy, NumberRefused}
+use Rattle.osdp_controller.specs.declared.report.Report.{Report}
+use Rattle.osdp_controller.specs.declared.report.Report.TheVariants as report
+use Rattle.osdp_controller.specs.declared.session.Session.{Session}
+use Rattle.osdp_reader.specs.declared.handler.Answer.{Answer}
+use Rattle.osdp_link_laws.specs.Headline.{AreMoves, Begins}
+use Rattle.osdp_link_laws.specs.Link.{Delivered, Delivery, Link, Move, Repeated, Tick, ToController, after_move}
+
+-- what is told where the packet in front comes through
+abbrev pub told_by_front : Delivery → List Packet → ℕ → Session → Option Report
+told_by_front Delivered (p ∷ rest) now s = (hears p now s).report
+told_by_front Repeated (p ∷ rest) now s = (hears p now s).report
+told_by_front _ _ now s = None
+
+abbrev pub IsOtherCause : LostCause → Type 0
+IsOtherCause NumberRefused = ⊥
+IsOtherCause NoReply = Unit {0}
+IsOtherCause TooBusy = Unit {0}
+
+abbrev pub IsNoRefusal : Report → Type 0
+IsNoRefusal (report.Lost cause command) = IsOtherCause cause
+IsNoRefusal _ = Unit {0}
+
+module _ {H : Type 0} where
+  abbrev pub told_by : Move → Link H → Option Report
+  told_by (Tick now) l = (ticks now l.controller.session l.controller.waiting).step.report
+  told_by (ToController how now) l = told_by_front how l.to_controller now l.controller.session
+  told_by _ l = None
+
+  module _ (answer_of : H → Command → Answer) (after : H → Command → H) where
+    abbrev pub reports : List Move → Link H → List Report
+    reports [] l = []
+    reports (move ∷ moves) l = option_to_list (told_by move l) ++ reports moves (after_move answer_of after move l)
+
+    abbrev pub RefusesNoNumber : Type 0
+    RefusesNoNumber = (l : Link H) (moves : List Move) → Begins l → AreMoves answer_of after moves l → All IsNoRefusal (reports moves l)

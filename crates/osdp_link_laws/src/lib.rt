@@ -1,0 +1,140 @@
+//! The theory of one link: a controller, a reader, and the two directions of the line between them. The functions do nothing:
+//! their contracts are laws.
+#![tactic(auto)]
+
+ghost use Rattle.osdp_link_laws.specs.Peers.{ReadEachOther, ReadsWhatIsAsked, ReadsWhatIsAnswered, TakesPlainReplies, TellsItsEvent};
+ghost use Rattle.osdp_link_laws.specs.Headline.{HoldsOnce, SaysAllPlainly};
+ghost use Rattle.osdp_link_laws.specs.Addresses.{StayWhereTheyAre};
+ghost use Rattle.osdp_link_laws.specs.Progress.{ComesThrough, ComesThroughInTime};
+ghost use Rattle.osdp_link_laws.specs.Clean.{GoesInTurn};
+ghost use Rattle.osdp_link_laws.specs.Refusals.{RefusesNoNumber};
+ghost use Rattle.osdp_link_laws.specs.Sessions.{CommandsHavePlaces, EventsHavePlaces, LastOneLasts, StayInARow};
+ghost use Rattle.osdp_link_laws.specs.TwoLists.{IsReadOff, KeepsInStep, MovesInStep, OffersOnce};
+
+pub mod ends;
+pub mod names;
+
+use osdp_reader::Handler;
+
+/// A reader reads, of the frame of an exchange, the command that the exchange asks.
+pub fn reads_what_is_asked()
+    ensures { ReadsWhatIsAsked }
+{
+    osdp_msg_laws::command_of_reads_the_table();
+    osdp_msg_laws::commands_fit_a_packet();
+}
+
+/// A controller reads, of the packet of a reply, that reply.
+pub fn reads_what_is_answered()
+    ensures { ReadsWhatIsAnswered }
+{
+    osdp_msg_laws::reply_of_reads_the_table();
+    osdp_msg_laws::replies_fit_a_packet();
+}
+
+/// A reply that is neither BUSY nor NAK 1 or 4 is heard as a plain answer, and one that tells an event is read as that event.
+pub fn takes_plain_replies()
+    ensures plain { TakesPlainReplies }
+    ensures event { TellsItsEvent }
+{}
+
+/// Both ends read what the other one says, and the reader's answers settle.
+pub fn read_each_other<H: Handler>()
+    ensures { ReadEachOther H.answer_of H.after }
+{
+    reads_what_is_asked();
+    reads_what_is_answered();
+    takes_plain_replies();
+    osdp_reader_laws::answers_plainly::<H>();
+}
+
+/// Within each session, opened by ID on a quiet line, over every list of losses, repeats and detected damage: commands are taken once
+/// and in order, settled with their own answers, and events are reported once and in order.
+pub fn holds_once<H: Handler>()
+    ensures { HoldsOnce H.answer_of H.after }
+{
+    read_each_other::<H>();
+}
+
+/// Over sessions in a row, each begun again on a quiet line with neither end restarted: no command that one settled or told unsettled is
+/// one of a later session, no event is skipped, and each beginning tells again one at most.
+pub fn sessions_in_a_row<H: Handler>()
+    ensures row { StayInARow H.answer_of H.after }
+    ensures last { LastOneLasts H.answer_of H.after }
+    ensures commands { CommandsHavePlaces H.answer_of H.after }
+    ensures events { EventsHavePlaces H.answer_of H.after }
+{
+    read_each_other::<H>();
+}
+
+/// In these runs no reader refuses a number or a check, and each of its packets can be read: whatever is on its way to the controller
+/// says BUSY, or a reply that settles.
+pub fn says_all_plainly<H: Handler>()
+    ensures { SaysAllPlainly H.answer_of H.after }
+{
+    read_each_other::<H>();
+}
+
+/// So no session ends because a reader refused a number.
+pub fn refuses_no_number<H: Handler>()
+    ensures { RefusesNoNumber H.answer_of H.after }
+{
+    read_each_other::<H>();
+}
+
+/// Where no COMSET to a device's address waits or is submitted neither end goes to another address.
+pub fn stay_where_they_are<H: Handler>()
+    ensures { StayWhereTheyAre H.answer_of H.after }
+{
+    reads_what_is_asked();
+}
+
+/// From a link with nothing on the line, both ends at one address, the reader not busy and no COMSET to a device's address
+/// issued: after m rounds that lose nothing, each with a tick that is due, m - 1 more commands and events of this session, or all of them, are settled and reported.
+pub fn comes_through<H: Handler>()
+    ensures { ComesThrough H.answer_of H.after }
+{
+    read_each_other::<H>();
+}
+
+/// With ticks that come as much later than the greatest moment seen as the longest of the controller's waits, that is so or the session
+/// has ended.
+pub fn comes_through_in_time<H: Handler>()
+    ensures { ComesThroughInTime H.answer_of H.after }
+{
+    read_each_other::<H>();
+    osdp_controller_laws::stays_in_range();
+    osdp_controller_laws::ticks_come_due();
+}
+
+/// A first session without losses, with a reader at the controller's address that isn't busy, and no COMSET to a device's address: after
+/// the opening each round, as late as the poll's interval asks, settles a command, the oldest first, each with its own answer. Once all
+/// are settled each round reports an event, the oldest first. The session lasts.
+pub fn goes_in_turn<H: Handler>()
+    ensures { GoesInTurn H.answer_of H.after }
+{
+    read_each_other::<H>();
+}
+
+/// Within each session the events that the reader has offered are a beginning of those queued, and hold those reported. Of the last command
+/// taken and the last event offered at most one isn't told yet.
+pub fn offers_once<H: Handler>()
+    ensures { OffersOnce H.answer_of H.after }
+{
+    read_each_other::<H>();
+}
+
+/// Two lists and four counts: no step takes more commands than are issued or offers more events than are queued, settles one that wasn't
+/// taken or reports one that wasn't offered, and at most one is taken or offered and not yet told.
+pub fn keeps_in_step()
+    ensures { KeepsInStep }
+{}
+
+/// A link is two lists and four counts: the lists of its account are read off them, and each of its moves is one step or none. So what the
+/// headline says can be seen without packets, numbers and timers.
+pub fn moves_in_step<H: Handler>()
+    ensures read { IsReadOff H.answer_of H.after }
+    ensures moves { MovesInStep H.answer_of H.after }
+{
+    read_each_other::<H>();
+}

@@ -1,0 +1,116 @@
+-- Lines and counts, piece by piece.
+use Rattle.std.proofs.Common.{◌≡◌, ℕ, ◌+◌, ◌*◌, ◌<◌, ◌≤◌, ◌==◌, cond, Bool, true, false, List, [], ◌∷◌, ◌++◌, length, drop, refl, sym, ap, ◌∙◌, arith, append_assoc, append-nil}
+use Rattle.std.proofs.Common.{length-drop}
+use Rattle.std.proofs.lemmas.Bool.{eqb-true, eqb-false}
+use Rattle.osdp_frame.specs.Reading.{Part, Whole, Passed, Bad, part_size}
+use Rattle.osdp_frame.specs.Items.{reading}
+use Rattle.osdp_tool_lines.specs.declared.tally.Tally.{Tally}
+use Rattle.osdp_tool_lines.specs.ItemText.{is_refusal}
+use Rattle.osdp_tool_lines.specs.Tally.{one_if, after_part, after_parts, after_run, counted}
+use Rattle.osdp_tool_lines.specs.Told.{part_line, parts_lines, after_runs, runs_lines}
+
+pub after_parts-append : (tally : Tally) (xs ys : List Part) → after_parts tally (xs ++ ys) ≡ after_parts (after_parts tally xs) ys
+unfolding after_parts
+after_parts-append tally [] ys = refl
+after_parts-append tally (x ∷ xs) ys = after_parts-append (after_part tally x) xs ys
+
+pub parts_lines-append : (full : Bool) (tally : Tally) (xs ys : List Part)
+    → parts_lines full tally (xs ++ ys) ≡ parts_lines full tally xs ++ parts_lines full (after_parts tally xs) ys
+unfolding after_parts parts_lines
+parts_lines-append full tally [] ys = refl
+parts_lines-append full tally (x ∷ xs) ys =
+    ap (λ l. part_line full tally x ++ l) (parts_lines-append full (after_part tally x) xs ys)
+    ∙ sym (append_assoc (part_line full tally x) (parts_lines full (after_part tally x) xs) (parts_lines full (after_parts (after_part tally x) xs) ys))
+
+pub after_runs-append : (tally : Tally) (xs ys : List (List ℕ)) → after_runs tally (xs ++ ys) ≡ after_runs (after_runs tally xs) ys
+unfolding after_runs
+after_runs-append tally [] ys = refl
+after_runs-append tally (x ∷ xs) ys = after_runs-append (after_run (after_parts tally (reading x))) xs ys
+
+pub runs_lines-append : (full : Bool) (tally : Tally) (xs ys : List (List ℕ))
+    → runs_lines full tally (xs ++ ys) ≡ runs_lines full tally xs ++ runs_lines full (after_runs tally xs) ys
+unfolding after_runs runs_lines
+runs_lines-append full tally [] ys = refl
+runs_lines-append full tally (x ∷ xs) ys =
+    let next = after_run (after_parts tally (reading x)) in
+    ap (λ l. parts_lines full tally (reading x) ++ l) (runs_lines-append full next xs ys)
+    ∙ sym (append_assoc (parts_lines full tally (reading x)) (runs_lines full next xs) (runs_lines full (after_runs next xs) ys))
+
+-- one run
+pub after_runs-one : (tally : Tally) (run : List ℕ) → after_runs tally (run ∷ []) ≡ after_run (after_parts tally (reading run))
+unfolding after_runs
+after_runs-one tally run = refl
+
+pub runs_lines-one : (full : Bool) (tally : Tally) (run : List ℕ) → runs_lines full tally (run ∷ []) ≡ parts_lines full tally (reading run)
+unfolding runs_lines
+runs_lines-one full tally run = append-nil (parts_lines full tally (reading run))
+
+-- no items
+pub after_parts-nil : (tally : Tally) → after_parts tally [] ≡ tally
+unfolding after_parts
+after_parts-nil tally = refl
+
+pub parts_lines-nil : (full : Bool) (tally : Tally) → parts_lines full tally [] ≡ []
+unfolding parts_lines
+parts_lines-nil full tally = refl
+
+pub after_parts-cons : (tally : Tally) (part : Part) (parts : List Part) → after_parts tally (part ∷ parts) ≡ after_parts (after_part tally part) parts
+unfolding after_parts
+after_parts-cons tally part parts = refl
+
+pub parts_lines-cons : (full : Bool) (tally : Tally) (part : Part) (parts : List Part)
+    → parts_lines full tally (part ∷ parts) ≡ part_line full tally part ++ parts_lines full (after_part tally part) parts
+unfolding parts_lines
+parts_lines-cons full tally part parts = refl
+
+pub after_runs-nil : (tally : Tally) → after_runs tally [] ≡ tally
+unfolding after_runs
+after_runs-nil tally = refl
+
+pub runs_lines-nil : (full : Bool) (tally : Tally) → runs_lines full tally [] ≡ []
+unfolding runs_lines
+runs_lines-nil full tally = refl
+
+-- ---- places
+
+-- a run begins at place 0
+pub after_run-place : (tally : Tally) → (after_run tally).place ≡ 0
+after_run-place tally = by_test (tally.place == 0) refl
+  where
+    by_test : (t : Bool) → (tally.place == 0) ≡ t → (cond t tally (record tally { runs = tally.runs + 1; place = 0 })).place ≡ 0
+    by_test true e = eqb-true tally.place 0 e
+    by_test false e = refl
+
+pub after_runs-place : (tally : Tally) (runs : List (List ℕ)) → tally.place ≡ 0 → (after_runs tally runs).place ≡ 0
+unfolding after_runs
+after_runs-place tally [] h = h
+after_runs-place tally (run ∷ runs) h =
+    after_runs-place (after_run (after_parts tally (reading run))) runs (after_run-place (after_parts tally (reading run)))
+
+-- where nothing has come of a run its end changes nothing
+pub after_run-none : (tally : Tally) → tally.place ≡ 0 → after_run tally ≡ tally
+after_run-none tally h = ap (λ n. cond (n == 0) tally (record tally { runs = tally.runs + 1; place = 0 })) h
+
+-- ---- bounds
+
+one_if-le : (t : Bool) → one_if t ≤ 1
+one_if-le true = omega arith
+one_if-le false = omega arith
+
+-- an item of some bytes counts for at most that many and two more
+pub counted-after_part : (tally : Tally) (part : Part) → counted (after_part tally part) ≤ counted tally + (part_size part + 2)
+counted-after_part tally (Whole p) = let b = one_if-le (is_refusal (Whole p)) in omega arith
+counted-after_part tally (Passed b) = omega arith
+counted-after_part tally (Bad fault) = omega arith
+
+-- so what is counted and five times the bytes that are left do not grow
+pub counted-later : (tally : Tally) (part : Part) (bytes : List ℕ) → 0 < part_size part → part_size part ≤ length bytes
+    → counted (after_part tally part) + 5 * length (drop (part_size part) bytes) ≤ counted tally + 5 * length bytes
+counted-later tally part bytes some short = omega (arith, counted-after_part tally part, length-drop (part_size part) bytes)
+
+pub counted-after_run : (tally : Tally) → counted (after_run tally) ≤ counted tally
+counted-after_run tally = by_test (tally.place == 0) refl
+  where
+    by_test : (t : Bool) → (tally.place == 0) ≡ t → counted (cond t tally (record tally { runs = tally.runs + 1; place = 0 })) ≤ counted tally
+    by_test true e = omega arith
+    by_test false e = let ne = eqb-false tally.place 0 e in omega arith

@@ -1,0 +1,47 @@
+//! Where the text stands, and what has been counted.
+
+ghost use Rattle.std.specs.Prelude.{◌≡◌, ◌+◌, ◌<◌, ◌^◌};
+
+/// What the lines so far have told of the runs.
+#[derive(Clone, Copy, Debug, PartialEq, Eq)]
+pub struct Tally {
+    /// The runs with bytes that have ended.
+    pub runs: u64,
+    /// The place in the run, after the items that were told.
+    pub place: u64,
+    /// The packets of all runs.
+    pub packets: u64,
+    /// The skipped bytes of all runs.
+    pub skipped: u64,
+    /// The refusals of all runs.
+    pub refused: u64,
+}
+
+impl Tally {
+    ghost use Rattle.osdp_tool_lines.specs.Tally.{no_tally, after_run};
+
+    /// Nothing has come.
+    pub fn new() -> Tally
+        ensures { result ≡ no_tally }
+    {
+        Tally {
+            runs: 0,
+            place: 0,
+            packets: 0,
+            skipped: 0,
+            refused: 0,
+        }
+    }
+
+    /// The run has ended; one without bytes isn't counted.
+    pub fn end_run(&mut self)
+        requires { self.old.runs + 1 < 2 ^ 64 }
+        ensures { self.new ≡ after_run self.old }
+    {
+        if self.place == 0 {
+            return;
+        }
+        self.runs += 1;
+        self.place = 0;
+    }
+}

@@ -1,0 +1,34 @@
+//! What the crate's definitions say, in the subject's words. The functions have no code: each
+//! states a law for all values, and its proof is the law's.
+
+ghost use Rattle.std.specs.Prelude.{List};
+ghost use Rattle.osdp_tool_streams.specs.FinalAnswer.{TellsTruly, TellsStreamsFirst};
+ghost use Rattle.osdp_tool_streams.specs.ToolFault.{StatusTellsCause};
+ghost use Rattle.osdp_tool_streams.specs.Watched.{Call, FailedBySomeCall, WentThrough};
+ghost use Rattle.osdp_tool_streams.specs.declared.watch.Watched.{Watched};
+
+use crate::fault::ToolFault;
+
+/// A status is 2, 3 or 4: 3 exactly at a failed read or write, 4 exactly for want of memory.
+pub fn status_tells_cause(fault: ToolFault)
+    ensures { StatusTellsCause fault }
+{}
+
+/// After any reads, writes and flushes a watched stream has failed exactly where it had before, or one of them answered an error,
+/// or a write of one or more bytes took none.
+pub fn failed_by_some_call<T, E>()
+    ensures { (old new : Watched T) (calls : List (Call E)) → WentThrough old calls new
+        → FailedBySomeCall old calls new }
+{}
+
+/// A failed read is told exactly where the input failed, and a failed write exactly where the
+/// output alone did, whatever the work answers that tells no failed read or write of its own
+/// making.
+pub fn final_answer_tells_streams_first<T: Drop>(
+    input_failed: bool,
+    output_failed: bool,
+    answer: Result<T, ToolFault>,
+)
+    ensures { TellsTruly input_failed output_failed answer
+        → TellsStreamsFirst input_failed output_failed answer }
+{}
