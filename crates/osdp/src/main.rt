@@ -1,8 +1,7 @@
 //! The program `osdp`: it reads captures of an OSDP line and prints what stands in them, and runs scripts of schedules.
 #![tactic(auto)]
 
-use osdp_tool::{Job, ToolFault, Watched, check, job, make, show};
-use osdp_tool_sim::sim;
+use osdp_tool::{Job, ToolFault, Watched, check, job, make, show, sim};
 use std::env;
 use std::io::ErrorKind;
 use std::process::ExitCode;

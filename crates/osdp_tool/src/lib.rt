@@ -1,15 +1,11 @@
-//! The commands `show`, `check` and `make`.
+//! What the program `osdp` does: `job` reads its words, and `show`, `check`, `make` and `sim` are its commands.
+//!
+//! Each stands in a crate of its own with its contract and laws; this one names them in one place.
 #![tactic(auto)]
 
-mod capture;
-mod commands;
-pub mod laws;
-mod reading;
-mod report;
-mod runs;
-
-pub use commands::{LIMIT, check, command, show};
 pub use osdp_tool_input::Form;
 pub use osdp_tool_job::{Job, Mode, job};
 pub use osdp_tool_make::make;
+pub use osdp_tool_show::{LIMIT, check, command, show};
+pub use osdp_tool_sim::sim;
 pub use osdp_tool_streams::{ToolFault, Watched};

@@ -3,7 +3,9 @@ mod rows;
 mod streams;
 mod vectors;
 
-use osdp_tool::{Mode, ToolFault, Watched, check, show};
+use osdp_tool_job::Mode;
+use osdp_tool_show::{check, show};
+use osdp_tool_streams::{ToolFault, Watched};
 use std::alloc::Global;
 use std::io::Read;
 use std::process::Abort;

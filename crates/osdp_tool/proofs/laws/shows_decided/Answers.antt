@@ -1,5 +1,0 @@
-use Rattle.osdp_tool.proofs.Readings.{some_so_far, shown_so_far_is}
-use Rattle.osdp_tool.proofs.laws.shows_decided.Goals as goal
-
-pub returns : goal.returns
-returns c = record { some = some_so_far; text = shown_so_far_is }

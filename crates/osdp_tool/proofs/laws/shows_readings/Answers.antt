@@ -1,5 +1,0 @@
-use Rattle.osdp_tool.proofs.Readings.{some_readings, shown_is, refused_is}
-use Rattle.osdp_tool.proofs.laws.shows_readings.Goals as goal
-
-pub returns : goal.returns
-returns c = record { some = some_readings; text = shown_is; refused = refused_is }

@@ -1,0 +1,334 @@
+-- A capture that goes on, piece by piece.
+use Rattle.std.proofs.Common.{◌≡◌, ℕ, ◌+◌, ◌<◌, ◌≤◌, not, Bool, true, false, List, [], ◌∷◌, ◌++◌, length, take, drop, get_or, string_bytes, Option, Some, None, MatchOption, ◌⊎◌, inl, inr, refl, sym, subst, ap, ◌∙◌, arith, append_assoc, append-nil, length-append}
+use Rattle.std.specs.Io.KnownBytes.{Appends, append_known}
+use Rattle.std.proofs.KnownBytes.{Appends-nil}
+use Rattle.std.proofs.Math.Seq.{take-add}
+use Rattle.std.proofs.Common.{take-append-drop}
+use Rattle.std.proofs.lemmas.List.{get_or_past, take_more}
+use Rattle.std.proofs.lemmas.List.Filters.{length-filter_both}
+use Rattle.osdp_tool_show.specs.Feeds.{HasLine}
+use Rattle.osdp_frame.specs.Bytes.{AreBytes}
+use Rattle.osdp_frame.specs.Reading.{total_size}
+use Rattle.osdp_frame_laws.proofs.Readings.{decided_nothing, items_undecided}
+use Rattle.osdp_frame.specs.Held.{Held, new_run}
+use Rattle.osdp_frame.specs.Items.{left_over}
+use Rattle.osdp_tool_input.specs.declared.form.Form.{Form}
+use Rattle.osdp_tool_input.specs.declared.form.Form.TheVariants.{Raw, Joined, Apart}
+use Rattle.osdp_tool_input.specs.Cut.{ended_after, unended_after, line_feed, ended_lines, unended_line, IsLine}
+use Rattle.osdp_tool_input.specs.Line.{is_blank, kept, said}
+use Rattle.osdp_tool_input.specs.Runs.{good_front, bad_line, ended_runs, open_run, first_bad_ended}
+use Rattle.osdp_tool_input.proofs.FormLemmas.{ended_lines-hold, unended_line-hold, ended_lines-feed, unended_line-feed, kept-append, hold_runs, feed_joined, feed_apart, feed_bad}
+use Rattle.osdp_tool_lines.specs.Tally.{no_tally, counted, after_parts}
+use Rattle.osdp_tool_lines.specs.Told.{parts_lines, after_runs, runs_lines, tally_so_far, lines_so_far}
+use Rattle.osdp_tool_lines.proofs.Lines.{after_parts-nil, parts_lines-nil}
+use Rattle.osdp_tool_show.specs.declared.capture.Capture.{Capture}
+use Rattle.osdp_tool_show.specs.declared.report.Report.{Report}
+use Rattle.osdp_tool_show.specs.Machine.{told, IsSettled, Stands, Took, EndedRun}
+use Rattle.osdp_tool_show.specs.Capture.{LineStands, OpenLine, Follows, Stops, FollowsIf, TookPiece}
+
+-- one piece after another
+pub took_both : (xs ys : List ℕ) (good : Bool) (a b c : Capture) (before middle after : Option (List ℕ))
+    → TookPiece xs true a b before middle → TookPiece ys good b c middle after → TookPiece (xs ++ ys) good a c before after
+took_both xs ys good a b c before middle after first second =
+    let lengths = length-append xs ys in
+    let p = first.load_is in
+    let q = second.load_is in
+    record {
+      follows = λ full form start read f.
+          subst (λ l. FollowsIf good full form start l c after) (append_assoc read xs ys) (second.follows full form start (read ++ xs) (first.follows full form start read f));
+      settled = second.settled;
+      form_is = second.form_is ∙ first.form_is;
+      load_is = omega arith;
+    }
+
+pub took_nothing : (a : Capture) (before : Option (List ℕ)) → IsSettled a.framer → TookPiece [] true a a before before
+took_nothing a before settled = record {
+  follows = λ full form start read f. subst (λ l. Follows full form start l a before) (sym (append-nil read)) f;
+  settled = settled;
+  form_is = refl;
+  load_is = omega arith;
+}
+
+-- ---- bytes of one run
+
+pub took_raw : (piece : List ℕ) (old new : Capture) (before after : Option (List ℕ)) → old.form ≡ Raw
+    → new.form ≡ old.form → new.line ≡ old.line → new.ended ≡ old.ended
+    → Took piece old.framer new.framer old.report new.report before after → TookPiece piece true old new before after
+took_raw piece old new before after raw form_is line_is ended_is t =
+    let counts = t.counts in
+    let line_count : length new.line.items ≡ length old.line.items = ap (λ v. length v.items) line_is in
+    record {
+      follows = λ full form start read f. by_form full form start read f (sym f.form_is ∙ raw);
+      settled = t.settled;
+      form_is = form_is;
+      load_is = omega arith;
+    }
+  where
+    by_form : (full : Bool) (form : Form) (start : Option (List ℕ)) (read : List ℕ) → Follows full form start read old before → form ≡ Raw
+        → Follows full form start (read ++ piece) new after
+    by_form full Raw start read f is = record {
+      form_is = form_is ∙ f.form_is;
+      stands = t.stands full start [] read f.stands;
+      open_line = tt;
+      good = refl;
+    }
+    by_form full Joined start read f is = cc
+    by_form full Apart start read f is = cc
+
+-- ---- part of a line
+
+not_raw : (form : Form) → (form ≡ Raw → ⊥) → (form ≡ Joined) ⊎ (form ≡ Apart)
+not_raw Raw h = absurd (h refl)
+not_raw Joined h = inl refl
+not_raw Apart h = inr refl
+
+pub held_line : (piece : List ℕ) (old new : Capture) (before : Option (List ℕ)) → IsLine piece → (old.form ≡ Raw → ⊥) → IsSettled old.framer
+    → new.form ≡ old.form → new.ended ≡ old.ended → new.framer ≡ old.framer → new.report ≡ old.report → length (kept piece) ≤ length piece
+    → new.line.items ≡ old.line.items ++ kept piece → TookPiece piece true old new before before
+held_line piece old new before whole lines settled form_is ended_is framer_is report_is shorter line_is =
+    let line_count : length new.line.items ≡ length old.line.items + length (kept piece) = ap length line_is ∙ length-append old.line.items (kept piece) in
+    let counts : counted new.report.tally ≡ counted old.report.tally = ap (λ (r : Report). counted r.tally) report_is in
+    let held : length new.framer.bytes ≡ length old.framer.bytes = ap (λ (h : Held). length h.bytes) framer_is in
+    record {
+      follows = λ full form start read f. goes_on full form start read f (hold_runs form read piece (not_raw form (λ e. lines (f.form_is ∙ e))) whole);
+      settled = subst IsSettled (sym framer_is) settled;
+      form_is = form_is;
+      load_is = omega arith;
+    }
+  where
+    line_goes_on : (form : Form) (read : List ℕ) → OpenLine form read old → OpenLine form (read ++ piece) new
+    line_goes_on Raw read o = tt
+    line_goes_on Joined read o = record {
+      line = line_is ∙ ap (λ l. l ++ kept piece) o.line ∙ sym (ap kept (unended_line-hold read piece whole) ∙ kept-append (unended_line read) piece);
+      count = ended_is ∙ o.count ∙ ap length (sym (ended_lines-hold read piece whole));
+    }
+    line_goes_on Apart read o = record {
+      line = line_is ∙ ap (λ l. l ++ kept piece) o.line ∙ sym (ap kept (unended_line-hold read piece whole) ∙ kept-append (unended_line read) piece);
+      count = ended_is ∙ o.count ∙ ap length (sym (ended_lines-hold read piece whole));
+    }
+
+    goes_on : (full : Bool) (form : Form) (start : Option (List ℕ)) (read : List ℕ) → Follows full form start read old before
+        → (ended_runs form (read ++ piece) ≡ ended_runs form read) × (open_run form (read ++ piece) ≡ open_run form read)
+        × (first_bad_ended form (read ++ piece) ≡ first_bad_ended form read)
+        → Follows full form start (read ++ piece) new before
+    goes_on full form start read f same = record {
+      form_is = form_is ∙ f.form_is;
+      stands =
+          subst (λ r. Stands full start (ended_runs form (read ++ piece)) (open_run form (read ++ piece)) new.framer r before) (sym report_is)
+          (subst (λ (h : Held). Stands full start (ended_runs form (read ++ piece)) (open_run form (read ++ piece)) h old.report before) (sym framer_is)
+          (subst (λ r. Stands full start r (open_run form (read ++ piece)) old.framer old.report before) (sym same.0)
+          (subst (λ r. Stands full start (ended_runs form read) r old.framer old.report before) (sym same.1) f.stands)));
+      open_line = line_goes_on form read f.open_line;
+      good = same.2 ∙ f.good;
+    }
+
+-- ---- the end of a line
+
+pub says_bytes : (o : Option (List ℕ)) (good : Bool) (bytes : List ℕ) → MatchOption o (good ≡ false) (λ read. (good ≡ true) × (bytes ≡ read))
+    → good ≡ true → o ≡ Some bytes
+says_bytes None good bytes h e = cc
+says_bytes (Some read) good bytes h e = ap Some (sym h.1)
+
+pub says_none : (o : Option (List ℕ)) (good : Bool) (bytes : List ℕ) → MatchOption o (good ≡ false) (λ read. (good ≡ true) × (bytes ≡ read))
+    → good ≡ false → o ≡ None
+says_none None good bytes h e = refl
+says_none (Some read) good bytes h e = cc
+
+-- the line that has ended is counted, and nothing is held of the next
+fed_line : (read : List ℕ) (old new : Capture) → LineStands read old → new.line.items ≡ [] → new.ended ≡ old.ended + 1 → LineStands (read ++ line_feed ∷ []) new
+fed_line read old new o line_is ended_is = record {
+  line = line_is ∙ sym (ap kept (unended_line-feed read));
+  count = ended_is ∙ ap (λ n. n + 1) o.count ∙ sym (ap length (ended_lines-feed read) ∙ length-append (ended_lines read) (unended_line read ∷ []));
+}
+
+pub fed_joined : (bytes : List ℕ) (old new : Capture) (before after : Option (List ℕ)) → old.form ≡ Joined → new.form ≡ old.form
+    → said old.line.items ≡ Some bytes → length bytes ≤ length old.line.items → new.line.items ≡ [] → new.ended ≡ old.ended + 1
+    → Took bytes old.framer new.framer old.report new.report before after → TookPiece (line_feed ∷ []) true old new before after
+fed_joined bytes old new before after joined form_is says short line_is ended_is t =
+    let counts = t.counts in
+    let none : length new.line.items ≡ 0 = ap length line_is in
+    record {
+      follows = λ full form start read f. by_form full form start read f (sym f.form_is ∙ joined);
+      settled = t.settled;
+      form_is = form_is;
+      load_is = omega arith;
+    }
+  where
+    by_form : (full : Bool) (form : Form) (start : Option (List ℕ)) (read : List ℕ) → Follows full form start read old before → form ≡ Joined
+        → Follows full form start (read ++ line_feed ∷ []) new after
+    by_form full Raw start read f is = cc
+    by_form full Joined start read f is =
+        let fed = feed_joined read bytes f.good (ap said (sym f.open_line.line) ∙ says) in
+        record {
+          form_is = form_is ∙ f.form_is;
+          stands = subst (λ r. Stands full start [] r new.framer new.report after) (sym fed.0) (t.stands full start [] (open_run Joined read) f.stands);
+          open_line = fed_line read old new f.open_line line_is ended_is;
+          good = fed.1;
+        }
+    by_form full Apart start read f is = cc
+
+pub fed_apart : (bytes : List ℕ) (old mid new : Capture) (before middle after : Option (List ℕ)) → old.form ≡ Apart → new.form ≡ old.form
+    → said old.line.items ≡ Some bytes → length bytes ≤ length old.line.items → new.line.items ≡ [] → new.ended ≡ old.ended + 1
+    → Took bytes old.framer mid.framer old.report mid.report before middle
+    → EndedRun mid.framer new.framer mid.report new.report middle after → TookPiece (line_feed ∷ []) true old new before after
+fed_apart bytes old mid new before middle after apart form_is says short line_is ended_is t e =
+    let counts = t.counts in
+    let more = e.counts in
+    let none : length new.line.items ≡ 0 = ap length line_is in
+    record {
+      follows = λ full form start read f. by_form full form start read f (sym f.form_is ∙ apart);
+      settled = e.settled;
+      form_is = form_is;
+      load_is = omega arith;
+    }
+  where
+    by_form : (full : Bool) (form : Form) (start : Option (List ℕ)) (read : List ℕ) → Follows full form start read old before → form ≡ Apart
+        → Follows full form start (read ++ line_feed ∷ []) new after
+    by_form full Raw start read f is = cc
+    by_form full Joined start read f is = cc
+    by_form full Apart start read f is =
+        let fed = feed_apart read bytes f.good (ap said (sym f.open_line.line) ∙ says) in
+        record {
+          form_is = form_is ∙ f.form_is;
+          stands = subst (λ r. Stands full start r [] new.framer new.report after) (sym fed.0)
+              (e.stands full start (ended_runs Apart read) bytes (t.stands full start (ended_runs Apart read) [] f.stands));
+          open_line = fed_line read old new f.open_line line_is ended_is;
+          good = fed.1;
+        }
+
+pub fed_bad : (old new : Capture) (now : Option (List ℕ)) → (old.form ≡ Raw → ⊥) → IsSettled old.framer → new.form ≡ old.form
+    → said old.line.items ≡ None → new.line.items ≡ [] → new.ended ≡ old.ended + 1 → new.framer ≡ old.framer → new.report ≡ old.report
+    → TookPiece (line_feed ∷ []) false old new now now
+fed_bad old new now lines settled form_is says line_is ended_is framer_is report_is =
+    let none : length new.line.items ≡ 0 = ap length line_is in
+    let counts : counted new.report.tally ≡ counted old.report.tally = ap (λ (r : Report). counted r.tally) report_is in
+    let held : length new.framer.bytes ≡ length old.framer.bytes = ap (λ (h : Held). length h.bytes) framer_is in
+    record {
+      follows = λ full form start read f. by_form full form start read f (not_raw form (λ e. lines (f.form_is ∙ e)));
+      settled = subst IsSettled (sym framer_is) settled;
+      form_is = form_is;
+      load_is = omega arith;
+    }
+  where
+    stops : (full : Bool) (form : Form) (start : Option (List ℕ)) (read : List ℕ) → Follows full form start read old now → LineStands read old
+        → (form ≡ Joined) ⊎ (form ≡ Apart) → Stops full form start (read ++ line_feed ∷ []) new now
+    stops full form start read f o is =
+        let fed = feed_bad form read is f.good (ap said (sym o.line) ∙ says) in
+        let here = read ++ line_feed ∷ [] in
+        record {
+          stands =
+              subst (λ r. Stands full start (ended_runs form here) (open_run form here) new.framer r now) (sym report_is)
+              (subst (λ (h : Held). Stands full start (ended_runs form here) (open_run form here) h old.report now) (sym framer_is)
+              (subst (λ r. Stands full start r (open_run form here) old.framer old.report now) (sym fed.0)
+              (subst (λ r. Stands full start (ended_runs form read) r old.framer old.report now) (sym fed.1) f.stands)));
+          bad = fed.2 ∙ ap Some (ap (λ n. n + 1) (sym o.count) ∙ sym ended_is);
+        }
+
+    by_form : (full : Bool) (form : Form) (start : Option (List ℕ)) (read : List ℕ) → Follows full form start read old now
+        → (form ≡ Joined) ⊎ (form ≡ Apart) → Stops full form start (read ++ line_feed ∷ []) new now
+    by_form full Raw start read f is = elim is [ inl j ↦ cc | inr a ↦ cc ]
+    by_form full Joined start read f is = stops full Joined start read f f.open_line is
+    by_form full Apart start read f is = stops full Apart start read f f.open_line is
+
+-- ---- the beginning
+
+left_none : left_over [] ≡ []
+unfolding left_over
+left_none = ap (λ l. drop (total_size l) []) (items_undecided false [] (decided_nothing false))
+
+nothing_counted : (form : Form) → tally_so_far (ended_runs form []) (open_run form []) ≡ no_tally
+unfolding good_front ended_after after_runs
+nothing_counted Raw = ap (after_parts no_tally) (items_undecided false [] (decided_nothing false)) ∙ after_parts-nil no_tally
+nothing_counted Joined = ap (after_parts no_tally) (items_undecided false [] (decided_nothing false)) ∙ after_parts-nil no_tally
+nothing_counted Apart = ap (after_parts no_tally) (items_undecided false [] (decided_nothing false)) ∙ after_parts-nil no_tally
+
+nothing_shown : (full : Bool) (form : Form) → lines_so_far full (ended_runs form []) (open_run form []) ≡ []
+unfolding good_front ended_after after_runs runs_lines
+nothing_shown full Raw = ap (parts_lines full no_tally) (items_undecided false [] (decided_nothing false)) ∙ parts_lines-nil full no_tally
+nothing_shown full Joined = ap (parts_lines full no_tally) (items_undecided false [] (decided_nothing false)) ∙ parts_lines-nil full no_tally
+nothing_shown full Apart = ap (parts_lines full no_tally) (items_undecided false [] (decided_nothing false)) ∙ parts_lines-nil full no_tally
+
+nothing_open : (form : Form) → open_run form [] ≡ []
+unfolding good_front ended_after
+nothing_open Raw = refl
+nothing_open Joined = refl
+nothing_open Apart = refl
+
+pub nothing_bad : (form : Form) → first_bad_ended form [] ≡ None
+unfolding bad_line ended_after
+nothing_bad Raw = refl
+nothing_bad Joined = refl
+nothing_bad Apart = refl
+
+pub told_nothing : (full : Bool) (form : Form) (start : Option (List ℕ)) → Appends start start (lines_so_far full (ended_runs form []) (open_run form []))
+told_nothing full form start = subst (Appends start start) (sym (nothing_shown full form)) (Appends-nil start)
+
+append_nothing : (start : Option (List ℕ)) → append_known start [] ≡ start
+append_nothing None = refl
+append_nothing (Some x) = ap Some (append-nil x)
+
+no_bytes : (place : ℕ) → get_or [] place 0 < 256
+no_bytes place = subst (λ (n : ℕ). n < 256) (sym (get_or_past [] place 0 (omega arith))) (omega arith)
+
+none_unended : unended_line [] ≡ []
+unfolding unended_after
+none_unended = refl
+
+none_ended : ended_lines [] ≡ []
+unfolding ended_after
+none_ended = refl
+
+pub begins : (full : Bool) (capture : Capture) (start : Option (List ℕ)) → capture.line.items ≡ [] → capture.ended ≡ 0
+    → capture.framer ≡ new_run → capture.report.full ≡ full → capture.report.tally ≡ no_tally → string_bytes capture.report.text ≡ []
+    → Follows full capture.form start [] capture (told start capture.report)
+begins full capture start line ended framer full_is tally text = record {
+  form_is = refl;
+  stands = record {
+    full_is = full_is;
+    tally = tally ∙ sym (nothing_counted capture.form);
+    held_is = framer ∙ ap (λ (l : List ℕ). record { bytes = l; ended = false }) (sym (ap left_over (nothing_open capture.form) ∙ left_none));
+    bytes = subst AreBytes (sym (nothing_open capture.form)) no_bytes;
+    lines = subst (λ (now : Option (List ℕ)). Appends start now (lines_so_far full (ended_runs capture.form []) (open_run capture.form [])))
+        (sym (ap (append_known start) text ∙ append_nothing start)) (told_nothing full capture.form start);
+  };
+  open_line = by_form capture.form;
+  good = nothing_bad capture.form;
+}
+  where
+    opens : LineStands [] capture
+    opens = record { line = line ∙ sym (ap kept none_unended); count = ended ∙ ap length (sym none_ended) }
+
+    by_form : (form : Form) → OpenLine form [] capture
+    by_form Raw = tt
+    by_form Joined = opens
+    by_form Apart = opens
+
+-- ---- a line within a piece
+
+length-kept : (xs : List ℕ) → length (kept xs) ≤ length xs
+length-kept xs = let both = length-filter_both (λ b. not (is_blank b)) (λ b. not (not (is_blank b))) (λ b. refl) xs in omega arith
+
+pub held_part : (piece : List ℕ) (old new : Capture) (now : Option (List ℕ)) → IsLine piece → (old.form ≡ Raw → ⊥) → IsSettled old.framer
+    → new.form ≡ old.form → new.ended ≡ old.ended → new.framer ≡ old.framer → new.report ≡ old.report
+    → new.line.items ≡ old.line.items ++ kept piece → TookPiece piece true old new now now
+held_part piece old new now whole lines settled form_is ended_is framer_is report_is line_is =
+    held_line piece old new now whole lines settled form_is ended_is framer_is report_is (length-kept piece) line_is
+
+-- a line and its line feed, after what was taken of the piece
+pub took_line : (piece : List ℕ) (at count : ℕ) (good : Bool) (a b c d : Capture) (before middle after : Option (List ℕ))
+    → HasLine (drop at piece) count → TookPiece (take at piece) true a b before middle → TookPiece (take count (drop at piece)) true b c middle middle
+    → TookPiece (line_feed ∷ []) good c d middle after → TookPiece (take (at + (count + 1)) piece) good a d before after
+took_line piece at count good a b c d before middle after h first second third =
+    let rest = drop at piece in
+    let one_more : take (count + 1) rest ≡ take count rest ++ line_feed ∷ [] =
+    take_more rest count 0 h.below ∙ ap (λ n. take count rest ++ n ∷ []) h.feed in
+    subst (λ l. TookPiece l good a d before after)
+    (append_assoc (take at piece) (take count rest) (line_feed ∷ []) ∙ ap (λ l. take at piece ++ l) (sym one_more) ∙ sym (take-add at (count + 1) piece))
+    (took_both (take at piece ++ take count rest) (line_feed ∷ []) good a c d before middle after
+    (took_both (take at piece) (take count rest) true a b c before middle middle first second) third)
+
+-- what is left of the piece is part of a line
+pub took_rest : (piece : List ℕ) (at : ℕ) (a b c : Capture) (before middle : Option (List ℕ))
+    → TookPiece (take at piece) true a b before middle → TookPiece (drop at piece) true b c middle middle → TookPiece piece true a c before middle
+took_rest piece at a b c before middle first second =
+    subst (λ l. TookPiece l true a c before middle) (take-append-drop at piece) (took_both (take at piece) (drop at piece) true a b c before middle middle first second)

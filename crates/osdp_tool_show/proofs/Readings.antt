@@ -1,0 +1,358 @@
+-- The text of readings, and the lines that are counted on the way.
+use Rattle.std.proofs.Common.{◌≡◌, ℕ, zero, suc, drop, length-drop, ◌+◌, ◌<◌, ◌≤◌, not, Bool, true, false, cond, nat_lt, List, [], ◌∷◌, ◌++◌, length, Option, Some, None, ◌⊎◌, inl, inr, refl, sym, subst, ap, ◌∙◌, arith, zero-add}
+use Rattle.std.proofs.lemmas.Bool.{ne_eqb}
+use Rattle.std.proofs.lemmas.List.{get_or_past}
+use Rattle.std.specs.Prelude.{flat_map, count_by}
+use Rattle.std.proofs.lemmas.List.Sums.{sum_by-append, sum_by-cons}
+use Rattle.std.specs.List.{AllByRecursion, concat}
+use Rattle.std.specs.Option.{option_map_or}
+use Rattle.osdp_frame.specs.Bytes.{AreBytes}
+use Rattle.osdp_frame.specs.Reading.{Part, Whole, Passed, Bad, part_size, total_size, IsReading}
+use Rattle.osdp_frame.specs.Items.{items, reading, Drains}
+use Rattle.osdp_frame.specs.Held.{decided}
+use Rattle.osdp_frame.proofs.Head.{AreBytes-drop}
+use Rattle.osdp_frame.proofs.Decided.{first_decided, undecided_none}
+use Rattle.osdp_frame_laws.proofs.Readings.{is_reading, reading_is, sizes_reading, drained_items, decided_nothing, items_undecided, items_decided, part_size-positive, part_size-decided}
+use Rattle.osdp_tool_input.specs.declared.form.Form.{Form}
+use Rattle.osdp_tool_input.specs.declared.form.Form.TheVariants.{Raw, Joined, Apart}
+use Rattle.osdp_tool_input.specs.Cut.{ended_lines, unended_line, last_line, lines_of}
+use Rattle.osdp_tool_input.specs.Line.{line_bytes}
+use Rattle.osdp_tool_input.specs.Runs.{good_front, with_bytes, runs_of, ended_runs, open_run}
+use Rattle.osdp_tool_input.proofs.CutLemmas.{ended_lines-cut}
+use Rattle.osdp_tool_input.proofs.Bytes.{is_cut, good_front-bytes}
+use Rattle.osdp_tool_lines.specs.declared.tally.Tally.{Tally}
+use Rattle.osdp_tool_lines.specs.ItemText.{is_refusal, counts_line}
+use Rattle.osdp_tool_lines.specs.Tally.{no_tally, one_if, after_part, after_parts, after_run}
+use Rattle.osdp_tool_lines.specs.Told.{part_line, parts_lines, after_runs, runs_lines, end_line}
+use Rattle.osdp_tool_lines.proofs.Lines.{after_runs-place}
+use Rattle.osdp_tool_show.specs.Shown.{shown, shown_so_far, is_refused_input, tally_of}
+use Rattle.osdp_tool_show.specs.Told.{Say, Says, SaysSoFar, HasRuns, HasRunsSoFar, AreReadings, items_text, readings_text, is_packet, is_skipped, count_items, counts_text}
+use Rattle.osdp_tool_show.proofs.Standing.{AreBytes-append}
+
+-- ---- the lines of a run's items
+
+after_part-runs : (tally : Tally) (part : Part) → (after_part tally part).runs ≡ tally.runs
+after_part-runs tally (Whole p) = refl
+after_part-runs tally (Passed b) = refl
+after_part-runs tally (Bad fault) = refl
+
+after_part-place : (tally : Tally) (part : Part) → (after_part tally part).place ≡ tally.place + part_size part
+after_part-place tally (Whole p) = refl
+after_part-place tally (Passed b) = refl
+after_part-place tally (Bad fault) = refl
+
+after_part-packets : (tally : Tally) (part : Part) → (after_part tally part).packets ≡ tally.packets + one_if (is_packet part)
+after_part-packets tally (Whole p) = refl
+after_part-packets tally (Passed b) = omega arith
+after_part-packets tally (Bad fault) = omega arith
+
+after_part-skipped : (tally : Tally) (part : Part) → (after_part tally part).skipped ≡ tally.skipped + one_if (is_skipped part)
+after_part-skipped tally (Whole p) = omega arith
+after_part-skipped tally (Passed b) = refl
+after_part-skipped tally (Bad fault) = omega arith
+
+after_part-refused : (tally : Tally) (part : Part) → (after_part tally part).refused ≡ tally.refused + one_if (is_refusal part)
+after_part-refused tally (Whole p) = refl
+after_part-refused tally (Passed b) = omega arith
+after_part-refused tally (Bad fault) = refl
+
+parts_text : (full : Bool) (tally : Tally) (parts : List Part) → parts_lines full tally parts ≡ items_text full (tally.runs + 1) tally.place parts
+unfolding parts_lines
+parts_text full tally [] = refl
+parts_text full tally (part ∷ parts) =
+    ap (λ l. part_line full tally part ++ l)
+    (parts_text full (after_part tally part) parts
+    ∙ ap (λ n. items_text full (n + 1) (after_part tally part).place parts) (after_part-runs tally part)
+    ∙ ap (λ n. items_text full (tally.runs + 1) n parts) (after_part-place tally part))
+
+-- what is counted of them
+pub record Counted (old new : Tally) (parts : List Part) : Type 0 where
+  pub runs : new.runs ≡ old.runs
+  pub place : new.place ≡ old.place + total_size parts
+  pub packets : new.packets ≡ old.packets + count_by is_packet parts
+  pub skipped : new.skipped ≡ old.skipped + count_by is_skipped parts
+  pub refused : new.refused ≡ old.refused + count_by is_refusal parts
+
+count_one : (fits : Part → Bool) (part : Part) (parts : List Part) → count_by fits (part ∷ parts) ≡ one_if (fits part) + count_by fits parts
+count_one fits part parts = sum_by-cons (λ p. cond (fits p) 1 0) part parts
+
+parts_counted : (tally : Tally) (parts : List Part) → Counted tally (after_parts tally parts) parts
+unfolding after_parts
+parts_counted tally [] = record { runs = refl; place = omega arith; packets = omega arith; skipped = omega arith; refused = omega arith }
+parts_counted tally (part ∷ parts) =
+    let rest = parts_counted (after_part tally part) parts in
+    let runs = rest.runs in
+    let place = rest.place in
+    let packets = rest.packets in
+    let skipped = rest.skipped in
+    let refused = rest.refused in
+    record {
+      runs = omega (arith, after_part-runs tally part);
+      place = omega (arith, after_part-place tally part);
+      packets = omega (arith, after_part-packets tally part, count_one is_packet part parts);
+      skipped = omega (arith, after_part-skipped tally part, count_one is_skipped part parts);
+      refused = omega (arith, after_part-refused tally part, count_one is_refusal part parts);
+    }
+
+-- ---- run after run
+
+abbrev pub HasBytes : List ℕ → Type 0
+HasBytes run = (0 < length run) × AreBytes run
+
+count_readings : (fits : Part → Bool) (parts : List Part) (readings : List (List Part)) → count_items fits (parts ∷ readings) ≡ count_by fits parts + count_items fits readings
+count_readings fits parts readings = sum_by-append (λ p. cond (fits p) 1 0) parts (flat_map (λ p. p) readings)
+
+after_run_place : (tally : Tally) → (tally.place ≡ 0 → ⊥) → after_run tally ≡ record tally { runs = tally.runs + 1; place = 0 }
+after_run_place tally some = ap (λ t. cond t tally (record tally { runs = tally.runs + 1; place = 0 })) (ne_eqb tally.place 0 some)
+
+-- a whole run is counted
+record CountedRun (old new : Tally) (parts : List Part) : Type 0 where
+  runs : new.runs ≡ old.runs + 1
+  place : new.place ≡ 0
+  packets : new.packets ≡ old.packets + count_by is_packet parts
+  skipped : new.skipped ≡ old.skipped + count_by is_skipped parts
+  refused : new.refused ≡ old.refused + count_by is_refusal parts
+
+run_counted : (tally : Tally) (run : List ℕ) (parts : List Part) → HasBytes run → IsReading run parts
+    → CountedRun tally (after_run (after_parts tally (reading run))) parts
+run_counted tally run parts has r =
+    let is : parts ≡ reading run = reading_is run parts has.1 r in
+    let sizes = sizes_reading run parts r in
+    let c = parts_counted tally parts in
+    let some = has.0 in
+    let placed = c.place in
+    let step = after_run_place (after_parts tally parts) (λ none. omega arith) in
+    subst (λ ps. CountedRun tally (after_run (after_parts tally ps)) parts) is
+    (subst (λ t. CountedRun tally t parts) (sym step)
+    (record { runs = ap (λ n. n + 1) c.runs; place = refl; packets = c.packets; skipped = c.skipped; refused = c.refused }))
+
+runs_text : (full : Bool) (tally : Tally) (runs : List (List ℕ)) (readings : List (List Part)) → tally.place ≡ 0 → AllByRecursion HasBytes runs → AreReadings runs readings
+    → runs_lines full tally runs ≡ readings_text full (tally.runs + 1) readings
+unfolding runs_lines
+runs_text full tally [] [] none has r = refl
+runs_text full tally [] (parts ∷ readings) none has r = absurd r
+runs_text full tally (run ∷ runs) [] none has r = absurd r
+runs_text full tally (run ∷ runs) (parts ∷ readings) none has r =
+    let is : parts ≡ reading run = reading_is run parts has.0.1 r.0 in
+    let next = after_run (after_parts tally (reading run)) in
+    let c = run_counted tally run parts has.0 r.0 in
+    let here : parts_lines full tally (reading run) ≡ items_text full (tally.runs + 1) 0 parts =
+    parts_text full tally (reading run) ∙ ap (λ n. items_text full (tally.runs + 1) n (reading run)) none ∙ ap (items_text full (tally.runs + 1) 0) (sym is) in
+    ap (λ l. l ++ runs_lines full next runs) here
+    ∙ ap (λ l. items_text full (tally.runs + 1) 0 parts ++ l)
+    (runs_text full next runs readings c.place has.1 r.1 ∙ ap (λ n. readings_text full (n + 1) readings) c.runs)
+
+record CountedRuns (old new : Tally) (readings : List (List Part)) : Type 0 where
+  runs : new.runs ≡ old.runs + length readings
+  packets : new.packets ≡ old.packets + count_items is_packet readings
+  skipped : new.skipped ≡ old.skipped + count_items is_skipped readings
+  refused : new.refused ≡ old.refused + count_items is_refusal readings
+
+runs_counted : (tally : Tally) (runs : List (List ℕ)) (readings : List (List Part)) → AllByRecursion HasBytes runs → AreReadings runs readings
+    → CountedRuns tally (after_runs tally runs) readings
+unfolding after_runs
+runs_counted tally [] [] has r = record { runs = omega arith; packets = omega arith; skipped = omega arith; refused = omega arith }
+runs_counted tally [] (parts ∷ readings) has r = absurd r
+runs_counted tally (run ∷ runs) [] has r = absurd r
+runs_counted tally (run ∷ runs) (parts ∷ readings) has r =
+    let c = run_counted tally run parts has.0 r.0 in
+    let rest = runs_counted (after_run (after_parts tally (reading run))) runs readings has.1 r.1 in
+    let a = rest.runs in
+    let b = rest.packets in
+    let d = rest.skipped in
+    let e = rest.refused in
+    let f = c.runs in
+    let g = c.packets in
+    let h = c.skipped in
+    let i = c.refused in
+    record {
+      runs = omega arith;
+      packets = omega (arith, count_readings is_packet parts readings);
+      skipped = omega (arith, count_readings is_skipped parts readings);
+      refused = omega (arith, count_readings is_refusal parts readings);
+    }
+
+-- ---- the runs of an input
+
+some_bytes : (runs : List (List ℕ)) → AllByRecursion AreBytes runs → AllByRecursion HasBytes (with_bytes runs)
+some_bytes [] h = tt
+some_bytes ([] ∷ runs) h = some_bytes runs h.1
+some_bytes ((b ∷ run) ∷ runs) h =
+    subst (λ t. AllByRecursion HasBytes (cond (not t) ((b ∷ run) ∷ with_bytes runs) (with_bytes runs))) (sym (ne_eqb (length (b ∷ run)) 0 (λ e. omega arith)))
+    ((omega arith, h.0), some_bytes runs h.1)
+
+concat_bytes : (runs : List (List ℕ)) → AllByRecursion AreBytes runs → AreBytes (concat runs)
+concat_bytes [] h = λ place. subst (λ (n : ℕ). n < 256) (sym (get_or_past [] place 0 (omega arith))) (omega arith)
+concat_bytes (run ∷ runs) h = AreBytes-append run (concat runs) h.0 (concat_bytes runs h.1)
+
+say_good : (lines good : List (List ℕ)) → Say lines good → good ≡ good_front lines
+unfolding good_front
+say_good [] [] h = refl
+say_good [] (bytes ∷ good) h = absurd h
+say_good (line ∷ lines) [] h = sym (ap (λ o. option_map_or (λ bytes. bytes ∷ good_front lines) o []) h)
+say_good (line ∷ lines) (bytes ∷ good) h =
+    ap (λ l. bytes ∷ l) (say_good lines good h.1) ∙ sym (ap (λ o. option_map_or (λ b. b ∷ good_front lines) o []) h.0)
+
+good_say : (lines : List (List ℕ)) → Say lines (good_front lines)
+unfolding good_front
+good_say [] = tt
+good_say (line ∷ lines) = go (good_say lines) (line_bytes line) refl
+  where
+    go : Say lines (good_front lines) → (o : Option (List ℕ)) → line_bytes line ≡ o → Say (line ∷ lines) (option_map_or (λ bytes. bytes ∷ good_front lines) o [])
+    go ih None is = is
+    go ih (Some bytes) is = (is, ih)
+
+says_good : (bytes : List ℕ) (good : List (List ℕ)) → Says bytes good → good ≡ good_front (lines_of bytes)
+says_good bytes good s =
+    let cut = ended_lines-cut bytes s.lines s.rest s.cut.each s.cut.last s.cut.whole in
+    say_good (s.lines ++ last_line s.rest) good s.say ∙ ap (λ l. good_front (l ++ last_line s.rest)) (sym cut.0) ∙ ap (λ r. good_front (ended_lines bytes ++ last_line r)) (sym cut.1)
+
+says_good_so_far : (bytes : List ℕ) (good : List (List ℕ)) → SaysSoFar bytes good → good ≡ good_front (ended_lines bytes)
+says_good_so_far bytes good s =
+    let cut = ended_lines-cut bytes s.lines s.rest s.cut.each s.cut.last s.cut.whole in
+    say_good s.lines good s.say ∙ ap good_front (sym cut.0)
+
+good_says : (bytes : List ℕ) → Says bytes (good_front (lines_of bytes))
+good_says bytes = record { lines = ended_lines bytes; rest = unended_line bytes; cut = is_cut bytes; say = good_say (lines_of bytes) }
+
+good_says_so_far : (bytes : List ℕ) → SaysSoFar bytes (good_front (ended_lines bytes))
+good_says_so_far bytes = record { lines = ended_lines bytes; rest = unended_line bytes; cut = is_cut bytes; say = good_say (ended_lines bytes) }
+
+pub runs_are : (form : Form) (bytes : List ℕ) (runs : List (List ℕ)) → HasRuns form bytes runs → runs ≡ runs_of form bytes
+runs_are Raw bytes runs h = h
+runs_are Joined bytes runs h = h.2 ∙ ap (λ good. with_bytes (concat good ∷ [])) (says_good bytes h.0 h.1)
+runs_are Apart bytes runs h = h.2 ∙ ap with_bytes (says_good bytes h.0 h.1)
+
+are_runs : (form : Form) (bytes : List ℕ) → HasRuns form bytes (runs_of form bytes)
+are_runs Raw bytes = refl
+are_runs Joined bytes = (good_front (lines_of bytes), good_says bytes, refl)
+are_runs Apart bytes = (good_front (lines_of bytes), good_says bytes, refl)
+
+pub runs_have_bytes : (form : Form) (bytes : List ℕ) → AreBytes bytes → AllByRecursion HasBytes (runs_of form bytes)
+runs_have_bytes Raw bytes fits = some_bytes (bytes ∷ []) (fits, tt)
+runs_have_bytes Joined bytes fits = some_bytes (concat (good_front (lines_of bytes)) ∷ []) (concat_bytes (good_front (lines_of bytes)) (good_front-bytes (lines_of bytes)), tt)
+runs_have_bytes Apart bytes fits = some_bytes (good_front (lines_of bytes)) (good_front-bytes (lines_of bytes))
+
+have_readings : (runs : List (List ℕ)) → AllByRecursion HasBytes runs → (readings : List (List Part)) × AreReadings runs readings
+have_readings [] h = ([], tt)
+have_readings (run ∷ runs) h =
+    let rest = have_readings runs h.1 in
+    (reading run ∷ rest.0, (is_reading run h.0.1, rest.1))
+
+-- ---- the laws
+
+end_text : (full : Bool) (readings : List (List Part)) (tally : Tally) → CountedRuns no_tally tally readings → end_line full tally ≡ cond full [] (counts_text readings)
+end_text true readings tally c = refl
+end_text false readings tally c =
+    ap (λ n. counts_line n tally.packets tally.skipped tally.refused) (c.runs ∙ zero-add (length readings))
+    ∙ ap (λ n. counts_line (length readings) n tally.skipped tally.refused) (c.packets ∙ zero-add (count_items is_packet readings))
+    ∙ ap (λ n. counts_line (length readings) (count_items is_packet readings) n tally.refused) (c.skipped ∙ zero-add (count_items is_skipped readings))
+    ∙ ap (counts_line (length readings) (count_items is_packet readings) (count_items is_skipped readings)) (c.refused ∙ zero-add (count_items is_refusal readings))
+
+pub shown_is : (full : Bool) (form : Form) (bytes : List ℕ) (runs : List (List ℕ)) (readings : List (List Part)) → AreBytes bytes → HasRuns form bytes runs → AreReadings runs readings
+    → shown full form bytes ≡ readings_text full 1 readings ++ (cond full [] (counts_text readings))
+shown_is full form bytes runs readings fits has r =
+    let is = runs_are form bytes runs has in
+    let r' = subst (λ l. AreReadings l readings) is r in
+    let have = runs_have_bytes form bytes fits in
+    ap (λ l. l ++ end_line full (tally_of form bytes)) (runs_text full no_tally (runs_of form bytes) readings refl have r')
+    ∙ ap (λ l. readings_text full 1 readings ++ l) (end_text full readings (tally_of form bytes) (runs_counted no_tally (runs_of form bytes) readings have r'))
+
+pub refused_is : (form : Form) (bytes : List ℕ) (runs : List (List ℕ)) (readings : List (List Part)) → AreBytes bytes → HasRuns form bytes runs → AreReadings runs readings
+    → is_refused_input form bytes ≡ nat_lt 0 (count_items is_refusal readings)
+refused_is form bytes runs readings fits has r =
+    let is = runs_are form bytes runs has in
+    let c = runs_counted no_tally (runs_of form bytes) readings (runs_have_bytes form bytes fits) (subst (λ l. AreReadings l readings) is r) in
+    ap (nat_lt 0) (c.refused ∙ zero-add (count_items is_refusal readings))
+
+pub some_readings : (form : Form) (bytes : List ℕ) → AreBytes bytes
+    → (runs : List (List ℕ)) × (readings : List (List Part)) × HasRuns form bytes runs × AreReadings runs readings
+some_readings form bytes fits =
+    let r = have_readings (runs_of form bytes) (runs_have_bytes form bytes fits) in
+    (runs_of form bytes, r.0, are_runs form bytes, r.1)
+
+-- ---- an input that is cut off
+
+so_far_are : (form : Form) (bytes : List ℕ) (runs : List (List ℕ)) (open_bytes : List ℕ) → HasRunsSoFar form bytes runs open_bytes
+    → (runs ≡ ended_runs form bytes) × (open_bytes ≡ open_run form bytes)
+so_far_are Raw bytes runs open_bytes h = (h.0, h.1)
+so_far_are Joined bytes runs open_bytes h = (h.2, h.3 ∙ ap concat (says_good_so_far bytes h.0 h.1))
+so_far_are Apart bytes runs open_bytes h = (h.2 ∙ ap with_bytes (says_good_so_far bytes h.0 h.1), h.3)
+
+are_so_far : (form : Form) (bytes : List ℕ) → HasRunsSoFar form bytes (ended_runs form bytes) (open_run form bytes)
+are_so_far Raw bytes = (refl, refl)
+are_so_far Joined bytes = (good_front (ended_lines bytes), good_says_so_far bytes, refl, refl)
+are_so_far Apart bytes = (good_front (ended_lines bytes), good_says_so_far bytes, refl, refl)
+
+none_are_bytes : AreBytes []
+none_are_bytes = λ place. subst (λ (n : ℕ). n < 256) (sym (get_or_past [] place 0 (omega arith))) (omega arith)
+
+ended_have_bytes : (form : Form) (bytes : List ℕ) → AllByRecursion HasBytes (ended_runs form bytes)
+ended_have_bytes Raw bytes = tt
+ended_have_bytes Joined bytes = tt
+ended_have_bytes Apart bytes = some_bytes (good_front (ended_lines bytes)) (good_front-bytes (ended_lines bytes))
+
+open_has_bytes : (form : Form) (bytes : List ℕ) → AreBytes bytes → AreBytes (open_run form bytes)
+open_has_bytes Raw bytes fits = fits
+open_has_bytes Joined bytes fits = concat_bytes (good_front (ended_lines bytes)) (good_front-bytes (ended_lines bytes))
+open_has_bytes Apart bytes fits = none_are_bytes
+
+pub lines_have_bytes : (form : Form) → (form ≡ Joined) ⊎ (form ≡ Apart) → (bytes : List ℕ) → AreBytes (open_run form bytes)
+lines_have_bytes Raw is bytes = elim is [ inl j ↦ cc | inr a ↦ cc ]
+lines_have_bytes Joined is bytes = concat_bytes (good_front (ended_lines bytes)) (good_front-bytes (ended_lines bytes))
+lines_have_bytes Apart is bytes = none_are_bytes
+
+pub shown_so_far_is : (full : Bool) (form : Form) (bytes : List ℕ) (runs : List (List ℕ)) (open_bytes : List ℕ) (readings : List (List Part)) (parts : List Part)
+    → AreBytes bytes → HasRunsSoFar form bytes runs open_bytes → AreReadings runs readings → Drains false open_bytes parts
+    → shown_so_far full form bytes ≡ readings_text full 1 readings ++ items_text full (length readings + 1) 0 parts
+shown_so_far_is full form bytes runs open_bytes readings parts fits has r d =
+    let is = so_far_are form bytes runs open_bytes has in
+    let r' = subst (λ l. AreReadings l readings) is.0 r in
+    let have = ended_have_bytes form bytes in
+    let t = after_runs no_tally (ended_runs form bytes) in
+    let c = runs_counted no_tally (ended_runs form bytes) readings have r' in
+    let shown_items : parts ≡ items false (open_run form bytes) =
+    drained_items false (open_run form bytes) parts (open_has_bytes form bytes fits) (subst (λ l. Drains false l parts) is.1 d) in
+    let last : parts_lines full t (items false (open_run form bytes)) ≡ items_text full (length readings + 1) 0 parts =
+    parts_text full t (items false (open_run form bytes))
+    ∙ ap (λ n. items_text full (n + 1) t.place (items false (open_run form bytes))) (c.runs ∙ zero-add (length readings))
+    ∙ ap (λ n. items_text full (length readings + 1) n (items false (open_run form bytes))) (after_runs-place no_tally (ended_runs form bytes) refl)
+    ∙ ap (items_text full (length readings + 1) 0) (sym shown_items) in
+    ap (λ l. l ++ parts_lines full t (items false (open_run form bytes))) (runs_text full no_tally (ended_runs form bytes) readings refl have r')
+    ∙ ap (λ l. readings_text full 1 readings ++ l) last
+
+drain_within : (most : ℕ) (bytes : List ℕ) → AreBytes bytes → length bytes ≤ most → Drains false bytes (items false bytes)
+drain_within zero bytes fits short =
+    let none : bytes ≡ [] = empty bytes (omega arith) in
+    let is : decided false bytes ≡ None = ap (decided false) none ∙ decided_nothing false in
+    subst (Drains false bytes) (sym (items_undecided false bytes is)) (undecided_none false bytes is)
+  where
+    empty : (l : List ℕ) → length l ≡ 0 → l ≡ []
+    empty [] h = refl
+    empty (b ∷ l) h = absurd (omega arith)
+drain_within (suc most) bytes fits short = by_first (decided false bytes) refl
+    (λ part is. drain_within most (drop (part_size part) bytes) (AreBytes-drop (part_size part) bytes fits)
+    (omega (arith, length-drop (part_size part) bytes, part_size-positive part, part_size-decided false bytes part fits is)))
+  where
+    by_first : (o : Option Part) → decided false bytes ≡ o
+        → ((part : Part) → decided false bytes ≡ Some part → Drains false (drop (part_size part) bytes) (items false (drop (part_size part) bytes)))
+        → Drains false bytes (items false bytes)
+    by_first None is tails = subst (Drains false bytes) (sym (items_undecided false bytes is)) (undecided_none false bytes is)
+    by_first (Some part) is tails = subst (Drains false bytes) (sym (items_decided false bytes part fits is)) (first_decided false bytes part fits is, tails part is)
+
+items_drain : (bytes : List ℕ) → AreBytes bytes → Drains false bytes (items false bytes)
+items_drain bytes fits = drain_within (length bytes) bytes fits (omega arith)
+
+pub some_so_far : (form : Form) (bytes : List ℕ) → AreBytes bytes
+    → (runs : List (List ℕ)) × (open_bytes : List ℕ) × (readings : List (List Part)) × (parts : List Part)
+    × HasRunsSoFar form bytes runs open_bytes × AreReadings runs readings × Drains false open_bytes parts
+some_so_far form bytes fits =
+    let r = have_readings (ended_runs form bytes) (ended_have_bytes form bytes) in (
+      ended_runs form bytes,
+      open_run form bytes,
+      r.0,
+      items false (open_run form bytes),
+      are_so_far form bytes,
+      r.1,
+      items_drain (open_run form bytes) (open_has_bytes form bytes fits),
+    )

@@ -1,0 +1,144 @@
+-- Where the bytes of an input are known, the answer and the text are those of these bytes.
+use Rattle.std.proofs.Common.{◌≡◌, ℕ, ◌+◌, ◌-◌, ◌<◌, ◌≤◌, Bool, true, false, cond, ◌||◌, nat_le, List, [], ◌∷◌, ◌++◌, length, take, drop, Option, Some, None, is_some, Result, Ok, Err, inl, inr, refl, sym, subst, ap, ◌∙◌, arith, append_assoc, append-nil, length-append}
+use Rattle.std.specs.Option.{option_map_or}
+use Rattle.std.specs.Io.KnownBytes.{Appends, Consumes, IsAtEnd}
+use Rattle.std.proofs.lemmas.List.{take_all}
+use Rattle.std.proofs.Math.Seq.{take-add, take-append_seam, drop-append_seam}
+use Rattle.std.proofs.lemmas.Bool.{le-leb, lt-leb}
+use Rattle.osdp_tool_input.specs.declared.form.Form.{Form}
+use Rattle.osdp_tool_input.specs.Runs.{first_bad, first_bad_ended}
+use Rattle.osdp_tool_input.proofs.FormLemmas.{bad_stays}
+use Rattle.osdp_tool_lines.specs.Tally.{no_tally}
+use Rattle.osdp_tool_lines.specs.Told.{after_runs, runs_lines, end_line}
+use Rattle.osdp_tool_streams.specs.declared.fault.ToolFault.{ToolFault}
+use Rattle.osdp_tool_streams.specs.declared.fault.ToolFault.TheVariants.{NotHex, TooLong, BadWords, BadStep}
+use Rattle.osdp_tool_streams.specs.declared.fault.ToolFault.TheVariants.{HoldsPacket, NotQuiet, ReadFailed}
+use Rattle.osdp_tool_streams.specs.declared.fault.ToolFault.TheVariants.{WriteFailed, NoMemory}
+use Rattle.osdp_tool_show.specs.Shown.{shown, shown_so_far, answer_to, is_refused_input, ends_within}
+use Rattle.osdp_tool_show.specs.Ending.{Stream, streamed, Ends, IsWhole, EndsWhole}
+
+-- what was consumed of known bytes is their front
+consumed : (bytes read : List ℕ) (after : Option (List ℕ)) → Consumes (Some bytes) after read → (rest : List ℕ) × (after ≡ Some rest) × (bytes ≡ read ++ rest)
+consumed bytes read None h = absurd h
+consumed bytes read (Some rest) h = (rest, refl, h)
+
+all_read : (bytes read : List ℕ) (after : Option (List ℕ)) → Consumes (Some bytes) after read → IsAtEnd after → bytes ≡ read
+all_read bytes read None h e = absurd h
+all_read bytes read (Some rest) h e = h ∙ ap (λ l. read ++ l) e ∙ append-nil read
+
+or_true : (b : Bool) → (b || true) ≡ true
+or_true true = refl
+or_true false = refl
+
+within_ends : (form : Form) (limit : ℕ) (bytes : List ℕ) → length bytes ≤ limit → ends_within form limit bytes ≡ true
+within_ends form limit bytes h = ap (λ t. t || is_some (first_bad_ended form (take limit bytes))) (le-leb (length bytes) limit h)
+
+bad_ends : (form : Form) (limit line : ℕ) (bytes : List ℕ) → first_bad_ended form (take limit bytes) ≡ Some line → ends_within form limit bytes ≡ true
+bad_ends form limit line bytes h = ap (λ o. nat_le (length bytes) limit || is_some o) h ∙ or_true (nat_le (length bytes) limit)
+
+cut_goes_on : (form : Form) (limit : ℕ) (bytes : List ℕ) → limit < length bytes → first_bad_ended form (take limit bytes) ≡ None → ends_within form limit bytes ≡ false
+cut_goes_on form limit bytes long none =
+    ap (λ o. nat_le (length bytes) limit || is_some o) none ∙ ap (λ t. t || false) (lt-leb (length bytes) limit long)
+
+whole_ended : (full : Bool) (form : Form) (limit : ℕ) (bytes : List ℕ) (output : Stream) (result : Result Bool ToolFault) → ends_within form limit bytes ≡ true
+    → result ≡ answer_to form (take limit bytes) → Appends output.before output.after (shown full form (take limit bytes))
+    → IsWhole full form limit bytes output result
+whole_ended full form limit bytes output result ends answer text = record {
+  answer = answer ∙ sym (ap (λ t. cond t (answer_to form (take limit bytes)) (Err TooLong)) ends);
+  text = subst (Appends output.before output.after) (sym (ap (λ t. cond t (shown full form (take limit bytes)) (shown_so_far full form (take limit bytes))) ends)) text;
+}
+
+whole_cut : (full : Bool) (form : Form) (limit : ℕ) (bytes : List ℕ) (output : Stream) → ends_within form limit bytes ≡ false
+    → Appends output.before output.after (shown_so_far full form (take limit bytes)) → IsWhole full form limit bytes output (Err TooLong)
+whole_cut full form limit bytes output ends text = record {
+  answer = sym (ap (λ t. cond t (answer_to form (take limit bytes)) (Err TooLong)) ends);
+  text = subst (Appends output.before output.after) (sym (ap (λ t. cond t (shown full form (take limit bytes)) (shown_so_far full form (take limit bytes))) ends)) text;
+}
+
+-- an input of which all was read, within the limit
+whole_within : (full : Bool) (form : Form) (limit : ℕ) (bytes : List ℕ) (output : Stream) (result : Result Bool ToolFault) → length bytes ≤ limit
+    → result ≡ answer_to form bytes → Appends output.before output.after (shown full form bytes) → IsWhole full form limit bytes output result
+whole_within full form limit bytes output result within answer text =
+    let all = take_all limit bytes within in
+    whole_ended full form limit bytes output result (within_ends form limit bytes within)
+    (answer ∙ sym (ap (answer_to form) all)) (subst (Appends output.before output.after) (sym (ap (shown full form) all)) text)
+
+answer_good : (form : Form) (bytes : List ℕ) (refused : Bool) → first_bad form bytes ≡ None → refused ≡ is_refused_input form bytes → Ok refused ≡ answer_to form bytes
+answer_good form bytes refused good is =
+    ap Ok is ∙ sym (ap (λ o. option_map_or (λ line. Err (NotHex line)) o (Ok (is_refused_input form bytes))) good)
+
+answer_bad : (form : Form) (bytes : List ℕ) (line : ℕ) → first_bad form bytes ≡ Some line → Err (NotHex line) ≡ answer_to form bytes
+answer_bad form bytes line bad = sym (ap (λ o. option_map_or (λ n. Err (NotHex n)) o (Ok (is_refused_input form bytes))) bad)
+
+-- after a bad line nothing counts
+bad_shown : (full : Bool) (form : Form) (read more : List ℕ) (line : ℕ) → first_bad_ended form read ≡ Some line → shown full form (read ++ more) ≡ shown full form read
+bad_shown full form read more line bad =
+    let one = (bad_stays form read more line bad).2 in
+    let none = (bad_stays form read [] line bad).2 in
+    let text = λ (runs : List (List ℕ)). runs_lines full no_tally runs ++ end_line full (after_runs no_tally runs) in
+    ap text (one ∙ sym none) ∙ ap (shown full form) (append-nil read)
+
+take_after : (n : ℕ) (xs ys : List ℕ) → length xs ≤ n → take n (xs ++ ys) ≡ xs ++ take (n - length xs) ys
+take_after n xs ys h =
+    let k = n - length xs in
+    let sum : n ≡ length xs + k = omega arith in
+    ap (λ m. take m (xs ++ ys)) sum ∙ take-add (length xs) k (xs ++ ys)
+    ∙ ap (λ l. l ++ take k (drop (length xs) (xs ++ ys))) (take-append_seam xs ys) ∙ ap (λ l. xs ++ take k l) (drop-append_seam xs ys)
+
+whole_at_bad_line : (full : Bool) (form : Form) (limit : ℕ) (bytes read rest : List ℕ) (output : Stream) (line : ℕ) → bytes ≡ read ++ rest → length read ≤ limit
+    → first_bad_ended form read ≡ Some line → Appends output.before output.after (shown full form read) → IsWhole full form limit bytes output (Err (NotHex line))
+whole_at_bad_line full form limit bytes read rest output line parts within bad text =
+    let more = take (limit - length read) rest in
+    let front : take limit bytes ≡ read ++ more = ap (take limit) parts ∙ take_after limit read rest within in
+    let stays = bad_stays form read more line bad in
+    whole_ended full form limit bytes output (Err (NotHex line)) (bad_ends form limit line bytes (ap (first_bad_ended form) front ∙ stays.1))
+    (answer_bad form (read ++ more) line stays.0 ∙ sym (ap (answer_to form) front))
+    (subst (Appends output.before output.after) (sym (ap (shown full form) front ∙ bad_shown full form read more line bad)) text)
+
+whole_past : (full : Bool) (form : Form) (limit one : ℕ) (bytes read rest : List ℕ) (output : Stream) → bytes ≡ (read ++ one ∷ []) ++ rest → length read ≡ limit
+    → first_bad_ended form read ≡ None → Appends output.before output.after (shown_so_far full form read) → IsWhole full form limit bytes output (Err TooLong)
+whole_past full form limit one bytes read rest output parts whole good text =
+    let regrouped : bytes ≡ read ++ (one ∷ [] ++ rest) = parts ∙ append_assoc read (one ∷ []) rest in
+    let front : take limit bytes ≡ read =
+    ap (take limit) regrouped ∙ ap (λ n. take n (read ++ (one ∷ [] ++ rest))) (sym whole) ∙ take-append_seam read (one ∷ [] ++ rest) in
+    let lengths = ap length parts in
+    let a = length-append (read ++ one ∷ []) rest in
+    let b = length-append read (one ∷ []) in
+    whole_cut full form limit bytes output (cut_goes_on form limit bytes (omega arith) (ap (first_bad_ended form) front ∙ good))
+    (subst (Appends output.before output.after) (sym (ap (shown_so_far full form) front)) text)
+
+whole_by : (full : Bool) (form : Form) (limit : ℕ) (bytes : List ℕ) (after : Option (List ℕ)) (failed : Bool) (output : Stream) (result : Result Bool ToolFault)
+    → Ends full form limit (streamed (Some bytes) after failed) output result → failed ≡ false → output.failed ≡ false → (result ≡ Err NoMemory → ⊥)
+    → IsWhole full form limit bytes output result
+whole_by full form limit bytes after failed output (Ok refused) e well well_too memory =
+    let all = all_read bytes e.read after e.taken e.at_end in
+    whole_within full form limit bytes output (Ok refused) (subst (λ (l : List ℕ). length l ≤ limit) (sym all) e.within)
+    (answer_good form e.read refused e.good e.answer ∙ ap (answer_to form) (sym all))
+    (subst (λ l. Appends output.before output.after (shown full form l)) (sym all) e.text)
+whole_by full form limit bytes after failed output (Err (NotHex line)) e well well_too memory =
+    let read = e.earlier ++ e.piece in
+    elim e.ended [
+      | inl bad ↦
+          let c = consumed bytes read after e.taken in
+          whole_at_bad_line full form limit bytes read c.0 output line c.2 e.within bad e.text
+      | inr end ↦
+          let all = all_read bytes read after e.taken end in
+          whole_within full form limit bytes output (Err (NotHex line)) (subst (λ (l : List ℕ). length l ≤ limit) (sym all) e.within)
+          (answer_bad form read line e.bad ∙ ap (answer_to form) (sym all))
+          (subst (λ l. Appends output.before output.after (shown full form l)) (sym all) e.text)
+    ]
+whole_by full form limit bytes after failed output (Err TooLong) e well well_too memory =
+    let c = consumed bytes (e.read ++ e.one_more ∷ []) after e.taken in
+    whole_past full form limit e.one_more bytes e.read c.0 output c.2 e.whole e.good e.text
+whole_by full form limit bytes after failed output (Err ReadFailed) e well well_too memory = let told = e.input_failed in cc
+whole_by full form limit bytes after failed output (Err WriteFailed) e well well_too memory = let told = e.1 in cc
+whole_by full form limit bytes after failed output (Err NoMemory) e well well_too memory = absurd (memory refl)
+whole_by full form limit bytes after failed output (Err BadWords) e well well_too memory = absurd e
+whole_by full form limit bytes after failed output (Err (BadStep line)) e well well_too memory = absurd e
+whole_by full form limit bytes after failed output (Err (HoldsPacket step)) e well well_too memory = absurd e
+whole_by full form limit bytes after failed output (Err (NotQuiet step)) e well well_too memory = absurd e
+
+pub ends_whole : (full : Bool) (form : Form) (limit : ℕ) (before after : Option (List ℕ)) (failed : Bool) (output : Stream) (result : Result Bool ToolFault)
+    → Ends full form limit (streamed before after failed) output result → EndsWhole full form limit (streamed before after failed) output result
+ends_whole full form limit None after failed output result e = tt
+ends_whole full form limit (Some bytes) after failed output result e = λ well well_too memory. whole_by full form limit bytes after failed output result e well well_too memory

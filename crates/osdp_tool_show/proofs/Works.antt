@@ -1,0 +1,450 @@
+-- A capture that is read to its end.
+use Rattle.std.proofs.Common.{◌≡◌, ℕ, ◌+◌, ◌-◌, ◌≤◌, Bool, true, false, List, [], ◌∷◌, ◌++◌, length, take, drop, take-append-drop, Option, Some, None, Result, Ok, Err, OnOk, OnErr, IfErr, ◌⊎◌, inl, inr, refl, sym, subst, ap, ◌∙◌, arith, append_assoc, append-nil, length-append}
+use Rattle.std.specs.Prelude.{IsErrAnd}
+use Rattle.std.specs.Io.KnownBytes.{Appends, Consumes, Keeps}
+use Rattle.std.proofs.KnownBytes.{Consumes-nil, Consumes-trans}
+use Rattle.std.proofs.KnownBytes.{Appends-nil, Appends-trans, Appends-kept}
+use Rattle.osdp_frame.specs.Held.{Held}
+use Rattle.osdp_frame_laws.proofs.Readings.{decided_nothing, items_undecided}
+use Rattle.osdp_tool_input.specs.declared.form.Form.{Form}
+use Rattle.osdp_tool_input.specs.declared.form.Form.TheVariants.{Raw, Joined, Apart}
+use Rattle.osdp_tool_input.specs.Cut.{line_feed, unended_line}
+use Rattle.osdp_tool_input.specs.Line.{line_bytes}
+use Rattle.osdp_tool_input.specs.Runs.{ended_runs, open_run, runs_of, first_bad, first_bad_ended, closed_runs}
+use Rattle.osdp_tool_input.proofs.FormLemmas.{feed_joined, feed_apart, feed_bad, end_joined, end_apart, end_bad, bad_stays}
+use Rattle.osdp_tool_lines.specs.Tally.{no_tally, after_parts}
+use Rattle.osdp_tool_lines.specs.Told.{parts_lines, after_runs, runs_lines, end_line, tally_so_far, lines_so_far}
+use Rattle.osdp_tool_lines.proofs.Lines.{after_parts-nil, parts_lines-nil}
+use Rattle.osdp_tool_show.specs.declared.capture.Capture.{Capture}
+use Rattle.osdp_tool_show.specs.declared.report.Report.{Report}
+use Rattle.osdp_tool_streams.specs.declared.fault.ToolFault.{ToolFault}
+use Rattle.osdp_tool_streams.specs.declared.fault.ToolFault.TheVariants.{NotHex, TooLong, BadWords, BadStep}
+use Rattle.osdp_tool_streams.specs.declared.fault.ToolFault.TheVariants.{HoldsPacket, NotQuiet, ReadFailed}
+use Rattle.osdp_tool_streams.specs.declared.fault.ToolFault.TheVariants.{WriteFailed, NoMemory}
+use Rattle.osdp_tool_show.specs.Machine.{IsSettled, IsStep, EndedRun}
+use Rattle.osdp_tool_show.specs.Written.{IsBeginning, StopsWithin}
+use Rattle.osdp_tool_show.proofs.Beginnings.{begun_all, stops_by}
+use Rattle.osdp_tool_show.specs.Shown.{shown, shown_so_far}
+use Rattle.osdp_tool_show.specs.Ending.{streamed, EndsAtBadLine, EndsAtFailedRead, EndsPartWay}
+use Rattle.osdp_tool_show.specs.Capture.{Follows, FollowsIf, TookPiece, TookPart, StopsInPiece}
+use Rattle.osdp_tool_show.specs.Works.{Works, Answered, Closed, EndedInput, EndsLine, ReadToEnd, ReadToBadLine, ReadToLimit, ReadToFailure, ReadPart, StopsAtEnd, StopsClosing}
+use Rattle.osdp_tool_show.proofs.Pieces.{took_both, nothing_bad, told_nothing}
+
+-- ---- reading
+
+-- the bytes read so far, within the limit
+pub record HasRead (limit left : ℕ) (old new : Capture) (input_before input_after before after : Option (List ℕ)) : Type 0 where
+  pub read : List ℕ
+  pub taken : Consumes input_before input_after read
+  pub count : length read + left ≡ limit
+  pub took : TookPiece read true old new before after
+
+pub read_more : (limit left count : ℕ) (piece : List ℕ) (old mid new : Capture) (a b c : Option (List ℕ)) (x y z : Option (List ℕ))
+    → length piece ≡ count → count ≤ left → HasRead limit left old mid a b x y → Consumes b c piece → TookPiece piece true mid new y z
+    → HasRead limit (left - count) old new a c x z
+read_more limit left count piece old mid new a b c x y z sized within h taken took =
+    let was = h.count in
+    let lengths = length-append h.read piece in
+    record {
+      read = h.read ++ piece;
+      taken = Consumes-trans a b c h.read piece h.taken taken;
+      count = omega arith;
+      took = took_both h.read piece true old mid new x y z h.took took;
+    }
+
+pub read_bad : (limit left count : ℕ) (piece : List ℕ) (old mid new : Capture) (a b c : Option (List ℕ)) (x y z : Option (List ℕ))
+    → length piece ≡ count → count ≤ left → count ≤ 65536 → HasRead limit left old mid a b x y → Consumes b c piece → TookPart piece false mid new y z
+    → ReadToBadLine limit old new a c x z
+read_bad limit left count piece old mid new a b c x y z sized within small h taken took =
+    let was = h.count in
+    let lengths = length-append h.read piece in
+    record {
+      earlier = h.read;
+      piece = piece;
+      taken = Consumes-trans a b c h.read piece h.taken taken;
+      within = omega arith;
+      one_piece = omega arith;
+      most = took.0;
+      mid = mid;
+      middle = y;
+      took_earlier = h.took;
+      took = took.1;
+    }
+
+pub read_stops : (limit left count : ℕ) (piece : List ℕ) (old mid : Capture) (a b c : Option (List ℕ)) (x y now : Option (List ℕ))
+    → length piece ≡ count → count ≤ left → HasRead limit left old mid a b x y → Consumes b c piece → StopsInPiece piece mid y now
+    → ReadPart limit old a c x now
+read_stops limit left count piece old mid a b c x y now sized within h taken stops =
+    let was = h.count in
+    let lengths = length-append h.read piece in
+    record {
+      read = h.read;
+      piece = piece;
+      taken = Consumes-trans a b c h.read piece h.taken taken;
+      within = omega arith;
+      mid = mid;
+      middle = y;
+      took = h.took;
+      stops = stops;
+    }
+
+single : (xs : List ℕ) → length xs ≡ 1 → (x : ℕ) × (xs ≡ x ∷ [])
+single [] h = absurd (omega arith)
+single (x ∷ []) h = (x, refl)
+single (x ∷ y ∷ xs) h = absurd (omega arith)
+
+pub read_past : (limit left count : ℕ) (piece : List ℕ) (old new : Capture) (a b c : Option (List ℕ)) (x y : Option (List ℕ))
+    → left ≤ 0 → length piece ≡ count → count ≤ 1 → (count ≡ 0 → ⊥) → HasRead limit left old new a b x y → Consumes b c piece
+    → ReadToLimit limit old new a c x y
+read_past limit left count piece old new a b c x y none sized within some h taken =
+    let one = single piece (omega arith) in
+    let was = h.count in
+    record {
+      read = h.read;
+      one_more = one.0;
+      taken = Consumes-trans a b c h.read (one.0 ∷ []) h.taken (subst (Consumes b c) one.1 taken);
+      whole = omega arith;
+      took = h.took;
+    }
+
+-- ---- the end
+
+pub lines_closed : (full : Bool) (runs : List (List ℕ)) → lines_so_far full runs [] ≡ runs_lines full no_tally runs
+lines_closed full runs =
+    ap (λ l. runs_lines full no_tally runs ++ l) (ap (parts_lines full (after_runs no_tally runs)) (items_undecided false [] (decided_nothing false)) ∙ parts_lines-nil full (after_runs no_tally runs))
+    ∙ append-nil (runs_lines full no_tally runs)
+
+pub tally_closed : (runs : List (List ℕ)) → tally_so_far runs [] ≡ after_runs no_tally runs
+tally_closed runs = ap (after_parts (after_runs no_tally runs)) (items_undecided false [] (decided_nothing false)) ∙ after_parts-nil (after_runs no_tally runs)
+
+pub closed_by : (old new : Capture) (next : Held) (mid : Report) (before middle written : Option (List ℕ))
+    → EndedRun old.framer next old.report mid before middle → new.report.tally ≡ mid.tally → new.ended ≡ old.ended
+    → Appends middle written (end_line mid.full mid.tally) → Closed old new before written
+closed_by old new next mid before middle written e tally ended w = record {
+  text = λ full start runs open_bytes s.
+      let closed = closed_runs runs open_bytes in
+      let at = e.stands full start runs open_bytes s in
+      let last : end_line mid.full mid.tally ≡ end_line full (after_runs no_tally closed) =
+      ap (λ f. end_line f mid.tally) at.full_is ∙ ap (end_line full) (at.tally ∙ tally_closed closed) in
+      Appends-trans start middle written (runs_lines full no_tally closed) (end_line full (after_runs no_tally closed))
+      (subst (Appends start middle) (lines_closed full closed) at.lines) (subst (Appends middle written) last w);
+  tally = λ full start runs open_bytes s.
+      tally ∙ (e.stands full start runs open_bytes s).tally ∙ tally_closed (closed_runs runs open_bytes);
+  same = ended;
+}
+
+pub fed_end : (form : Form) (read : List ℕ) → (form ≡ Joined) ⊎ (form ≡ Apart) → first_bad_ended form read ≡ None
+    → (runs_of form read ≡ closed_runs (ended_runs form (read ++ line_feed ∷ [])) (open_run form (read ++ line_feed ∷ [])))
+    × (first_bad form read ≡ first_bad_ended form (read ++ line_feed ∷ []))
+fed_end Raw read is good = elim is [ inl j ↦ cc | inr a ↦ cc ]
+fed_end Joined read is good = go (line_bytes (unended_line read)) refl
+  where
+    go : (o : Option (List ℕ)) → line_bytes (unended_line read) ≡ o
+        → (runs_of Joined read ≡ closed_runs (ended_runs Joined (read ++ line_feed ∷ [])) (open_run Joined (read ++ line_feed ∷ [])))
+        × (first_bad Joined read ≡ first_bad_ended Joined (read ++ line_feed ∷ []))
+    go None says =
+        let e = end_bad Joined read is good says in
+        let f = feed_bad Joined read is good says in
+        (e.1 ∙ sym (ap (λ r. closed_runs [] r) f.1), e.0 ∙ sym f.2)
+    go (Some bytes) says =
+        let e = end_joined read bytes good says in
+        let f = feed_joined read bytes good says in
+        (e.1 ∙ sym (ap (λ r. closed_runs [] r) f.0), e.0 ∙ sym f.1)
+fed_end Apart read is good = go (line_bytes (unended_line read)) refl
+  where
+    go : (o : Option (List ℕ)) → line_bytes (unended_line read) ≡ o
+        → (runs_of Apart read ≡ closed_runs (ended_runs Apart (read ++ line_feed ∷ [])) (open_run Apart (read ++ line_feed ∷ [])))
+        × (first_bad Apart read ≡ first_bad_ended Apart (read ++ line_feed ∷ []))
+    go None says =
+        let e = end_bad Apart read is good says in
+        let f = feed_bad Apart read is good says in
+        (e.1 ∙ sym (ap (λ r. closed_runs r []) f.0), e.0 ∙ sym f.2)
+    go (Some bytes) says =
+        let e = end_apart read bytes good says in
+        let f = feed_apart read bytes good says in
+        (e.1 ∙ sym (append-nil (closed_runs (ended_runs Apart read) bytes)) ∙ sym (ap (λ r. closed_runs r []) f.0), e.0 ∙ sym f.1)
+
+pub ends_raw : (old : Capture) (before : Option (List ℕ)) → old.form ≡ Raw → IsSettled old.framer → EndsLine true old old before before
+ends_raw old before raw settled = record {
+  ends = λ full form start read f. by_form full form start read f (sym f.form_is ∙ raw);
+  settled = settled;
+  load_is = omega arith;
+}
+  where
+    by_form : (full : Bool) (form : Form) (start : Option (List ℕ)) (read : List ℕ) → Follows full form start read old before → form ≡ Raw
+        → EndedInput full form start read true old before
+    by_form full Raw start read f is = record { ended = []; open_bytes = read; runs = refl; bad = refl; stands = f.stands }
+    by_form full Joined start read f is = cc
+    by_form full Apart start read f is = cc
+
+pub ends_line : (good : Bool) (old new : Capture) (before after : Option (List ℕ)) → (old.form ≡ Joined) ⊎ (old.form ≡ Apart)
+    → TookPiece (line_feed ∷ []) good old new before after → EndsLine good old new before after
+ends_line good old new before after is t = record {
+  ends = λ full form start read f. by_good good full form start read (fed_end form read (subst (λ x. (x ≡ Joined) ⊎ (x ≡ Apart)) f.form_is is) f.good) (t.follows full form start read f);
+  settled = t.settled;
+  load_is = t.load_is;
+}
+  where
+    by_good : (g : Bool) (full : Bool) (form : Form) (start : Option (List ℕ)) (read : List ℕ)
+        → (runs_of form read ≡ closed_runs (ended_runs form (read ++ line_feed ∷ [])) (open_run form (read ++ line_feed ∷ [])))
+        × (first_bad form read ≡ first_bad_ended form (read ++ line_feed ∷ []))
+        → FollowsIf g full form start (read ++ line_feed ∷ []) new after → EndedInput full form start read g new after
+    by_good true full form start read fed f = record {
+      ended = ended_runs form (read ++ line_feed ∷ []);
+      open_bytes = open_run form (read ++ line_feed ∷ []);
+      runs = fed.0;
+      bad = fed.1 ∙ f.good;
+      stands = f.stands;
+    }
+    by_good false full form start read fed f = record {
+      ended = ended_runs form (read ++ line_feed ∷ []);
+      open_bytes = open_run form (read ++ line_feed ∷ []);
+      runs = fed.0;
+      bad = fed.1 ∙ f.bad;
+      stands = f.stands;
+    }
+
+-- ---- the answers
+
+-- a call stopped once the input had ended
+part_at_end : (full : Bool) (form : Form) (limit : ℕ) (start before middle written input_before input_after : Option (List ℕ)) (input_failed output_failed : Bool)
+    (old mid : Capture) → ReadToEnd limit old mid input_before input_after before middle → StopsAtEnd mid middle written → Follows full form start [] old before
+    → EndsPartWay full form limit (streamed input_before input_after input_failed) (streamed start written output_failed)
+part_at_end full form limit start before middle written ib ia input_failed output_failed old mid r h f =
+    let within = r.within in
+    record {
+      read = r.read;
+      more = [];
+      taken = subst (Consumes ib ia) (sym (append-nil r.read)) r.taken;
+      within = subst (λ (l : List ℕ). length l ≤ limit + 1) (sym (append-nil r.read)) (omega arith);
+      text = h full form start r.read (r.took.follows full form start [] f);
+    }
+
+-- .. within a piece
+pub part_in_piece : (full : Bool) (form : Form) (limit : ℕ) (start before written input_before input_after : Option (List ℕ)) (input_failed output_failed : Bool)
+    (old : Capture) → ReadPart limit old input_before input_after before written → Follows full form start [] old before
+    → EndsPartWay full form limit (streamed input_before input_after input_failed) (streamed start written output_failed)
+part_in_piece full form limit start before written ib ia input_failed output_failed old r f =
+    let g = r.stops full form start r.read (r.took.follows full form start [] f) in
+    let regrouped : (r.read ++ g.0) ++ g.1 ≡ r.read ++ r.piece = append_assoc r.read g.0 g.1 ∙ ap (λ l. r.read ++ l) (sym g.2) in
+    let within = r.within in
+    record {
+      read = r.read ++ g.0;
+      more = g.1;
+      taken = subst (Consumes ib ia) (sym regrouped) r.taken;
+      within = subst (λ (l : List ℕ). length l ≤ limit + 1) (sym regrouped) (omega arith);
+      text = inl g.3;
+    }
+
+-- .. once a bad line had ended the input
+pub part_at_bad_line : (full : Bool) (form : Form) (limit : ℕ) (start before middle written input_before input_after : Option (List ℕ)) (input_failed output_failed : Bool)
+    (old mid : Capture) → ReadToBadLine limit old mid input_before input_after before middle → StopsClosing mid middle written → Follows full form start [] old before
+    → EndsPartWay full form limit (streamed input_before input_after input_failed) (streamed start written output_failed)
+part_at_bad_line full form limit start before middle written ib ia input_failed output_failed old mid r h f =
+    let earlier = r.took_earlier.follows full form start [] f in
+    let stops = r.took.follows full form start r.earlier earlier in
+    let fed = r.earlier ++ take r.most r.piece in
+    let more = drop r.most r.piece in
+    let whole : fed ++ more ≡ r.earlier ++ r.piece =
+    append_assoc r.earlier (take r.most r.piece) more ∙ ap (λ l. r.earlier ++ l) (take-append-drop r.most r.piece) in
+    let stays = bad_stays form fed more mid.ended stops.bad in
+    let text = h full start (ended_runs form fed) (open_run form fed) stops.stands in
+    let within = r.within in
+    record {
+      read = r.earlier ++ r.piece;
+      more = [];
+      taken = subst (Consumes ib ia) (sym (append-nil (r.earlier ++ r.piece))) r.taken;
+      within = subst (λ (l : List ℕ). length l ≤ limit + 1) (sym (append-nil (r.earlier ++ r.piece))) (omega arith);
+      text = inr (subst (λ l. StopsWithin start written (shown full form l)) whole
+          (subst (λ runs. StopsWithin start written (runs_lines full no_tally runs ++ end_line full (after_runs no_tally runs))) (sym stays.2) text));
+    }
+
+-- .. past the limit
+pub part_past_limit : (full : Bool) (form : Form) (limit : ℕ) (start before middle written input_before input_after : Option (List ℕ)) (input_failed output_failed : Bool)
+    (old mid : Capture) → ReadToLimit limit old mid input_before input_after before middle → IsBeginning written middle → Follows full form start [] old before
+    → EndsPartWay full form limit (streamed input_before input_after input_failed) (streamed start written output_failed)
+part_past_limit full form limit start before middle written ib ia input_failed output_failed old mid r h f =
+    let here = r.took.follows full form start [] f in
+    let whole = r.whole in
+    let lengths = length-append r.read (r.one_more ∷ []) in
+    record {
+      read = r.read;
+      more = r.one_more ∷ [];
+      taken = r.taken;
+      within = omega arith;
+      text = inl (stops_by start middle written (shown_so_far full form r.read) (shown_so_far full form r.read) [] here.stands.lines h (sym (append-nil _)));
+    }
+
+-- .. before anything was read
+pub part_at_once : (full : Bool) (form : Form) (limit : ℕ) (input output : Option (List ℕ)) (input_failed output_failed : Bool)
+    → EndsPartWay full form limit (streamed input input input_failed) (streamed output output output_failed)
+part_at_once full form limit input output input_failed output_failed = record {
+  read = [];
+  more = [];
+  taken = Consumes-nil input;
+  within = omega arith;
+  text = inl (stops_by output output output [] (shown_so_far full form []) (shown_so_far full form []) (Appends-nil output) (begun_all output) refl);
+}
+
+-- a step that fails after one that went well
+pub still_step : (fault : ToolFault) (was mid failed : Bool) → mid ≡ was → IsStep {T = Unit {0}} (Err fault) mid failed → IsStep {T = Unit {0}} (Err fault) was failed
+still_step fault was mid failed same s = subst (λ b. IsStep {T = Unit {0}} (Err fault) b failed) same s
+
+-- a fault that is handed on
+pub handed_on : {T : Type 0} (r : Result T ToolFault) (fault : ToolFault) → IsErrAnd r (λ f. f ≡ fault) → r ≡ Err fault
+handed_on (Ok x) fault h = absurd h
+handed_on (Err f) fault h = ap Err h
+
+-- the answer where a call stopped
+pub stopped_at_end : (fault : ToolFault) (old : Capture) (was failed : Bool) (before written : Option (List ℕ)) → IsStep {T = Unit {0}} (Err fault) was failed
+    → StopsAtEnd old before written → Answered old (Err fault) was failed before written
+stopped_at_end WriteFailed old was failed before written s h = (s, h)
+stopped_at_end NoMemory old was failed before written s h = (s, h)
+stopped_at_end (NotHex line) old was failed before written s h = absurd s
+stopped_at_end TooLong old was failed before written s h = absurd s
+stopped_at_end ReadFailed old was failed before written s h = absurd s
+stopped_at_end BadWords old was failed before written s h = absurd s
+stopped_at_end (BadStep line) old was failed before written s h = absurd s
+stopped_at_end (HoldsPacket step) old was failed before written s h = absurd s
+stopped_at_end (NotQuiet step) old was failed before written s h = absurd s
+
+pub stopped : (full : Bool) (form : Form) (limit : ℕ) (start written input_before input_after : Option (List ℕ)) (input_failed was failed : Bool) (fault : ToolFault)
+    → IsStep {T = Unit {0}} (Err fault) was failed → input_failed ≡ false
+    → EndsPartWay full form limit (streamed input_before input_after input_failed) (streamed start written failed)
+    → Works full form limit (streamed input_before input_after input_failed) (streamed start written failed) (Err fault)
+stopped full form limit start written ib ia input_failed was failed WriteFailed s well part = (well, s, part)
+stopped full form limit start written ib ia input_failed was failed NoMemory s well part = (well, part)
+stopped full form limit start written ib ia input_failed was failed (NotHex line) s well part = absurd s
+stopped full form limit start written ib ia input_failed was failed TooLong s well part = absurd s
+stopped full form limit start written ib ia input_failed was failed ReadFailed s well part = absurd s
+stopped full form limit start written ib ia input_failed was failed BadWords s well part = absurd s
+stopped full form limit start written ib ia input_failed was failed (BadStep line) s well part = absurd s
+stopped full form limit start written ib ia input_failed was failed (HoldsPacket step) s well part = absurd s
+stopped full form limit start written ib ia input_failed was failed (NotQuiet step) s well part = absurd s
+
+pub works_at_end : (full : Bool) (form : Form) (limit : ℕ) (start before middle written input_before input_after : Option (List ℕ)) (input_failed output_failed : Bool)
+    (old mid : Capture) (result : Result Bool ToolFault) → ReadToEnd limit old mid input_before input_after before middle → input_failed ≡ false
+    → Answered mid result false output_failed middle written → Follows full form start [] old before
+    → Works full form limit (streamed input_before input_after input_failed) (streamed start written output_failed) result
+works_at_end full form limit start before middle written ib ia input_failed output_failed old mid (Ok refused) r well a f =
+    let here = a.1 full form start r.read (r.took.follows full form start [] f) in
+    record {
+      read = r.read;
+      taken = r.taken;
+      at_end = r.at_end;
+      within = r.within;
+      good = here.0;
+      answer = here.1;
+      text = here.2;
+      input_well = well;
+      output_well = a.0;
+    }
+works_at_end full form limit start before middle written ib ia input_failed output_failed old mid (Err (NotHex line)) r well a f =
+    let here = a.1 full form start r.read (r.took.follows full form start [] f) in
+    record {
+      earlier = r.read;
+      piece = [];
+      taken = subst (Consumes ib ia) (sym (append-nil r.read)) r.taken;
+      within = subst (λ (l : List ℕ). length l ≤ limit) (sym (append-nil r.read)) r.within;
+      one_piece = omega arith;
+      good = (r.took.follows full form start [] f).good;
+      bad = subst (λ l. first_bad form l ≡ Some line) (sym (append-nil r.read)) here.0;
+      ended = inr r.at_end;
+      text = subst (λ l. Appends start written (shown full form l)) (sym (append-nil r.read)) here.1;
+      input_well = well;
+      output_well = a.0;
+    }
+works_at_end full form limit start before middle written ib ia input_failed output_failed old mid (Err TooLong) r well a f = absurd a
+works_at_end full form limit start before middle written ib ia input_failed output_failed old mid (Err ReadFailed) r well a f = absurd a
+works_at_end full form limit start before middle written ib ia input_failed output_failed old mid (Err WriteFailed) r well a f = (well, a.0, part_at_end full form limit start before middle written ib ia input_failed output_failed old mid r a.1 f)
+works_at_end full form limit start before middle written ib ia input_failed output_failed old mid (Err NoMemory) r well a f = (well, part_at_end full form limit start before middle written ib ia input_failed output_failed old mid r a.1 f)
+works_at_end full form limit start before middle written ib ia input_failed output_failed old mid (Err BadWords) r well a f = absurd a
+works_at_end full form limit start before middle written ib ia input_failed output_failed old mid (Err (BadStep line)) r well a f = absurd a
+works_at_end full form limit start before middle written ib ia input_failed output_failed old mid (Err (HoldsPacket step)) r well a f = absurd a
+works_at_end full form limit start before middle written ib ia input_failed output_failed old mid (Err (NotQuiet step)) r well a f = absurd a
+
+pub works_at_bad_line : (full : Bool) (form : Form) (limit : ℕ) (start before middle written input_before input_after : Option (List ℕ)) (input_failed output_failed : Bool)
+    (old mid new : Capture) → ReadToBadLine limit old mid input_before input_after before middle → input_failed ≡ false → output_failed ≡ false
+    → Closed mid new middle written → Follows full form start [] old before
+    → EndsAtBadLine full form limit (streamed input_before input_after input_failed) (streamed start written output_failed) new.ended
+works_at_bad_line full form limit start before middle written ib ia input_failed output_failed old mid new r well well_too c f =
+    let earlier = r.took_earlier.follows full form start [] f in
+    let stops = r.took.follows full form start r.earlier earlier in
+    let fed = r.earlier ++ take r.most r.piece in
+    let more = drop r.most r.piece in
+    let whole : fed ++ more ≡ r.earlier ++ r.piece =
+    append_assoc r.earlier (take r.most r.piece) more ∙ ap (λ l. r.earlier ++ l) (take-append-drop r.most r.piece) in
+    let line : Some mid.ended ≡ Some new.ended = ap Some (sym c.same) in
+    let stays = bad_stays form fed more mid.ended stops.bad in
+    let text = c.text full start (ended_runs form fed) (open_run form fed) stops.stands in
+    record {
+      earlier = r.earlier;
+      piece = r.piece;
+      taken = r.taken;
+      within = r.within;
+      one_piece = r.one_piece;
+      good = earlier.good;
+      bad = subst (λ l. first_bad form l ≡ Some new.ended) whole (stays.0 ∙ line);
+      ended = inl (subst (λ l. first_bad_ended form l ≡ Some new.ended) whole (stays.1 ∙ line));
+      text = subst (λ l. Appends start written (shown full form l)) whole
+          (subst (λ runs. Appends start written (runs_lines full no_tally runs ++ end_line full (after_runs no_tally runs))) (sym stays.2) text);
+      input_well = well;
+      output_well = well_too;
+    }
+
+-- what a write that went well gave
+written_well : {P : Type 0} (r : Result (Unit {0}) ToolFault) (failed : Bool) → IsStep r false failed → IfErr r (λ fault. fault ≡ WriteFailed) → OnOk r P → failed ≡ false → P
+written_well (Ok x) failed s e p well = p
+written_well {P} (Err fault) failed s e p well = absurd (no_failure fault failed s e well)
+  where
+    no_failure : (fault : ToolFault) (failed : Bool) → IsStep {T = Unit {0}} (Err fault) false failed → fault ≡ WriteFailed → failed ≡ false → ⊥
+    no_failure WriteFailed failed s e well = cc
+    no_failure (NotHex line) failed s e well = cc
+    no_failure TooLong failed s e well = cc
+    no_failure ReadFailed failed s e well = cc
+    no_failure NoMemory failed s e well = cc
+    no_failure BadWords failed s e well = cc
+    no_failure (BadStep line) failed s e well = cc
+    no_failure (HoldsPacket step) failed s e well = cc
+    no_failure (NotQuiet step) failed s e well = cc
+
+-- what was told is written, or a beginning of it
+begun_kept : (middle written : Option (List ℕ)) → Keeps middle written → IsBeginning written middle
+begun_kept None written k = tt
+begun_kept (Some x) None k = absurd k
+begun_kept (Some x) (Some y) k = ([], sym k ∙ sym (append-nil y))
+
+written_or_part : (r : Result (Unit {0}) ToolFault) (middle written : Option (List ℕ)) → OnOk r (Keeps middle written) → OnErr r (IsBeginning written middle)
+    → IsBeginning written middle
+written_or_part (Ok x) middle written kept stops = begun_kept middle written kept
+written_or_part (Err e) middle written kept stops = stops
+
+pub works_at_failed_read : (full : Bool) (form : Form) (limit : ℕ) (start before middle written input_before input_after : Option (List ℕ)) (input_failed output_failed : Bool)
+    (old mid : Capture) (r : Result (Unit {0}) ToolFault) → ReadToFailure limit old mid input_before input_after before middle → input_failed ≡ true
+    → IsStep r false output_failed → IfErr r (λ fault. fault ≡ WriteFailed) → OnOk r (Keeps middle written) → OnErr r (IsBeginning written middle) → Follows full form start [] old before
+    → EndsAtFailedRead full form limit (streamed input_before input_after input_failed) (streamed start written output_failed)
+works_at_failed_read full form limit start before middle written ib ia input_failed output_failed old mid r read failed step fault kept stops f =
+    let here = read.took.follows full form start [] f in
+    record {
+      read = read.read;
+      taken = read.taken;
+      within = read.within;
+      good = here.good;
+      text = λ well. Appends-kept start middle written (lines_so_far full (ended_runs form read.read) (open_run form read.read)) here.stands.lines (written_well r output_failed step fault kept well);
+      part = stops_by start middle written (shown_so_far full form read.read) (shown_so_far full form read.read) [] here.stands.lines
+          (written_or_part r middle written kept stops) (sym (append-nil _));
+      input_failed = failed;
+    }
+
+-- an input that failed before the call
+pub ends_at_once : (full : Bool) (form : Form) (limit : ℕ) (input output : Option (List ℕ)) (input_failed output_failed : Bool) → input_failed ≡ true
+    → EndsAtFailedRead full form limit (streamed input input input_failed) (streamed output output output_failed)
+ends_at_once full form limit input output input_failed output_failed failed = record {
+  read = [];
+  taken = Consumes-nil input;
+  within = omega arith;
+  good = nothing_bad form;
+  text = λ well. told_nothing full form output;
+  part = stops_by output output output [] (shown_so_far full form []) (shown_so_far full form []) (Appends-nil output) (begun_all output) refl;
+  input_failed = failed;
+}

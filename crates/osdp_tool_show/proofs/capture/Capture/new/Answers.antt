@@ -1,0 +1,16 @@
+use Rattle.std.proofs.Common.{refl}
+use Rattle.osdp_tool_show.specs.declared.capture.Capture.{Capture}
+use Rattle.osdp_tool_show.proofs.Pieces.{begins}
+use Rattle.osdp_tool_show.proofs.capture.Capture.new.Goals as goal
+
+pub returns-clause-follows : goal.returns-clause-follows
+returns-clause-follows c = λ start.
+    let capture : Capture = record {
+      form = c.args.form;
+      line = c.new.result;
+      bytes = c.new-2.result;
+      ended = 0;
+      framer = c.new-3.result;
+      report = record { full = c.args.full; tally = c.new-tally.result; text = c.in-Ok.text };
+    } in
+    begins c.args.full capture start c.new.ensures.items refl c.new-3.ensures refl c.new-tally.ensures c.in-Ok.ensures.bytes

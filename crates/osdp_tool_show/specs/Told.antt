@@ -1,0 +1,117 @@
+-- The text of show and check in the words of captures: lines, runs, readings, items.
+use Rattle.std.specs.Prelude.{◌≡◌, ◌↔◌, ℕ, ◌+◌, ◌<◌, ◌^◌, ◌||◌, Bool, true, false, nat_lt, if◌then◌else◌, List, [], ◌∷◌, ◌++◌, length, flat_map, count_by, Some, None}
+use Rattle.std.specs.List.{concat}
+use Rattle.osdp_frame.specs.Bytes.{AreBytes}
+use Rattle.osdp_frame.specs.Reading.{Part, Whole, Passed, Bad, part_size, IsReading}
+use Rattle.osdp_frame.specs.Items.{Drains}
+use Rattle.osdp_tool_input.specs.declared.form.Form.{Form}
+use Rattle.osdp_tool_input.specs.declared.form.Form.TheVariants.{Raw, Joined, Apart}
+use Rattle.osdp_tool_input.specs.Cut.{IsCut, last_line}
+use Rattle.osdp_tool_input.specs.Line.{line_bytes}
+use Rattle.osdp_tool_input.specs.Runs.{with_bytes}
+use Rattle.osdp_tool_lines.specs.ItemText.{is_refusal, item_line, counts_line}
+use Rattle.osdp_tool_show.specs.Shown.{shown, shown_so_far, is_refused_input}
+
+-- ---- the runs of an input
+
+-- what the lines above the first bad one say, line by line
+abbrev pub Say : List (List ℕ) → List (List ℕ) → Type 0
+Say [] [] = Unit {0}
+Say [] (bytes ∷ good) = ⊥
+Say (line ∷ lines) [] = line_bytes line ≡ None
+Say (line ∷ lines) (bytes ∷ good) = (line_bytes line ≡ Some bytes) × Say lines good
+
+-- the lines of an input that say these bytes; the last one ends with the input where bytes stand before it
+pub record Says (bytes : List ℕ) (good : List (List ℕ)) : Type 0 where
+  pub lines : List (List ℕ)
+  pub rest : List ℕ
+  pub cut : IsCut bytes lines rest
+  pub say : Say (lines ++ last_line rest) good
+
+-- those of an input that goes on, whose last line has not ended
+pub record SaysSoFar (bytes : List ℕ) (good : List (List ℕ)) : Type 0 where
+  pub lines : List (List ℕ)
+  pub rest : List ℕ
+  pub cut : IsCut bytes lines rest
+  pub say : Say lines good
+
+-- the runs with bytes: one of raw bytes, one of all lines, or one of each line
+abbrev pub HasRuns : Form → List ℕ → List (List ℕ) → Type 0
+HasRuns Raw bytes runs = runs ≡ with_bytes (bytes ∷ [])
+HasRuns Joined bytes runs = (good : List (List ℕ)) × Says bytes good × (runs ≡ with_bytes (concat good ∷ []))
+HasRuns Apart bytes runs = (good : List (List ℕ)) × Says bytes good × (runs ≡ with_bytes good)
+
+-- of an input that goes on: the runs that have ended, and the one that has not
+abbrev pub HasRunsSoFar : Form → List ℕ → List (List ℕ) → List ℕ → Type 0
+HasRunsSoFar Raw bytes runs open_bytes = (runs ≡ []) × (open_bytes ≡ bytes)
+HasRunsSoFar Joined bytes runs open_bytes = (good : List (List ℕ)) × SaysSoFar bytes good × (runs ≡ []) × (open_bytes ≡ concat good)
+HasRunsSoFar Apart bytes runs open_bytes = (good : List (List ℕ)) × SaysSoFar bytes good × (runs ≡ with_bytes good) × (open_bytes ≡ [])
+
+-- each run with its reading
+abbrev pub AreReadings : List (List ℕ) → List (List Part) → Type 0
+AreReadings [] [] = Unit {0}
+AreReadings [] (parts ∷ readings) = ⊥
+AreReadings (run ∷ runs) [] = ⊥
+AreReadings (run ∷ runs) (parts ∷ readings) = IsReading run parts × AreReadings runs readings
+
+-- ---- their text
+
+-- the items of a run from a place on: a line for each in full, else for each refusal
+abbrev pub items_text : Bool → ℕ → ℕ → List Part → List ℕ
+items_text full run place [] = []
+items_text full run place (part ∷ parts) =
+    (if full || is_refusal part then item_line run place part else []) ++ items_text full run (place + part_size part) parts
+
+-- the items of run after run, of which the first has this number
+abbrev pub readings_text : Bool → ℕ → List (List Part) → List ℕ
+readings_text full number [] = []
+readings_text full number (parts ∷ readings) = items_text full number 0 parts ++ readings_text full (number + 1) readings
+
+abbrev pub is_packet : Part → Bool
+is_packet (Whole p) = true
+is_packet (Passed b) = false
+is_packet (Bad fault) = false
+
+abbrev pub is_skipped : Part → Bool
+is_skipped (Whole p) = false
+is_skipped (Passed b) = true
+is_skipped (Bad fault) = false
+
+-- all items that fit, of all runs
+abbrev pub count_items : (Part → Bool) → List (List Part) → ℕ
+count_items fits readings = count_by fits (flat_map (λ parts. parts) readings)
+
+abbrev pub counts_text : List (List Part) → List ℕ
+counts_text readings =
+    counts_line (length readings) (count_items is_packet readings) (count_items is_skipped readings) (count_items is_refusal readings)
+
+-- Every input has its runs and every run its reading, and the text is that of these readings: line by line in
+-- full, else the refusals and the counts. It is refused where one of them is.
+pub record ShowsReadings : Type 0 where
+  pub some : (form : Form) (bytes : List ℕ) → AreBytes bytes
+      → (runs : List (List ℕ)) × (readings : List (List Part)) × HasRuns form bytes runs × AreReadings runs readings
+  pub text : (full : Bool) (form : Form) (bytes : List ℕ) (runs : List (List ℕ)) (readings : List (List Part)) → AreBytes bytes
+      → HasRuns form bytes runs → AreReadings runs readings
+      → shown full form bytes ≡ readings_text full 1 readings ++ (if full then [] else counts_text readings)
+  pub refused : (form : Form) (bytes : List ℕ) (runs : List (List ℕ)) (readings : List (List Part)) → AreBytes bytes
+      → HasRuns form bytes runs → AreReadings runs readings
+      → is_refused_input form bytes ≡ nat_lt 0 (count_items is_refusal readings)
+
+-- The text of an input that is cut off is that of the readings of the runs that have ended, and of those items of
+-- the last that its bytes decide.
+pub record ShowsDecided : Type 0 where
+  pub some : (form : Form) (bytes : List ℕ) → AreBytes bytes
+      → (runs : List (List ℕ)) × (open_bytes : List ℕ) × (readings : List (List Part)) × (parts : List Part)
+      × HasRunsSoFar form bytes runs open_bytes × AreReadings runs readings × Drains false open_bytes parts
+  pub text : (full : Bool) (form : Form) (bytes : List ℕ) (runs : List (List ℕ)) (open_bytes : List ℕ) (readings : List (List Part)) (parts : List Part)
+      → AreBytes bytes → HasRunsSoFar form bytes runs open_bytes → AreReadings runs readings → Drains false open_bytes parts
+      → shown_so_far full form bytes ≡ readings_text full 1 readings ++ items_text full (length readings + 1) 0 parts
+
+-- The full text of an input tells its runs: two inputs, each in its form, have the same text exactly where they have the
+-- same runs. So raw bytes are told byte by byte. Runs and places are numbers of 64 bits.
+pub record TellsRuns : Type 0 where
+  pub runs : (form other : Form) (a b : List ℕ) (first second : List (List ℕ))
+      → AreBytes a → AreBytes b → length a < 2 ^ 64 → length b < 2 ^ 64 → HasRuns form a first → HasRuns other b second
+      → (shown true form a ≡ shown true other b) ↔ (first ≡ second)
+  pub raw : (a b : List ℕ) → AreBytes a → AreBytes b → length a < 2 ^ 64 → length b < 2 ^ 64
+      → shown true Raw a ≡ shown true Raw b → a ≡ b

@@ -1,0 +1,202 @@
+//! A capture: its lines, and the runs of bytes that stand in them.
+
+ghost use Rattle.std.specs.Prelude.{◌≡◌, ◌+◌, ◌*◌, ◌<◌, ◌^◌, ◌++◌, ℕ, List, [], ◌∷◌, Bool, true, false, length, Option, OnOk, OnErr, IfOk, IfErr, MatchOption};
+ghost use Rattle.osdp_tool_streams.specs.Watched.{inner_of, has_failed};
+ghost use Rattle.osdp_tool_input.specs.Cut.{line_feed, IsLine};
+ghost use Rattle.osdp_tool_show.specs.Machine.{told, IsStep, IsSettled};
+ghost use Rattle.osdp_tool_show.specs.Feeds.{HasLine};
+
+use crate::report::Report;
+use crate::runs::{end_run, take};
+use osdp_frame::Framer;
+use osdp_tool_input::{Form, keep, read_digits};
+use osdp_tool_lines::Tally;
+use osdp_tool_streams::{ToolFault, Watched};
+use std::alloc::Global;
+use std::io::Write;
+
+/// Room for the text that is gathered and the longest line after it, so that no line needs memory.
+const ROOM: usize = 73728;
+
+/// A capture that is read.
+#[derive(Drop)]
+pub struct Capture {
+    /// How the input stands in runs.
+    pub form: Form,
+    /// The characters that count of the line that has not ended.
+    pub line: Vec<u8>,
+    /// The bytes of the line that ended last.
+    pub bytes: Vec<u8>,
+    /// How many lines have ended.
+    pub ended: u64,
+    /// The bytes of the open run that aren't decided yet.
+    pub framer: Framer,
+    /// What has been told of the items.
+    pub report: Report,
+}
+
+impl Capture {
+    ghost use Rattle.osdp_tool_show.specs.Capture.{load, Follows, TookPiece, TookPart, StopsInPiece};
+
+    /// Nothing has been read.
+    pub fn new(alloc: Global, full: bool, form: Form) -> Result<Capture, ToolFault>
+        ensures follows { IfOk result (λ capture. (start : Option (List ℕ)) → Follows full form start [] capture (told start capture.report)) }
+        ensures settled { IfOk result (λ capture. IsSettled capture.framer) }
+        ensures load { IfOk result (λ capture. load capture ≡ 0) }
+        ensures form { IfOk result (λ capture. capture.form ≡ form) }
+        ensures fault { IfErr result (λ fault. fault ≡ ToolFault.NoMemory) }
+    {
+        let Ok(text) = String::with_capacity(alloc, ROOM) else {
+            return Err(ToolFault::NoMemory);
+        };
+        let tally = Tally::new();
+        Ok(Capture {
+            form,
+            line: Vec::new(alloc),
+            bytes: Vec::new(alloc),
+            ended: 0,
+            framer: Framer::new(),
+            report: Report { full, tally, text },
+        })
+    }
+
+    /// The line goes on by these characters.
+    fn hold(&mut self, characters: &[u8]) -> Result<(), ToolFault>
+        requires settled { IsSettled self.old.framer }
+        requires lines { self.old.form ≡ Form.Raw → ⊥ }
+        requires line { IsLine characters.now }
+        ensures step { (failed : Bool) → IsStep result failed failed }
+        ensures took { OnOk result ((now : Option (List ℕ)) → TookPiece characters.now true self.old self.new now now) }
+        ensures report { OnOk result (self.new.report ≡ self.old.report) }
+    {
+        match keep(&mut self.line, characters) {
+            Ok(()) => Ok(()),
+            Err(_) => Err(ToolFault::NoMemory),
+        }
+    }
+
+    /// The line has ended; false where it is bad.
+    fn end_line<W: Write>(&mut self, output: &mut Watched<W>) -> Result<bool, ToolFault>
+        requires settled { IsSettled self.old.framer }
+        requires lines { self.old.form ≡ Form.Raw → ⊥ }
+        requires load { load self.old < 2 ^ 61 }
+        ensures step { IsStep result (has_failed output.old) (has_failed output.new) }
+        ensures took { IfOk result (λ good. TookPiece (line_feed ∷ []) good self.old self.new
+            (told (W.contents (inner_of output.old)) self.old.report) (told (W.contents (inner_of output.new)) self.new.report)) }
+        ensures stops { OnErr result (StopsInPiece (line_feed ∷ []) self.old (told (W.contents (inner_of output.old)) self.old.report) (W.contents (inner_of output.new))) }
+    {
+        let good = match read_digits(&self.line, &mut self.bytes) {
+            Ok(good) => good,
+            Err(_) => return Err(ToolFault::NoMemory),
+        };
+        self.line.clear();
+        self.ended += 1;
+        if !good {
+            return Ok(false);
+        }
+        take(&mut self.framer, &mut self.report, &self.bytes, output)?;
+        match self.form {
+            Form::Raw => Ok(true),
+            Form::Joined => Ok(true),
+            Form::Apart => {
+                end_run(&mut self.framer, &mut self.report, output)?;
+                Ok(true)
+            }
+        }
+    }
+
+    /// The lines go on by these bytes; false where a bad line has ended.
+    fn take_lines<W: Write>(
+        &mut self,
+        piece: &[u8],
+        output: &mut Watched<W>,
+    ) -> Result<bool, ToolFault>
+        requires settled { IsSettled self.old.framer }
+        requires lines { self.old.form ≡ Form.Raw → ⊥ }
+        requires load { load self.old + 5 * length piece.now < 2 ^ 61 }
+        ensures step { IsStep result (has_failed output.old) (has_failed output.new) }
+        ensures took { IfOk result (λ good. TookPart piece.now good self.old self.new
+            (told (W.contents (inner_of output.old)) self.old.report) (told (W.contents (inner_of output.new)) self.new.report)) }
+        ensures stops { OnErr result (StopsInPiece piece.now self.old (told (W.contents (inner_of output.old)) self.old.report) (W.contents (inner_of output.new))) }
+    {
+        let mut at = 0;
+        'lines: while let Some(length) = line_length(&piece[at..]) {
+            self.hold(&piece[at..at + length])?;
+            at += length + 1;
+            if !self.end_line(output)? {
+                return Ok(false);
+            }
+        }
+        self.hold(&piece[at..])?;
+        Ok(true)
+    }
+
+    /// The capture goes on by these bytes; false where a bad line has ended.
+    pub fn take<W: Write>(
+        &mut self,
+        piece: &[u8],
+        output: &mut Watched<W>,
+    ) -> Result<bool, ToolFault>
+        requires settled { IsSettled self.old.framer }
+        requires load { load self.old + 5 * length piece.now < 2 ^ 61 }
+        ensures step { IsStep result (has_failed output.old) (has_failed output.new) }
+        ensures took { IfOk result (λ good. TookPart piece.now good self.old self.new
+            (told (W.contents (inner_of output.old)) self.old.report) (told (W.contents (inner_of output.new)) self.new.report)) }
+        ensures stops { OnErr result (StopsInPiece piece.now self.old (told (W.contents (inner_of output.old)) self.old.report) (W.contents (inner_of output.new))) }
+    {
+        match self.form {
+            Form::Raw => {
+                take(&mut self.framer, &mut self.report, piece, output)?;
+                Ok(true)
+            }
+            Form::Joined | Form::Apart => self.take_lines(piece, output),
+        }
+    }
+}
+
+impl Capture {
+    ghost use Rattle.osdp_tool_show.specs.Capture.{load};
+    ghost use Rattle.osdp_tool_show.specs.Works.{Closed, EndsLine, StopsAtEnd, StopsClosing};
+
+    /// The input has ended, and with it its last line; false where that is bad.
+    pub fn end_last_line<W: Write>(&mut self, output: &mut Watched<W>) -> Result<bool, ToolFault>
+        requires settled { IsSettled self.old.framer }
+        requires load { load self.old < 2 ^ 61 }
+        ensures step { IsStep result (has_failed output.old) (has_failed output.new) }
+        ensures ends { IfOk result (λ good. EndsLine good self.old self.new
+            (told (W.contents (inner_of output.old)) self.old.report) (told (W.contents (inner_of output.new)) self.new.report)) }
+        ensures stops { OnErr result (StopsAtEnd self.old (told (W.contents (inner_of output.old)) self.old.report) (W.contents (inner_of output.new))) }
+    {
+        match self.form {
+            Form::Raw => Ok(true),
+            Form::Joined => self.end_line(output),
+            Form::Apart => self.end_line(output),
+        }
+    }
+
+    /// The run ends here: its last items are told, then the counts where they are wanted, and all of it is
+    /// written.
+    pub fn close<W: Write>(&mut self, output: &mut Watched<W>) -> Result<(), ToolFault>
+        requires settled { IsSettled self.old.framer }
+        requires load { load self.old < 2 ^ 61 }
+        ensures step { IsStep result (has_failed output.old) (has_failed output.new) }
+        ensures closed { OnOk result (Closed self.old self.new
+            (told (W.contents (inner_of output.old)) self.old.report) (W.contents (inner_of output.new))) }
+        ensures stops { OnErr result (StopsClosing self.old (told (W.contents (inner_of output.old)) self.old.report) (W.contents (inner_of output.new))) }
+    {
+        end_run(&mut self.framer, &mut self.report, output)?;
+        self.report.end(output)
+    }
+}
+
+/// How many bytes stand before the first line feed.
+fn line_length(bytes: &[u8]) -> Option<usize>
+    ensures { MatchOption result (IsLine bytes.now) (λ length. HasLine bytes.now length) }
+{
+    for (i, byte) in bytes.iter().enumerate() {
+        if *byte == b'\n' {
+            return Some(i);
+        }
+    }
+    None
+}

@@ -1,0 +1,122 @@
+//! The commands that read a capture.
+
+ghost use Rattle.std.specs.Prelude.{◌≡◌, ◌<◌, ◌^◌, true, false};
+ghost use Rattle.std.specs.Io.KnownBytes.{Keeps};
+ghost use Rattle.osdp_tool_streams.specs.Watched.{inner_of, has_failed};
+ghost use Rattle.osdp_tool_show.specs.Ending.{streamed, Ends, EndsWhole};
+ghost use Rattle.osdp_tool_show.specs.Shown.{form_of};
+ghost use Rattle.osdp_tool_show.specs.Works.{Works};
+
+use crate::capture::Capture;
+use osdp_tool_input::Form;
+use osdp_tool_job::Mode;
+use osdp_tool_streams::{ToolFault, Watched, finish};
+use std::alloc::Global;
+use std::io::{Read, Write};
+
+/// What an input holds after so many bytes is not shown. One byte of it is read to tell.
+pub const LIMIT: usize = 67_108_864;
+
+/// How the input of a mode stands in runs.
+fn form_of(mode: Mode) -> Form
+    ensures { result ≡ form_of mode }
+{
+    if mode.raw {
+        return Form::Raw;
+    }
+    if mode.join { Form::Joined } else { Form::Apart }
+}
+
+/// Reads the input and prints its lines. Where memory runs out nothing more is printed.
+fn work<R: Read, W: Write>(
+    alloc: Global,
+    full: bool,
+    form: Form,
+    limit: usize,
+    input: &mut Watched<R>,
+    output: &mut Watched<W>,
+) -> Result<bool, ToolFault>
+    requires limit { limit < 2 ^ 40 }
+    requires input { has_failed input.old ≡ false }
+    requires output { has_failed output.old ≡ false }
+    ensures { Works full form limit
+        (streamed (R.remaining (inner_of input.old)) (R.remaining (inner_of input.new)) (has_failed input.new))
+        (streamed (W.contents (inner_of output.old)) (W.contents (inner_of output.new)) (has_failed output.new)) result }
+{
+    let mut capture = Capture::new(alloc, full, form)?;
+    capture.read(limit, input, output)
+}
+
+/// Either command over an input of this form, with a limit of the caller's own.
+///
+/// With `full` it prints as `show` does, else as `check`. An input of more than `limit` bytes, below 2^40, is `TooLong`, and what
+/// it holds after them is not shown. A stream that has failed before is told, the input first, and nothing is read or printed.
+pub fn command<R: Read, W: Write>(
+    alloc: Global,
+    full: bool,
+    form: Form,
+    limit: usize,
+    input: &mut Watched<R>,
+    output: &mut Watched<W>,
+) -> Result<bool, ToolFault>
+    requires { limit < 2 ^ 40 }
+    ensures ends { Ends full form limit
+        (streamed (R.remaining (inner_of input.old)) (R.remaining (inner_of input.new)) (has_failed input.new))
+        (streamed (W.contents (inner_of output.old)) (W.contents (inner_of output.new)) (has_failed output.new)) result }
+    ensures whole { EndsWhole full form limit
+        (streamed (R.remaining (inner_of input.old)) (R.remaining (inner_of input.new)) (has_failed input.new))
+        (streamed (W.contents (inner_of output.old)) (W.contents (inner_of output.new)) (has_failed output.new)) result }
+{
+    if input.failed() {
+        return Err(ToolFault::ReadFailed);
+    }
+    if output.failed() {
+        return Err(ToolFault::WriteFailed);
+    }
+    let answer = work(alloc, full, form, limit, input, output);
+    finish(input.failed(), output, answer)
+}
+
+/// Prints a line for each item of the input.
+///
+/// The input is lines of hexadecimal digits, each with digits a run, or all of them one run with `join`; or
+/// bytes of one run with `raw`. True where a refusal stands among the items.
+///
+/// A line that holds anything but digits in pairs ends the input there, and is told as `NotHex` once what
+/// stands before it is printed. More than 67,108,864 bytes are `TooLong`. Where a read fails or the input is
+/// too long, the items that the bytes read decide are printed.
+pub fn show<R: Read, W: Write>(
+    alloc: Global,
+    mode: Mode,
+    input: &mut Watched<R>,
+    output: &mut Watched<W>,
+) -> Result<bool, ToolFault>
+    ensures ends { Ends true (form_of mode) LIMIT
+        (streamed (R.remaining (inner_of input.old)) (R.remaining (inner_of input.new)) (has_failed input.new))
+        (streamed (W.contents (inner_of output.old)) (W.contents (inner_of output.new)) (has_failed output.new)) result }
+    ensures whole { EndsWhole true (form_of mode) LIMIT
+        (streamed (R.remaining (inner_of input.old)) (R.remaining (inner_of input.new)) (has_failed input.new))
+        (streamed (W.contents (inner_of output.old)) (W.contents (inner_of output.new)) (has_failed output.new)) result }
+{
+    command(alloc, true, form_of(mode), LIMIT, input, output)
+}
+
+/// Prints the lines of the refusals of the input, and after them a line of counts.
+///
+/// It reads its input and answers as `show` does. The counts are printed where the input has ended, also at a
+/// bad line.
+pub fn check<R: Read, W: Write>(
+    alloc: Global,
+    mode: Mode,
+    input: &mut Watched<R>,
+    output: &mut Watched<W>,
+) -> Result<bool, ToolFault>
+    ensures ends { Ends false (form_of mode) LIMIT
+        (streamed (R.remaining (inner_of input.old)) (R.remaining (inner_of input.new)) (has_failed input.new))
+        (streamed (W.contents (inner_of output.old)) (W.contents (inner_of output.new)) (has_failed output.new)) result }
+    ensures whole { EndsWhole false (form_of mode) LIMIT
+        (streamed (R.remaining (inner_of input.old)) (R.remaining (inner_of input.new)) (has_failed input.new))
+        (streamed (W.contents (inner_of output.old)) (W.contents (inner_of output.new)) (has_failed output.new)) result }
+{
+    command(alloc, false, form_of(mode), LIMIT, input, output)
+}

@@ -1,0 +1,11 @@
+//! The commands `show` and `check`: what stands in a capture of the line.
+#![tactic(auto)]
+
+mod capture;
+mod commands;
+pub mod laws;
+mod reading;
+mod report;
+mod runs;
+
+pub use commands::{LIMIT, check, command, show};

@@ -1,0 +1,168 @@
+//! A capture that is read from a stream to its end.
+
+ghost use Rattle.std.specs.Prelude.{◌≡◌, ◌+◌, ◌*◌, ◌<◌, ◌≤◌, ◌^◌, ◌↔◌, ℕ, List, [], length, take, Bool, Option, is_err, true, false, string_bytes, if◌then◌else◌, Result, IfOk, OnOk, OnErr, IfErr};
+ghost use Rattle.std.specs.Io.KnownBytes.{Consumes, IsAtEnd, Keeps};
+ghost use Rattle.osdp_tool_input.specs.declared.form.Form.{Form};
+ghost use Rattle.osdp_tool_streams.specs.Watched.{inner_of, has_failed};
+ghost use Rattle.osdp_tool_show.specs.Machine.{told, IsStep, IsSettled};
+
+use crate::capture::Capture;
+use osdp_tool_streams::{ToolFault, Watched, read_some};
+use std::io::{Read, Write};
+
+/// At most so many bytes are asked for at once.
+const PIECE: usize = 65536;
+
+/// Why no more is read.
+#[derive(Clone, Copy)]
+pub enum Ending {
+    AtEnd,
+    AtBadLine,
+    PastLimit,
+    AtFailedRead,
+}
+
+/// Reads once into the front of the buffer, at most as many bytes as there is room for.
+fn read_piece<R: Read>(
+    input: &mut Watched<R>,
+    buffer: &mut [u8],
+    room: usize,
+) -> Result<usize, ToolFault>
+    requires within { room ≤ length buffer.old }
+    requires some { 0 < room }
+    ensures failed { has_failed input.new ≡ (if is_err result then true else has_failed input.old) }
+    ensures bound { IfOk result (λ count. count ≤ room) }
+    ensures taken { IfOk result (λ count. Consumes (R.remaining (inner_of input.old)) (R.remaining (inner_of input.new)) (take count buffer.new)) }
+    ensures length { IfOk result (λ count. length (take count buffer.new) ≡ count) }
+    ensures end { IfOk result (λ count. count ≡ 0 → IsAtEnd (R.remaining (inner_of input.new))) }
+    ensures err { OnErr result (Keeps (R.remaining (inner_of input.old)) (R.remaining (inner_of input.new))) }
+{
+    read_some(input, &mut buffer[..room])
+}
+
+impl Capture {
+    ghost use Rattle.osdp_tool_show.specs.Capture.{load, Follows, TookPart, StopsInPiece};
+    ghost use Rattle.osdp_tool_show.specs.Ending.{streamed};
+    ghost use Rattle.osdp_tool_show.specs.Works.{ReadTo, ReadPart, Works, Answered};
+
+    /// The capture goes on by what one read gave; false where a bad line has ended. Where that is less than there was room for, the
+    /// next bytes may be a while in coming, so what waits is written out.
+    fn take_read<W: Write>(
+        &mut self,
+        piece: &[u8],
+        room: usize,
+        output: &mut Watched<W>,
+    ) -> Result<bool, ToolFault>
+        requires settled { IsSettled self.old.framer }
+        requires load { load self.old + 5 * length piece.now < 2 ^ 61 }
+        ensures step { IsStep result (has_failed output.old) (has_failed output.new) }
+        ensures took { IfOk result (λ good. TookPart piece.now good self.old self.new
+            (told (W.contents (inner_of output.old)) self.old.report) (told (W.contents (inner_of output.new)) self.new.report)) }
+        ensures waits { IfOk result (λ good. length piece.now < room → string_bytes self.new.report.text ≡ []) }
+        ensures stops { OnErr result (StopsInPiece piece.now self.old (told (W.contents (inner_of output.old)) self.old.report) (W.contents (inner_of output.new))) }
+    {
+        let good = self.take(piece, output)?;
+        if piece.len() < room {
+            self.report.write_out(output)?;
+        }
+        Ok(good)
+    }
+
+    /// Reads to the end of the input, a bad line, the limit or a failed read.
+    pub fn read_all<R: Read, W: Write>(
+        &mut self,
+        limit: usize,
+        input: &mut Watched<R>,
+        output: &mut Watched<W>,
+    ) -> Result<Ending, ToolFault>
+        requires settled { IsSettled self.old.framer }
+        requires limit { limit < 2 ^ 40 }
+        requires load { load self.old + 5 * limit < 2 ^ 60 }
+        ensures step { IsStep result (has_failed output.old) (has_failed output.new) }
+        ensures input { OnErr result (has_failed input.new ≡ has_failed input.old) }
+        ensures settled { OnOk result (IsSettled self.new.framer) }
+        ensures load { OnOk result (load self.new ≤ load self.old + 5 * limit) }
+        ensures read { IfOk result (λ ending. ReadTo ending limit self.old self.new
+            (R.remaining (inner_of input.old)) (R.remaining (inner_of input.new))
+            (told (W.contents (inner_of output.old)) self.old.report) (told (W.contents (inner_of output.new)) self.new.report)
+            (has_failed input.old) (has_failed input.new)) }
+        ensures stops { OnErr result (ReadPart limit self.old (R.remaining (inner_of input.old)) (R.remaining (inner_of input.new))
+            (told (W.contents (inner_of output.old)) self.old.report) (W.contents (inner_of output.new))) }
+    {
+        let mut piece = [0u8; 65536];
+        let mut left = limit;
+        'reads: while left > 0 {
+            let room = left.min(PIECE);
+            let Ok(count) = read_piece(input, &mut piece, room) else {
+                return Ok(Ending::AtFailedRead);
+            };
+            if count == 0 {
+                return Ok(Ending::AtEnd);
+            }
+            left -= count;
+            if !self.take_read(&piece[..count], room, output)? {
+                return Ok(Ending::AtBadLine);
+            }
+        }
+        let Ok(count) = read_piece(input, &mut piece, 1) else {
+            return Ok(Ending::AtFailedRead);
+        };
+        if count == 0 {
+            Ok(Ending::AtEnd)
+        } else {
+            Ok(Ending::PastLimit)
+        }
+    }
+
+    /// Reads the input and tells of it, and gives the answer.
+    pub fn read<R: Read, W: Write>(
+        &mut self,
+        limit: usize,
+        input: &mut Watched<R>,
+        output: &mut Watched<W>,
+    ) -> Result<bool, ToolFault>
+        requires settled { IsSettled self.old.framer }
+        requires limit { limit < 2 ^ 40 }
+        requires load { load self.old ≡ 0 }
+        requires input { has_failed input.old ≡ false }
+        requires output { has_failed output.old ≡ false }
+        ensures { (full : Bool) (form : Form) (start : Option (List ℕ))
+            → Follows full form start [] self.old (told (W.contents (inner_of output.old)) self.old.report)
+            → Works full form limit
+            (streamed (R.remaining (inner_of input.old)) (R.remaining (inner_of input.new)) (has_failed input.new))
+            (streamed start (W.contents (inner_of output.new)) (has_failed output.new)) result }
+    {
+        match self.read_all(limit, input, output)? {
+            Ending::AtEnd => self.answer(output),
+            Ending::AtBadLine => {
+                self.close(output)?;
+                Err(ToolFault::NotHex(self.ended))
+            }
+            Ending::PastLimit => {
+                self.report.write_out(output)?;
+                Err(ToolFault::TooLong)
+            }
+            Ending::AtFailedRead => {
+                // A failed read is told before a failed write.
+                let _ = self.report.write_out(output);
+                Err(ToolFault::ReadFailed)
+            }
+        }
+    }
+
+    /// The answer at the end of the input, once the last line and the counts are told.
+    fn answer<W: Write>(&mut self, output: &mut Watched<W>) -> Result<bool, ToolFault>
+        requires settled { IsSettled self.old.framer }
+        requires load { load self.old < 2 ^ 60 }
+        ensures { Answered self.old result (has_failed output.old) (has_failed output.new)
+            (told (W.contents (inner_of output.old)) self.old.report) (W.contents (inner_of output.new)) }
+    {
+        let good = self.end_last_line(output)?;
+        self.close(output)?;
+        if good {
+            Ok(self.report.tally.refused > 0)
+        } else {
+            Err(ToolFault::NotHex(self.ended))
+        }
+    }
+}

@@ -1,0 +1,194 @@
+//! Runs of bytes, told item by item.
+
+ghost use Rattle.std.specs.Prelude.{◌≡◌, ◌+◌, ◌*◌, ◌<◌, ◌≤◌, ◌^◌, ◌++◌, true, false, None, length, take, IfOk, OnOk, OnErr};
+ghost use Rattle.osdp_frame.specs.Bytes.{AreBytes};
+ghost use Rattle.osdp_frame.specs.Held.{after_gap, decided, new_run};
+ghost use Rattle.osdp_tool_lines.specs.Tally.{counted};
+ghost use Rattle.osdp_tool_streams.specs.Watched.{inner_of, has_failed};
+ghost use Rattle.osdp_frame.specs.Items.{items};
+ghost use Rattle.osdp_tool_lines.specs.Told.{parts_lines};
+ghost use Rattle.osdp_tool_show.specs.Machine.{told, IsStep, Drained, IsSettled, Took, EndedRun, StopsIn, StopsAtRunEnd};
+ghost use Rattle.osdp_tool_show.specs.Written.{StopsWithin};
+
+use crate::report::Report;
+use osdp_frame::{Framer, whole_item};
+use osdp_tool_streams::{ToolFault, Watched};
+use std::io::Write;
+
+/// So many bytes are given to a framer one by one before it is given all that there are.
+const TRIES: u8 = 8;
+
+/// Tells of the items that the held bytes decide, and takes them off.
+#[inline(never)]
+fn drain<W: Write>(
+    framer: &mut Framer,
+    report: &mut Report,
+    output: &mut Watched<W>,
+) -> Result<(), ToolFault>
+    requires bytes { AreBytes framer.old.bytes }
+    requires some { framer.old.ended ≡ true → 0 < length framer.old.bytes }
+    requires counts { counted report.old.tally + 5 * length framer.old.bytes < 2 ^ 62 }
+    ensures step { IsStep result (has_failed output.old) (has_failed output.new) }
+    ensures drained { OnOk result (Drained framer.old framer.new report.old report.new
+        (told (W.contents (inner_of output.old)) report.old) (told (W.contents (inner_of output.new)) report.new)) }
+    ensures stops { OnErr result (StopsWithin (told (W.contents (inner_of output.old)) report.old) (W.contents (inner_of output.new))
+        (parts_lines report.old.full report.old.tally (items framer.old.ended framer.old.bytes))) }
+{
+    'items: while let Some(item) = framer.next() {
+        report.tell(&item, output)?;
+        framer.advance();
+    }
+    Ok(())
+}
+
+/// Tells of the packets and the skipped bytes at the head of the bytes, where none are held, and gives how many
+/// bytes these are.
+fn tell_whole<W: Write>(
+    report: &mut Report,
+    bytes: &[u8],
+    output: &mut Watched<W>,
+) -> Result<usize, ToolFault>
+    requires { counted report.old.tally + 5 * length bytes.now < 2 ^ 62 }
+    ensures step { IsStep result (has_failed output.old) (has_failed output.new) }
+    ensures within { IfOk result (λ count. count ≤ length bytes.now) }
+    ensures took { IfOk result (λ count. Took (take count bytes.now) new_run new_run report.old report.new
+        (told (W.contents (inner_of output.old)) report.old) (told (W.contents (inner_of output.new)) report.new)) }
+    ensures stops { OnErr result (StopsIn bytes.now new_run report.old (told (W.contents (inner_of output.old)) report.old) (W.contents (inner_of output.new))) }
+{
+    let mut at = 0;
+    'items: while let Some(item) = whole_item(&bytes[at..]) {
+        report.tell(&item, output)?;
+        at += item.size();
+    }
+    Ok(at)
+}
+
+/// Takes from the head of the bytes what needs no framer, and gives how many bytes these are: none where bytes
+/// are held.
+fn take_whole<W: Write>(
+    framer: &Framer,
+    report: &mut Report,
+    bytes: &[u8],
+    output: &mut Watched<W>,
+) -> Result<usize, ToolFault>
+    requires settled { IsSettled framer.now }
+    requires counts { counted report.old.tally + 5 * length bytes.now < 2 ^ 62 }
+    ensures step { IsStep result (has_failed output.old) (has_failed output.new) }
+    ensures within { IfOk result (λ count. count ≤ length bytes.now) }
+    ensures took { IfOk result (λ count. Took (take count bytes.now) framer.now framer.now report.old report.new
+        (told (W.contents (inner_of output.old)) report.old) (told (W.contents (inner_of output.new)) report.new)) }
+    ensures stops { OnErr result (StopsIn bytes.now framer.now report.old (told (W.contents (inner_of output.old)) report.old) (W.contents (inner_of output.new))) }
+{
+    if framer.is_empty() {
+        tell_whole(report, bytes, output)
+    } else {
+        Ok(0)
+    }
+}
+
+/// Takes bytes from the head through the framer, and gives how many.
+fn take_held<W: Write>(
+    framer: &mut Framer,
+    report: &mut Report,
+    bytes: &[u8],
+    output: &mut Watched<W>,
+) -> Result<usize, ToolFault>
+    requires settled { IsSettled framer.old }
+    requires counts { counted report.old.tally + 5 * (length framer.old.bytes + length bytes.now) < 2 ^ 62 }
+    ensures step { IsStep result (has_failed output.old) (has_failed output.new) }
+    ensures within { IfOk result (λ count. count ≤ length bytes.now) }
+    ensures some { IfOk result (λ count. 0 < length bytes.now → 0 < count) }
+    ensures took { IfOk result (λ count. Took (take count bytes.now) framer.old framer.new report.old report.new
+        (told (W.contents (inner_of output.old)) report.old) (told (W.contents (inner_of output.new)) report.new)) }
+    ensures stops { OnErr result (StopsIn bytes.now framer.old report.old (told (W.contents (inner_of output.old)) report.old) (W.contents (inner_of output.new))) }
+{
+    if bytes.is_empty() {
+        return Ok(0);
+    }
+    let count = framer.push(bytes);
+    drain(framer, report, output)?;
+    Ok(count)
+}
+
+/// How many of so many bytes the framer is given: one at a time at first, since where nothing is held after an
+/// item the next ones need no framer.
+fn given_count(tries: u8, left: usize) -> usize
+    ensures within { result ≤ left }
+    ensures some { 0 < left → 0 < result }
+{
+    if tries < TRIES { left.min(1) } else { left }
+}
+
+/// The tries after one at which so many bytes needed no framer.
+fn next_tries(tries: u8, whole: usize) -> u8 {
+    if whole == 0 && tries < TRIES {
+        tries + 1
+    } else {
+        0
+    }
+}
+
+/// The run goes on by these bytes.
+pub fn take<W: Write>(
+    framer: &mut Framer,
+    report: &mut Report,
+    bytes: &[u8],
+    output: &mut Watched<W>,
+) -> Result<(), ToolFault>
+    requires settled { IsSettled framer.old }
+    requires counts { counted report.old.tally + 5 * (length framer.old.bytes + length bytes.now) < 2 ^ 62 }
+    ensures step { IsStep result (has_failed output.old) (has_failed output.new) }
+    ensures took { OnOk result (Took bytes.now framer.old framer.new report.old report.new
+        (told (W.contents (inner_of output.old)) report.old) (told (W.contents (inner_of output.new)) report.new)) }
+    ensures stops { OnErr result (StopsIn bytes.now framer.old report.old (told (W.contents (inner_of output.old)) report.old) (W.contents (inner_of output.new))) }
+{
+    let mut at = 0;
+    let mut tries = 0;
+    'pieces: while at < bytes.len() {
+        let whole = take_whole(framer, report, &bytes[at..], output)?;
+        at += whole;
+        let some = given_count(tries, bytes.len() - at);
+        at += take_held(framer, report, &bytes[at..at + some], output)?;
+        tries = next_tries(tries, whole);
+    }
+    Ok(())
+}
+
+/// What is held of a run that ends is told, where something is.
+fn end_held<W: Write>(
+    framer: &mut Framer,
+    report: &mut Report,
+    output: &mut Watched<W>,
+) -> Result<(), ToolFault>
+    requires settled { IsSettled framer.old }
+    requires counts { counted report.old.tally + 5 * length framer.old.bytes < 2 ^ 62 }
+    ensures step { IsStep result (has_failed output.old) (has_failed output.new) }
+    ensures drained { OnOk result (Drained (after_gap framer.old) framer.new report.old report.new
+        (told (W.contents (inner_of output.old)) report.old) (told (W.contents (inner_of output.new)) report.new)) }
+    ensures stops { OnErr result (StopsWithin (told (W.contents (inner_of output.old)) report.old) (W.contents (inner_of output.new))
+        (parts_lines report.old.full report.old.tally (items (after_gap framer.old).ended (after_gap framer.old).bytes))) }
+{
+    if framer.is_empty() {
+        return Ok(());
+    }
+    framer.gap();
+    drain(framer, report, output)
+}
+
+/// The run has ended.
+pub fn end_run<W: Write>(
+    framer: &mut Framer,
+    report: &mut Report,
+    output: &mut Watched<W>,
+) -> Result<(), ToolFault>
+    requires settled { IsSettled framer.old }
+    requires counts { counted report.old.tally + 5 * length framer.old.bytes < 2 ^ 62 }
+    ensures step { IsStep result (has_failed output.old) (has_failed output.new) }
+    ensures ended { OnOk result (EndedRun framer.old framer.new report.old report.new
+        (told (W.contents (inner_of output.old)) report.old) (told (W.contents (inner_of output.new)) report.new)) }
+    ensures stops { OnErr result (StopsAtRunEnd framer.old report.old (told (W.contents (inner_of output.old)) report.old) (W.contents (inner_of output.new))) }
+{
+    end_held(framer, report, output)?;
+    report.tally.end_run();
+    Ok(())
+}
