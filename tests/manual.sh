@@ -1,0 +1,34 @@
+#!/usr/bin/env bash
+# The manual pages: each is formatted without a warning, and its examples print what it says. Takes the path of the program osdp;
+# the other programs stand beside it, as crates/NAME/out/NAME.
+set -u
+crates=$(cd "$(dirname "$1")/../.." && pwd)
+work=$(mktemp -d)
+trap 'rm -rf "$work"' EXIT
+failed=0
+cd "$(dirname "$0")/../man" || exit 1
+command -v man >/dev/null || echo 'manual.sh: there is no man here, so no page is formatted'
+
+for page in *.1; do
+  command -v man >/dev/null && MANROFFOPT= man --warnings -E UTF-8 -l "$page" 2>"$work/warnings" >/dev/null || true
+  if [ -s "$work/warnings" ]; then
+    echo "$page:"
+    cat "$work/warnings"
+    failed=1
+  fi
+  PATH="$crates/${page%.1}/out:$PATH"
+  # an example is a line that begins with "$ " between .EX and .EE, and the lines after it are what it prints
+  awk '/^\.EX/ { on = 1; next } /^\.EE/ { on = 0 } on && /^\$ / { asked = 1 } on && asked' "$page" |
+    sed 's/\\e/\\/g; s/\\-/-/g' >"$work/wanted"
+  while IFS= read -r line; do
+    [[ $line == '$ '* ]] || continue
+    printf '%s\n' "$line"
+    bash -c "${line#'$ '}" 2>&1
+  done <"$work/wanted" >"$work/got"
+  if ! diff "$work/wanted" "$work/got"; then
+    echo "$page: an example prints something else"
+    failed=1
+  fi
+done
+
+exit "$failed"
