@@ -5,6 +5,8 @@
 - Each public law stands in the section of its crate. A law is a public function that gives nothing and changes nothing.
 - Each path that README names is there, and a law that stands in one row with a path is a law of that file.
 - docs/ARCHITECTURE.md has a row for each crate of crates.txt. Each file of a crate that its tables name is there, and each definition.
+- Each block of code of docs/GUIDE.md is text of the file that the line above it names. Each topic that docs/PROFILE.md names is one of
+  docs/PROTOCOL.md.
 - docs/PROTOCOL.md has each text that the program prints on standard error.
 - Each crate, script and folder that any page names is there.
 - README has at most 120 lines of at most 120 characters, docs/DEVELOPING.md at most 200 lines, and no row of a table more than 200 characters."""
@@ -158,6 +160,27 @@ def judge_protocol():
             faults.append(f"docs/PROTOCOL.md: no row for {fault}")
 
 
+def judge_guide():
+    """docs/GUIDE.md: each block of code is text of the file named above it."""
+    text = (TOP / "docs/GUIDE.md").read_text()
+    named = re.findall(r"^From `([^`]+)`:\n\n```rust\n(.*?)```$", text, re.M | re.S)
+    for name, block in named:
+        if not (TOP / name).exists() or block not in (TOP / name).read_text():
+            faults.append(f"docs/GUIDE.md: a block is not in {name}: {block.splitlines()[0]}")
+    if len(named) != text.count("```rust"):
+        faults.append("docs/GUIDE.md: a block of code names no file")
+
+
+def judge_profile():
+    """docs/PROFILE.md: the topics of its last table are headings of docs/PROTOCOL.md."""
+    headings = re.findall(r"^##+ (.*)$", (TOP / "docs/PROTOCOL.md").read_text(), re.M)
+    text = (TOP / "docs/PROFILE.md").read_text()
+    for choice, topics in [cells for cells in rows(text[text.index("## Where we chose"):])][1:]:
+        for topic in topics.split("; "):
+            if topic not in headings:
+                faults.append(f"docs/PROFILE.md: PROTOCOL.md has no topic {topic}")
+
+
 def judge_page(page, all_crates):
     """Any page: the crates, scripts and folders that it names are there, and its rows are short."""
     text = (TOP / page).read_text()
@@ -187,6 +210,8 @@ if __name__ == "__main__":
     judge_readme()
     judge_architecture(every)
     judge_protocol()
+    judge_guide()
+    judge_profile()
     for each_page in ["README.md"] + sorted(str(file.relative_to(TOP)) for file in (TOP / "docs").glob("*.md")):
         judge_page(each_page, every)
     judge_lengths()

@@ -1,0 +1,82 @@
+//! A panel and a device joined in memory: a card opens the door for three seconds.
+
+use crate::device::{Strike, act, card_was_read, new_device, pass};
+use crate::panel::{decide, new_panel};
+use arrayvec::ArrayVec;
+use osdp_bus::{Bus, Entry};
+use osdp_device::{Device, DeviceStatus};
+use osdp_frame::{Address, Burst};
+use osdp_panel::take_turn;
+use std::process::Abort;
+
+/// What the line carries to the panel.
+type Bytes = ArrayVec<u8, 1440>;
+
+/// The panel's loop, once: it reads, takes its turn, and decides. What it writes.
+fn panel_turn(bus: &mut Bus, door: Entry, bytes: &[u8], now: u64) -> Option<Burst> {
+    let turn = take_turn(bus, bytes, now);
+    if let Some((_, report)) = &turn.heard {
+        decide(bus, door, report, now);
+    }
+    if let Some((_, report)) = &turn.ticked {
+        decide(bus, door, report, now);
+    }
+    turn.burst
+}
+
+/// The device's loop, once: it reads, answers, and acts. What it writes.
+fn device_turn(
+    device: &mut Device<DeviceStatus>,
+    strike: &mut Strike,
+    bytes: &[u8],
+    now: u64,
+) -> Bytes {
+    let mut written = Bytes::new();
+    device.take(bytes, now);
+    device.tick(now);
+    if let Some(response) = device.next() {
+        let _ = written.try_extend_from_slice(response.bytes());
+        act(strike, &response, now);
+    }
+    pass(device, strike, now);
+    written
+}
+
+/// The line from a moment on, in steps of ten milliseconds, up to another.
+fn run(
+    bus: &mut Bus,
+    door: Entry,
+    device: &mut Device<DeviceStatus>,
+    strike: &mut Strike,
+    from: u64,
+    until: u64,
+) {
+    let mut line = Bytes::new();
+    for step in from / 10..until / 10 {
+        let now = step * 10;
+        let burst = panel_turn(bus, door, line.as_slice(), now);
+        let bytes = match &burst {
+            Some(burst) => burst.as_slice(),
+            None => &[],
+        };
+        line = device_turn(device, strike, bytes, now);
+    }
+}
+
+#[test]
+fn a_card_opens_the_door(rt: HostRuntime) {
+    let address = Address::new(5).expect(&rt, "an address");
+    let (mut bus, door) = new_panel(rt.alloc(), address, 0)
+        .ok()
+        .expect(&rt, "a panel");
+    let mut device = new_device(rt.alloc(), address).expect(&rt, "a device");
+    let mut strike = Strike { until: None };
+    run(&mut bus, door, &mut device, &mut strike, 0, 1000);
+    assert!(rt; strike.until.is_none());
+    card_was_read(&mut device);
+    run(&mut bus, door, &mut device, &mut strike, 1000, 1200);
+    assert!(rt; strike.until.is_some());
+    run(&mut bus, door, &mut device, &mut strike, 1200, 4500);
+    assert!(rt; strike.until.is_none());
+    assert_eq!(rt; device.reader.waiting(), 0);
+}
