@@ -35,21 +35,21 @@ module _ {H : Type 0} (answer_of : H → Command → Answer) (after : H → Comm
       rest = splits held part parts are
 
       by_said : (o : Option Said) → said_of answer_of after part r ≡ o
-          → TellsInTurn answer_of after heard (afterwards held part) (told_by answer_of after parts heard (afterwards held part))
-          → TellsInTurn answer_of after r held (told_or answer_of after o heard (afterwards held part) (told_by answer_of after parts heard (afterwards held part)))
-      by_said (Some said) is later = record {
+          → TellsInTurn answer_of after heard (later held part) (told_by answer_of after parts heard (later held part))
+          → TellsInTurn answer_of after r held (told_or answer_of after o heard (later held part) (told_by answer_of after parts heard (later held part)))
+      by_said (Some said) is told_rest = record {
         said = ap (λ l. said_to_all answer_of after l r) are ∙ ap (λ o. listed o ++ said_to_all answer_of after parts heard) is
             ∙ ap (λ l. said ∷ said_to_all answer_of after l heard) (sym rest);
         reader = ap (λ l. after_items answer_of after l r) are ∙ ap (λ l. after_items answer_of after l heard) (sym rest);
-        left = ap (λ l. after_all held l) are ∙ ap (λ l. after_all (afterwards held part) l) (sym rest);
+        left = ap (λ l. after_all held l) are ∙ ap (λ l. after_all (later held part) l) (sym rest);
         all = λ e. absurd (let f : Some said ≡ None = e in cc);
       }
-      by_said None is later = record {
+      by_said None is told_rest = record {
         said = ap (λ l. said_to_all answer_of after l r) are ∙ ap (λ o. listed o ++ said_to_all answer_of after parts heard) is
-            ∙ ap (λ l. said_to_all answer_of after l heard) (sym rest) ∙ later.said;
-        reader = ap (λ l. after_items answer_of after l r) are ∙ ap (λ l. after_items answer_of after l heard) (sym rest) ∙ later.reader;
-        left = ap (λ l. after_all held l) are ∙ ap (λ l. after_all (afterwards held part) l) (sym rest) ∙ later.left;
-        all = later.all;
+            ∙ ap (λ l. said_to_all answer_of after l heard) (sym rest) ∙ told_rest.said;
+        reader = ap (λ l. after_items answer_of after l r) are ∙ ap (λ l. after_items answer_of after l heard) (sym rest) ∙ told_rest.reader;
+        left = ap (λ l. after_all held l) are ∙ ap (λ l. after_all (later held part) l) (sym rest) ∙ told_rest.left;
+        all = told_rest.all;
       }
 
   pub tells_in_turn : (r : ReaderState H) (held : Held) → TellsInTurn answer_of after r held (next_told answer_of after r held)
