@@ -1,7 +1,7 @@
 //! A schedule run over a simulated line, with the headline in the contract of the call.
 //!
-//! `run_session` here is that of `osdp_sim`. Its contract says in addition what holds of the account, session by session, at the places that the
-//! account's lengths give. So nobody has to join the run's contract and a law by hand.
+//! `run_session` here is that of `osdp_sim`, and `run_bus` that of `osdp_sim_bus`. Their contracts say in addition what holds of the account of
+//! each reader, session by session, at the places that the account's lengths give. So nobody has to join the run's contract and a law by hand.
 #![tactic(auto)]
 
 ghost use Rattle.osdp_sim.specs.Runs.{FitAlong, RunEnds, steps_done};
@@ -9,6 +9,10 @@ ghost use Rattle.osdp_sim.specs.State.{set_up};
 ghost use Rattle.osdp_sim_laws.specs.Accounts.{IsInSession, IsOnce, WasSetUp, account_in};
 ghost use Rattle.osdp_session.specs.Sessions.{AreInSessions, HoldsInSessions};
 ghost use Rattle.std.specs.Prelude.{◌<◌, ◌^◌, All, length};
+
+mod several_readers;
+
+pub use several_readers::{each_holds_in_sessions, run_bus, run_bus_schedule};
 
 use osdp_reader::Handler;
 use osdp_sim::{Account, Fault, Schedule, SimConfig, SimStep};

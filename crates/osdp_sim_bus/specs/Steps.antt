@@ -2,6 +2,7 @@
 use Rattle.std.specs.Prelude.{ℕ, ◌-◌, ◌==◌, nat_le, Bool, true, false, not, ◌&&◌, All, List, [], ◌∷◌, ◌++◌, length, map, Option, Some, None, IfSome, slice_get, slice_set, if◌then◌else◌}
 use Rattle.std.specs.List.{flat_map}
 use Rattle.std.specs.Option.{option_map_or}
+use Rattle.osdp_frame.specs.Bytes.{AreBytes}
 use Rattle.osdp_frame.specs.Packet.{IsPacket, Packet}
 use Rattle.osdp_msg.specs.CommandTable.{CommandFits}
 use Rattle.osdp_msg.specs.declared.command.Command.{Command}
@@ -21,9 +22,16 @@ use Rattle.osdp_sim.specs.Line.{handed, left, packets_in, sent}
 use Rattle.osdp_sim.specs.Steps.{SaysFit, damage_fault, moment_after}
 use Rattle.osdp_sim.specs.declared.fault.Cause.{Cause}
 use Rattle.osdp_sim.specs.declared.fault.Cause.TheVariants.{NotQuiet}
+use Rattle.osdp_sim.specs.declared.step.Move.{Move}
+use Rattle.osdp_sim.specs.declared.step.Move.TheVariants.{Damage}
 use Rattle.osdp_sim.specs.declared.step.SimStep.{SimStep}
 use Rattle.osdp_sim.specs.declared.step.SimStep.TheVariants.{Issue, Queue, Busy, Wait, ToReader, ToController, Reopen}
 use Rattle.osdp_sim_bus.specs.State.{LineState, Site}
+
+-- damage is bytes
+abbrev pub DamageIsBytes : Move → Type 0
+DamageIsBytes (Damage bytes) = AreBytes bytes.items
+DamageIsBytes _ = Unit {0}
 
 -- a run of bytes comes to the bus, which then sees the line silent; no bytes are no run
 abbrev pub hears_run : List ℕ → ℕ → BusState → BusState
@@ -161,5 +169,5 @@ module _ {H : Type 0} where
     StepFits (Wait wait) s = IfSome (bus_ticks (moment_after wait s.clock) s.bus).sent IsPacket
     StepFits (ToReader move) s =
         All (λ (site : Site H). SaysFit answer_of after (packets_in (handed move s.to_readers)) site.reader) s.sites
-    StepFits (ToController move) s = Unit {0}
+    StepFits (ToController move) s = DamageIsBytes move
     StepFits (Reopen number) s = Unit {0}

@@ -1,12 +1,13 @@
 //! The bus, the readers and the line between them.
 
 ghost use Rattle.std.specs.Prelude.{◌≡◌, All, None, OnOk};
+ghost use Rattle.osdp_frame.specs.Bytes.{AreBytes};
 ghost use Rattle.osdp_msg.specs.CommandTable.{CommandFits};
 ghost use Rattle.osdp_sim.specs.Steps.{damage_fault};
 ghost use Rattle.osdp_sim.specs.declared.step.SimStep.TheVariants.{Issue, Queue, Busy, Wait, ToReader, ToController, Reopen};
 ghost use Rattle.osdp_sim_bus.specs.Room.{HasPlace, HasRoom, state_of};
 ghost use Rattle.osdp_sim_bus.specs.State.{AreSent};
-ghost use Rattle.osdp_sim_bus.specs.Steps.{StepFits, after_step, fault_of, is_quiet, is_there, takes_report};
+ghost use Rattle.osdp_sim_bus.specs.Steps.{DamageIsBytes, StepFits, after_step, fault_of, is_quiet, is_there, takes_report};
 
 use crate::line::{grow_all, hand_in, hand_over, hear_all};
 use crate::site::Site;
@@ -207,9 +208,26 @@ impl<H: Handler> Simulation<H> {
     fn to_bus(&mut self, way: &Move)
         requires room { HasRoom self.old }
         ensures state { state_of self.new ≡ after_step H.answer_of H.after (ToController way.now) (state_of self.old) }
+        ensures fits { DamageIsBytes way.now }
     {
+        see_damage(way);
         let run = hand_over(&mut self.to_bus, way);
         hand_in(&mut self.bus, &run, self.clock);
         self.take_report();
+    }
+}
+
+/// Each item of a slice of bytes is a byte.
+fn are_bytes(bytes: &[u8])
+    ensures { AreBytes bytes.now }
+{}
+
+/// Looking at damage brings in that it is bytes.
+fn see_damage(way: &Move)
+    ensures { DamageIsBytes way.now }
+{
+    match way {
+        Move::Damage(bytes) => are_bytes(bytes.as_slice()),
+        Move::Deliver | Move::Drop | Move::Repeat => {}
     }
 }

@@ -29,10 +29,10 @@ use Rattle.osdp_sim.specs.declared.step.Move.TheVariants.{Deliver, Drop, Repeat,
 use Rattle.osdp_sim.proofs.Bursts.{no_packets}
 use Rattle.osdp_sim_bus.specs.State.{LineState, Site}
 use Rattle.osdp_sim_bus.specs.Steps as steps
-use Rattle.osdp_sim_bus.specs.Steps.{all_hear, all_hear_each, hears_run, takes_report}
+use Rattle.osdp_sim_bus.specs.Steps.{DamageIsBytes, all_hear, all_hear_each, hears_run, takes_report}
 use Rattle.osdp_sim_laws.specs.OneLink.{ReadsPackets}
 use Rattle.osdp_bus_links.proofs.Telling.{told_nothing}
-use Rattle.osdp_sim_bus_laws.specs.Moves.{DamageIsBytes, Done, Follows, IsSiteOf, SitesOf, SpellsBytes}
+use Rattle.osdp_sim_bus_laws.specs.Moves.{Done, Follows, IsSiteOf, SitesOf, SpellsBytes}
 use Rattle.osdp_sim_bus_laws.proofs.Following.{nothing, reported}
 use Rattle.osdp_sim_bus_laws.proofs.Sites.{all_heard, all_said, get_site}
 

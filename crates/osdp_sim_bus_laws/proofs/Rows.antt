@@ -26,7 +26,7 @@ use Rattle.osdp_sim_laws.specs.Accounts.{IsInARow, IsNoRefusal, LastsOrHasEnded}
 use Rattle.osdp_sim_laws.proofs.Ends as ends
 use Rattle.osdp_sim_laws.proofs.Holding.{each_one, last_one, one_unsettled, told_first}
 use Rattle.osdp_sim_bus_laws.specs.Accounts.{BusAnswer, EachMeets, IsAnswer, StaysInARow, WasSetUp, accounts_in}
-use Rattle.osdp_sim_bus_laws.specs.Moves.{Done, IsOfBytes, IsSiteOf, SchedulesAreMoves, count}
+use Rattle.osdp_sim_bus_laws.specs.Moves.{Done, IsSiteOf, SchedulesAreMoves, count}
 use Rattle.osdp_sim_bus_laws.proofs.Beginning.{first_net, first_site, follows_first, has_site, is_set_up}
 use Rattle.osdp_sim_bus_laws.proofs.Sites.{get_site}
 
@@ -75,7 +75,6 @@ module _ {H : Type 0} where
       pub settings : AreSettings config readers
       pub well : is_well answer_of after steps (set_up config readers) ≡ true
       pub fits : FitAlong answer_of after steps (set_up config readers)
-      pub bytes : All IsOfBytes steps
 
     abbrev pub told_by : BusConfig → List (Given H) → List SimStep → List Account
     told_by config readers steps = accounts (simulation.run answer_of after steps (set_up config readers))
@@ -85,16 +84,16 @@ module _ {H : Type 0} where
         → IsAnswer answer_of after config readers steps answer → WasSetUp answer
         → (IsRun config readers (steps_done steps answer) → P (told_by config readers (steps_done steps answer))) → P (accounts_in answer)
     answers P config readers steps (Ok told) is was holds =
-        subst P (sym is.ends.2) (holds (record { settings = is.ends.0; well = is.ends.1; fits = is.fits; bytes = is.bytes }))
+        subst P (sym is.ends.2) (holds (record { settings = is.ends.0; well = is.ends.1; fits = is.fits }))
     answers P config readers steps (Err fault) is was holds =
-        by_step fault.step fault.cause (lists_of_all fault.account.items) is.ends is.fits is.bytes was holds
+        by_step fault.step fault.cause (lists_of_all fault.account.items) is.ends is.fits was holds
       where
         by_step : (at : ℕ) (why : Cause) (lists : List Account) → Stops answer_of after at why lists config readers steps
-            → FitAlong answer_of after (take (at - 1) steps) (set_up config readers) → All IsOfBytes (take (at - 1) steps) → 1 ≤ at
+            → FitAlong answer_of after (take (at - 1) steps) (set_up config readers) → 1 ≤ at
             → (IsRun config readers (take (at - 1) steps) → P (told_by config readers (take (at - 1) steps))) → P lists
-        by_step zero why lists stops fits bytes was holds = absurd (omega (arith, was))
-        by_step (suc before) why lists stops fits bytes was holds =
-            subst P (sym stops.1.account) (holds (record { settings = stops.0; well = stops.1.well; fits = fits; bytes = bytes }))
+        by_step zero why lists stops fits was holds = absurd (omega (arith, was))
+        by_step (suc before) why lists stops fits was holds =
+            subst P (sym stops.1.account) (holds (record { settings = stops.0; well = stops.1.well; fits = fits }))
 
     module _ (schedules : SchedulesAreMoves answer_of after) (links : EachIsALink answer_of after) (holds : EachHoldsOnce answer_of after)
         (rows : EachStaysInARow answer_of after) (counts : HasAnAccountEach answer_of after) where
@@ -112,7 +111,7 @@ module _ {H : Type 0} where
           s = simulation.run answer_of after steps (set_up config readers)
 
           done : Done answer_of after s first
-          done = schedules steps (set_up config readers) first up (follows_first config readers) is.well is.fits is.bytes
+          done = schedules steps (set_up config readers) first up (follows_first config readers) is.well is.fits
 
           each : (k : ℕ) (given : Given H) → slice_get readers k ≡ Some given
               → (a : Account) × (slice_get (accounts s) k ≡ Some a) × IsInARow answer_of after given.0 given.2 a

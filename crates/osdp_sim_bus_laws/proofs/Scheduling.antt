@@ -20,7 +20,7 @@ use Rattle.osdp_sim_bus.specs.Runs.{FitAlong}
 use Rattle.osdp_sim_bus.specs.State.{LineState}
 use Rattle.osdp_sim_bus.specs.Steps.{after_step, fault_of}
 use Rattle.osdp_sim_laws.proofs.Ends.{first_well}
-use Rattle.osdp_sim_bus_laws.specs.Moves.{Done, Follows, IsKnown, IsOfBytes, SchedulesAreMoves, StepsAreMoves}
+use Rattle.osdp_sim_bus_laws.specs.Moves.{Done, Follows, IsKnown, SchedulesAreMoves, StepsAreMoves}
 
 module _ {H : Type 0} (answer_of : H → Command → Answer) (after : H → Command → H) where
   -- ---- one list of moves after another
@@ -59,15 +59,15 @@ module _ {H : Type 0} (answer_of : H → Command → Answer) (after : H → Comm
             (plainly (view k old.0 first) (moves_of answer_of after k ms first) (up.begins k old.0 old.1).begins its.fits))
 
     scheduled : (steps : List SimStep) (s : LineState H) (first : Net H) (ms : List NetMove) → IsSetUp first → AreNetMoves answer_of after ms first
-        → Follows s (run answer_of after ms first) → simulation.is_well answer_of after steps s ≡ true → FitAlong answer_of after steps s → Each IsOfBytes steps
+        → Follows s (run answer_of after ms first) → simulation.is_well answer_of after steps s ≡ true → FitAlong answer_of after steps s
         → Done answer_of after (simulation.run answer_of after steps s) first
-    scheduled [] s first ms up fits h well along bytes = (ms, fits, h)
-    scheduled (step ∷ steps) s first ms up fits h well along bytes =
+    scheduled [] s first ms up fits h well along = (ms, fits, h)
+    scheduled (step ∷ steps) s first ms up fits h well along =
         let next = after_step answer_of after step s in
         let both = first_well (fault_of step s) (simulation.is_well answer_of after steps next) well in
-        let done = steps_move step s (run answer_of after ms first) both.0 along.0 bytes.0 (known first ms up fits) h in
+        let done = steps_move step s (run answer_of after ms first) both.0 along.0 (known first ms up fits) h in
         scheduled steps next first (ms ++ done.0) up (fits_more ms done.0 first fits done.1)
-        (subst (Follows next) (sym (run_more ms done.0 first)) done.2) both.1 along.1 bytes.1
+        (subst (Follows next) (sym (run_more ms done.0 first)) done.2) both.1 along.1
 
     pub schedules_are_moves : SchedulesAreMoves answer_of after
-    schedules_are_moves steps s first up h well along bytes = scheduled steps s first [] up tt h well along (each_of IsOfBytes steps bytes)
+    schedules_are_moves steps s first up h well along = scheduled steps s first [] up tt h well along

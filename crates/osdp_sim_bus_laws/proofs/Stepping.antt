@@ -135,14 +135,14 @@ module _ {H : Type 0} (answer_of : H → Command → Answer) (after : H → Comm
     where_reopened false place s n quiet known h = nothing answer_of after s n h
 
     pub steps_are_moves : StepsAreMoves answer_of after
-    steps_are_moves (step.Issue number c) s n well fits bytes known h = issuing answer_of after given.submits number c s n fits h
-    steps_are_moves (step.Queue number e) s n well fits bytes known h = queueing answer_of after number e s n h
-    steps_are_moves (step.Busy number busy) s n well fits bytes known h = setting answer_of after number busy s n h
-    steps_are_moves (step.Wait wait) s n well fits bytes known h = waiting answer_of after given.ticks (moment_after wait s.clock) s n fits h
-    steps_are_moves (step.ToReader move) s n well fits bytes known h =
+    steps_are_moves (step.Issue number c) s n well fits known h = issuing answer_of after given.submits number c s n fits h
+    steps_are_moves (step.Queue number e) s n well fits known h = queueing answer_of after number e s n h
+    steps_are_moves (step.Busy number busy) s n well fits known h = setting answer_of after number busy s n h
+    steps_are_moves (step.Wait wait) s n well fits known h = waiting answer_of after given.ticks (moment_after wait s.clock) s n fits h
+    steps_are_moves (step.ToReader move) s n well fits known h =
         to_readers answer_of after given.reads n.to_readers move s n refl well (each_of (λ (u : Site H). SaysFit answer_of after (packets_in (handed move s.to_readers)) u.reader) s.sites fits) h
-    steps_are_moves (step.ToController move) s n well fits bytes known h =
-        to_bus answer_of after given.hears given.reads given.spells n.to_controllers move s n refl well bytes given.no_bytes
+    steps_are_moves (step.ToController move) s n well fits known h =
+        to_bus answer_of after given.hears given.reads given.spells n.to_controllers move s n refl well fits given.no_bytes
         (each_of (λ (q : ℕ × Packet). IsPlainlySaid q.1) n.to_controllers known.plain) h
-    steps_are_moves (step.Reopen number) s n well fits bytes known h =
+    steps_are_moves (step.Reopen number) s n well fits known h =
         where_reopened (is_there number s) (number - 1) s n (quiet_where (is_there number s) (is_quiet (number - 1) s) well) known h

@@ -12,7 +12,6 @@ use Rattle.osdp_sim.specs.declared.step.SimStep.{SimStep}
 use Rattle.osdp_sim_bus.specs.Runs.{FitAlong, RunEnds, lists_of_all, steps_done}
 use Rattle.osdp_sim_bus.specs.State.{Given, set_up}
 use Rattle.osdp_sim_laws.specs.Accounts.{IsInARow, IsInSession, IsOnce}
-use Rattle.osdp_sim_bus_laws.specs.Moves.{IsOfBytes}
 
 -- what `run_bus` answers: an account for each reader, or a fault with those of the steps before it
 abbrev pub BusAnswer : Type 0
@@ -36,11 +35,10 @@ module _ {H : Type 0} where
         → (a : Account) × (slice_get told k ≡ Some a) × Meets given.0 given.2 a
 
   module _ (answer_of : H → Command → Answer) (after : H → Command → H) where
-    -- what `run_bus` answers, what went over the line in the steps that it took, and that damage on its way to the bus is bytes
+    -- what `run_bus` answers, and what went over the line in the steps that it took
     pub record IsAnswer (config : BusConfig) (readers : List (Given H)) (steps : List SimStep) (answer : BusAnswer) : Type 0 where
       pub ends : RunEnds answer_of after config readers steps answer
       pub fits : FitAlong answer_of after (steps_done steps answer) (set_up config readers)
-      pub bytes : All IsOfBytes (steps_done steps answer)
 
     -- in sessions in a row of each reader: each is once, and the next begins with what it leaves
     abbrev pub StaysInARow : Type 0

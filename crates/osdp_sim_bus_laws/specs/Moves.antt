@@ -14,10 +14,7 @@ use Rattle.osdp_multidrop.specs.Line.{Net, NetMove, run, site_at}
 use Rattle.osdp_multidrop.specs.Runs.{AreNetMoves, IsSetUp}
 use Rattle.osdp_multidrop.specs.Views.{view}
 use Rattle.osdp_bus_links.specs.Links.{BeginsAsAMove, HearsAsAMove, IsBusOf, SubmitsAsAMove, TicksAsAMove, packets_on}
-use Rattle.osdp_sim.specs.declared.step.Move as way
-use Rattle.osdp_sim.specs.declared.step.Move.TheVariants.{Damage}
 use Rattle.osdp_sim.specs.declared.step.SimStep.{SimStep}
-use Rattle.osdp_sim.specs.declared.step.SimStep.TheVariants.{ToController}
 use Rattle.osdp_sim_bus.specs.Runs as simulation
 use Rattle.osdp_sim_bus.specs.Runs.{FitAlong}
 use Rattle.osdp_sim_bus.specs.State.{LineState, Site}
@@ -28,15 +25,6 @@ use Rattle.osdp_sim_laws.specs.OneLink.{ReadsPackets}
 abbrev pub count : Bool → ℕ
 count true = 1
 count false = 0
-
--- damage is bytes
-abbrev pub DamageIsBytes : way.Move → Type 0
-DamageIsBytes (Damage bytes) = AreBytes bytes.items
-DamageIsBytes _ = Unit {0}
-
-abbrev pub IsOfBytes : SimStep → Type 0
-IsOfBytes (ToController move) = DamageIsBytes move
-IsOfBytes _ = Unit {0}
 
 -- the bytes of a packet are bytes
 abbrev pub SpellsBytes : Type 0
@@ -85,11 +73,11 @@ module _ {H : Type 0} where
 
     -- each step that is not refused is a list of moves of these sites, and the simulation follows them
     abbrev pub StepsAreMoves : Type 0
-    StepsAreMoves = (step : SimStep) (s : LineState H) (n : Net H) → fault_of step s ≡ None → StepFits answer_of after step s → IsOfBytes step
+    StepsAreMoves = (step : SimStep) (s : LineState H) (n : Net H) → fault_of step s ≡ None → StepFits answer_of after step s
         → IsKnown n → Follows s n → Done (after_step answer_of after step s) n
 
     -- so is each schedule, as far as it isn't refused, from a line on which the first sessions begin
     abbrev pub SchedulesAreMoves : Type 0
     SchedulesAreMoves = (steps : List SimStep) (s : LineState H) (first : Net H) → IsSetUp first → Follows s first
-        → simulation.is_well answer_of after steps s ≡ true → FitAlong answer_of after steps s → All IsOfBytes steps
+        → simulation.is_well answer_of after steps s ≡ true → FitAlong answer_of after steps s
         → Done (simulation.run answer_of after steps s) first

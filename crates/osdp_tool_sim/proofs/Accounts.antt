@@ -1,5 +1,5 @@
 -- What a run of several readers hands back is told.
-use Rattle.std.proofs.Common.{◌≡◌, ◌≢◌, ◌+◌, ◌<◌, ℕ, zero, suc, List, [], ◌∷◌, ◌++◌, length, map, drop, get_or, Result, Ok, Err, refl, sym, subst, ap, ◌∙◌, append_assoc, add-one, drop-cons}
+use Rattle.std.proofs.Common.{◌≡◌, ◌≢◌, ◌+◌, ◌<◌, ◌≤◌, ℕ, zero, suc, arith, List, [], ◌∷◌, ◌++◌, length, map, drop, get_or, Result, Ok, Err, refl, sym, subst, ap, ◌∙◌, append_assoc, add-one, drop-cons}
 use Rattle.std.specs.Global.{Vec}
 use Rattle.osdp_bus.specs.Settings.{default_config}
 use Rattle.osdp_bus.specs.declared.config.BusConfig.{BusConfig}
@@ -7,6 +7,7 @@ use Rattle.osdp_script.specs.declared.script.Script.{Script}
 use Rattle.osdp_script.specs.Script.{steps_of}
 use Rattle.osdp_script_reader.specs.Handler.{handler_after, handler_answer}
 use Rattle.osdp_script_reader.specs.declared.handler.ScriptReader.{ScriptReader}
+use Rattle.osdp_session.specs.Sessions.{HoldsInSessions}
 use Rattle.osdp_sim.specs.declared.account.Account as declared
 use Rattle.osdp_sim.specs.declared.fault.Cause.{Cause}
 use Rattle.osdp_sim.specs.declared.fault.Cause.TheVariants as cause
@@ -15,6 +16,7 @@ use Rattle.osdp_sim.specs.declared.step.SimStep.{SimStep}
 use Rattle.osdp_sim.specs.Account.{Account, lists_of}
 use Rattle.osdp_sim_bus.specs.Runs.{RunEnds, Stops, StopsAt, lists_of_all}
 use Rattle.osdp_sim_bus.specs.State.{Given}
+use Rattle.osdp_sim_bus_laws.specs.Accounts.{EachMeets}
 use Rattle.osdp_tool_streams.specs.declared.fault.ToolFault.{ToolFault}
 use Rattle.osdp_tool_streams.specs.declared.fault.ToolFault.TheVariants.{HoldsPacket, NotQuiet}
 use Rattle.osdp_tool_account.specs.AccountText.{account_text}
@@ -35,35 +37,49 @@ bus_as script config readers steps r e f g ends =
     (subst (λ (k : List (Given ScriptReader)). RunEnds handler_answer handler_after (default_config script.check 64) k steps r) f
     (subst (λ (c : BusConfig). RunEnds handler_answer handler_after c readers steps r) e ends))
 
-pub each_ok : (script : Script) (told : Vec declared.Account) → Ends script (Ok told) → TellsEach script (lists_of_all told.items) (Ok tt)
-each_ok script told ends = (ends.1, ends.2)
+-- what holds of each reader of the script
+abbrev pub Holds : Script → List Account → Type 0
+Holds script told = EachMeets (HoldsInSessions handler_answer handler_after) (readers_from 1 script.readers.items) told
+
+pub each_as : (script : Script) (readers : List (Given ScriptReader)) (told : List Account) → readers ≡ readers_from 1 script.readers.items
+    → EachMeets (HoldsInSessions handler_answer handler_after) readers told → Holds script told
+each_as script readers told e holds =
+    subst (λ (k : List (Given ScriptReader)). EachMeets (HoldsInSessions handler_answer handler_after) k told) e holds
+
+pub each_ok : (script : Script) (told : Vec declared.Account) → Ends script (Ok told) → Holds script (lists_of_all told.items)
+    → TellsEach script (lists_of_all told.items) (Ok tt)
+each_ok script told ends holds = record { run_is = (ends.1, ends.2); sessions = holds }
 
 -- a step was refused, and the bus and the readers were set up
 packet_at : (script : Script) (at : ℕ) (told : List Account)
     → Stops handler_answer handler_after at cause.HoldsPacket told (default_config script.check 64) (readers_from 1 script.readers.items) (steps_of script)
-    → StopsAt handler_answer handler_after at cause.HoldsPacket told (steps_of script) (line_of script)
+    → (1 ≤ at) × StopsAt handler_answer handler_after at cause.HoldsPacket told (steps_of script) (line_of script)
 packet_at script zero told stops = absurd stops.0
-packet_at script (suc before) told stops = stops.1
+packet_at script (suc before) told stops = (omega arith, stops.1)
 
 quiet_at : (script : Script) (at : ℕ) (told : List Account)
     → Stops handler_answer handler_after at cause.NotQuiet told (default_config script.check 64) (readers_from 1 script.readers.items) (steps_of script)
-    → StopsAt handler_answer handler_after at cause.NotQuiet told (steps_of script) (line_of script)
+    → (1 ≤ at) × StopsAt handler_answer handler_after at cause.NotQuiet told (steps_of script) (line_of script)
 quiet_at script zero told stops = absurd stops.0
-quiet_at script (suc before) told stops = stops.1
+quiet_at script (suc before) told stops = (omega arith, stops.1)
 
-pub each_packet : (script : Script) (fault : Fault (Vec declared.Account)) → Ends script (Err fault) → fault.cause ≡ cause.HoldsPacket
+pub each_packet : (script : Script) (fault : Fault (Vec declared.Account)) → Ends script (Err fault)
+    → (1 ≤ fault.step → Holds script (lists_of_all fault.account.items)) → fault.cause ≡ cause.HoldsPacket
     → TellsEach script (lists_of_all fault.account.items) (Err (HoldsPacket fault.step))
-each_packet script fault ends is =
-    packet_at script fault.step (lists_of_all fault.account.items)
+each_packet script fault ends holds is =
+    let stops = packet_at script fault.step (lists_of_all fault.account.items)
     (subst (λ (why : Cause). Stops handler_answer handler_after fault.step why (lists_of_all fault.account.items)
-    (default_config script.check 64) (readers_from 1 script.readers.items) (steps_of script)) is ends)
+    (default_config script.check 64) (readers_from 1 script.readers.items) (steps_of script)) is ends) in
+    record { run_is = stops.1; sessions = holds stops.0 }
 
-pub each_quiet : (script : Script) (fault : Fault (Vec declared.Account)) → Ends script (Err fault) → fault.cause ≡ cause.NotQuiet
+pub each_quiet : (script : Script) (fault : Fault (Vec declared.Account)) → Ends script (Err fault)
+    → (1 ≤ fault.step → Holds script (lists_of_all fault.account.items)) → fault.cause ≡ cause.NotQuiet
     → TellsEach script (lists_of_all fault.account.items) (Err (NotQuiet fault.step))
-each_quiet script fault ends is =
-    quiet_at script fault.step (lists_of_all fault.account.items)
+each_quiet script fault ends holds is =
+    let stops = quiet_at script fault.step (lists_of_all fault.account.items)
     (subst (λ (why : Cause). Stops handler_answer handler_after fault.step why (lists_of_all fault.account.items)
-    (default_config script.check 64) (readers_from 1 script.readers.items) (steps_of script)) is ends)
+    (default_config script.check 64) (readers_from 1 script.readers.items) (steps_of script)) is ends) in
+    record { run_is = stops.1; sessions = holds stops.0 }
 
 -- a script that hasn't one reader
 pub of_each : (readers : List (ℕ × ℕ)) (script : Script) (text : List ℕ) (end : Result (Unit {0}) ToolFault)

@@ -6,9 +6,11 @@ use Rattle.osdp_script.specs.Script.{steps_of}
 use Rattle.osdp_script_reader.specs.Handler.{handler_after, handler_answer, new_handler}
 use Rattle.osdp_script_reader.specs.Identity.{script_config}
 use Rattle.osdp_script_reader.specs.declared.handler.ScriptReader.{ScriptReader}
+use Rattle.osdp_session.specs.Sessions.{HoldsInSessions}
 use Rattle.osdp_sim.specs.Account.{Account}
 use Rattle.osdp_sim_bus.specs.State.{Given, LineState, accounts, set_up}
 use Rattle.osdp_sim_bus.specs.Steps.{after_step, fault_of}
+use Rattle.osdp_sim_bus_laws.specs.Accounts.{EachMeets}
 use Rattle.osdp_tool_streams.specs.declared.fault.ToolFault.{ToolFault}
 use Rattle.osdp_tool_account.specs.AccountText.{account_text}
 use Rattle.osdp_tool_sim.specs.Steps.{RunTells}
@@ -23,9 +25,11 @@ readers_from number (reader ∷ readers) =
 abbrev pub line_of : Script → LineState ScriptReader
 line_of script = set_up (default_config script.check 64) (readers_from 1 script.readers.items)
 
--- these accounts are told of a script, and this end: they are those of its run, in the order of the readers
-abbrev pub TellsEach : Script → List Account → Result (Unit {0}) ToolFault → Type 0
-TellsEach script told end = RunTells (after_step handler_answer handler_after) fault_of accounts end told (steps_of script) (line_of script)
+-- These accounts are told of a script, and this end: they are those of its run, in the order of the readers. Of each reader, session by
+-- session, each command was taken once and in order, with its answer, and each event was reported once and in order.
+pub record TellsEach (script : Script) (told : List Account) (end : Result (Unit {0}) ToolFault) : Type 0 where
+  pub run_is : RunTells (after_step handler_answer handler_after) fault_of accounts end told (steps_of script) (line_of script)
+  pub sessions : EachMeets (HoldsInSessions handler_answer handler_after) (readers_from 1 script.readers.items) told
 
 -- the texts of these accounts, one after the other; the first is that of the reader of this number
 abbrev pub texts_from : ℕ → List Account → List ℕ

@@ -1,0 +1,68 @@
+//! A schedule run over a line with a bus and several readers.
+
+ghost use Rattle.osdp_session.specs.Sessions.{HoldsInSessions};
+ghost use Rattle.osdp_session.specs.SeveralReaders.{EachIsInSessions};
+ghost use Rattle.osdp_sim_bus.specs.Runs.{FitAlong, RunEnds, steps_done};
+ghost use Rattle.osdp_sim_bus.specs.State.{set_up};
+ghost use Rattle.osdp_sim_bus_laws.specs.Accounts.{EachMeets, WasSetUp, accounts_in};
+ghost use Rattle.osdp_sim_laws.specs.Accounts.{IsInSession, IsOnce};
+ghost use Rattle.std.specs.Prelude.{◌<◌, ◌^◌, All, length};
+
+use crate::holds_in_sessions;
+use osdp_bus::BusConfig;
+use osdp_reader::{Handler, ReaderConfig};
+use osdp_sim::{Account, Fault, Schedule, SimStep};
+use std::alloc::Global;
+
+/// Runs a schedule over a line with a bus and these readers, as `osdp_sim_bus::run_bus` does, and gives the account of each reader in their
+/// order, or the fault with the accounts of the steps before it. Of each reader is told what it is, how many of its events may wait, 1 to
+/// 1024, and its handler. Once the line is set up, there are as many accounts as readers, and of each reader holds, whatever comes of the
+/// others, what `run_session` says of one alone:
+///
+/// - `once`: where no session begins again, the commands that it has taken are a beginning of those issued to it, and hold each settled one,
+///   with the answer that it gave, and one more at most; the events reported are a beginning of those queued at it, each once and in order.
+/// - `sessions`: where sessions begin again, that holds of each of them, at the places that `sessions` of the account gives.
+pub fn run_bus<H: Handler>(
+    alloc: Global,
+    config: &BusConfig,
+    readers: Vec<(ReaderConfig, usize, H)>,
+    steps: &[SimStep],
+) -> Result<Vec<Account>, Fault<Vec<Account>>>
+    ensures ends { RunEnds H.answer_of H.after config.now readers.items steps.now result }
+    ensures fits { FitAlong H.answer_of H.after (steps_done steps.now result) (set_up config.now readers.items) }
+    ensures once { WasSetUp result → All IsInSession (steps_done steps.now result)
+        → EachMeets (IsOnce H.answer_of H.after) readers.items (accounts_in result) }
+    ensures sessions { WasSetUp result → EachMeets (HoldsInSessions H.answer_of H.after) readers.items (accounts_in result) }
+{
+    osdp_sim_bus_laws::holds_once::<H>();
+    osdp_sim_bus_laws::stays_in_a_row::<H>();
+    each_holds_in_sessions::<H>();
+    osdp_sim_bus::run_bus(alloc, config, readers, steps)
+}
+
+/// The same of steps that are handed out one at a time, as those of a script are.
+pub fn run_bus_schedule<H: Handler, S: Schedule>(
+    alloc: Global,
+    config: &BusConfig,
+    readers: Vec<(ReaderConfig, usize, H)>,
+    schedule: S,
+) -> Result<Vec<Account>, Fault<Vec<Account>>>
+    requires { length (S.left schedule) < 2 ^ 64 }
+    ensures ends { RunEnds H.answer_of H.after config.now readers.items (S.left schedule) result }
+    ensures fits { FitAlong H.answer_of H.after (steps_done (S.left schedule) result) (set_up config.now readers.items) }
+    ensures once { WasSetUp result → All IsInSession (steps_done (S.left schedule) result)
+        → EachMeets (IsOnce H.answer_of H.after) readers.items (accounts_in result) }
+    ensures sessions { WasSetUp result → EachMeets (HoldsInSessions H.answer_of H.after) readers.items (accounts_in result) }
+{
+    osdp_sim_bus_laws::holds_once::<H>();
+    osdp_sim_bus_laws::stays_in_a_row::<H>();
+    each_holds_in_sessions::<H>();
+    osdp_sim_bus::run_bus_schedule(alloc, config, readers, schedule)
+}
+
+/// What holds of each reader's sessions one after the other holds at the places that its account's lengths give.
+pub fn each_holds_in_sessions<H: Handler>()
+    ensures { EachIsInSessions H.answer_of H.after }
+{
+    holds_in_sessions::<H>();
+}
