@@ -53,7 +53,7 @@ one_end script reader text end is =
 
 each_end : (script : Script) (text : List ℕ) (end : Answer) → IsTextOfEach script text end → IsEnd end
 each_end script text end is =
-    run_end (bus.after_step handler_answer handler_after) bus.fault_of accounts end is.accounts (steps_of script) (line_of script) is.told
+    run_end (bus.after_step handler_answer handler_after) bus.fault_of accounts end is.accounts (steps_of script) (line_of script) is.told.run_is
 
 readers_end : (readers : List (ℕ × ℕ)) (script : Script) (text : List ℕ) (end : Answer) → TellsReaders readers script text end → IsEnd end
 readers_end [] script text end is = each_end script text end is
