@@ -5,7 +5,7 @@
 - Each public law stands in the section of its crate. A law is a public function that gives nothing and changes nothing.
 - Each path that README names is there, and a law that stands in one row with a path is a law of that file.
 - docs/ARCHITECTURE.md has a row for each crate of crates.txt. Each file of a crate that its tables name is there, and each definition.
-- Each block of code of docs/GUIDE.md is text of the file that the line above it names. Each topic that docs/PROFILE.md names is one of
+- Each block of code of README and of docs/GUIDE.md is text of the file that the line above it names. Each topic that docs/PROFILE.md names is one of
   docs/PROTOCOL.md.
 - docs/PROTOCOL.md has each text that the program prints on standard error.
 - Each crate, script and folder that any page names is there.
@@ -160,15 +160,15 @@ def judge_protocol():
             faults.append(f"docs/PROTOCOL.md: no row for {fault}")
 
 
-def judge_guide():
-    """docs/GUIDE.md: each block of code is text of the file named above it."""
-    text = (TOP / "docs/GUIDE.md").read_text()
+def judge_code(page):
+    """A page with code: each block of code is text of the file named above it."""
+    text = (TOP / page).read_text()
     named = re.findall(r"^From `([^`]+)`:\n\n```rust\n(.*?)```$", text, re.M | re.S)
     for name, block in named:
         if not (TOP / name).exists() or block not in (TOP / name).read_text():
-            faults.append(f"docs/GUIDE.md: a block is not in {name}: {block.splitlines()[0]}")
+            faults.append(f"{page}: a block is not in {name}: {block.splitlines()[0]}")
     if len(named) != text.count("```rust"):
-        faults.append("docs/GUIDE.md: a block of code names no file")
+        faults.append(f"{page}: a block of code names no file")
 
 
 def judge_profile():
@@ -210,7 +210,8 @@ if __name__ == "__main__":
     judge_readme()
     judge_architecture(every)
     judge_protocol()
-    judge_guide()
+    judge_code("README.md")
+    judge_code("docs/GUIDE.md")
     judge_profile()
     for each_page in ["README.md"] + sorted(str(file.relative_to(TOP)) for file in (TOP / "docs").glob("*.md")):
         judge_page(each_page, every)
