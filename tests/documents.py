@@ -7,6 +7,8 @@
 - docs/ARCHITECTURE.md has a row for each crate of crates.txt. Each file of a crate that its tables name is there, and each definition.
 - Each block of code of README and of docs/GUIDE.md is text of the file that the line above it names. Each topic that docs/PROFILE.md names is one of
   docs/PROTOCOL.md.
+- The picture of docs/ARCHITECTURE.md has each crate but those of tests, and its arrows are those of crates.txt. Each picture of an exchange in
+  docs/PROTOCOL.md has the steps of the script named above it, whose account examples.sh compares with a run, and tells that account.
 - docs/PROTOCOL.md has each text that the program prints on standard error.
 - Each crate, script and folder that any page names is there.
 - README has at most 120 lines of at most 120 characters, docs/DEVELOPING.md at most 200 lines, and no row of a table more than 200 characters."""
@@ -71,6 +73,63 @@ def judge_row(heading, cell, known_laws, words, files):
             faults.append(f"docs/PROOFS.md, {heading}: there is no law {name}")
         elif not all(word in words for word in WORD.findall(name)):
             faults.append(f"docs/PROOFS.md, {heading}: {name} is not in {', '.join(files)}")
+
+
+def uses():
+    """The crates that each crate of crates.txt uses, by itself or by what it uses."""
+    lines = [line.split("#")[0] for line in (TOP / "crates.txt").read_text().splitlines()]
+    below = {line.split(":")[0].split()[0]: set(line.split(":")[1].split()) for line in lines if ":" in line}
+    for _ in below:
+        for used in below.values():
+            used.update(*(below.get(one, ()) for one in list(used)))
+    return {crate: used & below.keys() for crate, used in below.items()}
+
+
+def judge_layers():
+    """docs/ARCHITECTURE.md: the picture of the crates has each crate but those of tests, and an arrow wherever no other crate stands between."""
+    below = {crate: used for crate, used in uses().items() if not crate.endswith("_tests")}
+    wanted = {
+        (crate, used) for crate in below for used in below[crate] if not any(used in below[between] for between in below[crate])
+    }
+    text = (TOP / "docs/ARCHITECTURE.md").read_text()
+    picture = re.search(r"```mermaid\n(flowchart.*?)```", text, re.S)
+    drawn = set(re.findall(r"(\w+) --> (\w+)", picture[1])) if picture else set()
+    for crate, used in sorted(wanted ^ drawn):
+        is_missing = (crate, used) in wanted
+        faults.append(f"docs/ARCHITECTURE.md: the picture {'lacks' if is_missing else 'has'} {crate} --> {used}")
+
+
+def moves_drawn(picture):
+    """The steps of a schedule that a picture of an exchange shows."""
+    steps = []
+    for line in picture.splitlines():
+        line = line.strip()
+        if line.startswith("panel->>reader:"):
+            steps.append("to-reader deliver")
+        elif line.startswith("reader-->>panel:"):
+            steps.append("to-controller deliver")
+        elif line.startswith("reader--xpanel:"):
+            steps.append("to-controller drop")
+        elif pause := re.match(r"Note over panel: (\d+) ms", line):
+            steps.append(f"wait {pause[1]}")
+        elif busy := re.match(r"Note over reader: busy (on|off)", line):
+            steps.append(f"busy 1 {busy[1]}")
+    return steps
+
+
+def judge_exchanges():
+    """docs/PROTOCOL.md: each picture of an exchange shows the steps of the script named above it, and what its account tells."""
+    text = (TOP / "docs/PROTOCOL.md").read_text()
+    named = re.findall(r"^From `examples/(\w+)\.script`:\n\n```mermaid\n(.*?)```$", text, re.M | re.S)
+    for name, picture in named:
+        steps = (TOP / f"examples/{name}.script").read_text().split("clean 0\n")[1].splitlines()
+        account = (TOP / f"examples/{name}.account").read_text().splitlines()[1:]
+        if moves_drawn(picture) != steps:
+            faults.append(f"docs/PROTOCOL.md: the picture of {name} shows other steps")
+        if re.findall(r"Note over \w+: ((?:taken|settled|unsettled|reported) .*)", picture) != account:
+            faults.append(f"docs/PROTOCOL.md: the picture of {name} tells another account")
+    if len(named) < 2:
+        faults.append("docs/PROTOCOL.md: pictures of exchanges are not there")
 
 
 def judge_proofs(all_crates):
@@ -209,6 +268,8 @@ if __name__ == "__main__":
     judge_proofs(every)
     judge_readme()
     judge_architecture(every)
+    judge_layers()
+    judge_exchanges()
     judge_protocol()
     judge_code("README.md")
     judge_code("docs/GUIDE.md")
