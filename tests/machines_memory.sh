@@ -1,7 +1,8 @@
 #!/usr/bin/env bash
 # Refuses each allocation of a new reader and of a new controller in turn. There is one in each: with it refused the answer is
 # out of memory, and the settings are still judged first; with a second one refused nothing changes, since no later call asks
-# for any. Tests that need the machine show that the refusal came through.
+# for any. Tests that need the machine show that the refusal came through. A bus asks for memory as it is made, and once for each
+# device: refused one, a test finds it as it was, and tests of one device and of two show which allocations there are.
 set -u
 cd "$(dirname "$0")/../crates/osdp_machine_tests" || exit 1
 
@@ -36,4 +37,18 @@ for number in 1 16 17; do
   needed="test refusals::memory_is_needed ... FAILED"
   [ "$number" -eq 17 ] && needed="test refusals::memory_is_needed ... ok"
   grep -q "$needed" <<<"$tried" || fail "simulated line: allocation $number is not as it should be"
+done
+
+cd ../osdp_bus_tests || exit 1
+for number in 1 2 3 4; do
+  tried=$(rt try --test --fail-alloc "$number" 2>&1)
+  grep -q "test reservations::out_of_memory_is_told ... ok" <<<"$tried" || fail "bus: out of memory was not told, or the bus has changed"
+  one="ok"
+  [ "$number" -le 2 ] && one="FAILED"
+  two="ok"
+  [ "$number" -le 3 ] && two="FAILED"
+  grep -q "test turns::runs_end ... $one" <<<"$tried" || fail "bus of one device: allocation $number is not as it should be"
+  for name in two_devices_take_turns a_pause_holds_the_line; do
+    grep -q "test turns::$name ... $two" <<<"$tried" || fail "bus of two devices: allocation $number is not as it should be"
+  done
 done

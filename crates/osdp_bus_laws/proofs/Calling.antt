@@ -65,7 +65,7 @@ or_second : (x y : Bool) → y ≡ true → (x || y) ≡ true
 or_second true y h = refl
 or_second false y h = h
 
-names_take : (a : ℕ) (d : Device) → Names a d → takes_up a d ≡ true
+pub names_take : (a : ℕ) (d : Device) → Names a d → takes_up a d ≡ true
 names_take a d (inl is) = ap (λ t. t || is_reserved a d.reserved) (eq-eqb (address_of d) a is)
 names_take a d (inr is) = or_second (is_at a d) (is_reserved a d.reserved) (ap (is_reserved a) is ∙ eq-eqb a a refl)
 
@@ -84,7 +84,7 @@ no_comset : (o : Option Communication) (others : Bool) (rest : List Communicatio
 no_comset None others rest h next = next h
 no_comset (Some asked) others rest h next = cc
 
-no_comsets : (commands : List Command) → has_comset commands ≡ false → comsets_in commands ≡ []
+pub no_comsets : (commands : List Command) → has_comset commands ≡ false → comsets_in commands ≡ []
 no_comsets [] h = refl
 no_comsets (command ∷ commands) h = no_comset (comset_of command) (has_comset commands) (comsets_in commands) h (no_comsets commands)
 

@@ -10,3 +10,7 @@ pub mod Incoming
 pub mod Turning
 pub mod Fairness
 pub mod Sending
+pub mod Resending
+pub mod Holding
+pub mod Reports
+pub mod Refusing

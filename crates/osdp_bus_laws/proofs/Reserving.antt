@@ -252,11 +252,11 @@ reservations_last b is = record {
 
 -- ---- reports
 
-kept_unless : (f : Option BusFault) (old new : BusState) → new.devices.report ≡ old.devices.report → (changed_unless f old new).devices.report ≡ old.devices.report
+pub kept_unless : (f : Option BusFault) (old new : BusState) → new.devices.report ≡ old.devices.report → (changed_unless f old new).devices.report ≡ old.devices.report
 kept_unless None old new same = same
 kept_unless (Some fault) old new same = refl
 
-changed_report : (entry : ℕ) (change : Device → Device) (b : BusState) → (changes_device entry change b).devices.report ≡ b.devices.report
+pub changed_report : (entry : ℕ) (change : Device → Device) (b : BusState) → (changes_device entry change b).devices.report ≡ b.devices.report
 changed_report entry change b = by_device (device_of entry b)
   where
     by_device : (o : Option Device)

@@ -5,3 +5,7 @@ pub mod Packets
 pub mod Turns
 pub mod Fairness
 pub mod Sending
+pub mod Resending
+pub mod Holding
+pub mod Refusals
+pub mod Reports

@@ -6,7 +6,11 @@ ghost use Rattle.osdp_bus_laws.specs.Addresses.{NoAddressOfTwo, ReservationsLast
 ghost use Rattle.osdp_bus_laws.specs.Calls.{Always};
 ghost use Rattle.osdp_bus_laws.specs.Exchanges.{HasOneExchange, KeepsReports};
 ghost use Rattle.osdp_bus_laws.specs.Fairness.{TurnsAreFair};
+ghost use Rattle.osdp_bus_laws.specs.Holding.{HoldersTick};
 ghost use Rattle.osdp_bus_laws.specs.Packets.{CutsChangeNothing, PacketsGoToTheirAddress};
+ghost use Rattle.osdp_bus_laws.specs.Refusals.{RefusesInOrder};
+ghost use Rattle.osdp_bus_laws.specs.Reports.{TellsEachOnce};
+ghost use Rattle.osdp_bus_laws.specs.Resending.{HoldersSendTheSame};
 ghost use Rattle.osdp_bus_laws.specs.Sending.{HoldersSendTheirFrame, SessionsBeginAlone};
 ghost use Rattle.osdp_bus_laws.specs.Turns.{TakesTurns};
 
@@ -37,6 +41,12 @@ pub fn reports_wait()
     ensures { Always KeepsReports }
 {}
 
+/// What was taken, in its order, and then what waits, is what the controllers told, in theirs: each report is told once, with its entry,
+/// and none is lost.
+pub fn reports_are_told_once()
+    ensures { TellsEachOnce }
+{}
+
 /// A packet goes to the controller of its address, also where one before it in its run has moved a device, and changes no other device.
 pub fn packets_go_to_their_address()
     ensures { Always PacketsGoToTheirAddress }
@@ -62,7 +72,24 @@ pub fn holders_send_their_frame()
     ensures { (b : BusState) → HoldersSendTheirFrame b }
 {}
 
+/// It is, byte for byte, the burst that went out last on the line: the frame of an exchange that holds the line is the one that went out
+/// last, whatever was called since the bus was new.
+pub fn holders_send_the_same()
+    ensures { HoldersSendTheSame }
+{}
+
+/// Where the holder is due, and its exchange still stands and is still due after the run has ended, the tick is its own: its burst, or
+/// the report that its session has ended. Else nothing goes out and nothing is told.
+pub fn due_holders_tick()
+    ensures { Always HoldersTick }
+{}
+
 /// A session that begins leaves the waiting commands of its device in their order, none outstanding, and all other devices as they were.
 pub fn sessions_begin_alone()
     ensures { (b : BusState) → SessionsBeginAlone b }
+{}
+
+/// Each refusal comes exactly where its cause holds and no cause that is judged before it does, and nothing has changed then.
+pub fn refusals_come_in_order()
+    ensures { (b : BusState) → RefusesInOrder b }
 {}

@@ -1,0 +1,360 @@
+-- Each refusal comes exactly where its cause holds, in the order in which the causes are judged.
+use Rattle.std.proofs.Common.{◌≡◌, ◌∙◌, ap, sym, subst, inl, inr, ℕ, zero, suc, ◌+◌, ◌<◌, ◌≤◌, ◌||◌, Bool, true, false, List, [], ◌∷◌, ◌++◌, length, take, drop, Option, Some, None, refl, arith}
+use Rattle.std.specs.Prelude.{◌≢◌, ◌⊎◌, if◌then◌else◌, is_some, nat_le, nat_lt, option_map, option_to_list, slice_get, slice_set}
+use Rattle.std.specs.List.{list_any}
+use Rattle.std.specs.Option.{option_map_or}
+use Rattle.std.proofs.lemmas.Bool.{eqb-true, leb-true, leb-false, ltb-true, ltb-false}
+use Rattle.std.proofs.lemmas.Option.{slice_get_within}
+use Rattle.osdp_msg.specs.declared.command.Command.{Command}
+use Rattle.osdp_msg.specs.declared.command.Command.TheVariants.{Poll, Comset}
+use Rattle.osdp_msg.specs.declared.command_fields.Communication.{Communication}
+use Rattle.osdp_controller.specs.declared.fault.ControllerFault.TheVariants.{Full as FullOf, NotClosed as NotClosedOf, OutOfRange as OutOfRangeOf}
+use Rattle.osdp_controller.specs.declared.state.State.{State}
+use Rattle.osdp_controller.specs.declared.state.State.TheVariants.{Closed, Quiet, Idle, Waiting, Pausing}
+use Rattle.osdp_controller.specs.Comsets.{has_comset}
+use Rattle.osdp_controller.specs.Hearing.{comset_of}
+use Rattle.osdp_controller.specs.Machine.{Machine, or_no_device, refused_unless_closed, submit_refusal}
+use Rattle.osdp_controller.specs.States.{is_closed}
+use Rattle.osdp_bus.specs.declared.device.Device.{Device}
+use Rattle.osdp_bus.specs.declared.fault.BusFault.{BusFault}
+use Rattle.osdp_bus.specs.declared.fault.BusFault.TheVariants.{TooMany, AddressTaken, OutOfRange, Full, PollSubmitted, NotClosed}
+use Rattle.osdp_bus.specs.Buses.{BusState, device_of}
+use Rattle.osdp_bus.specs.Devices.{address_of, is_at, is_reserved, is_taken, is_taken_beside, takes_up}
+use Rattle.osdp_bus.specs.Machine.{add_refusal, after_add, after_begin_at, after_retarget_at, after_submit_at, begin_refusal_at, begin_refusal_of, bus_fault, changed_unless, device_withdraws, is_comset_refused, most_devices, or_taken, retarget_refusal_at, retarget_refusal_of, submit_refusal_at, submit_refusal_of, withdrawal_of}
+use Rattle.osdp_bus_laws.specs.Addresses.{Names, comsets_in}
+use Rattle.osdp_bus_laws.specs.Calls.{Call, Add, Begin, Submit, Withdraw, Retarget, OnBytes, OnSilence, Tick, NextReport, after_call}
+use Rattle.osdp_bus_laws.specs.Refusals.{Accepts, AwaitsMove, HasNoRoom, IsBarredComset, IsNoEntry, IsOpen, IsTakenByAnother, IsTakenUp, Judges, JudgesInOrder, OfEntry, RefusesInOrder, refusal_of, refused_with}
+use Rattle.osdp_bus_laws.proofs.Calling.{names_take, no_comsets}
+use Rattle.osdp_bus_laws.proofs.Places.{both_false, free_beside, none_at}
+
+-- ---- a cause that a test decides
+
+judged : (fault : BusFault) (Cause : Type 0) (Next : Option BusFault → Type 0) (t : Bool) (rest : Option BusFault) → (t ≡ true → Cause) → (t ≡ false → Cause → ⊥)
+    → Next rest → Judges fault Cause Next (if t then Some fault else rest)
+judged fault Cause Next true rest holds fails next = inl (holds refl, refl)
+judged fault Cause Next false rest holds fails next = inr (fails refl, next)
+
+-- ---- places
+
+either_true : (x y : Bool) → (x || y) ≡ true → (x ≡ true) ⊎ (y ≡ true)
+either_true true y h = inl refl
+either_true false y h = inr h
+
+taken_names : (a : ℕ) (d : Device) → takes_up a d ≡ true → Names a d
+taken_names a d h = by_either (either_true (is_at a d) (is_reserved a d.reserved) h)
+  where
+    by_reserved : (o : Option ℕ) → d.reserved ≡ o → is_reserved a o ≡ true → Names a d
+    by_reserved None none is = absurd cc
+    by_reserved (Some reserved) some is = inr (some ∙ ap Some (eqb-true reserved a is))
+
+    by_either : (is_at a d ≡ true) ⊎ (is_reserved a d.reserved ≡ true) → Names a d
+    by_either (inl is) = inl (eqb-true (address_of d) a is)
+    by_either (inr is) = by_reserved d.reserved refl is
+
+abbrev Found : (Device → Bool) → List Device → Type 0
+Found test ds = (j : ℕ) × (f : Device) × (slice_get ds j ≡ Some f) × (test f ≡ true)
+
+some_at : (test : Device → Bool) (ds : List Device) → list_any test ds ≡ true → Found test ds
+some_at test [] h = absurd cc
+some_at test (x ∷ ds) h = by_test (test x) refl h (λ later. some_at test ds later)
+  where
+    one_on : Found test ds → Found test (x ∷ ds)
+    one_on (j, f, there, passes) = (suc j, f, there, passes)
+
+    by_test : (t : Bool) → test x ≡ t → (t || list_any test ds) ≡ true → (list_any test ds ≡ true → Found test ds) → Found test (x ∷ ds)
+    by_test true passes later others = (zero, x, refl, passes)
+    by_test false fails later others = one_on (others later)
+
+of_taken : (i j : ℕ) (ds : List Device) (f : Device) → slice_get (take i ds) j ≡ Some f → (j < i) × (slice_get ds j ≡ Some f)
+of_taken zero j ds f at = absurd cc
+of_taken (suc i) j [] f at = absurd cc
+of_taken (suc i) zero (x ∷ ds) f at = (omega arith, at)
+of_taken (suc i) (suc j) (x ∷ ds) f at =
+    let before = of_taken i j ds f at in
+    let below = before.0 in
+    (omega arith, before.1)
+
+of_dropped : (i k : ℕ) (ds : List Device) (f : Device) → slice_get (drop i ds) k ≡ Some f → slice_get ds (i + k) ≡ Some f
+of_dropped zero k ds f at = ap (slice_get ds) (let e : zero + k ≡ k = omega arith in e) ∙ at
+of_dropped (suc i) k [] f at = absurd cc
+of_dropped (suc i) k (x ∷ ds) f at = ap (slice_get (x ∷ ds)) (let e : suc i + k ≡ suc (i + k) = omega arith in e) ∙ of_dropped i k ds f at
+
+-- ---- whose an address is
+
+taken_up : (address : ℕ) (b : BusState) → is_taken address b.devices.entries ≡ true → IsTakenUp address b
+taken_up address b h = by_found (some_at (takes_up address) b.devices.entries h)
+  where
+    by_found : Found (takes_up address) b.devices.entries → IsTakenUp address b
+    by_found (j, f, there, takes) = (j, (f, there, taken_names address f takes))
+
+not_taken_up : (address : ℕ) (b : BusState) → is_taken address b.devices.entries ≡ false → IsTakenUp address b → ⊥
+not_taken_up address b free (j, (f, there, named)) =
+    let takes = names_take address f named in
+    let none = none_at (takes_up address) b.devices.entries j f free there in
+    cc
+
+taken_by_another : (entry address : ℕ) (b : BusState) → is_taken_beside entry address b.devices.entries ≡ true → IsTakenByAnother entry address b
+taken_by_another entry address b h =
+    by_side (either_true (is_taken address (take entry b.devices.entries)) (is_taken address (drop (entry + 1) b.devices.entries)) h)
+  where
+    before : Found (takes_up address) (take entry b.devices.entries) → IsTakenByAnother entry address b
+    before (j, f, there, takes) =
+        let at = of_taken entry j b.devices.entries f there in
+        (j, (λ same. let below = at.0 in omega arith), (f, at.1, taken_names address f takes))
+
+    after : Found (takes_up address) (drop (entry + 1) b.devices.entries) → IsTakenByAnother entry address b
+    after (k, f, there, takes) =
+        (entry + 1 + k, (λ same. omega arith), (f, of_dropped (entry + 1) k b.devices.entries f there, taken_names address f takes))
+
+    by_side : (is_taken address (take entry b.devices.entries) ≡ true) ⊎ (is_taken address (drop (entry + 1) b.devices.entries) ≡ true)
+        → IsTakenByAnother entry address b
+    by_side (inl h) = before (some_at (takes_up address) (take entry b.devices.entries) h)
+    by_side (inr h) = after (some_at (takes_up address) (drop (entry + 1) b.devices.entries) h)
+
+not_taken_by_another : (entry address : ℕ) (b : BusState) → is_taken_beside entry address b.devices.entries ≡ false → IsTakenByAnother entry address b → ⊥
+not_taken_by_another entry address b free (j, apart, (f, there, named)) =
+    let takes = names_take address f named in
+    let none = free_beside address entry b.devices.entries j f free apart there in
+    cc
+
+-- ---- whether there is an entry
+
+no_entry : (ds : List Device) (n : ℕ) → slice_get ds n ≡ None → length ds ≤ n
+no_entry [] n at = omega arith
+no_entry (x ∷ ds) zero at = absurd cc
+no_entry (x ∷ ds) (suc n) at = let later = no_entry ds n at in omega arith
+
+is_entry : (entry : ℕ) (d : Device) (b : BusState) → device_of entry b ≡ Some d → IsNoEntry entry b → ⊥
+is_entry entry d b at none = let within = slice_get_within b.devices.entries entry d at in omega arith
+
+-- the device of an entry is one
+same_device : (entry : ℕ) (d e : Device) (b : BusState) → device_of entry b ≡ Some d → device_of entry b ≡ Some e → d ≡ e
+same_device entry d e b at there = let same : Some d ≡ Some e = sym at ∙ there in cc
+
+-- ---- each call
+
+judges_add : (address : ℕ) (b : BusState) → JudgesInOrder (Add address) b (add_refusal address b)
+judges_add address b =
+    judged TooMany (16 ≤ length b.devices.entries) (Judges OutOfRange (127 ≤ address) (Judges AddressTaken (IsTakenUp address b) Accepts))
+    (nat_le most_devices (length b.devices.entries))
+    (if nat_lt address 127 then (if is_taken address b.devices.entries then Some AddressTaken else None) else Some OutOfRange)
+    (λ h. leb-true 16 (length b.devices.entries) h) (λ h many. let few = leb-false 16 (length b.devices.entries) h in omega arith)
+    (by_address (nat_lt address 127) refl)
+  where
+    by_address : (t : Bool) → nat_lt address 127 ≡ t
+        → Judges OutOfRange (127 ≤ address) (Judges AddressTaken (IsTakenUp address b) Accepts)
+        (if t then (if is_taken address b.devices.entries then Some AddressTaken else None) else Some OutOfRange)
+    by_address true h = inr (
+      (λ above. let below = ltb-true address 127 h in omega arith),
+      judged AddressTaken (IsTakenUp address b) Accepts (is_taken address b.devices.entries) None (taken_up address b) (not_taken_up address b) refl,
+    )
+    by_address false h = inl (ltb-false address 127 h, refl)
+
+begun_is_open : (state : State) → is_closed state ≡ false → refused_unless_closed state ≡ Some NotClosedOf
+begun_is_open Closed h = absurd cc
+begun_is_open (Quiet until) h = refl
+begun_is_open (Idle due) h = refl
+begun_is_open (Waiting until sends o) h = refl
+begun_is_open (Pausing until o) h = refl
+
+not_begun_is_closed : (state : State) → is_closed state ≡ true → refused_unless_closed state ≡ None
+not_begun_is_closed Closed h = refl
+not_begun_is_closed (Quiet until) h = absurd cc
+not_begun_is_closed (Idle due) h = absurd cc
+not_begun_is_closed (Waiting until sends o) h = absurd cc
+not_begun_is_closed (Pausing until o) h = absurd cc
+
+not_open : (entry : ℕ) (d : Device) (b : BusState) → device_of entry b ≡ Some d → is_closed d.controller.session.state ≡ true → IsOpen entry b → ⊥
+not_open entry d b at closed (e, there, open_there) =
+    let same = ap (λ (x : Device). is_closed x.controller.session.state) (same_device entry d e b at there) in
+    let both = sym closed ∙ same ∙ open_there in
+    cc
+
+judges_begin : (entry now : ℕ) (b : BusState) → JudgesInOrder (Begin entry now) b (begin_refusal_at entry b)
+judges_begin entry now b = by_device (device_of entry b) refl
+  where
+    by_state : (d : Device) → device_of entry b ≡ Some d → (t : Bool) → is_closed d.controller.session.state ≡ t
+        → Judges NotClosed (IsOpen entry b) Accepts (begin_refusal_of (Some d))
+    by_state d at true closed = inr (not_open entry d b at closed, ap (option_map bus_fault) (not_begun_is_closed d.controller.session.state closed))
+    by_state d at false begun = inl ((d, at, begun), ap (option_map bus_fault) (begun_is_open d.controller.session.state begun))
+
+    by_device : (o : Option Device) → device_of entry b ≡ o → JudgesInOrder (Begin entry now) b (begin_refusal_of o)
+    by_device None at = inl (no_entry b.devices.entries entry at, refl)
+    by_device (Some d) at = inr (is_entry entry d b at, by_state d at (is_closed d.controller.session.state) refl)
+
+judges_withdraw : (entry : ℕ) (b : BusState) → JudgesInOrder (Withdraw entry) b (refusal_of (Withdraw entry) b)
+judges_withdraw entry b = by_device (device_of entry b) refl
+  where
+    by_device : (o : Option Device) → device_of entry b ≡ o → JudgesInOrder (Withdraw entry) b (refused_with (withdrawal_of o))
+    by_device None at = inl (no_entry b.devices.entries entry at, refl)
+    by_device (Some d) at = inr (is_entry entry d b at, refl)
+
+-- submitting
+
+poll_or : (command : Command) → (command ≡ Poll) ⊎ ((command ≢ Poll)
+    × ((m : Machine) → submit_refusal command m ≡ (if nat_lt (length m.waiting) m.capacity then None else Some FullOf)))
+poll_or Poll = inl refl
+poll_or command = inr ((λ h. cc), (λ m. refl))
+
+comset_is : (command : Command) (asked : Communication) → comset_of command ≡ Some asked → command ≡ Comset asked
+comset_is (Comset other) asked h = ap Comset (let same : other ≡ asked = cc in same)
+comset_is command asked h = absurd cc
+
+barred : (entry : ℕ) (command : Command) (d : Device) (b : BusState) → device_of entry b ≡ Some d → (o : Option Communication) → comset_of command ≡ o
+    → is_comset_refused o entry d b ≡ true → IsBarredComset entry command b
+barred entry command d b at None none h = absurd cc
+barred entry command d b at (Some asked) some h =
+    (asked, comset_is command asked some, by_either (either_true (is_taken_beside entry asked.address b.devices.entries) (is_some d.reserved) h))
+  where
+    by_reserved : (o : Option ℕ) → d.reserved ≡ o → is_some o ≡ true → (address : ℕ) × (d.reserved ≡ Some address)
+    by_reserved None none is = absurd cc
+    by_reserved (Some address) same is = (address, same)
+
+    by_either : (is_taken_beside entry asked.address b.devices.entries ≡ true) ⊎ (is_some d.reserved ≡ true)
+        → IsTakenByAnother entry asked.address b ⊎ OfEntry entry (λ d. (address : ℕ) × (d.reserved ≡ Some address)) b
+    by_either (inl taken) = inl (taken_by_another entry asked.address b taken)
+    by_either (inr is) = inr (d, at, by_reserved d.reserved refl is)
+
+not_barred : (entry : ℕ) (command : Command) (d : Device) (b : BusState) → device_of entry b ≡ Some d
+    → is_comset_refused (comset_of command) entry d b ≡ false → IsBarredComset entry command b → ⊥
+not_barred entry command d b at h (asked, is, why) =
+    by_either why (both_false (is_taken_beside entry asked.address b.devices.entries) (is_some d.reserved)
+    (sym (ap (λ c. is_comset_refused (comset_of c) entry d b) is) ∙ h))
+  where
+    by_either : IsTakenByAnother entry asked.address b ⊎ OfEntry entry (λ d. (address : ℕ) × (d.reserved ≡ Some address)) b
+        → (is_taken_beside entry asked.address b.devices.entries ≡ false) × (is_some d.reserved ≡ false) → ⊥
+    by_either (inl taken) free = not_taken_by_another entry asked.address b free.0 taken
+    by_either (inr (e, there, (address, reserved))) free =
+        let same = ap (λ (x : Device). is_some x.reserved) (same_device entry d e b at there) in
+        let some = ap (λ (o : Option ℕ). is_some o) reserved in
+        let none = sym free.1 ∙ same ∙ some in
+        cc
+
+judges_room : (entry : ℕ) (d : Device) (b : BusState) → device_of entry b ≡ Some d
+    → Judges Full (HasNoRoom entry b) Accepts (option_map bus_fault (if nat_lt (length d.controller.waiting) d.controller.capacity then None else Some FullOf))
+judges_room entry d b at = by_test (nat_lt (length d.controller.waiting) d.controller.capacity) refl
+  where
+    by_test : (t : Bool) → nat_lt (length d.controller.waiting) d.controller.capacity ≡ t
+        → Judges Full (HasNoRoom entry b) Accepts (option_map bus_fault (if t then None else Some FullOf))
+    by_test true h = inr (there_is_room, refl)
+      where
+        there_is_room : HasNoRoom entry b → ⊥
+        there_is_room (e, there, full) =
+            let below = ltb-true (length d.controller.waiting) d.controller.capacity h in
+            let is = subst (λ (x : Device). x.controller.capacity ≤ length x.controller.waiting) (sym (same_device entry d e b at there)) full in
+            omega arith
+    by_test false h = inl ((d, at, ltb-false (length d.controller.waiting) d.controller.capacity h), refl)
+
+judges_submit : (entry : ℕ) (command : Command) (b : BusState) → JudgesInOrder (Submit entry command) b (submit_refusal_at entry command b)
+judges_submit entry command b = by_device (device_of entry b) refl
+  where
+    by_poll : (d : Device) → device_of entry b ≡ Some d → (command ≡ Poll) ⊎ ((command ≢ Poll)
+        × ((m : Machine) → submit_refusal command m ≡ (if nat_lt (length m.waiting) m.capacity then None else Some FullOf)))
+        → Judges PollSubmitted (command ≡ Poll) (Judges AddressTaken (IsBarredComset entry command b) (Judges Full (HasNoRoom entry b) Accepts))
+        (submit_refusal_of entry command (Some d) b)
+    by_poll d at (inl is) = inl (is, ap (λ c. submit_refusal_of entry c (Some d) b) is)
+    by_poll d at (inr (other, rule)) = inr (
+      other,
+      judged AddressTaken (IsBarredComset entry command b) (Judges Full (HasNoRoom entry b) Accepts) (is_comset_refused (comset_of command) entry d b)
+          (option_map bus_fault (submit_refusal command d.controller)) (barred entry command d b at (comset_of command) refl) (not_barred entry command d b at)
+          (subst (λ r. Judges Full (HasNoRoom entry b) Accepts (option_map bus_fault r)) (sym (rule d.controller)) (judges_room entry d b at)),
+    )
+
+    by_device : (o : Option Device) → device_of entry b ≡ o → JudgesInOrder (Submit entry command) b (submit_refusal_of entry command o b)
+    by_device None at = inl (no_entry b.devices.entries entry at, refl)
+    by_device (Some d) at = inr (is_entry entry d b at, by_poll d at (poll_or command))
+
+-- another address
+
+some_comset : (commands : List Command) → has_comset commands ≡ true → comsets_in commands ≢ []
+some_comset [] h = absurd cc
+some_comset (command ∷ commands) h = by_comset (comset_of command) h (λ later. some_comset commands later)
+  where
+    by_comset : (o : Option Communication) → (is_some o || has_comset commands) ≡ true → (has_comset commands ≡ true → comsets_in commands ≢ [])
+        → option_to_list o ++ comsets_in commands ≢ []
+    by_comset None later others = others later
+    by_comset (Some asked) here others = λ none. absurd cc
+
+judges_retarget : (entry address : ℕ) (b : BusState) → JudgesInOrder (Retarget entry address) b (retarget_refusal_at entry address b)
+judges_retarget entry address b = by_device (device_of entry b) refl
+  where
+    bars : (d : Device) → device_of entry b ≡ Some d → (is_taken_beside entry address b.devices.entries || has_comset d.controller.waiting) ≡ true
+        → IsTakenByAnother entry address b ⊎ AwaitsMove entry b
+    bars d at h = by_either (either_true (is_taken_beside entry address b.devices.entries) (has_comset d.controller.waiting) h)
+      where
+        by_either : (is_taken_beside entry address b.devices.entries ≡ true) ⊎ (has_comset d.controller.waiting ≡ true)
+            → IsTakenByAnother entry address b ⊎ AwaitsMove entry b
+        by_either (inl taken) = inl (taken_by_another entry address b taken)
+        by_either (inr waits) = inr (d, at, some_comset d.controller.waiting waits)
+
+    bars_not : (d : Device) → device_of entry b ≡ Some d → (is_taken_beside entry address b.devices.entries || has_comset d.controller.waiting) ≡ false
+        → IsTakenByAnother entry address b ⊎ AwaitsMove entry b → ⊥
+    bars_not d at h why = by_either why (both_false (is_taken_beside entry address b.devices.entries) (has_comset d.controller.waiting) h)
+      where
+        by_either : IsTakenByAnother entry address b ⊎ AwaitsMove entry b
+            → (is_taken_beside entry address b.devices.entries ≡ false) × (has_comset d.controller.waiting ≡ false) → ⊥
+        by_either (inl taken) free = not_taken_by_another entry address b free.0 taken
+        by_either (inr (e, there, waits)) free =
+            waits (ap (λ (x : Device). comsets_in x.controller.waiting) (sym (same_device entry d e b at there)) ∙ no_comsets d.controller.waiting free.1)
+
+    by_address : (d : Device) → device_of entry b ≡ Some d → (t : Bool) → nat_lt address 127 ≡ t
+        → Judges OutOfRange (127 ≤ address) (Judges AddressTaken (IsTakenByAnother entry address b ⊎ AwaitsMove entry b) Accepts)
+        (or_taken (option_map bus_fault (if t then None else Some OutOfRangeOf))
+        (is_taken_beside entry address b.devices.entries || has_comset d.controller.waiting))
+    by_address d at true h = inr (
+      (λ above. let below = ltb-true address 127 h in omega arith),
+      judged AddressTaken (IsTakenByAnother entry address b ⊎ AwaitsMove entry b) Accepts
+          (is_taken_beside entry address b.devices.entries || has_comset d.controller.waiting) None (bars d at) (bars_not d at) refl,
+    )
+    by_address d at false h = inl (ltb-false address 127 h, refl)
+
+    by_state : (d : Device) → device_of entry b ≡ Some d → (t : Bool) → is_closed d.controller.session.state ≡ t
+        → Judges NotClosed (IsOpen entry b) (Judges OutOfRange (127 ≤ address) (Judges AddressTaken (IsTakenByAnother entry address b ⊎ AwaitsMove entry b) Accepts))
+        (retarget_refusal_of entry address (Some d) b)
+    by_state d at true closed = inr (
+      not_open entry d b at closed,
+      subst (λ f. Judges OutOfRange (127 ≤ address) (Judges AddressTaken (IsTakenByAnother entry address b ⊎ AwaitsMove entry b) Accepts)
+          (or_taken (option_map bus_fault (or_no_device f address)) (is_taken_beside entry address b.devices.entries || has_comset d.controller.waiting)))
+          (sym (not_begun_is_closed d.controller.session.state closed)) (by_address d at (nat_lt address 127) refl),
+    )
+    by_state d at false begun = inl (
+      (d, at, begun),
+      ap (λ f. or_taken (option_map bus_fault (or_no_device f address)) (is_taken_beside entry address b.devices.entries || has_comset d.controller.waiting))
+          (begun_is_open d.controller.session.state begun),
+    )
+
+    by_device : (o : Option Device) → device_of entry b ≡ o → JudgesInOrder (Retarget entry address) b (retarget_refusal_of entry address o b)
+    by_device None at = inl (no_entry b.devices.entries entry at, refl)
+    by_device (Some d) at = inr (is_entry entry d b at, by_state d at (is_closed d.controller.session.state) refl)
+
+-- ---- the law
+
+judges : (call : Call) (b : BusState) → JudgesInOrder call b (refusal_of call b)
+judges (Add address) b = judges_add address b
+judges (Begin entry now) b = judges_begin entry now b
+judges (Submit entry command) b = judges_submit entry command b
+judges (Withdraw entry) b = judges_withdraw entry b
+judges (Retarget entry address) b = judges_retarget entry address b
+judges (OnBytes bytes now) b = refl
+judges (OnSilence now) b = refl
+judges (Tick now) b = refl
+judges NextReport b = refl
+
+unchanged : (call : Call) (fault : BusFault) (b : BusState) → refusal_of call b ≡ Some fault → after_call call b ≡ b
+unchanged (Add address) fault b h = ap (λ f. changed_unless f b (after_add address b)) h
+unchanged (Begin entry now) fault b h = ap (λ f. changed_unless f b (after_begin_at entry now b)) h
+unchanged (Submit entry command) fault b h = ap (λ f. changed_unless f b (after_submit_at entry command b)) h
+unchanged (Withdraw entry) fault b h = by_device (device_of entry b) h
+  where
+    by_device : (o : Option Device) → refused_with (withdrawal_of o) ≡ Some fault
+        → option_map_or (λ d. record b { devices = record b.devices { entries = slice_set b.devices.entries entry (device_withdraws d) } }) o b ≡ b
+    by_device None refused = refl
+    by_device (Some d) refused = absurd cc
+unchanged (Retarget entry address) fault b h = ap (λ f. changed_unless f b (after_retarget_at entry address b)) h
+unchanged (OnBytes bytes now) fault b h = absurd cc
+unchanged (OnSilence now) fault b h = absurd cc
+unchanged (Tick now) fault b h = absurd cc
+unchanged NextReport fault b h = absurd cc
+
+pub refuses_in_order : (b : BusState) → RefusesInOrder b
+refuses_in_order b = record { judged = λ call. judges call b; unchanged = λ call fault h. unchanged call fault b h }
