@@ -5,6 +5,7 @@
 - Each public law stands in the section of its crate. A law is a public function that gives nothing and changes nothing.
 - Each path that README names is there, and a law that stands in one row with a path is a law of that file.
 - docs/ARCHITECTURE.md has a row for each crate of crates.txt. Each file of a crate that its tables name is there, and each definition.
+  Each file of src/ and specs/ is named once.
 - Each block of code of README and of docs/GUIDE.md is text of the file that the line above it names. Each topic that docs/PROFILE.md names is one of
   docs/PROTOCOL.md.
 - The picture of docs/ARCHITECTURE.md has each crate but those of tests, and its arrows are those of crates.txt. Each picture of an exchange in
@@ -21,6 +22,7 @@ LAW = re.compile(r"^pub fn (\w+)(.*?)(?=^    (?:ensures|requires)|^{)", re.M | r
 NAMED = re.compile(r"(laws?|clauses?)?\s*`([^`]+)`")
 WORD = re.compile(r"\w+")
 faults = []
+named_files = []
 
 
 def crates():
@@ -173,6 +175,7 @@ def judge_files(crate, folder, cell):
     """Looks up the files of a crate that a cell names."""
     known = stems(crate, folder)
     for name in re.findall(r"`(\w+)`", cell):
+        named_files.append((crate, folder, name))
         if name not in known:
             faults.append(f"docs/ARCHITECTURE.md: {crate} has no file {name} in {folder}/")
 
@@ -188,8 +191,25 @@ def judge_map(heading, body):
             judge_files(crate, folder, cells[0])
         elif folder:
             judge_files(cells[0].strip("`"), folder, cells[1])
+    for name in re.findall(r"`(\w+)` of `specs/` s", body):
+        judge_files(crate, "specs", f"`{name}`")
     for name in re.findall(r"`proofs/(\w+)`", body):
         judge_files(crate, "proofs", f"`{name}`")
+
+
+def judge_coverage(all_crates, text):
+    """docs/ARCHITECTURE.md: each file of specs/, but for the lists of modules, and each file of src/ is named once."""
+    part = text[text.index("## Files of `src/`"):] if "## Files of `src/`" in text else ""
+    told = [(cells[0].strip("`"), "src", cells[1].strip("`").removeprefix("src/")) for cells in rows(part)][1:]
+    told += [file for file in named_files if file[1] == "specs"]
+    there = set()
+    for crate in all_crates:
+        source = TOP / "crates" / crate / "src"
+        there |= {(crate, "src", str(file.relative_to(source))) for file in source.rglob("*.rt")}
+        there |= {(crate, "specs", stem) for stem in stems(crate, "specs") - {"Lib"}}
+    for file in sorted(there | set(told)):
+        if told.count(file) != (file in there):
+            faults.append(f"docs/ARCHITECTURE.md: {' '.join(file)} is named {told.count(file)} times")
 
 
 def judge_architecture(all_crates):
@@ -200,8 +220,9 @@ def judge_architecture(all_crates):
         if f"`{crate}`" not in firsts:
             faults.append(f"docs/ARCHITECTURE.md: no row for {crate}")
     for part in re.split(r"^### ", text, flags=re.M)[1:]:
-        heading, _, body = part.partition("\n")
+        heading, _, body = part.split("\n## ")[0].partition("\n")
         judge_map(heading, body)
+    judge_coverage(all_crates, text)
     for cells in rows(text):
         if len(cells) == 4:
             named = [crate for crate in re.findall(r"`(\w+)`", cells[0]) if crate in all_crates]
