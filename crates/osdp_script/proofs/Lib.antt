@@ -5,3 +5,4 @@ pub mod Judging
 pub mod Passing
 pub mod Splitting
 pub mod InTurn
+pub mod Settings

@@ -6,3 +6,4 @@ pub mod Schedule
 pub mod Drafts
 pub mod Rounds
 pub mod Laws
+pub mod Settings

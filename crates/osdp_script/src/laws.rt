@@ -1,6 +1,7 @@
 //! What holds of the lines of a script, whatever they are. The functions do nothing: their contracts are laws.
 
 ghost use Rattle.osdp_script.specs.Laws.{ReadInTurn, StaysBad};
+ghost use Rattle.osdp_script.specs.Settings.{HasReaders};
 
 /// A line is judged by those above it and itself alone: what some lines say, and then what more of them say, is what all of them say.
 pub fn reads_in_turn()
@@ -10,4 +11,10 @@ pub fn reads_in_turn()
 /// The first bad line is that one whatever stands below it.
 pub fn stays_bad()
     ensures { StaysBad }
+{}
+
+/// A script has 1 to 16 readers, no two of them at one address; each address is one of 0 to 126, and each has room for 1 to 1024 events.
+/// So a run never refuses the settings of a script.
+pub fn has_readers()
+    ensures { HasReaders }
 {}

@@ -1,13 +1,13 @@
--- How many steps and readers a script has.
-use Rattle.std.proofs.Common.{◌≡◌, ◌+◌, ◌*◌, ◌<◌, ◌≤◌, ◌^◌, ◌==◌, ℕ, zero, suc, Bool, true, false, List, [], ◌∷◌, ◌++◌, length, inl, inr, refl, sym, subst, ap, arith, length-append}
+-- How many steps a script has.
+use Rattle.std.proofs.Common.{◌≡◌, ◌+◌, ◌*◌, ◌<◌, ◌≤◌, ◌^◌, ◌==◌, ℕ, zero, suc, Bool, true, false, List, [], ◌∷◌, ◌++◌, length, inl, inr, refl, ap, arith, length-append}
 use Rattle.osdp_tool_input.specs.Cut.{ended_after, last_line, line_feed, lines_of, unended_after}
 use Rattle.osdp_script.specs.declared.script.Script.{Script}
 use Rattle.osdp_script.specs.declared.script.ScriptLine.{ScriptLine}
 use Rattle.osdp_script.specs.declared.script.ScriptLine.TheVariants.{Check, Reader, Step, Clean}
 use Rattle.osdp_script.specs.Lines.{LineFits}
-use Rattle.osdp_script.specs.Reading.{AreRead, IsInPlace, IsRead, IsScriptOf}
+use Rattle.osdp_script.specs.Reading.{AreRead, IsRead, IsScriptOf}
 use Rattle.osdp_script.specs.Rounds.{rounds}
-use Rattle.osdp_script.specs.Script.{Plan, no_plan, line_steps, lines_steps, steps_of, with_line}
+use Rattle.osdp_script.specs.Script.{Plan, line_steps, lines_steps, steps_of, with_line}
 
 -- ---- lines
 
@@ -75,30 +75,4 @@ steps_few bytes script small (p, means, is) =
     let few = all_few _ (lines_of bytes) p means.good in
     let lines = lines_few bytes in
     let same = ap (λ below. length (lines_steps below)) is.below in
-    omega arith
-
--- ---- readers
-
-told_readers : (p : Plan) (line : ScriptLine) → IsInPlace p line → length p.readers ≤ 16 → length (with_line line p).readers ≤ 16
-told_readers p (Check kind) place few = few
-told_readers p (Reader address room) place few =
-    let limit = place.limit in
-    let more = length-append p.readers ((address, room) ∷ []) in
-    omega arith
-told_readers p (Step step) place few = few
-told_readers p (Clean n) place few = few
-
-read_readers : (p : Plan) (line : List ℕ) (q : Plan) → IsRead p line q → length p.readers ≤ 16 → length q.readers ≤ 16
-read_readers p line q (inl (over, is)) few = subst (λ (r : Plan). length r.readers ≤ 16) (sym is) few
-read_readers p line q (inr (over, told)) few =
-    subst (λ (r : Plan). length r.readers ≤ 16) (sym told.plan) (told_readers p told.line told.says.place few)
-
-all_readers : (p : Plan) (lines : List (List ℕ)) (q : Plan) → AreRead p lines q → length p.readers ≤ 16 → length q.readers ≤ 16
-all_readers p [] q is few = subst (λ (r : Plan). length r.readers ≤ 16) (sym is) few
-all_readers p (line ∷ lines) q (mid, first, rest) few = all_readers mid lines q rest (read_readers p line mid first few)
-
-pub readers_few : (bytes : List ℕ) (script : Script) → IsScriptOf bytes script → length script.readers.items ≤ 16
-readers_few bytes script (p, means, is) =
-    let few = all_readers no_plan (lines_of bytes) p means.good (omega arith) in
-    let same = ap (λ (l : List (ℕ × ℕ)). length l) is.readers in
     omega arith

@@ -4,3 +4,4 @@ pub mod Counting
 pub mod Accounts
 pub mod Ended
 pub mod Finishing
+pub mod Ranges

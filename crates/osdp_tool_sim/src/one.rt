@@ -1,6 +1,7 @@
 //! A script of one reader.
 
 ghost use Rattle.std.specs.Prelude.{◌≡◌, ◌<◌, ◌^◌, ℕ, length, IfErr, IfOk, string_bytes};
+ghost use Rattle.osdp_script.specs.Lines.{IsSetting};
 ghost use Rattle.osdp_script.specs.Script.{steps_of};
 ghost use Rattle.osdp_sim.specs.Account.{lists_of};
 ghost use Rattle.osdp_tool_sim.specs.One.{TellsOne, config_of};
@@ -36,7 +37,8 @@ fn run_one(
     address: Address,
     events: usize,
 ) -> Result<Told<Account>, ToolFault>
-    requires { length (steps_of script.now) < 2 ^ 64 }
+    requires steps { length (steps_of script.now) < 2 ^ 64 }
+    requires setting { IsSetting address events }
     ensures told { IfOk result (λ told. TellsOne script.now (address, events) (lists_of told.what) told.end) }
     ensures fault { IfErr result (λ fault. fault ≡ ToolFault.NoMemory) }
 {
@@ -53,7 +55,8 @@ fn run_one(
                 what: fault.account,
                 end: Err(ToolFault::NotQuiet(fault.step as u64)),
             }),
-            Cause::NoMemory | Cause::OutOfRange => Err(ToolFault::NoMemory),
+            Cause::NoMemory => Err(ToolFault::NoMemory),
+            Cause::OutOfRange => unreachable!(),
         },
     }
 }
@@ -65,7 +68,8 @@ pub(crate) fn tell_one(
     address: Address,
     events: usize,
 ) -> Result<Told<String>, ToolFault>
-    requires { length (steps_of script.now) < 2 ^ 64 }
+    requires steps { length (steps_of script.now) < 2 ^ 64 }
+    requires setting { IsSetting address events }
     ensures told { IfOk result (λ told. IsTextOfOne script.now (address, events) (string_bytes told.what) told.end) }
     ensures fault { IfErr result (λ fault. fault ≡ ToolFault.NoMemory) }
 {

@@ -1,7 +1,8 @@
 //! A script that is run.
 
-ghost use Rattle.std.specs.Prelude.{◌≡◌, ◌≢◌, ◌≤◌, ◌<◌, ◌^◌, ◌∷◌, [], ℕ, length, IfErr, IfOk, MatchOption, string_bytes};
+ghost use Rattle.std.specs.Prelude.{◌≡◌, ◌≢◌, ◌<◌, ◌^◌, ◌∷◌, [], ℕ, length, IfErr, IfOk, MatchOption, string_bytes};
 ghost use Rattle.osdp_script.specs.Script.{steps_of};
+ghost use Rattle.osdp_script.specs.Settings.{AreReaders};
 ghost use Rattle.osdp_tool_sim.specs.Told.{IsUntold, Tells, TellsScript};
 
 use crate::one::tell_one;
@@ -25,7 +26,7 @@ fn only_reader(readers: &[(Address, usize)]) -> Option<(Address, usize)>
 /// Runs a script, and tells the accounts of its readers.
 fn tell(alloc: Global, script: &Script) -> Result<Told<String>, ToolFault>
     requires steps { length (steps_of script.now) < 2 ^ 64 }
-    requires readers { length script.now.readers.items ≤ 16 }
+    requires readers { AreReaders script.now.readers.items }
     ensures told { IfOk result (λ told. TellsScript script.now (string_bytes told.what) told.end) }
     ensures fault { IfErr result (λ fault. fault ≡ ToolFault.NoMemory) }
 {
@@ -41,6 +42,7 @@ pub(crate) fn run_script(alloc: Global, bytes: &[u8]) -> Result<Told<String>, To
     ensures told { IfOk result (λ told. Tells bytes.now (string_bytes told.what) told.end) }
     ensures fault { IfErr result (IsUntold bytes.now) }
 {
+    osdp_script::laws::has_readers();
     match read_script(alloc, bytes) {
         Ok(script) => tell(alloc, &script),
         Err(ScriptFault::BadLine(number)) => Err(ToolFault::BadStep(number)),

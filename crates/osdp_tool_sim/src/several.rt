@@ -2,6 +2,7 @@
 
 ghost use Rattle.std.specs.Prelude.{◌≡◌, ◌≤◌, ◌<◌, ◌^◌, ℕ, length, IfErr, IfOk, map, string_bytes};
 ghost use Rattle.osdp_script.specs.Script.{steps_of};
+ghost use Rattle.osdp_script.specs.Settings.{AreReaders};
 ghost use Rattle.osdp_sim.specs.Account.{lists_of};
 ghost use Rattle.osdp_sim_bus.specs.Runs.{lists_of_all};
 ghost use Rattle.osdp_tool_sim.specs.Several.{TellsEach, readers_from, texts_from};
@@ -40,7 +41,7 @@ fn readers_of(
 /// Runs a script of several readers.
 fn run_several(alloc: Global, script: &Script) -> Result<Told<Vec<Account>>, ToolFault>
     requires steps { length (steps_of script.now) < 2 ^ 64 }
-    requires readers { length script.now.readers.items ≤ 16 }
+    requires readers { AreReaders script.now.readers.items }
     ensures told { IfOk result (λ told. TellsEach script.now (lists_of_all told.what.items) told.end) }
     ensures fault { IfErr result (λ fault. fault ≡ ToolFault.NoMemory) }
 {
@@ -59,7 +60,8 @@ fn run_several(alloc: Global, script: &Script) -> Result<Told<Vec<Account>>, Too
                 what: fault.account,
                 end: Err(ToolFault::NotQuiet(fault.step as u64)),
             }),
-            Cause::NoMemory | Cause::OutOfRange => Err(ToolFault::NoMemory),
+            Cause::NoMemory => Err(ToolFault::NoMemory),
+            Cause::OutOfRange => unreachable!(),
         },
     }
 }
@@ -79,7 +81,7 @@ fn texts(alloc: Global, accounts: &[Account]) -> Result<String, AllocError>
 /// Runs a script of several readers, and tells their accounts in their order.
 pub(crate) fn tell_several(alloc: Global, script: &Script) -> Result<Told<String>, ToolFault>
     requires steps { length (steps_of script.now) < 2 ^ 64 }
-    requires readers { length script.now.readers.items ≤ 16 }
+    requires readers { AreReaders script.now.readers.items }
     ensures told { IfOk result (λ told. IsTextOfEach script.now (string_bytes told.what) told.end) }
     ensures fault { IfErr result (λ fault. fault ≡ ToolFault.NoMemory) }
 {

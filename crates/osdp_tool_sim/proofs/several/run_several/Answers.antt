@@ -3,6 +3,7 @@ use Rattle.osdp_script.specs.Schedule.{steps_left}
 use Rattle.osdp_sim_bus.specs.Runs.{lists_of_all}
 use Rattle.osdp_tool_sim.specs.Several.{readers_from}
 use Rattle.osdp_tool_sim.proofs.Accounts.{bus_as, each_as, each_ok, each_packet, each_quiet}
+use Rattle.osdp_tool_sim.proofs.Ranges.{several_in_range}
 use Rattle.osdp_tool_sim.proofs.several.run_several.Goals as goal
 
 pub returns-in-Ok-run_bus_schedule-clause-told : goal.returns-in-Ok-run_bus_schedule-clause-told
@@ -30,3 +31,10 @@ returns-in-NotQuiet-clause-told c =
     (λ some. each_as c.args.script.now c.in-Ok.readers.items (lists_of_all c.in-Err.fault.account.items) (c.in-Ok.ensures ∙ ap (readers_from 1) c.deref.ensures.value)
     (c.in-Err.ensures.sessions some))
     c.in-NotQuiet.is
+
+pub unreachable-requires : goal.unreachable-requires
+unreachable-requires c =
+    several_in_range c.args.script.now c.in-Err.fault c.requires.readers
+    (bus_as c.args.script.now c.new-config.result c.in-Ok.readers.items (steps_left c.schedule.result) (Err c.in-Err.fault)
+    c.new-config.ensures (c.in-Ok.ensures ∙ ap (readers_from 1) c.deref.ensures.value) c.schedule.ensures c.in-Err.ensures.ends)
+    c.in-OutOfRange.is
