@@ -1,0 +1,182 @@
+-- Words are those of one line at most.
+use Rattle.std.proofs.Common.{◌≡◌, ◌<◌, ◌≤◌, ◌^◌, ℕ, Bool, true, false, List, [], ◌∷◌, get_or, codes, refl, sym, ap, subst, ◌∙◌, arith}
+use Rattle.osdp_frame.specs.Check.{check_name}
+use Rattle.osdp_frame.specs.declared.check_kind.CheckKind.{CheckKind}
+use Rattle.osdp_frame.specs.declared.check_kind.CheckKind.TheVariants.{Crc, Sum}
+use Rattle.osdp_msg.specs.declared.command.Command.{Command}
+use Rattle.osdp_msg.specs.declared.event.Event.{Event}
+use Rattle.osdp_msg.specs.declared.event.Event.TheVariants as events
+use Rattle.osdp_msg.specs.declared.reply.Reply.{Reply}
+use Rattle.osdp_msg.specs.declared.reply.Reply.TheVariants as replies
+use Rattle.osdp_msg.specs.CommandText.{command_words}
+use Rattle.osdp_msg.specs.Events.{EventFits, event_reply, event_words}
+use Rattle.osdp_msg.proofs.RowTexts.{IsRow, differ}
+use Rattle.osdp_msg_laws.proofs.CommandTexts.{command_one_meaning}
+use Rattle.osdp_msg_laws.proofs.OneMeaning.{numbers_then, states_one}
+use Rattle.osdp_msg_laws.proofs.ReplyTexts.{reply_one_meaning}
+use Rattle.osdp_sim.specs.declared.step.Move.{Move}
+use Rattle.osdp_sim.specs.declared.step.Move.TheVariants.{Deliver, Drop, Repeat, Damage}
+use Rattle.osdp_sim.specs.declared.step.SimStep.TheVariants.{Issue, Queue, Busy, Wait, ToReader, ToController, Reopen}
+use Rattle.osdp_words.specs.Word.{AllStandFor, Word, number, plain}
+use Rattle.osdp_script.specs.declared.script.ScriptLine.{ScriptLine}
+use Rattle.osdp_script.specs.declared.script.ScriptLine.TheVariants.{Check, Reader, Step, Clean}
+use Rattle.osdp_script.specs.Lines.{IsHappening, IsOrder, IsReader, IsSetting, LineFits, MoveFits, line_fields, line_name, line_words, move_words, switch_word}
+use Rattle.osdp_script.proofs.Rows.{busy_line, issue_line, queue_line, reader_line, reopen_line, row_busy, row_check, row_clean, row_issue, row_queue, row_reader, row_reopen, row_to_controller, row_to_reader, row_wait, to_controller_line, to_reader_line, wait_line}
+
+-- ---- fields
+
+-- one value at most has words that stand for these
+abbrev HasOne : {X : Type 0} → (X → List Word) → (X → Type 0) → Type 0
+HasOne {X} words Allowed =
+    (given : List (List ℕ)) (x y : X) → Allowed x → Allowed y → AllStandFor (words x) given → AllStandFor (words y) given → x ≡ y
+
+one_number : (most : ℕ) → most < 2 ^ 64 → HasOne (λ (n : ℕ). number n ∷ []) (λ n. n ≤ most)
+one_number most small given x y h k s t =
+    let both = numbers_then given (x ∷ []) (y ∷ []) [] [] refl (omega arith, tt) (omega arith, tt) s t in
+    ap (λ (ns : List ℕ). get_or ns 0 0) both.same
+
+one_check : HasOne (λ (kind : CheckKind). plain (check_name kind) ∷ []) (λ kind. Unit {0})
+one_check [] x y h k s t = absurd s
+one_check (g ∷ given) Sum Sum h k s t = refl
+one_check (g ∷ given) Crc Crc h k s t = refl
+one_check (g ∷ given) Sum Crc h k s t = absurd (differ (codes "sum") (codes "crc") refl (sym s.0 ∙ t.0))
+one_check (g ∷ given) Crc Sum h k s t = absurd (differ (codes "crc") (codes "sum") refl (sym s.0 ∙ t.0))
+
+one_reader : HasOne (λ (r : ℕ × ℕ). number r.0 ∷ number r.1 ∷ []) (λ (r : ℕ × ℕ). IsSetting r.0 r.1)
+one_reader given x y h k s t =
+    let hd = h.device in
+    let hl = h.limit in
+    let kd = k.device in
+    let kl = k.limit in
+    let both = numbers_then given (x.0 ∷ x.1 ∷ []) (y.0 ∷ y.1 ∷ []) [] [] refl (omega arith, (omega arith, tt)) (omega arith, (omega arith, tt)) s t in
+    ap (λ (ns : List ℕ). let r : ℕ × ℕ = (get_or ns 0 0, get_or ns 1 0) in r) both.same
+
+-- a reader's number, and then words that have one value
+numbered : {X : Type 0} (words : X → List Word) (Fits : X → Type 0) → HasOne words Fits → (readers : ℕ)
+    → HasOne (λ (x : ℕ × X). number x.0 ∷ words x.1) (λ (x : ℕ × X). IsReader readers x.0 × Fits x.1)
+numbered {X} words Fits one readers given x y h k s t =
+    let hm = h.0.most in
+    let km = k.0.most in
+    let both = numbers_then given (x.0 ∷ []) (y.0 ∷ []) (words x.1) (words y.1) refl (omega arith, tt) (omega arith, tt) s t in
+    let reader : x.0 ≡ y.0 = ap (λ (ns : List ℕ). get_or ns 0 0) both.same in
+    let value : x.1 ≡ y.1 = one both.rest x.1 y.1 h.1 k.1 both.first both.second in
+    ap (λ (n : ℕ). let z : ℕ × X = (n, x.1) in z) reader ∙ ap (λ (v : X). let z : ℕ × X = (y.0, v) in z) value
+
+one_issue : (readers : ℕ) → HasOne (λ (x : ℕ × Command). number x.0 ∷ command_words x.1) (λ (x : ℕ × Command). IsOrder readers x.0 x.1)
+one_issue readers given x y h k s t =
+    numbered command_words _ command_one_meaning readers given x y (h.there, h.fits) (k.there, k.fits) s t
+
+-- the event of a reply that tells one
+event_of : Event → Reply → Event
+event_of other (replies.LocalState x) = events.LocalState x
+event_of other (replies.Inputs x) = events.Inputs x
+event_of other (replies.Outputs x) = events.Outputs x
+event_of other (replies.Readers x) = events.Readers x
+event_of other (replies.Raw x) = events.Raw x
+event_of other (replies.Formatted x) = events.Formatted x
+event_of other (replies.Keypad x) = events.Keypad x
+event_of other reply = other
+
+event_again : (other e : Event) → event_of other (event_reply e) ≡ e
+unfolding event_of
+event_again other (events.LocalState x) = refl
+event_again other (events.Inputs x) = refl
+event_again other (events.Outputs x) = refl
+event_again other (events.Readers x) = refl
+event_again other (events.Raw x) = refl
+event_again other (events.Formatted x) = refl
+event_again other (events.Keypad x) = refl
+
+one_event : HasOne event_words EventFits
+one_event given x y h k s t =
+    sym (event_again x x) ∙ ap (event_of x) (reply_one_meaning given (event_reply x) (event_reply y) h k s t) ∙ event_again x y
+
+one_queue : (readers : ℕ) → HasOne (λ (x : ℕ × Event). number x.0 ∷ event_words x.1) (λ (x : ℕ × Event). IsHappening readers x.0 x.1)
+one_queue readers given x y h k s t =
+    numbered event_words _ one_event readers given x y (h.there, h.fits) (k.there, k.fits) s t
+
+one_switch : HasOne (λ (busy : Bool). switch_word busy ∷ []) (λ busy. Unit {0})
+one_switch [] x y h k s t = absurd s
+one_switch (g ∷ given) true true h k s t = refl
+one_switch (g ∷ given) false false h k s t = refl
+one_switch (g ∷ given) true false h k s t = absurd (differ (codes "on") (codes "off") refl (sym s.0 ∙ t.0))
+one_switch (g ∷ given) false true h k s t = absurd (differ (codes "off") (codes "on") refl (sym s.0 ∙ t.0))
+
+one_busy : (readers : ℕ) → HasOne (λ (x : ℕ × Bool). number x.0 ∷ switch_word x.1 ∷ []) (λ (x : ℕ × Bool). IsReader readers x.0)
+one_busy readers given x y h k s t =
+    numbered (λ (busy : Bool). switch_word busy ∷ []) (λ busy. Unit {0}) one_switch readers given x y (h, tt) (k, tt) s t
+
+one_reopen : (readers : ℕ) → HasOne (λ (n : ℕ). number n ∷ []) (IsReader readers)
+one_reopen readers given x y h k s t = one_number 16 (omega arith) given x y h.most k.most s t
+
+move_name : Move → List ℕ
+move_name Deliver = codes "deliver"
+move_name Drop = codes "drop"
+move_name Repeat = codes "repeat"
+move_name (Damage burst) = codes "damage"
+
+named_move : (m : Move) (g : List ℕ) (given : List (List ℕ)) → AllStandFor (move_words m) (g ∷ given) → g ≡ move_name m
+unfolding move_name
+named_move Deliver g given s = s.0
+named_move Drop g given s = s.0
+named_move Repeat g given s = s.0
+named_move (Damage burst) g given s = s.0
+
+one_move : HasOne move_words MoveFits
+unfolding move_name
+one_move [] Deliver y h k s t = absurd s
+one_move [] Drop y h k s t = absurd s
+one_move [] Repeat y h k s t = absurd s
+one_move [] (Damage a) y h k s t = absurd s
+one_move (g ∷ given) Deliver Deliver h k s t = refl
+one_move (g ∷ given) Drop Drop h k s t = refl
+one_move (g ∷ given) Repeat Repeat h k s t = refl
+one_move (g ∷ given) (Damage a) (Damage b) h k s t = ap Damage (states_one given a b h.1 k.1 s.1 t.1)
+one_move (g ∷ given) x y h k s t = absurd (differ (move_name x) (move_name y) refl (sym (named_move x g given s) ∙ named_move y g given t))
+
+-- ---- lines
+
+-- two lines of one row
+by_row : {X : Type 0} (readers : ℕ) (words : X → List Word) (Allowed : X → Type 0) (name : List ℕ) (make : X → ScriptLine)
+    → IsRow line_name line_fields (LineFits readers) words Allowed name make → HasOne words Allowed
+    → (given : List (List ℕ)) (m n : ScriptLine) → line_name m ≡ name → line_name n ≡ name → LineFits readers m → LineFits readers n
+    → AllStandFor (line_fields m) given → AllStandFor (line_fields n) given → m ≡ n
+by_row {X} readers words Allowed name make row one given m n e f h k s t =
+    let a = row.only m e in
+    let b = row.only n f in
+    a.1 ∙ ap make (one given a.0 b.0 (allowed m a.0 a.1 h) (allowed n b.0 b.1 k) (stands m a.0 a.1 s) (stands n b.0 b.1 t)) ∙ sym b.1
+  where
+    allowed : (l : ScriptLine) (x : X) → l ≡ make x → LineFits readers l → Allowed x
+    allowed l x is fits = row.allowed x (subst (LineFits readers) is fits)
+
+    stands : (l : ScriptLine) (x : X) → l ≡ make x → AllStandFor (line_fields l) given → AllStandFor (words x) given
+    stands l x is all =
+        subst (λ (ws : List Word). AllStandFor ws given) (row.fields x) (subst (λ (q : ScriptLine). AllStandFor (line_fields q) given) is all)
+
+rows : (readers : ℕ) (given : List (List ℕ)) (m n : ScriptLine) → line_name n ≡ line_name m → LineFits readers m → LineFits readers n
+    → AllStandFor (line_fields m) given → AllStandFor (line_fields n) given → m ≡ n
+rows readers given (Check x) n e h k s t =
+    by_row readers _ _ _ Check (row_check readers) one_check given (Check x) n refl e h k s t
+rows readers given (Reader address room) n e h k s t =
+    by_row readers _ _ _ reader_line (row_reader readers) one_reader given (Reader address room) n refl e h k s t
+rows readers given (Clean x) n e h k s t =
+    by_row readers _ _ _ Clean (row_clean readers) (λ g x y h k. one_number 1000 (omega arith) g x y h.1 k.1) given (Clean x) n refl e h k s t
+rows readers given (Step (Issue reader x)) n e h k s t =
+    by_row readers _ _ _ issue_line (row_issue readers) (one_issue readers) given (Step (Issue reader x)) n refl e h k s t
+rows readers given (Step (Queue reader x)) n e h k s t =
+    by_row readers _ _ _ queue_line (row_queue readers) (one_queue readers) given (Step (Queue reader x)) n refl e h k s t
+rows readers given (Step (Busy reader x)) n e h k s t =
+    by_row readers _ _ _ busy_line (row_busy readers) (one_busy readers) given (Step (Busy reader x)) n refl e h k s t
+rows readers given (Step (Wait x)) n e h k s t =
+    by_row readers _ _ _ wait_line (row_wait readers) (λ g x y h k. one_number 3600000 (omega arith) g x y h.1 k.1) given (Step (Wait x)) n refl e h k s t
+rows readers given (Step (ToReader x)) n e h k s t =
+    by_row readers _ _ _ to_reader_line (row_to_reader readers) one_move given (Step (ToReader x)) n refl e h k s t
+rows readers given (Step (ToController x)) n e h k s t =
+    by_row readers _ _ _ to_controller_line (row_to_controller readers) one_move given (Step (ToController x)) n refl e h k s t
+rows readers given (Step (Reopen x)) n e h k s t =
+    by_row readers _ _ _ reopen_line (row_reopen readers) (one_reopen readers) given (Step (Reopen x)) n refl e h k s t
+
+pub one_line : (readers : ℕ) (given : List (List ℕ)) (m n : ScriptLine) → LineFits readers m → LineFits readers n
+    → AllStandFor (line_words m) given → AllStandFor (line_words n) given → m ≡ n
+one_line readers [] m n h k s t = absurd s
+one_line readers (g ∷ given) m n h k s t = rows readers given m n (sym t.0 ∙ s.0) h k s.1 t.1

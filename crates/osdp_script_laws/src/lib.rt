@@ -1,0 +1,10 @@
+//! What a script means, whatever reads it. The functions do nothing: their contracts are laws.
+#![tactic(auto)]
+
+ghost use Rattle.osdp_script_laws.specs.Laws.{HasOneMeaning};
+
+/// Bytes are one script at most: its check, its readers and its lines are determined. Else they have one first bad line at most, and
+/// none where they are a script.
+pub fn scripts_have_one_meaning()
+    ensures { HasOneMeaning }
+{}
