@@ -1,0 +1,4 @@
+pub mod Answered
+pub mod Speaking
+pub mod Stopping
+pub mod Reading

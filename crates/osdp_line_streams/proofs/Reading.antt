@@ -1,0 +1,222 @@
+-- An input that is read piece by piece, to its end.
+use Rattle.std.proofs.Common.{◌≡◌, ◌≢◌, ℕ, ◌+◌, Bool, false, List, [], ◌∷◌, ◌++◌, length, take, Option, Result, Ok, Err, refl, sym, subst, ap, ◌∙◌, arith, append_assoc, append-nil}
+use Rattle.std.proofs.KnownBytes.{Appends-nil, Appends-trans, Consumes-nil, Consumes-kept, Consumes-trans}
+use Rattle.std.specs.Io.KnownBytes.{Appends, Consumes, Keeps}
+use Rattle.osdp_tool_input.specs.Cut.{ended_after, unended_after, ended_lines, last_line, lines_of, unended_line}
+use Rattle.osdp_tool_streams.specs.declared.fault.ToolFault.{ToolFault}
+use Rattle.osdp_tool_streams.specs.declared.fault.ToolFault.TheVariants.{NotHex, TooLong, BadWords, BadStep}
+use Rattle.osdp_tool_streams.specs.declared.fault.ToolFault.TheVariants.{HoldsPacket, NotQuiet, ReadFailed}
+use Rattle.osdp_tool_streams.specs.declared.fault.ToolFault.TheVariants.{WriteFailed, NoMemory}
+use Rattle.osdp_line_streams.specs.Answers.{Answering, Speaks, heard}
+use Rattle.osdp_line_streams.specs.Ending.{AllAnswered, Ends, SomeAnswered}
+use Rattle.osdp_line_streams.specs.Steps.{EndsLine, Follows, Goes, ReadAll, ReadSome, Reads, Step, StopsIn}
+use Rattle.osdp_line_streams.proofs.Speaking.{spoke_more}
+use Rattle.osdp_line_streams.proofs.Stopping.{follows_none, goes_both, stops_further, stops_kept, take-beyond, not_memory}
+
+-- ---- pieces
+
+pub read_more : {M : Type 0} (answers : Answering M) (old mid new : M) (line middle next piece : List ℕ) (ib i1 i2 before between after : Option (List ℕ))
+    → ReadAll answers old line mid middle ib i1 before between → Consumes i1 i2 piece → Goes answers piece mid middle between new next after
+    → ReadAll answers old line new next ib i2 before after
+read_more answers old mid new line middle next piece ib i1 i2 before between after so_far taken goes = record {
+  read = so_far.read ++ piece;
+  taken = Consumes-trans ib i1 i2 so_far.read piece so_far.taken taken;
+  goes = goes_both answers so_far.read piece old mid new line middle next before between after so_far.goes goes;
+}
+
+pub read_kept : {M : Type 0} (answers : Answering M) (old mid : M) (line middle : List ℕ) (ib i1 i2 before between : Option (List ℕ))
+    → ReadAll answers old line mid middle ib i1 before between → Keeps i1 i2 → ReadAll answers old line mid middle ib i2 before between
+read_kept answers old mid line middle ib i1 i2 before between so_far kept =
+    record { read = so_far.read; taken = Consumes-kept ib i1 i2 so_far.read so_far.taken kept; goes = so_far.goes }
+
+read_some : {M : Type 0} (answers : Answering M) (old mid : M) (line middle piece : List ℕ) (ib i1 i2 before between after : Option (List ℕ)) (fault : ToolFault)
+    → ReadAll answers old line mid middle ib i1 before between → Consumes i1 i2 piece → StopsIn answers piece mid middle between after fault
+    → ReadSome answers old line ib i2 before after fault
+read_some answers old mid line middle piece ib i1 i2 before between after fault so_far taken stops = record {
+  read = so_far.read ++ piece;
+  taken = Consumes-trans ib i1 i2 so_far.read piece so_far.taken taken;
+  stops = stops_further answers so_far.read piece old mid line middle before between after fault so_far.goes stops;
+}
+
+pub reads_stop : {M : Type 0} (answers : Answering M) (old mid new : M) (line middle next piece : List ℕ) (ib i1 i2 before between after : Option (List ℕ))
+    (was input_failed failed : Bool) (fault : ToolFault)
+    → ReadAll answers old line mid middle ib i1 before between → Consumes i1 i2 piece → StopsIn answers piece mid middle between after fault
+    → Step was failed (Err fault) → was ≡ false → input_failed ≡ false
+    → Reads answers old line new next ib i2 input_failed before after failed (Err fault)
+reads_stop answers old mid new line middle next piece ib i1 i2 before between after was input_failed failed NoMemory so_far taken stops step well input =
+    (read_some answers old mid line middle piece ib i1 i2 before between after NoMemory so_far taken stops, input, step ∙ well)
+reads_stop answers old mid new line middle next piece ib i1 i2 before between after was input_failed failed WriteFailed so_far taken stops step well input =
+    (read_some answers old mid line middle piece ib i1 i2 before between after WriteFailed so_far taken stops, input, step)
+reads_stop answers old mid new line middle next piece ib i1 i2 before between after was input_failed failed ReadFailed so_far taken stops step well input = absurd step
+reads_stop answers old mid new line middle next piece ib i1 i2 before between after was input_failed failed TooLong so_far taken stops step well input = absurd step
+reads_stop answers old mid new line middle next piece ib i1 i2 before between after was input_failed failed BadWords so_far taken stops step well input = absurd step
+reads_stop answers old mid new line middle next piece ib i1 i2 before between after was input_failed failed (NotHex number) so_far taken stops step well input = absurd step
+reads_stop answers old mid new line middle next piece ib i1 i2 before between after was input_failed failed (BadStep number) so_far taken stops step well input = absurd step
+reads_stop answers old mid new line middle next piece ib i1 i2 before between after was input_failed failed (HoldsPacket number) so_far taken stops step well input = absurd step
+reads_stop answers old mid new line middle next piece ib i1 i2 before between after was input_failed failed (NotQuiet number) so_far taken stops step well input = absurd step
+
+-- ---- before any
+
+pub all_none : {M : Type 0} (answers : Answering M) (machine : M) (ib before : Option (List ℕ)) → AllAnswered answers ended_lines machine machine ib ib before before
+unfolding ended_after unended_after
+all_none answers machine ib before = record { read = []; taken = Consumes-nil ib; text = []; speaks = (refl, refl); written = Appends-nil before }
+
+pub some_none : {M : Type 0} (answers : Answering M) (machine : M) (ib before : Option (List ℕ)) (fault : ToolFault) → SomeAnswered answers machine ib ib before before fault
+unfolding ended_after unended_after
+some_none answers machine ib before fault = record {
+  read = [];
+  taken = Consumes-nil ib;
+  stops = record {
+    front = [];
+    others = [];
+    split = refl;
+    text = [];
+    last = machine;
+    speaks = (refl, refl);
+    count = 0;
+    written = Appends-nil before;
+    whole = λ memory. Appends-nil before;
+  };
+}
+
+-- ---- after the last piece
+
+ended : {M : Type 0} (answers : Answering M) (old new : M) (next : List ℕ) (ib ia before after : Option (List ℕ))
+    → ReadAll answers old [] new next ib ia before after → AllAnswered answers ended_lines old new ib ia before after
+ended answers old new next ib ia before after all =
+    let f = all.goes old before [] (follows_none answers old before) in
+    record { read = all.read; taken = all.taken; text = f.text; speaks = f.speaks; written = f.written }
+
+some : {M : Type 0} (answers : Answering M) (old : M) (ib ia before after : Option (List ℕ)) (fault : ToolFault)
+    → ReadSome answers old [] ib ia before after fault → SomeAnswered answers old ib ia before after fault
+some answers old ib ia before after fault r =
+    let s = r.stops old before [] (follows_none answers old before) in
+    record {
+      read = r.read;
+      taken = r.taken;
+      stops = record {
+        front = s.front;
+        others = s.others ++ last_line (unended_line r.read);
+        split = ap (λ l. l ++ last_line (unended_line r.read)) s.split ∙ append_assoc s.front s.others (last_line (unended_line r.read));
+        text = s.text;
+        last = s.last;
+        speaks = s.speaks;
+        count = s.count;
+        written = s.written;
+        whole = s.whole;
+      };
+    }
+
+pub ends_stopped : {M : Type 0} (answers : Answering M) (old new : M) (next : List ℕ) (ib ia before after : Option (List ℕ)) (input_failed failed : Bool) (fault : ToolFault)
+    → Reads answers old [] new next ib ia input_failed before after failed (Err fault) → Ends answers old new ib ia input_failed before after failed (Err fault)
+ends_stopped answers old new next ib ia before after input_failed failed ReadFailed r = (ended answers old new next ib ia before after r.0, r.1)
+ends_stopped answers old new next ib ia before after input_failed failed TooLong r = (ended answers old new next ib ia before after r.0, r.1, r.2)
+ends_stopped answers old new next ib ia before after input_failed failed NoMemory r = (some answers old ib ia before after NoMemory r.0, r.1, r.2)
+ends_stopped answers old new next ib ia before after input_failed failed WriteFailed r = (some answers old ib ia before after WriteFailed r.0, r.1, r.2)
+ends_stopped answers old new next ib ia before after input_failed failed BadWords r = absurd r
+ends_stopped answers old new next ib ia before after input_failed failed (NotHex number) r = absurd r
+ends_stopped answers old new next ib ia before after input_failed failed (BadStep number) r = absurd r
+ends_stopped answers old new next ib ia before after input_failed failed (HoldsPacket number) r = absurd r
+ends_stopped answers old new next ib ia before after input_failed failed (NotQuiet number) r = absurd r
+
+-- nothing stands after the last line feed
+heard_none : (line : List ℕ) → [] ≡ heard line → last_line line ≡ []
+heard_none [] none = refl
+heard_none (b ∷ line) none = absurd (omega (arith, ap length none))
+
+pub nothing : (xs : List ℕ) → length xs ≡ 0 → xs ≡ []
+nothing [] none = refl
+nothing (x ∷ xs) none = absurd (omega (arith, none))
+
+pub ends_empty : {M : Type 0} (answers : Answering M) (old new : M) (next : List ℕ) (ib ia before after : Option (List ℕ)) (input_failed failed : Bool)
+    → Reads answers old [] new next ib ia input_failed before after failed (Ok tt) → next ≡ []
+    → Ends answers old new ib ia input_failed before after failed (Ok tt)
+ends_empty answers old new next ib ia before after input_failed failed r none =
+    let f = r.0.goes old before [] (follows_none answers old before) in (
+      record {
+        read = r.0.read;
+        taken = r.0.taken;
+        text = f.text;
+        speaks = subst (λ l. Speaks answers old l f.text new)
+            (sym (append-nil (ended_lines r.0.read)) ∙ ap (λ l. ended_lines r.0.read ++ l) (sym (heard_none (unended_line r.0.read) (sym none ∙ f.held)))) f.speaks;
+        written = f.written;
+      },
+      r.1,
+      r.2,
+      r.3,
+    )
+
+-- the last line ends with the input
+heard_some : (line next : List ℕ) → next ≡ heard line → next ≢ [] → last_line line ≡ line ∷ []
+heard_some [] next held other = absurd (other held)
+heard_some (b ∷ line) next held other = refl
+
+pub ends_last : {M : Type 0} (answers : Answering M) (old mid new : M) (next : List ℕ) (ib ia before between after : Option (List ℕ)) (input_failed was failed : Bool)
+    (result : Result (Unit {0}) ToolFault)
+    → Reads answers old [] mid next ib ia input_failed before between was (Ok tt) → next ≢ [] → EndsLine answers mid next new between after was failed result
+    → Ends answers old new ib ia input_failed before after failed result
+ends_last {M} answers old mid new next ib ia before between after input_failed was failed result r other e = by_result result e
+  where
+    f : Follows answers old before r.0.read mid next between
+    f = r.0.goes old before [] (follows_none answers old before)
+
+    line : List ℕ
+    line = unended_line r.0.read
+
+    lines_are : lines_of r.0.read ≡ ended_lines r.0.read ++ line ∷ []
+    lines_are = ap (λ l. ended_lines r.0.read ++ l) (heard_some line next f.held other)
+
+    spoken : (answer : List ℕ) (last : M) → answers mid next answer last → Speaks answers old (lines_of r.0.read) (f.text ++ answer) last
+    spoken answer last is = subst (λ l. Speaks answers old l (f.text ++ answer) last) (sym lines_are)
+        (spoke_more answers old mid last (ended_lines r.0.read) line f.text answer f.speaks (subst (λ l. answers mid l answer last) f.held is))
+
+    by_result : (x : Result (Unit {0}) ToolFault) → EndsLine answers mid next new between after was failed x
+        → Ends answers old new ib ia input_failed before after failed x
+    by_result (Ok done) (w, well) = (
+      record {
+        read = r.0.read;
+        taken = r.0.taken;
+        text = f.text ++ w.answer;
+        speaks = spoken w.answer new w.is;
+        written = Appends-trans before between after f.text w.answer f.written w.written;
+      },
+      r.1,
+      r.2,
+      well ∙ r.3,
+    )
+    by_result (Err NoMemory) (kept, well) = (
+      some answers old ib ia before after NoMemory (record {
+        read = r.0.read;
+        taken = r.0.taken;
+        stops = stops_kept answers r.0.read old mid [] next before between after NoMemory r.0.goes kept;
+      }),
+      r.2,
+      well ∙ r.3,
+    )
+    by_result (Err WriteFailed) (p, ill) = (
+      record {
+        read = r.0.read;
+        taken = r.0.taken;
+        stops = record {
+          front = lines_of r.0.read;
+          others = [];
+          split = sym (append-nil (lines_of r.0.read));
+          text = f.text ++ p.answer;
+          last = p.next;
+          speaks = spoken p.answer p.next p.is;
+          count = length f.text + p.count;
+          written = subst (Appends before after) (sym (take-beyond f.text p.answer p.count))
+              (Appends-trans before between after f.text (take p.count p.answer) f.written p.written);
+          whole = λ memory. absurd (not_memory memory);
+        };
+      },
+      r.2,
+      ill,
+    )
+    by_result (Err ReadFailed) e = absurd e
+    by_result (Err TooLong) e = absurd e
+    by_result (Err BadWords) e = absurd e
+    by_result (Err (NotHex number)) e = absurd e
+    by_result (Err (BadStep number)) e = absurd e
+    by_result (Err (HoldsPacket number)) e = absurd e
+    by_result (Err (NotQuiet number)) e = absurd e

@@ -1,0 +1,11 @@
+//! Calls by lines of text: each line of an input is one call on a machine, and is answered by lines at once.
+//!
+//! `answer_lines` reads to the end of the input. What the machine is, and what it answers, stands at its `impl` of `LineMachine`.
+#![tactic(auto)]
+
+mod lines;
+mod machine;
+mod run;
+
+pub use machine::{HEARD, LineMachine};
+pub use run::answer_lines;
