@@ -16,8 +16,10 @@ use Rattle.osdp_bus.proofs.Runs.{hears_items-append, left_over-append}
 use Rattle.osdp_bus.proofs.Waiting.{IsFound, found}
 use Rattle.osdp_bus_laws.specs.Packets.{CutsChangeNothing, GoesToItsAddress, PacketsGoToTheirAddress}
 use Rattle.osdp_bus_laws.proofs.Changing.{Sound}
+use Rattle.osdp_bus_laws.proofs.Moments.{hears_at_moment}
 use Rattle.osdp_bus_laws.proofs.Places.{none_at}
 use Rattle.osdp_bus_laws.proofs.Sound.{SoundBus, sound_items}
+use Rattle.osdp_bus_laws.proofs.Turning.{set_here}
 
 -- ---- whose a packet is
 
@@ -73,6 +75,12 @@ module _ (p : Packet) (now : ℕ) (ds : Devices) (sound : Sound ds) where
   pub goes_to_its_address : GoesToItsAddress p now ds
   goes_to_its_address = record {
     own = λ entry d at same. own_heard entry d at same (first_from 0 (is_at p.address) ds.entries) refl;
+    seen = λ entry d at same. (
+      device_hears p now d,
+      ap (λ (e : Devices). slice_get e.entries entry) (own_heard entry d at same (first_from 0 (is_at p.address) ds.entries) refl)
+          ∙ set_here ds.entries entry d (device_hears p now d) at,
+      hears_at_moment p now d.controller.session,
+    );
     others = λ entry d at differs. others_kept entry d at differs (first_from 0 (is_at p.address) ds.entries) refl;
     nobody = λ none. nobody_hears none (first_from 0 (is_at p.address) ds.entries) refl;
   }

@@ -1,5 +1,5 @@
 -- Packets and bytes that come in.
-use Rattle.std.specs.Prelude.{◌≡◌, ◌≢◌, ℕ, List, ◌++◌, Some, slice_get, slice_set}
+use Rattle.std.specs.Prelude.{◌≡◌, ◌≢◌, ℕ, max, List, ◌++◌, Some, slice_get, slice_set}
 use Rattle.osdp_frame.specs.Bytes.{AreBytes}
 use Rattle.osdp_frame.specs.Packet.{Packet}
 use Rattle.osdp_frame.specs.Reading.{Part}
@@ -15,6 +15,10 @@ pub record GoesToItsAddress (p : Packet) (now : ℕ) (ds : Devices) : Type 0 whe
         entries = slice_set ds.entries entry (device_hears p now d);
         report = waiting_after entry (told_of p now d) ds.report;
       }
+  -- the controller has then seen the moment, also where it ignores the packet
+  pub seen : (entry : ℕ) (d : Device) → slice_get ds.entries entry ≡ Some d → address_of d ≡ p.address
+      → (e : Device) × (slice_get (hears_packet p now ds).entries entry ≡ Some e)
+      × (e.controller.session.greatest ≡ max d.controller.session.greatest now)
   -- no other device changes
   pub others : (entry : ℕ) (d : Device) → slice_get ds.entries entry ≡ Some d → address_of d ≢ p.address
       → slice_get (hears_packet p now ds).entries entry ≡ Some d
