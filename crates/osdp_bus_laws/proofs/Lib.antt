@@ -14,4 +14,5 @@ pub mod Sending
 pub mod Resending
 pub mod Holding
 pub mod Reports
+pub mod Rooms
 pub mod Refusing

@@ -26,6 +26,7 @@ use Rattle.osdp_bus_laws.specs.Calls.{Call, Add, Begin, Submit, Withdraw, Retarg
 use Rattle.osdp_bus_laws.specs.Refusals.{Accepts, AwaitsMove, HasNoRoom, IsBarredComset, IsNoEntry, IsOpen, IsTakenByAnother, IsTakenUp, Judges, JudgesInOrder, OfEntry, RefusesInOrder, refusal_of, refused_with}
 use Rattle.osdp_bus_laws.proofs.Calling.{names_take, no_comsets}
 use Rattle.osdp_bus_laws.proofs.Places.{both_false, free_beside, none_at}
+use Rattle.osdp_bus_laws.proofs.Rooms.{HasRooms}
 
 -- ---- a cause that a test decides
 
@@ -230,9 +231,9 @@ not_barred entry command d b at h (asked, is, why) =
         let none = sym free.1 ∙ same ∙ some in
         cc
 
-judges_room : (entry : ℕ) (d : Device) (b : BusState) → device_of entry b ≡ Some d
+judges_room : (entry : ℕ) (d : Device) (b : BusState) → HasRooms b → device_of entry b ≡ Some d
     → Judges Full (HasNoRoom entry b) Accepts (option_map bus_fault (if nat_lt (length d.controller.waiting) d.controller.capacity then None else Some FullOf))
-judges_room entry d b at = by_test (nat_lt (length d.controller.waiting) d.controller.capacity) refl
+judges_room entry d b rooms at = by_test (nat_lt (length d.controller.waiting) d.controller.capacity) refl
   where
     by_test : (t : Bool) → nat_lt (length d.controller.waiting) d.controller.capacity ≡ t
         → Judges Full (HasNoRoom entry b) Accepts (option_map bus_fault (if t then None else Some FullOf))
@@ -241,12 +242,13 @@ judges_room entry d b at = by_test (nat_lt (length d.controller.waiting) d.contr
         there_is_room : HasNoRoom entry b → ⊥
         there_is_room (e, there, full) =
             let below = ltb-true (length d.controller.waiting) d.controller.capacity h in
-            let is = subst (λ (x : Device). x.controller.capacity ≤ length x.controller.waiting) (sym (same_device entry d e b at there)) full in
+            let room = rooms entry d at in
+            let is = subst (λ (x : Device). b.config.capacity ≤ length x.controller.waiting) (sym (same_device entry d e b at there)) full in
             omega arith
-    by_test false h = inl ((d, at, ltb-false (length d.controller.waiting) d.controller.capacity h), refl)
+    by_test false h = inl ((d, at, subst (λ n. n ≤ length d.controller.waiting) (rooms entry d at) (ltb-false (length d.controller.waiting) d.controller.capacity h)), refl)
 
-judges_submit : (entry : ℕ) (command : Command) (b : BusState) → JudgesInOrder (Submit entry command) b (submit_refusal_at entry command b)
-judges_submit entry command b = by_device (device_of entry b) refl
+judges_submit : (entry : ℕ) (command : Command) (b : BusState) → HasRooms b → JudgesInOrder (Submit entry command) b (submit_refusal_at entry command b)
+judges_submit entry command b rooms = by_device (device_of entry b) refl
   where
     by_poll : (d : Device) → device_of entry b ≡ Some d → (command ≡ Poll) ⊎ ((command ≢ Poll)
         × ((m : Machine) → submit_refusal command m ≡ (if nat_lt (length m.waiting) m.capacity then None else Some FullOf)))
@@ -257,7 +259,7 @@ judges_submit entry command b = by_device (device_of entry b) refl
       other,
       judged AddressTaken (IsBarredComset entry command b) (Judges Full (HasNoRoom entry b) Accepts) (is_comset_refused (comset_of command) entry d b)
           (option_map bus_fault (submit_refusal command d.controller)) (barred entry command d b at (comset_of command) refl) (not_barred entry command d b at)
-          (subst (λ r. Judges Full (HasNoRoom entry b) Accepts (option_map bus_fault r)) (sym (rule d.controller)) (judges_room entry d b at)),
+          (subst (λ r. Judges Full (HasNoRoom entry b) Accepts (option_map bus_fault r)) (sym (rule d.controller)) (judges_room entry d b rooms at)),
     )
 
     by_device : (o : Option Device) → device_of entry b ≡ o → JudgesInOrder (Submit entry command) b (submit_refusal_of entry command o b)
@@ -329,16 +331,16 @@ judges_retarget entry address b = by_device (device_of entry b) refl
 
 -- ---- the law
 
-judges : (call : Call) (b : BusState) → JudgesInOrder call b (refusal_of call b)
-judges (Add address) b = judges_add address b
-judges (Begin entry now) b = judges_begin entry now b
-judges (Submit entry command) b = judges_submit entry command b
-judges (Withdraw entry) b = judges_withdraw entry b
-judges (Retarget entry address) b = judges_retarget entry address b
-judges (OnBytes bytes now) b = refl
-judges (OnSilence now) b = refl
-judges (Tick now) b = refl
-judges NextReport b = refl
+judges : (call : Call) (b : BusState) → HasRooms b → JudgesInOrder call b (refusal_of call b)
+judges (Add address) b rooms = judges_add address b
+judges (Begin entry now) b rooms = judges_begin entry now b
+judges (Submit entry command) b rooms = judges_submit entry command b rooms
+judges (Withdraw entry) b rooms = judges_withdraw entry b
+judges (Retarget entry address) b rooms = judges_retarget entry address b
+judges (OnBytes bytes now) b rooms = refl
+judges (OnSilence now) b rooms = refl
+judges (Tick now) b rooms = refl
+judges NextReport b rooms = refl
 
 unchanged : (call : Call) (fault : BusFault) (b : BusState) → refusal_of call b ≡ Some fault → after_call call b ≡ b
 unchanged (Add address) fault b h = ap (λ f. changed_unless f b (after_add address b)) h
@@ -356,5 +358,5 @@ unchanged (OnSilence now) fault b h = absurd cc
 unchanged (Tick now) fault b h = absurd cc
 unchanged NextReport fault b h = absurd cc
 
-pub refuses_in_order : (b : BusState) → RefusesInOrder b
-refuses_in_order b = record { judged = λ call. judges call b; unchanged = λ call fault h. unchanged call fault b h }
+pub refuses_in_order : (b : BusState) → HasRooms b → RefusesInOrder b
+refuses_in_order b rooms = record { judged = λ call. judges call b rooms; unchanged = λ call fault h. unchanged call fault b h }

@@ -44,9 +44,9 @@ IsBarredComset entry command b =
     (asked : Communication) × (command ≡ Comset asked)
     × (IsTakenByAnother entry asked.address b ⊎ OfEntry entry (λ d. (address : ℕ) × (d.reserved ≡ Some address)) b)
 
--- as many commands wait for it as there is room for
+-- as many commands wait for it as the bus's settings leave room for
 abbrev pub HasNoRoom : ℕ → BusState → Type 0
-HasNoRoom entry b = OfEntry entry (λ d. d.controller.capacity ≤ length d.controller.waiting) b
+HasNoRoom entry b = OfEntry entry (λ d. b.config.capacity ≤ length d.controller.waiting) b
 
 -- a COMSET waits for it
 abbrev pub AwaitsMove : ℕ → BusState → Type 0

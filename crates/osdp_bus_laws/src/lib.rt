@@ -91,5 +91,5 @@ pub fn sessions_begin_alone()
 
 /// Each refusal comes exactly where its cause holds and no cause that is judged before it does, and nothing has changed then.
 pub fn refusals_come_in_order()
-    ensures { (b : BusState) → RefusesInOrder b }
+    ensures { Always RefusesInOrder }
 {}

@@ -1,5 +1,8 @@
+use Rattle.osdp_bus.specs.Buses.{new_bus}
+use Rattle.osdp_bus_laws.specs.Calls.{after_calls}
 use Rattle.osdp_bus_laws.proofs.Refusing.{refuses_in_order}
+use Rattle.osdp_bus_laws.proofs.Rooms.{always_rooms}
 use Rattle.osdp_bus_laws.proofs.refusals_come_in_order.Goals as goal
 
 pub returns : goal.returns
-returns c = refuses_in_order
+returns c = λ config calls is. refuses_in_order (after_calls calls (new_bus config)) (always_rooms config calls)
