@@ -1,5 +1,5 @@
 -- From what sessions came to, one after the other, to the places that the account's lengths give.
-use Rattle.std.proofs.Common.{◌≡◌, ◌≤◌, ◌<◌, ◌+◌, ◌-◌, ◌⊎◌, ℕ, List, [], ◌∷◌, ◌++◌, drop, length, map, take, arith, refl, sym, subst, ap, ◌∙◌, inl, inr, append_assoc}
+use Rattle.std.proofs.Common.{◌≡◌, ◌≤◌, ◌+◌, ◌⊎◌, ℕ, List, [], ◌∷◌, ◌++◌, drop, length, map, take, arith, refl, sym, subst, ap, ◌∙◌, inl, inr, append_assoc}
 use Rattle.std.proofs.lemmas.List.{append-nil, length-append}
 use Rattle.std.proofs.Math.Seq.{drop-append_seam}
 use Rattle.osdp_msg.specs.declared.command.Command.{Command}
@@ -17,7 +17,7 @@ use Rattle.osdp_sim.specs.declared.account.Lengths.{Lengths}
 use Rattle.osdp_sim_laws.specs.Accounts as accounts
 use Rattle.osdp_sim_laws.specs.Accounts.{AreOver, IsInARow, IsOf, all_in, no_lengths}
 use Rattle.osdp_sim_laws.proofs.Accounts.{begun}
-use Rattle.osdp_session.specs.Sessions.{AreSessions, Grow, HasEnded, HoldsInSessions, IsNextEvent, IsSession, LastsOrHasEnded, between, first_command, session_commands, session_reported, session_settled, session_taken, session_told, session_unsettled}
+use Rattle.osdp_session.specs.Sessions.{AreSessions, HasEnded, HoldsInSessions, IsNextEvent, IsSession, LastsOrHasEnded, between, first_command, session_commands, session_reported, session_settled, session_taken, session_told, session_unsettled}
 use Rattle.osdp_session.proofs.Cuts.{front, handler_all, part, shorter, told_length}
 
 -- the account's lists begin with those of this session and the ones before it
