@@ -2,7 +2,7 @@
 
 ghost use Rattle.std.specs.Prelude.{◌≡◌, ◌∷◌, length, None, Some, Ok, IfOk, IfErr, true};
 ghost use Rattle.osdp_words.specs.Reading.{ReadsWords};
-ghost use Rattle.osdp_words.specs.Word.{AllStandFor, texts};
+ghost use Rattle.osdp_words.specs.Word.{AllStandFor, texts, words_in};
 ghost use Rattle.osdp_msg.specs.CommandTable.{CommandFits, IsCommand, command_code, command_data, command_counts_agree, command_fault, command_length_allowed, command_of, command_at};
 ghost use Rattle.osdp_msg.specs.CommandText.{command_words, command_text};
 
@@ -10,11 +10,12 @@ use crate::command_fields::{Buzzer, Communication, MakerMessage, Text};
 use crate::fault::{BadWords, MsgFault, length_fault};
 use crate::leds::Leds;
 use crate::outputs::Outputs;
-use crate::parsing::parse_byte;
+use crate::parsing::{MOST_WORDS, parse_byte};
 use crate::printing::{print_byte, print_records};
 use crate::records::with_records;
 use crate::spelling::{code_alone, with_byte};
 use arrayvec::ArrayVec;
+use osdp_words::words_in;
 use std::fmt;
 
 /// A command. Each value has the lengths and counts of its row in the table of commands.
@@ -185,6 +186,18 @@ impl Command {
             return Err(BadWords);
         };
         parse_row(name, rest).ok_or(BadWords)
+    }
+
+    /// The command whose text a line is. Its words have one or more spaces between each two.
+    #[tactic(auto, using(crate::proofs::WordCounts::no_command))]
+    pub fn parse_line(line: &str) -> Result<Command, BadWords>
+        ensures value { IfOk result (λ m. AllStandFor (command_words m) (words_in line.now) × CommandFits m) }
+        ensures only { (m : Command) → CommandFits m → AllStandFor (command_words m) (words_in line.now) → result ≡ Ok m }
+    {
+        match words_in::<MOST_WORDS>(line) {
+            Some(words) => Command::parse(words.as_slice()),
+            None => Err(BadWords),
+        }
     }
 
     /// An equal command.

@@ -1,7 +1,7 @@
 //! Events: what a reader tells when it is polled.
 
 ghost use Rattle.std.specs.Prelude.{◌≡◌, Some, Ok, IfOk, IfErr};
-ghost use Rattle.osdp_words.specs.Word.{AllStandFor, texts};
+ghost use Rattle.osdp_words.specs.Word.{AllStandFor, texts, words_in};
 ghost use Rattle.osdp_msg.specs.Events.{EventFits, event_reply, event_text, event_words};
 
 use crate::fault::BadWords;
@@ -53,6 +53,17 @@ impl Event {
         ensures only { (e : Event) → EventFits e → AllStandFor (event_words e) (texts words.now) → result ≡ Ok e }
     {
         match Reply::parse(words)?.to_event() {
+            Ok(event) => Ok(event),
+            Err(_) => Err(BadWords),
+        }
+    }
+
+    /// The event whose text a line is. Its words have one or more spaces between each two.
+    pub fn parse_line(line: &str) -> Result<Event, BadWords>
+        ensures value { IfOk result (λ e. AllStandFor (event_words e) (words_in line.now) × EventFits e) }
+        ensures only { (e : Event) → EventFits e → AllStandFor (event_words e) (words_in line.now) → result ≡ Ok e }
+    {
+        match Reply::parse_line(line)?.to_event() {
             Ok(event) => Ok(event),
             Err(_) => Err(BadWords),
         }

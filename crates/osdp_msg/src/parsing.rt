@@ -11,6 +11,9 @@ use crate::records::Record;
 use arrayvec::ArrayVec;
 use osdp_words::Fields;
 
+/// The most words that the text of a message has: a name, and as many records as fit.
+pub(crate) const MOST_WORDS: usize = 478;
+
 /// One number.
 pub(crate) fn parse_byte(words: &[&str]) -> Option<u8>
     ensures { ReadsWords (λ n. number n ∷ []) (λ n. n < 2 ^ 8) (texts words.now) result }

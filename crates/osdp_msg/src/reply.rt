@@ -2,13 +2,13 @@
 
 ghost use Rattle.std.specs.Prelude.{◌≡◌, ◌∷◌, length, None, Some, Ok, IfOk, IfErr, true};
 ghost use Rattle.osdp_words.specs.Reading.{ReadsWords};
-ghost use Rattle.osdp_words.specs.Word.{AllStandFor, texts};
+ghost use Rattle.osdp_words.specs.Word.{AllStandFor, texts, words_in};
 ghost use Rattle.osdp_msg.specs.ReplyTable.{ReplyFits, IsReply, reply_code, reply_data, reply_counts_agree, reply_fault, reply_length_allowed, reply_of, reply_at};
 ghost use Rattle.osdp_msg.specs.ReplyText.{reply_words, reply_text};
 
 use crate::command_fields::{Communication, MakerMessage};
 use crate::fault::{BadWords, MsgFault, length_fault};
-use crate::parsing::{parse_records, parse_states};
+use crate::parsing::{MOST_WORDS, parse_records, parse_states};
 use crate::printing::{print_bytes, print_records};
 use crate::raw::Raw;
 use crate::records::{read_records, with_records};
@@ -16,6 +16,7 @@ use crate::reply_fields::{Formatted, Keypad, LocalState, Nak, PdCap, PdId};
 use crate::spelling::{code_alone, list_of, rest, with_bytes};
 use arrayvec::ArrayVec;
 use byteorder::{ByteOrder, LittleEndian};
+use osdp_words::words_in;
 use std::fmt;
 
 /// A reply. Each value has the lengths and counts of its row in the table of replies.
@@ -203,6 +204,18 @@ impl Reply {
             return Err(BadWords);
         };
         parse_row(name, rest).ok_or(BadWords)
+    }
+
+    /// The reply whose text a line is. Its words have one or more spaces between each two.
+    #[tactic(auto, using(crate::proofs::WordCounts::no_reply))]
+    pub fn parse_line(line: &str) -> Result<Reply, BadWords>
+        ensures value { IfOk result (λ m. AllStandFor (reply_words m) (words_in line.now) × ReplyFits m) }
+        ensures only { (m : Reply) → ReplyFits m → AllStandFor (reply_words m) (words_in line.now) → result ≡ Ok m }
+    {
+        match words_in::<MOST_WORDS>(line) {
+            Some(words) => Reply::parse(words.as_slice()),
+            None => Err(BadWords),
+        }
     }
 
     /// An equal reply.

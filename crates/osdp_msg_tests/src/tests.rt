@@ -4,6 +4,7 @@ use std::alloc::{AllocError, Global};
 use std::process::Abort;
 
 mod events;
+mod made;
 mod options;
 mod reasons;
 mod refusals;

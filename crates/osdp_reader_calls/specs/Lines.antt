@@ -1,11 +1,10 @@
 -- What a line is answered.
 use Rattle.std.specs.Prelude.{◌≡◌, ◌⊎◌, ℕ, ◌≤◌, List, length, IsUtf8}
-use Rattle.osdp_words.specs.Word.{AllStandFor}
+use Rattle.osdp_words.specs.Word.{AllStandFor, words_in}
 use Rattle.osdp_reader_calls.specs.declared.call.ReaderCall.{ReaderCall}
 use Rattle.osdp_reader_calls.specs.Calls.{CallFits, call_words}
 use Rattle.osdp_reader_calls.specs.Sessions.{Called, Session, answered, ended}
 use Rattle.osdp_reader_calls.specs.Texts.{no_line}
-use Rattle.osdp_reader_calls.specs.Words.{words_in}
 
 -- how many characters a line may have
 abbrev pub longest : ℕ

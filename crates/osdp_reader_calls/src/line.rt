@@ -1,38 +1,25 @@
 //! A line: its words, and the call that they are.
 
 ghost use Rattle.std.specs.Prelude.{◌≡◌, IfOk, IsUtf8, MatchOption};
-ghost use Rattle.osdp_words.specs.Word.{texts};
+ghost use Rattle.osdp_words.specs.Word.{words_in};
 ghost use Rattle.osdp_words.specs.Reading.{ReadsWords};
 ghost use Rattle.osdp_reader_calls.specs.Calls.{CallFits, call_words};
 ghost use Rattle.osdp_reader_calls.specs.Lines.{Says, SaysNothing};
-ghost use Rattle.osdp_reader_calls.specs.Words.{words_in};
 
 use crate::call::ReaderCall;
+use osdp_words::all_words_in;
 use std::alloc::{AllocError, Global};
 use std::str;
 
 /// How many characters a line may have.
 const LONGEST: usize = 8192;
 
-/// The words of a text, with one or more spaces between each two.
-fn words<'a>(alloc: Global, text: &'a str) -> Result<Vec<&'a str>, AllocError>
-    ensures { IfOk result (λ words. texts words.items ≡ words_in text.now) }
-{
-    let mut words = Vec::new(alloc);
-    for word in text.split(' ') {
-        if !word.is_empty() {
-            words.push(word)?;
-        }
-    }
-    Ok(words)
-}
-
 /// The call that a text is, if it is one.
 fn read_text(alloc: Global, text: &str) -> Result<Option<ReaderCall>, AllocError>
     requires { IsUtf8 text.now }
     ensures { IfOk result (λ call. ReadsWords call_words CallFits (words_in text.now) call) }
 {
-    let words = words(alloc, text)?;
+    let words = all_words_in(alloc, text)?;
     Ok(ReaderCall::parse(&words))
 }
 

@@ -2,12 +2,13 @@
 use Rattle.std.proofs.Common.{◌≡◌, ℕ, Bool, true, false, List, length, Option, Some, None, inr, sym, subst}
 use Rattle.std.specs.Prelude.{IsUtf8}
 use Rattle.osdp_words.specs.Reading.{ReadsWords}
+use Rattle.osdp_words.specs.Word.{words_in}
 use Rattle.osdp_script.specs.declared.script.ScriptLine.{ScriptLine}
 use Rattle.osdp_script.specs.Drafts.{Judges, JudgesText}
 use Rattle.osdp_script.specs.Lines.{LineFits, line_words}
 use Rattle.osdp_script.specs.Reading.{IsInPlace, IsTold, SaysNothing}
 use Rattle.osdp_script.specs.Script.{Plan, with_line}
-use Rattle.osdp_script.specs.Words.{characters, is_passed_over, words_in}
+use Rattle.osdp_script.specs.Words.{characters, is_passed_over}
 
 -- what is read of the words of a text
 abbrev pub ReadsText : Plan → List ℕ → Option ScriptLine → Type 0

@@ -3,6 +3,5 @@ pub mod Rows
 pub mod Lines
 pub mod Judging
 pub mod Passing
-pub mod Splitting
 pub mod InTurn
 pub mod Settings

@@ -1,13 +1,13 @@
 -- The script that bytes are, or the number of the first bad line.
 use Rattle.std.specs.Prelude.{◌≡◌, ◌≢◌, ◌⊎◌, ℕ, ◌+◌, ◌<◌, true, false, All, List, [], ◌∷◌, ◌++◌, length, None, Result, Ok, Err, IsUtf8}
 use Rattle.osdp_tool_input.specs.Cut.{lines_of}
-use Rattle.osdp_words.specs.Word.{AllStandFor}
+use Rattle.osdp_words.specs.Word.{AllStandFor, words_in}
 use Rattle.osdp_script.specs.declared.fault.ScriptFault.{ScriptFault}
 use Rattle.osdp_script.specs.declared.fault.ScriptFault.TheVariants.{BadLine, NoMemory}
 use Rattle.osdp_script.specs.declared.script.Script.{Script}
 use Rattle.osdp_script.specs.declared.script.ScriptLine.{ScriptLine}
 use Rattle.osdp_script.specs.declared.script.ScriptLine.TheVariants.{Check, Reader, Step, Clean}
-use Rattle.osdp_script.specs.Words.{characters, is_passed_over, words_in}
+use Rattle.osdp_script.specs.Words.{characters, is_passed_over}
 use Rattle.osdp_script.specs.Lines.{LineFits, line_words}
 use Rattle.osdp_script.specs.Script.{IsScript, Plan, no_plan, with_line}
 

@@ -5,10 +5,11 @@ ghost use Rattle.osdp_script.specs.Drafts.{Judges, JudgesText, plan_of};
 ghost use Rattle.osdp_script.specs.Reading.{IsFree, IsInPlace};
 ghost use Rattle.osdp_script.specs.Script.{IsScript, no_plan, with_line};
 
-use crate::line::{characters, is_passed_over, words};
+use crate::line::{characters, is_passed_over};
 use crate::parse::parse_line;
 use crate::script::{Script, ScriptLine, ScriptStep};
 use osdp_frame::{Address, CheckKind};
+use osdp_words::all_words_in;
 use std::alloc::{AllocError, Global};
 use std::str;
 
@@ -74,7 +75,7 @@ impl Draft {
         requires { IsUtf8 text.now }
         ensures { IfOk result (λ good. JudgesText good (plan_of self.old) text.now (plan_of self.new)) }
     {
-        let words = words(alloc, text)?;
+        let words = all_words_in(alloc, text)?;
         let line = match parse_line(&words, self.readers.len()) {
             Some(line) => line,
             None => return Ok(false),

@@ -1,9 +1,8 @@
-//! A line of a script: where it ends, its characters and its words.
+//! A line of a script: where it ends, and its characters.
 
 ghost use Rattle.std.specs.Prelude.{◌≡◌, ◌<◌, ◌∷◌, [], length, IfOk, IfSome, MatchOption};
 ghost use Rattle.osdp_tool_input.specs.Cut.{lines_of};
-ghost use Rattle.osdp_words.specs.Word.{texts};
-ghost use Rattle.osdp_script.specs.Words.{characters, is_passed_over, words_in};
+ghost use Rattle.osdp_script.specs.Words.{characters, is_passed_over};
 
 use std::alloc::{AllocError, Global};
 
@@ -46,17 +45,4 @@ pub(crate) fn is_passed_over(characters: &[u8]) -> bool
         }
     }
     true
-}
-
-/// The words of a text, with one or more spaces between each two.
-pub(crate) fn words<'a>(alloc: Global, text: &'a str) -> Result<Vec<&'a str>, AllocError>
-    ensures { IfOk result (λ words. texts words.items ≡ words_in text.now) }
-{
-    let mut words = Vec::new(alloc);
-    for word in text.split(' ') {
-        if !word.is_empty() {
-            words.push(word)?;
-        }
-    }
-    Ok(words)
 }

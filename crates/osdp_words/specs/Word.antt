@@ -1,8 +1,8 @@
 -- The words of texts: how each is printed, what may be given for it, and how a text is made of words.
-use Rattle.std.specs.Prelude.{◌≡◌, ℕ, ◌<◌, ◌≤◌, List, [], ◌∷◌, codes, map, length}
+use Rattle.std.specs.Prelude.{◌≡◌, ℕ, ◌==◌, ◌<◌, ◌≤◌, not, List, [], ◌∷◌, codes, filter, map, length}
 use Rattle.std.specs.Borrow.{Bor}
 use Rattle.std.specs.Fmt.{decimal}
-use Rattle.std.specs.List.{AllByRecursion, AllZip, join_by}
+use Rattle.std.specs.List.{AllByRecursion, AllZip, join_by, slice_split}
 use Rattle.std.specs.Str.{str_to_ascii_uppercase}
 use Rattle.std.specs.Str.Iter.{LacksByte}
 use Rattle.hex.specs.Hex.{IsBytes, encode_upper}
@@ -32,6 +32,10 @@ AllStandFor words given = AllZip StandsFor words given
 -- the texts of a slice of `&str`
 abbrev pub texts : List (Bor (List ℕ)) → List (List ℕ)
 texts given = map (λ (text : Bor (List ℕ)). text.now) given
+
+-- the words of a line: what stands between spaces, one or more
+abbrev pub words_in : List ℕ → List (List ℕ)
+words_in line = filter (λ part. not (length part == 0)) (slice_split (λ c. c == 32) line)
 
 -- a number in decimal digits, with no leading zero
 abbrev pub number : ℕ → Word

@@ -8,7 +8,8 @@
 //!
 //! [`Fields`] takes the words of a text from its front, and [`number_u8`] and the like read one word.
 //! Each gives the one value after what was given, and None exactly where there is none. [`ByteList`]
-//! and [`Record`] print words inside a `write!`. Nothing here takes memory.
+//! and [`Record`] print words inside a `write!`, and [`words_in`] cuts a line into words. Only [`all_words_in`]
+//! takes memory.
 #![tactic(auto)]
 
 mod byte_lists;
@@ -17,6 +18,7 @@ mod laws;
 mod numbers;
 mod printing;
 mod records;
+mod splitting;
 
 pub use crate::byte_lists::{byte_list, vendor};
 pub use crate::fields::Fields;
@@ -27,3 +29,4 @@ pub use crate::laws::{
 pub use crate::numbers::{number_u8, number_u16, number_u32};
 pub use crate::printing::{ByteList, Record};
 pub use crate::records::record;
+pub use crate::splitting::{all_words_in, words_in};

@@ -1,14 +1,19 @@
--- The pieces of a text between spaces, one after the other, and the words among them.
-use Rattle.std.proofs.Common.{lit<, ◌≡◌, ℕ, true, false, List, [], ◌∷◌, ◌++◌, length, Bor, Some, None, cond, eqb, not, refl, sym, ap, ◌∙◌, append_assoc, append-nil}
+-- The pieces of a line between spaces, one after the other, and the words among them.
+use Rattle.std.proofs.Common.{lit<, ◌≡◌, ◌≤◌, ◌<◌, ℕ, arith, true, false, List, [], ◌∷◌, ◌++◌, filter, length, Bor, Some, None, cond, eqb, not, refl, sym, ap, ◌∙◌, append_assoc, append-nil}
+use Rattle.std.proofs.lemmas.List.{length-append}
 use Rattle.std.specs.List.{slice_split}
 use Rattle.std.specs.Str.Iter.{split_has_more, split_pattern, split_steps, split_text}
 use Rattle.std.specs.Str.Pattern.{FindsChar}
 use Rattle.std.specs.declared.str.Split.{Split}
 use Rattle.std.proofs.lemmas.Iterator.{YieldsList}
 use Rattle.std.proofs.lemmas.Iterator.Splits.{YieldsList-from_str_split}
-use Rattle.osdp_script.specs.Words.{some_characters, words_in}
+use Rattle.osdp_words.specs.Word.{words_in}
 
--- the pieces that are left of a text
+-- those that have characters
+abbrev some_characters : List (List ℕ) → List (List ℕ)
+some_characters parts = filter (λ part. not (eqb (length part) 0)) parts
+
+-- the pieces that are left of a line
 abbrev pub AreLeft : Split ℕ → List (List ℕ) → Type 0
 AreLeft s left = YieldsList (split_steps FindsChar (λ a b. b ≡ a)) (λ x. x.now) s left
 
@@ -65,3 +70,7 @@ taken all words s t x cut k e =
 pub all_taken : (all words : List (List ℕ)) (s t : Split ℕ) → IsCutTo all words s → split_steps FindsChar (λ a b. b ≡ a) s None t → words ≡ all
 all_taken all words s t cut k =
     sym (append-nil words) ∙ ap (λ l. words ++ some_characters l) (sym (no_piece s t cut.left cut.are k)) ∙ cut.whole
+
+-- no more words than the line has
+pub no_more : (all words : List (List ℕ)) (s : Split ℕ) → IsCutTo all words s → length words ≤ length all
+no_more all words s cut = omega (arith, ap length cut.whole, length-append words (some_characters cut.left))
