@@ -1,5 +1,5 @@
 -- The table of commands.
-use Rattle.std.proofs.Common.{◌≡◌, ◌<◌, ◌≤◌, ◌-◌, ◌*◌, ◌/◌, ◌%◌, lit<, lit≤, [], ◌∷◌, ◌&&◌, ℕ, zero, true, eqb, leb, List, length, get_or, None, refl, sym, ap, ◌∙◌, arith}
+use Rattle.std.proofs.Common.{◌≡◌, ◌<◌, ◌≤◌, ◌-◌, ◌*◌, ◌/◌, ◌%◌, lit<, lit≤, [], ◌&&◌, ℕ, zero, true, eqb, leb, List, length, get_or, None, refl, ap, arith}
 use Rattle.std.specs.List.{flat_map}
 use Rattle.std.proofs.lemmas.Bool.{eq-eqb, eqb-true, le-leb}
 use Rattle.std.proofs.lemmas.List.{nil_from_length}
@@ -8,11 +8,11 @@ use Rattle.hex.specs.Hex.{IsBytes}
 use Rattle.osdp_msg.specs.declared.command.Command.{Command}
 use Rattle.osdp_msg.specs.declared.command.Command.TheVariants.{Poll, Id, Cap, LocalStatus, InputStatus, OutputStatus, ReaderStatus, Output, Led, Buzzer, Text, Comset, Maker}
 use Rattle.osdp_msg.specs.CommandFields.{LedFits, OutputFits, led_at, led_data, output_at, output_data}
-use Rattle.osdp_msg.specs.CommandTable.{CommandFits, IsCommand, command_at, command_code, command_counts_agree, command_data, command_fault, command_length_allowed, command_of}
-use Rattle.osdp_msg.proofs.Bytes.{IsBytes-cons, IsBytes-each, IsBytes-nil, all_cells}
-use Rattle.osdp_msg.proofs.CommandRows.{buzzer_spells, buzzer_takes, communication_again, communication_fits, communication_spells, communication_takes, leds, maker_again, maker_fits, maker_length, maker_spells, maker_takes, outputs, text_fits, text_spells, text_takes}
-use Rattle.osdp_msg.proofs.RecordLists.{length-flat_map_size, length-records_from, records_again, records_fit, records_spell, records_take}
-use Rattle.osdp_msg.proofs.Table.{IsTable, at_least, bounded, code_or, exactly, multiple_allowed, one_value, passed, reading, some_multiple, unknown_faults, unless_err}
+use Rattle.osdp_msg.specs.CommandTable.{CommandFits, IsCommand, command_at, command_code, command_counts_agree, command_data, command_fault, command_length_allowed}
+use Rattle.osdp_msg.proofs.Bytes.{all_cells}
+use Rattle.osdp_msg.proofs.CommandRows.{buzzer_takes, communication_again, communication_fits, communication_takes, leds, maker_again, maker_fits, maker_length, maker_takes, outputs, text_fits, text_takes}
+use Rattle.osdp_msg.proofs.RecordLists.{length-flat_map_size, length-records_from, records_again, records_fit, records_take}
+use Rattle.osdp_msg.proofs.Table.{IsTable, at_least, code_or, exactly, multiple_allowed, passed, some_multiple, unknown_faults}
 
 -- ---- what has been written is read
 

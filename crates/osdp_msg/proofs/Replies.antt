@@ -1,5 +1,5 @@
 -- The table of replies.
-use Rattle.std.proofs.Common.{◌≡◌, ◌<◌, ◌+◌, ◌-◌, ◌*◌, ◌/◌, ◌%◌, lit<, ◌++◌, ℕ, true, eqb, leb, List, length, get_or, drop, None, refl, sym, ap, ◌∙◌, arith}
+use Rattle.std.proofs.Common.{◌≡◌, ◌+◌, ◌-◌, ◌*◌, ◌/◌, ◌%◌, ◌++◌, ℕ, true, eqb, leb, List, length, get_or, drop, None, refl, sym, ap, ◌∙◌, arith}
 use Rattle.std.specs.List.{flat_map}
 use Rattle.std.proofs.lemmas.Bool.{eq-eqb, eqb-true, le-leb}
 use Rattle.std.proofs.lemmas.List.{nil_from_length}
@@ -10,12 +10,12 @@ use Rattle.osdp_msg.specs.declared.capability.Capability.{Capability}
 use Rattle.osdp_msg.specs.declared.reply.Reply.{Reply}
 use Rattle.osdp_msg.specs.declared.reply.Reply.TheVariants.{Ack, Nak, PdId, PdCap, LocalState, Inputs, Outputs, Readers, Raw, Formatted, Keypad, Com, Busy, MakerReply}
 use Rattle.osdp_msg.specs.ReplyFields.{CapabilityFits, capability_at, capability_data}
-use Rattle.osdp_msg.specs.ReplyTable.{IsReply, ReplyFits, reply_at, reply_code, reply_counts_agree, reply_data, reply_fault, reply_length_allowed, reply_of}
-use Rattle.osdp_msg.proofs.Bytes.{IsBytes-cons, IsBytes-nil, bytes_2}
-use Rattle.osdp_msg.proofs.CommandRows.{communication_again, communication_fits, communication_spells, communication_takes, maker_again, maker_fits, maker_length, maker_spells, maker_takes}
-use Rattle.osdp_msg.proofs.RecordLists.{length-flat_map_size, length-records_from, records_again, records_fit, records_spell, records_take}
-use Rattle.osdp_msg.proofs.ReplyRows.{capabilities, formatted_fits, formatted_spells, formatted_takes, keypad_fits, keypad_spells, keypad_takes, local_state_spells, local_state_takes, nak_again, nak_fits, nak_spells, nak_takes, pd_id_again, pd_id_fits, pd_id_length, pd_id_spells, pd_id_takes, raw_again, raw_fits, raw_spells, raw_takes}
-use Rattle.osdp_msg.proofs.Table.{IsTable, any_length, at_least, bounded, code_or, exactly, multiple, one_value, passed, reading, unknown_faults, unless_err}
+use Rattle.osdp_msg.specs.ReplyTable.{IsReply, ReplyFits, reply_at, reply_code, reply_counts_agree, reply_data, reply_fault, reply_length_allowed}
+use Rattle.osdp_msg.proofs.Bytes.{bytes_2}
+use Rattle.osdp_msg.proofs.CommandRows.{communication_again, communication_fits, communication_takes, maker_again, maker_fits, maker_length, maker_takes}
+use Rattle.osdp_msg.proofs.RecordLists.{length-flat_map_size, length-records_from, records_again, records_fit, records_take}
+use Rattle.osdp_msg.proofs.ReplyRows.{capabilities, formatted_fits, formatted_takes, keypad_fits, keypad_takes, local_state_takes, nak_again, nak_fits, nak_takes, pd_id_again, pd_id_fits, pd_id_length, pd_id_takes, raw_again, raw_fits, raw_takes}
+use Rattle.osdp_msg.proofs.Table.{IsTable, any_length, at_least, code_or, exactly, multiple, passed, unknown_faults}
 
 -- ---- what has been written is read
 

@@ -1,5 +1,5 @@
 -- The pieces of a line between spaces, one after the other, and the words among them.
-use Rattle.std.proofs.Common.{lit<, ◌≡◌, ◌≤◌, ◌<◌, ℕ, arith, true, false, List, [], ◌∷◌, ◌++◌, filter, length, Bor, Some, None, cond, eqb, not, refl, sym, ap, ◌∙◌, append_assoc, append-nil}
+use Rattle.std.proofs.Common.{lit<, ◌≡◌, ◌≤◌, ℕ, arith, true, false, List, [], ◌∷◌, ◌++◌, filter, length, Bor, Some, None, cond, eqb, not, refl, sym, ap, ◌∙◌, append_assoc, append-nil}
 use Rattle.std.proofs.lemmas.List.{length-append}
 use Rattle.std.specs.List.{slice_split}
 use Rattle.std.specs.Str.Iter.{split_has_more, split_pattern, split_steps, split_text}
