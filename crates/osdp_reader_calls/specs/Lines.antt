@@ -28,3 +28,10 @@ refuses s = ended (record { text = no_line; session = s })
 abbrev pub IsAnswered : List ℕ → Session → Called → Type 0
 IsAnswered line s c =
     ((call : ReaderCall) × Says line call × (c ≡ answered call s)) ⊎ (SaysNothing line × (c ≡ refuses s))
+
+-- the same, as what a machine answers a line: the text of the answer, and the session after it
+pub record Answers (s : Session) (line text : List ℕ) (next : Session) : Type 0 where
+  pub called : Called
+  pub is : IsAnswered line s called
+  pub text_is : text ≡ called.text
+  pub next_is : next ≡ called.session

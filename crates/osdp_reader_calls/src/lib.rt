@@ -13,6 +13,7 @@
 
 mod call;
 mod line;
+mod machine;
 mod say;
 mod session;
 
