@@ -16,5 +16,6 @@ mod line;
 mod say;
 mod session;
 
-pub use call::ReaderCall;
+pub use call::{ReaderCall, number_u64};
+pub use line::words;
 pub use session::LineDevice;

@@ -15,7 +15,7 @@ use std::str;
 const LONGEST: usize = 8192;
 
 /// The words of a text, with one or more spaces between each two.
-fn words<'a>(alloc: Global, text: &'a str) -> Result<Vec<&'a str>, AllocError>
+pub fn words<'a>(alloc: Global, text: &'a str) -> Result<Vec<&'a str>, AllocError>
     ensures { IfOk result (λ words. texts words.items ≡ words_in text.now) }
 {
     let mut words = Vec::new(alloc);
