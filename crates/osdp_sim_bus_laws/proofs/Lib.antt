@@ -6,3 +6,6 @@ pub mod Scheduling
 pub mod Beginning
 pub mod Rows
 pub mod OneSession
+pub mod Waiting
+pub mod Accepting
+pub mod Places

@@ -2,6 +2,7 @@
 //! nothing: their contracts are laws.
 #![tactic(auto)]
 
+ghost use Rattle.osdp_sim_bus_laws.specs.Accepted.{EachAccepts};
 ghost use Rattle.osdp_sim_bus_laws.specs.Accounts.{HoldsOnce, StaysInARow};
 ghost use Rattle.osdp_sim_bus_laws.specs.Moves.{OneBus, SchedulesAreMoves, StepsAreMoves};
 
@@ -60,3 +61,10 @@ pub fn holds_once<H: Handler>()
 {
     stays_in_a_row::<H>();
 }
+
+/// Whatever a schedule over a bus says, for each reader: of the commands for it, where none is a COMSET, POLL left out, all are accepted where
+/// no more are than the settings leave room for; else the first of them, as many as that, and of the others some, each once and in their
+/// order. So it is of its events, with the room that it has for them.
+pub fn each_accepts_by_room<H: Handler>()
+    ensures { EachAccepts H.answer_of H.after }
+{}

@@ -40,7 +40,7 @@ use Rattle.osdp_sim.specs.declared.fault.Fault.{Fault}
 use Rattle.osdp_sim.specs.declared.step.Move as way
 use Rattle.osdp_sim.specs.declared.step.SimStep.{SimStep}
 use Rattle.osdp_sim.specs.declared.step.SimStep.TheVariants.{Issue, Queue, Busy, Wait, ToReader, ToController, Reopen}
-use Rattle.osdp_sim_laws.specs.Accepted.{AcceptsByRoom, IsAccepted, IsAmong, but_poll, commands_of, events_of, if_there}
+use Rattle.osdp_sim_laws.specs.Accepted.{AcceptsByRoom, IsAccepted, IsAmong, but_poll, commands_of, events_of}
 use Rattle.osdp_sim_laws.specs.Accounts.{account_in}
 use Rattle.osdp_sim_laws.specs.Clean.{IsOrder}
 use Rattle.osdp_sim_laws.proofs.Accounts.{report_leaves}
@@ -54,14 +54,14 @@ pub record Accepts {A : Type 0} (room : ℕ) (all before later : List A) : Type 
   pub among : IsAmong new all
   pub first : IsBeginning (take room all) new
 
-none_accepted : {A : Type 0} (room : ℕ) (before : List A) → Accepts room [] before before
+pub none_accepted : {A : Type 0} (room : ℕ) (before : List A) → Accepts room [] before before
 none_accepted {A} room before = record { new = []; list = sym (append-nil before); among = refl; first = by_room room }
   where
     by_room : (n : ℕ) → IsBeginning (take {A = A} n []) []
     by_room zero = ([], refl)
     by_room (suc n) = ([], refl)
 
-one_accepted : {A : Type 0} (room : ℕ) (x : A) (all before later : List A) → Accepts (room - 1) all (before ++ x ∷ []) later → Accepts room (x ∷ all) before later
+pub one_accepted : {A : Type 0} (room : ℕ) (x : A) (all before later : List A) → Accepts (room - 1) all (before ++ x ∷ []) later → Accepts room (x ∷ all) before later
 one_accepted {A} room x all before later is = record {
   new = x ∷ is.new;
   list = is.list ∙ append_assoc before (x ∷ []) is.new;
@@ -73,7 +73,7 @@ one_accepted {A} room x all before later is = record {
     by_room zero begins = (x ∷ is.new, refl)
     by_room (suc n) begins = let less : suc n - 1 ≡ n = omega arith in (begins.0, ap (λ l. x ∷ l) (begins.1 ∙ ap (λ k. take k all ++ begins.0) less))
 
-one_refused : {A : Type 0} (room : ℕ) (x : A) (all before later : List A) → room ≡ 0 → Accepts room all before later → Accepts room (x ∷ all) before later
+pub one_refused : {A : Type 0} (room : ℕ) (x : A) (all before later : List A) → room ≡ 0 → Accepts room all before later → Accepts room (x ∷ all) before later
 one_refused {A} room x all before later full is = record {
   new = is.new;
   list = is.list;
@@ -104,10 +104,10 @@ accepted {A} room all later is = record {
         let none = no_more rest (omega (arith, many, length-append all rest, among_few is.new all is.among)) in
         is.list ∙ whole ∙ ap (λ l. all ++ l) none ∙ append-nil all
 
-one_less : (n k : ℕ) → n - (k + 1) ≡ n - k - 1
+pub one_less : (n k : ℕ) → n - (k + 1) ≡ n - k - 1
 one_less n k = omega arith
 
-counts : (n m : ℕ) → (n == m) ≡ true → n ≡ m
+pub counts : (n m : ℕ) → (n == m) ≡ true → n ≡ m
 counts n m is = elim (eqb_tells n m) [ inl same ↦ same.1 | inr other ↦ absurd (let e = sym is ∙ other.0 in cc) ]
 
 -- ---- what a step leaves
@@ -130,10 +130,10 @@ submit_is (command.Comset a) m = inr (refl, refl)
 submit_is (command.Maker a) m = inr (refl, refl)
 
 -- a tick makes no command wait
-abbrev Few : ℕ → Ticked → Type 0
+abbrev pub Few : ℕ → Ticked → Type 0
 Few n t = length t.waiting ≤ n
 
-tick_few : (state : State) (s : Session) (w : List Command) → Few (length w) (ticks_in state s w)
+pub tick_few : (state : State) (s : Session) (w : List Command) → Few (length w) (ticks_in state s w)
 tick_few Closed s w = omega arith
 tick_few (Quiet until) s w = both (Few (length w)) (leb until s.greatest) (begins Opening 0 s w) (stays s w) (omega arith) (omega arith)
 tick_few (Idle due) s [] =
@@ -145,7 +145,7 @@ tick_few (Waiting until k o) s w =
 tick_few (Pausing until o) s w = both (Few (length w)) (leb until s.greatest) (sends_frame 1 o s w) (stays s w) (omega arith) (omega arith)
 
 -- .. and no packet makes an event wait
-record FewEvents (q p : EventQueue) : Type 0 where
+pub record FewEvents (q p : EventQueue) : Type 0 where
   pub events : length p.events ≤ length q.events
   pub capacity : p.capacity ≡ q.capacity
 
@@ -171,7 +171,7 @@ module _ {H : Type 0} (answer_of : H → Command → Answer) (after : H → Comm
   taken_few (Ok c) r p =
       moved_few (reader.new_address c) r.queue _ (record { events = dropped r.queue.offered r.queue.events; capacity = refl })
 
-  outcome_few : (k : Kind) (r : ReaderState H) (p : Packet) → FewEvents r.queue (reader.outcome answer_of after k r p).reader.queue
+  pub outcome_few : (k : Kind) (r : ReaderState H) (p : Packet) → FewEvents r.queue (reader.outcome answer_of after k r p).reader.queue
   outcome_few kind.Silent r p = record { events = omega arith; capacity = refl }
   outcome_few kind.Secured r p = record { events = omega arith; capacity = refl }
   outcome_few kind.Zero r p = begun_few (reader.command_in p) r p

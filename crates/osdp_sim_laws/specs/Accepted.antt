@@ -13,25 +13,32 @@ use Rattle.osdp_sim.specs.declared.step.SimStep.{SimStep}
 use Rattle.osdp_sim.specs.declared.step.SimStep.TheVariants.{Issue, Queue}
 use Rattle.osdp_sim_laws.specs.Accounts.{account_in}
 
--- what a step orders, where it names the reader that is there
-abbrev pub if_there : {A : Type 0} → ℕ → List A → List A
-if_there number items = if number == 1 then items else []
+-- what a step orders, where it names the reader of this number
+abbrev pub if_named : {A : Type 0} → ℕ → ℕ → List A → List A
+if_named reader number items = if number == reader then items else []
 
 -- a POLL is no order
 abbrev pub but_poll : Command → List Command
 but_poll Poll = []
 but_poll command = command ∷ []
 
--- the commands that a schedule issues for the reader, but POLL, and the events that it queues for it, in their order
+-- the commands that a schedule issues for a reader, but POLL, and the events that it queues for it, in their order
+abbrev pub commands_for : ℕ → List SimStep → List Command
+commands_for reader [] = []
+commands_for reader (Issue number command ∷ steps) = if_named reader number (but_poll command) ++ commands_for reader steps
+commands_for reader (step ∷ steps) = commands_for reader steps
+
+abbrev pub events_for : ℕ → List SimStep → List Event
+events_for reader [] = []
+events_for reader (Queue number event ∷ steps) = if_named reader number (event ∷ []) ++ events_for reader steps
+events_for reader (step ∷ steps) = events_for reader steps
+
+-- .. and for the reader that is alone on its line
 abbrev pub commands_of : List SimStep → List Command
-commands_of [] = []
-commands_of (Issue number command ∷ steps) = if_there number (but_poll command) ++ commands_of steps
-commands_of (step ∷ steps) = commands_of steps
+commands_of steps = commands_for 1 steps
 
 abbrev pub events_of : List SimStep → List Event
-events_of [] = []
-events_of (Queue number event ∷ steps) = if_there number (event ∷ []) ++ events_of steps
-events_of (step ∷ steps) = events_of steps
+events_of steps = events_for 1 steps
 
 -- some of a list, in its order: the first of it is left out, or comes first
 abbrev pub IsAmong : {A : Type 0} → List A → List A → Type 0

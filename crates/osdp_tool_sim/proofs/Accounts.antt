@@ -14,9 +14,10 @@ use Rattle.osdp_sim.specs.declared.fault.Cause.TheVariants as cause
 use Rattle.osdp_sim.specs.declared.fault.Fault.{Fault}
 use Rattle.osdp_sim.specs.declared.step.SimStep.{SimStep}
 use Rattle.osdp_sim.specs.Account.{Account, lists_of}
-use Rattle.osdp_sim_bus.specs.Runs.{RunEnds, Stops, StopsAt, lists_of_all}
+use Rattle.osdp_sim_bus.specs.Runs.{RunEnds, Stops, StopsAt, lists_of_all, steps_done}
 use Rattle.osdp_sim_bus.specs.State.{Given}
-use Rattle.osdp_sim_bus_laws.specs.Accounts.{EachMeets}
+use Rattle.osdp_sim_bus_laws.specs.Accepted.{AcceptsEach}
+use Rattle.osdp_sim_bus_laws.specs.Accounts.{EachMeets, accounts_in}
 use Rattle.osdp_tool_streams.specs.declared.fault.ToolFault.{ToolFault}
 use Rattle.osdp_tool_streams.specs.declared.fault.ToolFault.TheVariants.{HoldsPacket, NotQuiet}
 use Rattle.osdp_tool_account.specs.AccountText.{account_text}
@@ -46,9 +47,22 @@ pub each_as : (script : Script) (readers : List (Given ScriptReader)) (told : Li
 each_as script readers told e holds =
     subst (λ (k : List (Given ScriptReader)). EachMeets (HoldsInSessions handler_answer handler_after) k told) e holds
 
+abbrev pub Accepted : Script → Result (Vec declared.Account) (Fault (Vec declared.Account)) → Type 0
+Accepted script r =
+    AcceptsEach (default_config script.check 64) (readers_from 1 script.readers.items) (steps_done (steps_of script) r) (accounts_in r)
+
+pub accepted_as : (script : Script) (config : BusConfig) (readers : List (Given ScriptReader)) (steps : List SimStep)
+    (r : Result (Vec declared.Account) (Fault (Vec declared.Account))) → config ≡ default_config script.check 64
+    → readers ≡ readers_from 1 script.readers.items → steps ≡ steps_of script → AcceptsEach config readers (steps_done steps r) (accounts_in r)
+    → Accepted script r
+accepted_as script config readers steps r e f g accepts =
+    subst (λ (s : List SimStep). AcceptsEach (default_config script.check 64) (readers_from 1 script.readers.items) (steps_done s r) (accounts_in r)) g
+    (subst (λ (k : List (Given ScriptReader)). AcceptsEach (default_config script.check 64) k (steps_done steps r) (accounts_in r)) f
+    (subst (λ (c : BusConfig). AcceptsEach c readers (steps_done steps r) (accounts_in r)) e accepts))
+
 pub each_ok : (script : Script) (told : Vec declared.Account) → Ends script (Ok told) → Holds script (lists_of_all told.items)
-    → TellsEach script (lists_of_all told.items) (Ok tt)
-each_ok script told ends holds = record { run_is = (ends.1, ends.2); sessions = holds }
+    → Accepted script (Ok told) → TellsEach script (lists_of_all told.items) (Ok tt)
+each_ok script told ends holds accepts = record { run_is = (ends.1, ends.2); sessions = holds; accepted = accepts }
 
 -- a step was refused, and the bus and the readers were set up
 packet_at : (script : Script) (at : ℕ) (told : List Account)
@@ -64,22 +78,22 @@ quiet_at script zero told stops = absurd stops.0
 quiet_at script (suc before) told stops = (omega arith, stops.1)
 
 pub each_packet : (script : Script) (fault : Fault (Vec declared.Account)) → Ends script (Err fault)
-    → (1 ≤ fault.step → Holds script (lists_of_all fault.account.items)) → fault.cause ≡ cause.HoldsPacket
-    → TellsEach script (lists_of_all fault.account.items) (Err (HoldsPacket fault.step))
-each_packet script fault ends holds is =
+    → (1 ≤ fault.step → Holds script (lists_of_all fault.account.items)) → (1 ≤ fault.step → Accepted script (Err fault))
+    → fault.cause ≡ cause.HoldsPacket → TellsEach script (lists_of_all fault.account.items) (Err (HoldsPacket fault.step))
+each_packet script fault ends holds accepts is =
     let stops = packet_at script fault.step (lists_of_all fault.account.items)
     (subst (λ (why : Cause). Stops handler_answer handler_after fault.step why (lists_of_all fault.account.items)
     (default_config script.check 64) (readers_from 1 script.readers.items) (steps_of script)) is ends) in
-    record { run_is = stops.1; sessions = holds stops.0 }
+    record { run_is = stops.1; sessions = holds stops.0; accepted = accepts stops.0 }
 
 pub each_quiet : (script : Script) (fault : Fault (Vec declared.Account)) → Ends script (Err fault)
-    → (1 ≤ fault.step → Holds script (lists_of_all fault.account.items)) → fault.cause ≡ cause.NotQuiet
-    → TellsEach script (lists_of_all fault.account.items) (Err (NotQuiet fault.step))
-each_quiet script fault ends holds is =
+    → (1 ≤ fault.step → Holds script (lists_of_all fault.account.items)) → (1 ≤ fault.step → Accepted script (Err fault))
+    → fault.cause ≡ cause.NotQuiet → TellsEach script (lists_of_all fault.account.items) (Err (NotQuiet fault.step))
+each_quiet script fault ends holds accepts is =
     let stops = quiet_at script fault.step (lists_of_all fault.account.items)
     (subst (λ (why : Cause). Stops handler_answer handler_after fault.step why (lists_of_all fault.account.items)
     (default_config script.check 64) (readers_from 1 script.readers.items) (steps_of script)) is ends) in
-    record { run_is = stops.1; sessions = holds stops.0 }
+    record { run_is = stops.1; sessions = holds stops.0; accepted = accepts stops.0 }
 
 -- a script that hasn't one reader
 pub of_each : (readers : List (ℕ × ℕ)) (script : Script) (text : List ℕ) (end : Result (Unit {0}) ToolFault)

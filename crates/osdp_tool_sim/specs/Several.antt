@@ -10,10 +10,11 @@ use Rattle.osdp_session.specs.Sessions.{HoldsInSessions}
 use Rattle.osdp_sim.specs.Account.{Account}
 use Rattle.osdp_sim_bus.specs.State.{Given, LineState, accounts, set_up}
 use Rattle.osdp_sim_bus.specs.Steps.{after_step, fault_of}
+use Rattle.osdp_sim_bus_laws.specs.Accepted.{AcceptsEach}
 use Rattle.osdp_sim_bus_laws.specs.Accounts.{EachMeets}
 use Rattle.osdp_tool_streams.specs.declared.fault.ToolFault.{ToolFault}
 use Rattle.osdp_tool_account.specs.AccountText.{account_text}
-use Rattle.osdp_tool_sim.specs.Steps.{RunTells}
+use Rattle.osdp_tool_sim.specs.Steps.{RunTells, steps_taken}
 
 -- the readers at these addresses, each with room for so many events; the first has this number
 abbrev pub readers_from : ℕ → List (ℕ × ℕ) → List (Given ScriptReader)
@@ -26,10 +27,12 @@ abbrev pub line_of : Script → LineState ScriptReader
 line_of script = set_up (default_config script.check 64) (readers_from 1 script.readers.items)
 
 -- These accounts are told of a script, and this end: they are those of its run, in the order of the readers. Of each reader, session by
--- session, each command was taken once and in order, with its answer, and each event was reported once and in order.
+-- session, each command was taken once and in order, with its answer, and each event was reported once and in order; and of the steps taken
+-- the commands and events were accepted by the room that there is.
 pub record TellsEach (script : Script) (told : List Account) (end : Result (Unit {0}) ToolFault) : Type 0 where
   pub run_is : RunTells (after_step handler_answer handler_after) fault_of accounts end told (steps_of script) (line_of script)
   pub sessions : EachMeets (HoldsInSessions handler_answer handler_after) (readers_from 1 script.readers.items) told
+  pub accepted : AcceptsEach (default_config script.check 64) (readers_from 1 script.readers.items) (steps_taken end (steps_of script)) told
 
 -- the texts of these accounts, one after the other; the first is that of the reader of this number
 abbrev pub texts_from : ℕ → List Account → List ℕ

@@ -1,0 +1,501 @@
+-- Which orders are accepted for each of several readers: by the room that there is.
+use Rattle.std.proofs.Common.{◌≡◌, ◌≤◌, ◌+◌, ◌-◌, ◌&&◌, ℕ, zero, suc, arith, Bool, true, false, ◌==◌, if◌then◌else◌, ltb, All, List, [], ◌∷◌, ◌++◌, length, Option, Some, None, inl, inr, refl, sym, subst, ap, ◌∙◌}
+use Rattle.std.proofs.lemmas.Bool.{eq-eqb, le-leb, lt-ltb}
+use Rattle.std.proofs.lemmas.Bool.Decides.{leb_tells}
+use Rattle.std.proofs.lemmas.List.{length-append}
+use Rattle.std.proofs.lemmas.Option.{slice_get-map}
+use Rattle.std.specs.Prelude.{nat_le, option_map, slice_get, slice_set}
+use Rattle.std.specs.Option.{option_map_or}
+use Rattle.osdp_frame.specs.Packet.{Packet}
+use Rattle.osdp_msg.specs.declared.command.Command.{Command}
+use Rattle.osdp_msg.specs.declared.event.Event.{Event}
+use Rattle.osdp_controller.specs.Hearing.{comset_of}
+use Rattle.osdp_controller.specs.Machine as controllers
+use Rattle.osdp_controller.specs.declared.fault.ControllerFault.{ControllerFault}
+use Rattle.osdp_controller.specs.declared.fault.ControllerFault.TheVariants.{Full}
+use Rattle.osdp_controller.specs.declared.report.Report.{Report}
+use Rattle.osdp_reader.specs.Table as reader
+use Rattle.osdp_reader.specs.declared.handler.Answer.{Answer}
+use Rattle.osdp_bus.specs.Buses.{BusState, device_of}
+use Rattle.osdp_bus.specs.Machine.{after_submit_at, bus_fault, device_submits, is_comset_refused, submit_refusal_at, submit_refusal_of}
+use Rattle.osdp_bus.specs.declared.config.BusConfig.{BusConfig}
+use Rattle.osdp_bus.specs.declared.device.Device.{Device}
+use Rattle.osdp_bus.specs.declared.fault.BusFault.{BusFault}
+use Rattle.osdp_bus.specs.declared.fault.BusFault.TheVariants.{AddressTaken}
+use Rattle.osdp_link_laws.proofs.Lines.{each_of}
+use Rattle.osdp_link_laws.proofs.Stages.{Each}
+use Rattle.osdp_sim.specs.Account.{Account}
+use Rattle.osdp_sim.specs.Line.{handed, left, packets_in}
+use Rattle.osdp_sim.specs.Steps.{moment_after}
+use Rattle.osdp_sim.specs.declared.step.SimStep.{SimStep}
+use Rattle.osdp_sim.specs.declared.step.SimStep.TheVariants.{Issue, Queue, Busy, Wait, ToReader, ToController, Reopen}
+use Rattle.osdp_sim_bus.specs.Runs.{run, steps_done}
+use Rattle.osdp_sim_bus.specs.State.{Given, LineState, Site, begun_device, new_site, set_up}
+use Rattle.osdp_sim_bus.specs.Steps.{after_step, all_hear, all_hear_each, changed_site, hears_run, is_there, issued, reopened, site_begins, site_hears, site_is_busy, site_is_told, site_issues, site_queues, site_queues_unless, told, waited}
+use Rattle.osdp_sim_laws.specs.Accepted.{but_poll, commands_for, events_for, if_named}
+use Rattle.osdp_sim_laws.proofs.Accepting.{Accepts, accepted, counts, none_accepted, one_accepted, one_less, one_refused, outcome_few, submit_is}
+use Rattle.osdp_sim_laws.proofs.Accounts.{report_leaves}
+use Rattle.osdp_sim_bus_laws.specs.Accepted.{AcceptsFor, EachAccepts, IsNoComset}
+use Rattle.osdp_sim_bus_laws.proofs.Places.{StaysAt, get_changed, get_set, other_changed, stays_all, stays_changed, stays_each, stays_then, within}
+use Rattle.osdp_sim_bus_laws.proofs.Rows.{answers, told_by}
+use Rattle.osdp_sim_bus_laws.proofs.Waiting.{Keeps, keeps_all, keeps_begin, keeps_hears, keeps_other, keeps_tick}
+
+module _ {H : Type 0} (answer_of : H → Command → Answer) (after : H → Command → H) where
+  -- ---- what nothing but an order or an event changes
+
+  -- of a site
+  record IsIdle (R : Site H → Site H → Type 0) : Type 0 where
+    same : (u : Site H) → R u u
+    both : (u v w : Site H) → R u v → R v w → R u w
+    hears : (p : Packet) (u : Site H) → R u (site_hears answer_of after p u)
+    told : (r : Report) (u : Site H) → R u (site_is_told r u)
+    busy : (busy : Bool) (u : Site H) → R u (site_is_busy busy u)
+    begins : (u : Site H) → R u (site_begins u)
+
+  -- .. as the commands issued to it
+  abbrev SameIssued : Site H → Site H → Type 0
+  SameIssued u v = v.account.issued ≡ u.account.issued
+
+  issued_idle : IsIdle SameIssued
+  issued_idle = record {
+    same = λ u. refl;
+    both = λ u v w one more. more ∙ one;
+    hears = λ p u. refl;
+    told = λ r u. (report_leaves (Some r) u.account).0;
+    busy = λ busy u. refl;
+    begins = λ u. refl;
+  }
+
+  -- .. or its events: no more wait, and none is queued
+  record NoneQueued (u v : Site H) : Type 0 where
+    waiting : length v.reader.queue.events ≤ length u.reader.queue.events
+    room : v.reader.queue.capacity ≡ u.reader.queue.capacity
+    queued : v.account.queued ≡ u.account.queued
+
+  events_idle : IsIdle NoneQueued
+  events_idle = record {
+    same = λ u. record { waiting = omega arith; room = refl; queued = refl };
+    both = λ u v w one more. record { waiting = omega (arith, one.waiting, more.waiting); room = more.room ∙ one.room; queued = more.queued ∙ one.queued };
+    hears = λ p u.
+        let few = outcome_few answer_of after (reader.kind_of u.reader p) u.reader p in
+        record { waiting = few.events; room = few.capacity; queued = refl };
+    told = λ r u. record { waiting = omega arith; room = refl; queued = (report_leaves (Some r) u.account).1 };
+    busy = λ busy u. record { waiting = omega arith; room = refl; queued = refl };
+    begins = λ u. record { waiting = omega arith; room = refl; queued = refl };
+  }
+
+  -- the step is for no reader's queue
+  abbrev IsNoOrder : SimStep → Type 0
+  IsNoOrder (Issue number command) = ⊥
+  IsNoOrder (Queue number event) = ⊥
+  IsNoOrder _ = Unit {0}
+
+  module _ (R : Site H → Site H → Type 0) (idle : IsIdle R) (k : ℕ) where
+    where_sites : (there : Bool) (s t : LineState H) → StaysAt R k s.sites t.sites → StaysAt R k s.sites (if there then t else s).sites
+    where_sites true s t is = is
+    where_sites false s t is = stays_all R idle.same k s.sites
+
+    told_sites : (o : Option (ℕ × Report)) (s : LineState H) → StaysAt R k s.sites (told o s).sites
+    told_sites None s = stays_all R idle.same k s.sites
+    told_sites (Some (entry, r)) s = stays_changed R idle.same k entry (site_is_told r) s.sites (idle.told r)
+
+    heard_sites : (packets : List Packet) (s : LineState H) → StaysAt R k s.sites (all_hear_each answer_of after packets s).sites
+    heard_sites [] s = stays_all R idle.same k s.sites
+    heard_sites (p ∷ packets) s =
+        let t = all_hear answer_of after p s in
+        stays_then R idle.both k s.sites t.sites (all_hear_each answer_of after packets t).sites
+        (stays_each R idle.same k (site_hears answer_of after p) s.sites (idle.hears p)) (heard_sites packets t)
+
+    idle_sites : (step : SimStep) (s : LineState H) → IsNoOrder step → StaysAt R k s.sites (after_step answer_of after step s).sites
+    idle_sites (Issue number command) s idles = absurd idles
+    idle_sites (Queue number event) s idles = absurd idles
+    idle_sites (Busy number busy) s idles =
+        where_sites (is_there number s) s (record s { sites = changed_site (number - 1) (site_is_busy busy) s.sites })
+        (stays_changed R idle.same k (number - 1) (site_is_busy busy) s.sites (idle.busy busy))
+    idle_sites (Wait wait) s idles =
+        let t = waited (moment_after wait s.clock) s in
+        told_sites t.bus.devices.report (record t { bus = record t.bus { devices = record t.bus.devices { report = None } } })
+    idle_sites (ToReader move) s idles =
+        heard_sites (packets_in (handed move s.to_readers)) (record s { to_readers = left move s.to_readers })
+    idle_sites (ToController move) s idles =
+        let t = record s { bus = hears_run (handed move s.to_bus) s.clock s.bus; to_bus = left move s.to_bus } in
+        told_sites t.bus.devices.report (record t { bus = record t.bus { devices = record t.bus.devices { report = None } } })
+    idle_sites (Reopen number) s idles =
+        where_sites (is_there number s) s (reopened (number - 1) s)
+        (stays_changed R idle.same k (number - 1) site_begins s.sites idle.begins)
+
+  -- of a device
+  where_device : (k : ℕ) (there : Bool) (s t : LineState H) → Keeps k s.bus.devices.entries t.bus.devices.entries
+      → Keeps k s.bus.devices.entries (if there then t else s).bus.devices.entries
+  where_device k true s t is = is
+  where_device k false s t is = keeps_all k s.bus.devices.entries
+
+  told_device : (k : ℕ) (o : Option (ℕ × Report)) (s : LineState H) (ds : List Device) → Keeps k ds s.bus.devices.entries
+      → Keeps k ds (told o s).bus.devices.entries
+  told_device k None s ds is = is
+  told_device k (Some (entry, r)) s ds is = is
+
+  heard_device : (k : ℕ) (packets : List Packet) (s : LineState H)
+      → Keeps k s.bus.devices.entries (all_hear_each answer_of after packets s).bus.devices.entries
+  heard_device k [] s = keeps_all k s.bus.devices.entries
+  heard_device k (p ∷ packets) s = heard_device k packets (all_hear answer_of after p s)
+
+  idle_device : (k : ℕ) (step : SimStep) (s : LineState H) → IsNoOrder step
+      → Keeps k s.bus.devices.entries (after_step answer_of after step s).bus.devices.entries
+  idle_device k (Issue number command) s idles = absurd idles
+  idle_device k (Queue number event) s idles = absurd idles
+  idle_device k (Busy number busy) s idles =
+      where_device k (is_there number s) s (record s { sites = changed_site (number - 1) (site_is_busy busy) s.sites }) (keeps_all k s.bus.devices.entries)
+  idle_device k (Wait wait) s idles =
+      let t = waited (moment_after wait s.clock) s in
+      told_device k t.bus.devices.report (record t { bus = record t.bus { devices = record t.bus.devices { report = None } } }) s.bus.devices.entries
+      (keeps_tick k (moment_after wait s.clock) s.bus)
+  idle_device k (ToReader move) s idles =
+      heard_device k (packets_in (handed move s.to_readers)) (record s { to_readers = left move s.to_readers })
+  idle_device k (ToController move) s idles =
+      let t = record s { bus = hears_run (handed move s.to_bus) s.clock s.bus; to_bus = left move s.to_bus } in
+      told_device k t.bus.devices.report (record t { bus = record t.bus { devices = record t.bus.devices { report = None } } }) s.bus.devices.entries
+      (keeps_hears k (handed move s.to_bus) s.clock s.bus)
+  idle_device k (Reopen number) s idles =
+      where_device k (is_there number s) s (reopened (number - 1) s) (keeps_begin k (number - 1) s.clock s.bus)
+
+  -- ---- an order for another reader, or an event
+
+  there_is : (k : ℕ) (u : Site H) (s : LineState H) → slice_get s.sites k ≡ Some u → is_there (suc k) s ≡ true
+  there_is k u s at =
+      let few = within k u s.sites at in
+      is_both (nat_le 1 (suc k)) (nat_le (suc k) (length s.sites)) (le-leb 1 (suc k) (omega arith)) (le-leb (suc k) (length s.sites) (omega (arith, few)))
+    where
+      is_both : (a b : Bool) → a ≡ true → b ≡ true → (a && b) ≡ true
+      is_both true true first last = refl
+      is_both true false first last = absurd cc
+      is_both false b first last = absurd cc
+
+  other_issued : (k j : ℕ) (fault : Option BusFault) (c : Command) (s : LineState H) → (k ≡ j → ⊥)
+      → Keeps k s.bus.devices.entries (issued fault j c s).bus.devices.entries × StaysAt SameIssued k s.sites (issued fault j c s).sites
+  other_issued k j (Some fault) c s other = (keeps_all k s.bus.devices.entries, stays_all SameIssued issued_idle.same k s.sites)
+  other_issued k j None c s other =
+      (keeps_other k j c s.bus other, other_changed SameIssued issued_idle.same k j (site_issues c) s.sites other)
+
+  other_order : (k number : ℕ) (c : Command) (s : LineState H) → (number ≡ suc k → ⊥)
+      → Keeps k s.bus.devices.entries (after_step answer_of after (Issue number c) s).bus.devices.entries
+      × StaysAt SameIssued k s.sites (after_step answer_of after (Issue number c) s).sites
+  other_order k zero c s other = (keeps_all k s.bus.devices.entries, stays_all SameIssued issued_idle.same k s.sites)
+  other_order k (suc j) c s other =
+      let fault = submit_refusal_at (suc j - 1) c s.bus in
+      let next = issued fault (suc j - 1) c s in
+      let both = other_issued k (suc j - 1) fault c s (λ e. other (omega (arith, e))) in
+      (where_device k (is_there (suc j) s) s next both.0, where_sites SameIssued issued_idle k (is_there (suc j) s) s next both.1)
+
+  queued_same : (full : Bool) (e : Event) (u : Site H) → SameIssued u (site_queues_unless full e u)
+  queued_same true e u = refl
+  queued_same false e u = refl
+
+  event_step : (k number : ℕ) (e : Event) (s : LineState H)
+      → Keeps k s.bus.devices.entries (after_step answer_of after (Queue number e) s).bus.devices.entries
+      × StaysAt SameIssued k s.sites (after_step answer_of after (Queue number e) s).sites
+  event_step k number e s =
+      let next = record s { sites = changed_site (number - 1) (site_queues e) s.sites } in (
+        where_device k (is_there number s) s next (keeps_all k s.bus.devices.entries),
+        where_sites SameIssued issued_idle k (is_there number s) s next
+            (stays_changed SameIssued issued_idle.same k (number - 1) (site_queues e) s.sites
+            (λ u. queued_same (length u.reader.queue.events == u.reader.queue.capacity) e u)),
+      )
+
+  -- ---- commands
+
+  -- in the end the site at the place has these of the commands
+  pub record AcceptsIssued (room k : ℕ) (all before : List Command) (s : LineState H) : Type 0 where
+    pub site : Site H
+    pub there : slice_get s.sites k ≡ Some site
+    pub accepts : Accepts room all before site.account.issued
+
+  -- so from each state that these steps are taken from
+  abbrev RestAccepts : ℕ → List SimStep → Type 0
+  RestAccepts k list = (n : ℕ) (s : LineState H) (d : Device) (u : Site H) → device_of k s.bus ≡ Some d → slice_get s.sites k ≡ Some u
+      → length d.controller.waiting ≤ n → Each IsNoComset (commands_for (suc k) list)
+      → AcceptsIssued (d.controller.capacity - n) k (commands_for (suc k) list) u.account.issued (run answer_of after list s)
+
+  carried : (k : ℕ) (list : List SimStep) → RestAccepts k list → (n : ℕ) (s t : LineState H) (d : Device) (u : Site H) → device_of k s.bus ≡ Some d
+      → slice_get s.sites k ≡ Some u → length d.controller.waiting ≤ n → Each IsNoComset (commands_for (suc k) list)
+      → Keeps k s.bus.devices.entries t.bus.devices.entries → StaysAt SameIssued k s.sites t.sites
+      → AcceptsIssued (d.controller.capacity - n) k (commands_for (suc k) list) u.account.issued (run answer_of after list t)
+  carried k list rest n s t d u at sited few none keeps stays =
+      let e = keeps d at in
+      let v = stays u sited in
+      let last = rest n t e.0 v.0 e.1 v.1 (omega (arith, few, e.2.waiting)) none in
+      record {
+        site = last.site;
+        there = last.there;
+        accepts = subst (λ m. Accepts (m - n) (commands_for (suc k) list) u.account.issued last.site.account.issued) e.2.room
+            (subst (λ cs. Accepts (e.0.controller.capacity - n) (commands_for (suc k) list) cs last.site.account.issued) v.2 last.accepts);
+      }
+
+  refused_still : (b : Bool) (o : Option BusFault) → (o ≡ None → ⊥) → (if b then Some AddressTaken else o) ≡ None → ⊥
+  refused_still true o refused is = absurd cc
+  refused_still false o refused is = refused is
+
+  told_by_bus : (o : Option ControllerFault) → (o ≡ None → ⊥) → option_map bus_fault o ≡ None → ⊥
+  told_by_bus None refused is = refused refl
+  told_by_bus (Some fault) refused is = absurd cc
+
+  module _ (k : ℕ) (c : Command) (list : List SimStep) (rest : RestAccepts k list) (n : ℕ) (s : LineState H) (d : Device) (u : Site H)
+      (at : device_of k s.bus ≡ Some d) (sited : slice_get s.sites k ≡ Some u) (few : length d.controller.waiting ≤ n) where
+    abbrev Goal : List Command → Option BusFault → Type 0
+    Goal cs fault = AcceptsIssued (d.controller.capacity - n) k (cs ++ commands_for (suc k) list) u.account.issued (run answer_of after list (issued fault k c s))
+
+    device_there : slice_get (after_submit_at k c s.bus).devices.entries k ≡ Some (device_submits c d)
+    device_there =
+        ap (λ o. slice_get (option_map_or (λ x. record s.bus { devices = record s.bus.devices { entries = slice_set s.bus.devices.entries k (device_submits c x) } }) o s.bus).devices.entries k) at
+        ∙ get_set k d (device_submits c d) s.bus.devices.entries at
+
+    put : Each IsNoComset (commands_for (suc k) list) → Goal (c ∷ []) None
+    put none =
+        let next = issued None k c s in
+        let last = rest (n + 1) next (device_submits c d) (site_issues c u) device_there (get_changed k (site_issues c) u s.sites sited)
+        (omega (arith, few, length-append d.controller.waiting (c ∷ []))) none in
+        record {
+          site = last.site;
+          there = last.there;
+          accepts = one_accepted (d.controller.capacity - n) c (commands_for (suc k) list) u.account.issued last.site.account.issued
+              (subst (λ m. Accepts m (commands_for (suc k) list) (u.account.issued ++ c ∷ []) last.site.account.issued) (one_less d.controller.capacity n) last.accepts);
+        }
+
+    not_put : (fault : BusFault) → d.controller.capacity ≤ length d.controller.waiting → Each IsNoComset (commands_for (suc k) list) → Goal (c ∷ []) (Some fault)
+    not_put fault full none =
+        let last = rest n s d u at sited few none in
+        record {
+          site = last.site;
+          there = last.there;
+          accepts = one_refused (d.controller.capacity - n) c (commands_for (suc k) list) u.account.issued last.site.account.issued
+              (omega (arith, few, full)) last.accepts;
+        }
+
+    poll : (fault : Option BusFault) → (fault ≡ None → ⊥) → Each IsNoComset (commands_for (suc k) list) → Goal [] fault
+    poll None refused none = absurd (refused refl)
+    poll (Some fault) refused none = rest n s d u at sited few none
+
+    by_room : (room : Bool) → (room ≡ false → d.controller.capacity ≤ length d.controller.waiting) → Each IsNoComset (commands_for (suc k) list)
+        → Goal (c ∷ []) (option_map bus_fault (if room then None else Some Full))
+    by_room true full none = put none
+    by_room false full none = not_put (bus_fault Full) (full refl) none
+
+    is_full : ltb (length d.controller.waiting) d.controller.capacity ≡ false → d.controller.capacity ≤ length d.controller.waiting
+    is_full is = elim (leb_tells d.controller.capacity (length d.controller.waiting)) [
+      | inl full ↦ full.1
+      | inr room ↦ absurd (let e = sym is ∙ lt-ltb (length d.controller.waiting) d.controller.capacity (omega (arith, room.1)) in cc)
+    ]
+
+    by_command : Each IsNoComset (but_poll c ++ commands_for (suc k) list) → Goal (but_poll c) (submit_refusal_of k c (Some d) s.bus)
+    by_command none = elim (submit_is c d.controller) [
+      | inl (refused, no_order) ↦ subst (λ cs. Goal cs (submit_refusal_of k c (Some d) s.bus)) (sym no_order)
+          (poll (submit_refusal_of k c (Some d) s.bus)
+          (refused_still (is_comset_refused (comset_of c) k d s.bus) (option_map bus_fault (controllers.submit_refusal c d.controller))
+          (told_by_bus (controllers.submit_refusal c d.controller) refused))
+          (subst (λ cs. Each IsNoComset (cs ++ commands_for (suc k) list)) no_order none))
+      | inr (is, one) ↦
+          let plain : Each IsNoComset (c ∷ commands_for (suc k) list) = subst (λ cs. Each IsNoComset (cs ++ commands_for (suc k) list)) one none in
+          let fault : submit_refusal_of k c (Some d) s.bus ≡ option_map bus_fault (if ltb (length d.controller.waiting) d.controller.capacity then None else Some Full) =
+          ap (λ o. if is_comset_refused o k d s.bus then Some AddressTaken else option_map bus_fault (controllers.submit_refusal c d.controller)) plain.0
+          ∙ ap (option_map bus_fault) is in
+          subst (λ cs. Goal cs (submit_refusal_of k c (Some d) s.bus)) (sym one)
+          (subst (Goal (c ∷ [])) (sym fault) (by_room (ltb (length d.controller.waiting) d.controller.capacity) is_full plain.1))
+    ]
+
+    order_here : Each IsNoComset (but_poll c ++ commands_for (suc k) list)
+        → AcceptsIssued (d.controller.capacity - n) k (but_poll c ++ commands_for (suc k) list) u.account.issued
+        (run answer_of after list (after_step answer_of after (Issue (suc k) c) s))
+    order_here none =
+        let less : suc k - 1 ≡ k = omega arith in
+        subst (λ j. AcceptsIssued (d.controller.capacity - n) k (but_poll c ++ commands_for (suc k) list) u.account.issued
+        (run answer_of after list (if is_there (suc k) s then issued (submit_refusal_at j c s.bus) j c s else s))) (sym less)
+        (subst (λ b. AcceptsIssued (d.controller.capacity - n) k (but_poll c ++ commands_for (suc k) list) u.account.issued
+        (run answer_of after list (if b then issued (submit_refusal_at k c s.bus) k c s else s))) (sym (there_is k u s sited))
+        (subst (λ o. Goal (but_poll c) (submit_refusal_of k c o s.bus)) (sym at) (by_command none)))
+
+  issue_accepts : (k number : ℕ) (c : Command) (list : List SimStep) → RestAccepts k list → RestAccepts k (Issue number c ∷ list)
+  issue_accepts k number c list rest n s d u at sited few none = by_number (number == suc k) refl none
+    where
+      by_number : (named : Bool) → (number == suc k) ≡ named → Each IsNoComset ((if named then but_poll c else []) ++ commands_for (suc k) list)
+          → AcceptsIssued (d.controller.capacity - n) k ((if named then but_poll c else []) ++ commands_for (suc k) list) u.account.issued
+          (run answer_of after list (after_step answer_of after (Issue number c) s))
+      by_number true is none =
+          subst (λ i. AcceptsIssued (d.controller.capacity - n) k (but_poll c ++ commands_for (suc k) list) u.account.issued
+          (run answer_of after list (after_step answer_of after (Issue i c) s))) (sym (counts number (suc k) is))
+          (order_here k c list rest n s d u at sited few none)
+      by_number false is none =
+          let other = other_order k number c s (λ e. let named = eq-eqb number (suc k) e in absurd (let both = sym is ∙ named in cc)) in
+          carried k list rest n s (after_step answer_of after (Issue number c) s) d u at sited few none other.0 other.1
+
+  pub accepts_commands : (k : ℕ) (list : List SimStep) → RestAccepts k list
+  accepts_commands k [] n s d u at sited few none =
+      record { site = u; there = sited; accepts = none_accepted (d.controller.capacity - n) u.account.issued }
+  accepts_commands k (Issue number c ∷ list) n s d u at sited few none =
+      issue_accepts k number c list (accepts_commands k list) n s d u at sited few none
+  accepts_commands k (Queue number e ∷ list) n s d u at sited few none =
+      let both = event_step k number e s in
+      carried k list (accepts_commands k list) n s (after_step answer_of after (Queue number e) s) d u at sited few none both.0 both.1
+  accepts_commands k (Busy number busy ∷ list) n s d u at sited few none =
+      carried k list (accepts_commands k list) n s (after_step answer_of after (Busy number busy) s) d u at sited few none
+      (idle_device k (Busy number busy) s tt) (idle_sites SameIssued issued_idle k (Busy number busy) s tt)
+  accepts_commands k (Wait wait ∷ list) n s d u at sited few none =
+      carried k list (accepts_commands k list) n s (after_step answer_of after (Wait wait) s) d u at sited few none
+      (idle_device k (Wait wait) s tt) (idle_sites SameIssued issued_idle k (Wait wait) s tt)
+  accepts_commands k (ToReader move ∷ list) n s d u at sited few none =
+      carried k list (accepts_commands k list) n s (after_step answer_of after (ToReader move) s) d u at sited few none
+      (idle_device k (ToReader move) s tt) (idle_sites SameIssued issued_idle k (ToReader move) s tt)
+  accepts_commands k (ToController move ∷ list) n s d u at sited few none =
+      carried k list (accepts_commands k list) n s (after_step answer_of after (ToController move) s) d u at sited few none
+      (idle_device k (ToController move) s tt) (idle_sites SameIssued issued_idle k (ToController move) s tt)
+  accepts_commands k (Reopen number ∷ list) n s d u at sited few none =
+      carried k list (accepts_commands k list) n s (after_step answer_of after (Reopen number) s) d u at sited few none
+      (idle_device k (Reopen number) s tt) (idle_sites SameIssued issued_idle k (Reopen number) s tt)
+
+  -- ---- events
+
+  pub record AcceptsQueued (room k : ℕ) (all before : List Event) (s : LineState H) : Type 0 where
+    pub site : Site H
+    pub there : slice_get s.sites k ≡ Some site
+    pub accepts : Accepts room all before site.account.queued
+
+  abbrev RestQueues : ℕ → List SimStep → Type 0
+  RestQueues k list = (n : ℕ) (s : LineState H) (u : Site H) → slice_get s.sites k ≡ Some u → length u.reader.queue.events ≤ n
+      → AcceptsQueued (u.reader.queue.capacity - n) k (events_for (suc k) list) u.account.queued (run answer_of after list s)
+
+  kept : (k : ℕ) (list : List SimStep) → RestQueues k list → (n : ℕ) (s t : LineState H) (u : Site H) → slice_get s.sites k ≡ Some u
+      → length u.reader.queue.events ≤ n → StaysAt NoneQueued k s.sites t.sites
+      → AcceptsQueued (u.reader.queue.capacity - n) k (events_for (suc k) list) u.account.queued (run answer_of after list t)
+  kept k list rest n s t u sited few stays =
+      let v = stays u sited in
+      let last = rest n t v.0 v.1 (omega (arith, few, v.2.waiting)) in
+      record {
+        site = last.site;
+        there = last.there;
+        accepts = subst (λ m. Accepts (m - n) (events_for (suc k) list) u.account.queued last.site.account.queued) v.2.room
+            (subst (λ es. Accepts (v.0.reader.queue.capacity - n) (events_for (suc k) list) es last.site.account.queued) v.2.queued last.accepts);
+      }
+
+  order_leaves : (k number : ℕ) (c : Command) (s : LineState H) → StaysAt NoneQueued k s.sites (after_step answer_of after (Issue number c) s).sites
+  order_leaves k number c s =
+      let fault = submit_refusal_at (number - 1) c s.bus in
+      where_sites NoneQueued events_idle k (is_there number s) s (issued fault (number - 1) c s) (by_fault fault)
+    where
+      by_fault : (fault : Option BusFault) → StaysAt NoneQueued k s.sites (issued fault (number - 1) c s).sites
+      by_fault (Some fault) = stays_all NoneQueued events_idle.same k s.sites
+      by_fault None = stays_changed NoneQueued events_idle.same k (number - 1) (site_issues c) s.sites (λ u. record { waiting = omega arith; room = refl; queued = refl })
+
+  other_event : (k number : ℕ) (e : Event) (s : LineState H) → (number ≡ suc k → ⊥)
+      → StaysAt NoneQueued k s.sites (after_step answer_of after (Queue number e) s).sites
+  other_event k zero e s other = stays_all NoneQueued events_idle.same k s.sites
+  other_event k (suc j) e s other =
+      where_sites NoneQueued events_idle k (is_there (suc j) s) s (record s { sites = changed_site (suc j - 1) (site_queues e) s.sites })
+      (other_changed NoneQueued events_idle.same k (suc j - 1) (site_queues e) s.sites (λ is. other (omega (arith, is))))
+
+  module _ (k : ℕ) (e : Event) (list : List SimStep) (rest : RestQueues k list) (n : ℕ) (s : LineState H) (u : Site H)
+      (sited : slice_get s.sites k ≡ Some u) (few : length u.reader.queue.events ≤ n) where
+    abbrev queued_to : (Site H → Site H) → LineState H
+    queued_to change = record s { sites = changed_site k change s.sites }
+
+    by_full : (full : Bool) → (full ≡ true → length u.reader.queue.events ≡ u.reader.queue.capacity) → (t : LineState H)
+        → slice_get t.sites k ≡ Some (site_queues_unless full e u)
+        → AcceptsQueued (u.reader.queue.capacity - n) k (e ∷ events_for (suc k) list) u.account.queued (run answer_of after list t)
+    by_full true is t there =
+        let last = rest n t u there few in
+        record {
+          site = last.site;
+          there = last.there;
+          accepts = one_refused (u.reader.queue.capacity - n) e (events_for (suc k) list) u.account.queued last.site.account.queued
+              (omega (arith, few, is refl)) last.accepts;
+        }
+    by_full false is t there =
+        let last = rest (n + 1) t (site_queues_unless false e u) there (omega (arith, few, length-append u.reader.queue.events (e ∷ []))) in
+        record {
+          site = last.site;
+          there = last.there;
+          accepts = one_accepted (u.reader.queue.capacity - n) e (events_for (suc k) list) u.account.queued last.site.account.queued
+              (subst (λ m. Accepts m (events_for (suc k) list) (u.account.queued ++ e ∷ []) last.site.account.queued) (one_less u.reader.queue.capacity n) last.accepts);
+        }
+
+    event_here : AcceptsQueued (u.reader.queue.capacity - n) k (e ∷ events_for (suc k) list) u.account.queued
+        (run answer_of after list (after_step answer_of after (Queue (suc k) e) s))
+    event_here =
+        let less : suc k - 1 ≡ k = omega arith in
+        subst (λ j. AcceptsQueued (u.reader.queue.capacity - n) k (e ∷ events_for (suc k) list) u.account.queued
+        (run answer_of after list (if is_there (suc k) s then record s { sites = changed_site j (site_queues e) s.sites } else s))) (sym less)
+        (subst (λ b. AcceptsQueued (u.reader.queue.capacity - n) k (e ∷ events_for (suc k) list) u.account.queued
+        (run answer_of after list (if b then queued_to (site_queues e) else s))) (sym (there_is k u s sited))
+        (by_full (length u.reader.queue.events == u.reader.queue.capacity) (counts (length u.reader.queue.events) u.reader.queue.capacity)
+        (queued_to (site_queues e)) (get_changed k (site_queues e) u s.sites sited)))
+
+  queue_accepts : (k number : ℕ) (e : Event) (list : List SimStep) → RestQueues k list → RestQueues k (Queue number e ∷ list)
+  queue_accepts k number e list rest n s u sited few = by_number (number == suc k) refl
+    where
+      by_number : (named : Bool) → (number == suc k) ≡ named
+          → AcceptsQueued (u.reader.queue.capacity - n) k ((if named then e ∷ [] else []) ++ events_for (suc k) list) u.account.queued
+          (run answer_of after list (after_step answer_of after (Queue number e) s))
+      by_number true is =
+          subst (λ i. AcceptsQueued (u.reader.queue.capacity - n) k (e ∷ events_for (suc k) list) u.account.queued
+          (run answer_of after list (after_step answer_of after (Queue i e) s))) (sym (counts number (suc k) is))
+          (event_here k e list rest n s u sited few)
+      by_number false is =
+          kept k list rest n s (after_step answer_of after (Queue number e) s) u sited few
+          (other_event k number e s (λ same. let named = eq-eqb number (suc k) same in absurd (let both = sym is ∙ named in cc)))
+
+  pub accepts_events : (k : ℕ) (list : List SimStep) → RestQueues k list
+  accepts_events k [] n s u sited few =
+      record { site = u; there = sited; accepts = none_accepted (u.reader.queue.capacity - n) u.account.queued }
+  accepts_events k (Issue number c ∷ list) n s u sited few =
+      kept k list (accepts_events k list) n s (after_step answer_of after (Issue number c) s) u sited few (order_leaves k number c s)
+  accepts_events k (Queue number e ∷ list) n s u sited few = queue_accepts k number e list (accepts_events k list) n s u sited few
+  accepts_events k (Busy number busy ∷ list) n s u sited few =
+      kept k list (accepts_events k list) n s (after_step answer_of after (Busy number busy) s) u sited few (idle_sites NoneQueued events_idle k (Busy number busy) s tt)
+  accepts_events k (Wait wait ∷ list) n s u sited few =
+      kept k list (accepts_events k list) n s (after_step answer_of after (Wait wait) s) u sited few (idle_sites NoneQueued events_idle k (Wait wait) s tt)
+  accepts_events k (ToReader move ∷ list) n s u sited few =
+      kept k list (accepts_events k list) n s (after_step answer_of after (ToReader move) s) u sited few (idle_sites NoneQueued events_idle k (ToReader move) s tt)
+  accepts_events k (ToController move ∷ list) n s u sited few =
+      kept k list (accepts_events k list) n s (after_step answer_of after (ToController move) s) u sited few (idle_sites NoneQueued events_idle k (ToController move) s tt)
+  accepts_events k (Reopen number ∷ list) n s u sited few =
+      kept k list (accepts_events k list) n s (after_step answer_of after (Reopen number) s) u sited few (idle_sites NoneQueued events_idle k (Reopen number) s tt)
+
+  -- ---- from the set-up on
+
+  module _ (config : BusConfig) (readers : List (Given H)) (list : List SimStep) (k : ℕ) (given : Given H) (at : slice_get readers k ≡ Some given) where
+    device_at : device_of k (set_up config readers).bus ≡ Some (begun_device config given)
+    device_at = slice_get-map (begun_device config) readers k ∙ ap (option_map (begun_device config)) at
+
+    site_at : slice_get (set_up config readers).sites k ≡ Some (new_site given)
+    site_at = slice_get-map new_site readers k ∙ ap (option_map new_site) at
+
+    all_accepted : (a : Account) × (slice_get (told_by answer_of after config readers list) k ≡ Some a) × AcceptsFor config.capacity given.1 (suc k) list a
+    all_accepted =
+        let s = set_up config readers in
+        let final = run answer_of after list s in
+        let queued = accepts_events k list 0 s (new_site given) site_at (omega arith) in
+        let a = queued.site.account in (
+          a,
+          slice_get-map (λ (u : Site H). u.account) final.sites k ∙ ap (option_map (λ (u : Site H). u.account)) queued.there,
+          record {
+            issued = λ plain.
+                let orders = commands_for (suc k) list in
+                let issued = accepts_commands k list 0 s (begun_device config given) (new_site given) device_at site_at (omega arith)
+                (each_of IsNoComset orders plain) in
+                let one : issued.site ≡ queued.site = same_site (sym issued.there ∙ queued.there) in
+                accepted config.capacity orders a.issued
+                (subst (λ (v : Site H). Accepts config.capacity orders [] v.account.issued) one
+                (subst (λ n. Accepts n orders [] issued.site.account.issued) (none_less config.capacity) issued.accepts));
+            queued = accepted given.1 (events_for (suc k) list) a.queued
+                (subst (λ n. Accepts n (events_for (suc k) list) [] a.queued) (none_less given.1) queued.accepts);
+          },
+        )
+      where
+        same_site : {u v : Site H} → Some u ≡ Some v → u ≡ v
+        same_site is = cc
+
+        none_less : (n : ℕ) → n - 0 ≡ n
+        none_less n = omega arith
+
+  pub each_accepts : EachAccepts answer_of after
+  each_accepts config readers steps answer is was k given at =
+      answers answer_of after (λ told. (a : Account) × (slice_get told k ≡ Some a) × AcceptsFor config.capacity given.1 (suc k) (steps_done steps answer) a)
+      config readers steps answer is was (λ taken. all_accepted config readers (steps_done steps answer) k given at)
