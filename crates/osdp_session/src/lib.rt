@@ -12,10 +12,9 @@ ghost use Rattle.std.specs.Prelude.{◌<◌, ◌^◌, All, length};
 
 mod several_readers;
 
-pub use several_readers::{each_holds_in_sessions, run_bus, run_bus_schedule};
-
 use osdp_reader::Handler;
 use osdp_sim::{Account, Fault, Schedule, SimConfig, SimStep};
+pub use several_readers::{each_holds_in_sessions, run_bus, run_bus_schedule};
 use std::alloc::Global;
 
 /// Runs a schedule over a line with one controller and one reader, as `osdp_sim::run_session` does, and gives the account of what happened, or
