@@ -1,6 +1,6 @@
 -- What a line is answered.
 use Rattle.std.specs.Prelude.{◌≡◌, ◌⊎◌, ℕ, ◌≤◌, List, length, IsUtf8, Option}
-use Rattle.osdp_words.specs.Word.{AllStandFor}
+use Rattle.osdp_words.specs.Word.{AllStandFor, words_in}
 use Rattle.osdp_panel_calls.specs.declared.call.PanelCall.{PanelCall}
 use Rattle.osdp_panel_calls.specs.Calls.{CallFits, call_words}
 use Rattle.osdp_panel_calls.specs.Sessions.{Called, IsDue, Session, answered, ended}

@@ -2,9 +2,9 @@
 
 ghost use Rattle.std.specs.Prelude.{IfOk, IsUtf8, MatchOption};
 ghost use Rattle.osdp_words.specs.Reading.{ReadsWords};
+ghost use Rattle.osdp_words.specs.Word.{words_in};
 ghost use Rattle.osdp_panel_calls.specs.Calls.{CallFits, call_words};
 ghost use Rattle.osdp_panel_calls.specs.Lines.{Says, SaysNothing};
-ghost use Rattle.osdp_words.specs.Word.{words_in};
 
 use crate::call::PanelCall;
 use osdp_words::all_words_in;
@@ -19,7 +19,7 @@ fn read_text(alloc: Global, text: &str) -> Result<Option<PanelCall>, AllocError>
     requires { IsUtf8 text.now }
     ensures { IfOk result (λ call. ReadsWords call_words CallFits (words_in text.now) call) }
 {
-    let words = words(alloc, text)?;
+    let words = all_words_in(alloc, text)?;
     Ok(PanelCall::parse(&words))
 }
 
