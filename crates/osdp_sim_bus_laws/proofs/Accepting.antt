@@ -1,22 +1,19 @@
 -- Which orders are accepted for each of several readers: by the room that there is.
-use Rattle.std.proofs.Common.{◌≡◌, ◌≤◌, ◌+◌, ◌-◌, ◌&&◌, ℕ, zero, suc, arith, Bool, true, false, ◌==◌, if◌then◌else◌, ltb, All, List, [], ◌∷◌, ◌++◌, length, Option, Some, None, inl, inr, refl, sym, subst, ap, ◌∙◌}
-use Rattle.std.proofs.lemmas.Bool.{eq-eqb, le-leb, lt-ltb}
+use Rattle.std.proofs.Common.{◌≡◌, ◌≤◌, ◌+◌, ◌-◌, ℕ, zero, suc, arith, Bool, true, false, ◌==◌, if◌then◌else◌, ltb, List, [], ◌∷◌, ◌++◌, length, Option, Some, None, inl, inr, refl, sym, subst, ap, ◌∙◌}
+use Rattle.std.proofs.lemmas.Bool.{eq-eqb, lt-ltb}
 use Rattle.std.proofs.lemmas.Bool.Decides.{leb_tells}
 use Rattle.std.proofs.lemmas.List.{length-append}
 use Rattle.std.proofs.lemmas.Option.{slice_get-map}
-use Rattle.std.specs.Prelude.{nat_le, option_map, slice_get, slice_set}
+use Rattle.std.specs.Prelude.{option_map, slice_get, slice_set}
 use Rattle.std.specs.Option.{option_map_or}
-use Rattle.osdp_frame.specs.Packet.{Packet}
 use Rattle.osdp_msg.specs.declared.command.Command.{Command}
 use Rattle.osdp_msg.specs.declared.event.Event.{Event}
 use Rattle.osdp_controller.specs.Hearing.{comset_of}
 use Rattle.osdp_controller.specs.Machine as controllers
 use Rattle.osdp_controller.specs.declared.fault.ControllerFault.{ControllerFault}
 use Rattle.osdp_controller.specs.declared.fault.ControllerFault.TheVariants.{Full}
-use Rattle.osdp_controller.specs.declared.report.Report.{Report}
-use Rattle.osdp_reader.specs.Table as reader
 use Rattle.osdp_reader.specs.declared.handler.Answer.{Answer}
-use Rattle.osdp_bus.specs.Buses.{BusState, device_of}
+use Rattle.osdp_bus.specs.Buses.{device_of}
 use Rattle.osdp_bus.specs.Machine.{after_submit_at, bus_fault, device_submits, is_comset_refused, submit_refusal_at, submit_refusal_of}
 use Rattle.osdp_bus.specs.declared.config.BusConfig.{BusConfig}
 use Rattle.osdp_bus.specs.declared.device.Device.{Device}
@@ -25,183 +22,20 @@ use Rattle.osdp_bus.specs.declared.fault.BusFault.TheVariants.{AddressTaken}
 use Rattle.osdp_link_laws.proofs.Lines.{each_of}
 use Rattle.osdp_link_laws.proofs.Stages.{Each}
 use Rattle.osdp_sim.specs.Account.{Account}
-use Rattle.osdp_sim.specs.Line.{handed, left, packets_in}
-use Rattle.osdp_sim.specs.Steps.{moment_after}
 use Rattle.osdp_sim.specs.declared.step.SimStep.{SimStep}
 use Rattle.osdp_sim.specs.declared.step.SimStep.TheVariants.{Issue, Queue, Busy, Wait, ToReader, ToController, Reopen}
 use Rattle.osdp_sim_bus.specs.Runs.{run, steps_done}
 use Rattle.osdp_sim_bus.specs.State.{Given, LineState, Site, begun_device, new_site, set_up}
-use Rattle.osdp_sim_bus.specs.Steps.{after_step, all_hear, all_hear_each, changed_site, hears_run, is_there, issued, reopened, site_begins, site_hears, site_is_busy, site_is_told, site_issues, site_queues, site_queues_unless, told, waited}
-use Rattle.osdp_sim_laws.specs.Accepted.{but_poll, commands_for, events_for, if_named}
-use Rattle.osdp_sim_laws.proofs.Accepting.{Accepts, accepted, counts, none_accepted, one_accepted, one_less, one_refused, outcome_few, submit_is}
-use Rattle.osdp_sim_laws.proofs.Accounts.{report_leaves}
+use Rattle.osdp_sim_bus.specs.Steps.{after_step, changed_site, is_there, issued, site_issues, site_queues, site_queues_unless}
+use Rattle.osdp_sim_laws.specs.Accepted.{IsAmong, but_poll, commands_for, events_for}
+use Rattle.osdp_sim_laws.proofs.Accepting.{Accepts, accepted, counts, none_accepted, one_accepted, one_less, one_refused, submit_is}
 use Rattle.osdp_sim_bus_laws.specs.Accepted.{AcceptsFor, EachAccepts, IsNoComset}
-use Rattle.osdp_sim_bus_laws.proofs.Places.{StaysAt, get_changed, get_set, other_changed, stays_all, stays_changed, stays_each, stays_then, within}
+use Rattle.osdp_sim_bus_laws.proofs.Places.{StaysAt, get_changed, get_set, other_changed, stays_all, stays_changed}
 use Rattle.osdp_sim_bus_laws.proofs.Rows.{answers, told_by}
-use Rattle.osdp_sim_bus_laws.proofs.Waiting.{Keeps, keeps_all, keeps_begin, keeps_hears, keeps_other, keeps_tick}
+use Rattle.osdp_sim_bus_laws.proofs.Waiting.{Keeps}
+use Rattle.osdp_sim_bus_laws.proofs.Idling.{NoneQueued, SameIssued, event_step, events_idle, idle_device, idle_sites, issued_idle, other_order, there_is, where_sites}
 
 module _ {H : Type 0} (answer_of : H → Command → Answer) (after : H → Command → H) where
-  -- ---- what nothing but an order or an event changes
-
-  -- of a site
-  record IsIdle (R : Site H → Site H → Type 0) : Type 0 where
-    same : (u : Site H) → R u u
-    both : (u v w : Site H) → R u v → R v w → R u w
-    hears : (p : Packet) (u : Site H) → R u (site_hears answer_of after p u)
-    told : (r : Report) (u : Site H) → R u (site_is_told r u)
-    busy : (busy : Bool) (u : Site H) → R u (site_is_busy busy u)
-    begins : (u : Site H) → R u (site_begins u)
-
-  -- .. as the commands issued to it
-  abbrev SameIssued : Site H → Site H → Type 0
-  SameIssued u v = v.account.issued ≡ u.account.issued
-
-  issued_idle : IsIdle SameIssued
-  issued_idle = record {
-    same = λ u. refl;
-    both = λ u v w one more. more ∙ one;
-    hears = λ p u. refl;
-    told = λ r u. (report_leaves (Some r) u.account).0;
-    busy = λ busy u. refl;
-    begins = λ u. refl;
-  }
-
-  -- .. or its events: no more wait, and none is queued
-  record NoneQueued (u v : Site H) : Type 0 where
-    waiting : length v.reader.queue.events ≤ length u.reader.queue.events
-    room : v.reader.queue.capacity ≡ u.reader.queue.capacity
-    queued : v.account.queued ≡ u.account.queued
-
-  events_idle : IsIdle NoneQueued
-  events_idle = record {
-    same = λ u. record { waiting = omega arith; room = refl; queued = refl };
-    both = λ u v w one more. record { waiting = omega (arith, one.waiting, more.waiting); room = more.room ∙ one.room; queued = more.queued ∙ one.queued };
-    hears = λ p u.
-        let few = outcome_few answer_of after (reader.kind_of u.reader p) u.reader p in
-        record { waiting = few.events; room = few.capacity; queued = refl };
-    told = λ r u. record { waiting = omega arith; room = refl; queued = (report_leaves (Some r) u.account).1 };
-    busy = λ busy u. record { waiting = omega arith; room = refl; queued = refl };
-    begins = λ u. record { waiting = omega arith; room = refl; queued = refl };
-  }
-
-  -- the step is for no reader's queue
-  abbrev IsNoOrder : SimStep → Type 0
-  IsNoOrder (Issue number command) = ⊥
-  IsNoOrder (Queue number event) = ⊥
-  IsNoOrder _ = Unit {0}
-
-  module _ (R : Site H → Site H → Type 0) (idle : IsIdle R) (k : ℕ) where
-    where_sites : (there : Bool) (s t : LineState H) → StaysAt R k s.sites t.sites → StaysAt R k s.sites (if there then t else s).sites
-    where_sites true s t is = is
-    where_sites false s t is = stays_all R idle.same k s.sites
-
-    told_sites : (o : Option (ℕ × Report)) (s : LineState H) → StaysAt R k s.sites (told o s).sites
-    told_sites None s = stays_all R idle.same k s.sites
-    told_sites (Some (entry, r)) s = stays_changed R idle.same k entry (site_is_told r) s.sites (idle.told r)
-
-    heard_sites : (packets : List Packet) (s : LineState H) → StaysAt R k s.sites (all_hear_each answer_of after packets s).sites
-    heard_sites [] s = stays_all R idle.same k s.sites
-    heard_sites (p ∷ packets) s =
-        let t = all_hear answer_of after p s in
-        stays_then R idle.both k s.sites t.sites (all_hear_each answer_of after packets t).sites
-        (stays_each R idle.same k (site_hears answer_of after p) s.sites (idle.hears p)) (heard_sites packets t)
-
-    idle_sites : (step : SimStep) (s : LineState H) → IsNoOrder step → StaysAt R k s.sites (after_step answer_of after step s).sites
-    idle_sites (Issue number command) s idles = absurd idles
-    idle_sites (Queue number event) s idles = absurd idles
-    idle_sites (Busy number busy) s idles =
-        where_sites (is_there number s) s (record s { sites = changed_site (number - 1) (site_is_busy busy) s.sites })
-        (stays_changed R idle.same k (number - 1) (site_is_busy busy) s.sites (idle.busy busy))
-    idle_sites (Wait wait) s idles =
-        let t = waited (moment_after wait s.clock) s in
-        told_sites t.bus.devices.report (record t { bus = record t.bus { devices = record t.bus.devices { report = None } } })
-    idle_sites (ToReader move) s idles =
-        heard_sites (packets_in (handed move s.to_readers)) (record s { to_readers = left move s.to_readers })
-    idle_sites (ToController move) s idles =
-        let t = record s { bus = hears_run (handed move s.to_bus) s.clock s.bus; to_bus = left move s.to_bus } in
-        told_sites t.bus.devices.report (record t { bus = record t.bus { devices = record t.bus.devices { report = None } } })
-    idle_sites (Reopen number) s idles =
-        where_sites (is_there number s) s (reopened (number - 1) s)
-        (stays_changed R idle.same k (number - 1) site_begins s.sites idle.begins)
-
-  -- of a device
-  where_device : (k : ℕ) (there : Bool) (s t : LineState H) → Keeps k s.bus.devices.entries t.bus.devices.entries
-      → Keeps k s.bus.devices.entries (if there then t else s).bus.devices.entries
-  where_device k true s t is = is
-  where_device k false s t is = keeps_all k s.bus.devices.entries
-
-  told_device : (k : ℕ) (o : Option (ℕ × Report)) (s : LineState H) (ds : List Device) → Keeps k ds s.bus.devices.entries
-      → Keeps k ds (told o s).bus.devices.entries
-  told_device k None s ds is = is
-  told_device k (Some (entry, r)) s ds is = is
-
-  heard_device : (k : ℕ) (packets : List Packet) (s : LineState H)
-      → Keeps k s.bus.devices.entries (all_hear_each answer_of after packets s).bus.devices.entries
-  heard_device k [] s = keeps_all k s.bus.devices.entries
-  heard_device k (p ∷ packets) s = heard_device k packets (all_hear answer_of after p s)
-
-  idle_device : (k : ℕ) (step : SimStep) (s : LineState H) → IsNoOrder step
-      → Keeps k s.bus.devices.entries (after_step answer_of after step s).bus.devices.entries
-  idle_device k (Issue number command) s idles = absurd idles
-  idle_device k (Queue number event) s idles = absurd idles
-  idle_device k (Busy number busy) s idles =
-      where_device k (is_there number s) s (record s { sites = changed_site (number - 1) (site_is_busy busy) s.sites }) (keeps_all k s.bus.devices.entries)
-  idle_device k (Wait wait) s idles =
-      let t = waited (moment_after wait s.clock) s in
-      told_device k t.bus.devices.report (record t { bus = record t.bus { devices = record t.bus.devices { report = None } } }) s.bus.devices.entries
-      (keeps_tick k (moment_after wait s.clock) s.bus)
-  idle_device k (ToReader move) s idles =
-      heard_device k (packets_in (handed move s.to_readers)) (record s { to_readers = left move s.to_readers })
-  idle_device k (ToController move) s idles =
-      let t = record s { bus = hears_run (handed move s.to_bus) s.clock s.bus; to_bus = left move s.to_bus } in
-      told_device k t.bus.devices.report (record t { bus = record t.bus { devices = record t.bus.devices { report = None } } }) s.bus.devices.entries
-      (keeps_hears k (handed move s.to_bus) s.clock s.bus)
-  idle_device k (Reopen number) s idles =
-      where_device k (is_there number s) s (reopened (number - 1) s) (keeps_begin k (number - 1) s.clock s.bus)
-
-  -- ---- an order for another reader, or an event
-
-  there_is : (k : ℕ) (u : Site H) (s : LineState H) → slice_get s.sites k ≡ Some u → is_there (suc k) s ≡ true
-  there_is k u s at =
-      let few = within k u s.sites at in
-      is_both (nat_le 1 (suc k)) (nat_le (suc k) (length s.sites)) (le-leb 1 (suc k) (omega arith)) (le-leb (suc k) (length s.sites) (omega (arith, few)))
-    where
-      is_both : (a b : Bool) → a ≡ true → b ≡ true → (a && b) ≡ true
-      is_both true true first last = refl
-      is_both true false first last = absurd cc
-      is_both false b first last = absurd cc
-
-  other_issued : (k j : ℕ) (fault : Option BusFault) (c : Command) (s : LineState H) → (k ≡ j → ⊥)
-      → Keeps k s.bus.devices.entries (issued fault j c s).bus.devices.entries × StaysAt SameIssued k s.sites (issued fault j c s).sites
-  other_issued k j (Some fault) c s other = (keeps_all k s.bus.devices.entries, stays_all SameIssued issued_idle.same k s.sites)
-  other_issued k j None c s other =
-      (keeps_other k j c s.bus other, other_changed SameIssued issued_idle.same k j (site_issues c) s.sites other)
-
-  other_order : (k number : ℕ) (c : Command) (s : LineState H) → (number ≡ suc k → ⊥)
-      → Keeps k s.bus.devices.entries (after_step answer_of after (Issue number c) s).bus.devices.entries
-      × StaysAt SameIssued k s.sites (after_step answer_of after (Issue number c) s).sites
-  other_order k zero c s other = (keeps_all k s.bus.devices.entries, stays_all SameIssued issued_idle.same k s.sites)
-  other_order k (suc j) c s other =
-      let fault = submit_refusal_at (suc j - 1) c s.bus in
-      let next = issued fault (suc j - 1) c s in
-      let both = other_issued k (suc j - 1) fault c s (λ e. other (omega (arith, e))) in
-      (where_device k (is_there (suc j) s) s next both.0, where_sites SameIssued issued_idle k (is_there (suc j) s) s next both.1)
-
-  queued_same : (full : Bool) (e : Event) (u : Site H) → SameIssued u (site_queues_unless full e u)
-  queued_same true e u = refl
-  queued_same false e u = refl
-
-  event_step : (k number : ℕ) (e : Event) (s : LineState H)
-      → Keeps k s.bus.devices.entries (after_step answer_of after (Queue number e) s).bus.devices.entries
-      × StaysAt SameIssued k s.sites (after_step answer_of after (Queue number e) s).sites
-  event_step k number e s =
-      let next = record s { sites = changed_site (number - 1) (site_queues e) s.sites } in (
-        where_device k (is_there number s) s next (keeps_all k s.bus.devices.entries),
-        where_sites SameIssued issued_idle k (is_there number s) s next
-            (stays_changed SameIssued issued_idle.same k (number - 1) (site_queues e) s.sites
-            (λ u. queued_same (length u.reader.queue.events == u.reader.queue.capacity) e u)),
-      )
-
   -- ---- commands
 
   -- in the end the site at the place has these of the commands
@@ -218,7 +52,7 @@ module _ {H : Type 0} (answer_of : H → Command → Answer) (after : H → Comm
 
   carried : (k : ℕ) (list : List SimStep) → RestAccepts k list → (n : ℕ) (s t : LineState H) (d : Device) (u : Site H) → device_of k s.bus ≡ Some d
       → slice_get s.sites k ≡ Some u → length d.controller.waiting ≤ n → Each IsNoComset (commands_for (suc k) list)
-      → Keeps k s.bus.devices.entries t.bus.devices.entries → StaysAt SameIssued k s.sites t.sites
+      → Keeps k s.bus.devices.entries t.bus.devices.entries → StaysAt (SameIssued answer_of after) k s.sites t.sites
       → AcceptsIssued (d.controller.capacity - n) k (commands_for (suc k) list) u.account.issued (run answer_of after list t)
   carried k list rest n s t d u at sited few none keeps stays =
       let e = keeps d at in
@@ -239,20 +73,21 @@ module _ {H : Type 0} (answer_of : H → Command → Answer) (after : H → Comm
   told_by_bus None refused is = refused refl
   told_by_bus (Some fault) refused is = absurd cc
 
+  submitted_there : (k : ℕ) (c : Command) (s : LineState H) (d : Device) → device_of k s.bus ≡ Some d
+      → slice_get (after_submit_at k c s.bus).devices.entries k ≡ Some (device_submits c d)
+  submitted_there k c s d at =
+      ap (λ o. slice_get (option_map_or (λ x. record s.bus { devices = record s.bus.devices { entries = slice_set s.bus.devices.entries k (device_submits c x) } }) o s.bus).devices.entries k) at
+      ∙ get_set k d (device_submits c d) s.bus.devices.entries at
+
   module _ (k : ℕ) (c : Command) (list : List SimStep) (rest : RestAccepts k list) (n : ℕ) (s : LineState H) (d : Device) (u : Site H)
       (at : device_of k s.bus ≡ Some d) (sited : slice_get s.sites k ≡ Some u) (few : length d.controller.waiting ≤ n) where
     abbrev Goal : List Command → Option BusFault → Type 0
     Goal cs fault = AcceptsIssued (d.controller.capacity - n) k (cs ++ commands_for (suc k) list) u.account.issued (run answer_of after list (issued fault k c s))
 
-    device_there : slice_get (after_submit_at k c s.bus).devices.entries k ≡ Some (device_submits c d)
-    device_there =
-        ap (λ o. slice_get (option_map_or (λ x. record s.bus { devices = record s.bus.devices { entries = slice_set s.bus.devices.entries k (device_submits c x) } }) o s.bus).devices.entries k) at
-        ∙ get_set k d (device_submits c d) s.bus.devices.entries at
-
     put : Each IsNoComset (commands_for (suc k) list) → Goal (c ∷ []) None
     put none =
         let next = issued None k c s in
-        let last = rest (n + 1) next (device_submits c d) (site_issues c u) device_there (get_changed k (site_issues c) u s.sites sited)
+        let last = rest (n + 1) next (device_submits c d) (site_issues c u) (submitted_there k c s d at) (get_changed k (site_issues c) u s.sites sited)
         (omega (arith, few, length-append d.controller.waiting (c ∷ []))) none in
         record {
           site = last.site;
@@ -310,7 +145,7 @@ module _ {H : Type 0} (answer_of : H → Command → Answer) (after : H → Comm
         subst (λ j. AcceptsIssued (d.controller.capacity - n) k (but_poll c ++ commands_for (suc k) list) u.account.issued
         (run answer_of after list (if is_there (suc k) s then issued (submit_refusal_at j c s.bus) j c s else s))) (sym less)
         (subst (λ b. AcceptsIssued (d.controller.capacity - n) k (but_poll c ++ commands_for (suc k) list) u.account.issued
-        (run answer_of after list (if b then issued (submit_refusal_at k c s.bus) k c s else s))) (sym (there_is k u s sited))
+        (run answer_of after list (if b then issued (submit_refusal_at k c s.bus) k c s else s))) (sym ((there_is answer_of after) k u s sited))
         (subst (λ o. Goal (but_poll c) (submit_refusal_of k c o s.bus)) (sym at) (by_command none)))
 
   issue_accepts : (k number : ℕ) (c : Command) (list : List SimStep) → RestAccepts k list → RestAccepts k (Issue number c ∷ list)
@@ -324,7 +159,7 @@ module _ {H : Type 0} (answer_of : H → Command → Answer) (after : H → Comm
           (run answer_of after list (after_step answer_of after (Issue i c) s))) (sym (counts number (suc k) is))
           (order_here k c list rest n s d u at sited few none)
       by_number false is none =
-          let other = other_order k number c s (λ e. let named = eq-eqb number (suc k) e in absurd (let both = sym is ∙ named in cc)) in
+          let other = (other_order answer_of after) k number c s (λ e. let named = eq-eqb number (suc k) e in absurd (let both = sym is ∙ named in cc)) in
           carried k list rest n s (after_step answer_of after (Issue number c) s) d u at sited few none other.0 other.1
 
   pub accepts_commands : (k : ℕ) (list : List SimStep) → RestAccepts k list
@@ -333,23 +168,123 @@ module _ {H : Type 0} (answer_of : H → Command → Answer) (after : H → Comm
   accepts_commands k (Issue number c ∷ list) n s d u at sited few none =
       issue_accepts k number c list (accepts_commands k list) n s d u at sited few none
   accepts_commands k (Queue number e ∷ list) n s d u at sited few none =
-      let both = event_step k number e s in
+      let both = (event_step answer_of after) k number e s in
       carried k list (accepts_commands k list) n s (after_step answer_of after (Queue number e) s) d u at sited few none both.0 both.1
   accepts_commands k (Busy number busy ∷ list) n s d u at sited few none =
       carried k list (accepts_commands k list) n s (after_step answer_of after (Busy number busy) s) d u at sited few none
-      (idle_device k (Busy number busy) s tt) (idle_sites SameIssued issued_idle k (Busy number busy) s tt)
+      ((idle_device answer_of after) k (Busy number busy) s tt) ((idle_sites answer_of after) (SameIssued answer_of after) (issued_idle answer_of after) k (Busy number busy) s tt)
   accepts_commands k (Wait wait ∷ list) n s d u at sited few none =
       carried k list (accepts_commands k list) n s (after_step answer_of after (Wait wait) s) d u at sited few none
-      (idle_device k (Wait wait) s tt) (idle_sites SameIssued issued_idle k (Wait wait) s tt)
+      ((idle_device answer_of after) k (Wait wait) s tt) ((idle_sites answer_of after) (SameIssued answer_of after) (issued_idle answer_of after) k (Wait wait) s tt)
   accepts_commands k (ToReader move ∷ list) n s d u at sited few none =
       carried k list (accepts_commands k list) n s (after_step answer_of after (ToReader move) s) d u at sited few none
-      (idle_device k (ToReader move) s tt) (idle_sites SameIssued issued_idle k (ToReader move) s tt)
+      ((idle_device answer_of after) k (ToReader move) s tt) ((idle_sites answer_of after) (SameIssued answer_of after) (issued_idle answer_of after) k (ToReader move) s tt)
   accepts_commands k (ToController move ∷ list) n s d u at sited few none =
       carried k list (accepts_commands k list) n s (after_step answer_of after (ToController move) s) d u at sited few none
-      (idle_device k (ToController move) s tt) (idle_sites SameIssued issued_idle k (ToController move) s tt)
+      ((idle_device answer_of after) k (ToController move) s tt) ((idle_sites answer_of after) (SameIssued answer_of after) (issued_idle answer_of after) k (ToController move) s tt)
   accepts_commands k (Reopen number ∷ list) n s d u at sited few none =
       carried k list (accepts_commands k list) n s (after_step answer_of after (Reopen number) s) d u at sited few none
-      (idle_device k (Reopen number) s tt) (idle_sites SameIssued issued_idle k (Reopen number) s tt)
+      ((idle_device answer_of after) k (Reopen number) s tt) ((idle_sites answer_of after) (SameIssued answer_of after) (issued_idle answer_of after) k (Reopen number) s tt)
+
+  -- ---- whatever there is room for, some of the commands, in their order
+
+  abbrev RestAmong : ℕ → List SimStep → Type 0
+  RestAmong k list = (s : LineState H) (d : Device) (u : Site H) → device_of k s.bus ≡ Some d → slice_get s.sites k ≡ Some u
+      → AcceptsIssued 0 k (commands_for (suc k) list) u.account.issued (run answer_of after list s)
+
+  carried_among : (k : ℕ) (list : List SimStep) → RestAmong k list → (s t : LineState H) (d : Device) (u : Site H) → device_of k s.bus ≡ Some d
+      → slice_get s.sites k ≡ Some u → Keeps k s.bus.devices.entries t.bus.devices.entries → StaysAt (SameIssued answer_of after) k s.sites t.sites
+      → AcceptsIssued 0 k (commands_for (suc k) list) u.account.issued (run answer_of after list t)
+  carried_among k list rest s t d u at sited keeps stays =
+      let e = keeps d at in
+      let v = stays u sited in
+      let last = rest t e.0 v.0 e.1 v.1 in
+      record {
+        site = last.site;
+        there = last.there;
+        accepts = subst (λ cs. Accepts 0 (commands_for (suc k) list) cs last.site.account.issued) v.2 last.accepts;
+      }
+
+  module _ (k : ℕ) (c : Command) (list : List SimStep) (rest : RestAmong k list) (s : LineState H) (d : Device) (u : Site H)
+      (at : device_of k s.bus ≡ Some d) (sited : slice_get s.sites k ≡ Some u) where
+    abbrev Among : List Command → Option BusFault → Type 0
+    Among cs fault = AcceptsIssued 0 k (cs ++ commands_for (suc k) list) u.account.issued (run answer_of after list (issued fault k c s))
+
+    some_put : (fault : Option BusFault) → Among (c ∷ []) fault
+    some_put None =
+        let next = issued None k c s in
+        let last = rest next (device_submits c d) (site_issues c u) (submitted_there k c s d at) (get_changed k (site_issues c) u s.sites sited) in
+        record {
+          site = last.site;
+          there = last.there;
+          accepts = one_accepted 0 c (commands_for (suc k) list) u.account.issued last.site.account.issued last.accepts;
+        }
+    some_put (Some fault) =
+        let last = rest s d u at sited in
+        record {
+          site = last.site;
+          there = last.there;
+          accepts = one_refused 0 c (commands_for (suc k) list) u.account.issued last.site.account.issued refl last.accepts;
+        }
+
+    no_poll : (fault : Option BusFault) → (fault ≡ None → ⊥) → Among [] fault
+    no_poll None refused = absurd (refused refl)
+    no_poll (Some fault) refused = rest s d u at sited
+
+    some_order : Among (but_poll c) (submit_refusal_of k c (Some d) s.bus)
+    some_order = elim (submit_is c d.controller) [
+      | inl (refused, no_order) ↦ subst (λ cs. Among cs (submit_refusal_of k c (Some d) s.bus)) (sym no_order)
+          (no_poll (submit_refusal_of k c (Some d) s.bus)
+          (refused_still (is_comset_refused (comset_of c) k d s.bus) (option_map bus_fault (controllers.submit_refusal c d.controller))
+          (told_by_bus (controllers.submit_refusal c d.controller) refused)))
+      | inr (is, one) ↦ subst (λ cs. Among cs (submit_refusal_of k c (Some d) s.bus)) (sym one) (some_put (submit_refusal_of k c (Some d) s.bus))
+    ]
+
+    some_here : AcceptsIssued 0 k (but_poll c ++ commands_for (suc k) list) u.account.issued
+        (run answer_of after list (after_step answer_of after (Issue (suc k) c) s))
+    some_here =
+        let less : suc k - 1 ≡ k = omega arith in
+        subst (λ j. AcceptsIssued 0 k (but_poll c ++ commands_for (suc k) list) u.account.issued
+        (run answer_of after list (if is_there (suc k) s then issued (submit_refusal_at j c s.bus) j c s else s))) (sym less)
+        (subst (λ b. AcceptsIssued 0 k (but_poll c ++ commands_for (suc k) list) u.account.issued
+        (run answer_of after list (if b then issued (submit_refusal_at k c s.bus) k c s else s))) (sym ((there_is answer_of after) k u s sited))
+        (subst (λ o. Among (but_poll c) (submit_refusal_of k c o s.bus)) (sym at) some_order))
+
+  issue_among : (k number : ℕ) (c : Command) (list : List SimStep) → RestAmong k list → RestAmong k (Issue number c ∷ list)
+  issue_among k number c list rest s d u at sited = by_number (number == suc k) refl
+    where
+      by_number : (named : Bool) → (number == suc k) ≡ named
+          → AcceptsIssued 0 k ((if named then but_poll c else []) ++ commands_for (suc k) list) u.account.issued
+          (run answer_of after list (after_step answer_of after (Issue number c) s))
+      by_number true is =
+          subst (λ i. AcceptsIssued 0 k (but_poll c ++ commands_for (suc k) list) u.account.issued
+          (run answer_of after list (after_step answer_of after (Issue i c) s))) (sym (counts number (suc k) is))
+          (some_here k c list rest s d u at sited)
+      by_number false is =
+          let other = (other_order answer_of after) k number c s (λ e. let named = eq-eqb number (suc k) e in absurd (let both = sym is ∙ named in cc)) in
+          carried_among k list rest s (after_step answer_of after (Issue number c) s) d u at sited other.0 other.1
+
+  pub some_commands : (k : ℕ) (list : List SimStep) → RestAmong k list
+  some_commands k [] s d u at sited = record { site = u; there = sited; accepts = none_accepted 0 u.account.issued }
+  some_commands k (Issue number c ∷ list) s d u at sited = issue_among k number c list (some_commands k list) s d u at sited
+  some_commands k (Queue number e ∷ list) s d u at sited =
+      let both = (event_step answer_of after) k number e s in
+      carried_among k list (some_commands k list) s (after_step answer_of after (Queue number e) s) d u at sited both.0 both.1
+  some_commands k (Busy number busy ∷ list) s d u at sited =
+      carried_among k list (some_commands k list) s (after_step answer_of after (Busy number busy) s) d u at sited
+      ((idle_device answer_of after) k (Busy number busy) s tt) ((idle_sites answer_of after) (SameIssued answer_of after) (issued_idle answer_of after) k (Busy number busy) s tt)
+  some_commands k (Wait wait ∷ list) s d u at sited =
+      carried_among k list (some_commands k list) s (after_step answer_of after (Wait wait) s) d u at sited
+      ((idle_device answer_of after) k (Wait wait) s tt) ((idle_sites answer_of after) (SameIssued answer_of after) (issued_idle answer_of after) k (Wait wait) s tt)
+  some_commands k (ToReader move ∷ list) s d u at sited =
+      carried_among k list (some_commands k list) s (after_step answer_of after (ToReader move) s) d u at sited
+      ((idle_device answer_of after) k (ToReader move) s tt) ((idle_sites answer_of after) (SameIssued answer_of after) (issued_idle answer_of after) k (ToReader move) s tt)
+  some_commands k (ToController move ∷ list) s d u at sited =
+      carried_among k list (some_commands k list) s (after_step answer_of after (ToController move) s) d u at sited
+      ((idle_device answer_of after) k (ToController move) s tt) ((idle_sites answer_of after) (SameIssued answer_of after) (issued_idle answer_of after) k (ToController move) s tt)
+  some_commands k (Reopen number ∷ list) s d u at sited =
+      carried_among k list (some_commands k list) s (after_step answer_of after (Reopen number) s) d u at sited
+      ((idle_device answer_of after) k (Reopen number) s tt) ((idle_sites answer_of after) (SameIssued answer_of after) (issued_idle answer_of after) k (Reopen number) s tt)
 
   -- ---- events
 
@@ -363,7 +298,7 @@ module _ {H : Type 0} (answer_of : H → Command → Answer) (after : H → Comm
       → AcceptsQueued (u.reader.queue.capacity - n) k (events_for (suc k) list) u.account.queued (run answer_of after list s)
 
   kept : (k : ℕ) (list : List SimStep) → RestQueues k list → (n : ℕ) (s t : LineState H) (u : Site H) → slice_get s.sites k ≡ Some u
-      → length u.reader.queue.events ≤ n → StaysAt NoneQueued k s.sites t.sites
+      → length u.reader.queue.events ≤ n → StaysAt (NoneQueued answer_of after) k s.sites t.sites
       → AcceptsQueued (u.reader.queue.capacity - n) k (events_for (suc k) list) u.account.queued (run answer_of after list t)
   kept k list rest n s t u sited few stays =
       let v = stays u sited in
@@ -375,21 +310,21 @@ module _ {H : Type 0} (answer_of : H → Command → Answer) (after : H → Comm
             (subst (λ es. Accepts (v.0.reader.queue.capacity - n) (events_for (suc k) list) es last.site.account.queued) v.2.queued last.accepts);
       }
 
-  order_leaves : (k number : ℕ) (c : Command) (s : LineState H) → StaysAt NoneQueued k s.sites (after_step answer_of after (Issue number c) s).sites
+  order_leaves : (k number : ℕ) (c : Command) (s : LineState H) → StaysAt (NoneQueued answer_of after) k s.sites (after_step answer_of after (Issue number c) s).sites
   order_leaves k number c s =
       let fault = submit_refusal_at (number - 1) c s.bus in
-      where_sites NoneQueued events_idle k (is_there number s) s (issued fault (number - 1) c s) (by_fault fault)
+      (where_sites answer_of after) (NoneQueued answer_of after) (events_idle answer_of after) k (is_there number s) s (issued fault (number - 1) c s) (by_fault fault)
     where
-      by_fault : (fault : Option BusFault) → StaysAt NoneQueued k s.sites (issued fault (number - 1) c s).sites
-      by_fault (Some fault) = stays_all NoneQueued events_idle.same k s.sites
-      by_fault None = stays_changed NoneQueued events_idle.same k (number - 1) (site_issues c) s.sites (λ u. record { waiting = omega arith; room = refl; queued = refl })
+      by_fault : (fault : Option BusFault) → StaysAt (NoneQueued answer_of after) k s.sites (issued fault (number - 1) c s).sites
+      by_fault (Some fault) = stays_all (NoneQueued answer_of after) (events_idle answer_of after).same k s.sites
+      by_fault None = stays_changed (NoneQueued answer_of after) (events_idle answer_of after).same k (number - 1) (site_issues c) s.sites (λ u. record { waiting = omega arith; room = refl; queued = refl })
 
   other_event : (k number : ℕ) (e : Event) (s : LineState H) → (number ≡ suc k → ⊥)
-      → StaysAt NoneQueued k s.sites (after_step answer_of after (Queue number e) s).sites
-  other_event k zero e s other = stays_all NoneQueued events_idle.same k s.sites
+      → StaysAt (NoneQueued answer_of after) k s.sites (after_step answer_of after (Queue number e) s).sites
+  other_event k zero e s other = stays_all (NoneQueued answer_of after) (events_idle answer_of after).same k s.sites
   other_event k (suc j) e s other =
-      where_sites NoneQueued events_idle k (is_there (suc j) s) s (record s { sites = changed_site (suc j - 1) (site_queues e) s.sites })
-      (other_changed NoneQueued events_idle.same k (suc j - 1) (site_queues e) s.sites (λ is. other (omega (arith, is))))
+      (where_sites answer_of after) (NoneQueued answer_of after) (events_idle answer_of after) k (is_there (suc j) s) s (record s { sites = changed_site (suc j - 1) (site_queues e) s.sites })
+      (other_changed (NoneQueued answer_of after) (events_idle answer_of after).same k (suc j - 1) (site_queues e) s.sites (λ is. other (omega (arith, is))))
 
   module _ (k : ℕ) (e : Event) (list : List SimStep) (rest : RestQueues k list) (n : ℕ) (s : LineState H) (u : Site H)
       (sited : slice_get s.sites k ≡ Some u) (few : length u.reader.queue.events ≤ n) where
@@ -423,7 +358,7 @@ module _ {H : Type 0} (answer_of : H → Command → Answer) (after : H → Comm
         subst (λ j. AcceptsQueued (u.reader.queue.capacity - n) k (e ∷ events_for (suc k) list) u.account.queued
         (run answer_of after list (if is_there (suc k) s then record s { sites = changed_site j (site_queues e) s.sites } else s))) (sym less)
         (subst (λ b. AcceptsQueued (u.reader.queue.capacity - n) k (e ∷ events_for (suc k) list) u.account.queued
-        (run answer_of after list (if b then queued_to (site_queues e) else s))) (sym (there_is k u s sited))
+        (run answer_of after list (if b then queued_to (site_queues e) else s))) (sym ((there_is answer_of after) k u s sited))
         (by_full (length u.reader.queue.events == u.reader.queue.capacity) (counts (length u.reader.queue.events) u.reader.queue.capacity)
         (queued_to (site_queues e)) (get_changed k (site_queues e) u s.sites sited)))
 
@@ -448,15 +383,15 @@ module _ {H : Type 0} (answer_of : H → Command → Answer) (after : H → Comm
       kept k list (accepts_events k list) n s (after_step answer_of after (Issue number c) s) u sited few (order_leaves k number c s)
   accepts_events k (Queue number e ∷ list) n s u sited few = queue_accepts k number e list (accepts_events k list) n s u sited few
   accepts_events k (Busy number busy ∷ list) n s u sited few =
-      kept k list (accepts_events k list) n s (after_step answer_of after (Busy number busy) s) u sited few (idle_sites NoneQueued events_idle k (Busy number busy) s tt)
+      kept k list (accepts_events k list) n s (after_step answer_of after (Busy number busy) s) u sited few ((idle_sites answer_of after) (NoneQueued answer_of after) (events_idle answer_of after) k (Busy number busy) s tt)
   accepts_events k (Wait wait ∷ list) n s u sited few =
-      kept k list (accepts_events k list) n s (after_step answer_of after (Wait wait) s) u sited few (idle_sites NoneQueued events_idle k (Wait wait) s tt)
+      kept k list (accepts_events k list) n s (after_step answer_of after (Wait wait) s) u sited few ((idle_sites answer_of after) (NoneQueued answer_of after) (events_idle answer_of after) k (Wait wait) s tt)
   accepts_events k (ToReader move ∷ list) n s u sited few =
-      kept k list (accepts_events k list) n s (after_step answer_of after (ToReader move) s) u sited few (idle_sites NoneQueued events_idle k (ToReader move) s tt)
+      kept k list (accepts_events k list) n s (after_step answer_of after (ToReader move) s) u sited few ((idle_sites answer_of after) (NoneQueued answer_of after) (events_idle answer_of after) k (ToReader move) s tt)
   accepts_events k (ToController move ∷ list) n s u sited few =
-      kept k list (accepts_events k list) n s (after_step answer_of after (ToController move) s) u sited few (idle_sites NoneQueued events_idle k (ToController move) s tt)
+      kept k list (accepts_events k list) n s (after_step answer_of after (ToController move) s) u sited few ((idle_sites answer_of after) (NoneQueued answer_of after) (events_idle answer_of after) k (ToController move) s tt)
   accepts_events k (Reopen number ∷ list) n s u sited few =
-      kept k list (accepts_events k list) n s (after_step answer_of after (Reopen number) s) u sited few (idle_sites NoneQueued events_idle k (Reopen number) s tt)
+      kept k list (accepts_events k list) n s (after_step answer_of after (Reopen number) s) u sited few ((idle_sites answer_of after) (NoneQueued answer_of after) (events_idle answer_of after) k (Reopen number) s tt)
 
   -- ---- from the set-up on
 
@@ -476,6 +411,11 @@ module _ {H : Type 0} (answer_of : H → Command → Answer) (after : H → Comm
           a,
           slice_get-map (λ (u : Site H). u.account) final.sites k ∙ ap (option_map (λ (u : Site H). u.account)) queued.there,
           record {
+            among =
+                let orders = commands_for (suc k) list in
+                let issued = some_commands k list s (begun_device config given) (new_site given) device_at site_at in
+                subst (λ (v : Site H). IsAmong v.account.issued orders) (same_site (sym issued.there ∙ queued.there))
+                (subst (λ cs. IsAmong cs orders) (sym issued.accepts.list) issued.accepts.among);
             issued = λ plain.
                 let orders = commands_for (suc k) list in
                 let issued = accepts_commands k list 0 s (begun_device config given) (new_site given) device_at site_at (omega arith)

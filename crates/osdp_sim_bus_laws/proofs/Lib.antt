@@ -9,3 +9,4 @@ pub mod OneSession
 pub mod Waiting
 pub mod Accepting
 pub mod Places
+pub mod Idling

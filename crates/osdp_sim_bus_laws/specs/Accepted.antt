@@ -8,15 +8,17 @@ use Rattle.osdp_sim.specs.Account.{Account}
 use Rattle.osdp_sim.specs.declared.step.SimStep.{SimStep}
 use Rattle.osdp_sim_bus.specs.Runs.{steps_done}
 use Rattle.osdp_sim_bus.specs.State.{Given}
-use Rattle.osdp_sim_laws.specs.Accepted.{IsAccepted, commands_for, events_for}
+use Rattle.osdp_sim_laws.specs.Accepted.{IsAccepted, IsAmong, commands_for, events_for}
 use Rattle.osdp_sim_bus_laws.specs.Accounts.{BusAnswer, IsAnswer, WasSetUp, accounts_in}
 
 -- a COMSET is refused too where another device takes up its address
 abbrev pub IsNoComset : Command → Type 0
 IsNoComset command = comset_of command ≡ None
 
--- of the orders for the reader of this number, where none is a COMSET, and of its events: what there is room for
+-- Of the orders for the reader of this number some are accepted, each once and in their order; where none is a COMSET, those for which there
+-- is room. So it is of its events.
 pub record AcceptsFor (commands events number : ℕ) (taken : List SimStep) (a : Account) : Type 0 where
+  pub among : IsAmong a.issued (commands_for number taken)
   pub issued : All IsNoComset (commands_for number taken) → IsAccepted commands (commands_for number taken) a.issued
   pub queued : IsAccepted events (events_for number taken) a.queued
 

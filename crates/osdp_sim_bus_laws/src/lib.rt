@@ -62,9 +62,9 @@ pub fn holds_once<H: Handler>()
     stays_in_a_row::<H>();
 }
 
-/// Whatever a schedule over a bus says, for each reader: of the commands for it, where none is a COMSET, POLL left out, all are accepted where
-/// no more are than the settings leave room for; else the first of them, as many as that, and of the others some, each once and in their
-/// order. So it is of its events, with the room that it has for them.
+/// Whatever a schedule over a bus says, for each reader: of the commands for it, POLL left out, some are accepted, each once and in their order.
+/// Where none is a COMSET, all are accepted where no more are than the settings leave room for; else the first of them, as many as that.
+/// So it is of its events, with the room that it has for them.
 pub fn each_accepts_by_room<H: Handler>()
     ensures { EachAccepts H.answer_of H.after }
 {}
