@@ -8,7 +8,8 @@ use Rattle.osdp_script.specs.declared.script.Script.{Script}
 use Rattle.osdp_script.specs.declared.script.ScriptLine.{ScriptLine}
 use Rattle.osdp_script.specs.Reading.{AreRead, IsBad, IsBadLine, IsFirstBad, IsRead, IsScriptOf, IsTold}
 use Rattle.osdp_script.specs.Script.{Plan, no_plan, with_line}
-use Rattle.osdp_script.specs.Words.{characters, is_passed_over, words_in}
+use Rattle.osdp_script.specs.Words.{characters, is_passed_over}
+use Rattle.osdp_words.specs.Word.{words_in}
 use Rattle.osdp_script.proofs.InTurn.{read_in_turn}
 use Rattle.osdp_script_laws.specs.Laws.{HasOneMeaning, SaySame}
 use Rattle.osdp_script_laws.proofs.OneLine.{one_line}
