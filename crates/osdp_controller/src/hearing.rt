@@ -4,7 +4,8 @@ ghost use Rattle.std.specs.Prelude.{◌≡◌, ◌<◌, true, false, None, Some,
 ghost use Rattle.osdp_controller.specs.declared.answer.Answer.TheVariants.{Plain, Unreadable};
 ghost use Rattle.osdp_controller.specs.declared.report.Report.TheVariants.{Moved};
 ghost use Rattle.osdp_controller.specs.declared.state.State.TheVariants.{Pausing};
-ghost use Rattle.osdp_controller.specs.Hearing.{answered, answered_unread, com_of, command_answered, comset_of, event_in, hears, hears_busy, is_ack, is_from_reader, is_numbered, loses, moved_by, opening_answered, pausing_hears, pd_id_of, poll_told, rests, waiting_hears};
+ghost use Rattle.osdp_controller.specs.Answers.{answer_of};
+ghost use Rattle.osdp_controller.specs.Hearing.{answered, answered_unread, com_of, command_answered, comset_of, event_in, hears, hears_busy, hears_in, is_ack, is_from_reader, is_numbered, loses, moved_by, opening_answered, pausing_hears, pd_id_of, poll_told, rests, waiting_hears};
 ghost use Rattle.osdp_controller.specs.Machine.{IsSession};
 ghost use Rattle.osdp_controller.specs.Private.{is_no_answer, is_no_answer_in, numbered_in};
 ghost use Rattle.osdp_controller.specs.Sessions.{closed};
@@ -214,6 +215,7 @@ impl Session {
     }
 
     /// A frame comes from the line.
+    #[inline(always)]
     pub(crate) fn hear(&mut self, frame: &FrameView<'_>, now: u64) -> Option<Report>
         requires { IsSession self.old }
         ensures report { result ≡ (hears frame.now now self.old).report }
@@ -221,9 +223,21 @@ impl Session {
         ensures kept { IsSession self.new }
     {
         self.see(now);
-        if !self.is_from_reader(frame) {
-            return None;
+        if self.is_from_reader(frame) {
+            self.hear_reader(frame)
+        } else {
+            None
         }
+    }
+
+    /// A reply comes from the own address, at the greatest moment seen.
+    #[inline(never)]
+    fn hear_reader(&mut self, frame: &FrameView<'_>) -> Option<Report>
+        requires { IsSession self.old }
+        ensures report { result ≡ (hears_in self.old.state frame.now.sequence (answer_of frame.now) self.old).report }
+        ensures session { self.new ≡ (hears_in self.old.state frame.now.sequence (answer_of frame.now) self.old).session }
+        ensures kept { IsSession self.new }
+    {
         let answer = Answer::of(frame);
         if !self.is_numbered(frame.seq(), &answer) || self.is_no_answer(&answer) {
             return None;

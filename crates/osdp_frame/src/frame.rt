@@ -104,6 +104,13 @@ impl Frame {
         self.view().encode()
     }
 
+    /// Puts the bytes of the packet, as they are sent, in place of what stands in `out`.
+    pub fn encode_to(&self, out: &mut Burst)
+        ensures { Spells self.now out.new.items }
+    {
+        self.view().encode_to(out);
+    }
+
     /// An equal packet.
     pub fn copy(&self) -> Frame
         ensures { result ≡ self.now }

@@ -6,6 +6,7 @@ ghost use Rattle.osdp_frame.specs.First.{FirstFits, part_if};
 ghost use Rattle.osdp_frame.specs.Held.{after_advance, after_gap, after_push, decided, new_run, taken_count};
 ghost use Rattle.osdp_frame.specs.Reading.{IsFirst, IsUndecided};
 
+use crate::FrameFault;
 use crate::buffer::Buffer;
 use crate::bytes::{LARGEST, START_OF_MESSAGE, are_bytes};
 use crate::first::{First, count, first_item};
@@ -127,9 +128,27 @@ impl Default for Framer {
     }
 }
 
-/// The first item of what is held.
-#[inline(always)]
+/// The first item of what is held. Where no running check has gone over it yet, the check of a packet is computed by itself; once it
+/// is a wrong one, the running checks go over these bytes too, since packets may begin within them.
 fn first_held(held: &mut Buffer, ended: bool) -> Option<First>
+    ensures same { held.new.bytes ≡ held.old.bytes }
+    ensures part { part_if result held.new.bytes ≡ decided ended held.new.bytes }
+    ensures fits { FirstFits held.new.bytes result }
+{
+    if held.run() > 0 {
+        return first_run(held, ended);
+    }
+    let first = first_item(held.bytes(), None, ended);
+    if let Some(First::Refused(FrameFault::BadCheck)) = first {
+        let count = long_count(held.bytes());
+        held.run_to(count);
+    }
+    first
+}
+
+/// The first item of what is held, by the running checks.
+#[inline(never)]
+fn first_run(held: &mut Buffer, ended: bool) -> Option<First>
     ensures same { held.new.bytes ≡ held.old.bytes }
     ensures part { part_if result held.new.bytes ≡ decided ended held.new.bytes }
     ensures fits { FirstFits held.new.bytes result }

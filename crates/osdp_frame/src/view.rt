@@ -91,19 +91,27 @@ impl<'a> FrameView<'a> {
     pub fn encode(&self) -> Burst
         ensures { Spells self.now result.items }
     {
+        let mut out = Burst::new();
+        self.encode_to(&mut out);
+        out
+    }
+
+    /// Puts the bytes of the packet, as they are sent, in place of what stands in `out`.
+    pub fn encode_to(&self, out: &mut Burst)
+        ensures { Spells self.now out.new.items }
+    {
         let length = HEAD + self.body.len() + self.check.size();
         let count = count_bytes(length as u16);
-        let mut out = Burst::new();
         let address = self.address_byte();
         let control = self.control_byte();
+        out.clear();
         append(
-            &mut out,
+            out,
             &[START_OF_MESSAGE, address, count[0], count[1], control],
         );
-        append(&mut out, self.body);
+        append(out, self.body);
         let check = check_bytes(self.check, out.as_slice());
-        append(&mut out, &check[..self.check.size()]);
-        out
+        append(out, &check[..self.check.size()]);
     }
 
     /// The address, with its highest bit set in a reply.

@@ -54,6 +54,7 @@ fn comset(communication: &Communication) -> Reply
 }
 
 /// What the reader answers by itself; None where the handler answers.
+#[inline(never)]
 fn own(config: &ReaderConfig, command: &Command) -> Option<Reply>
     ensures { result ≡ own_reply config.now command.now }
 {
@@ -75,6 +76,7 @@ fn own(config: &ReaderConfig, command: &Command) -> Option<Reply>
 }
 
 /// The reply where the handler has done the command.
+#[inline(never)]
 fn done(command: &Command) -> Reply
     ensures { result ≡ done_reply command.now }
 {
@@ -96,6 +98,7 @@ fn done(command: &Command) -> Reply
 }
 
 /// The reply where the handler tells the state of the device itself.
+#[inline(never)]
 fn local(command: &Command, tamper: u8, power: u8) -> Reply
     ensures { result ≡ local_reply command.now tamper power }
 {
@@ -117,6 +120,7 @@ fn local(command: &Command, tamper: u8, power: u8) -> Reply
 }
 
 /// The reply where the handler tells a byte for each input, output or reader.
+#[inline(never)]
 fn list(command: &Command, states: ArrayVec<u8, 1432>) -> Reply
     ensures { result ≡ list_reply command.now states.items }
 {
@@ -138,6 +142,7 @@ fn list(command: &Command, states: ArrayVec<u8, 1432>) -> Reply
 }
 
 /// The reply where the handler gives the maker's own.
+#[inline(never)]
 fn maker(command: &Command, vendor: [u8; 3], bytes: ArrayVec<u8, 1429>) -> Reply
     ensures { result ≡ maker_reply command.now vendor bytes.items }
 {
@@ -159,6 +164,7 @@ fn maker(command: &Command, vendor: [u8; 3], bytes: ArrayVec<u8, 1429>) -> Reply
 }
 
 /// The reply where the handler refuses the command.
+#[inline(never)]
 fn refusal(reason: NakReason) -> Reply
     ensures { result ≡ refusal_reply reason }
 {
