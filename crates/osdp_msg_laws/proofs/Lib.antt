@@ -5,3 +5,7 @@ pub mod OneMeaning
 pub mod TextWords
 pub mod CommandTexts
 pub mod ReplyTexts
+pub mod PlainWords
+pub mod PlainCommands
+pub mod PlainReplies
+pub mod PrintedWords

@@ -37,7 +37,7 @@ pub records_words : {R : Type 0} (word : R → Word) (Fits : R → Type 0) → (
 records_words word Fits each [] h = tt
 records_words word Fits each (r ∷ rs) h = (each r (All-head Fits r rs h), records_words word Fits each rs (All-tail Fits r rs h))
 
-all_printed : (ws : List Word) → AreWords ws → AllStandFor ws (map printed ws)
+pub all_printed : (ws : List Word) → AreWords ws → AllStandFor ws (map printed ws)
 all_printed [] h = tt
 all_printed (w ∷ ws) h = (stands_for_itself w h.0, all_printed ws h.1)
 

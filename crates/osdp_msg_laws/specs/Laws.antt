@@ -1,9 +1,9 @@
 -- What holds of a table of messages, and of their texts.
-use Rattle.std.specs.Prelude.{◌≡◌, ◌↔◌, ◌+◌, ◌*◌, ◌<◌, ◌≤◌, ℕ, true, false, List, [], ◌∷◌, length, map, Option, Some, Result, Ok, Err}
-use Rattle.std.specs.List.{join_with_byte}
+use Rattle.std.specs.Prelude.{◌≡◌, ◌↔◌, ◌⊎◌, ◌+◌, ◌*◌, ◌<◌, ◌≤◌, ℕ, true, false, List, [], ◌∷◌, length, map, Option, Some, Result, Ok, Err}
+use Rattle.std.specs.List.{AllByRecursion, join_with_byte}
 use Rattle.byteorder.specs.Endian.{little_bytes}
 use Rattle.hex.specs.Hex.{IsBytes}
-use Rattle.osdp_words.specs.Word.{AllStandFor, Word, printed}
+use Rattle.osdp_words.specs.Word.{AllStandFor, IsWord, Word, printed}
 use Rattle.osdp_msg.specs.declared.command.Command.{Command}
 use Rattle.osdp_msg.specs.declared.command.Command.TheVariants.{Poll}
 use Rattle.osdp_msg.specs.declared.event.Event.{Event}
@@ -51,6 +51,20 @@ HasOneMeaning {M} Fits words =
 -- two values with one text are the same
 abbrev pub HasOneText : {M : Type 0} → (M → Type 0) → (M → List ℕ) → Type 0
 HasOneText {M} Fits text = (m n : M) → Fits m → Fits n → text m ≡ text n → m ≡ n
+
+-- a digit, a colon or a letter
+abbrev pub IsPlainCharacter : ℕ → Type 0
+IsPlainCharacter c = ((48 ≤ c) × (c ≤ 58)) ⊎ ((65 ≤ c) × (c ≤ 90)) ⊎ ((97 ≤ c) × (c ≤ 122))
+
+-- a word that a text can hold, printed as one or more of these: so it holds no space and no end of a line, and it isn't `=`
+pub record IsPlainWord (word : Word) : Type 0 where
+  pub held : IsWord word
+  pub some : 0 < length (printed word)
+  pub each : AllByRecursion IsPlainCharacter (printed word)
+
+-- each word of a value
+abbrev pub HasPlainWords : {M : Type 0} → (M → Type 0) → (M → List Word) → Type 0
+HasPlainWords {M} Fits words = (m : M) → Fits m → AllByRecursion IsPlainWord (words m)
 
 -- the number of the reason of a number is that number, and the reason of a reason's number is that reason
 abbrev pub HasOneNumber : Type 0

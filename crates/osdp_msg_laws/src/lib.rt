@@ -4,9 +4,10 @@
 
 ghost use Rattle.osdp_msg.specs.CommandTable.{CommandFits, IsCommand, command_fault, command_of};
 ghost use Rattle.osdp_msg.specs.CommandText.{command_text, command_words};
+ghost use Rattle.osdp_msg.specs.Events.{EventFits, event_words};
 ghost use Rattle.osdp_msg.specs.ReplyTable.{ReplyFits, IsReply, reply_fault, reply_of};
 ghost use Rattle.osdp_msg.specs.ReplyText.{reply_text, reply_words};
-ghost use Rattle.osdp_msg_laws.specs.Laws.{ReadsTheTable, ReadsTheFaults, HasOneValue, HasOneSpelling, FitsAPacket, JoinsItsWords, HasOneMeaning, HasOneText, HasOneNumber, HasLowByteFirst, FitsByKind};
+ghost use Rattle.osdp_msg_laws.specs.Laws.{ReadsTheTable, ReadsTheFaults, HasOneValue, HasOneSpelling, FitsAPacket, JoinsItsWords, HasOneMeaning, HasOneText, HasPlainWords, HasOneNumber, HasLowByteFirst, FitsByKind};
 
 /// Reading a code and data as a command follows the table of commands, and its refusals.
 pub fn command_of_reads_the_table()
@@ -66,6 +67,14 @@ pub fn reply_text_joins_words()
 pub fn reply_texts_are_unique()
     ensures words { HasOneMeaning ReplyFits reply_words }
     ensures text { HasOneText ReplyFits reply_text }
+{}
+
+/// Each word of a command, a reply or an event is printed as digits, colons and letters, one or more: a byte of a list as two digits. So
+/// no word holds a space or an end of a line, and none is `=`.
+pub fn words_are_plain()
+    ensures commands { HasPlainWords CommandFits command_words }
+    ensures replies { HasPlainWords ReplyFits reply_words }
+    ensures events { HasPlainWords EventFits event_words }
 {}
 
 /// A number is that of one reason, and a reason has one number.
