@@ -124,6 +124,8 @@ def judge_exchanges():
     text = (TOP / "docs/PROTOCOL.md").read_text()
     named = re.findall(r"^From `examples/(\w+)\.script`:\n\n```mermaid\n(.*?)```$", text, re.M | re.S)
     for name, picture in named:
+        if "participant" in picture:
+            continue  # of several readers: `turns.py` holds it to a run
         steps = (TOP / f"examples/{name}.script").read_text().split("clean 0\n")[1].splitlines()
         account = (TOP / f"examples/{name}.account").read_text().splitlines()[1:]
         if moves_drawn(picture) != steps:

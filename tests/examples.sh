@@ -1,5 +1,5 @@
 #!/usr/bin/env bash
-# Runs each script of examples/ and compares its account. Takes the path of the program.
+# Runs each script of examples/ and compares its account, and the picture of turns. Takes the path of the program.
 set -u
 program=$1
 failed=0
@@ -11,5 +11,7 @@ for script in *.script; do
     failed=1
   fi
 done
+
+python3 ../tests/turns.py "$program" || failed=1
 
 exit "$failed"
