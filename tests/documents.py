@@ -7,11 +7,13 @@
 - docs/ARCHITECTURE.md has a row for each crate of crates.txt. Each file of a crate that its tables name is there, and each definition.
   Each file of src/ and specs/ is named once.
 - Each block of code of README and of docs/GUIDE.md is text of the file that the line above it names. Each topic that docs/PROFILE.md names is one of
-  docs/PROTOCOL.md.
+  docs/PROTOCOL.md, and each topic there that has a choice of our own is named.
+- docs/PROFILE.md calls whole those codes that docs/PROTOCOL.md has in its tables of messages, and gives no code two rows.
 - The picture of docs/ARCHITECTURE.md has each crate but those of tests, and its arrows are those of crates.txt. Each picture of an exchange in
   docs/PROTOCOL.md has the steps of the script named above it, whose account examples.sh compares with a run, and tells that account.
 - docs/PROTOCOL.md has each text that the program prints on standard error.
 - Each crate, script and folder that any page names is there.
+- No page, manual page or script says "behind" or "want of memory".
 - README has at most 120 lines of at most 120 characters, docs/DEVELOPING.md at most 200 lines, and no row of a table more than 200 characters."""
 import re
 import sys
@@ -253,14 +255,32 @@ def judge_code(page):
         faults.append(f"{page}: a block of code names no file")
 
 
+def topics_chosen(text):
+    """The headings over each choice of our own."""
+    over, under = None, None
+    for line in text.splitlines():
+        if line.startswith("## "):
+            over, under = line[3:], None
+        elif line.startswith("### "):
+            under = line[4:]
+        elif over and re.search(r"\b[Oo]ur own choice\b", line):
+            yield {over, under} - {None}
+
+
 def judge_profile():
-    """docs/PROFILE.md: the topics of its last table are headings of docs/PROTOCOL.md."""
-    headings = re.findall(r"^##+ (.*)$", (TOP / "docs/PROTOCOL.md").read_text(), re.M)
+    """docs/PROFILE.md: the topics of its last table are headings of docs/PROTOCOL.md, among them all with a choice of our own."""
+    rules = (TOP / "docs/PROTOCOL.md").read_text()
+    headings = re.findall(r"^##+ (.*)$", rules, re.M)
     text = (TOP / "docs/PROFILE.md").read_text()
+    told = set()
     for choice, topics in [cells for cells in rows(text[text.index("## Where we chose"):])][1:]:
         for topic in topics.split("; "):
             if topic not in headings:
                 faults.append(f"docs/PROFILE.md: PROTOCOL.md has no topic {topic}")
+            told.add(topic)
+    for chosen in topics_chosen(rules):
+        if not chosen & told:
+            faults.append(f"docs/PROFILE.md: PROTOCOL.md has a choice of our own under {max(chosen, key=headings.index)}")
 
 
 def judge_page(page, all_crates):
@@ -275,6 +295,40 @@ def judge_page(page, all_crates):
     for number, line in enumerate(text.splitlines(), 1):
         if line.startswith("|") and len(line) > 200:
             faults.append(f"{page}, line {number}: a row of {len(line)} characters")
+
+
+def codes_of(page, heading, keep):
+    """The codes in the first cells of a part's first table, of the rows that are kept."""
+    body = re.split(r"^##+ " + heading, (TOP / page).read_text(), flags=re.M)[1].split("\n#")[0]
+    tables = [list(rows(table)) for table in body.split("\n\n") if table.startswith("| Code |")]
+    return [code for cells in tables[0][1:] if keep(cells) for code in re.findall(r"\b[0-9A-F]{2}\b", cells[0])]
+
+
+def judge_messages():
+    """docs/PROFILE.md: each message of docs/PROTOCOL.md is whole there, and no other; no code has two rows."""
+    for part in ("Commands", "Replies"):
+        there = codes_of("docs/PROTOCOL.md", part, lambda cells: True)
+        whole = codes_of("docs/PROFILE.md", part, lambda cells: cells[2].startswith("whole"))
+        every = codes_of("docs/PROFILE.md", part, lambda cells: True)
+        for code in sorted(set(there) ^ set(whole)):
+            faults.append(f"docs/PROFILE.md, {part}: {code} is whole in one of PROFILE and PROTOCOL alone")
+        for code in sorted({code for code in every if every.count(code) > 1}):
+            faults.append(f"docs/PROFILE.md, {part}: {code} has two rows")
+
+
+def plain_texts():
+    """What is written for people: pages, manual pages and scripts."""
+    for folder in ("", "docs", "man", "tests", "tests/rows", "tools", "bench", "examples"):
+        for file in sorted((TOP / folder).iterdir()):
+            if file.is_file() and file != Path(__file__).resolve():
+                yield file, file.read_text(errors="replace")
+
+
+def judge_words():
+    """The words that stand for others: "after" is meant by the first, "out of memory" by the second."""
+    for file, text in plain_texts():
+        for word in re.findall(r"\bbehind\b|\bwant\s+of\s+memory\b", text):
+            faults.append(f"{file.relative_to(TOP)}: says {word}")
 
 
 def judge_lengths():
@@ -299,6 +353,8 @@ if __name__ == "__main__":
     judge_profile()
     for each_page in ["README.md"] + sorted(str(file.relative_to(TOP)) for file in (TOP / "docs").glob("*.md")):
         judge_page(each_page, every)
+    judge_messages()
+    judge_words()
     judge_lengths()
     for fault in faults:
         print(fault)
