@@ -10,7 +10,9 @@ use Rattle.osdp_controller.specs.declared.session.Session.{Session}
 use Rattle.osdp_controller.specs.declared.state.State.{State}
 use Rattle.osdp_controller.specs.declared.state.State.TheVariants.{Closed, Quiet, Idle, Waiting, Pausing}
 use Rattle.osdp_controller.specs.Hearing.{Heard, ignores, pausing_hears, pd_id_of, waiting_hears}
+use Rattle.osdp_controller.specs.Machine.{Machine}
 use Rattle.osdp_controller.specs.States.{is_idle, moment_of}
+use Rattle.osdp_controller.specs.Ticking.{ticks_in}
 
 -- the moment that the state waits for is reached
 abbrev pub is_reached : Session → Bool
@@ -42,3 +44,9 @@ numbered_in (Quiet until) answer s = ignores s
 numbered_in (Idle due) answer s = ignores s
 numbered_in (Waiting until sends o) answer s = waiting_hears answer sends o s
 numbered_in (Pausing until o) answer s = pausing_hears answer o s
+
+-- a tick at the greatest moment seen
+abbrev pub after_act : Machine → Machine
+after_act m =
+    let ticked = ticks_in m.session.state m.session m.waiting in
+    record m { session = ticked.session; waiting = ticked.waiting }

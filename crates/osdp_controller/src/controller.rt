@@ -2,7 +2,8 @@
 
 ghost use Rattle.circular_buffer.specs.Buffer.{buffer};
 ghost use Rattle.osdp_controller.specs.Comsets.{is_comset};
-ghost use Rattle.osdp_controller.specs.Private.{next_in, rest_in};
+ghost use Rattle.osdp_controller.specs.Private.{after_act, next_in, rest_in};
+ghost use Rattle.osdp_controller.specs.Ticking.{ticks_in};
 ghost use Rattle.std.specs.Prelude.{◌≡◌, ◌↔◌, ◌*◌, ◌+◌, ◌≤◌, IfErr, None, Some, OnOk, length};
 
 use crate::config::{ControllerConfig, is_device};
@@ -190,11 +191,26 @@ impl Controller {
     }
 
     /// What is due at a moment: a frame to send, or a report, or nothing.
+    #[inline(always)]
     pub fn tick(&mut self, now: u64) -> Step
         ensures step { result ≡ (ticks now self.old.session self.old.waiting).step }
         ensures machine { self.new ≡ after_tick now self.old }
     {
         self.session.see(now);
+        if !self.session.is_reached()
+            && (self.waiting.is_empty() || !self.session.state.is_idle())
+        {
+            return Step::nothing();
+        }
+        self.act()
+    }
+
+    /// What is due at the greatest moment seen.
+    #[inline(never)]
+    fn act(&mut self) -> Step
+        ensures step { result ≡ (ticks_in self.old.session.state self.old.session self.old.waiting).step }
+        ensures machine { self.new ≡ after_act self.old }
+    {
         match next_command(&self.session.state, &mut self.waiting) {
             Some(command) => self.session.begin_next(Exchange::Asking(command)),
             None => self.session.tick(),
@@ -202,6 +218,7 @@ impl Controller {
     }
 
     /// Takes a frame that came from the line, and tells what it says, if that is to be told.
+    #[inline(always)]
     pub fn on_frame(&mut self, frame: &FrameView<'_>, now: u64) -> Option<Report>
         ensures report { result ≡ (hears frame.now now self.old.session).report }
         ensures machine { self.new ≡ after_frame frame.now now self.old }

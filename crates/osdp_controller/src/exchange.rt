@@ -25,12 +25,11 @@ impl Exchange {
         ensures room { length result.items ≤ 1433 }
         ensures are_bytes { AreBytes result.items }
     {
-        let body = match self {
-            Exchange::Opening => Command::Id(0).write(),
-            Exchange::Polling => Command::Poll.write(),
-            Exchange::Asking(command) => command.write(),
-        };
-        with_room(body.as_slice())
+        match self {
+            Exchange::Opening => with_room(&[0x61, 0]),
+            Exchange::Polling => with_room(&[0x60]),
+            Exchange::Asking(command) => with_room(command.write().as_slice()),
+        }
     }
 
     /// The command that it leaves unsettled, where that was submitted.
