@@ -2,6 +2,8 @@
 //! computes the CRC by a table, and allocates nothing for a line. It knows the messages that the inputs of the
 //! bench hold, and reads one byte on after a refusal the plain way: each check is computed anew.
 
+mod machines;
+
 use std::io::{self, Read, Write};
 use std::process::exit;
 
@@ -265,6 +267,13 @@ fn line_bytes(line: &[u8], run: &mut Vec<u8>) -> bool {
 
 fn main() {
     let words: Vec<String> = std::env::args().skip(1).collect();
+    if let [first, kind, count] = &words[..] {
+        if first == "machines" {
+            let done = count.parse().ok().and_then(|count| machines::done(kind, count));
+            println!("{}", done.map_or(String::from("bad words"), |done| done.to_string()));
+            return;
+        }
+    }
     let raw = words.iter().any(|word| word == "--raw");
     let join = words.iter().any(|word| word == "--join");
     let full = words.first().is_some_and(|word| word == "show");

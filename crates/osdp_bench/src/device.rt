@@ -1,0 +1,63 @@
+//! The device of the bench, and both ends of its link.
+
+ghost use Rattle.osdp_reader.specs.declared.handler.Answer.TheVariants.{Done};
+
+use arrayvec::ArrayVec;
+use osdp_controller::{Controller, ControllerConfig};
+use osdp_frame::{Address, CheckKind};
+use osdp_msg::{Command, PdCap, PdId};
+use osdp_reader::{Answer, Handler, Reader, ReaderConfig};
+use std::alloc::Global;
+
+/// A device that does all that it is told.
+#[derive(Clone, Copy, Debug)]
+pub struct Device {
+    /// Whether it is there.
+    pub is_on: bool,
+}
+
+impl Handler for Device {
+    ghost answer_of = { λ device command. Done };
+
+    ghost after = { λ device command. device };
+
+    fn answer(&mut self, command: &Command) -> Answer {
+        let _ = command;
+        Answer::Done
+    }
+}
+
+/// What the reader is.
+fn reader_config(address: Address) -> ReaderConfig {
+    ReaderConfig {
+        address,
+        id: PdId {
+            vendor: [1, 2, 3],
+            model: 1,
+            version: 1,
+            serial: 1,
+            firmware_major: 1,
+            firmware_minor: 0,
+            firmware_build: 0,
+        },
+        caps: PdCap {
+            capabilities: ArrayVec::new(),
+        },
+    }
+}
+
+/// The controller of a link, a POLL due this long after an answer.
+pub fn controller(alloc: Global, poll_interval: u32) -> Option<Controller> {
+    let mut config = ControllerConfig::new(Address::new(5)?, CheckKind::Crc);
+    config.poll_interval = poll_interval;
+    config.quiet_wait = 1;
+    let mut controller = Controller::new(alloc, config, 4).ok()?;
+    controller.begin(0).ok()?;
+    Some(controller)
+}
+
+/// The reader of a link.
+pub fn reader(alloc: Global) -> Option<Reader<Device>> {
+    let config = reader_config(Address::new(5)?);
+    Reader::new(alloc, config, Device { is_on: true }, 4).ok()
+}

@@ -1,0 +1,66 @@
+//! What changes nothing: repeats, frames that are ignored, ticks with nothing due.
+
+use crate::device::{controller, reader};
+use crate::exchanges::exchange;
+use osdp_frame::{Address, CheckKind, FrameView, Seq};
+use osdp_reader::Kind;
+use std::alloc::Global;
+
+/// So many packets with the last number.
+pub fn repeats(alloc: Global, count: u64) -> Option<u64> {
+    let mut controller = controller(alloc, 1)?;
+    let mut reader = reader(alloc)?;
+    let _ = exchange(&mut controller, &mut reader, 2);
+    let _ = exchange(&mut controller, &mut reader, 4);
+    let poll = [0x60];
+    let packet = FrameView::new(
+        false,
+        Address::new(5)?,
+        Seq::new(1)?,
+        CheckKind::Crc,
+        false,
+        0,
+        &poll,
+    )?;
+    let mut done = 0u64;
+    for _ in 0..count {
+        let response = reader.on_frame(&packet);
+        done = done.saturating_add(u64::from(
+            response.kind() == Kind::Repeat && response.bytes().len() == 8,
+        ));
+    }
+    Some(done)
+}
+
+/// So many replies of another reader, of which the controller tells nothing.
+pub fn ignored_frames(alloc: Global, count: u64) -> Option<u64> {
+    let mut controller = controller(alloc, 1)?;
+    let ack = [0x40];
+    let packet = FrameView::new(
+        true,
+        Address::new(6)?,
+        Seq::new(1)?,
+        CheckKind::Crc,
+        false,
+        0,
+        &ack,
+    )?;
+    let mut done = 0u64;
+    for now in 0..count {
+        done = done.saturating_add(u64::from(controller.on_frame(&packet, now).is_none()));
+    }
+    Some(done)
+}
+
+/// So many ticks between an answer and the next POLL, which is not due.
+pub fn idle_ticks(alloc: Global, count: u64) -> Option<u64> {
+    let mut controller = controller(alloc, 3_600_000)?;
+    let mut reader = reader(alloc)?;
+    let _ = exchange(&mut controller, &mut reader, 2);
+    let mut done = 0u64;
+    for place in 0..count {
+        let step = controller.tick(place % 1000);
+        done = done.saturating_add(u64::from(step.frame.is_none() && step.report.is_none()));
+    }
+    Some(done)
+}

@@ -1,0 +1,67 @@
+//! The kinds of work.
+
+use crate::exchanges::{outs, polls};
+use crate::hearing::{idle_ticks, ignored_frames, repeats};
+use crate::packets::{checks, encoded, encoded_to, framed};
+use osdp_frame::CheckKind;
+use std::alloc::Global;
+
+/// What is done so many times.
+#[derive(Clone, Copy, Debug, PartialEq, Eq)]
+pub enum Work {
+    /// A POLL and its ACK over both machines.
+    Polls,
+    /// An OUT and its ACK over both machines.
+    Outs,
+    /// A packet that a reader has answered already.
+    Repeats,
+    /// A reply that a controller has no exchange for.
+    Ignored,
+    /// A tick with nothing due.
+    Idle,
+    /// A POLL written as bytes, in a burst of its own.
+    Encode,
+    /// A POLL written as bytes, in a burst that is there.
+    EncodeTo,
+    /// A packet of 1440 bytes with a checksum through a framer.
+    FramerSum,
+    /// A packet of 1440 bytes with a CRC through a framer.
+    FramerCrc,
+    /// The CRC of 1438 bytes.
+    Crc,
+}
+
+impl Work {
+    /// The kind of this name.
+    pub fn of(name: &str) -> Option<Work> {
+        match name {
+            "poll" => Some(Work::Polls),
+            "out" => Some(Work::Outs),
+            "repeat" => Some(Work::Repeats),
+            "ignored" => Some(Work::Ignored),
+            "idle" => Some(Work::Idle),
+            "encode" => Some(Work::Encode),
+            "encode_to" => Some(Work::EncodeTo),
+            "framer_sum" => Some(Work::FramerSum),
+            "framer_crc" => Some(Work::FramerCrc),
+            "crc" => Some(Work::Crc),
+            _ => None,
+        }
+    }
+
+    /// Does it so many times, and tells how often it came out as it should. None where there is no memory.
+    pub fn done(self, alloc: Global, count: u64) -> Option<u64> {
+        match self {
+            Work::Polls => polls(alloc, count),
+            Work::Outs => outs(alloc, count),
+            Work::Repeats => repeats(alloc, count),
+            Work::Ignored => ignored_frames(alloc, count),
+            Work::Idle => idle_ticks(alloc, count),
+            Work::Encode => encoded(count),
+            Work::EncodeTo => encoded_to(count),
+            Work::FramerSum => framed(CheckKind::Sum, count),
+            Work::FramerCrc => framed(CheckKind::Crc, count),
+            Work::Crc => Some(checks(count)),
+        }
+    }
+}
