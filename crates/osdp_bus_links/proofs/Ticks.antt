@@ -64,12 +64,12 @@ module _ {H : Type 0} (ends : EndsAreTold) where
   -- ---- a tick
 
   -- the bus and the line afterwards
-  record Ends (t : BusTicked) (n next : Net H) : Type 0 where
-    bus : IsBusOf (after_next_report t.bus) next.sites
-    sent : packets_on next.to_readers ≡ packets_on n.to_readers ++ option_to_list t.sent
-    back : next.to_controllers ≡ n.to_controllers
-    told : TellsEach t.bus.devices.report n.sites next.sites
-    plain : IsNoRefusalOf t.bus.devices.report
+  pub record Ends (t : BusTicked) (n next : Net H) : Type 0 where
+    pub bus : IsBusOf (after_next_report t.bus) next.sites
+    pub sent : packets_on next.to_readers ≡ packets_on n.to_readers ++ option_to_list t.sent
+    pub back : next.to_controllers ≡ n.to_controllers
+    pub told : TellsEach t.bus.devices.report n.sites next.sites
+    pub plain : IsNoRefusalOf t.bus.devices.report
 
   stayed : (b : BusState) (n : Net H) → IsBusOf b n.sites → Ends (stays b) n n
   stayed b n h = record {
@@ -80,7 +80,7 @@ module _ {H : Type 0} (ends : EndsAreTold) where
     plain = subst IsNoRefusalOf (sym h.report) tt;
   }
 
-  one_ticked : (b : BusState) (n : Net H) (entry : ℕ) (s : Site H) → IsBusOf b n.sites → site_at entry n.sites ≡ Some s
+  pub one_ticked : (b : BusState) (n : Net H) (entry : ℕ) (s : Site H) → IsBusOf b n.sites → site_at entry n.sites ≡ Some s
       → Ends (ticks_with entry (Some (device_of s)) b) n (line.tick_at entry b.greatest (Some s) n)
   one_ticked b n entry s h at =
       let t = ticks_of b.greatest s in

@@ -75,7 +75,7 @@ module _ {H : Type 0} (answer_of : H → Command → Answer) (after : H → Comm
 
 module _ (fixed : ControllerConfig) {H : Type 0} (answer_of : H → Command → Answer) (after : H → Command → H) (settings : ReaderConfig) (first : H) where
   -- a session that has not ended has the settings that it began with
-  config_is : (at : Stage) (l : Link H) → At fixed answer_of after settings first at l → (l.controller.session.state ≡ Closed → ⊥)
+  pub config_is : (at : Stage) (l : Link H) → At fixed answer_of after settings first at l → (l.controller.session.state ≡ Closed → ⊥)
       → l.controller.session.config ≡ fixed
   config_is Fresh l h not = waits_config fixed l.controller.session.state l.controller.session h.controller
   config_is (Behind past x) l h not = asks_config fixed l.controller.session.state (number_after past) x l.controller.session not h.controller
@@ -101,7 +101,7 @@ module _ (fixed : ControllerConfig) {H : Type 0} (answer_of : H → Command → 
       (moving fixed answer_of after settings first given (Tick now) l tt tt held))
 
   -- the first round: the controller comes to rest, or the session ends
-  first_round : Given → (now : ℕ) (l : Link H) → Holds l → IsStill fixed answer_of after settings first l
+  pub first_round : Given → (now : ℕ) (l : Link H) → Holds l → IsStill fixed answer_of after settings first l
       → Acts (ticks now l.controller.session l.controller.waiting) → SaysWhatFits answer_of after (at_tick now l).to_reader l.reader
       → ((goes answer_of after now l).controller.session.state ≡ Closed) ⊎ IsIdle fixed answer_of after settings first (goes answer_of after now l)
   first_round given now l held still does fits =

@@ -85,7 +85,7 @@ module _ {H : Type 0} (answer_of : H → Command → Answer) (after : H → Comm
       heard_devices (t ∷ ts) = ap (λ ds. device_of t ∷ ds) (heard_devices ts)
 
   -- the premise of the move
-  says_fit : (how : Delivery) (ps : List (ℕ × Packet)) (p : ℕ × Packet) (s : LineState H) (n : Net H) → Each (λ (u : Site H). SaysFit answer_of after (p.1 ∷ []) u.reader) s.sites
+  pub says_fit : (how : Delivery) (ps : List (ℕ × Packet)) (p : ℕ × Packet) (s : LineState H) (n : Net H) → Each (λ (u : Site H). SaysFit answer_of after (p.1 ∷ []) u.reader) s.sites
       → SitesOf s.sites n.sites → (k : ℕ) (t : line.Site H) → site_at k n.sites ≡ Some t → SaysWhatFitsIf answer_of after how (in_front (p ∷ ps)) t.reader
   says_fit how ps p s n fits sites k t is = by_delivery how
     where
@@ -115,7 +115,7 @@ module _ {H : Type 0} (answer_of : H → Command → Answer) (after : H → Comm
       (with_readers s n bursts ps is asked h)
 
   -- a packet does
-  came_to_readers : ReadsPackets → (s : LineState H) (n : Net H) (p : Packet) (bursts : List (List ℕ)) (ps : List (ℕ × Packet)) → IsPacket p
+  pub came_to_readers : ReadsPackets → (s : LineState H) (n : Net H) (p : Packet) (bursts : List (List ℕ)) (ps : List (ℕ × Packet)) → IsPacket p
       → bursts ≡ map spelling (packets_on ps) → Each IsPacket (packets_on ps)
       → Each (λ (u : Site H). SaysFit answer_of after (packets_in (spelling p)) u.reader) s.sites → Follows s n
       → Follows (all_hear_each answer_of after (packets_in (spelling p)) (record s { to_readers = bursts })) (line.all_hear answer_of after p (record n { to_readers = ps }))
@@ -171,12 +171,12 @@ module _ {H : Type 0} (answer_of : H → Command → Answer) (after : H → Comm
   -- ---- to the bus
 
   -- a run of bytes, or none
-  record Comes (bytes : List ℕ) (b : BusState) (ss next : List (line.Site H)) : Type 0 where
-    bus : IsBusOf (after_next_report b) next
-    told : TellsEach b.devices.report ss next
-    plain : All IsPlainlySaid (packets_in bytes) → IsNoRefusalOf b.devices.report
+  pub record Comes (bytes : List ℕ) (b : BusState) (ss next : List (line.Site H)) : Type 0 where
+    pub bus : IsBusOf (after_next_report b) next
+    pub told : TellsEach b.devices.report ss next
+    pub plain : All IsPlainlySaid (packets_in bytes) → IsNoRefusalOf b.devices.report
 
-  none_comes : HearsAsAMove H → ReadsPackets → (bytes : List ℕ) (now : ℕ) (b : BusState) (ss : List (line.Site H)) → IsBusOf b ss → AreBytes bytes
+  pub none_comes : HearsAsAMove H → ReadsPackets → (bytes : List ℕ) (now : ℕ) (b : BusState) (ss : List (line.Site H)) → IsBusOf b ss → AreBytes bytes
       → packets_in bytes ≡ [] → Comes bytes (hears_run bytes now b) ss ss
   none_comes hears reads [] now b ss h fits none = record {
     bus = record { entries = h.entries; held = h.held; report = refl };
@@ -186,13 +186,13 @@ module _ {H : Type 0} (answer_of : H → Command → Answer) (after : H → Comm
   none_comes hears reads (byte ∷ bytes) now b ss h fits none =
       let is = (hears b ss now (byte ∷ bytes) h fits).0 none in record { bus = is.bus; told = is.told; plain = is.plain }
 
-  one_comes : HearsAsAMove H → ReadsPackets → (bytes : List ℕ) (now : ℕ) (b : BusState) (ss : List (line.Site H)) (p : Packet) → IsBusOf b ss → AreBytes bytes
+  pub one_comes : HearsAsAMove H → ReadsPackets → (bytes : List ℕ) (now : ℕ) (b : BusState) (ss : List (line.Site H)) (p : Packet) → IsBusOf b ss → AreBytes bytes
       → packets_in bytes ≡ p ∷ [] → Comes bytes (hears_run bytes now b) ss (first_gets p (max b.greatest now) ss)
   one_comes hears reads [] now b ss p h fits one = absurd (let none = reads.none in cc)
   one_comes hears reads (byte ∷ bytes) now b ss p h fits one =
       let is = (hears b ss now (byte ∷ bytes) h fits).1 p one in record { bus = is.bus; told = is.told; plain = is.plain }
 
-  came : (bytes : List ℕ) (s : LineState H) (n : Net H) (bursts : List (List ℕ)) (qs : List (ℕ × Packet)) (next : List (line.Site H))
+  pub came : (bytes : List ℕ) (s : LineState H) (n : Net H) (bursts : List (List ℕ)) (qs : List (ℕ × Packet)) (next : List (line.Site H))
       → Comes bytes (hears_run bytes s.clock s.bus) n.sites next → All IsPlainlySaid (packets_in bytes) → bursts ≡ map spelling (packets_on qs)
       → Each IsPacket (packets_on qs) → Follows s n
       → Follows (takes_report (record s { bus = hears_run bytes s.clock s.bus; to_bus = bursts })) (record n { sites = next; to_controllers = qs })

@@ -48,7 +48,7 @@ HasOne a = length a.sessions ≡ 1
 -- ---- no session begins
 
 module _ {H : Type 0} where
-  abbrev HaveOne : List (Site H) → Type 0
+  abbrev pub HaveOne : List (Site H) → Type 0
   HaveOne us = Each (λ (u : Site H). HasOne u.account) us
 
   one_changed : (change : Site H → Site H) → ((u : Site H) → HasOne u.account → HasOne (change u).account) → (k : ℕ) (us : List (Site H))
@@ -82,7 +82,7 @@ module _ {H : Type 0} where
   one_each [] all = tt
   one_each (u ∷ us) all = (all.0, one_each us all.1)
 
-  one_first : (readers : List (Given H)) → HaveOne (map new_site readers)
+  pub one_first : (readers : List (Given H)) → HaveOne (map new_site readers)
   one_first [] = tt
   one_first (given ∷ readers) = (refl, one_first readers)
 
@@ -116,7 +116,7 @@ module _ {H : Type 0} where
         one_told t.bus.devices.report (record t { bus = after_next_report t.bus }) all
     one_step (step.Reopen number) s within all = absurd within
 
-    one_run : (steps : List SimStep) (s : LineState H) → Each IsInSession steps → HaveOne s.sites
+    pub one_run : (steps : List SimStep) (s : LineState H) → Each IsInSession steps → HaveOne s.sites
         → HaveOne (simulation.run answer_of after steps s).sites
     one_run [] s within all = all
     one_run (move ∷ steps) s within all =
@@ -139,7 +139,7 @@ sessions_are cuts next (t ∷ earlier) gone (before, past, over, is) =
     let last = length-append before (is.at ∷ []) in
     omega (arith, more, begins, last)
 
-none_earlier : (a : Account) (t : link.Account) (earlier : List link.Account) → IsOf a t earlier → HasOne a → earlier ≡ []
+pub none_earlier : (a : Account) (t : link.Account) (earlier : List link.Account) → IsOf a t earlier → HasOne a → earlier ≡ []
 none_earlier a t [] lists one = refl
 none_earlier a t (u ∷ earlier) lists one =
     let many = sessions_are a.sessions t.queued (u ∷ earlier) lists.queued.0 lists.queued.1 in absurd (omega (arith, many, one))

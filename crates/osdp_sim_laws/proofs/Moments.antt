@@ -36,16 +36,16 @@ abbrev pub InTime : ℕ → ℕ → Session → Type 0
 InTime clock wait s = (s.greatest ≤ clock) × (longest_wait s.config ≤ wait)
 
 module _ (clock wait : ℕ) where
-  abbrev So : Session → Type 0
+  abbrev pub So : Session → Type 0
   So s = InTime clock wait s
 
-  abbrev TickedSo : Ticked → Type 0
+  abbrev pub TickedSo : Ticked → Type 0
   TickedSo t = So t.session
 
-  abbrev HeardSo : Heard → Type 0
+  abbrev pub HeardSo : Heard → Type 0
   HeardSo h = So h.session
 
-  tick_so : (state : State) (s : Session) (waiting : List Command) → So s → TickedSo (ticks_in state s waiting)
+  pub tick_so : (state : State) (s : Session) (waiting : List Command) → So s → TickedSo (ticks_in state s waiting)
   tick_so Closed s waiting is = is
   tick_so (Quiet until) s waiting is = both TickedSo (leb until s.greatest) (begins Opening 0 s waiting) (stays s waiting) is is
   tick_so (Idle due) s [] is = both TickedSo (leb due s.greatest) (begins Polling (next_sequence s.number) s []) (stays s []) is is
@@ -99,7 +99,7 @@ module _ (clock wait : ℕ) where
   heard_so (Waiting until k o) number a s is = both HeardSo (is_numbered number a s) (waiting_hears a k o s) (ignores s) (waiting_so a k o s is) is
   heard_so (Pausing until o) number a s is = both HeardSo (is_numbered number a s) (pausing_hears a o s) (ignores s) (pausing_so a o s is) is
 
-  hears_so : (p : Packet) (now : ℕ) (s : Session) → So (seen now s) → HeardSo (hears p now s)
+  pub hears_so : (p : Packet) (now : ℕ) (s : Session) → So (seen now s) → HeardSo (hears p now s)
   hears_so p now s is =
       both HeardSo (is_from_reader p s) (hears_in s.state p.sequence (said_by p) (seen now s)) (ignores (seen now s))
       (heard_so s.state p.sequence (said_by p) (seen now s) is) is

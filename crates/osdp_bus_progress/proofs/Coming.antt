@@ -1,0 +1,357 @@
+-- Something comes through for each of several readers.
+use Rattle.std.proofs.Common.{◌≡◌, ◌≤◌, ◌<◌, ◌+◌, ◌++◌, ◌&&◌, ℕ, zero, suc, Bool, true, All, List, [], ◌∷◌, length, map, Option, Some, None, is_none, inl, inr, refl, sym, subst, ap, ◌∙◌, arith}
+use Rattle.std.proofs.Math.Nat.{div-mul-le_self, suc-mul}
+use Rattle.std.proofs.lemmas.List.{length-map}
+use Rattle.std.specs.Prelude.{◌/◌, ◌*◌, slice_get}
+use Rattle.osdp_frame.specs.Packet.{Packet}
+use Rattle.osdp_frame.specs.Spelling.{spelling}
+use Rattle.osdp_msg.specs.declared.command.Command.{Command}
+use Rattle.osdp_controller.specs.Machine.{new_machine}
+use Rattle.osdp_controller_laws.specs.Calls.{ComesDue, IsInRange, StaysInRange, longest_wait}
+use Rattle.osdp_controller_laws.specs.Runs.{Begin}
+use Rattle.osdp_reader.specs.declared.handler.Answer.{Answer}
+use Rattle.osdp_bus.specs.Settings.{controller_config}
+use Rattle.osdp_bus.specs.declared.config.BusConfig.{BusConfig}
+use Rattle.osdp_link_laws.specs.Addresses.{StayWhereTheyAre}
+use Rattle.osdp_link_laws.specs.Headline.{AreMoves}
+use Rattle.osdp_link_laws.specs.Link as link
+use Rattle.osdp_link_laws.specs.Link.{Link}
+use Rattle.osdp_link_laws.specs.Peers.{ReadEachOther}
+use Rattle.osdp_link_laws.specs.Progress as progress
+use Rattle.osdp_link_laws.specs.Progress.{SetsNoAddress}
+use Rattle.osdp_link_laws.specs.Sessions.{all_submitted, told_in}
+use Rattle.osdp_link_laws.proofs.Lines.{each_all, each_of, each_rest}
+use Rattle.osdp_link_laws.proofs.Stages.{Each}
+use Rattle.osdp_multidrop.specs.Line as line
+use Rattle.osdp_multidrop.specs.Line.{Net, run, site_at}
+use Rattle.osdp_multidrop.specs.Runs.{EachIsALink, EachStaysInARow, IsInARow, IsItsLink, IsSetUp, moves_of}
+use Rattle.osdp_multidrop.specs.Views.{own, view}
+use Rattle.osdp_multidrop.proofs.Changing.{some_same}
+use Rattle.osdp_multidrop.proofs.Running.{holds_all, holds_first}
+use Rattle.osdp_bus_links.specs.Links.{device_of, packets_on}
+use Rattle.osdp_bus_links.proofs.Telling.{EndsAreTold}
+use Rattle.osdp_sim.specs.Account.{Account}
+use Rattle.osdp_sim.specs.declared.fault.Cause.{Cause}
+use Rattle.osdp_sim.specs.declared.step.SimStep.{SimStep}
+use Rattle.osdp_sim_bus.specs.Laws.{HasAnAccountEach}
+use Rattle.osdp_sim_bus.specs.Runs as simulation
+use Rattle.osdp_sim_bus.specs.Runs.{FitAlong, is_well}
+use Rattle.osdp_sim_bus.specs.State.{Given, LineState, Site, accounts, set_up}
+use Rattle.osdp_sim_bus.specs.Steps.{after_step, fault_of}
+use Rattle.osdp_sim_laws.specs.Accounts.{IsInSession, IsOf}
+use Rattle.osdp_sim_laws.specs.Progress.{rounds}
+use Rattle.osdp_sim_laws.proofs.Coming.{rounds_within}
+use Rattle.osdp_sim_laws.proofs.Ends.{first_well}
+use Rattle.osdp_sim_bus_laws.specs.Moves.{Done, Follows, OneBus, SchedulesAreMoves, SitesOf}
+use Rattle.osdp_sim_bus_laws.proofs.Beginning.{first_net, first_site, follows_first, has_site, is_set_up}
+use Rattle.osdp_sim_bus_laws.proofs.OneSession.{HasOne, none_earlier, one_first, one_run}
+use Rattle.osdp_sim_bus_laws.proofs.Sites.{get_site}
+use Rattle.osdp_bus_progress.specs.Progress.{ComesOn, EachComesThrough, IsClear, IsReady, IsRun, NoneHasEnded}
+use Rattle.osdp_bus_progress.proofs.Along.{first_at, run_at_all}
+use Rattle.osdp_bus_progress.proofs.Ends.{NoEnds, lasts_there, none_before_rounds}
+use Rattle.osdp_bus_progress.proofs.Rounds.{AtRest, HasRounds, all_rounds, all_turns, site_within}
+use Rattle.osdp_bus_progress.proofs.Turns.{IsTurn, some_away, some_turn}
+
+-- ---- lists
+
+none_on : (ps : List (ℕ × Packet)) → map spelling (packets_on ps) ≡ [] → ps ≡ []
+none_on [] none = refl
+none_on (p ∷ ps) none = absurd cc
+
+unmapped : {A B : Type 0} (f : A → B) (k : ℕ) (b : B) (xs : List A) → slice_get (map f xs) k ≡ Some b → (a : A) × (slice_get xs k ≡ Some a) × (f a ≡ b)
+unmapped f k b [] at = absurd cc
+unmapped f zero b (x ∷ xs) at = (x, refl, some_same (f x) b at)
+unmapped f (suc k) b (x ∷ xs) at = unmapped f k b xs at
+
+get_each : {A : Type 0} (P : A → Type 0) (k : ℕ) (x : A) (xs : List A) → Each P xs → slice_get xs k ≡ Some x → P x
+get_each P k x [] all is = absurd cc
+get_each P zero x (y ∷ xs) all is = subst P (some_same y x is) all.0
+get_each P (suc k) x (y ∷ xs) all is = get_each P k x xs all.1 is
+
+there_is : {A : Type 0} (k : ℕ) (xs : List A) → k < length xs → (x : A) × (slice_get xs k ≡ Some x)
+there_is k [] few = absurd (omega (arith, few))
+there_is zero (x ∷ xs) few = (x, refl)
+there_is (suc k) (x ∷ xs) few = there_is k xs (omega (arith, few))
+
+get_within : {A : Type 0} (k : ℕ) (x : A) (xs : List A) → slice_get xs k ≡ Some x → k < length xs
+get_within k x [] at = absurd cc
+get_within zero x (y ∷ xs) at = omega arith
+get_within (suc k) x (y ∷ xs) at = omega (arith, get_within k x xs at)
+
+-- so many turns as go into m
+all_is : (turns count : ℕ) → all_turns turns count ≡ turns * count
+all_is zero count = let none : 0 * count ≡ 0 = omega arith in sym none
+all_is (suc turns) count =
+    let swap : count + turns * count ≡ turns * count + count = omega arith in
+    ap (λ more. count + more) (all_is turns count) ∙ swap ∙ sym (suc-mul turns count)
+
+share : (m count : ℕ) → all_turns (m / count) count ≤ m
+share m count = subst (λ all. all ≤ m) (sym (all_is (m / count) count)) (div-mul-le_self m count)
+
+module _ {H : Type 0} (answer_of : H → Command → Answer) (after : H → Command → H) where
+  -- ---- two schedules, one after the other
+
+  runs_on : (xs ys : List SimStep) (s : LineState H) → simulation.run answer_of after (xs ++ ys) s ≡ simulation.run answer_of after ys (simulation.run answer_of after xs s)
+  runs_on [] ys s = refl
+  runs_on (x ∷ xs) ys s = runs_on xs ys (after_step answer_of after x s)
+
+  well_on : (xs ys : List SimStep) (s : LineState H) → is_well answer_of after (xs ++ ys) s ≡ true → is_well answer_of after xs s ≡ true
+  well_on [] ys s well = refl
+  well_on (x ∷ xs) ys s well =
+      let next = after_step answer_of after x s in
+      let first = first_well (fault_of x s) (is_well answer_of after (xs ++ ys) next) well in
+      none_and (fault_of x s) (is_well answer_of after xs next) first.0 (well_on xs ys next first.1)
+    where
+      none_and : (fault : Option Cause) (more : Bool) → fault ≡ None → more ≡ true → (is_none fault && more) ≡ true
+      none_and None more none e = e
+      none_and (Some cause) more none e = absurd cc
+
+  fits_on : (xs ys : List SimStep) (s : LineState H) → FitAlong answer_of after (xs ++ ys) s
+      → FitAlong answer_of after xs s × FitAlong answer_of after ys (simulation.run answer_of after xs s)
+  fits_on [] ys s fits = (tt, fits)
+  fits_on (x ∷ xs) ys s fits =
+      let rest = fits_on xs ys (after_step answer_of after x s) fits.1 in
+      ((fits.0, rest.0), rest.1)
+
+  -- ---- the lists of one session
+
+  record AsLong (a : Account) (t : link.Account) : Type 0 where
+    pub settled : length a.settled ≡ length t.settled
+    pub reported : length a.reported ≡ length t.reported
+    pub issued : length a.issued ≡ length t.issued
+    pub queued : length a.queued ≡ length t.queued
+
+  as_long : (a : Account) (t : link.Account) (earlier : List link.Account) → earlier ≡ [] → IsOf a t earlier → AsLong a t
+  as_long a t (u ∷ earlier) none lists = absurd cc
+  as_long a t [] none lists =
+      let gone : lists.queued.0 ≡ [] = lists.queued.1.1 in
+      record {
+        settled = ap length lists.settled;
+        reported = ap length lists.reported;
+        issued = ap length lists.issued;
+        queued = ap length (lists.queued.2 ∙ ap (λ es. es ++ t.queued) gone);
+      }
+
+  module _ (bus : OneBus answer_of after) (schedules : SchedulesAreMoves answer_of after) (counts : HasAnAccountEach answer_of after)
+      (links : EachIsALink answer_of after) (rows : EachStaysInARow answer_of after) (peers : ReadEachOther answer_of after)
+      (in_time : progress.ComesThroughInTime answer_of after) (stays : StayWhereTheyAre answer_of after) (ends : EndsAreTold) (ranges : StaysInRange)
+      (comes : ComesDue) where
+    module _ (config : BusConfig) (readers : List (Given H)) (steps : List SimStep) (m wait : ℕ)
+        (is : IsRun answer_of after config readers (steps ++ rounds m wait)) (within : All IsInSession steps)
+        (long : longest_wait (controller_config 0 config) ≤ wait)
+        (clear : IsClear (simulation.run answer_of after steps (set_up config readers)))
+        (none : NoneHasEnded (accounts (simulation.run answer_of after (steps ++ rounds m wait) (set_up config readers)))) where
+      abbrev start : LineState H
+      start = set_up config readers
+
+      abbrev s : LineState H
+      s = simulation.run answer_of after steps start
+
+      abbrev later : LineState H
+      later = simulation.run answer_of after (rounds m wait) s
+
+      later_is : simulation.run answer_of after (steps ++ rounds m wait) start ≡ later
+      later_is = runs_on steps (rounds m wait) start
+
+      abbrev first : Net H
+      first = first_net config readers
+
+      up : IsSetUp first
+      up = is_set_up config readers is.settings
+
+      fits : FitAlong answer_of after steps start × FitAlong answer_of after (rounds m wait) s
+      fits = fits_on steps (rounds m wait) start is.fits
+
+      goes : Done answer_of after s first
+      goes = schedules steps start first up (follows_first config readers) (well_on steps (rounds m wait) start is.well) fits.0
+
+      abbrev n : Net H
+      n = run answer_of after goes.0 first
+
+      follows : Follows s n
+      follows = goes.2
+
+      ended_none : NoEnds later
+      ended_none k u at =
+          get_each (λ (a : Account). a.ends ≡ []) k u.account (accounts later)
+          (subst (λ (v : LineState H). Each (λ (a : Account). a.ends ≡ []) (accounts v)) later_is
+          (each_of (λ (a : Account). a.ends ≡ []) (accounts (simulation.run answer_of after (steps ++ rounds m wait) start)) none))
+          (account_at k u later.sites at)
+        where
+          account_at : (k : ℕ) (u : Site H) (us : List (Site H)) → slice_get us k ≡ Some u
+              → slice_get (map (λ (site : Site H). site.account) us) k ≡ Some u.account
+          account_at k u [] at = absurd cc
+          account_at zero u (v ∷ us) at = ap (λ (w : Site H). Some w.account) (some_same v u at)
+          account_at (suc k) u (v ∷ us) at = account_at k u us at
+
+      before_none : NoEnds s
+      before_none = none_before_rounds answer_of after m wait s ended_none
+
+      -- each reader has its site from the beginning on
+      counted : length s.sites ≡ length readers
+      counted = sym (mapped_count (λ (site : Site H). site.account) s.sites) ∙ counts config readers steps
+        where
+          mapped_count : {A B : Type 0} (f : A → B) (xs : List A) → length (map f xs) ≡ length xs
+          mapped_count f [] = refl
+          mapped_count f (x ∷ xs) = ap suc (mapped_count f xs)
+
+      sites_count : length n.sites ≡ length readers
+      sites_count = sym (same_count s.sites n.sites follows.sites) ∙ counted
+        where
+          same_count : (us : List (Site H)) (ts : List (line.Site H)) → SitesOf us ts → length us ≡ length ts
+          same_count [] [] all = refl
+          same_count [] (t ∷ ts) all = absurd all
+          same_count (u ∷ us) [] all = absurd all
+          same_count (u ∷ us) (t ∷ ts) all = ap suc (same_count us ts all.1)
+
+      -- its link so far
+      record HasLink (k : ℕ) (t : line.Site H) : Type 0 where
+        pub given : Given H
+        pub begins : site_at k first.sites ≡ Some (first_site config given)
+        pub its : IsItsLink answer_of after k (first_site config given) goes.0 first
+        pub moved : view k t n ≡ link.run answer_of after (moves_of answer_of after k goes.0 first) (view k (first_site config given) first)
+        pub row : IsInARow answer_of after k (first_site config given) t goes.0 first
+
+      link_at : (k : ℕ) (t : line.Site H) → site_at k n.sites ≡ Some t → HasLink k t
+      link_at k t at =
+          let few = site_within answer_of after peers k t n.sites at in
+          let same = sites_count in
+          let given = there_is k readers (omega (arith, few, same)) in
+          let begins = has_site config k given.0 readers given.1 in
+          let its = links first goes.0 up goes.1 k (first_site config given.0) begins in
+          record {
+            given = given.0;
+            begins = begins;
+            its = its;
+            moved = subst (λ u. view k u n ≡ link.run answer_of after (moves_of answer_of after k goes.0 first) (view k (first_site config given.0) first))
+                (some_same its.moved.site t (sym its.moved.there ∙ at)) its.moved.moved;
+            row = rows first goes.0 up goes.1 k (first_site config given.0) t begins at;
+          }
+
+      ready_at : (k : ℕ) (u : Site H) → slice_get s.sites k ≡ Some u → IsReady u
+      ready_at k u at = get_each IsReady k u s.sites (each_of IsReady s.sites clear.readers) at
+
+      clear_at : (k : ℕ) (t : line.Site H) → site_at k n.sites ≡ Some t → progress.IsClear (view k t n)
+      clear_at k t at =
+          let l = link_at k t at in
+          let u = get_site k t s.sites n.sites follows.sites at in
+          let ready = ready_at k u.0 u.1 in
+          let ms = moves_of answer_of after k goes.0 first in
+          let old = view k (first_site config l.given) first in
+          let begun = up.begins k (first_site config l.given) l.begins in
+          let issued = each_of SetsNoAddress u.0.account.issued ready.issued in
+          let submitted = subst (Each SetsNoAddress) (u.2.tells.issued ∙ sym l.row.commands) issued in
+          let stay = stays old ms begun.begins l.its.fits (each_all SetsNoAddress (old.controller.waiting ++ all_submitted answer_of after ms old) submitted) in
+          let moved = l.moved in
+          record {
+            to_reader = ap (own k) (none_on n.to_readers (sym follows.to_readers ∙ clear.to_readers));
+            to_controller = ap (own k) (none_on n.to_controllers (sym follows.to_bus ∙ clear.to_bus));
+            address = ap (λ (v : Link H). v.reader.config.address) moved ∙ stay.0 ∙ begun.together ∙ sym stay.1
+                ∙ sym (ap (λ (v : Link H). v.controller.session.config.address) moved);
+            ready = sym (ap (λ r. r.busy) u.2.reader) ∙ ready.ready;
+            issued = each_all SetsNoAddress t.account.issued
+                (each_rest SetsNoAddress (told_in t.earlier) t.account.issued (subst (Each SetsNoAddress) u.2.tells.issued issued));
+          }
+
+      entries_count : length s.bus.devices.entries ≡ length readers
+      entries_count = ap length follows.bus.entries ∙ length-map n.sites device_of ∙ sites_count
+
+      at_rest : (entry : ℕ) → entry < length readers → IsTurn entry s.bus → AtRest answer_of after peers (length readers) wait entry s n
+      at_rest entry below turn = record {
+        follows = follows;
+        holds = holds_all answer_of after peers goes.0 first goes.1 (holds_first answer_of after peers first up);
+        in_time = run_at_all answer_of after ranges wait steps start (each_of IsInSession steps within) (first_at answer_of after ranges wait config readers long);
+        quiet = record {
+          to_readers = none_on n.to_readers (sym follows.to_readers ∙ clear.to_readers);
+          to_controllers = none_on n.to_controllers (sym follows.to_bus ∙ clear.to_bus);
+        };
+        clear = clear_at;
+        lasts = before_none;
+        count_is = sites_count;
+        below = below;
+        turn = turn;
+      }
+
+      -- one session each
+      one_at : (k : ℕ) (u : Site H) → slice_get s.sites k ≡ Some u → HasOne u.account
+      one_at k u at =
+          get_each (λ (v : Site H). HasOne v.account) k u s.sites
+          (one_run answer_of after steps start (each_of IsInSession steps within) (one_first readers)) at
+
+      one_later : (k : ℕ) (u : Site H) → slice_get later.sites k ≡ Some u → HasOne u.account
+      one_later k u at =
+          get_each (λ (v : Site H). HasOne v.account) k u later.sites
+          (one_run answer_of after (rounds m wait) s (rounds_within m wait)
+          (one_run answer_of after steps start (each_of IsInSession steps within) (one_first readers))) at
+
+      -- the rounds of one reader
+      its_rounds : (k : ℕ) (t : line.Site H) → site_at k n.sites ≡ Some t
+          → (away : ℕ) × HasRounds answer_of after peers bus ends ranges comes (length readers) wait k t m away s n × (away < length readers)
+      its_rounds k t at =
+          let few = site_within answer_of after peers k t n.sites at in
+          let same = sites_count in
+          let entries = entries_count in
+          let turn = some_turn s.bus (omega (arith, few, same, entries)) in
+          let below : turn.0 < length readers = let under = turn.1 in omega (arith, under, entries) in
+          let away = some_away (length readers) turn.0 k below (omega (arith, few, same)) in (
+            away.0,
+            all_rounds answer_of after peers bus ends ranges comes (length readers) wait m turn.0 away.0 s n (at_rest turn.0 below turn.2) fits.1 ended_none k t at away.1,
+            away.1.below,
+          )
+
+      comes_on : (k : ℕ) (u v : Site H) → slice_get s.sites k ≡ Some u → slice_get later.sites k ≡ Some v → ComesOn m (length readers) u.account v.account
+      comes_on k u v at there =
+          let few = get_within k u s.sites at in
+          let same = counted in
+          let total = sites_count in
+          let t = sited k n.sites (omega (arith, few, same, total)) in
+          let l = link_at k t.0 t.1 in
+          let found = its_rounds k t.0 t.1 in
+          let has = found.1 in
+          let ms = moves_of answer_of after k goes.0 first in
+          let old = view k (first_site config l.given) first in
+          let begun = up.begins k (first_site config l.given) l.begins in
+          let machine = controller_config l.given.0.address config in
+          let range : IsInRange old.controller.session = ranges.later (new_machine machine config.capacity) (Begin 0 ∷ []) (ranges.new machine config.capacity) in
+          let through = in_time old ms has.moments begun.begins range l.its.fits
+          (subst progress.IsClear l.moved (clear_at k t.0 t.1))
+          (subst (progress.AreLate answer_of after has.moments) l.moved has.late)
+          (subst (AreMoves answer_of after (progress.rounds has.moments)) l.moved has.fits) in
+          let last = has.seen_then.site in
+          let then_ : view k last has.last ≡ link.run answer_of after (progress.rounds has.moments) (link.run answer_of after ms old) =
+          has.seen_then.moved ∙ ap (link.run answer_of after (progress.rounds has.moments)) l.moved in
+          let u_is = get_site k t.0 s.sites n.sites follows.sites t.1 in
+          let v_is = get_site k last later.sites has.last.sites has.follows.sites has.seen_then.there in
+          let u_same : u_is.0 ≡ u = some_same u_is.0 u (sym u_is.1 ∙ at) in
+          let v_same : v_is.0 ≡ v = some_same v_is.0 v (sym v_is.1 ∙ there) in
+          let u_long = as_long u_is.0.account t.0.account t.0.earlier (none_earlier u_is.0.account t.0.account t.0.earlier u_is.2.tells (one_at k u_is.0 u_is.1)) u_is.2.tells in
+          let v_long = as_long v_is.0.account last.account last.earlier (none_earlier v_is.0.account last.account last.earlier v_is.2.tells (one_later k v_is.0 v_is.1)) v_is.2.tells in
+          let turns = m / length readers in
+          let part = share m (length readers) in
+          let enough : turns ≤ length has.moments = has.enough turns (let below = found.2 in omega (arith, part, below)) in
+          subst (λ (x : Site H). ComesOn m (length readers) x.account v.account) u_same
+          (subst (λ (y : Site H). ComesOn m (length readers) u_is.0.account y.account) v_same
+          (elim through [
+            | inl closed ↦ absurd (lasts_there later has.last has.follows ended_none k last has.seen_then.there (ap (λ (x : Link H). x.controller.session.state) then_ ∙ closed))
+            | inr on ↦ (
+                let counted_on : progress.ComeOn has.moments t.0.account last.account =
+                subst (λ (x : Link H). progress.ComeOn has.moments x.account last.account) (sym l.moved)
+                (subst (λ (x : Link H). progress.ComeOn has.moments (link.run answer_of after ms old).account x.account) (sym then_) on) in
+                omega (arith, counted_on, enough, u_long.settled, u_long.reported, v_long.settled, v_long.reported, v_long.issued, v_long.queued))
+          ]))
+        where
+          sited : (k : ℕ) (ts : List (line.Site H)) → k < length ts → (t : line.Site H) × (site_at k ts ≡ Some t)
+          sited k [] few = absurd (omega (arith, few))
+          sited zero (t ∷ ts) few = (t, refl)
+          sited (suc k) (t ∷ ts) few = sited k ts (omega (arith, few))
+
+    pub each_comes_through : EachComesThrough answer_of after
+    each_comes_through config readers steps m wait is within long clear none k old new at there =
+        let s = simulation.run answer_of after steps (set_up config readers) in
+        let later = simulation.run answer_of after (rounds m wait) s in
+        let u = unmapped (λ (site : Site H). site.account) k old s.sites at in
+        let v = unmapped (λ (site : Site H). site.account) k new later.sites
+        (subst (λ (w : LineState H). slice_get (accounts w) k ≡ Some new) (runs_on steps (rounds m wait) (set_up config readers)) there) in
+        subst (λ a. ComesOn m (length readers) a new) u.2
+        (subst (λ b. ComesOn m (length readers) u.0.account b) v.2
+        (comes_on config readers steps m wait is within long clear none k u.0 v.0 u.1 v.1))

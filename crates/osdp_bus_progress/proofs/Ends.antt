@@ -1,0 +1,85 @@
+-- A session that has ended has an end in its account, and no end leaves it.
+use Rattle.std.proofs.Common.{◌≡◌, ℕ, zero, suc, List, [], ◌∷◌, ◌++◌, length, Some, ap, arith}
+use Rattle.std.specs.Prelude.{slice_get}
+use Rattle.osdp_msg.specs.declared.command.Command.{Command}
+use Rattle.osdp_controller.specs.States.{is_closed}
+use Rattle.osdp_controller.specs.declared.report.Report.{Report}
+use Rattle.osdp_controller.specs.declared.report.Report.TheVariants as report
+use Rattle.osdp_controller.specs.declared.state.State.TheVariants.{Closed}
+use Rattle.osdp_reader.specs.declared.handler.Answer.{Answer}
+use Rattle.osdp_link_laws.proofs.Stages.{Each}
+use Rattle.osdp_multidrop.specs.Line as line
+use Rattle.osdp_multidrop.specs.Line.{Net, site_at}
+use Rattle.osdp_sim.specs.Account.{Account, with_report}
+use Rattle.osdp_sim.specs.declared.step.SimStep.{SimStep}
+use Rattle.osdp_sim_bus.specs.Runs as simulation
+use Rattle.osdp_sim_bus.specs.State.{LineState, Site}
+use Rattle.osdp_sim_bus.specs.Steps.{after_step}
+use Rattle.osdp_sim_laws.proofs.Accounts.{some_begun}
+use Rattle.osdp_sim_laws.specs.Progress.{rounds}
+use Rattle.osdp_sim_bus_laws.specs.Moves.{Follows, count}
+use Rattle.osdp_sim_bus_laws.proofs.Idling.{IsIdle, IsNoOrder, idle_sites}
+use Rattle.osdp_sim_bus_laws.proofs.Places.{StaysAt, stays_all, stays_then}
+use Rattle.osdp_sim_bus_laws.proofs.Sites.{get_site}
+
+none_before : {A : Type 0} (xs : List A) (x : A) → xs ++ x ∷ [] ≡ [] → xs ≡ []
+none_before [] x none = absurd cc
+none_before (y ∷ xs) x none = absurd cc
+
+no_end_before : (r : Report) (a : Account) → (with_report (Some r) a).ends ≡ [] → a.ends ≡ []
+no_end_before (report.Opened id) a none = none
+no_end_before (report.Settled command answer) a none = none
+no_end_before (report.Moved command answered) a none = none_before a.ends _ none
+no_end_before (report.Event event) a none = none
+no_end_before (report.PollAnswered answer) a none = none
+no_end_before (report.Unread command code) a none = none
+no_end_before (report.Lost cause command) a none = none_before a.ends _ none
+
+module _ {H : Type 0} where
+  -- no account of a site has an end
+  abbrev pub NoEnds : LineState H → Type 0
+  NoEnds s = (k : ℕ) (u : Site H) → slice_get s.sites k ≡ Some u → u.account.ends ≡ []
+
+  -- so its session lasts
+  pub lasts_there : (s : LineState H) (n : Net H) → Follows s n → NoEnds s → (k : ℕ) (t : line.Site H) → site_at k n.sites ≡ Some t
+      → t.controller.session.state ≡ Closed → ⊥
+  lasts_there s n h none k t at closed =
+      let u = get_site k t s.sites n.sites h.sites at in
+      let is = u.2 in
+      let no_end : length u.0.account.ends ≡ 0 = ap (λ l. length l) (none k u.0 u.1) in
+      let shut : count (is_closed t.controller.session.state) ≡ 1 = ap (λ st. count (is_closed st)) closed in
+      let ended = is.ended in
+      let some = some_begun u.0.account.sessions t.account.queued t.earlier is.tells.queued.0 is.tells.queued.1 in
+      absurd (omega (arith, no_end, shut, ended, some))
+
+  abbrev EndsStay : Site H → Site H → Type 0
+  EndsStay u v = v.account.ends ≡ [] → u.account.ends ≡ []
+
+  module _ (answer_of : H → Command → Answer) (after : H → Command → H) where
+    ends_idle : IsIdle answer_of after EndsStay
+    ends_idle = record {
+      same = λ u none. none;
+      both = λ u v w one more none. one (more none);
+      hears = λ p u none. none;
+      told = λ r u none. no_end_before r u.account none;
+      busy = λ busy u none. none;
+      begins = λ u none. none;
+    }
+
+    ends_stay : (k : ℕ) (steps : List SimStep) (s : LineState H) → Each (IsNoOrder answer_of after) steps
+        → StaysAt EndsStay k s.sites (simulation.run answer_of after steps s).sites
+    ends_stay k [] s idles = stays_all EndsStay (λ u none. none) k s.sites
+    ends_stay k (step ∷ steps) s idles =
+        let next = after_step answer_of after step s in
+        stays_then EndsStay (λ u v w one more none. one (more none)) k s.sites next.sites (simulation.run answer_of after steps next).sites
+        (idle_sites answer_of after EndsStay ends_idle k step s idles.0) (ends_stay k steps next idles.1)
+
+    rounds_idle : (m wait : ℕ) → Each (IsNoOrder answer_of after) (rounds m wait)
+    rounds_idle zero wait = tt
+    rounds_idle (suc m) wait = (tt, (tt, (tt, rounds_idle m wait)))
+
+    -- where no session has ended after these rounds none has before them
+    pub none_before_rounds : (m wait : ℕ) (s : LineState H) → NoEnds (simulation.run answer_of after (rounds m wait) s) → NoEnds s
+    none_before_rounds m wait s none k u at =
+        let later = ends_stay k (rounds m wait) s (rounds_idle m wait) u at in
+        later.2 (none k later.0 later.1)

@@ -1,0 +1,57 @@
+-- Something comes through for each of several readers: of rounds that lose nothing every reader has its share, and each but the first of
+-- them settles a command or reports an event.
+use Rattle.std.specs.Prelude.{◌≡◌, ◌≤◌, ℕ, ◌+◌, ◌-◌, ◌/◌, min, true, false, All, List, [], ◌++◌, length, Some, slice_get}
+use Rattle.osdp_msg.specs.declared.command.Command.{Command}
+use Rattle.osdp_controller_laws.specs.Calls.{longest_wait}
+use Rattle.osdp_reader.specs.declared.handler.Answer.{Answer}
+use Rattle.osdp_bus.specs.Settings.{controller_config}
+use Rattle.osdp_bus.specs.declared.config.BusConfig.{BusConfig}
+use Rattle.osdp_link_laws.specs.Progress.{SetsNoAddress}
+use Rattle.osdp_sim.specs.Account.{Account}
+use Rattle.osdp_sim.specs.declared.step.SimStep.{SimStep}
+use Rattle.osdp_sim_bus.specs.Runs.{AreSettings, FitAlong, is_well, run}
+use Rattle.osdp_sim_bus.specs.State.{Given, LineState, Site, accounts, set_up}
+use Rattle.osdp_sim_laws.specs.Accounts.{IsInSession}
+use Rattle.osdp_sim_laws.specs.Progress.{done, rounds}
+
+-- of so many rounds each of these readers has as many as they go into them. After these as many more of its commands and events but one
+-- are settled and reported, or all are.
+abbrev pub ComesOn : ℕ → ℕ → Account → Account → Type 0
+ComesOn m readers before a = min (done before + (m / readers - 1)) (length a.issued + length a.queued) ≤ done a
+
+abbrev pub EachComesOn : ℕ → ℕ → List Account → List Account → Type 0
+EachComesOn m readers before last = (k : ℕ) (old new : Account) → slice_get before k ≡ Some old → slice_get last k ≡ Some new
+    → ComesOn m readers old new
+
+-- no session has ended
+abbrev pub NoneHasEnded : List Account → Type 0
+NoneHasEnded told = All (λ (a : Account). a.ends ≡ []) told
+
+module _ {H : Type 0} where
+  -- the reader isn't busy, and no COMSET to a device's address was issued to it
+  pub record IsReady (site : Site H) : Type 0 where
+    pub ready : site.reader.busy ≡ false
+    pub issued : All SetsNoAddress site.account.issued
+
+  -- nothing is on the line, and every reader is ready
+  pub record IsClear (s : LineState H) : Type 0 where
+    pub to_readers : s.to_readers ≡ []
+    pub to_bus : s.to_bus ≡ []
+    pub readers : All IsReady s.sites
+
+  module _ (answer_of : H → Command → Answer) (after : H → Command → H) where
+    -- a schedule whose settings are in their ranges, of which no step is refused, and what goes over the line in it fits
+    pub record IsRun (config : BusConfig) (readers : List (Given H)) (steps : List SimStep) : Type 0 where
+      pub settings : AreSettings config readers
+      pub well : is_well answer_of after steps (set_up config readers) ≡ true
+      pub fits : FitAlong answer_of after steps (set_up config readers)
+
+    -- rounds as long as the longest of the four waits, after steps in which no session begins again and that leave the line clear:
+    -- something comes through for each reader, where no session has ended
+    abbrev pub EachComesThrough : Type 0
+    EachComesThrough = (config : BusConfig) (readers : List (Given H)) (steps : List SimStep) (m wait : ℕ)
+        → IsRun config readers (steps ++ rounds m wait) → All IsInSession steps → longest_wait (controller_config 0 config) ≤ wait
+        → let before = run answer_of after steps (set_up config readers) in
+        IsClear before
+        → let last = run answer_of after (steps ++ rounds m wait) (set_up config readers) in
+        NoneHasEnded (accounts last) → EachComesOn m (length readers) (accounts before) (accounts last)

@@ -1,0 +1,26 @@
+//! Progress over a bus: what rounds that lose nothing come to for each of several readers. The functions do nothing: their contracts are
+//! laws.
+#![tactic(auto)]
+
+ghost use Rattle.osdp_bus_progress.specs.Progress.{EachComesThrough};
+
+use osdp_reader::Handler;
+
+/// After steps in which no session begins again and that leave nothing on the line, no reader busy and no COMSET to a device's address
+/// issued: over m rounds that lose nothing, each as long as the longest of the four waits or longer, each of n readers has m / n - 1 more
+/// of its commands and events, or all of them, settled and reported, where no session has ended.
+pub fn each_comes_through<H: Handler>()
+    ensures { EachComesThrough H.answer_of H.after }
+{
+    osdp_sim_bus_laws::stands_on_one_bus::<H>();
+    osdp_sim_bus_laws::schedules_are_moves::<H>();
+    osdp_sim_bus::laws::has_an_account_each::<H>();
+    osdp_multidrop::each_is_a_link::<H>();
+    osdp_multidrop::each_stays_in_a_row::<H>();
+    osdp_link_laws::read_each_other::<H>();
+    osdp_link_laws::comes_through_in_time::<H>();
+    osdp_link_laws::stay_where_they_are::<H>();
+    osdp_controller_laws::endings_are_told();
+    osdp_controller_laws::stays_in_range();
+    osdp_controller_laws::ticks_come_due();
+}
