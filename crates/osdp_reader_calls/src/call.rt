@@ -43,7 +43,7 @@ fn has_sign_or_leading_zero(characters: &[u8]) -> bool
 }
 
 /// The number from 0 to the greatest `u64` that a decimal word stands for.
-fn number_u64(word: &str) -> Option<u64>
+pub fn number_u64(word: &str) -> Option<u64>
     ensures { Reads number (λ n. n < 2 ^ 64) word.now result }
 {
     if has_sign_or_leading_zero(word.as_bytes()) {

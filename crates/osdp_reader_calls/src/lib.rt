@@ -17,5 +17,5 @@ mod machine;
 mod say;
 mod session;
 
-pub use call::ReaderCall;
+pub use call::{ReaderCall, number_u64};
 pub use session::LineDevice;

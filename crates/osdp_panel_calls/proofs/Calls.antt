@@ -1,0 +1,41 @@
+-- What calls come to, where they end well.
+use Rattle.std.proofs.Common.{◌≡◌, List, ◌++◌, ℕ, ◌<◌, ◌^◌, Option, Result, Ok, Err, inl, inr, refl, subst, ap, ◌∙◌, append_assoc}
+use Rattle.std.specs.Prelude.{IfSome, OnOk}
+use Rattle.osdp_bus.specs.Deadlines.{IsDeadline}
+use Rattle.osdp_panel_calls.specs.declared.call.PanelCall.{PanelCall}
+use Rattle.osdp_panel_calls.specs.Lines.{Ends, IsAnswered, Says, SaysNothing, refuses}
+use Rattle.osdp_panel_calls.specs.Sessions.{Called, Comes, IsDue, Session, answered, ended}
+use Rattle.osdp_panel_calls.specs.Texts.{due_line}
+
+module _ {A E : Type 0} where
+  -- what follows from an outcome, where there is this outcome
+  pub on_this : (r : Result A E) (P Q : Type 0) → OnOk r (P → Q) → P → OnOk r Q
+  on_this (Ok x) P Q follows p = follows p
+  on_this (Err e) P Q follows p = tt
+
+  -- the line that ends an answer was written
+  pub due_written : (r : Result A E) (before t0 t1 : List ℕ) (s : Session) (done : Called) (due : Option ℕ) → OnOk r (t1 ≡ t0 ++ due_line due)
+      → IsDeadline s.bus due → IfSome due (λ moment. moment < 2 ^ 64)
+      → OnOk r (Comes before t0 s done → (c : Called) × Ends done c × Comes before t1 s c)
+  due_written (Ok x) before t0 t1 s done due writes deadline range = λ comes.
+      let is : IsDue s due = record { deadline = deadline; range = range } in (
+        ended due done,
+        (due, subst (λ (x : Session). IsDue x due) comes.session is, refl),
+        record {
+          text = writes ∙ ap (λ t. t ++ due_line due) comes.text ∙ append_assoc before done.text (due_line due);
+          session = comes.session;
+        },
+      )
+  due_written (Err e) before t0 t1 s done due writes deadline range = tt
+
+  pub call_answered : (r : Result A E) (line : List ℕ) (call : PanelCall) (s next : Session) (t0 t2 : List ℕ) → Says line call
+      → OnOk r ((c : Called) × Ends (answered call s) c × Comes t0 t2 next c) → OnOk r ((c : Called) × IsAnswered line s c × Comes t0 t2 next c)
+  call_answered (Ok x) line call s next t0 t2 says (c, ends, comes) = (c, inl (call, says, ends), comes)
+  call_answered (Err e) line call s next t0 t2 says comes = tt
+
+  pub line_refused : (r : Result A E) (line : List ℕ) (s next : Session) (t0 t2 : List ℕ) → SaysNothing line
+      → OnOk r ((c : Called) × Ends (refuses s) c × Comes t0 t2 next c) → OnOk r ((c : Called) × IsAnswered line s c × Comes t0 t2 next c)
+  line_refused (Ok x) line s next t0 t2 nothing (c, ends, comes) = (c, inr (nothing, ends), comes)
+  line_refused (Err e) line s next t0 t2 nothing comes = tt
+
+pub ruleset lines_answered = (call_answered, line_refused)

@@ -1,0 +1,4 @@
+pub mod Calls
+pub mod Texts
+pub mod Sessions
+pub mod Lines

@@ -1,0 +1,21 @@
+//! A panel by lines of text: each line is one call of a bus, and is answered by lines.
+//!
+//! ```text
+//! add 5                        -> due none
+//! begin 1                      -> due 400
+//! at 400                       -> due 400
+//! tick                         -> send 530508000061003F
+//!                                 due 600
+//! ```
+//!
+//! `LinePanel::answer` answers a line. What it answers is the definitions in `specs/`, over those of `osdp_bus`.
+#![tactic(auto)]
+
+mod call;
+mod line;
+mod machine;
+mod say;
+mod session;
+
+pub use call::PanelCall;
+pub use session::LinePanel;

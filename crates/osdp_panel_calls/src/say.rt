@@ -1,0 +1,154 @@
+//! The lines that answer a call.
+
+ghost use Rattle.std.specs.Prelude.{◌≡◌, ◌<◌, ◌^◌, ◌++◌, IfSome, OnOk, Option, Some, codes, string_bytes};
+ghost use Rattle.osdp_bus.specs.Sending.{IsSentAs};
+ghost use Rattle.osdp_frame.specs.Packet.{Packet};
+ghost use Rattle.osdp_panel_calls.specs.Texts.{cause_name, code_text, due_line, entry_line, fault_name, refusal_line, report_line, send_line, told_line, with_command, withdrawal_line};
+
+use osdp_bus::{BusFault, Entry};
+use osdp_controller::{LostCause, Report};
+use osdp_frame::Burst;
+use osdp_msg::{Command, Reply};
+use osdp_words::ByteList;
+use std::alloc::AllocError;
+
+/// Writes the burst that goes out, where there is one.
+pub(crate) fn push_sent(text: &mut String, burst: Option<Burst>) -> Result<(), AllocError>
+    ensures { OnOk result ((sent : Option Packet) → IsSentAs sent burst → string_bytes text.new ≡ string_bytes text.old ++ send_line sent) }
+{
+    let Some(burst) = burst else {
+        return Ok(());
+    };
+    writeln!(text, "send {}", ByteList(burst.as_slice()))
+}
+
+/// Why a session was lost, in one word.
+fn cause_name(cause: LostCause) -> &'static str
+    ensures { result.now ≡ cause_name cause }
+{
+    match cause {
+        LostCause::NoReply => "no-reply",
+        LostCause::TooBusy => "too-busy",
+        LostCause::NumberRefused => "number-refused",
+    }
+}
+
+/// Writes that the answer to a command, or to a POLL, can't be read.
+fn push_unread(
+    text: &mut String,
+    entry: usize,
+    code: u8,
+    command: Option<Command>,
+) -> Result<(), AllocError>
+    ensures { OnOk result (string_bytes text.new ≡ string_bytes text.old ++ entry_line (codes "unread") entry (with_command (code_text code) command)) }
+{
+    let number = entry as u128 + 1;
+    let bytes = [code];
+    match command {
+        None => writeln!(text, "unread {number} code {}", ByteList(&bytes)),
+        Some(command) => writeln!(text, "unread {number} code {} {command}", ByteList(&bytes)),
+    }
+}
+
+/// Writes that a session was lost, with its command that is unsettled.
+fn push_lost(
+    text: &mut String,
+    entry: usize,
+    cause: LostCause,
+    command: Option<Command>,
+) -> Result<(), AllocError>
+    ensures { OnOk result (string_bytes text.new ≡ string_bytes text.old ++ entry_line (codes "lost") entry (with_command (cause_name cause) command)) }
+{
+    let number = entry as u128 + 1;
+    let cause = cause_name(cause);
+    match command {
+        None => writeln!(text, "lost {number} {cause}"),
+        Some(command) => writeln!(text, "lost {number} {cause} {command}"),
+    }
+}
+
+/// Writes what an entry's controller tells.
+fn push_told(text: &mut String, entry: Entry, report: Report) -> Result<(), AllocError>
+    ensures { OnOk result (string_bytes text.new ≡ string_bytes text.old ++ told_line entry report) }
+{
+    let number = entry as u128 + 1;
+    match report {
+        Report::Opened(id) => {
+            let reply = Reply::PdId(id);
+            writeln!(text, "opened {number} {reply}")
+        }
+        Report::Settled(command, reply) => writeln!(text, "settled {number} {command} = {reply}"),
+        Report::Moved(command, answered) => {
+            let reply = Reply::Com(answered);
+            writeln!(text, "moved {number} {command} = {reply}")
+        }
+        Report::Event(event) => writeln!(text, "event {number} {event}"),
+        Report::PollAnswered(reply) => writeln!(text, "answered {number} {reply}"),
+        Report::Unread(command, code) => push_unread(text, entry, code, command),
+        Report::Lost(cause, command) => push_lost(text, entry, cause, command),
+    }
+}
+
+/// Writes the report that was taken, where there is one.
+pub(crate) fn push_report(
+    text: &mut String,
+    report: Option<(Entry, Report)>,
+) -> Result<(), AllocError>
+    ensures { OnOk result (string_bytes text.new ≡ string_bytes text.old ++ report_line report) }
+{
+    match report {
+        None => Ok(()),
+        Some((entry, report)) => push_told(text, entry, report),
+    }
+}
+
+/// A refusal's name.
+fn fault_name(fault: BusFault) -> &'static str
+    ensures { result.now ≡ fault_name fault }
+{
+    match fault {
+        BusFault::NoMemory => "B1",
+        BusFault::TooMany => "B2",
+        BusFault::AddressTaken => "B3",
+        BusFault::NoEntry => "B4",
+        BusFault::OutOfRange => "B5",
+        BusFault::Full => "C3",
+        BusFault::PollSubmitted => "C4",
+        BusFault::NotClosed => "C5",
+    }
+}
+
+/// Writes why a call is refused.
+pub(crate) fn push_refusal(text: &mut String, fault: BusFault) -> Result<(), AllocError>
+    ensures { OnOk result (string_bytes text.new ≡ string_bytes text.old ++ refusal_line (Some fault)) }
+{
+    let name = fault_name(fault);
+    writeln!(text, "refused {name}")
+}
+
+/// Writes the command that was taken back, or why the call is refused.
+pub(crate) fn push_withdrawal(
+    text: &mut String,
+    entry: Entry,
+    taken: Result<Option<Command>, BusFault>,
+) -> Result<(), AllocError>
+    ensures { OnOk result (string_bytes text.new ≡ string_bytes text.old ++ withdrawal_line entry taken) }
+{
+    let number = entry as u128 + 1;
+    match taken {
+        Ok(None) => Ok(()),
+        Ok(Some(command)) => writeln!(text, "withdrawn {number} {command}"),
+        Err(fault) => push_refusal(text, fault),
+    }
+}
+
+/// Writes the moment of the next tick, which ends an answer.
+pub(crate) fn push_due(text: &mut String, due: Option<u64>) -> Result<(), AllocError>
+    ensures text { OnOk result (string_bytes text.new ≡ string_bytes text.old ++ due_line due) }
+    ensures range { IfSome due (λ moment. moment < 2 ^ 64) }
+{
+    match due {
+        None => text.push_str("due none\n"),
+        Some(moment) => writeln!(text, "due {moment}"),
+    }
+}

@@ -1,0 +1,195 @@
+//! A panel that is called by lines.
+
+ghost use Rattle.std.specs.Prelude.{◌≡◌, ◌++◌, ℕ, List, IfErr, IfOk, OnOk, Err, string_bytes};
+ghost use Rattle.osdp_bus.specs.Machine.{NewEnds, add_refusal, after_add, after_begin_at, after_retarget_at, after_submit_at, after_withdraw_at, begin_refusal_at, changed_unless, retarget_refusal_at, submit_refusal_at, withdrawal_at};
+ghost use Rattle.osdp_bus.specs.Settings.{IsBusConfig};
+ghost use Rattle.osdp_bus.specs.Ticking.{bus_ticks};
+ghost use Rattle.osdp_panel_calls.specs.Lines.{Ends, IsAnswered, refuses};
+ghost use Rattle.osdp_panel_calls.specs.Sessions.{Called, Comes, answered, does, new_session, told};
+ghost use Rattle.osdp_panel_calls.specs.Texts.{refusal_line, send_line, withdrawal_line};
+
+use crate::call::PanelCall;
+use crate::line::read_line;
+use crate::say::{push_due, push_refusal, push_report, push_sent, push_withdrawal};
+use osdp_bus::{Bus, BusConfig, BusFault, Entry};
+use osdp_frame::Address;
+use osdp_msg::Command;
+use std::alloc::{AllocError, Global};
+use std::marker::Model;
+
+/// A panel's bus, and the moment of the calls to come.
+#[derive(Drop)]
+pub struct LinePanel {
+    bus: Bus,
+    now: u64,
+}
+
+impl Model for LinePanel {
+    ghost use Rattle.osdp_panel_calls.specs.Sessions.{Session};
+
+    ghost Value = { Session };
+
+    ghost view = { λ p. record { bus = p.bus; now = p.now } };
+}
+
+/// Adds a device, or writes why the call is refused.
+fn add(bus: &mut Bus, address: Address, text: &mut String) -> Result<(), AllocError>
+    ensures text { OnOk result (string_bytes text.new ≡ string_bytes text.old ++ refusal_line (add_refusal address bus.old)) }
+    ensures bus { OnOk result (bus.new ≡ changed_unless (add_refusal address bus.old) bus.old (after_add address bus.old)) }
+{
+    match bus.add(address) {
+        Ok(_) => Ok(()),
+        Err(BusFault::NoMemory) => Err(AllocError),
+        Err(fault) => push_refusal(text, fault),
+    }
+}
+
+/// Begins a session, or writes why the call is refused.
+fn begin(bus: &mut Bus, entry: Entry, now: u64, text: &mut String) -> Result<(), AllocError>
+    ensures text { OnOk result (string_bytes text.new ≡ string_bytes text.old ++ refusal_line (begin_refusal_at entry bus.old)) }
+    ensures bus { OnOk result (bus.new ≡ changed_unless (begin_refusal_at entry bus.old) bus.old (after_begin_at entry now bus.old)) }
+{
+    match bus.begin(entry, now) {
+        Ok(()) => Ok(()),
+        Err(fault) => push_refusal(text, fault),
+    }
+}
+
+/// Puts a command after those that wait for a device, or writes why it is refused.
+fn submit(
+    bus: &mut Bus,
+    entry: Entry,
+    command: Command,
+    text: &mut String,
+) -> Result<(), AllocError>
+    ensures text { OnOk result (string_bytes text.new ≡ string_bytes text.old ++ refusal_line (submit_refusal_at entry command bus.old)) }
+    ensures bus { OnOk result (bus.new ≡ changed_unless (submit_refusal_at entry command bus.old) bus.old (after_submit_at entry command bus.old)) }
+{
+    match bus.submit(entry, command) {
+        Ok(()) => Ok(()),
+        Err((fault, _)) => push_refusal(text, fault),
+    }
+}
+
+/// Takes back a command, and writes which, or why the call is refused.
+fn withdraw(bus: &mut Bus, entry: Entry, text: &mut String) -> Result<(), AllocError>
+    ensures text { OnOk result (string_bytes text.new ≡ string_bytes text.old ++ withdrawal_line entry (withdrawal_at entry bus.old)) }
+    ensures bus { bus.new ≡ after_withdraw_at entry bus.old }
+{
+    let taken = bus.withdraw(entry);
+    push_withdrawal(text, entry, taken)
+}
+
+/// Sets the address of a device, or writes why the call is refused.
+fn retarget(
+    bus: &mut Bus,
+    entry: Entry,
+    address: Address,
+    text: &mut String,
+) -> Result<(), AllocError>
+    ensures text { OnOk result (string_bytes text.new ≡ string_bytes text.old ++ refusal_line (retarget_refusal_at entry address bus.old)) }
+    ensures bus { OnOk result (bus.new ≡ changed_unless (retarget_refusal_at entry address bus.old) bus.old (after_retarget_at entry address bus.old)) }
+{
+    match bus.retarget(entry, address) {
+        Ok(()) => Ok(()),
+        Err(fault) => push_refusal(text, fault),
+    }
+}
+
+/// Ticks at a moment, and writes what goes out.
+fn tick(bus: &mut Bus, now: u64, text: &mut String) -> Result<(), AllocError>
+    ensures text { OnOk result (string_bytes text.new ≡ string_bytes text.old ++ send_line (bus_ticks now bus.old).sent) }
+    ensures bus { bus.new ≡ (bus_ticks now bus.old).bus }
+{
+    let burst = bus.tick(now);
+    push_sent(text, burst)
+}
+
+impl LinePanel {
+    /// A panel without devices, at moment 0.
+    ///
+    /// OutOfRange (B5) where a setting is out of its range; else NoMemory (B1) where there is none.
+    pub fn new(alloc: Global, config: BusConfig) -> Result<LinePanel, BusFault>
+        ensures made { IfOk result (λ p. p ≡ new_session config) }
+        ensures range { IfOk result (λ p. IsBusConfig config) }
+        ensures refused { IfErr result (λ fault. NewEnds config (Err fault)) }
+    {
+        let bus = Bus::new(alloc, config)?;
+        Ok(LinePanel { bus, now: 0 })
+    }
+}
+
+impl LinePanel {
+    /// Does what a call orders, and writes what comes of it at once.
+    fn call(&mut self, call: PanelCall, text: &mut String) -> Result<(), AllocError>
+        ensures { OnOk result (Comes (string_bytes text.old) (string_bytes text.new) self.new (does call self.old)) }
+    {
+        match call {
+            PanelCall::At(now) => self.now = now,
+            PanelCall::Add(address) => return add(&mut self.bus, address, text),
+            PanelCall::Begin(entry) => return begin(&mut self.bus, entry, self.now, text),
+            PanelCall::Submit(entry, command) => {
+                return submit(&mut self.bus, entry, command, text);
+            }
+            PanelCall::Withdraw(entry) => return withdraw(&mut self.bus, entry, text),
+            PanelCall::Retarget(entry, address) => {
+                return retarget(&mut self.bus, entry, address, text);
+            }
+            PanelCall::Bytes(list) => self.bus.on_bytes(list.as_slice(), self.now),
+            PanelCall::Silence => self.bus.on_silence(self.now),
+            PanelCall::Tick => return tick(&mut self.bus, self.now, text),
+        }
+        Ok(())
+    }
+
+    /// Takes the report that waits, and writes it.
+    fn tell(&mut self, text: &mut String) -> Result<(), AllocError>
+        ensures { (before : List ℕ) (c : Called) → OnOk result (Comes before (string_bytes text.old) self.old c → Comes before (string_bytes text.new) self.new (told c)) }
+    {
+        let report = self.bus.next_report();
+        push_report(text, report)
+    }
+
+    /// Writes the moment of the next tick, which ends an answer.
+    fn end(&mut self, text: &mut String) -> Result<(), AllocError>
+        ensures { (before : List ℕ) (done : Called) → OnOk result (Comes before (string_bytes text.old) self.old done
+            → (c : Called) × Ends done c × Comes before (string_bytes text.new) self.new c) }
+    {
+        let due = self.bus.next_deadline();
+        push_due(text, due)
+    }
+
+    /// Answers a call: does what it orders, writes the lines that tell what came of it, and the one that ends the answer.
+    pub fn answer(&mut self, call: PanelCall, text: &mut String) -> Result<(), AllocError>
+        ensures { OnOk result ((c : Called) × Ends (answered call self.old) c × Comes (string_bytes text.old) (string_bytes text.new) self.new c) }
+    {
+        self.call(call, text)?;
+        self.tell(text)?;
+        self.end(text)
+    }
+
+    /// Answers a line that is no call: nothing changes.
+    fn refuse(&mut self, text: &mut String) -> Result<(), AllocError>
+        ensures { OnOk result ((c : Called) × Ends (refuses self.old) c × Comes (string_bytes text.old) (string_bytes text.new) self.new c) }
+    {
+        text.push_str("refused line\n")?;
+        self.end(text)
+    }
+
+    /// Answers a line. After an error, which is one of memory, the text has a beginning of the answer; what the call changed
+    /// stays so, and a report that was taken is lost.
+    #[tactic(auto, using(crate::proofs::Calls::lines_answered))]
+    pub fn answer_line(
+        &mut self,
+        alloc: Global,
+        line: &[u8],
+        text: &mut String,
+    ) -> Result<(), AllocError>
+        ensures { OnOk result ((c : Called) × IsAnswered line.now self.old c × Comes (string_bytes text.old) (string_bytes text.new) self.new c) }
+    {
+        match read_line(alloc, line)? {
+            Some(call) => self.answer(call, text),
+            None => self.refuse(text),
+        }
+    }
+}
