@@ -1,5 +1,5 @@
 -- The ACK that a POLL waits for.
-use Rattle.std.proofs.Common.{◌≡◌, ℕ, List, true, false, [], ◌∷◌, Ok, None, refl}
+use Rattle.std.proofs.Common.{◌≡◌, ℕ, List, true, [], ◌∷◌, Ok, None, refl}
 use Rattle.std.specs.Prelude.{◌==◌}
 use Rattle.std.proofs.lemmas.Bool.{eq-eqb}
 use Rattle.osdp_frame.specs.Packet.{Packet}
@@ -11,7 +11,7 @@ use Rattle.osdp_controller.specs.declared.exchange.Exchange.TheVariants.{Polling
 use Rattle.osdp_controller.specs.declared.session.Session.{Session}
 use Rattle.osdp_controller.specs.declared.state.State.{State}
 use Rattle.osdp_controller.specs.declared.state.State.TheVariants.{Closed, Quiet, Idle, Waiting, Pausing}
-use Rattle.osdp_controller.specs.Answers.{answer_by_reading, answer_of}
+use Rattle.osdp_controller.specs.Answers.{answer_of}
 use Rattle.osdp_controller.specs.Held.{is_held, outstanding_in}
 use Rattle.osdp_controller.specs.Hearing.{hears_in, rests}
 

@@ -1,5 +1,5 @@
 -- The event of a reply.
-use Rattle.std.proofs.Common.{◌≡◌, Option, Some, None, Result, Ok, Err, refl}
+use Rattle.std.proofs.Common.{◌≡◌, Some, None, Result, Ok, Err, refl}
 use Rattle.std.specs.Prelude.{IfOk, IfErr, MatchResult}
 use Rattle.osdp_msg.specs.declared.event.Event.{Event}
 use Rattle.osdp_msg.specs.declared.event.Event.TheVariants as events
