@@ -314,6 +314,71 @@ fn outs(count: u64) -> u64 {
         .sum()
 }
 
+/// The same, where the packet goes out as bytes and the reader's is found in them.
+#[inline(never)]
+fn exchange_into(controller: &mut Controller, reader: &mut Reader, now: u64, burst: &mut Burst) -> bool {
+    let (Some(frame), _) = controller.tick(now) else { return false };
+    burst.put(&frame);
+    let Some(First::Packet(length)) = first(burst.bytes(), false) else { return false };
+    let (_, bytes) = reader.hear(&view(burst.bytes(), length));
+    let Some(First::Packet(length)) = first(bytes, false) else { return false };
+    black_box(controller.hear(&view(bytes, length), now));
+    !controller.outstanding()
+}
+
+fn polls_into(count: u64) -> u64 {
+    let mut controller = Controller::new(5, 1);
+    controller.begin(0);
+    let mut reader = Reader::new(5);
+    let mut burst = Burst::new();
+    exchange_into(&mut controller, &mut reader, 2, &mut burst);
+    let mut now = 2;
+    (0..count)
+        .map(|_| {
+            now += 2;
+            u64::from(exchange_into(&mut controller, &mut reader, now, &mut burst))
+        })
+        .sum()
+}
+
+fn outs_into(count: u64) -> u64 {
+    let mut controller = Controller::new(5, 1000);
+    controller.begin(0);
+    let mut reader = Reader::new(5);
+    let mut burst = Burst::new();
+    exchange_into(&mut controller, &mut reader, 2, &mut burst);
+    let mut now = 2;
+    (0..count)
+        .map(|_| {
+            now += 2;
+            controller.submit(&[0x68, 3, 2, 0, 0]);
+            u64::from(exchange_into(&mut controller, &mut reader, now, &mut burst))
+        })
+        .sum()
+}
+
+fn turns(count: u64) -> u64 {
+    let mut controller = Controller::new(5, 1);
+    controller.begin(0);
+    let mut reader = Reader::new(5);
+    let mut burst = Burst::new();
+    exchange_into(&mut controller, &mut reader, 2, &mut burst);
+    let mut now = 2;
+    (0..count)
+        .map(|place| {
+            now += 2;
+            let number = (place % 3) as u8 + 1;
+            let packet = View { reply: true, address: 5, number, crc: true, block: false, body: &[0x40] };
+            if let (Some(frame), _) = controller.tick(now) {
+                burst.put(&frame);
+                black_box(burst.bytes());
+            }
+            black_box(controller.hear(black_box(&packet), now));
+            u64::from(!controller.outstanding())
+        })
+        .sum()
+}
+
 fn repeats(count: u64) -> u64 {
     let mut controller = Controller::new(5, 1);
     controller.begin(0);
@@ -397,9 +462,12 @@ pub fn done(kind: &str, count: u64) -> Option<u64> {
     match kind {
         "poll" => Some(polls(count)),
         "out" => Some(outs(count)),
+        "poll_into" => Some(polls_into(count)),
+        "out_into" => Some(outs_into(count)),
+        "turn_into" => Some(turns(count)),
         "repeat" => Some(repeats(count)),
         "ignored" => Some(ignored(count)),
-        "idle" => Some(idle(count)),
+        "idle" | "idle_into" => Some(idle(count)),
         "encode" | "encode_to" => Some(encode(count)),
         "framer_sum" => Some(framer(false, count)),
         "framer_crc" => Some(framer(true, count)),

@@ -1,8 +1,8 @@
 //! Exchanges over both machines.
 
 use crate::device::{Device, controller, reader};
-use osdp_controller::Controller;
-use osdp_frame::{Item, whole_item};
+use osdp_controller::{Controller, Report};
+use osdp_frame::{Address, Burst, CheckKind, FrameView, Item, Seq, whole_item};
 use osdp_msg::{Command, OutputRecord, Outputs};
 use osdp_reader::Reader;
 use std::alloc::Global;
@@ -51,6 +51,112 @@ pub fn outs(alloc: Global, count: u64) -> Option<u64> {
         now = now.saturating_add(2);
         let _ = controller.submit(Command::Output(Outputs::new(&[record])?));
         done = done.saturating_add(u64::from(exchange(&mut controller, &mut reader, now)));
+    }
+    Some(done)
+}
+
+/// What the calls of a controller that write into what is lent are lent.
+#[derive(Debug, Drop)]
+pub struct Lent {
+    /// The packet that goes out.
+    pub burst: Burst,
+    /// What is told.
+    pub report: Option<Report>,
+}
+
+impl Lent {
+    /// Nothing is sent and nothing told yet.
+    pub fn new() -> Lent {
+        Lent {
+            burst: Burst::new(),
+            report: None,
+        }
+    }
+}
+
+/// An exchange as `exchange` has it, by the calls of the controller that write into what is lent: its packet is found in its bytes too.
+pub fn exchange_into(
+    controller: &mut Controller,
+    reader: &mut Reader<Device>,
+    now: u64,
+    lent: &mut Lent,
+) -> bool {
+    if !controller.tick_into(now, &mut lent.burst, &mut lent.report) {
+        return false;
+    }
+    let Some(Item::Packet(asked)) = whole_item(lent.burst.as_slice()) else {
+        return false;
+    };
+    let response = reader.on_frame(&asked);
+    let Some(Item::Packet(packet)) = whole_item(response.bytes()) else {
+        return false;
+    };
+    controller.hear(&packet, now, &mut lent.report);
+    !controller.outstanding()
+}
+
+/// So many exchanges of POLL and ACK, the controller's part written into what is lent.
+pub fn polls_into(alloc: Global, count: u64) -> Option<u64> {
+    let mut controller = controller(alloc, 1)?;
+    let mut reader = reader(alloc)?;
+    let mut lent = Lent::new();
+    let mut done = 0u64;
+    let mut now = 2u64;
+    let _ = exchange_into(&mut controller, &mut reader, now, &mut lent);
+    for _ in 0..count {
+        now = now.saturating_add(2);
+        done = done.saturating_add(u64::from(exchange_into(
+            &mut controller,
+            &mut reader,
+            now,
+            &mut lent,
+        )));
+    }
+    Some(done)
+}
+
+/// So many exchanges of OUT and ACK, the controller's part written into what is lent.
+pub fn outs_into(alloc: Global, count: u64) -> Option<u64> {
+    let mut controller = controller(alloc, 1000)?;
+    let mut reader = reader(alloc)?;
+    let mut lent = Lent::new();
+    let mut done = 0u64;
+    let mut now = 2u64;
+    let _ = exchange_into(&mut controller, &mut reader, now, &mut lent);
+    let record = OutputRecord {
+        output: 3,
+        control: 2,
+        timer: 0,
+    };
+    for _ in 0..count {
+        now = now.saturating_add(2);
+        let _ = controller.submit(Command::Output(Outputs::new(&[record])?));
+        done = done.saturating_add(u64::from(exchange_into(
+            &mut controller,
+            &mut reader,
+            now,
+            &mut lent,
+        )));
+    }
+    Some(done)
+}
+
+/// So many turns of a controller alone: a POLL goes out, and its ACK, a packet that is there, is heard.
+pub fn turns(alloc: Global, count: u64) -> Option<u64> {
+    let mut controller = controller(alloc, 1)?;
+    let mut reader = reader(alloc)?;
+    let mut lent = Lent::new();
+    let mut done = 0u64;
+    let mut now = 2u64;
+    let _ = exchange_into(&mut controller, &mut reader, now, &mut lent);
+    let body = [0x40];
+    for place in 0..count {
+        now = now.saturating_add(2);
+        let seq = Seq::new((place % 3) as u8 + 1)?;
+        let ack = FrameView::new(true, Address::new(5)?, seq, CheckKind::Crc, false, 0, &body)?;
+        let sent = controller.tick_into(now, &mut lent.burst, &mut lent.report);
+        controller.hear(&ack, now, &mut lent.report);
+        done = done.saturating_add(u64::from(sent && !controller.outstanding()));
     }
     Some(done)
 }

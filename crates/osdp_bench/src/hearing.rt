@@ -1,7 +1,7 @@
 //! What changes nothing: repeats, frames that are ignored, ticks with nothing due.
 
 use crate::device::{controller, reader};
-use crate::exchanges::exchange;
+use crate::exchanges::{Lent, exchange};
 use osdp_frame::{Address, CheckKind, FrameView, Seq};
 use osdp_reader::Kind;
 use std::alloc::Global;
@@ -61,6 +61,20 @@ pub fn idle_ticks(alloc: Global, count: u64) -> Option<u64> {
     for place in 0..count {
         let step = controller.tick(place % 1000);
         done = done.saturating_add(u64::from(step.frame.is_none() && step.report.is_none()));
+    }
+    Some(done)
+}
+
+/// So many ticks with nothing due, by the call that writes into what is lent.
+pub fn idle_ticks_into(alloc: Global, count: u64) -> Option<u64> {
+    let mut controller = controller(alloc, 3_600_000)?;
+    let mut reader = reader(alloc)?;
+    let _ = exchange(&mut controller, &mut reader, 2);
+    let mut lent = Lent::new();
+    let mut done = 0u64;
+    for place in 0..count {
+        let sent = controller.tick_into(place % 1000, &mut lent.burst, &mut lent.report);
+        done = done.saturating_add(u64::from(!sent && lent.report.is_none()));
     }
     Some(done)
 }

@@ -1,7 +1,7 @@
 //! The kinds of work.
 
-use crate::exchanges::{outs, polls};
-use crate::hearing::{idle_ticks, ignored_frames, repeats};
+use crate::exchanges::{outs, outs_into, polls, polls_into, turns};
+use crate::hearing::{idle_ticks, idle_ticks_into, ignored_frames, repeats};
 use crate::packets::{checks, encoded, encoded_to, framed};
 use osdp_frame::CheckKind;
 use std::alloc::Global;
@@ -13,12 +13,20 @@ pub enum Work {
     Polls,
     /// An OUT and its ACK over both machines.
     Outs,
+    /// A POLL and its ACK over both machines, the controller's part written into what is lent.
+    PollsInto,
+    /// An OUT and its ACK over both machines, the controller's part written into what is lent.
+    OutsInto,
+    /// A POLL and its ACK at a controller alone, written into what is lent.
+    Turns,
     /// A packet that a reader has answered already.
     Repeats,
     /// A reply that a controller has no exchange for.
     Ignored,
     /// A tick with nothing due.
     Idle,
+    /// A tick with nothing due, by the call that writes into what is lent.
+    IdleInto,
     /// A POLL written as bytes, in a burst of its own.
     Encode,
     /// A POLL written as bytes, in a burst that is there.
@@ -37,9 +45,13 @@ impl Work {
         match name {
             "poll" => Some(Work::Polls),
             "out" => Some(Work::Outs),
+            "poll_into" => Some(Work::PollsInto),
+            "out_into" => Some(Work::OutsInto),
+            "turn_into" => Some(Work::Turns),
             "repeat" => Some(Work::Repeats),
             "ignored" => Some(Work::Ignored),
             "idle" => Some(Work::Idle),
+            "idle_into" => Some(Work::IdleInto),
             "encode" => Some(Work::Encode),
             "encode_to" => Some(Work::EncodeTo),
             "framer_sum" => Some(Work::FramerSum),
@@ -54,9 +66,13 @@ impl Work {
         match self {
             Work::Polls => polls(alloc, count),
             Work::Outs => outs(alloc, count),
+            Work::PollsInto => polls_into(alloc, count),
+            Work::OutsInto => outs_into(alloc, count),
+            Work::Turns => turns(alloc, count),
             Work::Repeats => repeats(alloc, count),
             Work::Ignored => ignored_frames(alloc, count),
             Work::Idle => idle_ticks(alloc, count),
+            Work::IdleInto => idle_ticks_into(alloc, count),
             Work::Encode => encoded(count),
             Work::EncodeTo => encoded_to(count),
             Work::FramerSum => framed(CheckKind::Sum, count),

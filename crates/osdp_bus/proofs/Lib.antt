@@ -1,3 +1,4 @@
 pub mod Runs
 pub mod Searches
+pub mod Sent
 pub mod Waiting

@@ -1,6 +1,6 @@
 //! The bus: what a panel's program calls.
 
-ghost use Rattle.std.specs.Prelude.{◌≡◌, ◌≤◌, ◌==◌, IfErr, OnOk, OnErr, length, option_map, slice_get};
+ghost use Rattle.std.specs.Prelude.{◌≡◌, ◌≤◌, ◌==◌, IfErr, OnOk, OnErr, is_some, length, option_map, slice_get};
 ghost use Rattle.osdp_controller.specs.States.{is_closed};
 ghost use Rattle.osdp_bus.specs.Devices.{address_of};
 
@@ -47,6 +47,7 @@ impl Bus {
     ghost use Rattle.osdp_bus.specs.Hearing.{after_bytes, after_silence};
     ghost use Rattle.osdp_bus.specs.Machine.{AddEnds, NewEnds, after_begin_at, after_next_report, after_retarget_at, after_submit_at, after_withdraw_at, begin_refusal_at, changed_unless, retarget_refusal_at, submit_refusal_at, unless_refused, withdrawal_at};
     ghost use Rattle.osdp_bus.specs.Sending.{IsSentAs};
+    ghost use Rattle.osdp_controller.specs.Lent.{IsWritten};
     ghost use Rattle.osdp_bus.specs.Ticking.{bus_ticks};
 
     /// A bus without devices. It takes the memory for sixteen.
@@ -164,14 +165,27 @@ impl Bus {
     }
 
     /// What is due at a moment: a burst to send. While a report waits, none.
+    #[tactic(auto, using(crate::proofs::Sent::sent_written, crate::proofs::Sent::none_sent))]
     pub fn tick(&mut self, now: u64) -> Option<Burst>
         ensures sent { IsSentAs (bus_ticks now self.old).sent result }
         ensures bus { self.new ≡ (bus_ticks now self.old).bus }
     {
-        match self.line.tick(now) {
-            Some(frame) => Some(frame.encode()),
-            None => None,
+        let mut out = Burst::new();
+        if self.tick_into(now, &mut out) {
+            Some(out)
+        } else {
+            None
         }
+    }
+
+    /// What is due at a moment, put into what the caller lends: whether a burst is to be sent, which stands in `out` then. Where none
+    /// is, `out` is as it was. While a report waits, none is.
+    pub fn tick_into(&mut self, now: u64, out: &mut Burst) -> bool
+        ensures sent { result ≡ is_some (bus_ticks now self.old).sent }
+        ensures bytes { IsWritten (bus_ticks now self.old).sent out.old.items out.new.items }
+        ensures bus { self.new ≡ (bus_ticks now self.old).bus }
+    {
+        self.line.tick(now, out)
     }
 
     /// The moment at which `tick` is to be called next, if no call comes before: from then on it gives a burst, leaves a report

@@ -3,6 +3,7 @@
 ghost use Rattle.std.specs.Prelude.{◌≡◌, ◌<◌, IfErr, IfOk, None, OnOk, Some, is_some, option_map};
 ghost use Rattle.osdp_controller.specs.Comsets.{is_comset};
 ghost use Rattle.osdp_controller.specs.Hearing.{comset_of};
+ghost use Rattle.osdp_controller.specs.Lent.{IsWritten};
 ghost use Rattle.osdp_controller.specs.Machine.{begin_refusal, retarget_refusal, submit_refusal};
 ghost use Rattle.osdp_bus.specs.declared.fault.BusFault.TheVariants.{NoMemory};
 ghost use Rattle.osdp_bus.specs.Devices.{device_hears, device_ticks, freed_with, holds, is_at, is_device_due, is_reserved, reserved_after, reserved_for, step_of, takes_up, told_of};
@@ -12,8 +13,8 @@ ghost use Rattle.osdp_bus.specs.Waits.{IsDueFrom};
 
 use crate::config::BusConfig;
 use crate::fault::BusFault;
-use osdp_controller::{Controller, ControllerFault, Report, Step};
-use osdp_frame::{Address, FrameView};
+use osdp_controller::{Controller, ControllerFault, Report};
+use osdp_frame::{Address, Burst, FrameView};
 use osdp_msg::{Command, Communication};
 use std::alloc::Global;
 
@@ -135,24 +136,25 @@ impl Device {
         }
     }
 
-    /// A packet comes from the line.
-    pub(crate) fn hear(&mut self, frame: &FrameView<'_>, now: u64) -> Option<Report>
-        ensures report { result ≡ told_of frame.now now self.old }
+    /// A packet comes from the line. What it says, or that nothing is to be told, stands in `report`.
+    pub(crate) fn hear(&mut self, frame: &FrameView<'_>, now: u64, report: &mut Option<Report>)
+        ensures report { report.new ≡ told_of frame.now now self.old }
         ensures device { self.new ≡ device_hears frame.now now self.old }
     {
-        let report = self.controller.on_frame(frame, now);
-        self.reserved = reserved_after(&report, self.reserved);
-        report
+        self.controller.hear(frame, now, report);
+        self.reserved = reserved_after(&*report, self.reserved);
     }
 
-    /// What is due at a moment.
-    pub(crate) fn tick(&mut self, now: u64) -> Step
-        ensures step { result ≡ step_of now self.old }
+    /// What is due at a moment: whether a packet goes out, whose bytes stand in `out` then, and what is told, in `report`.
+    pub(crate) fn tick(&mut self, now: u64, out: &mut Burst, report: &mut Option<Report>) -> bool
+        ensures sent { result ≡ is_some (step_of now self.old).frame }
+        ensures bytes { IsWritten (step_of now self.old).frame out.old.items out.new.items }
+        ensures report { report.new ≡ (step_of now self.old).report }
         ensures device { self.new ≡ device_ticks now self.old }
     {
-        let step = self.controller.tick(now);
-        self.reserved = reserved_after(&step.report, self.reserved);
-        step
+        let sends = self.controller.tick_into(now, out, report);
+        self.reserved = reserved_after(&*report, self.reserved);
+        sends
     }
 }
 

@@ -131,7 +131,8 @@ impl DeviceList {
         let Some(entry) = first_at(self.entries.as_slice(), frame.address().get()) else {
             return
         };
-        let report = self.entries[entry].hear(frame, now);
+        let mut report = None;
+        self.entries[entry].hear(frame, now, &mut report);
         self.tell(entry, report);
     }
 

@@ -1,6 +1,7 @@
 //! The line of a bus: its devices, and what has come of a run that goes on.
 
-ghost use Rattle.std.specs.Prelude.{◌≡◌, ◌++◌, None, Some, false, length, vec_capacity};
+ghost use Rattle.std.specs.Prelude.{◌≡◌, ◌++◌, None, Some, false, is_some, length, vec_capacity};
+ghost use Rattle.osdp_controller.specs.Lent.{IsWritten};
 ghost use Rattle.osdp_frame.specs.Items.{items, left_over};
 ghost use Rattle.osdp_bus.specs.Buses.{seen};
 ghost use Rattle.osdp_bus.specs.Hearing.{after_bytes, after_silence, ends_run, ends_silent, hears_bytes, hears_items};
@@ -10,8 +11,7 @@ ghost use Rattle.osdp_bus.specs.Ticking.{bus_ticks, is_due_at, is_held_and_due, 
 use crate::Entry;
 use crate::config::BusConfig;
 use crate::device_list::{DeviceList, first_holding, next_due};
-use osdp_controller::Step;
-use osdp_frame::{Frame, Framer};
+use osdp_frame::{Burst, Framer};
 
 /// The parts of a bus. Moments are in milliseconds.
 #[derive(Debug, Drop)]
@@ -123,21 +123,23 @@ impl Line {
         self.end_run();
     }
 
-    /// The device of an entry, if there is one, does what is due.
-    fn tick_at(&mut self, entry: Option<Entry>) -> Option<Frame>
+    /// The device of an entry, if there is one, does what is due. Whether a packet goes out, whose bytes stand in `out` then.
+    fn tick_at(&mut self, entry: Option<Entry>, out: &mut Burst) -> bool
         requires { IsLine self.old }
-        ensures sent { result ≡ (ticks_at entry (state_of self.old)).sent }
+        ensures sent { result ≡ is_some (ticks_at entry (state_of self.old)).sent }
+        ensures bytes { IsWritten (ticks_at entry (state_of self.old)).sent out.old.items out.new.items }
         ensures line { state_of self.new ≡ (ticks_at entry (state_of self.old)).bus }
         ensures kept { IsLine self.new }
     {
-        let entry = entry?;
+        let Some(entry) = entry else { return false };
         if entry >= self.devices.entries.len() {
-            return None;
+            return false;
         }
-        let Step { frame, report } = self.devices.entries[entry].tick(self.greatest);
+        let mut report = None;
+        let sends = self.devices.entries[entry].tick(self.greatest, out, &mut report);
         self.devices.tell(entry, report);
         self.first = entry + 1;
-        frame
+        sends
     }
 
     /// Whether the device of an entry would send or report.
@@ -156,53 +158,56 @@ impl Line {
             && self.is_due_at(entry)
     }
 
-    /// A tick where nobody holds the line.
-    fn tick_free(&mut self) -> Option<Frame>
+    /// A tick where nobody holds the line. Whether a packet goes out.
+    fn tick_free(&mut self, out: &mut Burst) -> bool
         requires { IsLine self.old }
-        ensures sent { result ≡ (ticks_by None (state_of self.old)).sent }
+        ensures sent { result ≡ is_some (ticks_by None (state_of self.old)).sent }
+        ensures bytes { IsWritten (ticks_by None (state_of self.old)).sent out.old.items out.new.items }
         ensures line { state_of self.new ≡ (ticks_by None (state_of self.old)).bus }
         ensures kept { IsLine self.new }
     {
         self.end_run();
         if self.devices.report.is_some() {
-            return None;
+            return false;
         }
         let next = next_due(self.devices.entries.as_slice(), self.first, self.greatest);
-        self.tick_at(next)
+        self.tick_at(next, out)
     }
 
-    /// A tick where this entry holds the line.
-    fn tick_held(&mut self, entry: Entry) -> Option<Frame>
+    /// A tick where this entry holds the line. Whether a packet goes out.
+    fn tick_held(&mut self, entry: Entry, out: &mut Burst) -> bool
         requires { IsLine self.old }
-        ensures sent { result ≡ (ticks_by (Some entry) (state_of self.old)).sent }
+        ensures sent { result ≡ is_some (ticks_by (Some entry) (state_of self.old)).sent }
+        ensures bytes { IsWritten (ticks_by (Some entry) (state_of self.old)).sent out.old.items out.new.items }
         ensures line { state_of self.new ≡ (ticks_by (Some entry) (state_of self.old)).bus }
         ensures kept { IsLine self.new }
     {
         if !self.is_due_at(entry) {
-            return None;
+            return false;
         }
         self.end_run();
         if self.devices.report.is_some() || !self.is_held_and_due(entry) {
-            return None;
+            return false;
         }
-        self.tick_at(Some(entry))
+        self.tick_at(Some(entry), out)
     }
 
-    /// A tick at a moment: the frame that goes out.
-    pub(crate) fn tick(&mut self, now: u64) -> Option<Frame>
+    /// A tick at a moment. Whether a packet goes out, whose bytes stand in `out` then.
+    pub(crate) fn tick(&mut self, now: u64, out: &mut Burst) -> bool
         requires { IsLine self.old }
-        ensures sent { result ≡ (bus_ticks now (state_of self.old)).sent }
+        ensures sent { result ≡ is_some (bus_ticks now (state_of self.old)).sent }
+        ensures bytes { IsWritten (bus_ticks now (state_of self.old)).sent out.old.items out.new.items }
         ensures line { state_of self.new ≡ (bus_ticks now (state_of self.old)).bus }
         ensures kept { IsLine self.new }
     {
         self.see(now);
         if self.devices.report.is_some() {
-            return None;
+            return false;
         }
         self.end_silent();
         match first_holding(self.devices.entries.as_slice()) {
-            None => self.tick_free(),
-            Some(entry) => self.tick_held(entry),
+            None => self.tick_free(out),
+            Some(entry) => self.tick_held(entry, out),
         }
     }
 }

@@ -1,3 +1,4 @@
+pub mod Acks
 pub mod Choices
 pub mod Keeping
-pub mod Same
+pub mod Told

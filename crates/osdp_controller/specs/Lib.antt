@@ -6,5 +6,7 @@ pub mod Sessions
 pub mod Ticking
 pub mod Hearing
 pub mod Comsets
+pub mod Held
+pub mod Lent
 pub mod Private
 pub mod Machine

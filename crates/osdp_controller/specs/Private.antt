@@ -1,6 +1,7 @@
 -- What functions inside the crate say of themselves. No row of a table and no law speaks of these.
-use Rattle.std.specs.Prelude.{Bool, true, false, nat_le, if◌then◌else◌, List, drop, slice_get, Option, None, is_none}
+use Rattle.std.specs.Prelude.{Bool, true, false, nat_le, if◌then◌else◌, List, drop, slice_get, Option, Some, None, is_none}
 use Rattle.std.specs.Option.{option_map_or}
+use Rattle.osdp_frame.specs.Packet.{Packet}
 use Rattle.osdp_msg.specs.declared.command.Command.{Command}
 use Rattle.osdp_controller.specs.declared.answer.Answer.{Answer}
 use Rattle.osdp_controller.specs.declared.answer.Answer.TheVariants.{Plain, Unreadable}
@@ -9,8 +10,10 @@ use Rattle.osdp_controller.specs.declared.exchange.Exchange.TheVariants.{Opening
 use Rattle.osdp_controller.specs.declared.session.Session.{Session}
 use Rattle.osdp_controller.specs.declared.state.State.{State}
 use Rattle.osdp_controller.specs.declared.state.State.TheVariants.{Closed, Quiet, Idle, Waiting, Pausing}
+use Rattle.osdp_controller.specs.Held.{outstanding_in}
 use Rattle.osdp_controller.specs.Hearing.{Heard, ignores, pausing_hears, pd_id_of, waiting_hears}
 use Rattle.osdp_controller.specs.Machine.{Machine}
+use Rattle.osdp_controller.specs.Sessions.{frame_of}
 use Rattle.osdp_controller.specs.States.{is_idle, moment_of}
 use Rattle.osdp_controller.specs.Ticking.{ticks_in}
 
@@ -50,3 +53,10 @@ abbrev pub after_act : Machine → Machine
 after_act m =
     let ticked = ticks_in m.session.state m.session m.waiting in
     record m { session = ticked.session; waiting = ticked.waiting }
+
+-- the frame of the outstanding exchange, and of the one that has just been sent where one was
+abbrev pub frame_in : Session → Packet
+frame_in s = frame_of (outstanding_in s.state).exchange s
+
+abbrev pub frame_if : Bool → Session → Option Packet
+frame_if sends s = if sends then Some (frame_in s) else None

@@ -2,19 +2,19 @@
 
 ghost use Rattle.circular_buffer.specs.Buffer.{buffer};
 ghost use Rattle.osdp_controller.specs.Comsets.{is_comset};
-ghost use Rattle.osdp_controller.specs.Private.{after_act, next_in, rest_in};
-ghost use Rattle.osdp_controller.specs.Ticking.{ticks_in};
-ghost use Rattle.std.specs.Prelude.{◌≡◌, ◌↔◌, ◌*◌, ◌+◌, ◌≤◌, IfErr, None, Some, OnOk, length};
+ghost use Rattle.osdp_controller.specs.Held.{is_held};
+ghost use Rattle.osdp_controller.specs.Private.{after_act, frame_if, next_in, rest_in};
+ghost use Rattle.osdp_controller.specs.Ticking.{stays, ticks_in};
+ghost use Rattle.std.specs.Prelude.{◌≡◌, ◌↔◌, ◌*◌, ◌+◌, ◌≤◌, IfErr, None, Some, OnOk, is_some, length, true};
 
 use crate::config::{ControllerConfig, is_device};
-use crate::exchange::Exchange;
 use crate::fault::ControllerFault;
 use crate::report::Report;
 use crate::session::Session;
-use crate::state::State;
+use crate::state::{Held, Stage};
 use crate::step::Step;
 use circular_buffer::HeapCircularBuffer;
-use osdp_frame::{Address, FrameView};
+use osdp_frame::{Address, Burst, FrameView};
 use osdp_msg::Command;
 use std::alloc::Global;
 use std::marker::Model;
@@ -44,6 +44,7 @@ impl Controller {
     ghost use Rattle.osdp_controller.specs.Machine.{IsMachine, NewEnds, after_begin, after_frame, after_retarget, after_submit, after_tick, after_withdraw, begin_refusal, changed_unless, is_due, IsDeadline, is_outstanding, retarget_refusal, sent_in, submit_refusal, unless_refused, withdrawn_in};
     ghost use Rattle.osdp_controller.specs.Comsets.{has_comset};
     ghost use Rattle.osdp_controller.specs.Hearing.{hears};
+    ghost use Rattle.osdp_controller.specs.Lent.{IsWritten};
     ghost use Rattle.osdp_controller.specs.States.{is_closed};
     ghost use Rattle.osdp_controller.specs.Ticking.{ticks};
 
@@ -91,9 +92,9 @@ impl Controller {
     pub fn outstanding(&self) -> bool
         ensures { result ≡ is_outstanding self.now.session.state }
     {
-        match &self.session.state {
-            State::Closed | State::Quiet { .. } | State::Idle { .. } => false,
-            State::Waiting { .. } | State::Pausing { .. } => true,
+        match self.session.state.stage {
+            Stage::Closed | Stage::Quiet | Stage::Idle => false,
+            Stage::Waiting | Stage::Pausing => true,
         }
     }
 
@@ -102,10 +103,10 @@ impl Controller {
         ensures count { result ≡ sent_in self.now.session.state }
         ensures most { result ≤ self.now.session.config.sends * (self.now.session.config.busy_limit + 1) }
     {
-        match &self.session.state {
-            State::Closed | State::Quiet { .. } | State::Idle { .. } => 0,
-            State::Waiting { outstanding, .. } => outstanding.sent,
-            State::Pausing { outstanding, .. } => outstanding.sent,
+        match self.session.state.stage {
+            Stage::Closed | Stage::Quiet | Stage::Idle => 0,
+            Stage::Waiting => self.session.state.sent,
+            Stage::Pausing => self.session.state.sent,
         }
     }
 
@@ -168,7 +169,7 @@ impl Controller {
         }
         self.session.see(now);
         let until = self.session.later(self.session.config.quiet_wait);
-        self.session.state = State::Quiet { until };
+        self.session.state.be_quiet(until);
         Ok(())
     }
 
@@ -197,24 +198,85 @@ impl Controller {
         ensures machine { self.new ≡ after_tick now self.old }
     {
         self.session.see(now);
-        if !self.session.is_reached()
-            && (self.waiting.is_empty() || !self.session.state.is_idle())
-        {
+        if self.has_nothing_due() {
             return Step::nothing();
         }
-        self.act()
+        self.step()
+    }
+
+    /// What is due at a moment, put into what the caller lends: whether a packet is to be sent, whose bytes stand in `out` then. Where
+    /// none is, `out` is as it was. What is to be told, or that nothing is, stands in `report` in place of what stood there.
+    #[inline(always)]
+    pub fn tick_into(&mut self, now: u64, out: &mut Burst, report: &mut Option<Report>) -> bool
+        ensures sent { result ≡ is_some (ticks now self.old.session self.old.waiting).step.frame }
+        ensures bytes { IsWritten (ticks now self.old.session self.old.waiting).step.frame out.old.items out.new.items }
+        ensures report { report.new ≡ (ticks now self.old.session self.old.waiting).step.report }
+        ensures machine { self.new ≡ after_tick now self.old }
+    {
+        clear(report);
+        self.session.see(now);
+        if self.has_nothing_due() {
+            return false;
+        }
+        self.act_into(out, report)
+    }
+
+    /// Whether nothing is due at the greatest moment seen.
+    #[inline(always)]
+    fn has_nothing_due(&self) -> bool
+        ensures { result ≡ true → ticks_in self.now.session.state self.now.session self.now.waiting ≡ stays self.now.session self.now.waiting }
+    {
+        !self.session.is_reached() && (self.waiting.is_empty() || !self.session.state.is_idle())
     }
 
     /// What is due at the greatest moment seen.
     #[inline(never)]
-    fn act(&mut self) -> Step
+    fn step(&mut self) -> Step
         ensures step { result ≡ (ticks_in self.old.session.state self.old.session self.old.waiting).step }
         ensures machine { self.new ≡ after_act self.old }
     {
-        match next_command(&self.session.state, &mut self.waiting) {
-            Some(command) => self.session.begin_next(Exchange::Asking(command)),
-            None => self.session.tick(),
+        let mut report = None;
+        let sends = self.act(&mut report);
+        Step {
+            frame: self.session.frame_if(sends),
+            report,
         }
+    }
+
+    /// Does what is due at the greatest moment seen. Whether the frame of the outstanding exchange goes out.
+    fn act(&mut self, report: &mut Option<Report>) -> bool
+        requires { report.old ≡ None }
+        ensures frame { (ticks_in self.old.session.state self.old.session self.old.waiting).step.frame ≡ frame_if result self.new.session }
+        ensures report { report.new ≡ (ticks_in self.old.session.state self.old.session self.old.waiting).step.report }
+        ensures machine { self.new ≡ after_act self.old }
+        ensures held { result ≡ true → is_held self.new.session.state ≡ true }
+    {
+        if self.waiting.is_empty() {
+            return self.session.tick(report);
+        }
+        match next_command(&self.session.state, &mut self.waiting) {
+            Some(command) => {
+                self.session.begin_command(command);
+                true
+            }
+            None => self.session.tick(report),
+        }
+    }
+
+    /// Does what is due at the greatest moment seen, and puts the packet that goes out into `out`. Whether one does.
+    #[inline(never)]
+    fn act_into(&mut self, out: &mut Burst, report: &mut Option<Report>) -> bool
+        requires { report.old ≡ None }
+        ensures sent { result ≡ is_some (ticks_in self.old.session.state self.old.session self.old.waiting).step.frame }
+        ensures bytes { IsWritten (ticks_in self.old.session.state self.old.session self.old.waiting).step.frame out.old.items out.new.items }
+        ensures report { report.new ≡ (ticks_in self.old.session.state self.old.session self.old.waiting).step.report }
+        ensures machine { self.new ≡ after_act self.old }
+    {
+        let sends = self.act(report);
+        if sends {
+            self.session.spell(out);
+        }
+        sends
     }
 
     /// Takes a frame that came from the line, and tells what it says, if that is to be told.
@@ -223,7 +285,20 @@ impl Controller {
         ensures report { result ≡ (hears frame.now now self.old.session).report }
         ensures machine { self.new ≡ after_frame frame.now now self.old }
     {
-        self.session.hear(frame, now)
+        let mut report = None;
+        self.session.hear(frame, now, &mut report);
+        report
+    }
+
+    /// Takes a frame that came from the line. What it says, if that is to be told, or that nothing is, stands in `report` in place of what
+    /// stood there.
+    #[inline(always)]
+    pub fn hear(&mut self, frame: &FrameView<'_>, now: u64, report: &mut Option<Report>)
+        ensures report { report.new ≡ (hears frame.now now self.old.session).report }
+        ensures machine { self.new ≡ after_frame frame.now now self.old }
+    {
+        clear(report);
+        self.session.hear(frame, now, report);
     }
 
     /// Whether a tick at this moment would send or report.
@@ -248,6 +323,16 @@ impl Controller {
     }
 }
 
+/// Leaves no report. Where there is none, nothing is written.
+#[inline(always)]
+fn clear(report: &mut Option<Report>)
+    ensures { report.new ≡ None }
+{
+    if report.is_some() {
+        *report = None;
+    }
+}
+
 fn is_comset(command: &Command) -> bool
     ensures { result ≡ is_comset command.now }
 {
@@ -255,7 +340,7 @@ fn is_comset(command: &Command) -> bool
 }
 
 /// The front of the waiting commands, which leaves them, where the session is open and nothing is outstanding.
-fn next_command(state: &State, waiting: &mut HeapCircularBuffer<Command>) -> Option<Command>
+fn next_command(state: &Held, waiting: &mut HeapCircularBuffer<Command>) -> Option<Command>
     ensures command { result ≡ next_in state.now waiting.old.items }
     ensures rest { waiting.new ≡ buffer (rest_in state.now waiting.old.items) waiting.old.capacity }
 {

@@ -1,23 +1,23 @@
 //! The table of frames.
 
-ghost use Rattle.std.specs.Prelude.{◌≡◌, ◌<◌, true, false, None, Some, is_none, IfSome, MatchResult};
+ghost use Rattle.std.specs.Prelude.{◌≡◌, ◌<◌, [], ◌∷◌, true, false, Option, None, Some, is_none, IfSome, MatchResult};
 ghost use Rattle.osdp_controller.specs.declared.answer.Answer.TheVariants.{Plain, Unreadable};
 ghost use Rattle.osdp_controller.specs.declared.report.Report.TheVariants.{Moved};
-ghost use Rattle.osdp_controller.specs.declared.state.State.TheVariants.{Pausing};
+ghost use Rattle.osdp_controller.specs.declared.state.Stage.TheVariants as stages;
 ghost use Rattle.osdp_controller.specs.Answers.{answer_of};
 ghost use Rattle.osdp_controller.specs.Hearing.{answered, answered_unread, com_of, command_answered, comset_of, event_in, hears, hears_busy, hears_in, is_ack, is_from_reader, is_numbered, loses, moved_by, opening_answered, pausing_hears, pd_id_of, poll_told, rests, waiting_hears};
+ghost use Rattle.osdp_controller.specs.Held.{exchange_of, is_held, outstanding_in, sends_in, stage_of};
 ghost use Rattle.osdp_controller.specs.Machine.{IsSession};
 ghost use Rattle.osdp_controller.specs.Private.{is_no_answer, is_no_answer_in, numbered_in};
-ghost use Rattle.osdp_controller.specs.Sessions.{closed};
+ghost use Rattle.osdp_controller.specs.Sessions.{at_rest, closed};
 
 use crate::answer::Answer;
-use crate::exchange::{Exchange, Outstanding};
+use crate::exchange::Asked;
 use crate::report::{LostCause, Report};
 use crate::session::Session;
-use crate::state::State;
+use crate::state::Stage;
 use osdp_frame::{Address, FrameView, Seq};
 use osdp_msg::{Command, Communication, Event, PdId, Reply};
-use std::mem;
 
 impl Session {
     /// Whether a packet is a reply from the own address that can be read.
@@ -35,146 +35,137 @@ impl Session {
     }
 
     /// The session ends without an answer.
-    fn lose(&mut self, cause: LostCause, outstanding: Outstanding) -> Option<Report>
-        ensures report { result ≡ (loses cause outstanding self.old).report }
-        ensures session { self.new ≡ (loses cause outstanding self.old).session }
+    fn lose(&mut self, cause: LostCause, report: &mut Option<Report>)
+        requires { is_held self.old.state ≡ true }
+        ensures report { report.new ≡ (loses cause (outstanding_in self.old.state) self.old).report }
+        ensures session { self.new ≡ (loses cause (outstanding_in self.old.state) self.old).session }
     {
-        self.state = State::Closed;
-        Some(Report::Lost(cause, outstanding.exchange.into_command()))
+        *report = Some(Report::Lost(cause, self.state.take_command()));
+        self.state.close();
     }
 
     /// One more BUSY: the exchange pauses, or the session ends where there are more than are allowed.
-    fn hear_busy(&mut self, outstanding: Outstanding) -> Option<Report>
-        ensures report { result ≡ (hears_busy outstanding self.old).report }
-        ensures session { self.new ≡ (hears_busy outstanding self.old).session }
+    fn hear_busy(&mut self, report: &mut Option<Report>)
+        requires held { is_held self.old.state ≡ true }
+        requires none { report.old ≡ None }
+        ensures report { report.new ≡ (hears_busy (outstanding_in self.old.state) self.old).report }
+        ensures session { self.new ≡ (hears_busy (outstanding_in self.old.state) self.old).session }
     {
-        if outstanding.busies >= self.config.busy_limit {
-            return self.lose(LostCause::TooBusy, outstanding);
+        if self.state.busies >= self.config.busy_limit {
+            self.lose(LostCause::TooBusy, report);
+            return;
         }
         let until = self.later(self.config.busy_wait);
-        let Outstanding {
-            exchange,
-            busies,
-            sent,
-        } = outstanding;
-        let outstanding = Outstanding {
-            exchange,
-            busies: busies + 1,
-            sent,
-        };
-        self.state = State::Pausing { until, outstanding };
-        None
-    }
-
-    /// The exchange has ended.
-    fn rest_with(&mut self, report: Option<Report>) -> Option<Report>
-        ensures report { result ≡ (rests report self.old).report }
-        ensures session { self.new ≡ (rests report self.old).session }
-    {
-        self.rest();
-        report
+        self.state.pause(until);
     }
 
     /// A COMSET is answered by its COM: the session ends, and the reader is at its new address.
-    fn move_to(&mut self, command: Command, answered: Communication) -> Option<Report>
+    fn move_to(&mut self, command: Command, answered: Communication, report: &mut Option<Report>)
         requires { answered.address < 127 }
-        ensures report { result ≡ Some (Moved command answered) }
+        ensures report { report.new ≡ Some (Moved command answered) }
         ensures session { self.new ≡ closed (record self.old { config = record self.old.config { address = answered.address } }) }
     {
         self.config.address = Address::new(answered.address).unwrap();
-        self.state = State::Closed;
-        Some(Report::Moved(command, answered))
+        self.state.close();
+        *report = Some(Report::Moved(command, answered));
     }
 
     /// A command is answered.
-    fn hear_answer(&mut self, command: Command, reply: Reply) -> Option<Report>
-        ensures report { result ≡ (command_answered (moved_by (comset_of command) (com_of reply)) command reply self.old).report }
+    fn hear_answer(&mut self, command: Command, reply: Reply, report: &mut Option<Report>)
+        ensures report { report.new ≡ (command_answered (moved_by (comset_of command) (com_of reply)) command reply self.old).report }
         ensures session { self.new ≡ (command_answered (moved_by (comset_of command) (com_of reply)) command reply self.old).session }
     {
         match moved_by(&command, &reply) {
-            Some(answered) => self.move_to(command, answered),
-            None => self.rest_with(Some(Report::Settled(command, reply))),
+            Some(answered) => self.move_to(command, answered, report),
+            None => {
+                self.rest();
+                *report = Some(Report::Settled(command, reply));
+            }
         }
     }
 
-    /// A reply that is neither BUSY, NAK 1 nor NAK 4 answers the exchange.
-    fn settle(&mut self, exchange: Exchange, reply: Reply) -> Option<Report>
-        requires { is_no_answer exchange (Plain reply) ≡ false }
-        ensures report { result ≡ (answered exchange reply self.old).report }
-        ensures session { self.new ≡ (answered exchange reply self.old).session }
+    /// A reply that is neither BUSY, NAK 1 nor NAK 4 answers the outstanding exchange.
+    fn settle(&mut self, reply: Reply, report: &mut Option<Report>)
+        requires held { is_held self.old.state ≡ true }
+        requires answer { is_no_answer (outstanding_in self.old.state).exchange (Plain reply) ≡ false }
+        requires none { report.old ≡ None }
+        ensures report { report.new ≡ (answered (outstanding_in self.old.state).exchange reply self.old).report }
+        ensures session { self.new ≡ (answered (outstanding_in self.old.state).exchange reply self.old).session }
     {
-        match exchange {
-            Exchange::Opening => self.open(pd_id_of(&reply)),
-            Exchange::Polling => self.rest_with(poll_told(reply)),
-            Exchange::Asking(command) => self.hear_answer(command, reply),
+        match self.state.asked {
+            Asked::Opening => self.open(pd_id_of(&reply), report),
+            Asked::Polling => self.settle_poll(reply, report),
+            Asked::Submitted => match self.state.command.take() {
+                Some(command) => self.hear_answer(command, reply, report),
+                None => self.settle_poll(reply, report),
+            },
         }
+    }
+
+    /// A POLL is answered.
+    fn settle_poll(&mut self, reply: Reply, report: &mut Option<Report>)
+        requires { report.old ≡ None }
+        ensures report { report.new ≡ poll_told reply (event_in reply) }
+        ensures session { self.new ≡ at_rest self.old }
+    {
+        self.rest();
+        tell_poll(reply, report);
     }
 
     /// The opening ID is answered by a PDID.
-    fn open(&mut self, id: Option<PdId>) -> Option<Report>
-        requires { is_none id ≡ false }
-        ensures report { result ≡ (opening_answered id self.old).report }
+    fn open(&mut self, id: Option<PdId>, report: &mut Option<Report>)
+        requires some { is_none id ≡ false }
+        requires none { report.old ≡ None }
+        ensures report { report.new ≡ (opening_answered id self.old).report }
         ensures session { self.new ≡ (opening_answered id self.old).session }
     {
-        let id = id?;
-        self.rest_with(Some(Report::Opened(id)))
+        if let Some(id) = id {
+            self.rest();
+            *report = Some(Report::Opened(id));
+        }
     }
 
-    /// A reply that cannot be read answers the exchange.
-    fn settle_unread(&mut self, exchange: Exchange, code: u8) -> Option<Report>
-        requires { is_no_answer exchange (Unreadable code) ≡ false }
-        ensures report { result ≡ (answered_unread exchange code self.old).report }
-        ensures session { self.new ≡ (answered_unread exchange code self.old).session }
+    /// A reply that cannot be read answers the outstanding exchange.
+    fn settle_unread(&mut self, code: u8, report: &mut Option<Report>)
+        requires held { is_held self.old.state ≡ true }
+        requires answer { is_no_answer (outstanding_in self.old.state).exchange (Unreadable code) ≡ false }
+        ensures report { report.new ≡ (answered_unread (outstanding_in self.old.state).exchange code self.old).report }
+        ensures session { self.new ≡ (answered_unread (outstanding_in self.old.state).exchange code self.old).session }
     {
-        self.rest_with(Some(Report::Unread(exchange.into_command(), code)))
+        *report = Some(Report::Unread(self.state.take_command(), code));
+        self.rest();
     }
 
     /// An answer comes while it is waited for.
-    fn hear_waiting(
-        &mut self,
-        answer: Answer,
-        sends: u8,
-        outstanding: Outstanding,
-    ) -> Option<Report>
-        requires { is_no_answer outstanding.exchange answer ≡ false }
-        ensures report { result ≡ (waiting_hears answer sends outstanding self.old).report }
-        ensures session { self.new ≡ (waiting_hears answer sends outstanding self.old).session }
+    fn hear_waiting(&mut self, answer: Answer, report: &mut Option<Report>)
+        requires waiting { stage_of self.old.state ≡ stages.Waiting }
+        requires answer { is_no_answer (outstanding_in self.old.state).exchange answer ≡ false }
+        requires none { report.old ≡ None }
+        ensures report { report.new ≡ (waiting_hears answer (sends_in self.old.state) (outstanding_in self.old.state) self.old).report }
+        ensures session { self.new ≡ (waiting_hears answer (sends_in self.old.state) (outstanding_in self.old.state) self.old).session }
     {
         match answer {
-            Answer::NotTaken => self.hear_busy(outstanding),
-            Answer::Damaged => {
-                self.state = State::Waiting {
-                    until: self.greatest,
-                    sends,
-                    outstanding,
-                };
-                None
-            }
-            Answer::NumberRefused => self.lose(LostCause::NumberRefused, outstanding),
-            Answer::Plain(reply) => self.settle(outstanding.exchange, reply),
-            Answer::Unreadable(code) => self.settle_unread(outstanding.exchange, code),
+            Answer::NotTaken => self.hear_busy(report),
+            Answer::Damaged => self.state.wait_until(self.greatest),
+            Answer::NumberRefused => self.lose(LostCause::NumberRefused, report),
+            Answer::Plain(reply) => self.settle(reply, report),
+            Answer::Unreadable(code) => self.settle_unread(code, report),
         }
     }
 
     /// An answer comes in a pause.
-    fn hear_pausing(
-        &mut self,
-        answer: Answer,
-        until: u64,
-        outstanding: Outstanding,
-    ) -> Option<Report>
-        requires { is_no_answer outstanding.exchange answer ≡ false }
-        ensures report { result ≡ (pausing_hears answer outstanding (record self.old { state = Pausing until outstanding })).report }
-        ensures session { self.new ≡ (pausing_hears answer outstanding (record self.old { state = Pausing until outstanding })).session }
+    fn hear_pausing(&mut self, answer: Answer, report: &mut Option<Report>)
+        requires held { is_held self.old.state ≡ true }
+        requires answer { is_no_answer (outstanding_in self.old.state).exchange answer ≡ false }
+        requires none { report.old ≡ None }
+        ensures report { report.new ≡ (pausing_hears answer (outstanding_in self.old.state) self.old).report }
+        ensures session { self.new ≡ (pausing_hears answer (outstanding_in self.old.state) self.old).session }
     {
         match answer {
-            Answer::NotTaken | Answer::Damaged => {
-                self.state = State::Pausing { until, outstanding };
-                None
-            }
-            Answer::NumberRefused => self.lose(LostCause::NumberRefused, outstanding),
-            Answer::Plain(reply) => self.settle(outstanding.exchange, reply),
-            Answer::Unreadable(code) => self.settle_unread(outstanding.exchange, code),
+            Answer::NotTaken | Answer::Damaged => {}
+            Answer::NumberRefused => self.lose(LostCause::NumberRefused, report),
+            Answer::Plain(reply) => self.settle(reply, report),
+            Answer::Unreadable(code) => self.settle_unread(code, report),
         }
     }
 
@@ -182,79 +173,98 @@ impl Session {
     fn is_no_answer(&self, answer: &Answer) -> bool
         ensures { result ≡ is_no_answer_in self.now.state answer.now }
     {
-        match &self.state {
-            State::Closed | State::Quiet { .. } | State::Idle { .. } => false,
-            State::Waiting { outstanding, .. } => is_no_answer(&outstanding.exchange, answer),
-            State::Pausing { outstanding, .. } => is_no_answer(&outstanding.exchange, answer),
+        match self.state.stage {
+            Stage::Closed | Stage::Quiet | Stage::Idle => false,
+            Stage::Waiting => is_no_answer(self.state.asked, answer),
+            Stage::Pausing => is_no_answer(self.state.asked, answer),
         }
     }
 
     /// An answer with the number of the exchange comes, where one is outstanding.
-    fn hear_numbered(&mut self, answer: Answer) -> Option<Report>
-        requires { is_no_answer_in self.old.state answer ≡ false }
-        ensures report { result ≡ (numbered_in self.old.state answer self.old).report }
+    fn hear_numbered(&mut self, answer: Answer, report: &mut Option<Report>)
+        requires answer { is_no_answer_in self.old.state answer ≡ false }
+        requires none { report.old ≡ None }
+        ensures report { report.new ≡ (numbered_in self.old.state answer self.old).report }
         ensures session { self.new ≡ (numbered_in self.old.state answer self.old).session }
     {
-        match mem::replace(&mut self.state, State::Closed) {
-            State::Closed => None,
-            State::Quiet { until } => {
-                self.state = State::Quiet { until };
-                None
-            }
-            State::Idle { due } => {
-                self.state = State::Idle { due };
-                None
-            }
-            State::Waiting {
-                until: _,
-                sends,
-                outstanding,
-            } => self.hear_waiting(answer, sends, outstanding),
-            State::Pausing { until, outstanding } => self.hear_pausing(answer, until, outstanding),
+        match self.state.stage {
+            Stage::Closed | Stage::Quiet | Stage::Idle => {}
+            Stage::Waiting => self.hear_waiting(answer, report),
+            Stage::Pausing => self.hear_pausing(answer, report),
         }
     }
 
     /// A frame comes from the line.
     #[inline(always)]
-    pub(crate) fn hear(&mut self, frame: &FrameView<'_>, now: u64) -> Option<Report>
-        requires { IsSession self.old }
-        ensures report { result ≡ (hears frame.now now self.old).report }
+    pub(crate) fn hear(&mut self, frame: &FrameView<'_>, now: u64, report: &mut Option<Report>)
+        requires session { IsSession self.old }
+        requires none { report.old ≡ None }
+        ensures report { report.new ≡ (hears frame.now now self.old).report }
         ensures session { self.new ≡ (hears frame.now now self.old).session }
         ensures kept { IsSession self.new }
     {
         self.see(now);
         if self.is_from_reader(frame) {
-            self.hear_reader(frame)
-        } else {
-            None
+            self.hear_reader(frame, report);
         }
     }
 
     /// A reply comes from the own address, at the greatest moment seen.
     #[inline(never)]
-    fn hear_reader(&mut self, frame: &FrameView<'_>) -> Option<Report>
-        requires { IsSession self.old }
-        ensures report { result ≡ (hears_in self.old.state frame.now.sequence (answer_of frame.now) self.old).report }
+    fn hear_reader(&mut self, frame: &FrameView<'_>, report: &mut Option<Report>)
+        requires session { IsSession self.old }
+        requires none { report.old ≡ None }
+        ensures report { report.new ≡ (hears_in self.old.state frame.now.sequence (answer_of frame.now) self.old).report }
+        ensures session { self.new ≡ (hears_in self.old.state frame.now.sequence (answer_of frame.now) self.old).session }
+        ensures kept { IsSession self.new }
+    {
+        if self.is_acknowledged_by(frame) {
+            self.rest();
+        } else {
+            self.hear_reply(frame, report);
+        }
+    }
+
+    /// Whether a packet is the ACK that a POLL waits for.
+    #[tactic(auto, using(crate::proofs::Acks::acked))]
+    fn is_acknowledged_by(&self, frame: &FrameView<'_>) -> bool
+        ensures { result ≡ true → hears_in self.now.state frame.now.sequence (answer_of frame.now) self.now ≡ rests None self.now }
+    {
+        frame.seq() == self.number && self.state.is_polling() && is_ack_alone(frame.body())
+    }
+
+    /// A reply comes from the own address, at the greatest moment seen, and is read.
+    #[inline(never)]
+    fn hear_reply(&mut self, frame: &FrameView<'_>, report: &mut Option<Report>)
+        requires session { IsSession self.old }
+        requires none { report.old ≡ None }
+        ensures report { report.new ≡ (hears_in self.old.state frame.now.sequence (answer_of frame.now) self.old).report }
         ensures session { self.new ≡ (hears_in self.old.state frame.now.sequence (answer_of frame.now) self.old).session }
         ensures kept { IsSession self.new }
     {
         let answer = Answer::of(frame);
-        if !self.is_numbered(frame.seq(), &answer) || self.is_no_answer(&answer) {
-            return None;
+        if self.is_numbered(frame.seq(), &answer) && !self.is_no_answer(&answer) {
+            self.hear_numbered(answer, report);
         }
-        self.hear_numbered(answer)
     }
 }
 
-/// Whether an answer is none to the exchange: the opening ID is answered by a PDID alone.
-fn is_no_answer(exchange: &Exchange, answer: &Answer) -> bool
-    ensures { result ≡ is_no_answer exchange.now answer.now }
+/// Whether code and data are those of an ACK.
+fn is_ack_alone(body: &[u8]) -> bool
+    ensures { result ≡ true → body.now ≡ 0x40 ∷ [] }
 {
-    match (exchange, answer) {
-        (Exchange::Opening, Answer::Plain(reply)) => pd_id_of(reply).is_none(),
-        (Exchange::Opening, Answer::Unreadable(_)) => true,
-        (Exchange::Opening, Answer::NotTaken | Answer::Damaged | Answer::NumberRefused)
-        | (Exchange::Polling | Exchange::Asking(_), _) => false,
+    body.len() == 1 && body[0] == 0x40
+}
+
+/// Whether an answer is none to the exchange: the opening ID is answered by a PDID alone.
+fn is_no_answer(asked: Asked, answer: &Answer) -> bool
+    ensures { (command : Option Command) → result ≡ is_no_answer (exchange_of asked command) answer.now }
+{
+    match (asked, answer) {
+        (Asked::Opening, Answer::Plain(reply)) => pd_id_of(reply).is_none(),
+        (Asked::Opening, Answer::Unreadable(_)) => true,
+        (Asked::Opening, Answer::NotTaken | Answer::Damaged | Answer::NumberRefused)
+        | (Asked::Polling | Asked::Submitted, _) => false,
     }
 }
 
@@ -316,13 +326,14 @@ fn event_in(reply: Reply) -> Result<Event, Reply>
     reply.to_event()
 }
 
-/// What the answer to a POLL tells.
-fn poll_told(reply: Reply) -> Option<Report>
-    ensures { result ≡ poll_told reply (event_in reply) }
+/// Tells what the answer to a POLL tells.
+fn tell_poll(reply: Reply, report: &mut Option<Report>)
+    requires { report.old ≡ None }
+    ensures { report.new ≡ poll_told reply (event_in reply) }
 {
     match event_in(reply) {
-        Ok(event) => Some(Report::Event(event)),
-        Err(reply) if is_ack(&reply) => None,
-        Err(reply) => Some(Report::PollAnswered(reply)),
+        Ok(event) => *report = Some(Report::Event(event)),
+        Err(reply) if is_ack(&reply) => {}
+        Err(reply) => *report = Some(Report::PollAnswered(reply)),
     }
 }

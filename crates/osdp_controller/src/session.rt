@@ -1,13 +1,17 @@
 //! What is kept of a session, and the small steps of its tables.
 
-ghost use Rattle.std.specs.Prelude.{◌≡◌, ◌+◌, ◌<◌, ◌^◌};
-ghost use Rattle.osdp_controller.specs.Sessions.{after_send, at_rest, frame_of, later, new_session, seen};
+ghost use Rattle.std.specs.Prelude.{◌≡◌, ◌+◌, ◌<◌, ◌≤◌, ◌^◌, length, false, true};
+ghost use Rattle.osdp_frame.specs.Packed.{packed};
+ghost use Rattle.osdp_frame.specs.Spelling.{Spells};
+ghost use Rattle.osdp_controller.specs.Held.{is_held, outstanding_in};
+ghost use Rattle.osdp_controller.specs.Private.{frame_if, frame_in};
+ghost use Rattle.osdp_controller.specs.Sessions.{after_send, at_rest, later, new_session, seen};
 
 use crate::config::ControllerConfig;
-use crate::exchange::{Exchange, Outstanding};
-use crate::state::State;
+use crate::exchange::Asked;
+use crate::state::Held;
 use crate::ticking::first_number;
-use osdp_frame::{Frame, Seq};
+use osdp_frame::{Burst, Frame, FrameView, Seq};
 
 /// A session with one reader.
 #[derive(Debug, Drop)]
@@ -15,7 +19,7 @@ pub struct Session {
     /// The settings; the address changes by Moved and between sessions.
     pub config: ControllerConfig,
     /// Where the session stands, with its deadline.
-    pub state: State,
+    pub state: Held,
     /// The sequence number of the latest exchange.
     pub number: Seq,
     /// The greatest moment seen, in milliseconds.
@@ -29,7 +33,7 @@ impl Session {
     {
         Session {
             config,
-            state: State::Closed,
+            state: Held::new(),
             number: first_number(),
             greatest: 0,
         }
@@ -49,14 +53,15 @@ impl Session {
         self.greatest.saturating_add(u64::from(wait))
     }
 
-    /// The frame of an exchange.
-    pub(crate) fn frame(&self, exchange: &Exchange) -> Frame
-        ensures { result ≡ frame_of exchange.now self.now }
+    /// The frame with this code and data.
+    fn frame_of<'a>(&self, body: &'a [u8]) -> FrameView<'a>
+        requires some { 1 ≤ length body.now }
+        requires room { length body.now ≤ 1433 }
+        ensures { result ≡ packed false self.now.config.address self.now.number self.now.config.check false 0 body.now }
     {
-        let body = exchange.body();
         // The calls bring in that both are in their ranges, without which the frame might be refused.
         let _ranges = (self.config.address.get(), self.number.get());
-        let made = Frame::new(
+        let made = FrameView::new(
             false,
             self.config.address,
             self.number,
@@ -68,30 +73,50 @@ impl Session {
         made.unwrap()
     }
 
-    /// The frame of the exchange, which goes out now.
-    pub(crate) fn send(&mut self, sends: u8, outstanding: Outstanding) -> Frame
-        requires { outstanding.sent + 1 < 2 ^ 32 }
-        ensures frame { result ≡ frame_of outstanding.exchange self.old }
-        ensures session { self.new ≡ after_send sends outstanding self.old }
+    /// The frame of the outstanding exchange.
+    fn frame(&self) -> Frame
+        requires { is_held self.now.state ≡ true }
+        ensures { result ≡ frame_in self.now }
     {
-        let frame = self.frame(&outstanding.exchange);
+        match (self.state.asked, &self.state.command) {
+            (Asked::Opening, _) => self.frame_of(&OPENING).to_frame(),
+            (Asked::Submitted, Some(command)) => {
+                self.frame_of(command.write().as_slice()).to_frame()
+            }
+            (Asked::Polling, _) | (Asked::Submitted, None) => self.frame_of(&POLL).to_frame(),
+        }
+    }
+
+    /// The frame of the outstanding exchange, where it is sent now.
+    pub(crate) fn frame_if(&self, sends: bool) -> Option<Frame>
+        requires { sends ≡ true → is_held self.now.state ≡ true }
+        ensures { result ≡ frame_if sends self.now }
+    {
+        if sends { Some(self.frame()) } else { None }
+    }
+
+    /// Puts the bytes of the outstanding exchange's frame in place of what stands in `out`.
+    pub(crate) fn spell(&self, out: &mut Burst)
+        requires { is_held self.now.state ≡ true }
+        ensures { Spells (frame_in self.now) out.new.items }
+    {
+        match (self.state.asked, &self.state.command) {
+            (Asked::Opening, _) => self.frame_of(&OPENING).encode_to(out),
+            (Asked::Submitted, Some(command)) => {
+                self.frame_of(command.write().as_slice()).encode_to(out);
+            }
+            (Asked::Polling, _) | (Asked::Submitted, None) => self.frame_of(&POLL).encode_to(out),
+        }
+    }
+
+    /// The outstanding exchange is asked once more, as this send.
+    pub(crate) fn send(&mut self, sends: u8)
+        requires held { is_held self.old.state ≡ true }
+        requires few { (outstanding_in self.old.state).sent + 1 < 2 ^ 32 }
+        ensures { self.new ≡ after_send sends (outstanding_in self.old.state) self.old }
+    {
         let until = self.later(self.config.reply_wait);
-        let Outstanding {
-            exchange,
-            busies,
-            sent,
-        } = outstanding;
-        let outstanding = Outstanding {
-            exchange,
-            busies,
-            sent: sent + 1,
-        };
-        self.state = State::Waiting {
-            until,
-            sends,
-            outstanding,
-        };
-        frame
+        self.state.send(sends, until);
     }
 
     /// Nothing is outstanding any more.
@@ -99,6 +124,12 @@ impl Session {
         ensures { self.new ≡ at_rest self.old }
     {
         let due = self.later(self.config.poll_interval);
-        self.state = State::Idle { due };
+        self.state.rest(due);
     }
 }
+
+/// The code and data of the opening ID.
+const OPENING: [u8; 2] = [0x61, 0];
+
+/// The code of a POLL.
+const POLL: [u8; 1] = [0x60];

@@ -1,11 +1,19 @@
 //! Where a session stands.
 
-ghost use Rattle.std.specs.Prelude.{◌≡◌};
-ghost use Rattle.osdp_controller.specs.States.{is_closed, is_idle};
+ghost use Rattle.std.specs.Prelude.{◌≡◌, ◌≢◌, ◌+◌, ◌<◌, ◌^◌, true, None};
+ghost use Rattle.osdp_controller.specs.declared.exchange.Asked.TheVariants.{Submitted};
+ghost use Rattle.osdp_controller.specs.declared.exchange.Exchange.TheVariants.{Asking, Polling};
+ghost use Rattle.osdp_controller.specs.declared.state.Stage.TheVariants as stages;
+ghost use Rattle.osdp_controller.specs.declared.state.State.TheVariants.{Closed, Idle, Pausing, Quiet, Waiting};
+ghost use Rattle.osdp_controller.specs.Exchanges.{submitted_command};
+ghost use Rattle.osdp_controller.specs.Held.{exchange_of, is_held, outstanding_in, sends_in, stage_of};
+ghost use Rattle.osdp_controller.specs.States.{is_closed, is_idle, moment_of};
 
-use crate::exchange::Outstanding;
+use crate::exchange::{Asked, Outstanding};
+use osdp_msg::Command;
+use std::marker::Model;
 
-/// Where a session stands. Moments are in milliseconds.
+/// Where a session stands, as the tables say it. Moments are in milliseconds.
 #[derive(Debug, Drop)]
 pub enum State {
     /// There is no session.
@@ -32,18 +40,199 @@ pub enum State {
     },
 }
 
-impl State {
+/// Which row of the tables a session stands in.
+#[derive(Clone, Copy, Debug, PartialEq, Eq)]
+pub enum Stage {
+    /// There is no session.
+    Closed,
+    /// The line is left quiet.
+    Quiet,
+    /// No exchange is outstanding.
+    Idle,
+    /// The frame of the exchange went out.
+    Waiting,
+    /// The reader answered BUSY.
+    Pausing,
+}
+
+/// A state in its parts. A submitted command stays in its place until its exchange ends, so that no step moves it; what a stage has no
+/// use for is left as it was.
+#[derive(Debug, Drop)]
+pub struct Held {
+    /// The row of the tables.
+    pub stage: Stage,
+    /// The moment that it waits for.
+    pub moment: u64,
+    /// How often the frame went out, beginning anew after each BUSY.
+    pub sends: u8,
+    /// What the exchange asks.
+    pub asked: Asked,
+    /// How often the reader answered BUSY.
+    pub busies: u8,
+    /// How many frames went out.
+    pub sent: u32,
+    /// The command that was submitted, where one is asked.
+    pub command: Option<Command>,
+}
+
+impl Model for Held {
+    ghost use Rattle.osdp_controller.specs.declared.state.State.{State};
+    ghost use Rattle.osdp_controller.specs.Held.{exchange_of, state_of};
+
+    ghost Value = { State };
+
+    ghost view = { λ h. state_of h.stage h.moment h.sends (record {
+      exchange = exchange_of h.asked h.command;
+      busies = h.busies;
+      sent = h.sent;
+    }) };
+}
+
+impl Held {
+    /// There is no session.
+    pub(crate) fn new() -> Held
+        ensures { result ≡ Closed }
+    {
+        Held {
+            stage: Stage::Closed,
+            moment: 0,
+            sends: 0,
+            asked: Asked::Polling,
+            busies: 0,
+            sent: 0,
+            command: None,
+        }
+    }
+
     /// Whether there is no session.
     pub(crate) fn is_closed(&self) -> bool
         ensures { result ≡ is_closed self.now }
     {
-        matches!(self, State::Closed)
+        match self.stage {
+            Stage::Closed => true,
+            Stage::Quiet | Stage::Idle | Stage::Waiting | Stage::Pausing => false,
+        }
     }
 
     /// Whether the session is open and no exchange is outstanding.
     pub(crate) fn is_idle(&self) -> bool
         ensures { result ≡ is_idle self.now }
     {
-        matches!(self, State::Idle { .. })
+        match self.stage {
+            Stage::Idle => true,
+            Stage::Closed | Stage::Quiet | Stage::Waiting | Stage::Pausing => false,
+        }
+    }
+
+    /// Whether a POLL is outstanding.
+    pub(crate) fn is_polling(&self) -> bool
+        ensures { result ≡ true → (is_held self.now ≡ true) × ((outstanding_in self.now).exchange ≡ Polling) }
+    {
+        match (self.stage, self.asked) {
+            (Stage::Waiting | Stage::Pausing, Asked::Polling) => true,
+            (Stage::Closed | Stage::Quiet | Stage::Idle, _)
+            | (Stage::Waiting | Stage::Pausing, Asked::Opening | Asked::Submitted) => false,
+        }
+    }
+
+    /// The moment that it waits for.
+    pub(crate) fn moment(&self) -> Option<u64>
+        ensures { result ≡ moment_of self.now }
+    {
+        match self.stage {
+            Stage::Closed => None,
+            Stage::Quiet | Stage::Idle | Stage::Waiting | Stage::Pausing => Some(self.moment),
+        }
+    }
+
+    /// There is no session any more.
+    pub(crate) fn close(&mut self)
+        ensures { self.new ≡ Closed }
+    {
+        self.stage = Stage::Closed;
+    }
+
+    /// The line is left quiet until this moment.
+    pub(crate) fn be_quiet(&mut self, until: u64)
+        ensures { self.new ≡ Quiet until }
+    {
+        self.stage = Stage::Quiet;
+        self.moment = until;
+    }
+
+    /// Nothing is outstanding; a POLL is due at this moment.
+    pub(crate) fn rest(&mut self, due: u64)
+        ensures { self.new ≡ Idle due }
+    {
+        self.stage = Stage::Idle;
+        self.moment = due;
+    }
+
+    /// The opening ID or a POLL is asked for the first time.
+    pub(crate) fn begin(&mut self, asked: Asked, until: u64)
+        requires { asked ≢ Submitted }
+        ensures { self.new ≡ Waiting until 1 (record { exchange = exchange_of asked None; busies = 0; sent = 1 }) }
+    {
+        self.stage = Stage::Waiting;
+        self.moment = until;
+        self.sends = 1;
+        self.busies = 0;
+        self.sent = 1;
+        self.asked = asked;
+    }
+
+    /// A command is asked for the first time.
+    pub(crate) fn begin_command(&mut self, command: Command, until: u64)
+        ensures { self.new ≡ Waiting until 1 (record { exchange = Asking command; busies = 0; sent = 1 }) }
+    {
+        self.stage = Stage::Waiting;
+        self.moment = until;
+        self.sends = 1;
+        self.asked = Asked::Submitted;
+        self.busies = 0;
+        self.sent = 1;
+        self.command = Some(command);
+    }
+
+    /// The exchange is asked once more, as this send.
+    pub(crate) fn send(&mut self, sends: u8, until: u64)
+        requires held { is_held self.old ≡ true }
+        requires few { (outstanding_in self.old).sent + 1 < 2 ^ 32 }
+        ensures { self.new ≡ Waiting until sends (record (outstanding_in self.old) { sent = (outstanding_in self.old).sent + 1 }) }
+    {
+        self.stage = Stage::Waiting;
+        self.moment = until;
+        self.sends = sends;
+        self.sent += 1;
+    }
+
+    /// The wait for the answer is over at this moment.
+    pub(crate) fn wait_until(&mut self, until: u64)
+        requires { stage_of self.old ≡ stages.Waiting }
+        ensures { self.new ≡ Waiting until (sends_in self.old) (outstanding_in self.old) }
+    {
+        self.moment = until;
+    }
+
+    /// One more BUSY: the exchange is asked again at this moment.
+    pub(crate) fn pause(&mut self, until: u64)
+        requires held { is_held self.old ≡ true }
+        requires few { (outstanding_in self.old).busies < 255 }
+        ensures { self.new ≡ Pausing until (record (outstanding_in self.old) { busies = (outstanding_in self.old).busies + 1 }) }
+    {
+        self.stage = Stage::Pausing;
+        self.moment = until;
+        self.busies += 1;
+    }
+
+    /// The command that was submitted for the outstanding exchange, which is over.
+    pub(crate) fn take_command(&mut self) -> Option<Command>
+        requires held { is_held self.old ≡ true }
+        ensures { result ≡ submitted_command (outstanding_in self.old).exchange }
+    {
+        match self.asked {
+            Asked::Opening | Asked::Polling => None,
+            Asked::Submitted => self.command.take(),
+        }
     }
 }

@@ -1,90 +1,79 @@
 //! The table of ticks.
 
-ghost use Rattle.std.specs.Prelude.{◌≡◌, ◌≢◌, [], ◌+◌, ◌<◌, ◌^◌, IfSome};
+ghost use Rattle.std.specs.Prelude.{◌≡◌, ◌≢◌, [], ◌+◌, ◌<◌, ◌^◌, None, true};
 ghost use Rattle.osdp_frame.specs.Packet.{next_sequence};
-ghost use Rattle.osdp_controller.specs.declared.exchange.Exchange.TheVariants.{Opening};
-ghost use Rattle.osdp_controller.specs.Exchanges.{submitted_command};
+ghost use Rattle.osdp_controller.specs.declared.exchange.Asked.TheVariants.{Submitted};
+ghost use Rattle.osdp_controller.specs.declared.exchange.Exchange.TheVariants.{Asking};
+ghost use Rattle.osdp_controller.specs.declared.state.Stage.TheVariants as stages;
+ghost use Rattle.osdp_controller.specs.Held.{exchange_of, is_held, outstanding_in, sends_in, stage_of};
 ghost use Rattle.osdp_controller.specs.Machine.{IsSession, IsSubmitted};
 ghost use Rattle.osdp_controller.specs.Settings.{IsConfig};
-ghost use Rattle.osdp_controller.specs.Private.{is_reached};
+ghost use Rattle.osdp_controller.specs.Private.{frame_if, is_reached};
 ghost use Rattle.osdp_controller.specs.States.{moment_of};
 ghost use Rattle.osdp_controller.specs.Ticking.{begins, sends_frame, ticks_in, tries_again};
 
-use crate::exchange::{Exchange, Outstanding};
+use crate::exchange::Asked;
 use crate::report::{LostCause, Report};
 use crate::session::Session;
-use crate::state::State;
-use crate::step::Step;
+use crate::state::Stage;
 use osdp_frame::Seq;
-use std::mem;
+use osdp_msg::Command;
 
 impl Session {
-    /// A step that sends the frame of the exchange.
-    fn send_frame(&mut self, sends: u8, outstanding: Outstanding) -> Step
-        requires { outstanding.sent + 1 < 2 ^ 32 }
-        ensures step { result ≡ (sends_frame sends outstanding self.old []).step }
-        ensures session { self.new ≡ (sends_frame sends outstanding self.old []).session }
-    {
-        Step {
-            frame: Some(self.send(sends, outstanding)),
-            report: None,
-        }
-    }
-
-    /// A new exchange begins.
-    fn begin(&mut self, exchange: Exchange, number: Seq) -> Step
-        ensures step { result ≡ (begins exchange number self.old []).step }
-        ensures session { self.new ≡ (begins exchange number self.old []).session }
+    /// The opening ID or a POLL begins a new exchange.
+    fn begin(&mut self, asked: Asked, number: Seq)
+        requires { asked ≢ Submitted }
+        ensures { self.new ≡ (begins (exchange_of asked None) number self.old []).session }
     {
         self.number = number;
-        let outstanding = Outstanding {
-            exchange,
-            busies: 0,
-            sent: 0,
-        };
-        self.send_frame(1, outstanding)
+        let until = self.later(self.config.reply_wait);
+        self.state.begin(asked, until);
     }
 
-    /// A new exchange with the next number begins.
-    pub(crate) fn begin_next(&mut self, exchange: Exchange) -> Step
+    /// The number of the next exchange.
+    fn next_number(&self) -> Seq
+        ensures { result ≡ next_sequence self.now.number }
+    {
+        self.number.next()
+    }
+
+    /// A command begins a new exchange with the next number.
+    pub(crate) fn begin_command(&mut self, command: Command)
         requires config { IsConfig self.old.config }
-        requires command { IfSome (submitted_command exchange) IsSubmitted }
-        requires after_opening { exchange ≢ Opening }
-        ensures step { result ≡ (begins exchange (next_sequence self.old.number) self.old []).step }
-        ensures session { self.new ≡ (begins exchange (next_sequence self.old.number) self.old []).session }
+        requires command { IsSubmitted command }
+        ensures session { self.new ≡ (begins (Asking command) (next_sequence self.old.number) self.old []).session }
         ensures kept { IsSession self.new }
     {
-        let number = self.number.next();
-        self.begin(exchange, number)
+        self.number = self.next_number();
+        let until = self.later(self.config.reply_wait);
+        self.state.begin_command(command, until);
     }
 
-    /// No answer came in time: the same frame again, or the end of the session.
-    fn try_again(&mut self, sends: u8, outstanding: Outstanding) -> Step
-        requires { outstanding.sent + 1 < 2 ^ 32 }
-        ensures step { result ≡ (tries_again sends outstanding self.old []).step }
-        ensures session { self.new ≡ (tries_again sends outstanding self.old []).session }
+    /// No answer came in time: the same frame again, or the end of the session. Whether the frame goes out.
+    fn try_again(&mut self, report: &mut Option<Report>) -> bool
+        requires waiting { stage_of self.old.state ≡ stages.Waiting }
+        requires few { (outstanding_in self.old.state).sent + 1 < 2 ^ 32 }
+        requires none { report.old ≡ None }
+        ensures frame { (tries_again (sends_in self.old.state) (outstanding_in self.old.state) self.old []).step.frame ≡ frame_if result self.new }
+        ensures report { report.new ≡ (tries_again (sends_in self.old.state) (outstanding_in self.old.state) self.old []).step.report }
+        ensures session { self.new ≡ (tries_again (sends_in self.old.state) (outstanding_in self.old.state) self.old []).session }
+        ensures held { result ≡ true → is_held self.new.state ≡ true }
     {
+        let sends = self.state.sends;
         if sends < self.config.sends {
-            return self.send_frame(sends + 1, outstanding);
+            self.send(sends + 1);
+            return true;
         }
-        self.state = State::Closed;
-        Step {
-            frame: None,
-            report: Some(Report::Lost(LostCause::NoReply, outstanding.exchange.into_command())),
-        }
+        *report = Some(Report::Lost(LostCause::NoReply, self.state.take_command()));
+        self.state.close();
+        false
     }
 
     /// The moment that the state waits for.
     pub(crate) fn moment(&self) -> Option<u64>
         ensures { result ≡ moment_of self.now.state }
     {
-        match &self.state {
-            State::Closed => None,
-            State::Quiet { until } => Some(*until),
-            State::Idle { due } => Some(*due),
-            State::Waiting { until, .. } => Some(*until),
-            State::Pausing { until, .. } => Some(*until),
-        }
+        self.state.moment()
     }
 
     /// Whether the moment that the state waits for is reached.
@@ -97,30 +86,27 @@ impl Session {
         }
     }
 
-    /// A tick where no command waits, at the greatest moment seen.
-    pub(crate) fn tick(&mut self) -> Step
-        requires { IsSession self.old }
-        ensures step { result ≡ (ticks_in self.old.state self.old []).step }
+    /// A tick where no command waits, at the greatest moment seen. Whether the frame of the outstanding exchange goes out.
+    pub(crate) fn tick(&mut self, report: &mut Option<Report>) -> bool
+        requires session { IsSession self.old }
+        requires none { report.old ≡ None }
+        ensures frame { (ticks_in self.old.state self.old []).step.frame ≡ frame_if result self.new }
+        ensures report { report.new ≡ (ticks_in self.old.state self.old []).step.report }
         ensures session { self.new ≡ (ticks_in self.old.state self.old []).session }
+        ensures held { result ≡ true → is_held self.new.state ≡ true }
         ensures kept { IsSession self.new }
     {
         if !self.is_reached() {
-            return Step::nothing();
+            return false;
         }
-        match mem::replace(&mut self.state, State::Closed) {
-            State::Closed => Step::nothing(),
-            State::Quiet { until: _ } => self.begin(Exchange::Opening, first_number()),
-            State::Idle { due: _ } => self.begin_next(Exchange::Polling),
-            State::Waiting {
-                until: _,
-                sends,
-                outstanding,
-            } => self.try_again(sends, outstanding),
-            State::Pausing {
-                until: _,
-                outstanding,
-            } => self.send_frame(1, outstanding),
+        match self.state.stage {
+            Stage::Closed => return false,
+            Stage::Quiet => self.begin(Asked::Opening, first_number()),
+            Stage::Idle => self.begin(Asked::Polling, self.next_number()),
+            Stage::Waiting => return self.try_again(report),
+            Stage::Pausing => self.send(1),
         }
+        true
     }
 }
 

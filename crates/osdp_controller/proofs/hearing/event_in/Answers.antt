@@ -1,4 +1,4 @@
-use Rattle.osdp_controller.proofs.Same.{event_answer}
+use Rattle.osdp_controller.proofs.Told.{event_answer}
 use Rattle.osdp_controller.proofs.hearing.event_in.Goals as goal
 
 pub returns : goal.returns

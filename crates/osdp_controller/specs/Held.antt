@@ -1,0 +1,52 @@
+-- How the state of a session is held: its parts, of which a submitted command is one that stays where it is.
+use Rattle.std.specs.Prelude.{ℕ, Bool, true, false, Option, Some, None}
+use Rattle.osdp_msg.specs.declared.command.Command.{Command}
+use Rattle.osdp_controller.specs.declared.exchange.Asked.{Asked}
+use Rattle.osdp_controller.specs.declared.exchange.Asked.TheVariants as asked
+use Rattle.osdp_controller.specs.declared.exchange.Exchange.{Exchange}
+use Rattle.osdp_controller.specs.declared.exchange.Exchange.TheVariants.{Opening, Polling, Asking}
+use Rattle.osdp_controller.specs.declared.exchange.Outstanding.{Outstanding}
+use Rattle.osdp_controller.specs.declared.state.Stage.{Stage}
+use Rattle.osdp_controller.specs.declared.state.Stage.TheVariants as stages
+use Rattle.osdp_controller.specs.declared.state.State.{State}
+use Rattle.osdp_controller.specs.declared.state.State.TheVariants.{Closed, Quiet, Idle, Waiting, Pausing}
+
+-- the exchange that what is asked and the command that is kept make
+abbrev pub exchange_of : Asked → Option Command → Exchange
+exchange_of asked.Opening command = Opening
+exchange_of asked.Polling command = Polling
+exchange_of asked.Submitted (Some command) = Asking command
+exchange_of asked.Submitted None = Polling
+
+-- the state that a stage, its moment, its sends and an exchange make
+abbrev pub state_of : Stage → ℕ → ℕ → Outstanding → State
+state_of stages.Closed moment sends o = Closed
+state_of stages.Quiet moment sends o = Quiet moment
+state_of stages.Idle moment sends o = Idle moment
+state_of stages.Waiting moment sends o = Waiting moment sends o
+state_of stages.Pausing moment sends o = Pausing moment o
+
+-- the stage of a state
+abbrev pub stage_of : State → Stage
+stage_of Closed = stages.Closed
+stage_of (Quiet until) = stages.Quiet
+stage_of (Idle due) = stages.Idle
+stage_of (Waiting until sends o) = stages.Waiting
+stage_of (Pausing until o) = stages.Pausing
+
+-- an exchange is outstanding
+abbrev pub is_held : State → Bool
+is_held (Waiting until sends o) = true
+is_held (Pausing until o) = true
+is_held _ = false
+
+-- the outstanding exchange; where none is, a POLL that was never sent
+abbrev pub outstanding_in : State → Outstanding
+outstanding_in (Waiting until sends o) = o
+outstanding_in (Pausing until o) = o
+outstanding_in _ = record { exchange = Polling; busies = 0; sent = 0 }
+
+-- the sends since the exchange began or was last answered BUSY
+abbrev pub sends_in : State → ℕ
+sends_in (Waiting until sends o) = sends
+sends_in _ = 0
