@@ -10,7 +10,7 @@ import tempfile
 
 HERE = os.path.dirname(os.path.abspath(__file__))
 PROGRAM = os.path.join(HERE, "..", "crates", "osdp_bench", "out", "osdp_bench")
-KINDS = ["poll", "out", "repeat", "ignored", "idle", "encode", "encode_to", "framer_sum", "framer_crc", "crc"]
+KINDS = ["poll", "out", "repeat", "poll_heard", "out_heard", "repeat_heard", "ignored", "idle", "encode", "encode_to", "framer_sum", "framer_crc", "crc"]
 
 
 def run(words, kind, count):

@@ -1,6 +1,7 @@
 //! The kinds of work.
 
 use crate::exchanges::{outs, polls};
+use crate::heard::{heard, repeats_heard};
 use crate::hearing::{idle_ticks, ignored_frames, repeats};
 use crate::packets::{checks, encoded, encoded_to, framed};
 use osdp_frame::CheckKind;
@@ -15,6 +16,12 @@ pub enum Work {
     Outs,
     /// A packet that a reader has answered already.
     Repeats,
+    /// A POLL with the next number to a reader alone, by the call that fills a place of the caller's.
+    PollHeard,
+    /// The same of an OUT.
+    OutHeard,
+    /// The same of a packet that it has answered already.
+    RepeatHeard,
     /// A reply that a controller has no exchange for.
     Ignored,
     /// A tick with nothing due.
@@ -38,6 +45,9 @@ impl Work {
             "poll" => Some(Work::Polls),
             "out" => Some(Work::Outs),
             "repeat" => Some(Work::Repeats),
+            "poll_heard" => Some(Work::PollHeard),
+            "out_heard" => Some(Work::OutHeard),
+            "repeat_heard" => Some(Work::RepeatHeard),
             "ignored" => Some(Work::Ignored),
             "idle" => Some(Work::Idle),
             "encode" => Some(Work::Encode),
@@ -55,6 +65,9 @@ impl Work {
             Work::Polls => polls(alloc, count),
             Work::Outs => outs(alloc, count),
             Work::Repeats => repeats(alloc, count),
+            Work::PollHeard => heard(alloc, &[0x60], count),
+            Work::OutHeard => heard(alloc, &[0x68, 3, 2, 0, 0], count),
+            Work::RepeatHeard => repeats_heard(alloc, count),
             Work::Ignored => ignored_frames(alloc, count),
             Work::Idle => idle_ticks(alloc, count),
             Work::Encode => encoded(count),
