@@ -10,7 +10,10 @@ import tempfile
 
 HERE = os.path.dirname(os.path.abspath(__file__))
 PROGRAM = os.path.join(HERE, "..", "crates", "osdp_bench", "out", "osdp_bench")
-KINDS = ["poll", "poll_into", "out", "out_into", "turn_into", "repeat", "ignored", "idle", "idle_into", "encode", "encode_to", "framer_sum", "framer_crc", "crc"]
+KINDS = [
+    "poll", "poll_into", "out", "out_into", "turn_into", "repeat", "poll_heard", "out_heard", "repeat_heard", "ignored", "idle", "idle_into",
+    "encode", "encode_to", "framer_sum", "framer_crc", "crc",
+]
 
 
 def run(words, kind, count):

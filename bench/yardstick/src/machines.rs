@@ -379,6 +379,20 @@ fn turns(count: u64) -> u64 {
         .sum()
 }
 
+/// So many packets with this body to a reader alone, each with the next number.
+fn heard(body: &[u8], count: u64) -> u64 {
+    let mut reader = Reader::new(5);
+    reader.hear(&View { reply: false, address: 5, number: 0, crc: true, block: false, body });
+    (0..count)
+        .map(|place| {
+            let number = (place % 3) as u8 + 1;
+            let packet = View { reply: false, address: 5, number, crc: true, block: false, body };
+            let (kind, bytes) = reader.hear(black_box(&packet));
+            u64::from(kind == Kind::Taken && bytes.len() == 8)
+        })
+        .sum()
+}
+
 fn repeats(count: u64) -> u64 {
     let mut controller = Controller::new(5, 1);
     controller.begin(0);
@@ -465,7 +479,9 @@ pub fn done(kind: &str, count: u64) -> Option<u64> {
         "poll_into" => Some(polls_into(count)),
         "out_into" => Some(outs_into(count)),
         "turn_into" => Some(turns(count)),
-        "repeat" => Some(repeats(count)),
+        "poll_heard" => Some(heard(&[0x60], count)),
+        "out_heard" => Some(heard(&[0x68, 3, 2, 0, 0], count)),
+        "repeat" | "repeat_heard" => Some(repeats(count)),
         "ignored" => Some(ignored(count)),
         "idle" | "idle_into" => Some(idle(count)),
         "encode" | "encode_to" => Some(encode(count)),

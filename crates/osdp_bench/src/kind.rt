@@ -1,6 +1,7 @@
 //! The kinds of work.
 
 use crate::exchanges::{outs, outs_into, polls, polls_into, turns};
+use crate::heard::{heard, repeats_heard};
 use crate::hearing::{idle_ticks, idle_ticks_into, ignored_frames, repeats};
 use crate::packets::{checks, encoded, encoded_to, framed};
 use osdp_frame::CheckKind;
@@ -21,6 +22,12 @@ pub enum Work {
     Turns,
     /// A packet that a reader has answered already.
     Repeats,
+    /// A POLL with the next number to a reader alone, by the call that fills a place of the caller's.
+    PollHeard,
+    /// The same of an OUT.
+    OutHeard,
+    /// The same of a packet that it has answered already.
+    RepeatHeard,
     /// A reply that a controller has no exchange for.
     Ignored,
     /// A tick with nothing due.
@@ -49,6 +56,9 @@ impl Work {
             "out_into" => Some(Work::OutsInto),
             "turn_into" => Some(Work::Turns),
             "repeat" => Some(Work::Repeats),
+            "poll_heard" => Some(Work::PollHeard),
+            "out_heard" => Some(Work::OutHeard),
+            "repeat_heard" => Some(Work::RepeatHeard),
             "ignored" => Some(Work::Ignored),
             "idle" => Some(Work::Idle),
             "idle_into" => Some(Work::IdleInto),
@@ -70,6 +80,9 @@ impl Work {
             Work::OutsInto => outs_into(alloc, count),
             Work::Turns => turns(alloc, count),
             Work::Repeats => repeats(alloc, count),
+            Work::PollHeard => heard(alloc, &[0x60], count),
+            Work::OutHeard => heard(alloc, &[0x68, 3, 2, 0, 0], count),
+            Work::RepeatHeard => repeats_heard(alloc, count),
             Work::Ignored => ignored_frames(alloc, count),
             Work::Idle => idle_ticks(alloc, count),
             Work::IdleInto => idle_ticks_into(alloc, count),

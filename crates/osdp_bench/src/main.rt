@@ -5,6 +5,7 @@
 
 mod device;
 mod exchanges;
+mod heard;
 mod hearing;
 mod kind;
 mod packets;

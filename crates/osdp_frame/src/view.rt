@@ -111,7 +111,10 @@ impl<'a> FrameView<'a> {
         );
         append(out, self.body);
         let check = check_bytes(self.check, out.as_slice());
-        append(out, &check[..self.check.size()]);
+        match self.check {
+            CheckKind::Sum => append(out, &[check[0]]),
+            CheckKind::Crc => append(out, &check),
+        }
     }
 
     /// The address, with its highest bit set in a reply.

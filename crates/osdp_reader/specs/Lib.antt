@@ -4,3 +4,4 @@ pub mod Replies
 pub mod State
 pub mod Table
 pub mod Responses
+pub mod Hearing

@@ -1,10 +1,12 @@
 //! The events that wait until the controller has them.
 
 ghost use Rattle.std.specs.Prelude.{◌≡◌, ◌↔◌, length, IfOk, IfErr, IsErr, OnOk};
-ghost use Rattle.osdp_reader.specs.Queue.{empty_queue, event_for, offering, queued, released, withdrawn};
+ghost use Rattle.std.specs.Option.{option_copied, option_map};
+ghost use Rattle.osdp_msg.specs.Events.{event_reply};
+ghost use Rattle.osdp_reader.specs.Queue.{empty_queue, event_for, queued, released, withdrawn};
 
 use circular_buffer::HeapCircularBuffer;
-use osdp_msg::{Command, Event, Reply};
+use osdp_msg::{Command, Event};
 use std::alloc::{AllocError, Global};
 use std::marker::Model;
 
@@ -72,13 +74,12 @@ impl EventQueue {
         self.offered = false;
     }
 
-    /// The reply that tells the front, where the command is a POLL and an event waits. That front is offered then.
-    pub fn offer(&mut self, command: &Command) -> Option<Reply>
-        ensures told { result ≡ event_for command.now self.old.events }
-        ensures offered { self.new ≡ offering result self.old }
+    /// The event that is told: the front, where the command is a POLL and an event waits.
+    pub fn told(&self, command: &Command) -> Option<&Event>
+        ensures { option_map event_reply (option_copied result) ≡ event_for command.now self.now.events }
     {
-        let told = match command {
-            Command::Poll => self.events.front().map(Event::to_reply),
+        match command {
+            Command::Poll => self.events.front(),
             Command::Id(_)
             | Command::Cap(_)
             | Command::LocalStatus
@@ -91,8 +92,13 @@ impl EventQueue {
             | Command::Text(_)
             | Command::Comset(_)
             | Command::Maker(_) => None,
-        };
-        self.offered = told.is_some();
-        told
+        }
+    }
+
+    /// Keeps whether the front was told: it is offered then.
+    pub fn offer(&mut self, told: bool)
+        ensures { self.new ≡ record self.old { offered = told } }
+    {
+        self.offered = told;
     }
 }

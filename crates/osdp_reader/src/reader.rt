@@ -1,6 +1,6 @@
 //! The reader.
 
-ghost use Rattle.std.specs.Prelude.{◌≡◌, ◌↔◌, ◌<◌, ◌≤◌, ◌⊎◌, length, IfOk, IfErr, IfSome, IsErr, IsErrOf, OnOk, Some};
+ghost use Rattle.std.specs.Prelude.{◌≡◌, true, ◌↔◌, ◌<◌, ◌≤◌, ◌⊎◌, length, IfOk, IfErr, IfSome, IsErr, IsErrOf, IsOk, IsSome, None, Ok, Err, OnOk, Some};
 ghost use Rattle.std.specs.Borrow.{Lends, sem};
 ghost use Rattle.osdp_reader.specs.contracts.reader.Reader.{the_row};
 ghost use Rattle.osdp_msg.specs.ReplyTable.{ReplyFits};
@@ -9,18 +9,19 @@ ghost use Rattle.osdp_reader.specs.State.{after_set_busy, after_set_handler, aft
 ghost use Rattle.osdp_reader.specs.Table.{begun, command_in, hears, kind_by_number, kind_of, moved, new_address, is_for_another, taken};
 ghost use Rattle.osdp_reader.specs.Responses.{response_bytes, response_command, response_kind};
 ghost use Rattle.osdp_reader.specs.declared.fault.ReaderFault.TheVariants.{OutOfRange};
-ghost use Rattle.osdp_reader.specs.declared.kind.Kind.TheVariants.{Taken, Zero};
+ghost use Rattle.osdp_msg.specs.declared.command.Command.TheVariants.{Poll};
 
 use crate::config::ReaderConfig;
 use crate::events::EventQueue;
 use crate::fault::ReaderFault;
 use crate::handler::Handler;
+use crate::heard::Heard;
 use crate::kind::Kind;
-use crate::reply::{nak, spell, spell_answer, spell_event_or_answer, spell_reply, unread};
+use crate::reply::{spell_answer, spell_busy, spell_event_or_answer, spell_nak, unread};
 use crate::response::Response;
 use crate::stored::StoredReply;
 use osdp_frame::{Address, Burst, FrameView, Seq};
-use osdp_msg::{Command, Event, MsgFault, NakReason, Reply};
+use osdp_msg::{Command, Event, MsgFault, NakReason};
 use std::alloc::Global;
 use std::marker::Model;
 use std::mem::replace;
@@ -142,17 +143,46 @@ impl<H: Handler> Reader<H> {
         ensures reader { self.new ≡ (hears H.answer_of H.after self.old packet.now).reader }
         ensures fits { IfSome (hears H.answer_of H.after self.old packet.now).said ReplyFits }
     {
-        match self.kind(packet) {
-            Kind::Silent => Response::Silent,
-            Kind::Secured => {
-                Response::Secured(spell(packet, packet.seq(), &nak(NakReason::SecurityBlock)))
+        let mut heard = Heard::new();
+        self.hear(packet, &mut heard);
+        heard.into_response()
+    }
+
+    /// Takes a packet of the line, as `on_frame` does, and puts what comes of it in place of what stands in `heard`. A caller
+    /// that uses one `heard` for packet after packet moves only the bytes that are sent.
+    pub fn hear(&mut self, packet: &FrameView, heard: &mut Heard)
+        ensures kind { heard.new.kind ≡ kind_of self.old packet.now }
+        ensures command { heard.new.command ≡ (hears H.answer_of H.after self.old packet.now).command }
+        ensures reply { IsSpelled (hears H.answer_of H.after self.old packet.now).reply heard.new.burst.items }
+        ensures reader { self.new ≡ (hears H.answer_of H.after self.old packet.now).reader }
+        ensures fits { IfSome (hears H.answer_of H.after self.old packet.now).said ReplyFits }
+    {
+        let kind = self.kind(packet);
+        heard.kind = kind;
+        match kind {
+            Kind::Zero => self.begin(packet, &mut heard.command, &mut heard.burst),
+            Kind::Taken => self.take(packet, &mut heard.command, &mut heard.burst),
+            Kind::Silent => {
+                forget(&mut heard.command);
+                heard.burst.clear();
             }
-            Kind::Zero => self.begin(packet),
-            Kind::Repeat => Response::Repeat(self.stored.burst()),
-            Kind::Taken => self.take(packet),
-            Kind::Busy => Response::Busy(spell(packet, zero(), &Reply::Busy)),
+            Kind::Repeat => {
+                forget(&mut heard.command);
+                self.stored.put(&mut heard.burst);
+            }
+            Kind::Secured => {
+                forget(&mut heard.command);
+                let reason = NakReason::SecurityBlock;
+                spell_nak(packet, packet.seq(), reason, &mut heard.burst);
+            }
+            Kind::Busy => {
+                forget(&mut heard.command);
+                spell_busy(packet, zero(), &mut heard.burst);
+            }
             Kind::Wrong => {
-                Response::Wrong(spell(packet, packet.seq(), &nak(NakReason::UnexpectedSequence)))
+                forget(&mut heard.command);
+                let reason = NakReason::UnexpectedSequence;
+                spell_nak(packet, packet.seq(), reason, &mut heard.burst);
             }
         }
     }
@@ -182,55 +212,55 @@ impl<H: Handler> Reader<H> {
     }
 
     /// Acts on a packet with number 0.
-    fn begin(&mut self, packet: &FrameView) -> Response
-        ensures kind { response_kind result ≡ Zero }
-        ensures command { response_command result ≡ (begun H.answer_of H.after (command_in packet.now) self.old packet.now).command }
-        ensures reply { IsSpelled (begun H.answer_of H.after (command_in packet.now) self.old packet.now).reply (response_bytes result) }
+    fn begin(&mut self, packet: &FrameView, command: &mut Option<Command>, out: &mut Burst)
+        ensures command { command.new ≡ (begun H.answer_of H.after (command_in packet.now) self.old packet.now).command }
+        ensures reply { IsSpelled (begun H.answer_of H.after (command_in packet.now) self.old packet.now).reply out.new.items }
         ensures reader { self.new ≡ (begun H.answer_of H.after (command_in packet.now) self.old packet.now).reader }
         ensures fits { IfSome (begun H.answer_of H.after (command_in packet.now) self.old packet.now).said ReplyFits }
     {
         self.last = Some(zero());
         self.queue.withdraw();
-        match Command::read(packet.code(), packet.payload()) {
-            Err(fault) => Response::Zero(None, spell(packet, zero(), &nak(unread(fault)))),
-            Ok(command) => {
-                let burst = spell_answer(packet, zero(), &self.config, &mut self.handler, &command);
-                self.move_to(new_address(&command));
-                Response::Zero(Some(command), burst)
-            }
+        if let Err(fault) = read_command(packet, command) {
+            spell_nak(packet, zero(), unread(fault), out);
+            return;
         }
+        let Some(command) = &*command else {
+            unreachable!();
+        };
+        spell_answer(
+            packet,
+            zero(),
+            &self.config,
+            &mut self.handler,
+            command,
+            out,
+        );
+        self.move_to(new_address(command));
     }
 
     /// Acts on a packet with the next number.
-    fn take(&mut self, packet: &FrameView) -> Response
-        ensures kind { response_kind result ≡ Taken }
-        ensures command { response_command result ≡ (taken H.answer_of H.after (command_in packet.now) self.old packet.now).command }
-        ensures reply { IsSpelled (taken H.answer_of H.after (command_in packet.now) self.old packet.now).reply (response_bytes result) }
+    fn take(&mut self, packet: &FrameView, command: &mut Option<Command>, out: &mut Burst)
+        ensures command { command.new ≡ (taken H.answer_of H.after (command_in packet.now) self.old packet.now).command }
+        ensures reply { IsSpelled (taken H.answer_of H.after (command_in packet.now) self.old packet.now).reply out.new.items }
         ensures reader { self.new ≡ (taken H.answer_of H.after (command_in packet.now) self.old packet.now).reader }
         ensures fits { IfSome (taken H.answer_of H.after (command_in packet.now) self.old packet.now).said ReplyFits }
     {
         self.last = Some(packet.seq());
         self.queue.release();
-        match Command::read(packet.code(), packet.payload()) {
-            Err(fault) => {
-                let burst = spell_reply(packet, &nak(unread(fault)));
-                self.stored.keep(&burst);
-                Response::Taken(None, burst)
-            }
-            Ok(command) => {
-                let event = self.queue.offer(&command);
-                let burst = spell_event_or_answer(
-                    packet,
-                    &event,
-                    &self.config,
-                    &mut self.handler,
-                    &command,
-                );
-                self.stored.keep(&burst);
-                self.move_to(new_address(&command));
-                Response::Taken(Some(command), burst)
-            }
+        if let Err(fault) = read_command(packet, command) {
+            spell_nak(packet, packet.seq(), unread(fault), out);
+            self.stored.keep(out);
+            return;
         }
+        let Some(command) = &*command else {
+            unreachable!();
+        };
+        let event = self.queue.told(command);
+        let told = event.is_some();
+        spell_event_or_answer(packet, event, &self.config, &mut self.handler, command, out);
+        self.queue.offer(told);
+        self.stored.keep(out);
+        self.move_to(new_address(command));
     }
 
     /// After an accepted COMSET: the reader is at that address, and where it is another one, nothing said before counts.
@@ -268,6 +298,64 @@ fn kind_by_number(last: Option<Seq>, seq: Seq, busy: bool) -> Kind
         if busy { Kind::Busy } else { Kind::Taken }
     } else {
         Kind::Wrong
+    }
+}
+
+/// Keeps no command any more.
+fn forget(command: &mut Option<Command>)
+    ensures { command.new ≡ None }
+{
+    if command.is_some() {
+        *command = None;
+    }
+}
+
+/// Puts the command that a packet is in place of what stands in `command`, or tells why it is none. POLL, which comes most often,
+/// is written only where another command stands.
+fn read_command(packet: &FrameView, command: &mut Option<Command>) -> Result<(), MsgFault>
+    ensures command { IfSome command.new (λ read. command_in packet.now ≡ Ok read) }
+    ensures some { IsOk result ↔ IsSome command.new }
+    ensures fault { IfErr result (λ fault. command_in packet.now ≡ Err fault) }
+{
+    if is_poll(packet) {
+        set_poll(command);
+        return Ok(());
+    }
+    read_other(packet, command)
+}
+
+/// Whether a packet is a POLL.
+fn is_poll(packet: &FrameView) -> bool
+    ensures { result ≡ true → command_in packet.now ≡ Ok Poll }
+{
+    packet.code() == 0x60 && packet.payload().len() == 0
+}
+
+/// Puts POLL there.
+fn set_poll(command: &mut Option<Command>)
+    ensures { command.new ≡ Some Poll }
+{
+    if !matches!(command, Some(Command::Poll)) {
+        *command = Some(Command::Poll);
+    }
+}
+
+/// The same of any command.
+#[inline(never)]
+fn read_other(packet: &FrameView, command: &mut Option<Command>) -> Result<(), MsgFault>
+    ensures command { IfSome command.new (λ read. command_in packet.now ≡ Ok read) }
+    ensures some { IsOk result ↔ IsSome command.new }
+    ensures fault { IfErr result (λ fault. command_in packet.now ≡ Err fault) }
+{
+    match Command::read(packet.code(), packet.payload()) {
+        Ok(read) => {
+            *command = Some(read);
+            Ok(())
+        }
+        Err(fault) => {
+            *command = None;
+            Err(fault)
+        }
     }
 }
 

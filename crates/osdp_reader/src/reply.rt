@@ -4,19 +4,23 @@ ghost use Rattle.std.specs.Prelude.{◌≡◌, ◌<◌, ◌≤◌, true, false, 
 ghost use Rattle.osdp_frame.specs.Bytes.{AreBytes};
 ghost use Rattle.osdp_frame.specs.Packed.{packed};
 ghost use Rattle.osdp_frame.specs.Spelling.{Spells};
-ghost use Rattle.osdp_msg.specs.declared.reply.Reply.TheVariants.{Ack};
+ghost use Rattle.std.specs.Option.{option_copied, option_map};
+ghost use Rattle.osdp_msg.specs.declared.reply.Reply.TheVariants.{Ack, Busy, PdCap, PdId};
+ghost use Rattle.osdp_msg.specs.Events.{event_reply};
 ghost use Rattle.osdp_msg.specs.ReplyTable.{ReplyFits};
-ghost use Rattle.osdp_reader.specs.Replies.{comset_reply, done_reply, list_reply, local_reply, maker_reply, not_processed, own_reply, refusal_reply, refused, reply_for, reply_packet, unread_reason};
+ghost use Rattle.osdp_reader.specs.Replies.{comset_reply, done_reply, list_reply, local_reply, maker_reply, not_processed, refusal_reply, refused, reply_for, reply_packet, unread_reason};
 ghost use Rattle.osdp_reader.specs.Table.{answer_to, event_or_answer};
 
 use crate::config::ReaderConfig;
 use crate::handler::{Answer, Handler};
 use arrayvec::ArrayVec;
 use osdp_frame::{Burst, FrameView, Seq};
-use osdp_msg::{Command, Communication, LocalState, MakerMessage, MsgFault, Nak, NakReason, Reply};
+use osdp_msg::{
+    Command, Communication, Event, LocalState, MakerMessage, MsgFault, Nak, NakReason, Reply,
+};
 
 /// A NAK with this reason.
-pub fn nak(reason: NakReason) -> Reply
+fn nak(reason: NakReason) -> Reply
     ensures { result ≡ refused reason }
 {
     Reply::Nak(Nak {
@@ -42,50 +46,17 @@ pub fn unread(fault: MsgFault) -> NakReason
     }
 }
 
-/// The reply to a COMSET.
-fn comset(communication: &Communication) -> Reply
-    ensures { result ≡ comset_reply communication.now }
-{
-    if communication.address <= 126 {
-        Reply::Com(*communication)
-    } else {
-        nak_9()
-    }
-}
-
-/// What the reader answers by itself; None where the handler answers.
-#[inline(never)]
-fn own(config: &ReaderConfig, command: &Command) -> Option<Reply>
-    ensures { result ≡ own_reply config.now command.now }
-{
-    match command {
-        Command::Poll => Some(Reply::Ack),
-        Command::Id(_) => Some(Reply::PdId(config.id)),
-        Command::Cap(_) => Some(Reply::PdCap(config.caps.copy())),
-        Command::Comset(communication) => Some(comset(communication)),
-        Command::LocalStatus
-        | Command::InputStatus
-        | Command::OutputStatus
-        | Command::ReaderStatus
-        | Command::Output(_)
-        | Command::Led(_)
-        | Command::Buzzer(_)
-        | Command::Text(_)
-        | Command::Maker(_) => None,
-    }
-}
-
-/// The reply where the handler has done the command.
-#[inline(never)]
-fn done(command: &Command) -> Reply
-    ensures { result ≡ done_reply command.now }
+/// The bytes of what the handler has done: ACK to a command that a device does.
+fn spell_done(packet: &FrameView, seq: Seq, command: &Command, out: &mut Burst)
+    ensures spelled { Spells (reply_packet packet.now seq (done_reply command.now)) out.new.items }
+    ensures fits { ReplyFits (done_reply command.now) }
 {
     match command {
         Command::Output(_)
         | Command::Led(_)
         | Command::Buzzer(_)
         | Command::Text(_)
-        | Command::Maker(_) => Reply::Ack,
+        | Command::Maker(_) => spell_ack(packet, seq, out),
         Command::Poll
         | Command::Id(_)
         | Command::Cap(_)
@@ -93,17 +64,28 @@ fn done(command: &Command) -> Reply
         | Command::InputStatus
         | Command::OutputStatus
         | Command::ReaderStatus
-        | Command::Comset(_) => nak_9(),
+        | Command::Comset(_) => spell_nak(packet, seq, NakReason::RecordNotProcessed, out),
     }
 }
 
-/// The reply where the handler tells the state of the device itself.
+/// The bytes of the state of the device itself, tamper and power.
 #[inline(never)]
-fn local(command: &Command, tamper: u8, power: u8) -> Reply
-    ensures { result ≡ local_reply command.now tamper power }
+fn spell_local(
+    packet: &FrameView,
+    seq: Seq,
+    command: &Command,
+    tamper: u8,
+    power: u8,
+    out: &mut Burst,
+)
+    ensures spelled { Spells (reply_packet packet.now seq (local_reply command.now tamper power)) out.new.items }
+    ensures fits { ReplyFits (local_reply command.now tamper power) }
 {
     match command {
-        Command::LocalStatus => Reply::LocalState(LocalState { tamper, power }),
+        Command::LocalStatus => {
+            let state = LocalState { tamper, power };
+            spell(packet, seq, &Reply::LocalState(state), out);
+        }
         Command::Poll
         | Command::Id(_)
         | Command::Cap(_)
@@ -115,7 +97,7 @@ fn local(command: &Command, tamper: u8, power: u8) -> Reply
         | Command::Buzzer(_)
         | Command::Text(_)
         | Command::Comset(_)
-        | Command::Maker(_) => nak_9(),
+        | Command::Maker(_) => spell_nak(packet, seq, NakReason::RecordNotProcessed, out),
     }
 }
 
@@ -163,14 +145,13 @@ fn maker(command: &Command, vendor: [u8; 3], bytes: ArrayVec<u8, 1429>) -> Reply
     }
 }
 
-/// The reply where the handler refuses the command.
-#[inline(never)]
-fn refusal(reason: NakReason) -> Reply
-    ensures { result ≡ refusal_reply reason }
+/// The reason that is told where the handler refuses the command.
+fn told_reason(reason: NakReason) -> NakReason
+    ensures { refused result ≡ refusal_reply reason }
 {
     match reason {
-        NakReason::CommandLength => nak(NakReason::CommandLength),
-        NakReason::UnknownCommand => nak(NakReason::UnknownCommand),
+        NakReason::CommandLength => NakReason::CommandLength,
+        NakReason::UnknownCommand => NakReason::UnknownCommand,
         NakReason::CheckCharacters
         | NakReason::UnexpectedSequence
         | NakReason::SecurityBlock
@@ -178,31 +159,52 @@ fn refusal(reason: NakReason) -> Reply
         | NakReason::BiometricType
         | NakReason::BiometricFormat
         | NakReason::RecordNotProcessed
-        | NakReason::Other(_) => nak_9(),
+        | NakReason::Other(_) => NakReason::RecordNotProcessed,
     }
 }
 
-/// A handler's answer to a command as a reply.
-fn handled(answer: Answer, command: &Command) -> Reply
-    ensures { result ≡ reply_for answer command.now }
+/// The bytes of a byte for each input, output or reader.
+#[inline(never)]
+fn spell_list(
+    packet: &FrameView,
+    seq: Seq,
+    command: &Command,
+    states: ArrayVec<u8, 1432>,
+    out: &mut Burst,
+)
+    ensures spelled { Spells (reply_packet packet.now seq (list_reply command.now states.items)) out.new.items }
+    ensures fits { ReplyFits (list_reply command.now states.items) }
+{
+    spell(packet, seq, &list(command, states), out);
+}
+
+/// The bytes of the maker's own reply.
+#[inline(never)]
+fn spell_maker(
+    packet: &FrameView,
+    seq: Seq,
+    command: &Command,
+    vendor: [u8; 3],
+    bytes: ArrayVec<u8, 1429>,
+    out: &mut Burst,
+)
+    ensures spelled { Spells (reply_packet packet.now seq (maker_reply command.now vendor bytes.items)) out.new.items }
+    ensures fits { ReplyFits (maker_reply command.now vendor bytes.items) }
+{
+    spell(packet, seq, &maker(command, vendor, bytes), out);
+}
+
+/// The bytes of a handler's answer to a command.
+fn spell_handled(packet: &FrameView, seq: Seq, answer: Answer, command: &Command, out: &mut Burst)
+    ensures spelled { Spells (reply_packet packet.now seq (reply_for answer command.now)) out.new.items }
+    ensures fits { ReplyFits (reply_for answer command.now) }
 {
     match answer {
-        Answer::Done => done(command),
-        Answer::Local(tamper, power) => local(command, tamper, power),
-        Answer::List(states) => list(command, states),
-        Answer::Refuse(reason) => refusal(reason),
-        Answer::Maker(vendor, bytes) => maker(command, vendor, bytes),
-    }
-}
-
-/// What the reader answers to a command: by itself, or else by its handler.
-fn answer<H: Handler>(config: &ReaderConfig, handler: &mut H, command: &Command) -> Reply
-    ensures reply { result ≡ (answer_to H.answer_of H.after config.now handler.old command.now).reply }
-    ensures handler { handler.new ≡ (answer_to H.answer_of H.after config.now handler.old command.now).handler }
-{
-    match own(config, command) {
-        Some(reply) => reply,
-        None => handled(handler.answer(command), command),
+        Answer::Done => spell_done(packet, seq, command, out),
+        Answer::Local(tamper, power) => spell_local(packet, seq, command, tamper, power, out),
+        Answer::List(states) => spell_list(packet, seq, command, states, out),
+        Answer::Refuse(reason) => spell_nak(packet, seq, told_reason(reason), out),
+        Answer::Maker(vendor, bytes) => spell_maker(packet, seq, command, vendor, bytes, out),
     }
 }
 
@@ -213,41 +215,89 @@ fn are_bytes(bytes: &[u8])
     let _ = bytes;
 }
 
-/// The bytes of a reply with this code and data to a packet, with this number.
-fn spell_body(packet: &FrameView, seq: Seq, body: &[u8]) -> Burst
+/// Puts the bytes of a reply with this code and data to a packet, with this number, in place of what stands in `out`.
+fn spell_body(packet: &FrameView, seq: Seq, body: &[u8], out: &mut Burst)
     requires code { 0 < length body.now }
     requires room { length body.now ≤ 1433 }
-    ensures { Spells (packed true packet.now.address seq packet.now.check false 0 body.now) result.items }
+    ensures { Spells (packed true packet.now.address seq packet.now.check false 0 body.now) out.new.items }
 {
     are_bytes(body);
     let address = packet.address();
     let _ranges = (address.get(), seq.get());
     let made = FrameView::new(true, address, seq, packet.check(), false, 0, body);
-    made.unwrap().encode()
+    made.unwrap().encode_to(out);
 }
 
 /// The bytes of a reply to a packet, with this number.
-pub fn spell(packet: &FrameView, seq: Seq, reply: &Reply) -> Burst
-    ensures spelled { Spells (reply_packet packet.now seq reply.now) result.items }
+#[inline(never)]
+fn spell(packet: &FrameView, seq: Seq, reply: &Reply, out: &mut Burst)
+    ensures spelled { Spells (reply_packet packet.now seq reply.now) out.new.items }
     ensures fits { ReplyFits reply.now }
 {
     let body = reply.write();
-    spell_body(packet, seq, body.as_slice())
-}
-
-/// The bytes of a reply to a packet, with its number.
-pub fn spell_reply(packet: &FrameView, reply: &Reply) -> Burst
-    ensures spelled { Spells (reply_packet packet.now packet.now.sequence reply.now) result.items }
-    ensures fits { ReplyFits reply.now }
-{
-    spell(packet, packet.seq(), reply)
+    spell_body(packet, seq, body.as_slice(), out);
 }
 
 /// The bytes of an ACK to a packet, with this number.
-fn spell_ack(packet: &FrameView, seq: Seq) -> Burst
-    ensures { Spells (reply_packet packet.now seq Ack) result.items }
+fn spell_ack(packet: &FrameView, seq: Seq, out: &mut Burst)
+    ensures { Spells (reply_packet packet.now seq Ack) out.new.items }
 {
-    spell_body(packet, seq, &[0x40])
+    spell_body(packet, seq, &[0x40], out);
+}
+
+/// The bytes of BUSY to a packet, with this number.
+pub fn spell_busy(packet: &FrameView, seq: Seq, out: &mut Burst)
+    ensures { Spells (reply_packet packet.now seq Busy) out.new.items }
+{
+    spell_body(packet, seq, &[0x79], out);
+}
+
+/// The bytes of a NAK with this reason to a packet, with this number.
+pub fn spell_nak(packet: &FrameView, seq: Seq, reason: NakReason, out: &mut Burst)
+    ensures spelled { Spells (reply_packet packet.now seq (refused reason)) out.new.items }
+    ensures fits { ReplyFits (refused reason) }
+{
+    spell_body(packet, seq, &[0x41, u8::from(reason)], out);
+}
+
+/// The bytes of what the reader is, as the answer to ID.
+#[inline(never)]
+fn spell_id(packet: &FrameView, seq: Seq, config: &ReaderConfig, out: &mut Burst)
+    ensures spelled { Spells (reply_packet packet.now seq (PdId config.now.id)) out.new.items }
+    ensures fits { ReplyFits (PdId config.now.id) }
+{
+    spell(packet, seq, &Reply::PdId(config.id), out);
+}
+
+/// The bytes of what the reader can do, as the answer to CAP.
+#[inline(never)]
+fn spell_caps(packet: &FrameView, seq: Seq, config: &ReaderConfig, out: &mut Burst)
+    ensures spelled { Spells (reply_packet packet.now seq (PdCap config.now.caps)) out.new.items }
+    ensures fits { ReplyFits (PdCap config.now.caps) }
+{
+    spell(packet, seq, &Reply::PdCap(config.caps.copy()), out);
+}
+
+/// The bytes of the reply to a COMSET.
+#[inline(never)]
+fn spell_comset(packet: &FrameView, seq: Seq, communication: &Communication, out: &mut Burst)
+    ensures spelled { Spells (reply_packet packet.now seq (comset_reply communication.now)) out.new.items }
+    ensures fits { ReplyFits (comset_reply communication.now) }
+{
+    if communication.address <= 126 {
+        spell(packet, seq, &Reply::Com(*communication), out);
+    } else {
+        spell_nak(packet, seq, NakReason::RecordNotProcessed, out);
+    }
+}
+
+/// The bytes of an event, as the answer to POLL.
+#[inline(never)]
+fn spell_event(packet: &FrameView, seq: Seq, event: &Event, out: &mut Burst)
+    ensures spelled { Spells (reply_packet packet.now seq (event_reply event.now)) out.new.items }
+    ensures fits { ReplyFits (event_reply event.now) }
+{
+    spell(packet, seq, &event.to_reply(), out);
 }
 
 /// The bytes of what the reader answers to a command, with this number.
@@ -257,17 +307,19 @@ pub fn spell_answer<H: Handler>(
     config: &ReaderConfig,
     handler: &mut H,
     command: &Command,
-) -> Burst
+    out: &mut Burst,
+)
     ensures reply { let answer = answer_to H.answer_of H.after config.now handler.old command.now in
-        Spells (reply_packet packet.now seq answer.reply) result.items }
+        Spells (reply_packet packet.now seq answer.reply) out.new.items }
     ensures handler { handler.new ≡ (answer_to H.answer_of H.after config.now handler.old command.now).handler }
     ensures fits { ReplyFits (answer_to H.answer_of H.after config.now handler.old command.now).reply }
 {
     match command {
-        Command::Poll => spell_ack(packet, seq),
-        Command::Id(_)
-        | Command::Cap(_)
-        | Command::LocalStatus
+        Command::Poll => spell_ack(packet, seq, out),
+        Command::Id(_) => spell_id(packet, seq, config, out),
+        Command::Cap(_) => spell_caps(packet, seq, config, out),
+        Command::Comset(communication) => spell_comset(packet, seq, communication, out),
+        Command::LocalStatus
         | Command::InputStatus
         | Command::OutputStatus
         | Command::ReaderStatus
@@ -275,26 +327,31 @@ pub fn spell_answer<H: Handler>(
         | Command::Led(_)
         | Command::Buzzer(_)
         | Command::Text(_)
-        | Command::Comset(_)
-        | Command::Maker(_) => spell(packet, seq, &answer(config, handler, command)),
+        | Command::Maker(_) => {
+            spell_handled(packet, seq, handler.answer(command), command, out);
+        }
     }
 }
 
 /// The bytes of the event where there is one, or else of what the reader answers to the command.
 pub fn spell_event_or_answer<H: Handler>(
     packet: &FrameView,
-    event: &Option<Reply>,
+    event: Option<&Event>,
     config: &ReaderConfig,
     handler: &mut H,
     command: &Command,
-) -> Burst
-    ensures reply { let answer = event_or_answer H.answer_of H.after event.now config.now handler.old command.now in
-        Spells (reply_packet packet.now packet.now.sequence answer.reply) result.items }
-    ensures handler { handler.new ≡ (event_or_answer H.answer_of H.after event.now config.now handler.old command.now).handler }
-    ensures fits { ReplyFits (event_or_answer H.answer_of H.after event.now config.now handler.old command.now).reply }
+    out: &mut Burst,
+)
+    ensures reply { let told = option_map event_reply (option_copied event.entry) in
+        let answer = event_or_answer H.answer_of H.after told config.now handler.old command.now in
+        Spells (reply_packet packet.now packet.now.sequence answer.reply) out.new.items }
+    ensures handler { let told = option_map event_reply (option_copied event.entry) in
+        handler.new ≡ (event_or_answer H.answer_of H.after told config.now handler.old command.now).handler }
+    ensures fits { let told = option_map event_reply (option_copied event.entry) in
+        ReplyFits (event_or_answer H.answer_of H.after told config.now handler.old command.now).reply }
 {
     match event {
-        Some(event) => spell_reply(packet, event),
-        None => spell_answer(packet, packet.seq(), config, handler, command),
+        Some(event) => spell_event(packet, packet.seq(), event, out),
+        None => spell_answer(packet, packet.seq(), config, handler, command, out),
     }
 }

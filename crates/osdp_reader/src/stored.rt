@@ -62,13 +62,11 @@ impl StoredReply {
         self.burst.as_slice()
     }
 
-    /// A copy of these bytes.
-    pub fn burst(&self) -> Burst
-        ensures { IsSpelled self.now result.items }
+    /// Puts these bytes in place of what stands in `out`.
+    pub fn put(&self, out: &mut Burst)
+        ensures { IsSpelled self.now out.new.items }
     {
-        let mut copy = Burst::new();
-        copy_to(&mut copy, &self.burst);
-        copy
+        copy_to(out, &self.burst);
     }
 }
 
