@@ -250,11 +250,11 @@ def judge_protocol():
 def judge_code(page):
     """A page with code: each block of code is text of the file named above it."""
     text = (TOP / page).read_text()
-    named = re.findall(r"^From `([^`]+)`:\n\n```rust\n(.*?)```$", text, re.M | re.S)
+    named = re.findall(r"^From `([^`]+)`:\n\n```(?:rust|c|python)\n(.*?)```$", text, re.M | re.S)
     for name, block in named:
         if not (TOP / name).exists() or block not in (TOP / name).read_text():
             faults.append(f"{page}: a block is not in {name}: {block.splitlines()[0]}")
-    if len(named) != text.count("```rust"):
+    if len(named) != len(re.findall(r"^```(?:rust|c|python)$", text, re.M)):
         faults.append(f"{page}: a block of code names no file")
 
 
