@@ -11,7 +11,7 @@
 - docs/PROFILE.md calls whole those codes that docs/PROTOCOL.md has in its tables of messages, and gives no code two rows.
 - The picture of docs/ARCHITECTURE.md has each crate but those of tests, and its arrows are those of crates.txt. Each picture of an exchange in
   docs/PROTOCOL.md has the steps of the script named above it, whose account examples.sh compares with a run, and tells that account.
-- docs/PROTOCOL.md has each text that the program prints on standard error.
+- docs/PROTOCOL.md and man/osdp.1 have each text that the program prints on standard error.
 - Each crate, script and folder that any page names is there.
 - No page, manual page or script says "behind" or "want of memory".
 - README has at most 120 lines of at most 120 characters, docs/DEVELOPING.md at most 200 lines, and no row of a table more than 200 characters."""
@@ -237,21 +237,24 @@ def judge_architecture(all_crates):
 
 
 def judge_protocol():
-    """docs/PROTOCOL.md: each text of a fault is told, with N for its number."""
+    """docs/PROTOCOL.md and man/osdp.1: each text of a fault is told, with N for its number."""
     text = (TOP / "docs/PROTOCOL.md").read_text()
+    manual = re.sub(r'" (\w) "', r"\1", (TOP / "man/osdp.1").read_text()).replace('"', "")
     for fault in re.findall(r'#\[error\("(.*)"\)\]', (TOP / "crates/osdp_tool_streams/src/fault.rt").read_text()):
         if f"| `{fault.replace('{0}', 'N')}` |" not in text:
             faults.append(f"docs/PROTOCOL.md: no row for {fault}")
+        if not re.search(r"\s+".join(map(re.escape, fault.replace("{0}", "N").split())), manual):
+            faults.append(f"man/osdp.1: {fault} is not told")
 
 
 def judge_code(page):
     """A page with code: each block of code is text of the file named above it."""
     text = (TOP / page).read_text()
-    named = re.findall(r"^From `([^`]+)`:\n\n```rust\n(.*?)```$", text, re.M | re.S)
+    named = re.findall(r"^From `([^`]+)`:\n\n```(?:rust|c|python)\n(.*?)```$", text, re.M | re.S)
     for name, block in named:
         if not (TOP / name).exists() or block not in (TOP / name).read_text():
             faults.append(f"{page}: a block is not in {name}: {block.splitlines()[0]}")
-    if len(named) != text.count("```rust"):
+    if len(named) != len(re.findall(r"^```(?:rust|c|python)$", text, re.M)):
         faults.append(f"{page}: a block of code names no file")
 
 
