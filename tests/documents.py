@@ -247,11 +247,11 @@ def judge_protocol():
 def judge_code(page):
     """A page with code: each block of code is text of the file named above it."""
     text = (TOP / page).read_text()
-    named = re.findall(r"^From `([^`]+)`:\n\n```rust\n(.*?)```$", text, re.M | re.S)
+    named = re.findall(r"^From `([^`]+)`:\n\n```(?:rust|python)\n(.*?)```$", text, re.M | re.S)
     for name, block in named:
         if not (TOP / name).exists() or block not in (TOP / name).read_text():
             faults.append(f"{page}: a block is not in {name}: {block.splitlines()[0]}")
-    if len(named) != text.count("```rust"):
+    if len(named) != text.count("```rust") + text.count("```python"):
         faults.append(f"{page}: a block of code names no file")
 
 
