@@ -1,0 +1,61 @@
+#!/usr/bin/env python3
+"""How long a POLL exchange takes through both programs that speak lines: `bench/lines.py [EXCHANGES]`, 20000 if left out.
+
+A panel and a reader are joined here, without a port, at moments that are made up. An exchange is three calls of each end's program
+or fewer: the panel's `at` and `tick`, which send the POLL; the reader's `at` and `bytes`, which answer it; and the panel's `bytes`.
+It prints the median and the 99th percentile of the time from the first write to the last answer, in microseconds."""
+import os
+import subprocess
+import sys
+import time
+from pathlib import Path
+
+CRATES = Path(__file__).resolve().parent.parent / "crates"
+
+
+class Program:
+    def __init__(self, name, *words):
+        path = CRATES / name / "out" / name
+        if not os.access(path, os.X_OK):
+            sys.exit(f"no program at {path}: run `rt run` in crates/{name} first")
+        self.process = subprocess.Popen([path, *words], stdin=subprocess.PIPE, stdout=subprocess.PIPE, bufsize=0)
+        self.to, self.back = self.process.stdin.fileno(), self.process.stdout.fileno()
+
+    def call(self, lines, ends):
+        """Hands it lines, and reads until so many answers have come. The bytes that it sends, in digits."""
+        os.write(self.to, lines)
+        told = b""
+        while told.count(b"due ") + told.count(b"waiting ") < ends or not told.endswith(b"\n"):
+            told += os.read(self.back, 65536)
+        place = told.find(b"send ")
+        return told[place + 5:told.index(b"\n", place)] if place >= 0 else None
+
+
+def exchange(panel, reader, now):
+    """What the panel sends at this moment, and what it is answered."""
+    sent = panel.call(b"at %d\ntick\n" % now, 2)
+    if sent is None:
+        return None
+    answer = reader.call(b"at %d\nbytes %s\n" % (now, sent), 2)
+    panel.call(b"bytes %s\n" % answer, 1)
+    return sent
+
+
+def main():
+    count = int(sys.argv[1]) if len(sys.argv) > 1 else 20000
+    panel = Program("osdp_panel_lines", "check", "crc", "poll-interval", "50")
+    reader = Program("osdp_reader_lines", "address", "5")
+    panel.call(b"add 5\nbegin 1\n", 2)
+    exchange(panel, reader, 400)
+    spent = []
+    for number in range(count):
+        begun = time.perf_counter_ns()
+        sent = exchange(panel, reader, 1000 + 50 * number)
+        spent.append((time.perf_counter_ns() - begun) / 1000)
+        if sent is None or not sent.startswith(b"530508000") or sent[10:12] != b"60":
+            sys.exit(f"exchange {number} was no POLL: {sent}")
+    spent.sort()
+    print(f"exchanges {count} median {spent[count // 2]:.1f} us, 99th percentile {spent[count * 99 // 100]:.1f} us")
+
+
+main()

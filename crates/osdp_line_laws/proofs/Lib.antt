@@ -1,0 +1,2 @@
+pub mod OfPanels
+pub mod OfReaders

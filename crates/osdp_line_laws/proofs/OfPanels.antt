@@ -1,0 +1,82 @@
+-- Lines to a panel as calls of its bus.
+use Rattle.std.proofs.Common.{◌≡◌, ◌∙◌, ◌⊎◌, ap, sym, subst, refl, ℕ, List, [], ◌∷◌, ◌++◌, Option, inl, inr, append-nil, append_assoc}
+use Rattle.osdp_bus.specs.Buses.{BusState}
+use Rattle.osdp_bus_laws.specs.Calls.{Call, NextReport, after_call, after_calls}
+use Rattle.osdp_line_streams.specs.Answers.{Speaks, heard}
+use Rattle.osdp_panel_calls.specs.declared.call.PanelCall.{PanelCall}
+use Rattle.osdp_panel_calls.specs.declared.call.PanelCall.TheVariants.{At, Add, Begin, Submit, Withdraw, Retarget, Bytes, Silence, Tick}
+use Rattle.osdp_panel_calls.specs.Lines.{Answers, Ends, IsAnswered, Says, SaysNothing, refuses}
+use Rattle.osdp_panel_calls.specs.Sessions.{Called, IsDue, Session, answered, does, ended, told}
+use Rattle.osdp_panel_calls.specs.Texts.{due_line, report_line}
+use Rattle.osdp_line_laws.specs.PanelLines.{Calls, Refused, calls_text, call_text, ordered}
+
+-- the calls of a line, and what they tell, without the moment at the end
+record Made (call : PanelCall) (s : Session) : Type 0 where
+  bus : (answered call s).session.bus ≡ after_calls (ordered call s.now ++ NextReport ∷ []) s.bus
+  text : (answered call s).text ≡ calls_text (ordered call s.now ++ NextReport ∷ []) s.bus
+
+-- what one call tells, and the report after it
+with_report : (a b : List ℕ) → a ++ b ≡ a ++ (b ++ [])
+with_report a b = ap (λ l. a ++ l) (sym (append-nil b))
+
+made : (call : PanelCall) (s : Session) → Made call s
+made (At later) s = record { bus = refl; text = sym (append-nil (report_line s.bus.devices.report)) }
+made (Add address) s = record { bus = refl; text = with_report _ _ }
+made (Begin entry) s = record { bus = refl; text = with_report _ _ }
+made (Submit entry command) s = record { bus = refl; text = with_report _ _ }
+made (Withdraw entry) s = record { bus = refl; text = with_report _ _ }
+made (Retarget entry address) s = record { bus = refl; text = with_report _ _ }
+made (Bytes list) s = record { bus = refl; text = sym (append-nil _) }
+made Silence s = record { bus = refl; text = sym (append-nil _) }
+made Tick s = record { bus = refl; text = with_report _ _ }
+
+pub of_line : (s : Session) (given text : List ℕ) (next : Session) (c : Called) → IsAnswered given s c → text ≡ c.text → next ≡ c.session
+    → ((call : PanelCall) × Says given call × Calls s (ordered call s.now ++ NextReport ∷ []) text next) ⊎ (SaysNothing given × Refused s text next)
+of_line s given text next c (inl (call, says, ends)) text_is next_is =
+    let m = made call s in
+    let due = ends.0 in
+    let is : c ≡ ended due (answered call s) = ends.2 in
+    let next_is_answered : next ≡ (answered call s).session = next_is ∙ ap (λ (x : Called). x.session) is in
+    inl (
+      call,
+      says,
+      record {
+        bus = ap (λ (x : Session). x.bus) next_is_answered ∙ m.bus;
+        due = due;
+        is_due = subst (λ (x : Session). IsDue x due) (sym next_is_answered) ends.1;
+        told = text_is ∙ ap (λ (x : Called). x.text) is ∙ ap (λ l. l ++ due_line due) m.text;
+      },
+    )
+of_line s given text next c (inr (nothing, ends)) text_is next_is =
+    let due = ends.0 in
+    let is : c ≡ ended due (refuses s) = ends.2 in
+    inr (
+      nothing,
+      record {
+        same = next_is ∙ ap (λ (x : Called). x.session) is;
+        due = due;
+        is_due = ends.1;
+        told = text_is ∙ ap (λ (x : Called). x.text) is;
+      },
+    )
+
+-- ---- any lines
+
+after_more : (first more : List Call) (b : BusState) → after_calls (first ++ more) b ≡ after_calls more (after_calls first b)
+after_more [] more b = refl
+after_more (call ∷ first) more b = after_more first more (after_call call b)
+
+-- the calls of one line
+calls_of_line : (s : Session) (given text : List ℕ) (next : Session) → Answers s given text next → (calls : List Call) × (next.bus ≡ after_calls calls s.bus)
+calls_of_line s given text next a = elim (of_line s given text next a.called a.is a.text_is a.next_is) as (λ r. (calls : List Call) × (next.bus ≡ after_calls calls s.bus)) [
+  | inl made ↦ (ordered made.0 s.now ++ NextReport ∷ [], made.2.bus)
+  | inr refused ↦ ([], ap (λ (x : Session). x.bus) refused.1.same)
+]
+
+pub of_lines : (first : Session) (lines : List (List ℕ)) (text : List ℕ) (last : Session) → Speaks Answers first lines text last
+    → (calls : List Call) × (last.bus ≡ after_calls calls first.bus)
+of_lines first [] text last spoken = ([], ap (λ (x : Session). x.bus) spoken.1)
+of_lines first (line ∷ lines) text last (answer, rest, next, is, speaks, joined) =
+    let one = calls_of_line first (heard line) answer next is in
+    let others = of_lines next lines rest last speaks in
+    (one.0 ++ others.0, others.1 ∙ ap (after_calls others.0) one.1 ∙ sym (after_more one.0 others.0 first.bus))

@@ -1,0 +1,145 @@
+-- Lines to a reader's device as steps of its reader.
+use Rattle.std.proofs.Common.{◌≡◌, ◌∙◌, ◌⊎◌, ap, sym, subst, refl, ℕ, List, [], ◌∷◌, ◌++◌, false, length, inl, inr, append-nil, append_assoc}
+use Rattle.osdp_device.specs.Hearing.{Heard, hears_bytes, reads_all, reads_on, then_reads}
+use Rattle.osdp_device.specs.Receiving.{Received, ends_silent, seen, after_tick, after_silence}
+use Rattle.osdp_device.specs.Saying.{Said}
+use Rattle.osdp_device.specs.Status.{status_after, status_answer}
+use Rattle.osdp_device.specs.Telling.{after_items, items_of, listed, said_to_all}
+use Rattle.osdp_device.specs.declared.status.DeviceStatus.{DeviceStatus}
+use Rattle.osdp_frame.specs.Items.{items}
+use Rattle.osdp_frame.specs.Reading.{Part, Whole, Passed, Bad}
+use Rattle.osdp_line_streams.specs.Answers.{Speaks, heard}
+use Rattle.osdp_reader.specs.State.{ReaderState}
+use Rattle.osdp_reader_calls.specs.declared.call.ReaderCall.{ReaderCall}
+use Rattle.osdp_reader_calls.specs.declared.call.ReaderCall.TheVariants.{At, Bytes, Silence, Tick, Event, Busy, Inputs, Outputs, Readers, Local}
+use Rattle.osdp_reader_calls.specs.Lines.{Answers, IsAnswered, Says, SaysNothing, refuses}
+use Rattle.osdp_reader_calls.specs.Sessions.{Called, Session, answered, does}
+use Rattle.osdp_reader_calls.specs.Texts.{all_lines, said_lines, waiting_line}
+use Rattle.osdp_line_laws.specs.ReaderLines.{Hears, Refused, SetsBusy, SetsStatus, Step, Submits, TakesSteps, after_step, after_steps, step_text, steps_text}
+
+abbrev Reader : Type 0
+Reader = ReaderState DeviceStatus
+
+-- ---- steps one after the other
+
+after_more : (first more : List Step) (r : Reader) → after_steps (first ++ more) r ≡ after_steps more (after_steps first r)
+after_more [] more r = refl
+after_more (step ∷ first) more r = after_more first more (after_step step r)
+
+text_more : (first more : List Step) (r : Reader) → steps_text (first ++ more) r ≡ steps_text first r ++ steps_text more (after_steps first r)
+text_more [] more r = refl
+text_more (step ∷ first) more r =
+    ap (λ l. step_text step r ++ l) (text_more first more (after_step step r))
+    ∙ sym (append_assoc (step_text step r) (steps_text first (after_step step r)) (steps_text more (after_steps first (after_step step r))))
+
+lines_more : (first more : List Said) → all_lines (first ++ more) ≡ all_lines first ++ all_lines more
+lines_more [] more = refl
+lines_more (s ∷ first) more = ap (λ l. said_lines s ++ l) (lines_more first more) ∙ sym (append_assoc (said_lines s) (all_lines first) (all_lines more))
+
+-- ---- what was heard: its packets are steps
+
+-- the steps that bring a reader to what is heard, and what they tell
+record Comes (r : Reader) (h : Heard DeviceStatus) : Type 0 where
+  steps : List Step
+  reader : h.reader ≡ after_steps steps r
+  text : all_lines h.said ≡ steps_text steps r
+
+packets : List Part → List Step
+packets [] = []
+packets (Whole p ∷ parts) = Hears p ∷ packets parts
+packets (Passed byte ∷ parts) = packets parts
+packets (Bad fault ∷ parts) = packets parts
+
+after_packets : (parts : List Part) (r : Reader) → after_items status_answer status_after parts r ≡ after_steps (packets parts) r
+unfolding packets
+after_packets [] r = refl
+after_packets (Whole p ∷ parts) r = after_packets parts (after_step (Hears p) r)
+after_packets (Passed byte ∷ parts) r = after_packets parts r
+after_packets (Bad fault ∷ parts) r = after_packets parts r
+
+text_packets : (parts : List Part) (r : Reader) → all_lines (said_to_all status_answer status_after parts r) ≡ steps_text (packets parts) r
+unfolding packets
+text_packets [] r = refl
+text_packets (Whole p ∷ parts) r =
+    lines_more _ (said_to_all status_answer status_after parts (after_step (Hears p) r))
+    ∙ ap (λ l. step_text (Hears p) r ++ l) (text_packets parts (after_step (Hears p) r))
+text_packets (Passed byte ∷ parts) r = text_packets parts r
+text_packets (Bad fault ∷ parts) r = text_packets parts r
+
+all_read : (r : Reader) (l : Received) → Comes r (reads_all status_answer status_after r l)
+all_read r l = record { steps = packets (items_of l.held); reader = after_packets (items_of l.held) r; text = text_packets (items_of l.held) r }
+
+on_read : (bytes : List ℕ) (r : Reader) (l : Received) → Comes r (reads_on status_answer status_after bytes r l)
+on_read bytes r l =
+    let parts = items false (l.held.bytes ++ bytes) in
+    record { steps = packets parts; reader = after_packets parts r; text = text_packets parts r }
+
+both_read : (bytes : List ℕ) (r : Reader) (h : Heard DeviceStatus) → Comes r h → Comes r (then_reads status_answer status_after bytes h)
+both_read bytes r h first =
+    let next = on_read bytes h.reader h.line in
+    let on = reads_on status_answer status_after bytes h.reader h.line in
+    record {
+      steps = first.steps ++ next.steps;
+      reader = next.reader ∙ ap (after_steps next.steps) first.reader ∙ sym (after_more first.steps next.steps r);
+      text = lines_more h.said on.said ∙ ap (λ t. t ++ all_lines on.said) first.text
+          ∙ ap (λ t. steps_text first.steps r ++ t) (next.text ∙ ap (steps_text next.steps) first.reader)
+          ∙ sym (text_more first.steps next.steps r);
+    }
+
+bytes_read : (bytes : List ℕ) (now : ℕ) (r : Reader) (l : Received) → Comes r (hears_bytes status_answer status_after bytes now r l)
+bytes_read [] now r l = all_read r (seen now l)
+bytes_read (byte ∷ bytes) now r l = both_read (byte ∷ bytes) r (reads_all status_answer status_after r (ends_silent (seen now l))) (all_read r (ends_silent (seen now l)))
+
+-- ---- a call
+
+-- the steps of a call, and what they tell, without the count at the end
+record Does (call : ReaderCall) (s : Session) : Type 0 where
+  steps : List Step
+  reader : (does call s).session.reader ≡ after_steps steps s.reader
+  text : (does call s).text ≡ steps_text steps s.reader
+
+heard_steps : (call : ReaderCall) (s : Session) (h : Heard DeviceStatus) → Comes s.reader h → (does call s).session.reader ≡ h.reader → (does call s).text ≡ all_lines h.said → Does call s
+heard_steps call s h comes reader text = record { steps = comes.steps; reader = reader ∙ comes.reader; text = text ∙ comes.text }
+
+call_steps : (call : ReaderCall) (s : Session) → Does call s
+call_steps (At later) s = record { steps = []; reader = refl; text = refl }
+call_steps (Bytes list) s = heard_steps (Bytes list) s _ (bytes_read list.items s.now s.reader s.line) refl refl
+call_steps Silence s = heard_steps Silence s _ (all_read s.reader (after_silence s.now s.line)) refl refl
+call_steps Tick s = heard_steps Tick s _ (all_read s.reader (after_tick s.now s.line)) refl refl
+call_steps (Event event) s = record { steps = Submits event ∷ []; reader = refl; text = sym (append-nil (step_text (Submits event) s.reader)) }
+call_steps (Busy busy) s = record { steps = SetsBusy busy ∷ []; reader = refl; text = refl }
+call_steps (Inputs list) s = record { steps = SetsStatus (record s.reader.handler { inputs = list }) ∷ []; reader = refl; text = refl }
+call_steps (Outputs list) s = record { steps = SetsStatus (record s.reader.handler { outputs = list }) ∷ []; reader = refl; text = refl }
+call_steps (Readers list) s = record { steps = SetsStatus (record s.reader.handler { readers = list }) ∷ []; reader = refl; text = refl }
+call_steps (Local tamper power) s = record { steps = SetsStatus (record s.reader.handler { tamper = tamper; power = power }) ∷ []; reader = refl; text = refl }
+
+pub of_line : (s : Session) (given text : List ℕ) (next : Session) (c : Called) → IsAnswered given s c → text ≡ c.text → next ≡ c.session
+    → TakesSteps s text next ⊎ (SaysNothing given × Refused s text next)
+of_line s given text next c (inl (call, says, is)) text_is next_is =
+    let d = call_steps call s in
+    let next_is_done : next ≡ (does call s).session = next_is ∙ ap (λ (x : Called). x.session) is in
+    inl (record {
+      steps = d.steps;
+      reader = ap (λ (x : Session). x.reader) next_is_done ∙ d.reader;
+      told = text_is ∙ ap (λ (x : Called). x.text) is
+          ∙ ap (λ t. t ++ waiting_line (length (does call s).session.reader.queue.events)) d.text
+          ∙ ap (λ (x : Session). steps_text d.steps s.reader ++ waiting_line (length x.reader.queue.events)) (sym next_is_done);
+    })
+of_line s given text next c (inr (nothing, is)) text_is next_is =
+    inr (nothing, record { same = next_is ∙ ap (λ (x : Called). x.session) is; told = text_is ∙ ap (λ (x : Called). x.text) is })
+
+-- ---- any lines
+
+steps_of_line : (s : Session) (given text : List ℕ) (next : Session) → Answers s given text next → (steps : List Step) × (next.reader ≡ after_steps steps s.reader)
+steps_of_line s given text next a = elim (of_line s given text next a.called a.is a.text_is a.next_is) as (λ r. (steps : List Step) × (next.reader ≡ after_steps steps s.reader)) [
+  | inl taken ↦ (taken.steps, taken.reader)
+  | inr refused ↦ ([], ap (λ (x : Session). x.reader) refused.1.same)
+]
+
+pub of_lines : (first : Session) (lines : List (List ℕ)) (text : List ℕ) (last : Session) → Speaks Answers first lines text last
+    → (steps : List Step) × (last.reader ≡ after_steps steps first.reader)
+of_lines first [] text last spoken = ([], ap (λ (x : Session). x.reader) spoken.1)
+of_lines first (line ∷ lines) text last (answer, rest, next, is, speaks, joined) =
+    let one = steps_of_line first (heard line) answer next is in
+    let others = of_lines next lines rest last speaks in
+    (one.0 ++ others.0, others.1 ∙ ap (after_steps others.0) one.1 ∙ sym (after_more one.0 others.0 first.reader))

@@ -1,0 +1,2 @@
+pub mod PanelLines
+pub mod ReaderLines

@@ -1,0 +1,68 @@
+-- What a panel by lines does to its bus, and what it tells of that.
+use Rattle.std.specs.Prelude.{◌≡◌, ◌⊎◌, ℕ, List, [], ◌∷◌, ◌++◌, Option}
+use Rattle.osdp_bus.specs.declared.config.BusConfig.{BusConfig}
+use Rattle.osdp_bus.specs.Buses.{BusState, new_bus}
+use Rattle.osdp_bus.specs.Machine.{add_refusal, begin_refusal_at, retarget_refusal_at, submit_refusal_at, withdrawal_at}
+use Rattle.osdp_bus.specs.Ticking.{bus_ticks}
+use Rattle.osdp_bus_laws.specs.Calls.{Call, Add, Begin, Submit, Withdraw, Retarget, OnBytes, OnSilence, Tick, NextReport, after_call, after_calls}
+use Rattle.osdp_line_streams.specs.Answers.{Speaks}
+use Rattle.osdp_panel_calls.specs.declared.call.PanelCall.{PanelCall}
+use Rattle.osdp_panel_calls.specs.declared.call.PanelCall.TheVariants as line
+use Rattle.osdp_panel_calls.specs.Lines.{Answers, Says, SaysNothing}
+use Rattle.osdp_panel_calls.specs.Sessions.{IsDue, Session, new_session}
+use Rattle.osdp_panel_calls.specs.Texts.{due_line, no_line, refusal_line, report_line, send_line, withdrawal_line}
+
+-- the call of the bus that a line orders, at the moment of the session; a moment is none
+abbrev pub ordered : PanelCall → ℕ → List Call
+ordered (line.At later) now = []
+ordered (line.Add address) now = Add address ∷ []
+ordered (line.Begin entry) now = Begin entry now ∷ []
+ordered (line.Submit entry command) now = Submit entry command ∷ []
+ordered (line.Withdraw entry) now = Withdraw entry ∷ []
+ordered (line.Retarget entry address) now = Retarget entry address ∷ []
+ordered (line.Bytes list) now = OnBytes list.items now ∷ []
+ordered line.Silence now = OnSilence now ∷ []
+ordered line.Tick now = Tick now ∷ []
+
+-- what is told of a call: why it is refused, which command was taken back, what goes out, or the report that is taken
+abbrev pub call_text : Call → BusState → List ℕ
+call_text (Add address) b = refusal_line (add_refusal address b)
+call_text (Begin entry now) b = refusal_line (begin_refusal_at entry b)
+call_text (Submit entry command) b = refusal_line (submit_refusal_at entry command b)
+call_text (Withdraw entry) b = withdrawal_line entry (withdrawal_at entry b)
+call_text (Retarget entry address) b = refusal_line (retarget_refusal_at entry address b)
+call_text (OnBytes bytes now) b = []
+call_text (OnSilence now) b = []
+call_text (Tick now) b = send_line (bus_ticks now b).sent
+call_text NextReport b = report_line b.devices.report
+
+-- of a list of calls, each as those before it have left the bus
+abbrev pub calls_text : List Call → BusState → List ℕ
+calls_text [] b = []
+calls_text (call ∷ calls) b = call_text call b ++ calls_text calls (after_call call b)
+
+-- these calls were made, and what they told is the answer, with the moment of the next tick after it
+pub record Calls (s : Session) (calls : List Call) (text : List ℕ) (next : Session) : Type 0 where
+  pub bus : next.bus ≡ after_calls calls s.bus
+  pub due : Option ℕ
+  pub is_due : IsDue next due
+  pub told : text ≡ calls_text calls s.bus ++ due_line due
+
+-- a line that is none changes nothing
+pub record Refused (s : Session) (text : List ℕ) (next : Session) : Type 0 where
+  pub same : next ≡ s
+  pub due : Option ℕ
+  pub is_due : IsDue s due
+  pub told : text ≡ no_line ++ due_line due
+
+-- a line is the call of the bus that it orders, and the taking of the report that waits then; or it is none
+abbrev pub IsCallOrNone : Type 0
+IsCallOrNone = (s : Session) (given text : List ℕ) (next : Session) → Answers s given text next
+    → ((call : PanelCall) × Says given call × Calls s (ordered call s.now ++ NextReport ∷ []) text next)
+    ⊎ (SaysNothing given × Refused s text next)
+
+-- lines to a new panel come to a list of calls of a new bus, so what holds after every list of calls holds after any lines
+abbrev pub ComesOfCalls : Type 0
+ComesOfCalls = (config : BusConfig) (lines : List (List ℕ)) (text : List ℕ) (last : Session)
+    → Speaks Answers (new_session config) lines text last
+    → (calls : List Call) × (last.bus ≡ after_calls calls (new_bus config))

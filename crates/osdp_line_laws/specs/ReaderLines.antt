@@ -1,0 +1,66 @@
+-- What a device by lines does to its reader, and what it tells of that.
+use Rattle.std.specs.Prelude.{◌≡◌, ◌⊎◌, ℕ, Bool, List, [], ◌∷◌, ◌++◌, length}
+use Rattle.osdp_device.specs.Saying.{said_to, unless_silent}
+use Rattle.osdp_device.specs.Status.{new_status, status_after, status_answer}
+use Rattle.osdp_device.specs.Telling.{listed}
+use Rattle.osdp_device.specs.declared.status.DeviceStatus.{DeviceStatus}
+use Rattle.osdp_frame.specs.Packet.{Packet}
+use Rattle.osdp_line_streams.specs.Answers.{Speaks}
+use Rattle.osdp_msg.specs.declared.event.Event.{Event}
+use Rattle.osdp_reader.specs.State.{ReaderState, after_set_busy, after_set_handler, new_reader}
+use Rattle.osdp_reader.specs.Table.{hears, kind_of}
+use Rattle.osdp_reader.specs.declared.config.ReaderConfig.{ReaderConfig}
+use Rattle.osdp_reader_calls.specs.Lines.{Answers, SaysNothing}
+use Rattle.osdp_reader_calls.specs.Sessions.{Session, after_event, new_session, submit_text}
+use Rattle.osdp_reader_calls.specs.Texts.{all_lines, no_line, waiting_line}
+
+-- what a reader is called with: a packet of its line, an event, which is refused where there is no room, and what its device sets
+pub data Step : Type 0 where
+  Hears : Packet → Step
+  Submits : Event → Step
+  SetsBusy : Bool → Step
+  SetsStatus : DeviceStatus → Step
+
+abbrev pub after_step : Step → ReaderState DeviceStatus → ReaderState DeviceStatus
+after_step (Hears packet) r = (hears status_answer status_after r packet).reader
+after_step (Submits event) r = after_event event r
+after_step (SetsBusy busy) r = after_set_busy busy r
+after_step (SetsStatus status) r = after_set_handler status r
+
+abbrev pub after_steps : List Step → ReaderState DeviceStatus → ReaderState DeviceStatus
+after_steps [] r = r
+after_steps (step ∷ steps) r = after_steps steps (after_step step r)
+
+-- what is told of a step: what the reader's table says to the packet, or that there is no room for the event
+abbrev pub step_text : Step → ReaderState DeviceStatus → List ℕ
+step_text (Hears packet) r = all_lines (listed (unless_silent (kind_of r packet) (said_to status_answer status_after r packet)))
+step_text (Submits event) r = submit_text r
+step_text (SetsBusy busy) r = []
+step_text (SetsStatus status) r = []
+
+-- of a list of steps, each as those before it have left the reader
+abbrev pub steps_text : List Step → ReaderState DeviceStatus → List ℕ
+steps_text [] r = []
+steps_text (step ∷ steps) r = step_text step r ++ steps_text steps (after_step step r)
+
+-- these steps were taken, and what they told is the answer, with how many events wait after it
+pub record TakesSteps (s : Session) (text : List ℕ) (next : Session) : Type 0 where
+  pub steps : List Step
+  pub reader : next.reader ≡ after_steps steps s.reader
+  pub told : text ≡ steps_text steps s.reader ++ waiting_line (length next.reader.queue.events)
+
+-- a line that is none changes nothing
+pub record Refused (s : Session) (text : List ℕ) (next : Session) : Type 0 where
+  pub same : next ≡ s
+  pub told : text ≡ no_line ++ waiting_line (length s.reader.queue.events)
+
+-- a line is some steps of the reader, or it is none
+abbrev pub IsStepsOrNone : Type 0
+IsStepsOrNone = (s : Session) (given text : List ℕ) (next : Session) → Answers s given text next
+    → TakesSteps s text next ⊎ (SaysNothing given × Refused s text next)
+
+-- lines to a new device come to a list of steps of a new reader, so what each of them keeps holds after any lines
+abbrev pub ComesOfSteps : Type 0
+ComesOfSteps = (config : ReaderConfig) (capacity gap : ℕ) (lines : List (List ℕ)) (text : List ℕ) (last : Session)
+    → Speaks Answers (new_session config capacity gap) lines text last
+    → (steps : List Step) × (last.reader ≡ after_steps steps (new_reader config new_status capacity))

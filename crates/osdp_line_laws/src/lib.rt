@@ -1,0 +1,30 @@
+//! What lines to a panel or to a reader's device come to, in the words of the machines. The functions do nothing: their contracts are laws.
+//!
+//! What is proved of a bus after every list of calls, and of a reader whatever it is called with, so holds of each program that is called by
+//! lines, and what it writes is what the machines' tables say of those calls.
+#![tactic(auto)]
+
+ghost use Rattle.osdp_line_laws.specs.PanelLines.{ComesOfCalls, IsCallOrNone};
+ghost use Rattle.osdp_line_laws.specs.ReaderLines.{ComesOfSteps, IsStepsOrNone};
+
+/// A line to a panel is one call of its bus at most, and then the taking of the report that waits: what is written is what the bus refuses,
+/// sends and reports by that, and the moment of the next tick. A line that is none changes nothing.
+pub fn a_line_is_a_call()
+    ensures { IsCallOrNone }
+{}
+
+/// Lines to a new panel come to a list of calls of a new bus, so what the bus keeps after every list of calls holds after them.
+pub fn a_panel_comes_of_calls()
+    ensures { ComesOfCalls }
+{}
+
+/// A line to a reader's device is packets that the reader hears, an event that is submitted, or what the device sets: what is written is what
+/// the reader's table says to these packets, and how many events wait. A line that is none changes nothing.
+pub fn a_line_is_steps()
+    ensures { IsStepsOrNone }
+{}
+
+/// Lines to a new device come to a list of steps of a new reader, so what each step keeps holds after them.
+pub fn a_device_comes_of_steps()
+    ensures { ComesOfSteps }
+{}

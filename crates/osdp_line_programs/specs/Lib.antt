@@ -1,0 +1,4 @@
+pub mod Settings
+pub mod PanelSettings
+pub mod ReaderSettings
+pub mod Runs

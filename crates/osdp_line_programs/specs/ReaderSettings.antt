@@ -1,0 +1,107 @@
+-- The settings of a reader: their words, and what each sets.
+use Rattle.std.specs.Prelude.{◌≡◌, ℕ, ◌<◌, ◌^◌, List, [], ◌∷◌, ◌++◌, codes, length, nat_lt, if◌then◌else◌, slice_index, Option, Some, None}
+use Rattle.osdp_controller.specs.Settings.{IsTime}
+use Rattle.osdp_msg.specs.declared.reply_fields.PdCap.{PdCap}
+use Rattle.osdp_msg.specs.declared.reply_fields.PdId.{PdId}
+use Rattle.osdp_msg.specs.ReplyFields.{capability_at}
+use Rattle.osdp_words.specs.Word.{Word, plain, bytes, number, numbers}
+use Rattle.osdp_line_programs.specs.declared.reader.ReaderSetting.{ReaderSetting}
+use Rattle.osdp_line_programs.specs.declared.reader.ReaderSetting.TheVariants.{At, Vendor, Model, Version, Serial, Firmware, Cap, Room, Gap}
+use Rattle.osdp_line_programs.specs.declared.reader.ReaderSettings.{ReaderSettings}
+use Rattle.osdp_line_programs.specs.Settings.{Give, IsRoom, IsTriple, IsVendor, ReadsSettings, after}
+
+abbrev pub setting_name : ReaderSetting → List ℕ
+setting_name (At address) = codes "address"
+setting_name (Vendor vendor) = codes "vendor"
+setting_name (Model n) = codes "model"
+setting_name (Version n) = codes "version"
+setting_name (Serial n) = codes "serial"
+setting_name (Firmware ns) = codes "firmware"
+setting_name (Cap ns) = codes "cap"
+setting_name (Room n) = codes "room"
+setting_name (Gap n) = codes "gap"
+
+abbrev pub setting_value : ReaderSetting → Word
+setting_value (At address) = number address
+setting_value (Vendor vendor) = bytes vendor
+setting_value (Model n) = number n
+setting_value (Version n) = number n
+setting_value (Serial n) = number n
+setting_value (Firmware ns) = numbers ns
+setting_value (Cap ns) = numbers ns
+setting_value (Room n) = number n
+setting_value (Gap n) = number n
+
+abbrev pub setting_words : ReaderSetting → List Word
+setting_words s = plain (setting_name s) ∷ setting_value s ∷ []
+
+abbrev pub SettingFits : ReaderSetting → Type 0
+SettingFits (At address) = address < 127
+SettingFits (Vendor vendor) = IsVendor vendor
+SettingFits (Model n) = n < 2 ^ 8
+SettingFits (Version n) = n < 2 ^ 8
+SettingFits (Serial n) = n < 2 ^ 32
+SettingFits (Firmware ns) = IsTriple ns
+SettingFits (Cap ns) = IsTriple ns
+SettingFits (Room n) = IsRoom n
+SettingFits (Gap n) = IsTime n
+
+abbrev pub with_id : PdId → ReaderSettings → ReaderSettings
+with_id id r = record r { config = record r.config { id = id } }
+
+abbrev pub with_firmware : List ℕ → PdId → PdId
+with_firmware ns id = record id { firmware_major = slice_index ns 0; firmware_minor = slice_index ns 1; firmware_build = slice_index ns 2 }
+
+-- one capability more
+abbrev pub with_capability : List ℕ → PdCap → PdCap
+with_capability ns caps = record { capabilities = record { items = caps.capabilities.items ++ capability_at ns ∷ [] } }
+
+-- a reply has room for so many capabilities
+abbrev pub put_capability : List ℕ → ReaderSettings → Option ReaderSettings
+put_capability ns r =
+    if nat_lt (length r.config.caps.capabilities.items) 477 then Some (record r { config = record r.config { caps = with_capability ns r.config.caps } })
+    else None
+
+abbrev pub put : ReaderSetting → ReaderSettings → Option ReaderSettings
+put (At address) r = Some (record r { config = record r.config { address = address } })
+put (Vendor vendor) r = Some (with_id (record r.config.id { vendor = vendor }) r)
+put (Model n) r = Some (with_id (record r.config.id { model = n }) r)
+put (Version n) r = Some (with_id (record r.config.id { version = n }) r)
+put (Serial n) r = Some (with_id (record r.config.id { serial = n }) r)
+put (Firmware ns) r = Some (with_id (with_firmware ns r.config.id) r)
+put (Cap ns) r = put_capability ns r
+put (Room n) r = Some (record r { room = n })
+put (Gap n) r = Some (record r { gap = n })
+
+-- without settings the reader is at address 0, tells zeros of itself and no capabilities, has room for 64 events, and a gap of 20 ms
+abbrev pub defaults : ReaderSettings
+defaults = record {
+  config = record {
+    address = 0;
+    id = record {
+      vendor = 0 ∷ 0 ∷ 0 ∷ [];
+      model = 0;
+      version = 0;
+      serial = 0;
+      firmware_major = 0;
+      firmware_minor = 0;
+      firmware_build = 0;
+    };
+    caps = record { capabilities = record { items = [] } };
+  };
+  room = 64;
+  gap = 20;
+}
+
+abbrev pub ReadsReader : List (List ℕ) → Option ReaderSettings → Type 0
+ReadsReader given result = ReadsSettings setting_words SettingFits put defaults given result
+
+-- the words are settings of a reader, and they make this one of the defaults
+abbrev pub AreOfReader : List (List ℕ) → ReaderSettings → Type 0
+AreOfReader given config = (settings : List ReaderSetting) × Give setting_words SettingFits given settings × (after put settings defaults ≡ Some config)
+
+-- what a reader asks for
+pub record AreInRange (r : ReaderSettings) : Type 0 where
+  pub address : r.config.address < 127
+  pub room : IsRoom r.room
+  pub gap : IsTime r.gap

@@ -1,0 +1,63 @@
+-- How the programs end.
+use Rattle.std.specs.Prelude.{◌≡◌, ◌⊎◌, ℕ, Bool, List, codes, Option, Result, Err}
+use Rattle.std.specs.Io.KnownBytes.{Keeps}
+use Rattle.osdp_bus.specs.declared.config.BusConfig.{BusConfig}
+use Rattle.osdp_line_streams.specs.Ending.{Ends}
+use Rattle.osdp_panel_calls.specs.Lines.{Answers as PanelAnswers}
+use Rattle.osdp_panel_calls.specs.Sessions.{Session as PanelSession, new_session as new_panel}
+use Rattle.osdp_reader_calls.specs.Lines.{Answers as ReaderAnswers}
+use Rattle.osdp_reader_calls.specs.Sessions.{Session as ReaderSession, new_session as new_reader}
+use Rattle.osdp_tool_streams.specs.declared.fault.ToolFault.{ToolFault}
+use Rattle.osdp_tool_streams.specs.declared.fault.ToolFault.TheVariants.{NotHex, TooLong, BadWords, BadStep}
+use Rattle.osdp_tool_streams.specs.declared.fault.ToolFault.TheVariants.{HoldsPacket, NotQuiet, ReadFailed}
+use Rattle.osdp_tool_streams.specs.declared.fault.ToolFault.TheVariants.{WriteFailed, NoMemory}
+use Rattle.osdp_line_programs.specs.declared.reader.ReaderSettings.{ReaderSettings}
+use Rattle.osdp_line_programs.specs.PanelSettings.{AreOfPanel}
+use Rattle.osdp_line_programs.specs.ReaderSettings.{AreOfReader}
+
+-- the words are no settings: nothing is read and nothing written
+pub record IsRefused {C : Type 0} (AreSettings : C → Type 0) (input_before input_after before after : Option (List ℕ))
+    (result : Result (Unit {0}) ToolFault) : Type 0 where
+  pub none : (config : C) → AreSettings config → ⊥
+  pub read : Keeps input_before input_after
+  pub written : Keeps before after
+  pub fault : result ≡ Err BadWords
+
+-- the words are settings of a panel, and each line that was read was answered, in order, by the panel of these settings
+pub record IsRunOfPanel (given : List (List ℕ)) (input_before input_after : Option (List ℕ)) (input_failed : Bool)
+    (before after : Option (List ℕ)) (failed : Bool) (result : Result (Unit {0}) ToolFault) : Type 0 where
+  pub config : BusConfig
+  pub settings : AreOfPanel given config
+  pub last : PanelSession
+  pub ends : Ends PanelAnswers (new_panel config) last input_before input_after input_failed before after failed result
+
+pub record IsRunOfReader (given : List (List ℕ)) (input_before input_after : Option (List ℕ)) (input_failed : Bool)
+    (before after : Option (List ℕ)) (failed : Bool) (result : Result (Unit {0}) ToolFault) : Type 0 where
+  pub config : ReaderSettings
+  pub settings : AreOfReader given config
+  pub last : ReaderSession
+  pub ends : Ends ReaderAnswers (new_reader config.config config.room config.gap) last input_before input_after input_failed before after failed result
+
+abbrev pub RunsPanel : List (List ℕ) → Option (List ℕ) → Option (List ℕ) → Bool → Option (List ℕ) → Option (List ℕ) → Bool
+    → Result (Unit {0}) ToolFault → Type 0
+RunsPanel given input_before input_after input_failed before after failed result =
+    IsRefused (AreOfPanel given) input_before input_after before after result
+    ⊎ IsRunOfPanel given input_before input_after input_failed before after failed result
+
+abbrev pub RunsReader : List (List ℕ) → Option (List ℕ) → Option (List ℕ) → Bool → Option (List ℕ) → Option (List ℕ) → Bool
+    → Result (Unit {0}) ToolFault → Type 0
+RunsReader given input_before input_after input_failed before after failed result =
+    IsRefused (AreOfReader given) input_before input_after before after result
+    ⊎ IsRunOfReader given input_before input_after input_failed before after failed result
+
+-- what is told of a fault, after the program's name; the others don't come
+abbrev pub fault_text : ToolFault → List ℕ
+fault_text BadWords = codes "bad words"
+fault_text TooLong = codes "input too long"
+fault_text ReadFailed = codes "read failed"
+fault_text WriteFailed = codes "write failed"
+fault_text NoMemory = codes "no memory"
+fault_text (NotHex line) = codes "bad input"
+fault_text (BadStep line) = codes "bad input"
+fault_text (HoldsPacket step) = codes "bad input"
+fault_text (NotQuiet step) = codes "bad input"

@@ -1,0 +1,39 @@
+-- Settings as words: a name and its value, then the next name and its value, and so on.
+use Rattle.std.specs.Prelude.{◌≡◌, ℕ, ◌≤◌, List, [], ◌∷◌, flat_map, length, IfSome, Option, Some, option_and_then}
+use Rattle.std.specs.List.{AllByRecursion}
+use Rattle.hex.specs.Hex.{IsBytes}
+use Rattle.osdp_words.specs.Word.{AllStandFor, AreWithin, Word}
+
+-- the words are these settings, one after the other, each within its range
+pub record Give {S : Type 0} (words : S → List Word) (Fits : S → Type 0) (given : List (List ℕ)) (settings : List S) : Type 0 where
+  pub stand : AllStandFor (flat_map words settings) given
+  pub fit : AllByRecursion Fits settings
+
+-- what settings make of what is set already, each after those before it; none where there is no room for one
+abbrev pub after : {S C : Type 0} → (S → C → Option C) → List S → C → Option C
+after put [] config = Some config
+after put (s ∷ settings) config = option_and_then (after put settings) (put s config)
+
+-- what the words set, from the defaults: it comes of settings that they are, and there are no others
+pub record ReadsSettings {S C : Type 0} (words : S → List Word) (Fits : S → Type 0) (put : S → C → Option C) (defaults : C)
+    (given : List (List ℕ)) (result : Option C) : Type 0 where
+  pub value : IfSome result (λ config. (settings : List S) × Give words Fits given settings × (after put settings defaults ≡ Some config))
+  pub only : (settings : List S) → Give words Fits given settings → result ≡ after put settings defaults
+
+-- ---- values
+
+-- how often a frame is sent
+abbrev pub IsSends : ℕ → Type 0
+IsSends n = (1 ≤ n) × (n ≤ 255)
+
+-- how many may wait
+abbrev pub IsRoom : ℕ → Type 0
+IsRoom n = (1 ≤ n) × (n ≤ 1024)
+
+-- three numbers of a byte each
+abbrev pub IsTriple : List ℕ → Type 0
+IsTriple ns = AreWithin (255 ∷ 255 ∷ 255 ∷ []) ns
+
+-- three bytes
+abbrev pub IsVendor : List ℕ → Type 0
+IsVendor list = (length list ≡ 3) × IsBytes list

@@ -1,0 +1,65 @@
+"""What `panel.py` and `reader.py` share: a serial port, and a program that speaks lines."""
+import os
+import subprocess
+import termios
+import time
+
+START = time.monotonic()
+
+
+def moment():
+    """Milliseconds since the start, by a clock that never goes backwards."""
+    return int((time.monotonic() - START) * 1000)
+
+
+def set_rate(port, rate):
+    """Sets the port raw: 8 bits, no parity, 1 stop bit, and each byte as it is. At once: bytes that have come are kept."""
+    speed = getattr(termios, f"B{rate}")
+    characters = termios.tcgetattr(port)[6]
+    characters[termios.VMIN], characters[termios.VTIME] = 1, 0
+    flags = termios.CS8 | termios.CREAD | termios.CLOCAL
+    termios.tcsetattr(port, termios.TCSANOW, [0, 0, flags, 0, speed, speed, characters])
+
+
+def open_port(path, rate):
+    port = os.open(path, os.O_RDWR | os.O_NOCTTY)
+    set_rate(port, rate)
+    return port
+
+
+def write_all(port, burst):
+    while burst:
+        burst = burst[os.write(port, burst):]
+
+
+class Program:
+    """`osdp_panel_lines` or `osdp_reader_lines`, with its settings."""
+
+    def __init__(self, words):
+        self.process = subprocess.Popen(words, stdin=subprocess.PIPE, stdout=subprocess.PIPE)
+
+    def call(self, line):
+        """Hands it one line. The lines of its answer; the last of them begins with `due` or `waiting`."""
+        self.process.stdin.write(line.encode() + b"\n")
+        self.process.stdin.flush()
+        answer = []
+        while not answer or not answer[-1].startswith(("due ", "waiting ")):
+            text = self.process.stdout.readline()
+            if not text:
+                raise SystemExit(self.process.wait())
+            answer.append(text.decode().rstrip("\n"))
+        return answer
+
+
+class Lines:
+    """Lines of text that come in pieces."""
+
+    def __init__(self, source):
+        self.source = source
+        self.rest = b""
+
+    def read(self):
+        """The lines that have come; None at the end."""
+        piece = os.read(self.source, 4096)
+        *whole, self.rest = (self.rest + piece).split(b"\n")
+        return [line.decode() for line in whole] if piece else None

@@ -1,0 +1,241 @@
+"""A panel and three readers on one line that loses, damages and repeats bursts.
+
+Takes the folder `crates`, with the programs, and a seed, if not 1. The relay opens every terminal itself and keeps it open. It cuts
+bursts by their length field and keeps their order; each of the panel's goes to all readers. In each direction 5 % of all bursts are
+lost, the last byte of 5 % is changed, and 5 % come twice: a seeded generator decides, burst by burst. From the 50th order on each
+reader is silent once for two seconds. Moments make runs differ, and what is asked of them holds for all.
+"""
+import os
+import pty
+import random
+import select
+import subprocess
+import sys
+import time
+import tty
+from collections import Counter, deque
+from pathlib import Path
+
+EXAMPLES = Path(__file__).resolve().parent.parent / "examples"
+ADDRESSES = (5, 6, 7)
+ORDERS = EVENTS = 200
+SILENCE = 2.0
+WITHIN = 55.0
+TIMES = "check crc reply-wait 100 poll-interval 10 busy-wait 20 quiet-wait 150 gap 15 capacity 256"
+
+faults = []
+counts = Counter()
+
+
+class Terminal:
+    """A pseudo terminal: the relay's end, and the path of the other one, which stays open here too."""
+
+    def __init__(self):
+        self.end, self.other = pty.openpty()
+        tty.setraw(self.other)
+        tty.setraw(self.end)
+        self.path = os.ttyname(self.other)
+        self.held = b""
+
+    def bursts(self):
+        """The whole bursts that have come: each is as long as its length field says."""
+        self.held += os.read(self.end, 65536)
+        while len(self.held) >= 4:
+            length = int.from_bytes(self.held[2:4], "little")
+            if len(self.held) < length:
+                return
+            yield self.held[:length]
+            self.held = self.held[length:]
+
+
+class Relay:
+    """Hands bursts on, or not."""
+
+    def __init__(self, seed):
+        self.panel = Terminal()
+        self.readers = [Terminal() for _ in ADDRESSES]
+        self.decides = {way: random.Random(f"{seed} {way}") for way in ("out", "back")}
+        self.silent = {}  # until when a reader is silent
+
+    def sources(self):
+        return [self.panel.end] + [reader.end for reader in self.readers]
+
+    def is_silent(self, reader):
+        return self.silent.get(reader, 0) > time.monotonic()
+
+    def on_the_way(self, way, burst):
+        """What becomes of a burst: none, one or two."""
+        chance = self.decides[way].random()
+        counts[f"{way}"] += 1
+        if chance < 0.05:
+            counts[f"{way} lost"] += 1
+            return []
+        if chance < 0.10:
+            counts[f"{way} changed"] += 1
+            return [burst[:-1] + bytes([burst[-1] ^ 0x5A])]
+        if chance < 0.15:
+            counts[f"{way} twice"] += 1
+            return [burst, burst]
+        return [burst]
+
+    def pass_on(self, ready):
+        if self.panel.end in ready:
+            for burst in self.panel.bursts():
+                for each in self.on_the_way("out", burst):
+                    for number, reader in enumerate(self.readers):
+                        if not self.is_silent(number):
+                            os.write(reader.end, each)
+        for number, reader in enumerate(self.readers):
+            if reader.end in ready:
+                for burst in reader.bursts():
+                    for each in self.on_the_way("back", burst):
+                        if not self.is_silent(number):
+                            os.write(self.panel.end, each)
+
+
+class Script:
+    """One of the examples, as it runs: what it has written, line by line."""
+
+    def __init__(self, name, *words):
+        command = [sys.executable, str(EXAMPLES / name), *map(str, words)]
+        self.process = subprocess.Popen(command, stdin=subprocess.PIPE, stdout=subprocess.PIPE)
+        os.set_blocking(self.process.stdout.fileno(), False)
+        self.lines = []
+        self.rest = b""
+
+    def say(self, line):
+        self.process.stdin.write(line.encode() + b"\n")
+        self.process.stdin.flush()
+
+    def read(self):
+        piece = self.process.stdout.read() or b""
+        *whole, self.rest = (self.rest + piece).split(b"\n")
+        self.lines += [line.decode() for line in whole]
+
+
+class Account:
+    """What became of one reader's orders and events, read from what both ends have written."""
+
+    def __init__(self, number, panel, reader):
+        self.issued, self.settled, self.unsettled, self.sessions, self.lost = [], [], [], [[]], 0
+        for line in panel:
+            name, which, *words = line.split()
+            if which != str(number):
+                continue
+            text = " ".join(words)
+            if name == "ordered":
+                self.issued.append(text)
+            elif name == "opened":
+                self.sessions.append([])
+            elif name == "settled":
+                self.settled.append(text.split(" = ")[0])
+            elif name == "event":
+                self.sessions[-1].append(text)
+            elif name == "lost":
+                self.lost += 1
+                self.unsettled += [" ".join(words[1:])] if words[1:] else []
+            else:
+                faults.append(f"reader {number}: the panel says {line}")
+        self.taken = [line[6:] for line in reader if line.startswith("taken OUT")]
+        self.queued = [line[6:] for line in reader if line.startswith("event ")]
+
+    def reported(self):
+        """The events, without the first of a session where it is the last one reported before."""
+        told = []
+        for events in self.sessions:
+            told += events[1:] if events and told and events[0] == told[-1] else events
+        return told
+
+    def is_over(self):
+        return len(self.settled) + len(self.unsettled) >= len(self.issued) and len(self.reported()) >= len(self.queued)
+
+    def judge(self, number):
+        def asks(holds, what):
+            if not holds:
+                faults.append(f"reader {number}: {what}")
+
+        taken = Counter(self.taken)
+        asks(self.reported() == self.queued, "the events reported are not those queued, in order, each once")
+        asks(all(count == 1 for count in taken.values()), "an order was taken twice")
+        asks(self.taken == [order for order in self.issued if order in taken], "orders were not taken in the order issued")
+        told = Counter(self.settled) + Counter(self.unsettled)
+        asks(all(told[order] == 1 for order in self.issued), "an order was not told settled or unsettled, once")
+        asks(len(told) == len(self.issued), "an order was told that was not issued")
+        asks(all(taken[order] == 1 for order in self.settled), "an order was settled and not taken once")
+        asks(all(taken[order] <= 1 for order in self.unsettled), "an unsettled order was taken twice")
+
+
+def plan():
+    """Orders and events, reader by reader in turn: each has a number of its own."""
+    for number in range(1, ORDERS + 1):
+        reader = number % len(ADDRESSES)
+        yield "order", reader, f"{reader + 1} OUT 0:2:{number}"
+        yield "event", (reader + 1) % len(ADDRESSES), f"event KEYPAD 0 {f'{number:03}'.encode().hex().upper()}"
+
+
+def accounts(panel, readers):
+    return [Account(number, panel.lines, reader.lines) for number, reader in enumerate(readers, 1)]
+
+
+def run(relay, panel, readers, begun):
+    """Hands out the plan, a step every 50 ms, and goes on until everything is told."""
+    steps, orders, silences, due = deque(plan()), 0, deque(range(len(ADDRESSES))), begun + 1.0
+    while True:
+        scripts = {script.process.stdout.fileno(): script for script in [panel] + readers}
+        ready = select.select(relay.sources() + list(scripts), [], [], 0.01)[0]
+        relay.pass_on(ready)
+        for source in set(ready) & scripts.keys():
+            scripts[source].read()
+        now = time.monotonic()
+        if any(script.process.poll() is not None for script in [panel] + readers):
+            faults.append("a program has ended")
+            return
+        while steps and due <= now:
+            for kind, reader, line in (steps.popleft(), steps.popleft()):
+                orders += kind == "order"
+                (panel if kind == "order" else readers[reader]).say(line)
+            due += 0.05
+        if silences and orders >= 50 and not any(relay.is_silent(reader) for reader in range(len(ADDRESSES))):
+            relay.silent[silences.popleft()] = now + SILENCE
+        over = not steps and not silences and all(account.is_over() for account in accounts(panel, readers))
+        if over or now > begun + WITHIN:
+            return
+
+
+def main(crates, seed="1"):
+    begun = time.monotonic()
+    relay = Relay(seed)
+    readers = [
+        Script("reader.py", terminal.path, 9600, f"{crates}/osdp_reader_lines/out/osdp_reader_lines", "address", address,
+               "vendor", "53494D", "serial", address, "room", 256, "gap", 15)
+        for terminal, address in zip(relay.readers, ADDRESSES)
+    ]
+    panel = Script("panel.py", relay.panel.path, 9600, ",".join(map(str, ADDRESSES)),
+                   f"{crates}/osdp_panel_lines/out/osdp_panel_lines", *TIMES.split())
+    try:
+        run(relay, panel, readers, begun)
+    finally:
+        for script in [panel] + readers:
+            script.process.kill()
+    told = accounts(panel, readers)
+    for number, account in enumerate(told, 1):
+        account.judge(number)
+        print(f"reader {number}: issued {len(account.issued)} taken {len(account.taken)} settled {len(account.settled)} "
+              f"unsettled {len(account.unsettled)} queued {len(account.queued)} reported {len(account.reported())} lost {account.lost}")
+    for what, wanted, count in (
+        ("orders", ORDERS, sum(len(account.issued) for account in told)),
+        ("events", EVENTS, sum(len(account.queued) for account in told)),
+    ):
+        if count != wanted:
+            faults.append(f"{count} {what}, wanted {wanted}")
+    if sum(account.lost for account in told) < 3:
+        faults.append("fewer than three sessions were lost")
+    print(f"seed {seed}, bursts: " + ", ".join(f"{name} {count}" for name, count in sorted(counts.items())))
+    print(f"line: {len(faults)} faults in {time.monotonic() - begun:.1f} s")
+    for fault in faults:
+        print(fault)
+    return 1 if faults else 0
+
+
+if __name__ == "__main__":
+    sys.exit(main(*sys.argv[1:]))

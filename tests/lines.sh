@@ -1,0 +1,132 @@
+#!/usr/bin/env bash
+# The programs that speak lines: their statuses and standard error, and each request for memory, each read and each write refused in
+# turn, by libraries preloaded into them. Whichever is refused, the program ends with its status, 4 or 3, and all that it has printed is a
+# beginning of what it prints else. Takes the path of the program osdp; the others stand beside it, as crates/NAME/out/NAME. They are linked
+# with the C library as a shared one; needs a C compiler.
+set -u
+crates=$(cd "$(dirname "$1")/../.." && pwd)
+work=$(mktemp -d)
+trap 'rm -rf "$work"' EXIT
+folder=$(cd "$(dirname "$0")" && pwd)
+most=40
+failed=0
+
+"${CC:-cc}" -O1 -shared -fPIC -o "$work/refuse.so" "$folder/refuse.c" || exit 1
+"${CC:-cc}" -O1 -shared -fPIC -o "$work/streams.so" "$folder/streams.c" || exit 1
+
+fault() {
+  echo "$1"
+  failed=1
+}
+
+# $1: what is tried; $2: the status that is wanted; $3: standard output; $4: standard error; then the program and its words.
+# Standard input is the caller's.
+expect() {
+  local name=$1 status=$2 out=$3 err=$4 program=$5
+  shift 5
+  "$crates/$program/out/$program" "$@" >"$work/out" 2>"$work/err"
+  local got=$?
+  [ "$got" -eq "$status" ] || fault "$name: status $got, wanted $status"
+  printf '%s' "$out" | cmp -s - "$work/out" || fault "$name: other text on standard output: $(head -c 200 "$work/out")"
+  printf '%s' "$err" | cmp -s - "$work/err" || fault "$name: other text on standard error: $(head -c 200 "$work/err")"
+}
+
+bad_panel=$'osdp_panel_lines: bad words\n'
+bad_reader=$'osdp_reader_lines: bad words\n'
+expect 'a panel that is told nothing' 0 '' '' osdp_panel_lines </dev/null
+expect 'a name without a value' 2 '' "$bad_panel" osdp_panel_lines check </dev/null
+expect 'a check that is none' 2 '' "$bad_panel" osdp_panel_lines check md5 </dev/null
+expect 'a time of none' 2 '' "$bad_panel" osdp_panel_lines reply-wait 0 </dev/null
+expect 'an hour' 0 '' '' osdp_panel_lines reply-wait 3600000 poll-interval 3600000 busy-wait 3600000 quiet-wait 3600000 gap 3600000 </dev/null
+expect 'more than an hour' 2 '' "$bad_panel" osdp_panel_lines gap 3600001 </dev/null
+expect 'no sends' 2 '' "$bad_panel" osdp_panel_lines sends 0 </dev/null
+expect 'many sends' 0 '' '' osdp_panel_lines sends 255 busy-limit 255 capacity 1024 </dev/null
+expect 'too many sends' 2 '' "$bad_panel" osdp_panel_lines sends 256 </dev/null
+expect 'too many may wait' 2 '' "$bad_panel" osdp_panel_lines capacity 1025 </dev/null
+expect 'a setting of the other program' 2 '' "$bad_panel" osdp_panel_lines address 5 </dev/null
+expect 'a word that is no text' 2 '' "$bad_panel" osdp_panel_lines check $'\xff' </dev/null
+expect 'the later of two' 0 $'due none\ndue none\nrefused C3\ndue none\n' '' osdp_panel_lines capacity 2 capacity 1 \
+  < <(printf 'add 5\nsubmit 1 ID 0\nsubmit 1 ID 0\n')
+expect 'the last address' 0 '' '' osdp_reader_lines address 126 </dev/null
+expect 'the configuration address' 2 '' "$bad_reader" osdp_reader_lines address 127 </dev/null
+expect 'a vendor of two bytes' 2 '' "$bad_reader" osdp_reader_lines vendor 5349 </dev/null
+expect 'firmware of two numbers' 2 '' "$bad_reader" osdp_reader_lines firmware 1:2 </dev/null
+expect 'a capability too great' 2 '' "$bad_reader" osdp_reader_lines cap 1:1:256 </dev/null
+expect 'no room' 2 '' "$bad_reader" osdp_reader_lines room 0 </dev/null
+caps() { for ((i = 0; i < $1; i++)); do printf 'cap 1:1:8 '; done; }
+expect 'as many capabilities as there may be' 0 '' '' osdp_reader_lines $(caps 477) </dev/null
+expect 'one capability more' 2 '' "$bad_reader" osdp_reader_lines $(caps 478) </dev/null
+
+long=$(printf 'tick%08188d' 0 | tr 0 ' ')
+expect 'a line of 8,192 characters' 0 $'waiting 0\n' '' osdp_reader_lines <<<"$long"
+expect 'a line above that' 0 $'refused line\nwaiting 0\nwaiting 0\n' '' osdp_reader_lines < <(printf '%s \ntick\n' "$long")
+expect 'a line of a megabyte' 0 $'refused line\ndue none\ndue none\n' '' osdp_panel_lines < <(head -c 1000000 /dev/zero | tr '\0' 'a'; printf '\ntick\n')
+expect 'a line that is no text' 0 $'refused line\ndue none\n' '' osdp_panel_lines < <(printf 'tick\xff\n')
+expect 'a last line without a line feed' 0 $'due none\n' '' osdp_panel_lines < <(printf 'tick')
+
+for which in panel reader; do
+  expect 'a directory as input' 3 '' "osdp_${which}_lines: read failed"$'\n' "osdp_${which}_lines" </
+  expect 'a closed input' 3 '' "osdp_${which}_lines: read failed"$'\n' "osdp_${which}_lines" <&-
+  "$crates/osdp_${which}_lines/out/osdp_${which}_lines" <<<tick >/dev/full 2>"$work/err"
+  [ $? -eq 3 ] || fault "$which: a full device ends it with another status"
+  echo "osdp_${which}_lines: write failed" | cmp -s - "$work/err" || fault "$which: a full device: other text on standard error"
+done
+
+# ---- what fails in turn
+
+# Runs the program with its streams, or its memory, as the words say, each a name, = and a value. Standard input is $work/in.
+run_with() {
+  rm -f "$work/mark"
+  env REFUSED_MARK="$work/mark" FAILED_MARK="$work/mark" AT_MOST=$most "$@" "$crates/$program/out/$program" "${words[@]}" \
+    <"$work/in" >"$work/out" 2>"$work/err"
+}
+
+# $1: what fails, as a preloaded library and a variable; $2: the suffix of the number; $3: the status; $4: the text after the program's
+# name; $5: how often it must fail; then more variables.
+fail_each() {
+  local library=$1 variable=$2 after=$3 status=$4 text=$5 fewest=$6 number got
+  shift 6
+  for ((number = 1; ; number++)); do
+    run_with LD_PRELOAD="$work/$library.so" "$variable=$number$after" "$@"
+    got=$?
+    [ -e "$work/mark" ] || break
+    [ "$got" -eq "$status" ] || fault "$program: $variable=$number$after: status $got, wanted $status"
+    [ "$(cat "$work/err")" = "$program: $text" ] || fault "$program: $variable=$number$after: other text on standard error"
+    head -c "$(stat -c %s "$work/out")" "$work/right" | cmp -s - "$work/out" || fault "$program: $variable=$number$after: other text on standard output"
+  done
+  [ "$got" -eq 0 ] && cmp -s "$work/right" "$work/out" || fault "$program: nothing fails, and the answer is another one"
+  [ "$number" -gt "$fewest" ] || fault "$program: $variable: only $((number - 1)) failed"
+  echo "$program: $variable: $((number - 1)) refused in turn"
+}
+
+fail_all() {
+  "$crates/$program/out/$program" "${words[@]}" <"$work/in" >"$work/right" 2>"$work/err" || fault "$program: status $?"
+  local after with
+  for after in '' '+'; do
+    fail_each refuse REFUSED_REQUEST "$after" 4 'no memory' 20
+  done
+  # EIO and EINTR
+  for with in 5 4; do
+    fail_each streams FAILED_READ '' 3 'read failed' $(($(stat -c %s "$work/in") / most)) FAILED_WITH=$with
+    fail_each streams FAILED_WRITE '' 3 'write failed' $(($(stat -c %s "$work/right") / most)) FAILED_WITH=$with
+  done
+}
+
+program=osdp_panel_lines
+words=(check crc capacity 2)
+{
+  printf 'add 5\nadd 6\nadd 5\nbegin 1\nbegin 2\nsubmit 1 OUT 0:2:0\nsubmit 1 TEXT 0 1 0 1 1 48\nsubmit 1 ID 0\nwithdraw 1\n'
+  printf 'at 400\ntick\nbytes 53\nat 700\ntick\nat 900\ntick\nat 1100\ntick\nretarget 1 9\nno call\n'
+} >"$work/in"
+fail_all
+
+program=osdp_reader_lines
+words=(address 5 vendor 53494D cap 1:1:8 room 2)
+{
+  printf 'inputs 00\noutputs 0000\nreaders 00\nlocal 0 0\nbytes 530508000061003F\nbytes 5305\nat 40\ntick\n'
+  printf 'event KEYPAD 0 31\nevent RAW 0 0 26 12345640\nevent KEYPAD 0 32\nbusy on\nbusy off\nsilence\nno call\n'
+  printf 'bytes 53050B0001680002000032\nbytes 53050700026039\n'
+} >"$work/in"
+fail_all
+
+exit "$failed"
