@@ -1,4 +1,4 @@
--- What is owned behind a pointer without a type.
+-- What is owned at a pointer without a type.
 use base.Fml.{Fml, ftrue}
 use denote.RattleType.{RattleType}
 use denote.RawPtr.{Ptr}

@@ -1,4 +1,4 @@
-//! Handles of plain words, which C owns: a machine on the heap behind a pointer without a type.
+//! Handles of plain words, which C owns: a machine on the heap at a pointer without a type.
 //!
 //! A handle of all zeros is none. `take` moves the machine out of a handle, and `put` moves one in.
 #![tactic(auto)]

@@ -47,7 +47,10 @@ impl PanelSlot {
         ensures { self.machine ≡ Some result.value }
     {
         let PanelSlot { at } = self;
-        Loose { at: at as *mut Bus, alloc }
+        Loose {
+            at: at as *mut Bus,
+            alloc,
+        }
     }
 }
 

@@ -47,7 +47,10 @@ impl ReaderSlot {
         ensures { self.machine ≡ Some result.value }
     {
         let ReaderSlot { at } = self;
-        Loose { at: at as *mut ReaderMachine, alloc }
+        Loose {
+            at: at as *mut ReaderMachine,
+            alloc,
+        }
     }
 }
 

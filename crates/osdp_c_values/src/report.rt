@@ -38,13 +38,7 @@ fn cause_number(cause: LostCause) -> u32
 
 impl ReportStruct {
     /// Tells this of a device.
-    fn tell(
-        &mut self,
-        kind: u32,
-        detail: u32,
-        command: Option<&Command>,
-        reply: Option<&Reply>,
-    )
+    fn tell(&mut self, kind: u32, detail: u32, command: Option<&Command>, reply: Option<&Reply>)
         ensures { self.new ≡ tells kind detail (option_copied command.entry) (option_copied reply.entry) self.old }
     {
         self.kind = kind;

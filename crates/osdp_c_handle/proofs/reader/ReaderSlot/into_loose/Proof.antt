@@ -53,7 +53,7 @@ into_loose_spec 𝓤 𝓛 𝓜 𝓡 wired =
     move ! (1 ∷ 0 ∷ []) $ rewrite ! 0 (λ (us : List Val). ‵ (Z.own_val a us)) h.1 refl $ move ! (1 ∷ 0 ∷ []) $
     let word : Val = vstruct (vcons (vptr b o) vnil) in
     let words_are : vs ≡ word ∷ [] = subst (λ (p : Ptr). vs ≡ vstruct (of_list (ptr_val p ∷ [])) ∷ []) at_is
-        (subst (λ (ps : List Val). vs ≡ vstruct (of_list (ps ++ [])) ∷ []) pointer_is struct_is) in
+    (subst (λ (ps : List Val). vs ≡ vstruct (of_list (ps ++ [])) ∷ []) pointer_is struct_is) in
     let made : Val = two_words (vptr b o) h.0 in
     suffices ! (Run (word ∷ h.0 ∷ [])) (subst (λ (us : List Val). ent 𝓤 (Run (word ∷ h.0 ∷ [])) (Run us)) (sym (λ i. words_are i ++ (h.1 i ++ []))) (id⊢ 𝓤 (Run (word ∷ h.0 ∷ [])))) $
     enter ! 𝓣.C 𝓣.Λ code.function (word ∷ h.0 ∷ []) Post $ alloc_all ! (λ l. pass_all ! refl ((tt, (tt, tt)), (h.2, tt)) $
