@@ -11,7 +11,7 @@ use contract.Running.{tables}
 use denote.RattleType.{Valss, owns}
 use denote.Builtin.{RawPtr}
 use denote.Signature.{types_at}
-use denote.RawPtr.{Ptr, null_ptr, ptr_val}
+use denote.RawPtr.{null_ptr, ptr_val}
 use denote.Steps.{nothing}
 use denote.Struct.Struct.{within}
 use denote.Struct.Owning.{shape}

@@ -1,5 +1,5 @@
 -- `into_loose` gives the pointer of a reader that is there, with the allocator: each of its handles stands for the one heap.
-use Rattle.std.proofs.Common.{◌≡◌, List, [], ◌∷◌, ◌++◌, refl, sym, ap, ◌∙◌, subst}
+use Rattle.std.proofs.Common.{◌≡◌, List, [], ◌∷◌, ◌++◌, refl, sym, subst}
 use mir.Val.{Val, vptr, vstruct, vcons, vnil, of_list}
 use base.Logic.{SProp, ent, emp, id⊢}
 use prog.Wp.{WpFn}
