@@ -24,8 +24,8 @@
  * What the caller owes, which no proof checks:
  *
  * - A handle is all zeros, or what the calls on it left there. It isn't copied and used twice, nor changed otherwise.
- * - One call at a time for each handle, and none from a signal handler. Different handles may be used at the same time where the
- *   heap may be. A handle goes to another thread only in an order that both see, as by a lock.
+ * - A handle is used on the thread that made it alone, one call at a time, and in no signal handler. Threads may have a handle each
+ *   where their heap may be shared.
  * - Each pointer is good and aligned: to as much as the call reads or writes, and to memory that is initialised where it is read; also for no
  *   bytes it is not null. What one call writes overlaps nothing else that the same call gets, the handle included.
  * - `rattle_alloc` and `rattle_dealloc` (below) are a heap, and `memcpy`, `memmove` and `memset` are those of C.
