@@ -1,8 +1,6 @@
 -- Texts of messages, written to a room.
 use Rattle.std.specs.Prelude.{◌≡◌, ◌≤◌, ◌<◌, ◌⊎◌, ℕ, List, length, Result, Ok, Err}
-use Rattle.osdp_msg.specs.declared.command.Command.{Command}
 use Rattle.osdp_msg.specs.declared.fault.MsgFault.{MsgFault}
-use Rattle.osdp_msg.specs.declared.reply.Reply.{Reply}
 use Rattle.osdp_msg.specs.CommandTable.{command_of}
 use Rattle.osdp_msg.specs.CommandText.{command_text}
 use Rattle.osdp_msg.specs.ReplyTable.{reply_of}
