@@ -1,0 +1,151 @@
+-- The calls of a panel.
+use Rattle.std.specs.Prelude.{◌≡◌, ℕ, List, [], Option, None, Some, Result, Ok, Err}
+use Rattle.osdp_frame.specs.Packet.{Packet}
+use Rattle.osdp_frame.specs.Spelling.{Spells}
+use Rattle.osdp_msg.specs.declared.command.Command.{Command}
+use Rattle.osdp_msg.specs.declared.fault.MsgFault.{MsgFault}
+use Rattle.osdp_msg.specs.CommandTable.{command_of}
+use Rattle.osdp_bus.specs.declared.config.BusConfig.{BusConfig}
+use Rattle.osdp_bus.specs.declared.fault.BusFault.{BusFault}
+use Rattle.osdp_bus.specs.declared.fault.BusFault.TheVariants.{OutOfRange}
+use Rattle.osdp_bus.specs.Buses.{BusState}
+use Rattle.osdp_bus.specs.Deadlines.{IsDeadline}
+use Rattle.osdp_bus.specs.Hearing.{after_bytes, after_silence}
+use Rattle.osdp_bus.specs.Machine.{AddEnds, NewEnds, after_begin_at, after_next_report, after_retarget_at, after_submit_at, after_withdraw_at, begin_refusal_at, changed_unless, retarget_refusal_at, submit_refusal_at, withdrawal_at}
+use Rattle.osdp_bus.specs.Ticking.{bus_ticks}
+use Rattle.osdp_c_values.specs.declared.arrays.BurstStruct.{BurstStruct}
+use Rattle.osdp_c_values.specs.declared.message.MessageStruct.{MessageStruct}
+use Rattle.osdp_c_values.specs.declared.moment.MomentStruct.{MomentStruct}
+use Rattle.osdp_c_values.specs.declared.report.ReportStruct.{ReportStruct}
+use Rattle.osdp_c_values.specs.declared.settings.PanelSettings.{PanelSettings}
+use Rattle.osdp_c_values.specs.declared.status.Status.{Status}
+use Rattle.osdp_c_values.specs.declared.status.Status.TheVariants as status
+use Rattle.osdp_c_values.specs.Moments.{moment_struct}
+use Rattle.osdp_c_values.specs.Reports.{report_struct}
+use Rattle.osdp_c_values.specs.Settings.{bus_config_of}
+use Rattle.osdp_c_values.specs.Statuses.{number}
+use Rattle.osdp_c_values.specs.Structs.{burst_of, command_struct}
+use Rattle.osdp_c.specs.Calls.{Done}
+
+-- the bus is another, and nothing was refused
+abbrev pub does : BusState → Done BusState
+does b = record { status = status.Done; machine = b }
+
+abbrev pub status_of : Option BusFault → Status
+status_of None = status.Done
+status_of (Some fault) = status.Panel fault
+
+-- the same of a call that has nothing to give
+abbrev pub done_status : Result (Unit {0}) BusFault → Status
+done_status (Ok nothing) = status.Done
+done_status (Err fault) = status.Panel fault
+
+-- the bus is another, or else the call is refused and changes nothing
+abbrev pub unless_refused : Option BusFault → BusState → BusState → Done BusState
+unless_refused refusal b after = record { status = status_of refusal; machine = changed_unless refusal b after }
+
+-- how a new bus ends, and what the handle holds then
+abbrev pub made_status : Result BusState BusFault → Status
+made_status (Ok b) = status.Done
+made_status (Err fault) = status.Panel fault
+
+abbrev pub made_in : Result BusState BusFault → Option BusState
+made_in (Ok b) = Some b
+made_in (Err fault) = None
+
+-- a new bus, by settings that may be none
+abbrev pub MadeAs : Option BusConfig → Result BusState BusFault → Type 0
+MadeAs None r = r ≡ Err OutOfRange
+MadeAs (Some config) r = NewEnds config r
+
+-- the same in a handle
+abbrev pub MadeBy : Option BusConfig → ℕ → Option BusState → Type 0
+MadeBy config answer after =
+    (r : Result BusState BusFault) × MadeAs config r × (answer ≡ number (made_status r)) × (after ≡ made_in r)
+
+-- a handle in use keeps what it holds
+abbrev pub NewPanelEnds : PanelSettings → Option BusState → ℕ → Option BusState → Type 0
+NewPanelEnds settings (Some b) answer after = (answer ≡ number status.InUse) × (after ≡ Some b)
+NewPanelEnds settings None answer after = MadeBy (bus_config_of settings) answer after
+
+abbrev pub added_status : Result ℕ BusFault → Status
+added_status (Ok entry) = status.Done
+added_status (Err fault) = status.Panel fault
+
+-- the number of a new device is written
+abbrev pub added_entry : Result ℕ BusFault → ℕ → ℕ
+added_entry (Ok entry) out = entry
+added_entry (Err fault) out = out
+
+abbrev pub AddsTo : ℕ → Option BusState → ℕ → Option BusState → ℕ → ℕ → Type 0
+AddsTo address None answer after out out' = (answer ≡ number status.NoMachine) × (after ≡ None) × (out' ≡ out)
+AddsTo address (Some b) answer after out out' =
+    (r : Result ℕ BusFault) × (b' : BusState) × AddEnds address b b' r
+    × (answer ≡ number (added_status r)) × (after ≡ Some b') × (out' ≡ added_entry r out)
+
+abbrev pub begins : ℕ → ℕ → BusState → Done BusState
+begins entry now b = unless_refused (begin_refusal_at entry b) b (after_begin_at entry now b)
+
+abbrev pub submits : ℕ → Command → BusState → Done BusState
+submits entry command b = unless_refused (submit_refusal_at entry command b) b (after_submit_at entry command b)
+
+-- a command by its code and data, which may be none
+abbrev pub submits_read : ℕ → Result Command MsgFault → BusState → Done BusState
+submits_read entry (Ok command) b = submits entry command b
+submits_read entry (Err fault) b = record { status = status.Message fault; machine = b }
+
+abbrev pub submits_data : ℕ → ℕ → List ℕ → BusState → Done BusState
+submits_data entry code body b = submits_read entry (command_of code body) b
+
+-- a command by its text, which may be that of none
+abbrev pub submits_text : ℕ → Option Command → BusState → Done BusState
+submits_text entry None b = record { status = status.BadText; machine = b }
+submits_text entry (Some command) b = submits entry command b
+
+abbrev pub withdrawn_status : Result (Option Command) BusFault → Status
+withdrawn_status (Ok command) = status.Done
+withdrawn_status (Err fault) = status.Panel fault
+
+-- the command that was taken back, if one was, is written
+abbrev pub withdrawn_struct : Result (Option Command) BusFault → MessageStruct → MessageStruct
+withdrawn_struct (Ok command) out = command_struct command out
+withdrawn_struct (Err fault) out = out
+
+abbrev pub withdraws : ℕ → BusState → Done BusState
+withdraws entry b = record { status = withdrawn_status (withdrawal_at entry b); machine = after_withdraw_at entry b }
+
+abbrev pub writes_withdrawn : ℕ → BusState → MessageStruct → MessageStruct
+writes_withdrawn entry b out = withdrawn_struct (withdrawal_at entry b) out
+
+abbrev pub retargets : ℕ → ℕ → BusState → Done BusState
+retargets entry address b = unless_refused (retarget_refusal_at entry address b) b (after_retarget_at entry address b)
+
+abbrev pub hears : List ℕ → ℕ → BusState → Done BusState
+hears bytes now b = does (after_bytes bytes now b)
+
+abbrev pub falls_silent : ℕ → BusState → Done BusState
+falls_silent now b = does (after_silence now b)
+
+abbrev pub ticks : ℕ → BusState → Done BusState
+ticks now b = does (bus_ticks now b).bus
+
+abbrev pub reports : BusState → Done BusState
+reports b = does (after_next_report b)
+
+-- the moment of the next tick is written
+abbrev pub IsDueIn : Option BusState → MomentStruct → MomentStruct → Type 0
+IsDueIn None out out' = out' ≡ out
+IsDueIn (Some b) out out' = (due : Option ℕ) × IsDeadline b due × (out' ≡ moment_struct due)
+
+-- the report that waits is written
+abbrev pub writes_report : BusState → ReportStruct → ReportStruct
+writes_report b out = report_struct b.devices.report out
+
+-- the burst that goes out is written
+abbrev pub IsSentIn : Option Packet → BurstStruct → BurstStruct → Type 0
+IsSentIn None out out' = out' ≡ burst_of [] out
+IsSentIn (Some p) out out' = (bytes : List ℕ) × Spells p bytes × (out' ≡ burst_of bytes out)
+
+abbrev pub IsBurstIn : ℕ → Option BusState → BurstStruct → BurstStruct → Type 0
+IsBurstIn now None out out' = out' ≡ out
+IsBurstIn now (Some b) out out' = IsSentIn (bus_ticks now b).sent out out'

@@ -1,0 +1,173 @@
+-- The calls of a reader.
+use Rattle.std.specs.Prelude.{◌≡◌, ℕ, ◌≤◌, not, ◌==◌, nat_le, Bool, List, length, if◌then◌else◌, Option, None, Some, Result, Ok, Err}
+use Rattle.arrayvec.specs.ArrayVec.{ArrayVec}
+use Rattle.osdp_device.specs.Receiving.{IsGap, Received, after_silence, after_take, after_tick, count_taken, new_line}
+use Rattle.osdp_device.specs.Status.{new_status, status_after, status_answer}
+use Rattle.osdp_device.specs.Telling.{Told, next_told}
+use Rattle.osdp_device.specs.declared.status.DeviceStatus.{DeviceStatus}
+use Rattle.osdp_msg.specs.declared.event.Event.{Event}
+use Rattle.osdp_msg.specs.declared.fault.MsgFault.{MsgFault}
+use Rattle.osdp_msg.specs.declared.fault.MsgFault.TheVariants.{Length}
+use Rattle.osdp_msg.specs.declared.reply.Reply.{Reply}
+use Rattle.osdp_msg.specs.declared.reply.Reply.TheVariants as reply
+use Rattle.osdp_msg.specs.declared.reply_fields.PdCap.{PdCap}
+use Rattle.osdp_msg.specs.Events.{event_reply}
+use Rattle.osdp_msg.specs.ReplyTable.{reply_of}
+use Rattle.osdp_reader.specs.declared.fault.ReaderFault.{ReaderFault}
+use Rattle.osdp_reader.specs.declared.fault.ReaderFault.TheVariants.{NoMemory, OutOfRange}
+use Rattle.osdp_reader.specs.State.{ReaderState, after_set_busy, after_set_handler, after_submit, new_reader}
+use Rattle.osdp_c_handle.specs.declared.machine.ReaderMachine.{ReaderMachine}
+use Rattle.osdp_c_values.specs.declared.answer.AnswerStruct.{AnswerStruct}
+use Rattle.osdp_c_values.specs.declared.settings.ReaderSettings.{ReaderSettings}
+use Rattle.osdp_c_values.specs.declared.status.Status.{Status}
+use Rattle.osdp_c_values.specs.declared.status.Status.TheVariants as status
+use Rattle.osdp_c_values.specs.Answers.{answer_struct}
+use Rattle.osdp_c_values.specs.Settings.{id_of}
+use Rattle.osdp_c_values.specs.Statuses.{number}
+use Rattle.osdp_c.specs.Calls.{Done}
+
+-- what a reader answers to CAP, by the data of that reply
+abbrev pub caps_in : Result Reply MsgFault → Result PdCap MsgFault
+caps_in (Ok (reply.PdCap caps)) = Ok caps
+caps_in (Ok other) = Err Length
+caps_in (Err fault) = Err fault
+
+abbrev pub caps_of : List ℕ → Result PdCap MsgFault
+caps_of body = caps_in (reply_of 0x46 body)
+
+-- each setting is in its range
+pub record AreSettings (s : ReaderSettings) : Type 0 where
+  -- a device, and not the configuration address
+  pub address : s.address ≤ 126
+  pub room : 1 ≤ s.capacity
+  pub limit : s.capacity ≤ 1024
+  pub gap : IsGap s.gap
+
+abbrev pub new_machine : ReaderSettings → PdCap → ReaderMachine
+new_machine s caps = record {
+  device = record {
+    reader = new_reader (record { address = s.address; id = id_of s; caps = caps }) new_status s.capacity;
+    line = new_line s.gap;
+  };
+}
+
+-- how a new reader comes about: what it can do is read, then the settings are judged, before memory is asked for
+abbrev pub MadeWith : ReaderSettings → PdCap → Result ReaderMachine ReaderFault → Type 0
+MadeWith s caps (Ok m) = AreSettings s × (m ≡ new_machine s caps)
+MadeWith s caps (Err OutOfRange) = AreSettings s → ⊥
+MadeWith s caps (Err NoMemory) = AreSettings s
+
+abbrev pub MadeAs : ReaderSettings → Result PdCap MsgFault → Result ReaderMachine Status → Type 0
+MadeAs s (Err fault) r = r ≡ Err (status.Message fault)
+MadeAs s (Ok caps) (Ok m) = MadeWith s caps (Ok m)
+MadeAs s (Ok caps) (Err refused) = (fault : ReaderFault) × (refused ≡ status.Reader fault) × MadeWith s caps (Err fault)
+
+abbrev pub made_status : Result ReaderMachine Status → Status
+made_status (Ok m) = status.Done
+made_status (Err refused) = refused
+
+abbrev pub made_in : Result ReaderMachine Status → Option ReaderMachine
+made_in (Ok m) = Some m
+made_in (Err refused) = None
+
+-- a handle in use keeps what it holds
+abbrev pub NewReaderEnds : ReaderSettings → List ℕ → Option ReaderMachine → ℕ → Option ReaderMachine → Type 0
+NewReaderEnds s body (Some m) answer after = (answer ≡ number status.InUse) × (after ≡ Some m)
+NewReaderEnds s body None answer after =
+    (r : Result ReaderMachine Status) × MadeAs s (caps_of body) r × (answer ≡ number (made_status r)) × (after ≡ made_in r)
+
+-- the reader is another; what has come on its line stays
+abbrev pub sets : ReaderState DeviceStatus → ReaderMachine → ReaderMachine
+sets r m = record { device = record { reader = r; line = m.device.line } }
+
+abbrev pub does : ReaderMachine → Done ReaderMachine
+does m = record { status = status.Done; machine = m }
+
+-- the device's program sets what is told
+abbrev pub tells : DeviceStatus → ReaderMachine → ReaderMachine
+tells s m = sets (after_set_handler s m.device.reader) m
+
+-- there is room for as many inputs, outputs and readers as a reply tells
+abbrev pub states_of : List ℕ → Option (ArrayVec ℕ)
+states_of states = if nat_le (length states) 1432 then Some (record { items = states }) else None
+
+abbrev pub tells_list : Option (ArrayVec ℕ) → (ArrayVec ℕ → DeviceStatus) → ReaderMachine → Done ReaderMachine
+tells_list None set m = record { status = status.Message Length; machine = m }
+tells_list (Some list) set m = does (tells (set list) m)
+
+abbrev pub sets_inputs : List ℕ → ReaderMachine → Done ReaderMachine
+sets_inputs states m = tells_list (states_of states) (λ list. record m.device.reader.handler { inputs = list }) m
+
+abbrev pub sets_outputs : List ℕ → ReaderMachine → Done ReaderMachine
+sets_outputs states m = tells_list (states_of states) (λ list. record m.device.reader.handler { outputs = list }) m
+
+abbrev pub sets_readers : List ℕ → ReaderMachine → Done ReaderMachine
+sets_readers states m = tells_list (states_of states) (λ list. record m.device.reader.handler { readers = list }) m
+
+abbrev pub sets_local : ℕ → ℕ → ReaderMachine → Done ReaderMachine
+sets_local tamper power m = does (tells (record m.device.reader.handler { tamper = tamper; power = power }) m)
+
+abbrev pub sets_busy : ℕ → ReaderMachine → Done ReaderMachine
+sets_busy busy m = does (sets (after_set_busy (not (busy == 0)) m.device.reader) m)
+
+-- as many events wait as there is room for
+abbrev pub is_full : ReaderState DeviceStatus → Bool
+is_full r = length r.queue.events == r.queue.capacity
+
+abbrev pub submits : Event → ReaderMachine → Done ReaderMachine
+submits event m =
+    if is_full m.device.reader then record { status = status.EventsFull; machine = m }
+    else does (sets (after_submit event m.device.reader) m)
+
+-- the event that a reply tells, by the reply's code and data, or why there is none
+abbrev pub IsEventRead : Result Reply MsgFault → Result Event Status → Type 0
+IsEventRead (Err fault) r = r ≡ Err (status.Message fault)
+IsEventRead (Ok reply) (Ok event) = reply ≡ event_reply event
+IsEventRead (Ok reply) (Err refused) = (refused ≡ status.NoEvent) × ((event : Event) → reply ≡ event_reply event → ⊥)
+
+abbrev pub submits_read : Result Event Status → ReaderMachine → Done ReaderMachine
+submits_read (Ok event) m = submits event m
+submits_read (Err refused) m = record { status = refused; machine = m }
+
+-- the event whose text came, if it was that of one
+abbrev pub submits_text : Option Event → ReaderMachine → Done ReaderMachine
+submits_text None m = record { status = status.BadText; machine = m }
+submits_text (Some event) m = submits event m
+
+-- how many events wait is written
+abbrev pub writes_waiting : ReaderMachine → ℕ → ℕ
+writes_waiting m out = length m.device.reader.queue.events
+
+-- the packets that are held on a line are handed to the reader, up to and including the first that it answers
+abbrev pub next_of : ReaderMachine → Received → Told DeviceStatus
+next_of m l = next_told status_answer status_after m.device.reader l.held
+
+abbrev pub reads_next : ReaderMachine → Received → Done ReaderMachine
+reads_next m l = does (record {
+  device = record { reader = (next_of m l).reader; line = record l { held = (next_of m l).held } };
+})
+
+abbrev pub writes_next : ReaderMachine → Received → AnswerStruct → AnswerStruct
+writes_next m l out = answer_struct (next_of m l).said out
+
+-- once bytes have come up to a moment, once none have, and once the line was seen silent
+abbrev pub steps : List ℕ → ℕ → ReaderMachine → Done ReaderMachine
+steps bytes now m = reads_next m (after_take bytes now m.device.line)
+
+abbrev pub writes_step : List ℕ → ℕ → ReaderMachine → AnswerStruct → AnswerStruct
+writes_step bytes now m out = writes_next m (after_take bytes now m.device.line) out
+
+abbrev pub writes_taken : List ℕ → ℕ → ReaderMachine → ℕ → ℕ
+writes_taken bytes now m out = count_taken bytes now m.device.line
+
+abbrev pub ticks : ℕ → ReaderMachine → Done ReaderMachine
+ticks now m = reads_next m (after_tick now m.device.line)
+
+abbrev pub writes_tick : ℕ → ReaderMachine → AnswerStruct → AnswerStruct
+writes_tick now m out = writes_next m (after_tick now m.device.line) out
+
+abbrev pub falls_silent : ℕ → ReaderMachine → Done ReaderMachine
+falls_silent now m = reads_next m (after_silence now m.device.line)
+
+abbrev pub writes_silence : ℕ → ReaderMachine → AnswerStruct → AnswerStruct
+writes_silence now m out = writes_next m (after_silence now m.device.line) out

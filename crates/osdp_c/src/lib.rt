@@ -1,0 +1,12 @@
+//! The machines for C: a panel and a reader by handles, statuses and plain structs.
+//!
+//! `include/osdp.h` declares what is exported here. Each call moves the machine out of its handle, calls it, and moves it back. What
+//! a call does is the definitions in `specs/`, over those of the machines.
+#![tactic(auto)]
+
+mod panel;
+mod panel_calls;
+mod read;
+mod reader;
+mod reader_calls;
+mod texts;

@@ -1,0 +1,247 @@
+//! The calls of a reader, for C.
+
+ghost use Rattle.std.specs.Prelude.{◌≡◌, Option, Result};
+ghost use Rattle.osdp_msg.specs.declared.event.Event.{Event as Happened};
+ghost use Rattle.osdp_msg.specs.ReplyTable.{reply_of};
+ghost use Rattle.osdp_c_values.specs.declared.status.Status.{Status as Answered};
+ghost use Rattle.osdp_c.specs.Calls.{IsDone, calls, frees, writes};
+ghost use Rattle.osdp_c.specs.CommandTexts.{IsReadEvent};
+ghost use Rattle.osdp_c.specs.Readers.{IsEventRead, NewReaderEnds, does, falls_silent, sets_busy, sets_inputs, sets_local, sets_outputs, sets_readers, steps, submits_read, submits_text, ticks, writes_silence, writes_step, writes_taken, writes_tick, writes_waiting};
+
+use crate::read::read_event;
+use crate::reader_calls;
+use osdp_c_handle::ReaderHandle;
+use osdp_c_values::{AnswerStruct, ReaderSettings, Status};
+use std::alloc::Global;
+
+/// A reader to which nothing has come.
+#[unsafe(no_mangle)]
+pub extern "C" fn osdp_reader_new(
+    alloc: Global,
+    reader: &mut ReaderHandle,
+    settings: &ReaderSettings,
+    capabilities: &[u8],
+) -> u32
+    ensures { NewReaderEnds settings.now capabilities.now reader.old.slot.machine result reader.new.slot.machine }
+{
+    if reader.is_live() {
+        return Status::InUse.number();
+    }
+    match reader_calls::new_box(alloc, settings, capabilities) {
+        Ok(machine) => {
+            reader.put(machine);
+            Status::Done.number()
+        }
+        Err(refused) => refused.number(),
+    }
+}
+
+/// Frees a reader and all that belongs to it.
+#[unsafe(no_mangle)]
+pub extern "C" fn osdp_reader_free(alloc: Global, reader: &mut ReaderHandle) -> u32
+    ensures { IsDone (frees reader.old.slot.machine) result reader.new.slot.machine }
+{
+    match reader.take(alloc) {
+        Some(_) => Status::Done.number(),
+        None => Status::NoMachine.number(),
+    }
+}
+
+/// Sets the state of each input.
+#[unsafe(no_mangle)]
+pub extern "C" fn osdp_reader_set_inputs(
+    alloc: Global,
+    reader: &mut ReaderHandle,
+    states: &[u8],
+) -> u32
+    ensures { IsDone (calls (sets_inputs states.now) reader.old.slot.machine) result reader.new.slot.machine }
+{
+    let Some(mut machine) = reader.take(alloc) else {
+        return Status::NoMachine.number();
+    };
+    let status = reader_calls::set_inputs(&mut machine, states);
+    reader.put(machine);
+    status.number()
+}
+
+/// Sets the state of each output.
+#[unsafe(no_mangle)]
+pub extern "C" fn osdp_reader_set_outputs(
+    alloc: Global,
+    reader: &mut ReaderHandle,
+    states: &[u8],
+) -> u32
+    ensures { IsDone (calls (sets_outputs states.now) reader.old.slot.machine) result reader.new.slot.machine }
+{
+    let Some(mut machine) = reader.take(alloc) else {
+        return Status::NoMachine.number();
+    };
+    let status = reader_calls::set_outputs(&mut machine, states);
+    reader.put(machine);
+    status.number()
+}
+
+/// Sets the state of each reader.
+#[unsafe(no_mangle)]
+pub extern "C" fn osdp_reader_set_readers(
+    alloc: Global,
+    reader: &mut ReaderHandle,
+    states: &[u8],
+) -> u32
+    ensures { IsDone (calls (sets_readers states.now) reader.old.slot.machine) result reader.new.slot.machine }
+{
+    let Some(mut machine) = reader.take(alloc) else {
+        return Status::NoMachine.number();
+    };
+    let status = reader_calls::set_readers(&mut machine, states);
+    reader.put(machine);
+    status.number()
+}
+
+/// Sets whether the device is tampered with, and whether its power fails.
+#[unsafe(no_mangle)]
+pub extern "C" fn osdp_reader_set_local(
+    alloc: Global,
+    reader: &mut ReaderHandle,
+    tamper: u8,
+    power: u8,
+) -> u32
+    ensures { IsDone (calls (sets_local tamper power) reader.old.slot.machine) result reader.new.slot.machine }
+{
+    let Some(mut machine) = reader.take(alloc) else {
+        return Status::NoMachine.number();
+    };
+    reader_calls::set_local(&mut machine, tamper, power);
+    reader.put(machine);
+    Status::Done.number()
+}
+
+/// Sets whether the reader is busy.
+#[unsafe(no_mangle)]
+pub extern "C" fn osdp_reader_set_busy(alloc: Global, reader: &mut ReaderHandle, busy: u32) -> u32
+    ensures { IsDone (calls (sets_busy busy) reader.old.slot.machine) result reader.new.slot.machine }
+{
+    let Some(mut machine) = reader.take(alloc) else {
+        return Status::NoMachine.number();
+    };
+    machine.device.reader.set_busy(busy != 0);
+    reader.put(machine);
+    Status::Done.number()
+}
+
+/// Puts an event after those that wait, by the code and data of the reply that tells it.
+#[unsafe(no_mangle)]
+pub extern "C" fn osdp_reader_event(
+    alloc: Global,
+    reader: &mut ReaderHandle,
+    code: u8,
+    body: &[u8],
+) -> u32
+    ensures { (read : Result Happened Answered) × IsEventRead (reply_of code body.now) read
+        × IsDone (calls (submits_read read) reader.old.slot.machine) result reader.new.slot.machine }
+{
+    let read = reader_calls::event_at(code, body);
+    let Some(mut machine) = reader.take(alloc) else {
+        return Status::NoMachine.number();
+    };
+    let status = reader_calls::submit_data(&mut machine, read);
+    reader.put(machine);
+    status.number()
+}
+
+/// Puts an event after those that wait, by its text.
+#[unsafe(no_mangle)]
+pub extern "C" fn osdp_reader_event_text(
+    alloc: Global,
+    reader: &mut ReaderHandle,
+    text: &[u8],
+) -> u32
+    ensures { (read : Option Happened) × IsReadEvent text.now read
+        × IsDone (calls (submits_text read) reader.old.slot.machine) result reader.new.slot.machine }
+{
+    let read = read_event(text);
+    let Some(mut machine) = reader.take(alloc) else {
+        return Status::NoMachine.number();
+    };
+    let status = reader_calls::submit_read(&mut machine, read);
+    reader.put(machine);
+    status.number()
+}
+
+/// Writes how many events wait, the one that is offered included.
+#[unsafe(no_mangle)]
+pub extern "C" fn osdp_reader_waiting(
+    alloc: Global,
+    reader: &mut ReaderHandle,
+    count: &mut usize,
+) -> u32
+    ensures reader { IsDone (calls does reader.old.slot.machine) result reader.new.slot.machine }
+    ensures written { count.new ≡ writes writes_waiting reader.old.slot.machine count.old }
+{
+    let Some(machine) = reader.take(alloc) else {
+        return Status::NoMachine.number();
+    };
+    *count = machine.device.reader.waiting();
+    reader.put(machine);
+    Status::Done.number()
+}
+
+/// Bytes have come up to a moment: writes how many were taken, and what the reader says.
+#[unsafe(no_mangle)]
+pub extern "C" fn osdp_reader_step(
+    alloc: Global,
+    reader: &mut ReaderHandle,
+    bytes: &[u8],
+    now: u64,
+    taken: &mut usize,
+    answer: &mut AnswerStruct,
+) -> u32
+    ensures reader { IsDone (calls (steps bytes.now now) reader.old.slot.machine) result reader.new.slot.machine }
+    ensures taken { taken.new ≡ writes (writes_taken bytes.now now) reader.old.slot.machine taken.old }
+    ensures written { answer.new ≡ writes (writes_step bytes.now now) reader.old.slot.machine answer.old }
+{
+    let Some(mut machine) = reader.take(alloc) else {
+        return Status::NoMachine.number();
+    };
+    reader_calls::step(&mut machine, bytes, now, taken, answer);
+    reader.put(machine);
+    Status::Done.number()
+}
+
+/// No bytes have come up to a moment: writes what the reader says.
+#[unsafe(no_mangle)]
+pub extern "C" fn osdp_reader_tick(
+    alloc: Global,
+    reader: &mut ReaderHandle,
+    now: u64,
+    answer: &mut AnswerStruct,
+) -> u32
+    ensures reader { IsDone (calls (ticks now) reader.old.slot.machine) result reader.new.slot.machine }
+    ensures written { answer.new ≡ writes (writes_tick now) reader.old.slot.machine answer.old }
+{
+    let Some(mut machine) = reader.take(alloc) else {
+        return Status::NoMachine.number();
+    };
+    reader_calls::tick(&mut machine, now, answer);
+    reader.put(machine);
+    Status::Done.number()
+}
+
+/// The line was seen silent: writes what the reader says.
+#[unsafe(no_mangle)]
+pub extern "C" fn osdp_reader_silence(
+    alloc: Global,
+    reader: &mut ReaderHandle,
+    now: u64,
+    answer: &mut AnswerStruct,
+) -> u32
+    ensures reader { IsDone (calls (falls_silent now) reader.old.slot.machine) result reader.new.slot.machine }
+    ensures written { answer.new ≡ writes (writes_silence now) reader.old.slot.machine answer.old }
+{
+    let Some(mut machine) = reader.take(alloc) else {
+        return Status::NoMachine.number();
+    };
+    reader_calls::silence(&mut machine, now, answer);
+    reader.put(machine);
+    Status::Done.number()
+}

@@ -1,0 +1,231 @@
+//! The calls of a reader, on its device.
+
+ghost use Rattle.std.specs.Prelude.{◌≡◌, ◌↔◌, IsTrue};
+ghost use Rattle.std.specs.Result.{result_map_both};
+ghost use Rattle.osdp_msg.specs.ReplyTable.{reply_of};
+ghost use Rattle.osdp_c.specs.Readers.{AreSettings, IsEventRead, MadeAs, MadeWith, caps_of, falls_silent, reads_next, sets_inputs, sets_local, sets_outputs, sets_readers, states_of, steps, submits, submits_read, submits_text, ticks, writes_next, writes_silence, writes_step, writes_taken, writes_tick};
+
+use arrayvec::ArrayVec;
+use osdp_c_handle::ReaderMachine;
+use osdp_c_values::{AnswerStruct, ReaderSettings, Status};
+use osdp_device::{Device, DeviceStatus};
+use osdp_frame::Address;
+use osdp_msg::{Event, MsgFault, PdCap, Reply};
+use osdp_reader::{Reader, ReaderConfig, ReaderFault};
+use std::alloc::Global;
+
+/// What a reader answers to CAP, by the data of that reply.
+fn read_caps(body: &[u8]) -> Result<PdCap, MsgFault>
+    ensures { result ≡ caps_of body.now }
+{
+    match Reply::read(0x46, body) {
+        Ok(Reply::PdCap(caps)) => Ok(caps),
+        Ok(_) => Err(MsgFault::Length),
+        Err(fault) => Err(fault),
+    }
+}
+
+/// Whether each setting is in its range.
+fn are_in_range(settings: &ReaderSettings) -> bool
+    ensures { IsTrue result ↔ AreSettings settings.now }
+{
+    settings.address <= 126
+        && settings.capacity >= 1
+        && settings.capacity <= 1024
+        && settings.gap >= 1
+        && settings.gap <= 3_600_000
+}
+
+/// A reader to which nothing has come.
+fn new_machine(
+    alloc: Global,
+    settings: &ReaderSettings,
+    caps: PdCap,
+) -> Result<ReaderMachine, ReaderFault>
+    ensures { MadeWith settings.now caps result }
+{
+    if !are_in_range(settings) {
+        return Err(ReaderFault::OutOfRange);
+    }
+    let Some(address) = Address::new(settings.address as u8) else {
+        return Err(ReaderFault::OutOfRange);
+    };
+    let config = ReaderConfig {
+        address,
+        id: settings.to_id(),
+        caps,
+    };
+    let capacity = settings.capacity as usize;
+    let reader = Reader::new(alloc, config, DeviceStatus::new(), capacity)?;
+    match Device::new(reader, settings.gap) {
+        Some(device) => Ok(ReaderMachine { device }),
+        None => Err(ReaderFault::OutOfRange),
+    }
+}
+
+/// The same on the heap, with what it can do by the data of the reply to CAP.
+pub(crate) fn new_box(
+    alloc: Global,
+    settings: &ReaderSettings,
+    body: &[u8],
+) -> Result<Box<ReaderMachine>, Status>
+    ensures { MadeAs settings.now (caps_of body.now) (result_map_both (λ b. b.value) (λ refused. refused) result) }
+{
+    let caps = match read_caps(body) {
+        Ok(caps) => caps,
+        Err(fault) => return Err(Status::Message(fault)),
+    };
+    match new_machine(alloc, settings, caps) {
+        Ok(machine) => match Box::new(alloc, machine) {
+            Ok(machine) => Ok(machine),
+            Err(_) => Err(Status::Reader(ReaderFault::NoMemory)),
+        },
+        Err(fault) => Err(Status::Reader(fault)),
+    }
+}
+
+/// A list of a state for each input, output or reader. None where there are more than a reply tells.
+fn read_states(states: &[u8]) -> Option<ArrayVec<u8, 1432>>
+    ensures { result ≡ states_of states.now }
+{
+    let mut list = ArrayVec::new();
+    match list.try_extend_from_slice(states) {
+        Ok(()) => Some(list),
+        Err(_) => None,
+    }
+}
+
+/// Sets the state of each input.
+pub(crate) fn set_inputs(machine: &mut ReaderMachine, states: &[u8]) -> Status
+    ensures status { result ≡ (sets_inputs states.now machine.old).status }
+    ensures machine { machine.new ≡ (sets_inputs states.now machine.old).machine }
+{
+    let Some(list) = read_states(states) else {
+        return Status::Message(MsgFault::Length);
+    };
+    machine.device.reader.handler_mut().inputs = list;
+    Status::Done
+}
+
+/// Sets the state of each output.
+pub(crate) fn set_outputs(machine: &mut ReaderMachine, states: &[u8]) -> Status
+    ensures status { result ≡ (sets_outputs states.now machine.old).status }
+    ensures machine { machine.new ≡ (sets_outputs states.now machine.old).machine }
+{
+    let Some(list) = read_states(states) else {
+        return Status::Message(MsgFault::Length);
+    };
+    machine.device.reader.handler_mut().outputs = list;
+    Status::Done
+}
+
+/// Sets the state of each reader.
+pub(crate) fn set_readers(machine: &mut ReaderMachine, states: &[u8]) -> Status
+    ensures status { result ≡ (sets_readers states.now machine.old).status }
+    ensures machine { machine.new ≡ (sets_readers states.now machine.old).machine }
+{
+    let Some(list) = read_states(states) else {
+        return Status::Message(MsgFault::Length);
+    };
+    machine.device.reader.handler_mut().readers = list;
+    Status::Done
+}
+
+/// Sets the state of the device itself.
+pub(crate) fn set_local(machine: &mut ReaderMachine, tamper: u8, power: u8)
+    ensures { machine.new ≡ (sets_local tamper power machine.old).machine }
+{
+    let status = machine.device.reader.handler_mut();
+    status.tamper = tamper;
+    status.power = power;
+}
+
+/// Puts an event after those that wait.
+fn submit(machine: &mut ReaderMachine, event: Event) -> Status
+    ensures status { result ≡ (submits event machine.old).status }
+    ensures machine { machine.new ≡ (submits event machine.old).machine }
+{
+    match machine.device.reader.submit_event(event) {
+        Ok(()) => Status::Done,
+        Err(_) => Status::EventsFull,
+    }
+}
+
+/// The event that the reply of a code and data tells.
+pub(crate) fn event_at(code: u8, body: &[u8]) -> Result<Event, Status>
+    ensures { IsEventRead (reply_of code body.now) result }
+{
+    let reply = match Reply::read(code, body) {
+        Ok(reply) => reply,
+        Err(fault) => return Err(Status::Message(fault)),
+    };
+    match reply.to_event() {
+        Ok(event) => Ok(event),
+        Err(_) => Err(Status::NoEvent),
+    }
+}
+
+/// Puts the event after those that wait that was read of a reply's code and data.
+pub(crate) fn submit_data(machine: &mut ReaderMachine, read: Result<Event, Status>) -> Status
+    ensures status { result ≡ (submits_read read machine.old).status }
+    ensures machine { machine.new ≡ (submits_read read machine.old).machine }
+{
+    match read {
+        Ok(event) => submit(machine, event),
+        Err(refused) => refused,
+    }
+}
+
+/// The same by what was read of the event's text.
+pub(crate) fn submit_read(machine: &mut ReaderMachine, read: Option<Event>) -> Status
+    ensures status { result ≡ (submits_text read machine.old).status }
+    ensures machine { machine.new ≡ (submits_text read machine.old).machine }
+{
+    match read {
+        Some(event) => submit(machine, event),
+        None => Status::BadText,
+    }
+}
+
+/// Hands the packets that are held to the reader, up to and including the first that it answers, and writes what it says.
+fn answer_next(machine: &mut ReaderMachine, answer: &mut AnswerStruct)
+    ensures machine { machine.new ≡ (reads_next machine.old machine.old.device.line).machine }
+    ensures written { answer.new ≡ writes_next machine.old machine.old.device.line answer.old }
+{
+    let response = machine.device.next();
+    answer.set(response.as_ref());
+}
+
+/// Bytes have come up to a moment: writes how many were taken, and what is said.
+pub(crate) fn step(
+    machine: &mut ReaderMachine,
+    bytes: &[u8],
+    now: u64,
+    taken: &mut usize,
+    answer: &mut AnswerStruct,
+)
+    ensures machine { machine.new ≡ (steps bytes.now now machine.old).machine }
+    ensures taken { taken.new ≡ writes_taken bytes.now now machine.old taken.old }
+    ensures written { answer.new ≡ writes_step bytes.now now machine.old answer.old }
+{
+    *taken = machine.device.take(bytes, now);
+    answer_next(machine, answer);
+}
+
+/// No bytes have come up to a moment: writes what is said.
+pub(crate) fn tick(machine: &mut ReaderMachine, now: u64, answer: &mut AnswerStruct)
+    ensures machine { machine.new ≡ (ticks now machine.old).machine }
+    ensures written { answer.new ≡ writes_tick now machine.old answer.old }
+{
+    machine.device.tick(now);
+    answer_next(machine, answer);
+}
+
+/// The line was seen silent: writes what is said.
+pub(crate) fn silence(machine: &mut ReaderMachine, now: u64, answer: &mut AnswerStruct)
+    ensures machine { machine.new ≡ (falls_silent now machine.old).machine }
+    ensures written { answer.new ≡ writes_silence now machine.old answer.old }
+{
+    machine.device.silence(now);
+    answer_next(machine, answer);
+}

@@ -1,0 +1,56 @@
+-- The settings of machines as structs of plain fields.
+use Rattle.std.specs.Prelude.{ℕ, ◌==◌, ◌&&◌, nat_le, if◌then◌else◌, Option, None, Some}
+use Rattle.osdp_bus.specs.declared.config.BusConfig.{BusConfig}
+use Rattle.osdp_frame.specs.declared.check_kind.CheckKind.{CheckKind}
+use Rattle.osdp_frame.specs.declared.check_kind.CheckKind.TheVariants.{Sum, Crc}
+use Rattle.osdp_msg.specs.declared.reply_fields.PdId.{PdId}
+use Rattle.osdp_c_values.specs.declared.settings.PanelSettings.{PanelSettings}
+use Rattle.osdp_c_values.specs.declared.settings.ReaderSettings.{ReaderSettings}
+
+abbrev pub check_number : CheckKind → ℕ
+check_number Sum = 0
+check_number Crc = 1
+
+abbrev pub check_of : ℕ → CheckKind
+check_of number = if number == 0 then Sum else Crc
+
+-- a bus's settings as a struct
+abbrev pub settings_of : BusConfig → PanelSettings
+settings_of c = record {
+  check = check_number c.check;
+  reply_wait = c.reply_wait;
+  poll_interval = c.poll_interval;
+  sends = c.sends;
+  busy_wait = c.busy_wait;
+  busy_limit = c.busy_limit;
+  quiet_wait = c.quiet_wait;
+  gap = c.gap;
+  capacity = c.capacity;
+}
+
+-- the bus's settings that a struct stands for: there are two checks, and the sends and the BUSYs are bytes
+abbrev pub bus_config_of : PanelSettings → Option BusConfig
+bus_config_of s =
+    if nat_le s.check 1 && (nat_le s.sends 255 && nat_le s.busy_limit 255) then Some (record {
+      check = check_of s.check;
+      reply_wait = s.reply_wait;
+      poll_interval = s.poll_interval;
+      sends = s.sends;
+      busy_wait = s.busy_wait;
+      busy_limit = s.busy_limit;
+      quiet_wait = s.quiet_wait;
+      gap = s.gap;
+      capacity = s.capacity;
+    }) else None
+
+-- what a reader answers to ID
+abbrev pub id_of : ReaderSettings → PdId
+id_of s = record {
+  vendor = s.vendor;
+  model = s.model;
+  version = s.version;
+  serial = s.serial;
+  firmware_major = s.firmware_major;
+  firmware_minor = s.firmware_minor;
+  firmware_build = s.firmware_build;
+}

@@ -1,0 +1,130 @@
+//! What a reader says.
+
+ghost use Rattle.std.specs.Prelude.{◌≡◌};
+ghost use Rattle.std.specs.Option.{option_copied, option_map};
+ghost use Rattle.osdp_device.specs.Saying.{said_in};
+ghost use Rattle.osdp_reader.specs.Responses.{response_bytes};
+ghost use Rattle.osdp_c_values.specs.Answers.{answer_struct, kind_number, moves, orders, says, says_nothing, sends};
+
+use crate::arrays::BurstStruct;
+use crate::message::MessageStruct;
+use osdp_device::{again, taken};
+use osdp_msg::{Command, Communication};
+use osdp_reader::{Kind, Response};
+
+/// What a reader says to a packet, where it says anything.
+#[repr(C)]
+#[derive(Drop)]
+pub struct AnswerStruct {
+    /// The line of the reader's table: 0 nothing is said, 1 secured, 2 zero, 3 repeat, 4 taken, 5 busy, 6 wrong.
+    pub kind: u32,
+    /// What the device is to do with the command: 0 nothing, 1 to do it, 2 it was acted on once more.
+    pub order: u32,
+    /// 1 where a COMSET was accepted, else 0.
+    pub moved: u32,
+    /// The address that it set.
+    pub address: u32,
+    /// The rate that it set.
+    pub baud_rate: u32,
+    /// The command that the device is to do.
+    pub command: MessageStruct,
+    /// What is to be sent.
+    pub burst: BurstStruct,
+}
+
+/// The number of a line of the reader's table.
+fn kind_number(kind: Kind) -> u32
+    ensures { result ≡ kind_number kind }
+{
+    match kind {
+        Kind::Silent => 0,
+        Kind::Secured => 1,
+        Kind::Zero => 2,
+        Kind::Repeat => 3,
+        Kind::Taken => 4,
+        Kind::Busy => 5,
+        Kind::Wrong => 6,
+    }
+}
+
+impl AnswerStruct {
+    /// Writes where the reader is from now on, where it moved.
+    fn set_moved(&mut self, setting: Option<Communication>)
+        ensures { self.new ≡ moves setting self.old }
+    {
+        match setting {
+            Some(setting) => {
+                self.moved = 1;
+                self.address = u32::from(setting.address);
+                self.baud_rate = setting.baud_rate;
+            }
+            None => {
+                self.moved = 0;
+                self.address = 0;
+                self.baud_rate = 0;
+            }
+        }
+    }
+
+    /// Writes a command, and what the device is to do with it.
+    fn set_order(&mut self, response: &Response)
+        ensures { self.new ≡ orders (said_in response.now) self.old }
+    {
+        if let Some(command) = taken(response) {
+            self.order = 1;
+            self.command.set_command(Some(command));
+        } else if let Some(command) = again(response) {
+            self.order = 2;
+            self.command.set_command(Some(command));
+        } else {
+            self.order = 0;
+            self.command.clear();
+        }
+    }
+
+    /// Writes what is sent.
+    fn set_sent(&mut self, response: &Response)
+        ensures { self.new ≡ sends (response_bytes response.now) self.old }
+    {
+        match response {
+            Response::Silent => self.burst.set(&[]),
+            Response::Secured(burst)
+            | Response::Zero(_, burst)
+            | Response::Repeat(burst)
+            | Response::Taken(_, burst)
+            | Response::Busy(burst)
+            | Response::Wrong(burst) => self.burst.set(burst.as_slice()),
+        }
+    }
+
+    /// Writes that nothing is said.
+    fn set_nothing(&mut self)
+        ensures { self.new ≡ says_nothing self.old }
+    {
+        self.kind = 0;
+        self.order = 0;
+        self.set_moved(None);
+        self.command.clear();
+        self.burst.set(&[]);
+    }
+
+    /// Writes what a response says.
+    fn set_response(&mut self, response: &Response)
+        ensures { self.new ≡ says (said_in response.now) self.old }
+    {
+        self.kind = kind_number(response.kind());
+        self.set_order(response);
+        self.set_moved(response.comset());
+        self.set_sent(response);
+    }
+
+    /// Writes what is said, or that nothing is.
+    pub fn set(&mut self, response: Option<&Response>)
+        ensures { self.new ≡ answer_struct (option_map said_in (option_copied response.entry)) self.old }
+    {
+        match response {
+            Some(response) => self.set_response(response),
+            None => self.set_nothing(),
+        }
+    }
+}

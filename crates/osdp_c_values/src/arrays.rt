@@ -1,0 +1,45 @@
+//! Arrays with room for a list of bytes.
+
+ghost use Rattle.std.specs.Prelude.{◌≡◌, ◌≤◌, length};
+ghost use Rattle.osdp_c_values.specs.Structs.{burst_of, filled, sent_items};
+
+use osdp_frame::Burst;
+
+/// Writes bytes to the front of an array; the others stay as they were.
+pub(crate) fn fill(room: &mut [u8], bytes: &[u8])
+    requires { length bytes.now ≤ length room.old }
+    ensures { room.new ≡ filled bytes.now room.old }
+{
+    room[..bytes.len()].copy_from_slice(bytes);
+}
+
+/// Bytes to write to the line.
+#[repr(C)]
+#[derive(Drop)]
+pub struct BurstStruct {
+    /// How many there are.
+    pub length: u32,
+    /// The bytes.
+    pub bytes: [u8; 1440],
+}
+
+impl BurstStruct {
+    /// Writes these bytes.
+    pub fn set(&mut self, bytes: &[u8])
+        requires { length bytes.now ≤ 1440 }
+        ensures { self.new ≡ burst_of bytes.now self.old }
+    {
+        self.length = bytes.len() as u32;
+        fill(&mut self.bytes, bytes);
+    }
+
+    /// Writes the burst that goes out, or that none does.
+    pub fn set_sent(&mut self, burst: Option<Burst>)
+        ensures { self.new ≡ burst_of (sent_items burst) self.old }
+    {
+        match burst {
+            Some(burst) => self.set(burst.as_slice()),
+            None => self.set(&[]),
+        }
+    }
+}

@@ -1,0 +1,73 @@
+//! A command or a reply, as its code and data.
+
+ghost use Rattle.std.specs.Prelude.{◌≡◌, ◌≤◌, ◌<◌, length};
+ghost use Rattle.std.specs.Option.{option_copied};
+ghost use Rattle.osdp_c_values.specs.Structs.{command_struct, message_of, no_message, reply_struct, spelled_message};
+
+use crate::arrays::fill;
+use osdp_msg::{Command, Reply};
+
+/// A command or a reply, where there is one.
+#[repr(C)]
+#[derive(Drop)]
+pub struct MessageStruct {
+    /// How many bytes of data there are.
+    pub length: u16,
+    /// 1 where there is a message, else 0.
+    pub present: u8,
+    /// Its code.
+    pub code: u8,
+    /// Its data.
+    pub body: [u8; 1432],
+}
+
+impl MessageStruct {
+    /// No message.
+    pub fn clear(&mut self)
+        ensures { self.new ≡ no_message self.old }
+    {
+        self.length = 0;
+        self.present = 0;
+        self.code = 0;
+    }
+
+    /// The message of this code and data.
+    pub fn set(&mut self, code: u8, body: &[u8])
+        requires { length body.now ≤ 1432 }
+        ensures { self.new ≡ message_of code body.now self.old }
+    {
+        self.length = body.len() as u16;
+        self.present = 1;
+        self.code = code;
+        fill(&mut self.body, body);
+    }
+
+    /// A code, and the data after it.
+    fn set_spelled(&mut self, spelled: &[u8])
+        requires some { 0 < length spelled.now }
+        requires room { length spelled.now ≤ 1433 }
+        ensures { self.new ≡ spelled_message spelled.now self.old }
+    {
+        self.set(spelled[0], &spelled[1..]);
+    }
+
+    /// This command, where there is one.
+    pub fn set_command(&mut self, command: Option<&Command>)
+        ensures { self.new ≡ command_struct (option_copied command.entry) self.old }
+    {
+        match command {
+            Some(command) => self.set_spelled(command.write().as_slice()),
+            None => self.clear(),
+        }
+    }
+
+    /// This reply, where there is one.
+    pub fn set_reply(&mut self, reply: Option<&Reply>)
+        ensures { self.new ≡ reply_struct (option_copied reply.entry) self.old }
+    {
+        match reply {
+            Some(reply) => self.set_spelled(reply.write().as_slice()),
+            None => self.clear(),
+        }
+    }
+}

@@ -1,0 +1,125 @@
+//! The settings of machines as structs of plain fields.
+
+ghost use Rattle.std.specs.Prelude.{◌≡◌};
+ghost use Rattle.osdp_bus.specs.Settings.{default_config};
+ghost use Rattle.osdp_frame.specs.declared.check_kind.CheckKind.TheVariants.{Crc};
+ghost use Rattle.osdp_c_values.specs.Settings.{bus_config_of, check_of, id_of, settings_of};
+
+use osdp_bus::BusConfig;
+use osdp_frame::CheckKind;
+use osdp_msg::PdId;
+
+/// The settings of a panel. Times are in milliseconds, 1 to 3,600,000.
+#[repr(C)]
+#[derive(Drop)]
+pub struct PanelSettings {
+    /// Which check the frames end with: 0 the checksum, 1 the CRC.
+    pub check: u32,
+    /// How long an answer is waited for.
+    pub reply_wait: u32,
+    /// From an answer to the next POLL.
+    pub poll_interval: u32,
+    /// How often a frame is sent while no answer comes, 1 to 255.
+    pub sends: u32,
+    /// From a BUSY to the next send.
+    pub busy_wait: u32,
+    /// How often a reader may answer BUSY in one exchange, 0 to 255.
+    pub busy_limit: u32,
+    /// How long a device is left quiet before a session opens.
+    pub quiet_wait: u32,
+    /// After how long a silence a run of bytes is over.
+    pub gap: u32,
+    /// How many commands may wait for each device, 1 to 1024.
+    pub capacity: u32,
+}
+
+/// Which check a number stands for.
+fn check_of(number: u32) -> CheckKind
+    ensures { result ≡ check_of number }
+{
+    if number == 0 {
+        CheckKind::Sum
+    } else {
+        CheckKind::Crc
+    }
+}
+
+impl PanelSettings {
+    /// Writes the default settings of a bus: a CRC, and room for 16 commands.
+    pub fn set_defaults(&mut self)
+        ensures { self.new ≡ settings_of (default_config Crc 16) }
+    {
+        self.check = 1;
+        self.reply_wait = 200;
+        self.poll_interval = 50;
+        self.sends = 3;
+        self.busy_wait = 50;
+        self.busy_limit = 20;
+        self.quiet_wait = 400;
+        self.gap = 20;
+        self.capacity = 16;
+    }
+
+    /// The settings of a bus that they stand for. None where the check, the sends or the BUSYs have no such number.
+    pub fn to_config(&self) -> Option<BusConfig>
+        ensures { result ≡ bus_config_of self.now }
+    {
+        if self.check > 1 || self.sends > 255 || self.busy_limit > 255 {
+            return None;
+        }
+        Some(BusConfig {
+            check: check_of(self.check),
+            reply_wait: self.reply_wait,
+            poll_interval: self.poll_interval,
+            sends: self.sends as u8,
+            busy_wait: self.busy_wait,
+            busy_limit: self.busy_limit as u8,
+            quiet_wait: self.quiet_wait,
+            gap: self.gap,
+            capacity: self.capacity as usize,
+        })
+    }
+}
+
+/// What a reader is, but for what it can do.
+#[repr(C)]
+#[derive(Drop)]
+pub struct ReaderSettings {
+    /// The address on the line, 0 to 126.
+    pub address: u32,
+    /// How many events may wait, 1 to 1024.
+    pub capacity: u32,
+    /// After how many milliseconds of silence a run of bytes is over, 1 to 3,600,000.
+    pub gap: u32,
+    /// The serial number.
+    pub serial: u32,
+    /// The maker's code.
+    pub vendor: [u8; 3],
+    /// The maker's number of the model.
+    pub model: u8,
+    /// The maker's number of the model's version.
+    pub version: u8,
+    /// The first number of the firmware's version.
+    pub firmware_major: u8,
+    /// The second number of the firmware's version.
+    pub firmware_minor: u8,
+    /// The third number of the firmware's version.
+    pub firmware_build: u8,
+}
+
+impl ReaderSettings {
+    /// What the reader answers to ID.
+    pub fn to_id(&self) -> PdId
+        ensures { result ≡ id_of self.now }
+    {
+        PdId {
+            vendor: self.vendor,
+            model: self.model,
+            version: self.version,
+            serial: self.serial,
+            firmware_major: self.firmware_major,
+            firmware_minor: self.firmware_minor,
+            firmware_build: self.firmware_build,
+        }
+    }
+}

@@ -1,0 +1,93 @@
+//! What became of a call.
+
+ghost use Rattle.std.specs.Prelude.{◌≡◌};
+ghost use Rattle.osdp_c_values.specs.Statuses.{bus_status, message_status, number, reader_status};
+
+use osdp_bus::BusFault;
+use osdp_msg::MsgFault;
+use osdp_reader::ReaderFault;
+
+/// What became of a call. Its number goes to C.
+#[derive(Clone, Copy, Debug, PartialEq, Eq)]
+pub enum Status {
+    /// The call was done.
+    Done,
+    /// The handle holds no machine.
+    NoMachine,
+    /// `new` on a handle that holds a machine.
+    InUse,
+    /// The text is that of no command, or of no event.
+    BadText,
+    /// The code and data are those of a reply that tells no event.
+    NoEvent,
+    /// The text is longer than the room for it.
+    TooSmall,
+    /// The text has no room in the call's own bytes.
+    NoText,
+    /// The code and data stand for no message.
+    Message(MsgFault),
+    /// A panel's refusal.
+    Panel(BusFault),
+    /// There is no reader.
+    Reader(ReaderFault),
+    /// N2: as many events wait as there is room for.
+    EventsFull,
+}
+
+/// The number of a fault of messages.
+fn message_number(fault: MsgFault) -> u32
+    ensures { result ≡ message_status fault }
+{
+    match fault {
+        MsgFault::UnknownCode => 11,
+        MsgFault::Length => 12,
+        MsgFault::Count => 13,
+    }
+}
+
+/// The number of a panel's refusal.
+fn bus_number(fault: BusFault) -> u32
+    ensures { result ≡ bus_status fault }
+{
+    match fault {
+        BusFault::NoMemory => 21,
+        BusFault::TooMany => 22,
+        BusFault::AddressTaken => 23,
+        BusFault::NoEntry => 24,
+        BusFault::OutOfRange => 25,
+        BusFault::Full => 33,
+        BusFault::PollSubmitted => 34,
+        BusFault::NotClosed => 35,
+    }
+}
+
+/// The number of why there is no reader.
+fn reader_number(fault: ReaderFault) -> u32
+    ensures { result ≡ reader_status fault }
+{
+    match fault {
+        ReaderFault::NoMemory => 41,
+        ReaderFault::OutOfRange => 43,
+    }
+}
+
+impl Status {
+    /// The number that stands for it in C.
+    pub fn number(self) -> u32
+        ensures { result ≡ number self }
+    {
+        match self {
+            Status::Done => 0,
+            Status::NoMachine => 1,
+            Status::InUse => 2,
+            Status::BadText => 3,
+            Status::NoEvent => 4,
+            Status::TooSmall => 5,
+            Status::NoText => 6,
+            Status::Message(fault) => message_number(fault),
+            Status::Panel(fault) => bus_number(fault),
+            Status::Reader(fault) => reader_number(fault),
+            Status::EventsFull => 42,
+        }
+    }
+}
