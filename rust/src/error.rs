@@ -69,9 +69,7 @@ pub(crate) fn check(status: sys::osdp_status) -> Result<(), Error> {
         sys::OSDP_UNKNOWN_CODE => Error::UnknownCode,
         sys::OSDP_BAD_LENGTH => Error::BadLength,
         sys::OSDP_BAD_COUNT => Error::BadCount,
-        sys::OSDP_NO_MEMORY | sys::OSDP_PANEL_NO_MEMORY | sys::OSDP_READER_NO_MEMORY => {
-            Error::NoMemory
-        }
+        sys::OSDP_PANEL_NO_MEMORY | sys::OSDP_READER_NO_MEMORY => Error::NoMemory,
         sys::OSDP_TOO_MANY => Error::TooManyDevices,
         sys::OSDP_ADDRESS_TAKEN => Error::AddressTaken,
         sys::OSDP_NO_ENTRY => Error::NoEntry,

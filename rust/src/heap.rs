@@ -6,7 +6,7 @@ extern crate alloc;
 
 use alloc::alloc::{Layout, alloc, dealloc};
 use core::ffi::c_void;
-use core::ptr::{NonNull, copy_nonoverlapping};
+use core::ptr::NonNull;
 
 /// Room before a block for its size. Each alignment that is asked for divides it.
 const HEAD: usize = 16;
@@ -45,29 +45,6 @@ extern "C" fn rattle_alloc(size: usize, _align: usize) -> Block {
             p: head.add(HEAD).cast(),
         }
     }
-}
-
-/// A block of so many bytes that begins with the kept ones of the old block. Where there is none the old one stays.
-///
-/// # Safety
-///
-/// `old` is a block of these functions, and its first `kept` bytes are set.
-#[unsafe(no_mangle)]
-unsafe extern "C" fn rattle_realloc(
-    old: *mut c_void,
-    kept: usize,
-    size: usize,
-    align: usize,
-) -> Block {
-    let block = rattle_alloc(size, align);
-    if block.ok {
-        // SAFETY: both blocks have so many bytes, and one is new.
-        unsafe {
-            copy_nonoverlapping(old.cast::<u8>(), block.p.cast::<u8>(), kept.min(size));
-            rattle_dealloc(old);
-        }
-    }
-    block
 }
 
 /// Takes a block back.

@@ -4,8 +4,8 @@ use crate::sys;
 use core::ffi::c_char;
 use core::fmt;
 
-/// As many characters as the text of any command or reply has room in.
-const LONGEST_TEXT: usize = 8192;
+/// The text of each command and reply has room in so many bytes.
+const LONGEST_TEXT: usize = 6144;
 
 type TextCall =
     unsafe extern "C" fn(u8, *const u8, usize, *mut c_char, usize, *mut usize) -> sys::osdp_status;
@@ -66,7 +66,7 @@ macro_rules! message {
             }
         }
 
-        /// Its text, as `docs/PROTOCOL.md` has it. It takes some memory, and fails where there is none.
+        /// Its text, as `docs/PROTOCOL.md` has it.
         impl fmt::Display for $name {
             fn fmt(&self, f: &mut fmt::Formatter<'_>) -> fmt::Result {
                 write_text(f, sys::$call, &self.0)

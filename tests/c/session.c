@@ -39,22 +39,13 @@ static void fail(int where, const char *what)
     exit(1);
 }
 
-/* One of the three statuses of a lack of memory. */
+/* One of the two statuses of a lack of memory. */
 static bool is_lack(osdp_status status)
 {
-    bool is = status == OSDP_NO_MEMORY || status == OSDP_PANEL_NO_MEMORY || status == OSDP_READER_NO_MEMORY;
+    bool is = status == OSDP_PANEL_NO_MEMORY || status == OSDP_READER_NO_MEMORY;
     lacks += is;
     return is;
 }
-
-/* Asks once more where there was no memory. */
-#define again(status, call)       \
-    do {                          \
-        status = (call);          \
-        if (is_lack(status)) {    \
-            status = (call);      \
-        }                         \
-    } while (0)
 
 static void note(struct record *record, const char *format, ...)
 {
@@ -72,14 +63,13 @@ typedef osdp_status text_call(uint8_t, const uint8_t *, size_t, char *, size_t, 
 /* Notes the text of a message, with a space before it. With a byte less of room it is refused, and its length is told. */
 static void note_text(struct record *record, text_call *call, const struct osdp_message *message)
 {
-    static char text[8192];
+    static char text[6144];
     size_t length = 0, wanted = 0;
-    osdp_status status;
     demand(message->present == 1);
-    again(status, call(message->code, message->data, message->length, text, sizeof text, &length));
-    demand(status == OSDP_OK && 0 < length && length < sizeof text);
-    again(status, call(message->code, message->data, message->length, text, length - 1, &wanted));
-    demand(status == OSDP_TOO_SMALL && wanted == length);
+    demand(call(message->code, message->data, message->length, text, sizeof text, &length) == OSDP_OK);
+    demand(0 < length && length < sizeof text);
+    demand(call(message->code, message->data, message->length, text, length - 1, &wanted) == OSDP_TOO_SMALL);
+    demand(wanted == length);
     note(record, " %.*s", (int)length, text);
 }
 
@@ -182,16 +172,9 @@ static void run(uint64_t end)
     }
 }
 
-static size_t length_of(const char *text)
-{
-    return strlen(text);
-}
-
 static void submit(size_t entry, const char *text)
 {
-    osdp_status status;
-    again(status, osdp_panel_submit_text(&panel, entry, text, length_of(text)));
-    demand(status == OSDP_OK);
+    demand(osdp_panel_submit_text(&panel, entry, text, strlen(text)) == OSDP_OK);
 }
 
 static void new_panel(void)
@@ -255,22 +238,18 @@ static void new_readers(void)
 static void refusals(void)
 {
     const uint8_t out[] = { 0, 2, 0, 0 }, keys[] = { 0, 2, '4' };
-    osdp_status status;
     demand(osdp_panel_submit(&panel, 0, 0x01, out, 4) == OSDP_UNKNOWN_CODE);
     demand(osdp_panel_submit(&panel, 0, 0x68, out, 3) == OSDP_BAD_LENGTH);
     demand(osdp_panel_submit(&panel, 7, 0x68, out, 4) == OSDP_NO_ENTRY);
     demand(osdp_panel_submit(&panel, 0, 0x60, out, 0) == OSDP_POLL_SUBMITTED);
-    again(status, osdp_panel_submit_text(&panel, 0, "OUT 0:2", 7));
-    demand(status == OSDP_BAD_TEXT);
-    again(status, osdp_panel_submit_text(&panel, 0, "COMSET 6 9600", 13));
-    demand(status == OSDP_ADDRESS_TAKEN);
+    demand(osdp_panel_submit_text(&panel, 0, "OUT 0:2", 7) == OSDP_BAD_TEXT);
+    demand(osdp_panel_submit_text(&panel, 0, "COMSET 6 9600", 13) == OSDP_ADDRESS_TAKEN);
     demand(osdp_panel_begin(&panel, 7, now) == OSDP_NO_ENTRY);
     demand(osdp_panel_retarget(&panel, 0, 6) == OSDP_ADDRESS_TAKEN);
     demand(osdp_panel_retarget(&panel, 0, 127) == OSDP_PANEL_OUT_OF_RANGE);
     demand(osdp_reader_event(&readers[0], 0x40, keys, 0) == OSDP_NO_EVENT);
     demand(osdp_reader_event(&readers[0], 0x53, keys, 3) == OSDP_BAD_COUNT);
-    again(status, osdp_reader_event_text(&readers[0], "POLL", 4));
-    demand(status == OSDP_BAD_TEXT);
+    demand(osdp_reader_event_text(&readers[0], "POLL", 4) == OSDP_BAD_TEXT);
 }
 
 static void queue_events(void)
@@ -278,10 +257,8 @@ static void queue_events(void)
     const uint8_t keys[] = { 0, 1, '4' };
     const char *card = "RAW 0 1 26 12345640";
     size_t count = 0;
-    osdp_status status;
     demand(osdp_reader_event(&readers[0], 0x53, keys, 3) == OSDP_OK);
-    again(status, osdp_reader_event_text(&readers[0], card, length_of(card)));
-    demand(status == OSDP_OK);
+    demand(osdp_reader_event_text(&readers[0], card, strlen(card)) == OSDP_OK);
     demand(osdp_reader_event(&readers[0], 0x53, keys, 3) == OSDP_EVENTS_FULL);
     demand(osdp_reader_waiting(&readers[0], &count) == OSDP_OK && count == 2);
 }
