@@ -12,7 +12,7 @@
 - The picture of docs/ARCHITECTURE.md has each crate but those of tests, and its arrows are those of crates.txt. Each picture of an exchange in
   docs/PROTOCOL.md has the steps of the script named above it, whose account examples.sh compares with a run, and tells that account.
 - docs/PROTOCOL.md has each text that the program prints on standard error.
-- Each crate, script and folder that any page names is there.
+- Each crate, script and folder that any page names is there; a name with `osdp_` may be one of the header for C too.
 - No page, manual page or script says "behind" or "want of memory".
 - README has at most 120 lines of at most 120 characters, docs/DEVELOPING.md at most 200 lines, and no row of a table more than 200 characters."""
 import re
@@ -247,11 +247,11 @@ def judge_protocol():
 def judge_code(page):
     """A page with code: each block of code is text of the file named above it."""
     text = (TOP / page).read_text()
-    named = re.findall(r"^From `([^`]+)`:\n\n```rust\n(.*?)```$", text, re.M | re.S)
+    named = re.findall(r"^From `([^`]+)`:\n\n```(?:rust|c)\n(.*?)```$", text, re.M | re.S)
     for name, block in named:
         if not (TOP / name).exists() or block not in (TOP / name).read_text():
             faults.append(f"{page}: a block is not in {name}: {block.splitlines()[0]}")
-    if len(named) != text.count("```rust"):
+    if len(named) != len(re.findall(r"^```(?:rust|c)$", text, re.M)):
         faults.append(f"{page}: a block of code names no file")
 
 
@@ -290,7 +290,7 @@ def judge_page(page, all_crates):
     for name in sorted(set(re.findall(r"`(osdp_[a-z_]+)`", text))):
         if name not in all_crates and name not in exports:
             faults.append(f"{page}: there is no crate {name}")
-    for name in sorted(set(re.findall(r"`((?:bench|crates/osdp\w+|docs|examples|tests|tools)/[\w./-]*)", text))):
+    for name in sorted(set(re.findall(r"`((?:bench|c|crates/osdp\w+|docs|examples|include|man|rust|tests|tools)/[\w./-]*)", text))):
         if not (TOP / name).exists():
             faults.append(f"{page}: there is no {name}")
     for number, line in enumerate(text.splitlines(), 1):
@@ -319,7 +319,7 @@ def judge_messages():
 
 def plain_texts():
     """What is written for people: pages, manual pages and scripts."""
-    for folder in ("", "docs", "man", "tests", "tests/rows", "tools", "bench", "examples"):
+    for folder in ("", "docs", "man", "tests", "tests/c", "tests/rows", "tools", "bench", "c", "examples", "examples/c", "include", "rust/src", "rust/examples"):
         for file in sorted((TOP / folder).iterdir()):
             if file.is_file() and file != Path(__file__).resolve():
                 yield file, file.read_text(errors="replace")
