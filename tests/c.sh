@@ -34,7 +34,7 @@ build() {
 passes() {
   "$@" >"$work/said" 2>&1 && return
   cat "$work/said"
-  fail "${1##*/} has failed"
+  fail "${*//$work\//} has failed"
 }
 
 echo 'int main(void) { return 0; }' >"$work/empty.c"
