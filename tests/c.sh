@@ -60,7 +60,7 @@ build structs_checked tests/c/structs.c c/heap_malloc.c "$archive" "${checked[@]
 
 for heap in malloc pool; do
   build "session_$heap" tests/c/session.c "c/heap_$heap.c" "${counted[@]}" "$archive" && passes "$work/session_$heap"
-  [ "$heap" = pool ] && wanted="0 blocks" || wanted="7 blocks"
+  [ "$heap" = pool ] && wanted="0 blocks" || wanted="8 blocks"
   grep -q "^session: $wanted, each refused once$" "$work/said" || fail "session_$heap: not $wanted"
 done
 build session_checked tests/c/session.c c/heap_malloc.c "${counted[@]}" "$archive" "${checked[@]}" && passes "$work/session_checked"
