@@ -1,14 +1,15 @@
 /* Through C: POLL exchanges for a second of processor time, and the stack that each call takes. `exchange COUNT ROUNDS`
  *
  * An exchange is the panel's tick with its burst, the reader's step over it with its answer, and that answer's bytes to the panel: the calls that a
- * program makes. The stack is measured as what a thread that does one call changes of a stack that was filled with a pattern,
- * less what a thread changes that does nothing. */
-#define _POSIX_C_SOURCE 200809L
-#include <pthread.h>
+ * program makes. The stack is measured as what a call changes of a stack that was filled with a pattern, less what is changed where
+ * nothing is called. */
+#define _XOPEN_SOURCE 700
+#define _DEFAULT_SOURCE
 #include <stdio.h>
 #include <stdlib.h>
 #include <string.h>
 #include <time.h>
+#include <ucontext.h>
 
 #include "osdp.h"
 
@@ -92,22 +93,27 @@ static void nothing(void)
 {
 }
 
-static void *call_it(void *call)
+static void (*measured)(void);
+static ucontext_t outside, inside;
+
+static void call_it(void)
 {
-    (*(void (**)(void))call)();
-    return NULL;
+    measured();
 }
 
-/* How many bytes of its stack a thread has changed that does one call. */
+/* How many bytes a call has changed of a stack of its own. */
 static size_t changed(void (*call)(void))
 {
     static _Alignas(64) unsigned char stack[262144];
-    pthread_attr_t attributes;
-    pthread_t thread;
     size_t untouched = 0;
     memset(stack, 0xA5, sizeof stack);
-    demand(pthread_attr_init(&attributes) == 0 && pthread_attr_setstack(&attributes, stack, sizeof stack) == 0, "no stack");
-    demand(pthread_create(&thread, &attributes, call_it, &call) == 0 && pthread_join(thread, NULL) == 0, "no thread");
+    measured = call;
+    demand(getcontext(&inside) == 0, "no context");
+    inside.uc_stack.ss_sp = stack;
+    inside.uc_stack.ss_size = sizeof stack;
+    inside.uc_link = &outside;
+    makecontext(&inside, call_it, 0);
+    demand(swapcontext(&outside, &inside) == 0, "no context");
     while (stack[untouched] == 0xA5) {
         untouched++;
     }
