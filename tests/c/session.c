@@ -324,6 +324,7 @@ static void session(void)
 {
     const uint8_t out[] = { 0, 2, 0, 0 };
     struct osdp_burst burst;
+    size_t made;
     memset(told, 0, sizeof told);
     memset(done, 0, sizeof done);
     memset(is_silent, 0, sizeof is_silent);
@@ -333,6 +334,7 @@ static void session(void)
 
     new_panel();
     new_readers();
+    made = blocks_asked;
     refusals();
     queue_events();
     for (size_t i = 0; i < READERS; i++) {
@@ -356,6 +358,7 @@ static void session(void)
     is_silent[0] = true;
     run(30000);
     give_up();
+    demand(blocks_asked == made); /* no call but those that make a machine or add a device takes memory */
 
     for (int i = 0; i < READERS; i++) {
         compare("told of", i, &told[i], must_be_told[i]);
