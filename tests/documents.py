@@ -12,7 +12,7 @@
 - The picture of docs/ARCHITECTURE.md has each crate but those of tests, and its arrows are those of crates.txt. Each picture of an exchange in
   docs/PROTOCOL.md has the steps of the script named above it, whose account examples.sh compares with a run, and tells that account.
 - docs/PROTOCOL.md and man/osdp.1 have each text that the program prints on standard error.
-- Each crate, script and folder that any page names is there.
+- Each crate, script and folder that any page names is there; a name with `osdp_` may be one of the header for C too.
 - No page, manual page or script says "behind" or "want of memory".
 - README has at most 120 lines of at most 120 characters, docs/DEVELOPING.md at most 200 lines, and no row of a table more than 200 characters."""
 import re
@@ -293,7 +293,7 @@ def judge_page(page, all_crates):
     for name in sorted(set(re.findall(r"`(osdp_[a-z_]+)`", text))):
         if name not in all_crates and name not in exports:
             faults.append(f"{page}: there is no crate {name}")
-    for name in sorted(set(re.findall(r"`((?:bench|crates/osdp\w+|docs|examples|tests|tools)/[\w./-]*)", text))):
+    for name in sorted(set(re.findall(r"`((?:bench|c|crates/osdp\w+|docs|examples|include|man|rust|tests|tools)/[\w./-]*)", text))):
         if not (TOP / name).exists():
             faults.append(f"{page}: there is no {name}")
     for number, line in enumerate(text.splitlines(), 1):
@@ -322,7 +322,7 @@ def judge_messages():
 
 def plain_texts():
     """What is written for people: pages, manual pages and scripts."""
-    for folder in ("", "docs", "man", "tests", "tests/rows", "tools", "bench", "examples"):
+    for folder in ("", "docs", "man", "tests", "tests/c", "tests/rows", "tools", "bench", "c", "examples", "examples/c", "include", "rust/src", "rust/examples"):
         for file in sorted((TOP / folder).iterdir()):
             if file.is_file() and file != Path(__file__).resolve():
                 yield file, file.read_text(errors="replace")

@@ -1,0 +1,186 @@
+/* Through C: POLL exchanges for a second of processor time, and the stack that each call takes. `exchange COUNT ROUNDS`
+ *
+ * An exchange is the panel's tick with its burst, the reader's step over it with its answer, and that answer's bytes to the panel: the calls that a
+ * program makes. The stack is measured as what a call changes of a stack that was filled with a pattern, less what is changed where
+ * nothing is called. */
+#define _XOPEN_SOURCE 700
+#define _DEFAULT_SOURCE
+#include <stdio.h>
+#include <stdlib.h>
+#include <string.h>
+#include <time.h>
+#include <ucontext.h>
+
+#include "osdp.h"
+
+static struct osdp_panel panel;
+static struct osdp_reader reader;
+static struct osdp_burst burst;
+static struct osdp_answer answer;
+static struct osdp_report report;
+static struct osdp_message message;
+static struct osdp_moment due;
+static size_t taken;
+static uint64_t now;
+
+static void demand(bool holds, const char *what)
+{
+    if (!holds) {
+        printf("exchange: %s\n", what);
+        exit(1);
+    }
+}
+
+static void tick(void)
+{
+    (void)osdp_panel_tick(&panel, now, &burst);
+}
+
+static void step(void)
+{
+    (void)osdp_reader_step(&reader, burst.bytes, burst.length, now, &taken, &answer);
+}
+
+static void bytes(void)
+{
+    (void)osdp_panel_bytes(&panel, answer.burst.bytes, answer.burst.length, now);
+}
+
+static void next_report(void)
+{
+    (void)osdp_panel_next_report(&panel, &report);
+}
+
+static void next_deadline(void)
+{
+    (void)osdp_panel_next_deadline(&panel, &due);
+}
+
+static void submit(void)
+{
+    (void)osdp_panel_submit_text(&panel, 0, "OUT 0:5:30", 10);
+}
+
+static void event(void)
+{
+    (void)osdp_reader_event_text(&reader, "RAW 0 0 26 12345640", 19);
+}
+
+static void text(void)
+{
+    static char room[6144];
+    size_t length;
+    (void)osdp_command_text(message.code, message.data, message.length, room, sizeof room, &length);
+}
+
+static void new_panel(void)
+{
+    struct osdp_panel_config config;
+    size_t entry;
+    osdp_panel_defaults(&config);
+    demand(osdp_panel_new(&panel, &config) == OSDP_OK && osdp_panel_add(&panel, 5, &entry) == OSDP_OK, "no panel");
+}
+
+static void new_reader(void)
+{
+    const uint8_t outputs[] = { 0 };
+    struct osdp_reader_config config = { .address = 5, .capacity = 16, .gap = 20 };
+    demand(osdp_reader_new(&reader, &config, outputs, 0) == OSDP_OK, "no reader");
+    demand(osdp_reader_set_outputs(&reader, outputs, 1) == OSDP_OK, "no outputs");
+}
+
+static void nothing(void)
+{
+}
+
+static void (*measured)(void);
+static ucontext_t outside, inside;
+
+static void call_it(void)
+{
+    measured();
+}
+
+/* How many bytes a call has changed of a stack of its own. */
+static size_t changed(void (*call)(void))
+{
+    static _Alignas(64) unsigned char stack[262144];
+    size_t untouched = 0;
+    memset(stack, 0xA5, sizeof stack);
+    measured = call;
+    demand(getcontext(&inside) == 0, "no context");
+    inside.uc_stack.ss_sp = stack;
+    inside.uc_stack.ss_size = sizeof stack;
+    inside.uc_link = &outside;
+    makecontext(&inside, call_it, 0);
+    demand(swapcontext(&outside, &inside) == 0, "no context");
+    while (stack[untouched] == 0xA5) {
+        untouched++;
+    }
+    return sizeof stack - untouched;
+}
+
+static void print_depth(const char *name, void (*call)(void))
+{
+    printf("stack of %-24s %6zu bytes\n", name, changed(call) - changed(nothing));
+}
+
+/* One exchange, whose moments go on by the poll interval. */
+static void exchange(void)
+{
+    now += 50;
+    tick();
+    step();
+    bytes();
+}
+
+static double seconds(void)
+{
+    struct timespec spent;
+    clock_gettime(CLOCK_PROCESS_CPUTIME_ID, &spent);
+    return (double)spent.tv_sec + (double)spent.tv_nsec / 1e9;
+}
+
+static double best(long count, long rounds)
+{
+    double least = 1e9;
+    for (long round = 0; round < rounds; round++) {
+        double begun = seconds();
+        for (long i = 0; i < count; i++) {
+            exchange();
+            demand(burst.length == 8 && answer.burst.length == 8, "no POLL, or no ACK");
+        }
+        double spent = seconds() - begun;
+        least = spent < least ? spent : least;
+    }
+    return least / (double)count;
+}
+
+int main(int count, char **words)
+{
+    long exchanges = count > 1 ? atol(words[1]) : 200000, rounds = count > 2 ? atol(words[2]) : 5;
+    print_depth("osdp_panel_new and add", new_panel);
+    print_depth("osdp_reader_new", new_reader);
+    demand(osdp_panel_begin(&panel, 0, now) == OSDP_OK, "no session");
+    now = 400;
+    tick();
+    step();
+    bytes();
+    next_report();
+    demand(report.kind == OSDP_REPORT_OPENED, "no session");
+    double spent = best(exchanges, rounds);
+    printf("POLL exchanges %10.0f for a second, %.2f microseconds each\n", 1 / spent, spent * 1e6);
+
+    print_depth("osdp_panel_submit_text", submit);
+    print_depth("osdp_reader_event_text", event);
+    now += 50;
+    print_depth("osdp_panel_tick", tick);
+    print_depth("osdp_reader_step", step);
+    print_depth("osdp_panel_bytes", bytes);
+    print_depth("osdp_panel_next_report", next_report);
+    print_depth("osdp_panel_next_deadline", next_deadline);
+    message = answer.command;
+    demand(report.kind == OSDP_REPORT_SETTLED && message.code == 0x68, "the order was not settled");
+    print_depth("osdp_command_text", text);
+    return 0;
+}

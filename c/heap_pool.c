@@ -1,0 +1,67 @@
+/* The heap that libosdp_c.a asks for, from a fixed pool: for a device without malloc.
+ *
+ * OSDP_POOL is the size of the pool in bytes, a multiple of 16, and can be set where this file is compiled. What it must be for a panel and for a
+ * reader stands in docs/GUIDE.md. The first free block that is large enough is taken, and free neighbours are joined. There is no lock: use it from one
+ * thread. Nothing is needed from outside. */
+#include "osdp.h"
+
+#ifndef OSDP_POOL
+#define OSDP_POOL 131072
+#endif
+
+/* The head of a block: how many units follow it, and whether they are in use. Each alignment that is asked for divides a unit. */
+union unit {
+    struct {
+        size_t units;
+        bool used;
+    } head;
+    _Alignas(16) unsigned char bytes[16];
+};
+
+#define UNITS (OSDP_POOL / 16)
+
+static union unit pool[UNITS];
+
+/* The units of the free block at this place, once it is joined with those right after it. */
+static size_t joined(size_t at)
+{
+    size_t next = at + 1 + pool[at].head.units;
+    while (next < UNITS && !pool[next].head.used) {
+        pool[at].head.units += 1 + pool[next].head.units;
+        next = at + 1 + pool[at].head.units;
+    }
+    return pool[at].head.units;
+}
+
+/* Uses so many units of a free block, and leaves the others free where they are worth a head. */
+static struct osdp_block used(size_t at, size_t wanted)
+{
+    size_t left = pool[at].head.units - wanted;
+    if (left > 1) {
+        pool[at].head.units = wanted;
+        pool[at + 1 + wanted].head.units = left - 1;
+        pool[at + 1 + wanted].head.used = false;
+    }
+    pool[at].head.used = true;
+    return (struct osdp_block){ true, &pool[at + 1] };
+}
+
+struct osdp_block rattle_alloc(size_t size, size_t align)
+{
+    (void)align;
+    size_t wanted = size / 16 + (size % 16 != 0 || size == 0);
+    if (pool[0].head.units == 0) {
+        pool[0].head.units = UNITS - 1; /* the first call of all */
+    }
+    for (size_t at = 0; at < UNITS; at += 1 + pool[at].head.units) {
+        if (!pool[at].head.used && joined(at) >= wanted) {
+            return used(at, wanted);
+        }
+    }
+    return (struct osdp_block){ false, pool };
+}
+
+void rattle_dealloc(void *block)
+{
+    ((union unit *)block - 1)->head.used = false;
+}

@@ -1,0 +1,40 @@
+/* Settings, numbers and texts, as the examples read and print them. */
+#ifndef WORDS_H
+#define WORDS_H
+
+#include "osdp.h"
+
+/* Status of a program: bad words, a port that fails, out of memory. */
+enum { BAD_WORDS = 2, BAD_PORT = 3, OUT_OF_MEMORY = 4 };
+
+/* What a reader is made of: its capabilities are three bytes each. */
+struct reader_settings {
+    struct osdp_reader_config config;
+    uint8_t capabilities[1434];
+    size_t length;
+};
+
+/* Sets what a setting's name and value say; ends the program where they are none. */
+void set_panel(struct osdp_panel_config *config, const char *name, const char *value);
+void set_reader(struct reader_settings *settings, const char *name, const char *value);
+
+/* The number that a word is; ends the program where it is none. */
+uint32_t number(const char *word);
+
+/* The bytes that digits stand for, or `none`: how many; more than the room where they are none. */
+size_t digits(const char *word, uint8_t *bytes, size_t room);
+
+/* The text of a message. It stays until the next call. */
+const char *command_text(const struct osdp_message *command);
+const char *reply_text(const struct osdp_message *reply);
+
+/* Prints a part of a line, and lets it go at once. */
+void tell(const char *format, ...);
+
+/* Prints why a call was refused, as `refused C3`. Whether it was. */
+bool tell_refusal(osdp_status status);
+
+/* Ends the program with one line on standard error. */
+_Noreturn void stop(int status, const char *why);
+
+#endif

@@ -1,0 +1,26 @@
+//! Links `libosdp_c.a`: from the folder that `OSDP_C_LIB_DIR` names, or else from where `rt lib` leaves it in this repository.
+use std::env;
+use std::path::PathBuf;
+use std::process::exit;
+
+fn main() {
+    println!("cargo:rerun-if-env-changed=OSDP_C_LIB_DIR");
+    let folder = match env::var_os("OSDP_C_LIB_DIR") {
+        Some(folder) => PathBuf::from(folder),
+        None => {
+            let here = env::var_os("CARGO_MANIFEST_DIR").expect("cargo sets this");
+            PathBuf::from(here).join("../crates/osdp_c/out")
+        }
+    };
+    let archive = folder.join("libosdp_c.a");
+    if !archive.exists() {
+        eprintln!(
+            "no archive at {}: run `rt lib` in crates/osdp_c, or set OSDP_C_LIB_DIR",
+            archive.display()
+        );
+        exit(1);
+    }
+    println!("cargo:rerun-if-changed={}", archive.display());
+    println!("cargo:rustc-link-search=native={}", folder.display());
+    println!("cargo:rustc-link-lib=static=osdp_c");
+}

@@ -1,0 +1,82 @@
+//! Why a call is refused.
+
+use crate::sys;
+use core::fmt;
+
+/// Why a call is refused. A refused call has changed nothing.
+#[derive(Clone, Copy, Debug, PartialEq, Eq)]
+#[non_exhaustive]
+pub enum Error {
+    /// The text is that of no command, or of no event.
+    BadText,
+    /// The reply tells no event.
+    NoEvent,
+    /// The code isn't in the table of commands, or of replies.
+    UnknownCode,
+    /// A length that isn't allowed.
+    BadLength,
+    /// A count inside the data disagrees with their length.
+    BadCount,
+    /// There is no memory.
+    NoMemory,
+    /// Sixteen devices are there.
+    TooManyDevices,
+    /// The address is that of another device or reserved for one, or a COMSET stands in the way.
+    AddressTaken,
+    /// The panel has no such device.
+    NoEntry,
+    /// An address is above 126, or a setting is out of its range.
+    OutOfRange,
+    /// As many commands or events wait as there is room for.
+    Full,
+    /// A POLL, which the panel sends by itself.
+    PollSubmitted,
+    /// The session isn't closed.
+    NotClosed,
+    /// A status that this crate doesn't know.
+    Other(u32),
+}
+
+impl fmt::Display for Error {
+    fn fmt(&self, f: &mut fmt::Formatter<'_>) -> fmt::Result {
+        f.write_str(match self {
+            Error::BadText => "the text is that of no command and of no event",
+            Error::NoEvent => "the reply tells no event",
+            Error::UnknownCode => "the code is in no table",
+            Error::BadLength => "the length isn't allowed",
+            Error::BadCount => "a count disagrees with the length",
+            Error::NoMemory => "there is no memory",
+            Error::TooManyDevices => "sixteen devices are there",
+            Error::AddressTaken => "the address is taken",
+            Error::NoEntry => "there is no such device",
+            Error::OutOfRange => "an address or a setting is out of its range",
+            Error::Full => "there is no room for one more",
+            Error::PollSubmitted => "a POLL can't be submitted",
+            Error::NotClosed => "the session isn't closed",
+            Error::Other(status) => return write!(f, "status {status}"),
+        })
+    }
+}
+
+impl core::error::Error for Error {}
+
+/// What a status says.
+pub(crate) fn check(status: sys::osdp_status) -> Result<(), Error> {
+    Err(match status {
+        sys::OSDP_OK => return Ok(()),
+        sys::OSDP_BAD_TEXT => Error::BadText,
+        sys::OSDP_NO_EVENT => Error::NoEvent,
+        sys::OSDP_UNKNOWN_CODE => Error::UnknownCode,
+        sys::OSDP_BAD_LENGTH => Error::BadLength,
+        sys::OSDP_BAD_COUNT => Error::BadCount,
+        sys::OSDP_PANEL_NO_MEMORY | sys::OSDP_READER_NO_MEMORY => Error::NoMemory,
+        sys::OSDP_TOO_MANY => Error::TooManyDevices,
+        sys::OSDP_ADDRESS_TAKEN => Error::AddressTaken,
+        sys::OSDP_NO_ENTRY => Error::NoEntry,
+        sys::OSDP_PANEL_OUT_OF_RANGE | sys::OSDP_READER_OUT_OF_RANGE => Error::OutOfRange,
+        sys::OSDP_COMMANDS_FULL | sys::OSDP_EVENTS_FULL => Error::Full,
+        sys::OSDP_POLL_SUBMITTED => Error::PollSubmitted,
+        sys::OSDP_NOT_CLOSED => Error::NotClosed,
+        other => Error::Other(other),
+    })
+}

@@ -1,0 +1,71 @@
+//! Memory: what a panel and a reader take is given back when they are dropped, and each block that is refused is told.
+//!
+//! It is a program of one thread, since the allocator counts what the whole program takes.
+use osdp::{Error, Panel, PanelConfig, Reader, ReaderConfig};
+use std::alloc::{GlobalAlloc, Layout, System};
+use std::ptr::null_mut;
+use std::sync::atomic::{AtomicUsize, Ordering::SeqCst};
+
+struct Counted;
+
+static ASKED: AtomicUsize = AtomicUsize::new(0);
+static HELD: AtomicUsize = AtomicUsize::new(0);
+/// Which block is refused, from 1; 0 for none.
+static REFUSED: AtomicUsize = AtomicUsize::new(0);
+
+unsafe impl GlobalAlloc for Counted {
+    unsafe fn alloc(&self, layout: Layout) -> *mut u8 {
+        if ASKED.fetch_add(1, SeqCst) + 1 == REFUSED.load(SeqCst) {
+            return null_mut();
+        }
+        HELD.fetch_add(layout.size(), SeqCst);
+        // SAFETY: as of the caller.
+        unsafe { System.alloc(layout) }
+    }
+
+    unsafe fn dealloc(&self, block: *mut u8, layout: Layout) {
+        HELD.fetch_sub(layout.size(), SeqCst);
+        // SAFETY: as of the caller.
+        unsafe { System.dealloc(block, layout) }
+    }
+}
+
+#[global_allocator]
+static ALLOCATOR: Counted = Counted;
+
+fn both() -> Result<(Panel, Reader), Error> {
+    let mut panel = Panel::new(&PanelConfig::default())?;
+    panel.add(5)?;
+    let reader = Reader::new(&ReaderConfig {
+        address: 5,
+        capacity: 4,
+        gap: 20,
+        vendor: [1, 2, 3],
+        model: 1,
+        version: 1,
+        serial: 1,
+        firmware: [1, 0, 0],
+        capabilities: &[],
+    })?;
+    Ok((panel, reader))
+}
+
+fn main() {
+    let before = HELD.load(SeqCst);
+    ASKED.store(0, SeqCst);
+    let machines = both();
+    let asked = ASKED.load(SeqCst);
+    assert!(machines.is_ok());
+    assert!(HELD.load(SeqCst) > before);
+    drop(machines);
+    assert_eq!(HELD.load(SeqCst), before);
+
+    for number in 1..=asked {
+        ASKED.store(0, SeqCst);
+        REFUSED.store(number, SeqCst);
+        assert_eq!(both().err(), Some(Error::NoMemory));
+        assert_eq!(HELD.load(SeqCst), before);
+    }
+    REFUSED.store(0, SeqCst);
+    assert!(asked > 0 && both().is_ok());
+}

@@ -1,0 +1,89 @@
+#!/usr/bin/env bash
+# Builds the archive for C and for Rust with `rt lib`, and looks at it from outside: the names in it against those of the header and of rust/; the
+# structs, each with the bytes around it; a whole session in C over malloc, with each block refused in turn, over the fixed pool, and with the address
+# sanitizer and its leak detection; the examples in C, with all warnings as errors; and the example in Rust, with no crate from outside. Where a
+# compiler, cargo or another tool isn't there, it fails and names it.
+set -u
+cd "$(dirname "$0")/.." || exit 1
+CC=${CC:-cc}
+work=$(mktemp -d)
+trap 'rm -rf "$work"' EXIT
+failed=0
+
+fail() {
+  echo "c.sh: $1"
+  failed=1
+}
+
+for tool in rt "$CC" nm python3 cargo; do
+  command -v "$tool" >/dev/null || fail "$tool is missing"
+done
+[ "$failed" -eq 0 ] || exit 1
+
+# $1: what is built; the rest: what it is made of. It says what went wrong.
+build() {
+  local name=$1
+  shift
+  "$CC" -std=c11 -Wall -Wextra -Werror -pedantic -O2 -g -Iinclude -o "$work/$name" "$@" 2>"$work/said" && return
+  cat "$work/said"
+  fail "$name was not built"
+  return 1
+}
+
+# The rest: a program with its words, which must end well.
+passes() {
+  "$@" >"$work/said" 2>&1 && return
+  cat "$work/said"
+  fail "${*//$work\//} has failed"
+}
+
+echo 'int main(void) { return 0; }' >"$work/empty.c"
+build empty "$work/empty.c" -fsanitize=address,undefined || fail "the address sanitizer of $CC is missing"
+
+if ! (cd crates/osdp_c && rt lib) >"$work/lib" 2>&1; then
+  tail -n 20 "$work/lib"
+  fail "rt lib has failed"
+  exit 1
+fi
+archive=crates/osdp_c/out/libosdp_c.a
+passes python3 tests/names.py "$archive"
+
+counted=(tests/c/counted.c -Wl,--wrap=malloc,--wrap=realloc,--wrap=free)
+checked=(-fsanitize=address,undefined -fno-sanitize-recover=all)
+export ASAN_OPTIONS=detect_leaks=1:allocator_may_return_null=1
+
+for heap in malloc pool; do
+  build "heap_$heap" tests/c/heap.c "c/heap_$heap.c" "${checked[@]}" && passes "$work/heap_$heap" "$heap"
+done
+build structs tests/c/structs.c c/heap_malloc.c "$archive" && passes "$work/structs"
+build structs_checked tests/c/structs.c c/heap_malloc.c "$archive" "${checked[@]}" && passes "$work/structs_checked"
+
+for heap in malloc pool; do
+  build "session_$heap" tests/c/session.c "c/heap_$heap.c" "${counted[@]}" "$archive" && passes "$work/session_$heap"
+  [ "$heap" = pool ] && wanted="0 blocks" || wanted="8 blocks"
+  grep -q "^session: $wanted, each refused once$" "$work/said" || fail "session_$heap: not $wanted"
+done
+build session_checked tests/c/session.c c/heap_malloc.c "${counted[@]}" "$archive" "${checked[@]}" && passes "$work/session_checked"
+# no call takes 64 KiB of stack: with 128 for the whole program the session runs too
+(ulimit -s 128 && passes "$work/session_malloc") || fail "the session needs more stack"
+
+build leak tests/c/leak.c c/heap_malloc.c "$archive" "${checked[@]}" &&
+  if "$work/leak" >"$work/said" 2>&1 || ! grep -q LeakSanitizer "$work/said"; then
+    fail "a leak was not seen"
+  fi
+
+examples/c/build "$work" -Werror >"$work/said" 2>&1 || { cat "$work/said"; fail "an example in C was not built"; }
+for words in "panel" "panel /dev/null 9600 5 gap" "panel /dev/null 9600 5 check none" "reader /dev/null 9600 cap 1:2" "reader /dev/null"; do
+  "$work/"$words >"$work/said" 2>&1
+  [ $? -eq 2 ] || fail "$words: the words are not refused"
+done
+
+export OSDP_C_LIB_DIR=$PWD/crates/osdp_c/out RUSTFLAGS="-D warnings"
+in_rust() {
+  passes cargo "$1" --quiet --offline --locked --manifest-path rust/Cargo.toml --target-dir "$work/target" "${@:2}"
+}
+in_rust build --no-default-features
+in_rust test
+in_rust run --example session
+
+exit "$failed"

@@ -1,0 +1,419 @@
+/* Each struct that a call writes, and the bytes around it, filled with a pattern before the call: each field has its value after it, the bytes of an
+ * array beyond its length are still the pattern, and so are the bytes around the struct. A refused call has written nothing. What a call only reads stays
+ * as it was. All of this is done with four patterns, so no field has its value by chance.
+ *
+ * The packets that are expected are written down from the standard's tables, with a CRC that is computed here bit by bit. */
+#include <stdio.h>
+#include <stdlib.h>
+#include <string.h>
+
+#include "osdp.h"
+
+_Static_assert(sizeof(struct osdp_message) == 1436 && sizeof(struct osdp_burst) == 1444, "messages and bursts");
+_Static_assert(sizeof(struct osdp_panel) == 16 && sizeof(struct osdp_panel_config) == 36, "panels");
+_Static_assert(sizeof(struct osdp_moment) == 16 && sizeof(struct osdp_report) == 2888, "reports");
+_Static_assert(sizeof(struct osdp_reader) == 16 && sizeof(struct osdp_reader_config) == 24, "readers");
+_Static_assert(sizeof(struct osdp_answer) == 2900, "answers");
+
+#define AROUND 64
+#define MOST 6144
+
+/* Room for a struct, with bytes around it. */
+struct place {
+    _Alignas(16) uint8_t bytes[AROUND + MOST + AROUND];
+    size_t size;
+};
+
+static struct place panel_place, reader_place, first_place, second_place;
+static uint8_t pattern;
+
+#define demand(holds) ((holds) ? (void)0 : fail(__LINE__, #holds))
+
+static void fail(int where, const char *what)
+{
+    printf("structs.c:%d: with the pattern %02X: %s\n", where, (unsigned)pattern, what);
+    exit(1);
+}
+
+/* Whether each of so many bytes is the pattern. */
+static bool is_pattern(const uint8_t *bytes, size_t count)
+{
+    for (size_t i = 0; i < count; i++) {
+        if (bytes[i] != pattern) {
+            return false;
+        }
+    }
+    return true;
+}
+
+/* A struct of this size, filled with the pattern as the bytes around it are. */
+static void *filled(struct place *place, size_t size)
+{
+    place->size = size;
+    memset(place->bytes, pattern, sizeof place->bytes);
+    return place->bytes + AROUND;
+}
+
+/* Nothing was written around it. */
+#define demand_around(place) \
+    demand(is_pattern((place)->bytes, AROUND) && is_pattern((place)->bytes + AROUND + (place)->size, AROUND))
+
+/* Nothing was written at all. */
+#define demand_untouched(place) demand(is_pattern((place)->bytes, AROUND + (place)->size + AROUND))
+
+/* A message with these data, or none. */
+static bool is_message(const struct osdp_message *message, uint8_t code, const uint8_t *data, size_t length)
+{
+    return message->present == 1 && message->code == code && message->length == length && memcmp(message->data, data, length) == 0
+        && is_pattern(message->data + length, sizeof message->data - length);
+}
+
+static bool is_none(const struct osdp_message *message)
+{
+    return message->present == 0 && message->code == 0 && message->length == 0 && is_pattern(message->data, sizeof message->data);
+}
+
+/* The packet with this address, number, code and data, whose CRC is computed bit by bit. */
+static size_t packet(uint8_t *bytes, uint8_t address, uint8_t number, uint8_t code, const uint8_t *data, size_t length)
+{
+    size_t whole = 6 + length + 2;
+    const uint8_t head[] = { 0x53, address, (uint8_t)whole, (uint8_t)(whole >> 8), (uint8_t)(number | 4), code };
+    uint16_t crc = 0x1D0F;
+    memcpy(bytes, head, 6);
+    memcpy(bytes + 6, data, length);
+    for (size_t i = 0; i < 6 + length; i++) {
+        crc ^= (uint16_t)(bytes[i] << 8);
+        for (int bit = 0; bit < 8; bit++) {
+            crc = (uint16_t)(crc & 0x8000 ? crc << 1 ^ 0x1021 : crc << 1);
+        }
+    }
+    bytes[6 + length] = (uint8_t)crc;
+    bytes[7 + length] = (uint8_t)(crc >> 8);
+    return whole;
+}
+
+static bool is_burst(const struct osdp_burst *burst, uint8_t address, uint8_t number, uint8_t code, const uint8_t *data, size_t length)
+{
+    uint8_t wanted[1440];
+    size_t whole = packet(wanted, address, number, code, data, length);
+    return burst->length == whole && memcmp(burst->bytes, wanted, whole) == 0
+        && is_pattern(burst->bytes + whole, sizeof burst->bytes - whole);
+}
+
+static void settings(void)
+{
+    struct osdp_panel_config *config = filled(&first_place, sizeof *config);
+    osdp_panel_defaults(config);
+    demand_around(&first_place);
+    demand(config->check == OSDP_CHECK_CRC && config->reply_wait == 200 && config->poll_interval == 50);
+    demand(config->sends == 3 && config->busy_wait == 50 && config->busy_limit == 20);
+    demand(config->quiet_wait == 400 && config->gap == 20 && config->capacity == 16);
+}
+
+/* A handle that is none, with the pattern around it. */
+static void *no_machine(struct place *place, size_t size)
+{
+    return memset(filled(place, size), 0, size);
+}
+
+static bool is_zero(const void *bytes, size_t count)
+{
+    const uint8_t *each = bytes;
+    while (count > 0 && each[count - 1] == 0) {
+        count--;
+    }
+    return count == 0;
+}
+
+/* Every call on a handle without a machine is refused, and writes nothing. */
+static void no_machines(struct osdp_panel *panel, struct osdp_reader *reader)
+{
+    const uint8_t bytes[] = { 0 };
+    void *first = filled(&first_place, MOST), *second = filled(&second_place, MOST);
+    demand(osdp_panel_free(panel) == OSDP_NO_MACHINE);
+    demand(osdp_panel_add(panel, 5, first) == OSDP_NO_MACHINE);
+    demand(osdp_panel_begin(panel, 0, 0) == OSDP_NO_MACHINE);
+    demand(osdp_panel_submit(panel, 0, 0x64, bytes, 0) == OSDP_NO_MACHINE);
+    demand(osdp_panel_submit_text(panel, 0, "LSTAT", 5) == OSDP_NO_MACHINE);
+    demand(osdp_panel_withdraw(panel, 0, first) == OSDP_NO_MACHINE);
+    demand(osdp_panel_retarget(panel, 0, 5) == OSDP_NO_MACHINE);
+    demand(osdp_panel_bytes(panel, bytes, 1, 0) == OSDP_NO_MACHINE);
+    demand(osdp_panel_silence(panel, 0) == OSDP_NO_MACHINE);
+    demand(osdp_panel_tick(panel, 0, first) == OSDP_NO_MACHINE);
+    demand(osdp_panel_next_deadline(panel, first) == OSDP_NO_MACHINE);
+    demand(osdp_panel_next_report(panel, first) == OSDP_NO_MACHINE);
+    demand(osdp_reader_free(reader) == OSDP_NO_MACHINE);
+    demand(osdp_reader_set_inputs(reader, bytes, 1) == OSDP_NO_MACHINE);
+    demand(osdp_reader_set_outputs(reader, bytes, 1) == OSDP_NO_MACHINE);
+    demand(osdp_reader_set_readers(reader, bytes, 1) == OSDP_NO_MACHINE);
+    demand(osdp_reader_set_local(reader, 1, 1) == OSDP_NO_MACHINE);
+    demand(osdp_reader_set_busy(reader, 1) == OSDP_NO_MACHINE);
+    demand(osdp_reader_event(reader, 0x48, bytes, 1) == OSDP_NO_MACHINE);
+    demand(osdp_reader_event_text(reader, "KEYPAD 0 31", 11) == OSDP_NO_MACHINE);
+    demand(osdp_reader_waiting(reader, first) == OSDP_NO_MACHINE);
+    demand(osdp_reader_step(reader, bytes, 1, 0, second, first) == OSDP_NO_MACHINE);
+    demand(osdp_reader_tick(reader, 0, first) == OSDP_NO_MACHINE);
+    demand(osdp_reader_silence(reader, 0, first) == OSDP_NO_MACHINE);
+    demand_untouched(&first_place);
+    demand_untouched(&second_place);
+    demand(is_zero(panel, sizeof *panel) && is_zero(reader, sizeof *reader));
+}
+
+static void new_machines(struct osdp_panel *panel, struct osdp_reader *reader)
+{
+    struct osdp_panel_config config, config_before;
+    struct osdp_reader_config what = { 5, 3, 20, 0x04030201, { 0x53, 0x49, 0x4D }, 7, 8, 9, 10, 11 }, what_before = what;
+    osdp_panel_defaults(&config);
+    config_before = config;
+    demand(osdp_panel_new(panel, &config) == OSDP_OK && !is_zero(panel, sizeof *panel));
+    demand(memcmp(&config, &config_before, sizeof config) == 0);
+    size_t *entry = filled(&first_place, sizeof *entry);
+    demand(osdp_panel_add(panel, 127, entry) == OSDP_PANEL_OUT_OF_RANGE);
+    demand_untouched(&first_place);
+    demand(osdp_panel_add(panel, 5, entry) == OSDP_OK && *entry == 0);
+    demand_around(&first_place);
+    demand(osdp_panel_add(panel, 6, entry) == OSDP_OK && *entry == 1);
+
+    const uint8_t capabilities[] = { 1, 2, 3 };
+    demand(osdp_reader_new(reader, &what, capabilities, 3) == OSDP_OK && !is_zero(reader, sizeof *reader));
+    demand(memcmp(&what, &what_before, sizeof what) == 0);
+    demand_around(&panel_place);
+    demand_around(&reader_place);
+}
+
+/* What waits, and how much. */
+static void waiting(struct osdp_panel *panel, struct osdp_reader *reader)
+{
+    const uint8_t out[] = { 1, 2, 3, 4 }, keys[] = { 0, 1, '7' };
+    struct osdp_message *command = filled(&first_place, sizeof *command);
+    demand(osdp_panel_submit(panel, 1, 0x68, out, 4) == OSDP_OK);
+    demand(osdp_panel_withdraw(panel, 2, command) == OSDP_NO_ENTRY);
+    demand_untouched(&first_place);
+    demand(osdp_panel_withdraw(panel, 1, command) == OSDP_OK && is_message(command, 0x68, out, 4));
+    demand_around(&first_place);
+    command = filled(&first_place, sizeof *command);
+    demand(osdp_panel_withdraw(panel, 1, command) == OSDP_OK && is_none(command));
+    demand_around(&first_place);
+
+    size_t *count = filled(&first_place, sizeof *count);
+    demand(osdp_reader_event(reader, 0x53, keys, 3) == OSDP_OK);
+    demand(osdp_reader_waiting(reader, count) == OSDP_OK && *count == 1);
+    demand_around(&first_place);
+}
+
+static struct osdp_moment *deadline(struct osdp_panel *panel)
+{
+    struct osdp_moment *due = filled(&first_place, sizeof *due);
+    demand(osdp_panel_next_deadline(panel, due) == OSDP_OK);
+    demand_around(&first_place);
+    return due;
+}
+
+static struct osdp_report *report_of(struct osdp_panel *panel)
+{
+    struct osdp_report *report = filled(&first_place, sizeof *report);
+    demand(osdp_panel_next_report(panel, report) == OSDP_OK);
+    demand_around(&first_place);
+    return report;
+}
+
+static struct osdp_burst *burst_of(struct osdp_panel *panel, uint64_t now)
+{
+    struct osdp_burst *burst = filled(&first_place, sizeof *burst);
+    demand(osdp_panel_tick(panel, now, burst) == OSDP_OK);
+    demand_around(&first_place);
+    return burst;
+}
+
+/* The reader hears a packet of the panel, and says what is told in the answer. */
+static struct osdp_answer *answer_of(struct osdp_reader *reader, const struct osdp_burst *heard, uint64_t now)
+{
+    struct osdp_burst before = *heard;
+    struct osdp_answer *answer = filled(&first_place, sizeof *answer);
+    size_t *taken = filled(&second_place, sizeof *taken);
+    demand(osdp_reader_step(reader, before.bytes, before.length, now, taken, answer) == OSDP_OK && *taken == before.length);
+    demand_around(&first_place);
+    demand_around(&second_place);
+    return answer;
+}
+
+static bool says_nothing(const struct osdp_answer *answer)
+{
+    return answer->kind == OSDP_SAID_NONE && answer->order == OSDP_ORDER_NONE && answer->moved == 0 && answer->address == 0
+        && answer->baud_rate == 0 && is_none(&answer->command) && answer->burst.length == 0
+        && is_pattern(answer->burst.bytes, sizeof answer->burst.bytes);
+}
+
+static void silences(struct osdp_reader *reader)
+{
+    struct osdp_answer *answer = filled(&first_place, sizeof *answer);
+    demand(osdp_reader_tick(reader, 0, answer) == OSDP_OK && says_nothing(answer));
+    demand_around(&first_place);
+    answer = filled(&first_place, sizeof *answer);
+    demand(osdp_reader_silence(reader, 0, answer) == OSDP_OK && says_nothing(answer));
+    demand_around(&first_place);
+}
+
+/* The reader's answer comes to the panel, which then tells no moment: a report waits. */
+static void to_panel(struct osdp_panel *panel, const struct osdp_burst *burst, uint64_t now)
+{
+    struct osdp_burst heard = *burst;
+    demand(osdp_panel_bytes(panel, heard.bytes, heard.length, now) == OSDP_OK);
+    struct osdp_moment *due = deadline(panel);
+    demand(due->present == 0 && due->moment == 0);
+}
+
+static void opening(struct osdp_panel *panel, struct osdp_reader *reader)
+{
+    const uint8_t asked[] = { 0 }, id[] = { 0x53, 0x49, 0x4D, 7, 8, 1, 2, 3, 4, 9, 10, 11 };
+    struct osdp_moment *due = deadline(panel);
+    demand(due->present == 0 && due->moment == 0);
+    demand(osdp_panel_begin(panel, 0, 1000) == OSDP_OK);
+    due = deadline(panel);
+    demand(due->present == 1 && due->moment == 1400);
+    struct osdp_burst *burst = burst_of(panel, 1399);
+    demand(burst->length == 0 && is_pattern(burst->bytes, sizeof burst->bytes));
+    burst = burst_of(panel, 1400);
+    demand(is_burst(burst, 5, 0, 0x61, asked, 1));
+
+    struct osdp_answer *answer = answer_of(reader, burst, 1400);
+    demand(answer->kind == OSDP_SAID_ZERO && answer->order == OSDP_ORDER_AGAIN && answer->moved == 0);
+    demand(answer->address == 0 && answer->baud_rate == 0);
+    demand(is_message(&answer->command, 0x61, asked, 1) && is_burst(&answer->burst, 0x85, 0, 0x45, id, 12));
+
+    to_panel(panel, &answer->burst, 1410);
+    struct osdp_report *report = report_of(panel);
+    demand(report->kind == OSDP_REPORT_OPENED && report->entry == 0 && report->detail == 0);
+    demand(is_none(&report->command) && is_message(&report->reply, 0x45, id, 12));
+    report = report_of(panel);
+    demand(report->kind == OSDP_REPORT_NONE && report->entry == 0 && report->detail == 0);
+    demand(is_none(&report->command) && is_none(&report->reply));
+}
+
+/* A command of the largest size there is, which the reader refuses: both arrays are full. */
+static void largest(struct osdp_panel *panel, struct osdp_reader *reader)
+{
+    static uint8_t data[1433];
+    const uint8_t refused[] = { 9 };
+    for (size_t i = 0; i < sizeof data; i++) {
+        data[i] = (uint8_t)(i * 7 + 1);
+    }
+    demand(osdp_panel_submit(panel, 0, 0x80, data, 1433) == OSDP_BAD_LENGTH);
+    demand(osdp_panel_submit(panel, 0, 0x80, data, 1432) == OSDP_OK);
+    struct osdp_burst *burst = burst_of(panel, 1500);
+    demand(burst->length == 1440 && is_burst(burst, 5, 1, 0x80, data, 1432));
+    struct osdp_answer *answer = answer_of(reader, burst, 1500);
+    demand(answer->kind == OSDP_SAID_TAKEN && answer->order == OSDP_ORDER_TAKEN && answer->moved == 0);
+    demand(is_message(&answer->command, 0x80, data, 1432) && is_burst(&answer->burst, 0x85, 1, 0x41, refused, 1));
+    to_panel(panel, &answer->burst, 1510);
+    struct osdp_report *report = report_of(panel);
+    demand(report->kind == OSDP_REPORT_SETTLED && report->entry == 0 && report->detail == 0);
+    demand(is_message(&report->command, 0x80, data, 1432) && is_message(&report->reply, 0x41, refused, 1));
+}
+
+/* An event is told, and the reader moves. */
+static void moving(struct osdp_panel *panel, struct osdp_reader *reader)
+{
+    const uint8_t keys[] = { 0, 1, '7' }, none[] = { 0 }, set[] = { 9, 0x00, 0x4B, 0, 0 };
+    struct osdp_burst *burst = burst_of(panel, 1600);
+    demand(is_burst(burst, 5, 2, 0x60, none, 0));
+    struct osdp_answer *answer = answer_of(reader, burst, 1600);
+    demand(answer->kind == OSDP_SAID_TAKEN && answer->order == OSDP_ORDER_NONE && is_none(&answer->command));
+    demand(is_burst(&answer->burst, 0x85, 2, 0x53, keys, 3));
+    to_panel(panel, &answer->burst, 1610);
+    struct osdp_report *report = report_of(panel);
+    demand(report->kind == OSDP_REPORT_EVENT && report->entry == 0 && report->detail == 0);
+    demand(is_none(&report->command) && is_message(&report->reply, 0x53, keys, 3));
+
+    demand(osdp_panel_submit(panel, 0, 0x6E, set, 5) == OSDP_OK);
+    burst = burst_of(panel, 1700);
+    demand(is_burst(burst, 5, 3, 0x6E, set, 5));
+    answer = answer_of(reader, burst, 1700);
+    demand(answer->kind == OSDP_SAID_TAKEN && answer->order == OSDP_ORDER_TAKEN);
+    demand(answer->moved == 1 && answer->address == 9 && answer->baud_rate == 19200);
+    demand(is_message(&answer->command, 0x6E, set, 5) && is_burst(&answer->burst, 0x85, 3, 0x54, set, 5));
+    to_panel(panel, &answer->burst, 1710);
+    report = report_of(panel);
+    demand(report->kind == OSDP_REPORT_MOVED && report->entry == 0 && report->detail == 0);
+    demand(is_message(&report->command, 0x6E, set, 5) && is_message(&report->reply, 0x54, set, 5));
+}
+
+/* Nobody answers at the second entry: after three sends the session is lost. */
+static void losing(struct osdp_panel *panel)
+{
+    const uint8_t asked[] = { 0 };
+    demand(osdp_panel_begin(panel, 1, 2000) == OSDP_OK);
+    for (uint64_t now = 2400; now < 3000; now += 200) {
+        demand(is_burst(burst_of(panel, now), 6, 0, 0x61, asked, 1));
+    }
+    demand(burst_of(panel, 3000)->length == 0);
+    struct osdp_report *report = report_of(panel);
+    demand(report->kind == OSDP_REPORT_LOST && report->entry == 1 && report->detail == OSDP_LOST_NO_REPLY);
+    demand(is_none(&report->command) && is_none(&report->reply));
+}
+
+static void texts(void)
+{
+    const uint8_t out[] = { 1, 5, 30, 0 }, keys[] = { 0, 2, '4', '2' };
+    char *text = filled(&first_place, MOST);
+    size_t *length = filled(&second_place, sizeof *length);
+    demand(osdp_command_text(0x68, out, 3, text, MOST, length) == OSDP_BAD_LENGTH);
+    demand(osdp_command_text(0x01, out, 4, text, MOST, length) == OSDP_UNKNOWN_CODE);
+    demand(osdp_reply_text(0x53, keys, 3, text, MOST, length) == OSDP_BAD_COUNT);
+    demand_untouched(&first_place);
+    demand_untouched(&second_place);
+    demand(osdp_command_text(0x68, out, 4, text, 9, length) == OSDP_TOO_SMALL && *length == 10);
+    demand_untouched(&first_place);
+    demand_around(&second_place);
+    demand(osdp_command_text(0x68, out, 4, text, 10, length) == OSDP_OK && *length == 10 && memcmp(text, "OUT 1:5:30", 10) == 0);
+    demand(is_pattern((uint8_t *)text + 10, MOST - 10));
+    demand_around(&first_place);
+
+    text = filled(&first_place, MOST);
+    length = filled(&second_place, sizeof *length);
+    demand(osdp_reply_text(0x53, keys, 4, text, MOST, length) == OSDP_OK && *length == 13 && memcmp(text, "KEYPAD 0 3432", 13) == 0);
+    demand(is_pattern((uint8_t *)text + 13, MOST - 13));
+    demand_around(&first_place);
+    demand_around(&second_place);
+}
+
+/* The longest text of all: 102 LED records, each number of it as long as it can be. */
+static void longest_text(void)
+{
+    static uint8_t data[1428];
+    char *text = filled(&first_place, MOST);
+    size_t *length = filled(&second_place, sizeof *length);
+    memset(data, 255, sizeof data);
+    demand(osdp_command_text(0x69, data, sizeof data, text, MOST, length) == OSDP_OK);
+    demand(*length == 3 + 102 * (1 + 12 * 4 + 5) && memcmp(text, "LED 255:255:", 12) == 0);
+    demand(is_pattern((uint8_t *)text + *length, MOST - *length));
+    demand_around(&first_place);
+    demand_around(&second_place);
+}
+
+int main(void)
+{
+    const uint8_t patterns[] = { 0x00, 0x5A, 0xA5, 0xFF };
+    for (size_t i = 0; i < sizeof patterns; i++) {
+        pattern = patterns[i];
+        struct osdp_panel *panel = no_machine(&panel_place, sizeof *panel);
+        struct osdp_reader *reader = no_machine(&reader_place, sizeof *reader);
+        settings();
+        no_machines(panel, reader);
+        new_machines(panel, reader);
+        waiting(panel, reader);
+        silences(reader);
+        opening(panel, reader);
+        largest(panel, reader);
+        moving(panel, reader);
+        losing(panel);
+        texts();
+        longest_text();
+        demand(osdp_panel_free(panel) == OSDP_OK && is_zero(panel, sizeof *panel));
+        demand(osdp_reader_free(reader) == OSDP_OK && is_zero(reader, sizeof *reader));
+        demand_around(&panel_place);
+        demand_around(&reader_place);
+        no_machines(panel, reader);
+    }
+    return 0;
+}

@@ -1,0 +1,94 @@
+#!/usr/bin/env python3
+"""Holds include/osdp.h and rust/src/sys.rs to the archive: `names.py ARCHIVE`. Prints each disagreement.
+
+- The functions that the header declares, those that rust/ declares, and those that the archive has are the same.
+- What the archive needs from outside is what the header says: its heap, and three calls of C.
+- The constants of both have the same names and values, and the structs the same fields, in their order and of the same types.
+- The functions of both have the same parameters, by names and types."""
+import re
+import subprocess
+import sys
+from pathlib import Path
+
+TOP = Path(__file__).resolve().parent.parent
+HEAP = {"rattle_alloc", "rattle_dealloc"}
+OUTSIDE = HEAP | {"memcpy", "memmove", "memset"}
+TYPES = {
+    "uint8_t": "u8", "uint16_t": "u16", "uint32_t": "u32", "uint64_t": "u64", "size_t": "usize", "char": "c_char", "void": "c_void",
+}
+faults = []
+
+
+def compare(what, ours, theirs):
+    for name in sorted(ours.keys() | theirs.keys()):
+        if ours.get(name) != theirs.get(name):
+            faults.append(f"{what} {name}: {ours.get(name)} in the header, {theirs.get(name)} in rust/src/sys.rs")
+
+
+def c_type(text):
+    """A type of C, as Rust writes it."""
+    words = text.replace("*", " * ").replace("struct ", "").split()
+    const, name = "const" in words, [word for word in words if word not in ("const", "*")][0]
+    pointer = "*const " if const else "*mut "
+    return (pointer if "*" in words else "") + TYPES.get(name, name)
+
+
+def c_field(text):
+    """The name and the type of a field or a parameter of C."""
+    kind, name, count = re.fullmatch(r"(.*?)(\w+)(?:\[(\d+)\])?", text.strip()).groups()
+    return name, f"[{c_type(kind)}; {count}]" if count else c_type(kind)
+
+
+def parts(text, end):
+    return [part.strip() for part in text.split(end) if part.strip()]
+
+
+def header():
+    """What the header declares: its functions, constants and structs."""
+    text = re.sub(r"/\*.*?\*/", "", (TOP / "include/osdp.h").read_text(), flags=re.S)
+    functions = {}
+    for gives, name, takes in re.findall(r"^([\w ]+?)\b((?:osdp|rattle)_\w+)\(([^)]*)\);", text, re.M | re.S):
+        functions[name] = ([c_field(one) for one in parts(takes, ",")], TYPES.get(gives.strip(), gives.strip()))
+    constants = {name: int(value) for name, value in re.findall(r"\b(OSDP_\w+) = (\d+)", text)}
+    structs = {name: [c_field(one) for one in parts(body, ";")] for name, body in re.findall(r"^struct (\w+) \{(.*?)^\};", text, re.M | re.S)}
+    return functions, constants, structs
+
+
+def rust():
+    """What rust/src/sys.rs declares: the same."""
+    text = re.sub(r"//.*", "", (TOP / "rust/src/sys.rs").read_text())
+    functions = {}
+    for name, takes, gives in re.findall(r"pub fn (\w+)\(([^)]*)\)(?:\s*-> (\w+))?;", text):
+        functions[name] = ([tuple(one.split(": ")) for one in parts(takes, ",")], gives or "c_void")
+    constants = {name: int(value) for name, value in re.findall(r"pub const (OSDP_\w+): u32 = (\d+);", text)}
+    fields = {name: parts(body, ",") for name, body in re.findall(r"pub struct (\w+) \{(.*?)\n\}", text, re.S)}
+    structs = {name: [tuple(one.removeprefix("pub ").split(": ")) for one in body] for name, body in fields.items()}
+    return functions, constants, structs
+
+
+def names(archive, *words):
+    """The names that nm prints."""
+    printed = subprocess.run(["nm", *words, archive], check=True, capture_output=True, text=True).stdout
+    return {line.split()[-1] for line in printed.splitlines() if len(line.split()) > 1}
+
+
+def main():
+    declared, constants, structs = header()
+    compare("function", {name: one for name, one in declared.items() if name not in HEAP}, rust()[0])
+    compare("constant", constants, rust()[1])
+    compare("struct", {name: one for name, one in structs.items() if name != "osdp_block"}, rust()[2])
+    for name in sorted((declared.keys() - HEAP) ^ names(sys.argv[1], "--defined-only", "--extern-only")):
+        faults.append(f"{name}: only {'the header' if name in declared else 'the archive'} has it")
+    for name in sorted(names(sys.argv[1], "--undefined-only") - OUTSIDE):
+        faults.append(f"{name}: the archive needs it, and the header doesn't say so")
+    if not HEAP <= declared.keys():
+        faults.append("the header doesn't declare the heap")
+    if len(declared) < 20 or len(constants) < 30 or len(structs) < 9:
+        faults.append("declarations are not there")
+    for fault in faults:
+        print(fault)
+    return 1 if faults else 0
+
+
+if __name__ == "__main__":
+    sys.exit(main())
