@@ -6,3 +6,4 @@ pub mod BusRounds
 pub mod Ends
 pub mod Rounds
 pub mod Coming
+pub mod Clearing

@@ -1,6 +1,6 @@
 -- Something comes through for each of several readers: of rounds that lose nothing every reader has its share, and each but the first of
 -- them settles a command or reports an event.
-use Rattle.std.specs.Prelude.{◌≡◌, ◌≤◌, ℕ, ◌+◌, ◌-◌, ◌/◌, min, true, false, All, List, [], ◌++◌, length, Some, slice_get}
+use Rattle.std.specs.Prelude.{◌≡◌, ◌≤◌, ℕ, zero, suc, ◌+◌, ◌-◌, ◌/◌, min, true, false, All, List, [], ◌∷◌, ◌++◌, length, Some, slice_get}
 use Rattle.osdp_msg.specs.declared.command.Command.{Command}
 use Rattle.osdp_controller_laws.specs.Calls.{longest_wait}
 use Rattle.osdp_reader.specs.declared.handler.Answer.{Answer}
@@ -8,7 +8,9 @@ use Rattle.osdp_bus.specs.Settings.{controller_config}
 use Rattle.osdp_bus.specs.declared.config.BusConfig.{BusConfig}
 use Rattle.osdp_link_laws.specs.Progress.{SetsNoAddress}
 use Rattle.osdp_sim.specs.Account.{Account}
+use Rattle.osdp_sim.specs.declared.step.Move.TheVariants.{Drop}
 use Rattle.osdp_sim.specs.declared.step.SimStep.{SimStep}
+use Rattle.osdp_sim.specs.declared.step.SimStep.TheVariants.{Busy, ToController, ToReader}
 use Rattle.osdp_sim_bus.specs.Runs.{AreSettings, FitAlong, is_well, run}
 use Rattle.osdp_sim_bus.specs.State.{Given, LineState, Site, accounts, set_up}
 use Rattle.osdp_sim_laws.specs.Accounts.{IsInSession}
@@ -22,6 +24,23 @@ ComesOn m readers before a = min (done before + (m / readers - 1)) (length a.iss
 abbrev pub EachComesOn : ℕ → ℕ → List Account → List Account → Type 0
 EachComesOn m readers before last = (k : ℕ) (old new : Account) → slice_get before k ≡ Some old → slice_get last k ≡ Some new
     → ComesOn m readers old new
+
+-- none of so many readers is busy any more ..
+abbrev pub all_ready : ℕ → List SimStep
+all_ready zero = []
+all_ready (suc n) = all_ready n ++ Busy (suc n) false ∷ []
+
+-- .. and so many bursts are lost in each direction, if as many are on the line
+abbrev pub losses : ℕ → List SimStep
+losses zero = []
+losses (suc n) = ToReader Drop ∷ ToController Drop ∷ losses n
+
+abbrev pub clear : ℕ → ℕ → List SimStep
+clear readers most = all_ready readers ++ losses most
+
+-- no COMSET to a device's address was issued
+abbrev pub NoneMoves : List Account → Type 0
+NoneMoves told = All (λ (a : Account). All SetsNoAddress a.issued) told
 
 -- no session has ended
 abbrev pub NoneHasEnded : List Account → Type 0
@@ -54,4 +73,15 @@ module _ {H : Type 0} where
         → let before = run answer_of after steps (set_up config readers) in
         IsClear before
         → let last = run answer_of after (steps ++ rounds m wait) (set_up config readers) in
+        NoneHasEnded (accounts last) → EachComesOn m (length readers) (accounts before) (accounts last)
+
+    -- whatever the steps were in which no session begins again: after them the readers are set ready and all that is on the line is lost,
+    -- and over m rounds something comes through for each reader, where no COMSET to a device's address was issued and no session has ended
+    abbrev pub EachRecovers : Type 0
+    EachRecovers = (config : BusConfig) (readers : List (Given H)) (steps : List SimStep) (most m wait : ℕ)
+        → IsRun config readers ((steps ++ clear (length readers) most) ++ rounds m wait) → All IsInSession steps
+        → longest_wait (controller_config 0 config) ≤ wait
+        → let before = run answer_of after steps (set_up config readers) in
+        length before.to_readers ≤ most → length before.to_bus ≤ most → NoneMoves (accounts before)
+        → let last = run answer_of after ((steps ++ clear (length readers) most) ++ rounds m wait) (set_up config readers) in
         NoneHasEnded (accounts last) → EachComesOn m (length readers) (accounts before) (accounts last)

@@ -2,7 +2,7 @@
 //! laws.
 #![tactic(auto)]
 
-ghost use Rattle.osdp_bus_progress.specs.Progress.{EachComesThrough};
+ghost use Rattle.osdp_bus_progress.specs.Progress.{EachComesThrough, EachRecovers};
 
 use osdp_reader::Handler;
 
@@ -23,4 +23,16 @@ pub fn each_comes_through<H: Handler>()
     osdp_controller_laws::endings_are_told();
     osdp_controller_laws::stays_in_range();
     osdp_controller_laws::ticks_come_due();
+}
+
+/// The same after any steps in which no session begins again, with no COMSET to a device's address issued: once every reader has been set
+/// ready and all bursts on the line have been lost, each of n readers has m / n - 1 more of its commands and events, or all of them, settled
+/// and reported over m such rounds, where no session has ended.
+pub fn each_recovers<H: Handler>()
+    ensures { EachRecovers H.answer_of H.after }
+{
+    each_comes_through::<H>();
+    osdp_sim::laws::reads_packets();
+    osdp_sim_bus::laws::tells_at_once::<H>();
+    osdp_sim_bus::laws::has_an_account_each::<H>();
 }

@@ -1,2 +1,4 @@
 pub mod OneLine
 pub mod OneScript
+pub mod PrintedLine
+pub mod ReadBack

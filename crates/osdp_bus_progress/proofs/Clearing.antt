@@ -1,0 +1,229 @@
+-- A line is cleared: its readers are set ready, and what is on it is lost.
+use Rattle.std.proofs.Common.{◌≡◌, ◌≤◌, ◌<◌, ◌-◌, ◌+◌, ℕ, zero, suc, Bool, true, false, ◌&&◌, cond, List, [], ◌∷◌, ◌++◌, length, map, Option, Some, None, is_some, refl, sym, subst, ap, ◌∙◌, arith}
+use Rattle.std.specs.Prelude.{nat_le, slice_get, slice_set}
+use Rattle.std.specs.List.{All}
+use Rattle.std.specs.Option.{option_map_or}
+use Rattle.std.proofs.lemmas.Bool.{le-leb}
+use Rattle.std.proofs.lemmas.List.{length-map}
+use Rattle.std.proofs.lemmas.List.Elements.{All-append, All-cons, All-head, All-nil, All-tail}
+use Rattle.osdp_msg.specs.declared.command.Command.{Command}
+use Rattle.osdp_reader.specs.declared.handler.Answer.{Answer}
+use Rattle.osdp_bus.specs.Machine.{after_next_report}
+use Rattle.osdp_bus.specs.declared.config.BusConfig.{BusConfig}
+use Rattle.osdp_controller.specs.declared.report.Report.{Report}
+use Rattle.osdp_link_laws.specs.Progress.{SetsNoAddress}
+use Rattle.osdp_sim.specs.Account.{Account}
+use Rattle.osdp_sim.specs.Line.{handed, left, packets_in}
+use Rattle.osdp_sim.specs.declared.step.Move.TheVariants.{Drop}
+use Rattle.osdp_sim.specs.declared.step.SimStep.{SimStep}
+use Rattle.osdp_sim.specs.declared.step.SimStep.TheVariants.{Busy, ToController, ToReader}
+use Rattle.osdp_sim_bus.specs.Laws.{HasAnAccountEach, TellsAtOnce}
+use Rattle.osdp_sim_bus.specs.Runs as simulation
+use Rattle.osdp_sim_bus.specs.State.{Given, LineState, Site, accounts, set_up}
+use Rattle.osdp_sim_bus.specs.Steps.{after_step, all_hear_each, changed_site, hears_run, is_there, site_is_busy, takes_report, told}
+use Rattle.osdp_sim_laws.specs.Accounts.{IsInSession}
+use Rattle.osdp_sim_laws.specs.Progress.{rounds}
+use Rattle.osdp_bus_progress.specs.Progress.{EachComesOn, EachComesThrough, EachRecovers, IsClear, IsReady, NoneMoves, all_ready, clear, losses}
+
+-- ---- the readers
+
+module _ {H : Type 0} where
+  -- the first so many readers aren't busy
+  calm : ℕ → List (Site H) → List (Site H)
+  calm zero sites = sites
+  calm (suc n) [] = []
+  calm (suc n) (site ∷ sites) = site_is_busy false site ∷ calm n sites
+
+  calm_long : (n : ℕ) (sites : List (Site H)) → length (calm n sites) ≡ length sites
+  unfolding calm
+  calm_long zero sites = refl
+  calm_long (suc n) [] = refl
+  calm_long (suc n) (site ∷ sites) = ap (λ (k : ℕ). suc k) (calm_long n sites)
+
+  calm_accounts : (n : ℕ) (sites : List (Site H)) → map (λ (site : Site H). site.account) (calm n sites) ≡ map (λ (site : Site H). site.account) sites
+  unfolding calm
+  calm_accounts zero sites = refl
+  calm_accounts (suc n) [] = refl
+  calm_accounts (suc n) (site ∷ sites) = ap (λ (l : List Account). site.account ∷ l) (calm_accounts n sites)
+
+  -- the next one too
+  later_site : (n : ℕ) (site : Site H) (sites : List (Site H)) (o : Option (Site H))
+      → option_map_or (λ (x : Site H). slice_set (site ∷ sites) (suc n) (site_is_busy false x)) o (site ∷ sites)
+      ≡ site ∷ option_map_or (λ (x : Site H). slice_set sites n (site_is_busy false x)) o sites
+  later_site n site sites None = refl
+  later_site n site sites (Some x) = refl
+
+  one_more : (n : ℕ) (sites : List (Site H)) → changed_site n (site_is_busy false) (calm n sites) ≡ calm (suc n) sites
+  unfolding calm
+  one_more zero [] = refl
+  one_more zero (site ∷ sites) = refl
+  one_more (suc n) [] = refl
+  one_more (suc n) (site ∷ sites) =
+      later_site n (site_is_busy false site) (calm n sites) (slice_get (calm n sites) n)
+      ∙ ap (λ (l : List (Site H)). site_is_busy false site ∷ l) (one_more n sites)
+
+  abbrev IsCalm : Site H → Type 0
+  IsCalm site = site.reader.busy ≡ false
+
+  all_calm : (sites : List (Site H)) → All IsCalm (calm (length sites) sites)
+  unfolding calm
+  all_calm [] = All-nil IsCalm
+  all_calm (site ∷ sites) = All-cons IsCalm (site_is_busy false site) (calm (length sites) sites) refl (all_calm sites)
+
+  -- readers that aren't busy, to which nothing was issued that moves them, are ready
+  are_ready : (sites : List (Site H)) → All IsCalm sites → NoneMoves (map (λ (site : Site H). site.account) sites) → All IsReady sites
+  are_ready [] h k = All-nil IsReady
+  are_ready (site ∷ sites) h k =
+      let Moves : Account → Type 0 = λ a. All SetsNoAddress a.issued in
+      let others = map (λ (x : Site H). x.account) sites in
+      All-cons IsReady site sites
+      (record { ready = All-head IsCalm site sites h; issued = All-head Moves site.account others k })
+      (are_ready sites (All-tail IsCalm site sites h) (All-tail Moves site.account others k))
+
+-- ---- the steps
+
+none_handed : (l : List (List ℕ)) → handed Drop l ≡ []
+none_handed [] = refl
+none_handed (burst ∷ rest) = refl
+
+one_less : (l : List (List ℕ)) → length (left Drop l) ≡ length l - 1
+one_less [] = refl
+one_less (burst ∷ rest) = omega arith
+
+nothing_left : (l : List (List ℕ)) (most : ℕ) → length l ≡ 0 → l ≡ []
+nothing_left [] most e = refl
+nothing_left (burst ∷ rest) most e = absurd (omega arith)
+
+-- the steps are of one session
+in_session : (readers most : ℕ) → All IsInSession (clear readers most)
+in_session readers most = All-append IsInSession (all_ready readers) (losses most) (set_ready readers) (lost most)
+  where
+    set_ready : (n : ℕ) → All IsInSession (all_ready n)
+    set_ready zero = All-nil IsInSession
+    set_ready (suc n) =
+        All-append IsInSession (all_ready n) (Busy (suc n) false ∷ []) (set_ready n) (All-cons IsInSession (Busy (suc n) false) [] tt (All-nil IsInSession))
+
+    lost : (n : ℕ) → All IsInSession (losses n)
+    lost zero = All-nil IsInSession
+    lost (suc n) =
+        All-cons IsInSession (ToReader Drop) (ToController Drop ∷ losses n) tt (All-cons IsInSession (ToController Drop) (losses n) tt (lost n))
+
+no_report : (o : Option (ℕ × Report)) → is_some o ≡ false → o ≡ None
+no_report None e = refl
+no_report (Some r) e = absurd cc
+
+module _ {H : Type 0} (answer_of : H → Command → Answer) (after : H → Command → H) where
+  runs_on : (xs ys : List SimStep) (s : LineState H) → simulation.run answer_of after (xs ++ ys) s ≡ simulation.run answer_of after ys (simulation.run answer_of after xs s)
+  runs_on [] ys s = refl
+  runs_on (x ∷ xs) ys s = runs_on xs ys (after_step answer_of after x s)
+
+  -- a reader that is there is set ready
+  sets_ready : (n : ℕ) (s : LineState H) → suc n ≤ length s.sites
+      → after_step answer_of after (Busy (suc n) false) s ≡ record s { sites = changed_site n (site_is_busy false) s.sites }
+  sets_ready n s there =
+      let next = record s { sites = changed_site n (site_is_busy false) s.sites } in
+      let back : suc n - 1 ≡ n = omega arith in
+      let known = nat_le 1 (suc n) && nat_le (suc n) (length s.sites) in
+      ap (λ (k : ℕ). cond known (record s { sites = changed_site k (site_is_busy false) s.sites }) s) back
+      ∙ ap (λ t. cond (t && nat_le (suc n) (length s.sites)) next s) (le-leb 1 (suc n) (omega arith))
+      ∙ ap (λ t. cond t next s) (le-leb (suc n) (length s.sites) there)
+
+  ready_run : (n : ℕ) (s : LineState H) → n ≤ length s.sites → simulation.run answer_of after (all_ready n) s ≡ record s { sites = calm n s.sites }
+  unfolding calm
+  ready_run zero s h = refl
+  ready_run (suc n) s h =
+      let before = record s { sites = calm n s.sites } in
+      let long = calm_long n s.sites in
+      runs_on (all_ready n) (Busy (suc n) false ∷ []) s
+      ∙ ap (λ (t : LineState H). after_step answer_of after (Busy (suc n) false) t) (ready_run n s (omega arith))
+      ∙ sets_ready n before (omega arith)
+      ∙ ap (λ (sites : List (Site H)). record s { sites = sites }) (one_more n s.sites)
+
+  drops_front : packets_in [] ≡ [] → (s : LineState H)
+      → after_step answer_of after (ToReader Drop) s ≡ record s { to_readers = left Drop s.to_readers }
+  drops_front none s =
+      let next = record s { to_readers = left Drop s.to_readers } in
+      ap (λ (bytes : List ℕ). all_hear_each answer_of after (packets_in bytes) next) (none_handed s.to_readers)
+      ∙ ap (λ ps. all_hear_each answer_of after ps next) none
+
+  drops_answer : (s : LineState H) → s.bus.devices.report ≡ None
+      → after_step answer_of after (ToController Drop) s ≡ record s { bus = after_next_report s.bus; to_bus = left Drop s.to_bus }
+  drops_answer s none =
+      let next = record s { to_bus = left Drop s.to_bus } in
+      ap (λ (bytes : List ℕ). takes_report (record s { bus = hears_run bytes s.clock s.bus; to_bus = left Drop s.to_bus })) (none_handed s.to_bus)
+      ∙ ap (λ o. told o (record next { bus = after_next_report next.bus })) none
+
+  -- what is left after so many losses
+  record IsLeft (n : ℕ) (s t : LineState H) : Type 0 where
+    pub to_readers : length t.to_readers ≡ length s.to_readers - n
+    pub to_bus : length t.to_bus ≡ length s.to_bus - n
+    pub sites : t.sites ≡ s.sites
+
+  losses_run : packets_in [] ≡ [] → (n : ℕ) (s : LineState H) → s.bus.devices.report ≡ None
+      → IsLeft n s (simulation.run answer_of after (losses n) s)
+  losses_run none zero s waits = record { to_readers = omega arith; to_bus = omega arith; sites = refl }
+  losses_run none (suc n) s waits =
+      let mid = record s { to_readers = left Drop s.to_readers } in
+      let next = record mid { bus = after_next_report mid.bus; to_bus = left Drop mid.to_bus } in
+      let rest = losses_run none n next refl in
+      let here : simulation.run answer_of after (losses (suc n)) s ≡ simulation.run answer_of after (losses n) next =
+      ap (λ (t : LineState H). simulation.run answer_of after (losses n) (after_step answer_of after (ToController Drop) t)) (drops_front none s)
+      ∙ ap (λ (t : LineState H). simulation.run answer_of after (losses n) t) (drops_answer mid waits) in
+      subst (λ (t : LineState H). IsLeft (suc n) s t) (sym here) (shorter n s next (simulation.run answer_of after (losses n) next) rest (one_less s.to_readers) (one_less s.to_bus) refl)
+    where
+      shorter : (k : ℕ) (a b c : LineState H) → IsLeft k b c → length b.to_readers ≡ length a.to_readers - 1 → length b.to_bus ≡ length a.to_bus - 1
+          → b.sites ≡ a.sites → IsLeft (suc k) a c
+      shorter k a b c is readers bus same =
+          let one = is.to_readers in
+          let other = is.to_bus in
+          record { to_readers = omega arith; to_bus = omega arith; sites = is.sites ∙ same }
+
+  -- ---- the line is clear, and no account has changed
+
+  record IsCleared (before s : LineState H) : Type 0 where
+    pub line : IsClear s
+    pub same : accounts s ≡ accounts before
+
+  cleared : packets_in [] ≡ [] → (s : LineState H) (readers most : ℕ) → s.bus.devices.report ≡ None → length s.sites ≡ readers
+      → length s.to_readers ≤ most → length s.to_bus ≤ most → NoneMoves (accounts s)
+      → IsCleared s (simulation.run answer_of after (clear readers most) s)
+  cleared none s readers most waits all few less moves =
+      let ready = record s { sites = calm readers s.sites } in
+      let end = simulation.run answer_of after (losses most) ready in
+      let here : simulation.run answer_of after (clear readers most) s ≡ end =
+      runs_on (all_ready readers) (losses most) s
+      ∙ ap (λ (t : LineState H). simulation.run answer_of after (losses most) t) (ready_run readers s (omega arith)) in
+      let is = losses_run none most ready waits in
+      let short = is.to_readers in
+      let small = is.to_bus in
+      let calm_sites : All IsCalm (calm readers s.sites) = subst (λ (n : ℕ). All IsCalm (calm n s.sites)) all (all_calm s.sites) in
+      let told_same : accounts end ≡ accounts s =
+      ap (λ (sites : List (Site H)). map (λ (site : Site H). site.account) sites) is.sites ∙ calm_accounts readers s.sites in
+      let sites : All IsReady end.sites =
+      are_ready end.sites (subst (λ (l : List (Site H)). All IsCalm l) (sym is.sites) calm_sites) (subst NoneMoves (sym told_same) moves) in
+      subst (λ (t : LineState H). IsCleared s t) (sym here)
+      (record {
+        line = record {
+          to_readers = nothing_left end.to_readers most (omega arith);
+          to_bus = nothing_left end.to_bus most (omega arith);
+          readers = sites;
+        };
+        same = told_same;
+      })
+
+  pub each_recovers : EachComesThrough answer_of after → packets_in [] ≡ [] → TellsAtOnce answer_of after → HasAnAccountEach answer_of after
+      → EachRecovers answer_of after
+  each_recovers comes none tells counts config readers steps most m wait is within long few less moves none_ended =
+      let before = simulation.run answer_of after steps (set_up config readers) in
+      let all_steps = steps ++ clear (length readers) most in
+      let mid = simulation.run answer_of after all_steps (set_up config readers) in
+      let waits = no_report before.bus.devices.report (tells config readers steps) in
+      let places : length before.sites ≡ length readers =
+      sym (length-map before.sites (λ (site : Site H). site.account)) ∙ counts config readers steps in
+      let over : IsCleared before mid =
+      subst (λ (t : LineState H). IsCleared before t) (sym (runs_on steps (clear (length readers) most) (set_up config readers)))
+      (cleared none before (length readers) most waits places few less moves) in
+      let session = All-append IsInSession steps (clear (length readers) most) within (in_session (length readers) most) in
+      let through = comes config readers all_steps m wait is session long over.line none_ended in
+      subst (λ (l : List Account). EachComesOn m (length readers) l (accounts (simulation.run answer_of after (all_steps ++ rounds m wait) (set_up config readers))))
+      over.same through

@@ -1,0 +1,7 @@
+use Rattle.osdp_bus_progress.proofs.Clearing.{each_recovers}
+use Rattle.osdp_bus_progress.proofs.each_recovers.Goals as goal
+
+pub returns : goal.returns
+returns g c =
+    each_recovers g.H.Handler.answer_of g.H.Handler.after c.each_comes_through.ensures c.reads_packets.ensures.none c.tells_at_once.ensures
+    c.has_an_account_each.ensures
