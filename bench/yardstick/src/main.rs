@@ -1,5 +1,5 @@
 //! The yardstick: `show` and `check` as a plain streaming program, with std alone. It reads 64 KiB at a time,
-//! computes the CRC by a table, and allocates nothing for a line. It knows the messages that the inputs of the
+//! computes the CRC and reads digits by tables, and allocates nothing for a line. It knows the messages that the inputs of the
 //! bench hold, and reads one byte on after a refusal the plain way: each check is computed anew.
 
 mod machines;
@@ -237,14 +237,22 @@ impl<W: Write> Printer<W> {
     }
 }
 
-fn digit(byte: u8) -> Option<u8> {
-    match byte {
-        b'0'..=b'9' => Some(byte - b'0'),
-        b'a'..=b'f' => Some(byte - b'a' + 10),
-        b'A'..=b'F' => Some(byte - b'A' + 10),
-        _ => None,
+/// What a character is that is no digit.
+const NO_DIGIT: u8 = 255;
+
+const fn digit_table() -> [u8; 256] {
+    let mut table = [NO_DIGIT; 256];
+    let mut value = 0;
+    while value < 16 {
+        let upper = DIGITS[value as usize];
+        table[upper as usize] = value;
+        table[upper.to_ascii_lowercase() as usize] = value;
+        value += 1;
     }
+    table
 }
+
+static DIGIT_TABLE: [u8; 256] = digit_table();
 
 /// The bytes of a line, after those that `run` holds. False where the line is bad.
 fn line_bytes(line: &[u8], run: &mut Vec<u8>) -> bool {
@@ -256,7 +264,10 @@ fn line_bytes(line: &[u8], run: &mut Vec<u8>) -> bool {
             b'#' if first => return true,
             _ => first = false,
         }
-        let Some(digit) = digit(*byte) else { return false };
+        let digit = DIGIT_TABLE[usize::from(*byte)];
+        if digit == NO_DIGIT {
+            return false;
+        }
         match high.take() {
             None => high = Some(digit),
             Some(front) => run.push(front << 4 | digit),

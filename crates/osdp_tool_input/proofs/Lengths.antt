@@ -22,7 +22,7 @@ filter_short test (x ∷ xs) = go (filter_short test xs) (test x)
     go ih true = omega arith
     go ih false = omega arith
 
-said_short : (characters bytes : List ℕ) → said characters ≡ Some bytes → length bytes ≤ length characters
+pub said_short : (characters bytes : List ℕ) → said characters ≡ Some bytes → length bytes ≤ length characters
 said_short [] bytes h = let none : bytes ≡ [] = cc in rw none (omega arith)
 said_short (c ∷ characters) bytes h = go (c == 35) h
   where

@@ -5,3 +5,5 @@ pub mod Bytes
 pub mod Spelled
 pub mod BadLines
 pub mod Lengths
+pub mod Whole
+pub mod DigitValues

@@ -17,7 +17,7 @@ read_digit : (c i : ℕ) (o : Option ℕ) (v : ℕ) → digit_or_error c i o ≡
 read_digit c i (Some w) v h = cc
 read_digit c i None v h = cc
 
-small : (c v : ℕ) → hex_digit_value c ≡ Some v → v < 16
+pub small : (c v : ℕ) → hex_digit_value c ≡ Some v → v < 16
 small c v h = grind (arith)
 
 -- what is decoded was spelled
@@ -62,7 +62,7 @@ spelled_even (high ∷ []) bytes s = absurd s
 spelled_even (high ∷ low ∷ rest) [] s = absurd s
 spelled_even (high ∷ low ∷ rest) (b ∷ bytes) s = let e = spelled_even rest bytes s.2 in omega arith
 
-result_is : (r : Result (List ℕ) FromHexError) (bytes : List ℕ) → result_ok r ≡ Some bytes → r ≡ Ok bytes
+pub result_is : (r : Result (List ℕ) FromHexError) (bytes : List ℕ) → result_ok r ≡ Some bytes → r ≡ Ok bytes
 result_is (Ok x) bytes h = cc
 result_is (Err e) bytes h = cc
 

@@ -1,10 +1,9 @@
 //! A line of hexadecimal digits.
 
-ghost use Rattle.std.specs.Prelude.{◌≡◌, ◌++◌, ◌*◌, ◌≤◌, true, false, length, IfOk, OnOk, MatchOption};
-ghost use Rattle.std.specs.Result.{result_ok};
-ghost use Rattle.hex.specs.Hex.{decode_of};
+ghost use Rattle.std.specs.Prelude.{◌≡◌, ◌++◌, ◌*◌, ◌≤◌, [], true, false, length, IfOk, OnOk, MatchOption};
 ghost use Rattle.osdp_tool_input.specs.Line.{is_blank, kept, said};
 
+use crate::digits::Digits;
 use std::alloc::AllocError;
 
 /// Whether a character is a space, a tab or a carriage return.
@@ -47,16 +46,12 @@ pub fn keep(line: &mut Vec<u8>, characters: &[u8]) -> Result<(), AllocError>
     line.extend_from_slice(characters)
 }
 
-/// Reads digits into a slice of half as many bytes; false where one of them is no digit.
-fn decode(characters: &[u8], bytes: &mut [u8]) -> bool
-    requires { length characters.now ≡ 2 * length bytes.old }
-    ensures { MatchOption (result_ok (decode_of characters.now)) (result ≡ false) (λ bytes_read. (result ≡ true) × (bytes.new ≡ bytes_read)) }
-{
-    hex::decode_to_slice(characters, bytes).is_ok()
-}
-
 /// Puts what the characters of a line say in place of these bytes; false where the line is bad.
-pub fn read_digits(characters: &[u8], bytes: &mut Vec<u8>) -> Result<bool, AllocError>
+fn read_digits(
+    digits: &Digits,
+    characters: &[u8],
+    bytes: &mut Vec<u8>,
+) -> Result<bool, AllocError>
     ensures read { IfOk result (λ good. MatchOption (said characters.now) (good ≡ false) (λ read. (good ≡ true) × (bytes.new.items ≡ read))) }
     ensures length { IfOk result (λ good. good ≡ true → 2 * length bytes.new.items ≤ length characters.now) }
 {
@@ -71,5 +66,27 @@ pub fn read_digits(characters: &[u8], bytes: &mut Vec<u8>) -> Result<bool, Alloc
         return Ok(false);
     }
     bytes.resize(characters.len() / 2, 0)?;
-    Ok(decode(characters, bytes.as_mut_slice()))
+    Ok(digits.read(characters, bytes.as_mut_slice()))
+}
+
+/// Puts what a line says in place of these bytes, whose characters that count are those of `line` and then those of
+/// `characters` that do; false where the line is bad. Then nothing is held of the line.
+///
+/// Where nothing is held and all characters are digits, they are read where they stand.
+pub fn read_line(
+    digits: &Digits,
+    line: &mut Vec<u8>,
+    characters: &[u8],
+    bytes: &mut Vec<u8>,
+) -> Result<bool, AllocError>
+    ensures read { IfOk result (λ good. MatchOption (said (line.old.items ++ kept characters.now)) (good ≡ false) (λ read. (good ≡ true) × (bytes.new.items ≡ read))) }
+    ensures line { OnOk result (line.new.items ≡ []) }
+{
+    if line.is_empty() && read_digits(digits, characters, bytes)? {
+        return Ok(true);
+    }
+    keep(line, characters)?;
+    let good = read_digits(digits, line, bytes)?;
+    line.clear();
+    Ok(good)
 }

@@ -2,6 +2,7 @@ pub mod HexText
 pub mod Lines
 pub mod BareMessages
 pub mod Decimals
+pub mod Passed
 pub mod Cuts
 pub mod OneMessage
 pub mod OneItem

@@ -1,6 +1,7 @@
 //! Where the text stands, and what has been counted.
 
-ghost use Rattle.std.specs.Prelude.{◌≡◌, ◌+◌, ◌<◌, ◌^◌};
+ghost use Rattle.std.specs.Prelude.{◌≡◌, ◌+◌, ◌*◌, ◌<◌, ◌^◌, length, map};
+ghost use Rattle.osdp_frame.specs.Reading.{Passed};
 
 /// What the lines so far have told of the runs.
 #[derive(Clone, Copy, Debug, PartialEq, Eq)]
@@ -18,7 +19,7 @@ pub struct Tally {
 }
 
 impl Tally {
-    ghost use Rattle.osdp_tool_lines.specs.Tally.{no_tally, after_run};
+    ghost use Rattle.osdp_tool_lines.specs.Tally.{no_tally, after_parts, after_run, counted};
 
     /// Nothing has come.
     pub fn new() -> Tally
@@ -31,6 +32,17 @@ impl Tally {
             skipped: 0,
             refused: 0,
         }
+    }
+
+    /// Counts skipped bytes at once, where none of them has a line.
+    #[tactic(auto, using(crate::proofs::Passed::after_passed))]
+    pub fn pass(&mut self, bytes: &[u8])
+        requires { counted self.old + 2 * length bytes.now < 2 ^ 63 }
+        ensures { self.new ≡ after_parts self.old (map Passed bytes.now) }
+    {
+        let count = bytes.len() as u64;
+        self.place += count;
+        self.skipped += count;
     }
 
     /// The run has ended; one without bytes isn't counted.

@@ -4,6 +4,7 @@ pub mod ShortReads
 pub mod Drains
 pub mod Standing
 pub mod WholeItems
+pub mod Passed
 pub mod Pieces
 pub mod Works
 pub mod Whole

@@ -1,5 +1,5 @@
 -- A capture that goes on, piece by piece.
-use Rattle.std.proofs.Common.{◌≡◌, ℕ, ◌+◌, ◌<◌, ◌≤◌, not, Bool, true, false, List, [], ◌∷◌, ◌++◌, length, take, drop, get_or, string_bytes, Option, Some, None, MatchOption, ◌⊎◌, inl, inr, refl, sym, subst, ap, ◌∙◌, arith, append_assoc, append-nil, length-append}
+use Rattle.std.proofs.Common.{◌≡◌, ℕ, ◌+◌, ◌*◌, ◌^◌, ◌<◌, ◌≤◌, not, Bool, true, false, List, [], ◌∷◌, ◌++◌, length, take, drop, get_or, string_bytes, Option, Some, None, MatchOption, ◌⊎◌, inl, inr, refl, sym, subst, ap, ◌∙◌, arith, append_assoc, append-nil, length-append}
 use Rattle.std.specs.Io.KnownBytes.{Appends, append_known}
 use Rattle.std.proofs.KnownBytes.{Appends-nil}
 use Rattle.std.proofs.Math.Seq.{take-add}
@@ -24,7 +24,7 @@ use Rattle.osdp_tool_lines.proofs.Lines.{after_parts-nil, parts_lines-nil}
 use Rattle.osdp_tool_show.specs.declared.capture.Capture.{Capture}
 use Rattle.osdp_tool_show.specs.declared.report.Report.{Report}
 use Rattle.osdp_tool_show.specs.Machine.{told, IsSettled, Stands, Took, EndedRun}
-use Rattle.osdp_tool_show.specs.Capture.{LineStands, OpenLine, Follows, Stops, FollowsIf, TookPiece}
+use Rattle.osdp_tool_show.specs.Capture.{load, LineStands, OpenLine, Follows, Stops, FollowsIf, TookPiece}
 
 -- one piece after another
 pub took_both : (xs ys : List ℕ) (good : Bool) (a b c : Capture) (before middle after : Option (List ℕ))
@@ -305,7 +305,7 @@ begins full capture start line ended framer full_is tally text = record {
 
 -- ---- a line within a piece
 
-length-kept : (xs : List ℕ) → length (kept xs) ≤ length xs
+pub length-kept : (xs : List ℕ) → length (kept xs) ≤ length xs
 length-kept xs = let both = length-filter_both (λ b. not (is_blank b)) (λ b. not (not (is_blank b))) (λ b. refl) xs in omega arith
 
 pub held_part : (piece : List ℕ) (old new : Capture) (now : Option (List ℕ)) → IsLine piece → (old.form ≡ Raw → ⊥) → IsSettled old.framer
@@ -315,20 +315,47 @@ held_part piece old new now whole lines settled form_is ended_is framer_is repor
     held_line piece old new now whole lines settled form_is ended_is framer_is report_is (length-kept piece) line_is
 
 -- a line and its line feed, after what was taken of the piece
-pub took_line : (piece : List ℕ) (at count : ℕ) (good : Bool) (a b c d : Capture) (before middle after : Option (List ℕ))
-    → HasLine (drop at piece) count → TookPiece (take at piece) true a b before middle → TookPiece (take count (drop at piece)) true b c middle middle
-    → TookPiece (line_feed ∷ []) good c d middle after → TookPiece (take (at + (count + 1)) piece) good a d before after
-took_line piece at count good a b c d before middle after h first second third =
+pub took_line : (piece : List ℕ) (at count : ℕ) (good : Bool) (a b c : Capture) (before middle after : Option (List ℕ))
+    → HasLine (drop at piece) count → TookPiece (take at piece) true a b before middle
+    → TookPiece (take count (drop at piece) ++ line_feed ∷ []) good b c middle after → TookPiece (take (at + (count + 1)) piece) good a c before after
+took_line piece at count good a b c before middle after h first second =
     let rest = drop at piece in
     let one_more : take (count + 1) rest ≡ take count rest ++ line_feed ∷ [] =
     take_more rest count 0 h.below ∙ ap (λ n. take count rest ++ n ∷ []) h.feed in
-    subst (λ l. TookPiece l good a d before after)
-    (append_assoc (take at piece) (take count rest) (line_feed ∷ []) ∙ ap (λ l. take at piece ++ l) (sym one_more) ∙ sym (take-add at (count + 1) piece))
-    (took_both (take at piece ++ take count rest) (line_feed ∷ []) good a c d before middle after
-    (took_both (take at piece) (take count rest) true a b c before middle middle first second) third)
+    subst (λ l. TookPiece l good a c before after)
+    (ap (λ l. take at piece ++ l) (sym one_more) ∙ sym (take-add at (count + 1) piece))
+    (took_both (take at piece) (take count rest ++ line_feed ∷ []) good a b c before middle after first second)
 
 -- what is left of the piece is part of a line
 pub took_rest : (piece : List ℕ) (at : ℕ) (a b c : Capture) (before middle : Option (List ℕ))
     → TookPiece (take at piece) true a b before middle → TookPiece (drop at piece) true b c middle middle → TookPiece piece true a c before middle
 took_rest piece at a b c before middle first second =
     subst (λ l. TookPiece l true a c before middle) (take-append-drop at piece) (took_both (take at piece) (drop at piece) true a b c before middle middle first second)
+
+-- what is held of a line with these characters
+abbrev pub Room : Capture → List ℕ → Type 0
+Room capture characters = load capture + 5 * length characters < 2 ^ 61
+
+abbrev pub holding : (capture : Capture) (characters : List ℕ) → Room capture characters → Capture
+holding capture characters room =
+    let whole = capture.line.items ++ kept characters in
+    record capture {
+      line = record capture.line {
+        items = whole;
+        len = length whole;
+        cap = length whole;
+        ok = (refl, omega arith);
+        small = omega (arith, room, length-append capture.line.items (kept characters), length-kept characters);
+      };
+    }
+
+pub held_by : (characters : List ℕ) (old : Capture) (room : Room old characters) (now : Option (List ℕ)) → IsLine characters → (old.form ≡ Raw → ⊥)
+    → IsSettled old.framer → TookPiece characters true old (holding old characters room) now now
+held_by characters old room now whole lines settled = held_part characters old (holding old characters room) now whole lines settled refl refl refl refl refl
+
+-- a line that ends after these characters, as one that held them
+pub took_ended : (characters : List ℕ) (good : Bool) (old new : Capture) (room : Room old characters) (before after : Option (List ℕ)) → IsLine characters
+    → (old.form ≡ Raw → ⊥) → IsSettled old.framer → TookPiece (line_feed ∷ []) good (holding old characters room) new before after
+    → TookPiece (characters ++ line_feed ∷ []) good old new before after
+took_ended characters good old new room before after whole lines settled t =
+    took_both characters (line_feed ∷ []) good old (holding old characters room) new before before after (held_by characters old room before whole lines settled) t

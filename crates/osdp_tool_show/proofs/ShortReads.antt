@@ -21,6 +21,7 @@ use Rattle.osdp_tool_show.proofs.Beginnings.{stops_by}
 abbrev pub with_report : Capture → Report → Capture
 with_report capture report = record {
   form = capture.form;
+  digits = capture.digits;
   line = capture.line;
   bytes = capture.bytes;
   ended = capture.ended;

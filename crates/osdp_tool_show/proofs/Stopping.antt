@@ -6,7 +6,7 @@ use Rattle.osdp_frame.specs.Held.{Held}
 use Rattle.osdp_frame.specs.Items.{items, left_over}
 use Rattle.osdp_tool_input.specs.declared.form.Form.{Form}
 use Rattle.osdp_tool_input.specs.declared.form.Form.TheVariants.{Raw, Joined, Apart}
-use Rattle.osdp_tool_input.specs.Cut.{line_feed, unended_line}
+use Rattle.osdp_tool_input.specs.Cut.{line_feed, unended_line, IsLine}
 use Rattle.osdp_tool_input.specs.Line.{said, line_bytes}
 use Rattle.osdp_tool_input.specs.Runs.{good_front, ended_runs, open_run, first_bad_ended, closed_runs}
 use Rattle.osdp_tool_input.proofs.FormLemmas.{feed_joined, feed_apart}
@@ -17,7 +17,7 @@ use Rattle.osdp_tool_lines.specs.Tally.{no_tally}
 use Rattle.osdp_tool_lines.specs.Told.{parts_lines, after_runs, runs_lines, end_line, tally_so_far, lines_so_far}
 use Rattle.osdp_tool_show.specs.declared.capture.Capture.{Capture}
 use Rattle.osdp_tool_show.specs.declared.report.Report.{Report}
-use Rattle.osdp_tool_show.specs.Machine.{told, Took, EndedRun, StopsIn, StopsAtRunEnd}
+use Rattle.osdp_tool_show.specs.Machine.{told, IsSettled, Took, EndedRun, StopsIn, StopsAtRunEnd}
 use Rattle.osdp_tool_show.specs.Feeds.{HasLine}
 use Rattle.osdp_tool_show.specs.Shown.{shown, shown_so_far}
 use Rattle.osdp_tool_show.specs.Capture.{Follows, TookPiece, StopsInPiece}
@@ -25,6 +25,7 @@ use Rattle.osdp_tool_show.specs.Works.{EndsLine, StopsAtEnd, StopsClosing}
 use Rattle.osdp_tool_show.specs.Written.{StopsWithin}
 use Rattle.osdp_tool_show.proofs.Beginnings.{begun_told, stops_by, stops_longer, stops_after}
 use Rattle.osdp_tool_show.proofs.Standing.{closed_lines}
+use Rattle.osdp_tool_show.proofs.Pieces.{Room, holding, held_by}
 use Rattle.osdp_tool_show.proofs.Readings.{lines_have_bytes}
 use Rattle.osdp_tool_show.proofs.Works.{fed_end, lines_closed, tally_closed}
 
@@ -51,16 +52,23 @@ stops_further piece xs ys rest a b before middle now t h is = λ full form start
       subst (λ l. StopsWithin start now (shown_so_far full form l)) (append_assoc read xs g.0) g.3,
     )
 
--- a piece, cut before and after the line feed that ends a line in it
+-- a piece, cut before and after a line in it
 pub feed_cut : (piece : List ℕ) (at count : ℕ) → HasLine (drop at piece) count
-    → piece ≡ (take at piece ++ take count (drop at piece)) ++ ((line_feed ∷ []) ++ drop (count + 1) (drop at piece))
+    → piece ≡ take at piece ++ ((take count (drop at piece) ++ line_feed ∷ []) ++ drop (count + 1) (drop at piece))
 feed_cut piece at count h =
     let rest = drop at piece in
     let more = drop (count + 1) rest in
     let one_more : take (count + 1) rest ≡ take count rest ++ line_feed ∷ [] =
     take_more rest count 0 h.below ∙ ap (λ n. take count rest ++ n ∷ []) h.feed in
-    sym (take-append-drop at piece) ∙ ap (λ l. take at piece ++ l) (sym (take-append-drop (count + 1) rest) ∙ ap (λ l. l ++ more) one_more
-    ∙ append_assoc (take count rest) (line_feed ∷ []) more) ∙ sym (append_assoc (take at piece) (take count rest) ((line_feed ∷ []) ++ more))
+    sym (take-append-drop at piece) ∙ ap (λ l. take at piece ++ l) (sym (take-append-drop (count + 1) rest) ∙ ap (λ l. l ++ more) one_more)
+
+-- at the end of a line, as one that held these characters before it
+pub stops_ended_line : (characters : List ℕ) (old : Capture) (room : Room old characters) (before now : Option (List ℕ)) → IsLine characters
+    → (old.form ≡ Raw → ⊥) → IsSettled old.framer → StopsInPiece (line_feed ∷ []) (holding old characters room) before now
+    → StopsInPiece (characters ++ line_feed ∷ []) old before now
+stops_ended_line characters old room before now whole lines settled h =
+    stops_further (characters ++ line_feed ∷ []) characters (line_feed ∷ []) [] old (holding old characters room) before before now
+    (held_by characters old room before whole lines settled) h refl
 
 -- in bytes of one run
 pub stops_raw : (piece : List ℕ) (old : Capture) (before now : Option (List ℕ)) → old.form ≡ Raw → StopsIn piece old.framer old.report before now

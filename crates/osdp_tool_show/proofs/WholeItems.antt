@@ -52,7 +52,7 @@ took_after bytes at n m start held next first old new a b c there s t =
     (subst (λ l. Took l held next old new b c) (take-take n m (drop at bytes) there) t))
 
 -- bytes after those held, of which the items that they decide are told
-took_drained : (given : List ℕ) (held next : Held) (old new : Report) (b c : Option (List ℕ)) → AreBytes given → IsSettled held
+pub took_drained : (given : List ℕ) (held next : Held) (old new : Report) (b c : Option (List ℕ)) → AreBytes given → IsSettled held
     → Drained (record { bytes = held.bytes ++ given; ended = false }) next old new b c → Took given held next old new b c
 took_drained given held next old new b c fits settled d =
     let counts = d.counts in

@@ -8,8 +8,9 @@ ghost use Rattle.osdp_tool_show.specs.Feeds.{HasLine};
 
 use crate::report::Report;
 use crate::runs::{end_run, take};
+use memchr::memchr;
 use osdp_frame::Framer;
-use osdp_tool_input::{Form, keep, read_digits};
+use osdp_tool_input::{Digits, Form, keep, read_line};
 use osdp_tool_lines::Tally;
 use osdp_tool_streams::{ToolFault, Watched};
 use std::alloc::Global;
@@ -23,6 +24,8 @@ const ROOM: usize = 73728;
 pub struct Capture {
     /// How the input stands in runs.
     pub form: Form,
+    /// The values of its digits.
+    pub digits: Digits,
     /// The characters that count of the line that has not ended.
     pub line: Vec<u8>,
     /// The bytes of the line that ended last.
@@ -52,6 +55,7 @@ impl Capture {
         let tally = Tally::new();
         Ok(Capture {
             form,
+            digits: Digits::new(),
             line: Vec::new(alloc),
             bytes: Vec::new(alloc),
             ended: 0,
@@ -75,21 +79,26 @@ impl Capture {
         }
     }
 
-    /// The line has ended; false where it is bad.
-    fn end_line<W: Write>(&mut self, output: &mut Watched<W>) -> Result<bool, ToolFault>
+    /// The line has ended, with these characters after those held; false where it is bad.
+    fn end_line<W: Write>(
+        &mut self,
+        characters: &[u8],
+        output: &mut Watched<W>,
+    ) -> Result<bool, ToolFault>
         requires settled { IsSettled self.old.framer }
         requires lines { self.old.form ≡ Form.Raw → ⊥ }
-        requires load { load self.old < 2 ^ 61 }
+        requires line { IsLine characters.now }
+        requires load { load self.old + 5 * length characters.now < 2 ^ 61 }
         ensures step { IsStep result (has_failed output.old) (has_failed output.new) }
-        ensures took { IfOk result (λ good. TookPiece (line_feed ∷ []) good self.old self.new
+        ensures took { IfOk result (λ good. TookPiece (characters.now ++ line_feed ∷ []) good self.old self.new
             (told (W.contents (inner_of output.old)) self.old.report) (told (W.contents (inner_of output.new)) self.new.report)) }
-        ensures stops { OnErr result (StopsInPiece (line_feed ∷ []) self.old (told (W.contents (inner_of output.old)) self.old.report) (W.contents (inner_of output.new))) }
+        ensures stops { OnErr result (StopsInPiece (characters.now ++ line_feed ∷ []) self.old
+            (told (W.contents (inner_of output.old)) self.old.report) (W.contents (inner_of output.new))) }
     {
-        let good = match read_digits(&self.line, &mut self.bytes) {
+        let good = match read_line(&self.digits, &mut self.line, characters, &mut self.bytes) {
             Ok(good) => good,
             Err(_) => return Err(ToolFault::NoMemory),
         };
-        self.line.clear();
         self.ended += 1;
         if !good {
             return Ok(false);
@@ -121,11 +130,11 @@ impl Capture {
     {
         let mut at = 0;
         'lines: while let Some(length) = line_length(&piece[at..]) {
-            self.hold(&piece[at..at + length])?;
-            at += length + 1;
-            if !self.end_line(output)? {
+            let end = at + length;
+            if !self.end_line(&piece[at..end], output)? {
                 return Ok(false);
             }
+            at = end + 1;
         }
         self.hold(&piece[at..])?;
         Ok(true)
@@ -169,8 +178,8 @@ impl Capture {
     {
         match self.form {
             Form::Raw => Ok(true),
-            Form::Joined => self.end_line(output),
-            Form::Apart => self.end_line(output),
+            Form::Joined => self.end_line(&[], output),
+            Form::Apart => self.end_line(&[], output),
         }
     }
 
@@ -193,10 +202,5 @@ impl Capture {
 fn line_length(bytes: &[u8]) -> Option<usize>
     ensures { MatchOption result (IsLine bytes.now) (λ length. HasLine bytes.now length) }
 {
-    for (i, byte) in bytes.iter().enumerate() {
-        if *byte == b'\n' {
-            return Some(i);
-        }
-    }
-    None
+    memchr(b'\n', bytes)
 }

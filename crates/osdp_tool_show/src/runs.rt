@@ -1,8 +1,10 @@
 //! Runs of bytes, told item by item.
 
-ghost use Rattle.std.specs.Prelude.{◌≡◌, ◌+◌, ◌*◌, ◌<◌, ◌≤◌, ◌^◌, ◌++◌, true, false, None, length, take, IfOk, OnOk, OnErr};
+ghost use Rattle.std.specs.Prelude.{◌≡◌, ◌≢◌, ◌+◌, ◌*◌, ◌<◌, ◌≤◌, ◌^◌, ◌++◌, ℕ, List, Option, true, false, None, length, take, IfOk, OnOk, OnErr};
+ghost use Rattle.std.specs.List.{AllByRecursion};
 ghost use Rattle.osdp_frame.specs.Bytes.{AreBytes};
 ghost use Rattle.osdp_frame.specs.Held.{after_gap, decided, new_run};
+ghost use Rattle.osdp_frame.specs.Spelling.{start_of_message};
 ghost use Rattle.osdp_tool_lines.specs.Tally.{counted};
 ghost use Rattle.osdp_tool_streams.specs.Watched.{inner_of, has_failed};
 ghost use Rattle.osdp_frame.specs.Items.{items};
@@ -11,6 +13,7 @@ ghost use Rattle.osdp_tool_show.specs.Machine.{told, IsStep, Drained, IsSettled,
 ghost use Rattle.osdp_tool_show.specs.Written.{StopsWithin};
 
 use crate::report::Report;
+use memchr::memchr;
 use osdp_frame::{Framer, whole_item};
 use osdp_tool_streams::{ToolFault, Watched};
 use std::io::Write;
@@ -41,6 +44,37 @@ fn drain<W: Write>(
     Ok(())
 }
 
+/// How many bytes stand before the first 53.
+fn skipped_count(bytes: &[u8]) -> usize
+    ensures within { result ≤ length bytes.now }
+    ensures skipped { AllByRecursion (λ b. b ≢ start_of_message) (take result bytes.now) }
+{
+    match bytes {
+        [0x53, ..] => 0,
+        _ => match memchr(0x53, bytes) {
+            Some(place) => place,
+            None => bytes.len(),
+        },
+    }
+}
+
+/// Counts the skipped bytes at the head at once, where they have no line and no bytes are held, and gives how many
+/// these are.
+#[inline(always)]
+fn pass_skipped(report: &mut Report, bytes: &[u8]) -> usize
+    requires { counted report.old.tally + 5 * length bytes.now < 2 ^ 62 }
+    ensures within { result ≤ length bytes.now }
+    ensures took { (contents : Option (List ℕ)) → Took (take result bytes.now) new_run new_run report.old report.new
+        (told contents report.old) (told contents report.new) }
+{
+    if report.full {
+        return 0;
+    }
+    let count = skipped_count(bytes);
+    report.tally.pass(&bytes[..count]);
+    count
+}
+
 /// Tells of the packets and the skipped bytes at the head of the bytes, where none are held, and gives how many
 /// bytes these are.
 fn tell_whole<W: Write>(
@@ -56,11 +90,14 @@ fn tell_whole<W: Write>(
     ensures stops { OnErr result (StopsIn bytes.now new_run report.old (told (W.contents (inner_of output.old)) report.old) (W.contents (inner_of output.new))) }
 {
     let mut at = 0;
-    'items: while let Some(item) = whole_item(&bytes[at..]) {
+    'items: loop {
+        at += pass_skipped(report, &bytes[at..]);
+        let Some(item) = whole_item(&bytes[at..]) else {
+            return Ok(at);
+        };
         report.tell(&item, output)?;
         at += item.size();
     }
-    Ok(at)
 }
 
 /// Takes from the head of the bytes what needs no framer, and gives how many bytes these are: none where bytes

@@ -12,6 +12,7 @@ pub returns-clause-closed : goal.returns-clause-closed
 returns-clause-closed g c =
     let last : Capture = record {
       form = c.args.self.now.form;
+      digits = c.args.self.now.digits;
       line = c.args.self.now.line;
       bytes = c.args.self.now.bytes;
       ended = c.args.self.now.ended;

@@ -7,6 +7,7 @@ returns-in-Ok-clause-took c = λ now.
     held_part c.args.characters.now c.args.self.now
     (record {
       form = c.args.self.now.form;
+      digits = c.args.self.now.digits;
       line = c.keep.new.line;
       bytes = c.args.self.now.bytes;
       ended = c.args.self.now.ended;

@@ -7,10 +7,11 @@ pub returns-clause-follows : goal.returns-clause-follows
 returns-clause-follows c = λ start.
     let capture : Capture = record {
       form = c.args.form;
-      line = c.new.result;
-      bytes = c.new-2.result;
+      digits = c.new.result;
+      line = c.new-2.result;
+      bytes = c.new-3.result;
       ended = 0;
-      framer = c.new-3.result;
+      framer = c.new-4.result;
       report = record { full = c.args.full; tally = c.new-tally.result; text = c.in-Ok.text };
     } in
-    begins c.args.full capture start c.new.ensures.items refl c.new-3.ensures refl c.new-tally.ensures c.in-Ok.ensures.bytes
+    begins c.args.full capture start c.new-2.ensures.items refl c.new-4.ensures refl c.new-tally.ensures c.in-Ok.ensures.bytes

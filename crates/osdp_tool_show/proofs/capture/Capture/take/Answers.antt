@@ -11,6 +11,7 @@ returns-in_ok-take-in-Raw-clause-took g c =
     took_raw c.args.piece.now c.args.self.now
     (record {
       form = c.args.self.now.form;
+      digits = c.args.self.now.digits;
       line = c.args.self.now.line;
       bytes = c.args.self.now.bytes;
       ended = c.args.self.now.ended;

@@ -1,0 +1,83 @@
+-- Skipped bytes that are counted at once.
+use Rattle.std.proofs.Common.{◌≡◌, ◌≢◌, ℕ, ◌+◌, ◌-◌, ◌*◌, ◌≤◌, cond, false, List, [], ◌∷◌, length, length-drop, map, take, drop, Option, Some, refl, sym, subst, ap, ◌∙◌, arith}
+use Rattle.std.proofs.lemmas.Bool.{ne_eqb}
+use Rattle.std.proofs.lemmas.List.{drop_all, length-take}
+use Rattle.std.proofs.KnownBytes.{Appends-nil}
+use Rattle.std.specs.Io.KnownBytes.{Appends}
+use Rattle.std.specs.List.{AllByRecursion}
+use Rattle.osdp_frame.specs.Bytes.{AreBytes}
+use Rattle.osdp_frame.specs.Reading.{Part, Passed, part_size, total_size}
+use Rattle.osdp_frame.specs.Held.{Held, begun, decided, new_run}
+use Rattle.osdp_frame.specs.Items.{items}
+use Rattle.osdp_frame.specs.Spelling.{start_of_message}
+use Rattle.osdp_frame.proofs.Head.{AreBytes-drop}
+use Rattle.osdp_frame_laws.proofs.Readings.{decided_nothing, items_undecided, items_decided}
+use Rattle.osdp_tool_lines.specs.declared.tally.Tally.{Tally}
+use Rattle.osdp_tool_lines.specs.Tally.{after_parts, counted}
+use Rattle.osdp_tool_lines.specs.Told.{parts_lines}
+use Rattle.osdp_tool_lines.proofs.Passed.{after_passed, lines_passed}
+use Rattle.osdp_tool_show.specs.declared.report.Report.{Report}
+use Rattle.osdp_tool_show.specs.Machine.{Tells, Drained, Took}
+use Rattle.osdp_tool_show.proofs.Standing.{AreBytes-take}
+use Rattle.osdp_tool_show.proofs.WholeItems.{settled_new, took_after, took_drained}
+
+abbrev pub AreSkipped : List ℕ → Type 0
+AreSkipped bytes = AllByRecursion (λ b. b ≢ start_of_message) bytes
+
+decided_passed : (b : ℕ) (bytes : List ℕ) → b ≢ start_of_message → decided false (b ∷ bytes) ≡ Some (Passed b)
+unfolding decided
+decided_passed b bytes other = ap (λ t. cond t (begun false (b ∷ bytes)) (Some (Passed b))) (ne_eqb b start_of_message other)
+
+items_passed : (bytes : List ℕ) → AreBytes bytes → AreSkipped bytes → items false bytes ≡ map Passed bytes
+items_passed [] fits h = items_undecided false [] (decided_nothing false)
+items_passed (b ∷ bytes) fits h =
+    items_decided false (b ∷ bytes) (Passed b) fits (decided_passed b bytes h.0)
+    ∙ ap (λ l. Passed b ∷ l) (items_passed bytes (AreBytes-drop 1 (b ∷ bytes) fits) h.1)
+
+size_passed : (bytes : List ℕ) → total_size (map Passed bytes) ≡ length bytes
+size_passed [] = refl
+size_passed (b ∷ bytes) = let rest = size_passed bytes in omega arith
+
+tells_passed : (old new : Report) (now : Option (List ℕ)) (bytes : List ℕ) → old.full ≡ false → new.full ≡ old.full
+    → new.tally ≡ after_parts old.tally (map Passed bytes) → Tells old new now now (map Passed bytes)
+tells_passed old new now bytes refusals full tally = record {
+  full = full;
+  tally = tally;
+  lines = subst (Appends now now) (sym (ap (λ f. parts_lines f old.tally (map Passed bytes)) refusals ∙ lines_passed old.tally bytes)) (Appends-nil now);
+}
+
+drained_passed : (old new : Report) (now : Option (List ℕ)) (bytes : List ℕ) → AreBytes bytes → AreSkipped bytes
+    → new.tally ≡ after_parts old.tally (map Passed bytes) → Tells old new now now (map Passed bytes)
+    → Drained (record { bytes = bytes; ended = false }) new_run old new now now
+drained_passed old new now bytes fits skipped tally tells =
+    let parts = items_passed bytes fits skipped in
+    let size : total_size (items false bytes) ≡ length bytes = ap total_size parts ∙ size_passed bytes in
+    let nothing : drop (total_size (items false bytes)) bytes ≡ [] = drop_all (total_size (items false bytes)) bytes (omega arith) in
+    let counts : counted new.tally ≡ counted old.tally + 2 * length bytes =
+    ap counted (tally ∙ after_passed old.tally bytes) ∙ omega arith in
+    record {
+      tells = subst (Tells old new now now) (sym parts) tells;
+      held = ap (λ (l : List ℕ). record { bytes = l; ended = false }) (sym nothing);
+      settled = decided_nothing false;
+      counts = omega arith;
+    }
+
+pub took_passed : (bytes : List ℕ) (count : ℕ) (old new : Report) (now : Option (List ℕ)) → AreBytes bytes → AreSkipped (take count bytes)
+    → old.full ≡ false → new.full ≡ old.full → new.tally ≡ after_parts old.tally (map Passed (take count bytes))
+    → Took (take count bytes) new_run new_run old new now now
+took_passed bytes count old new now fits skipped refusals full tally =
+    let front = take count bytes in
+    let front_fits = AreBytes-take count bytes fits in
+    took_drained front new_run new_run old new now now front_fits settled_new
+    (drained_passed old new now front front_fits skipped tally (tells_passed old new now front refusals full tally))
+
+-- .. after a front of which nothing is held
+pub took_passing : (bytes : List ℕ) (at count : ℕ) (first old new : Report) (a b c : Option (List ℕ)) → count ≤ length (take (length bytes - at) (drop at bytes))
+    → Took (take at bytes) new_run new_run first old a b → Took (take count (take (length bytes - at) (drop at bytes))) new_run new_run old new b c
+    → Took (take (at + count) bytes) new_run new_run first new a c
+took_passing bytes at count first old new a b c within t passed =
+    let left = length bytes - at in
+    took_after bytes at count left new_run new_run new_run first old new a b c (omega (arith, within, length-take left (drop at bytes))) t passed
+
+pub within_passing : (bytes : List ℕ) (at count : ℕ) → at ≤ length bytes → count ≤ length (take (length bytes - at) (drop at bytes)) → at + count ≤ length bytes
+within_passing bytes at count there within = omega (arith, length-take (length bytes - at) (drop at bytes), length-drop at bytes)
