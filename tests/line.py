@@ -97,7 +97,7 @@ class Script:
     """One of the examples, as it runs: what it has written, line by line."""
 
     def __init__(self, name, *words):
-        command = [sys.executable, str(EXAMPLES / name), *map(str, words)]
+        command = [sys.executable, "-B", str(EXAMPLES / name), *map(str, words)]
         self.process = subprocess.Popen(command, stdin=subprocess.PIPE, stdout=subprocess.PIPE)
         os.set_blocking(self.process.stdout.fileno(), False)
         self.lines = []

@@ -1,9 +1,8 @@
 -- Settings within their ranges keep what is set within them.
-use Rattle.std.proofs.Common.{◌≡◌, ◌≤◌, ◌<◌, Bool, true, false, refl, subst, arith, Option, Some, None}
-use Rattle.std.specs.Prelude.{if◌then◌else◌, nat_lt}
+use Rattle.std.proofs.Common.{◌≡◌, Bool, true, false, refl, subst, arith, Some, None}
+use Rattle.std.specs.Prelude.{if◌then◌else◌}
 use Rattle.osdp_bus.specs.declared.config.BusConfig.{BusConfig}
 use Rattle.osdp_bus.specs.Settings.{IsBusConfig}
-use Rattle.osdp_controller.specs.Machine.{AreSettings}
 use Rattle.osdp_controller.specs.Settings.{IsConfig}
 use Rattle.osdp_line_programs.specs.declared.panel.PanelSetting.{PanelSetting}
 use Rattle.osdp_line_programs.specs.declared.panel.PanelSetting.TheVariants.{Check, ReplyWait, PollInterval, Sends, BusyWait, BusyLimit, QuietWait, Gap, Capacity}

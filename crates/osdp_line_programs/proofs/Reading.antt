@@ -1,9 +1,9 @@
 -- Settings that are read one after the other.
 use Rattle.std.proofs.Common.{◌≡◌, ℕ, List, [], ◌∷◌, Option, Some, None, refl, sym, ap, subst, ◌∙◌}
 use Rattle.std.specs.Option.{unwrap_or}
-use Rattle.std.specs.Prelude.{IfSome, option_and_then}
+use Rattle.std.specs.Prelude.{option_and_then}
 use Rattle.osdp_words.specs.Reading.{ReadsWords}
-use Rattle.osdp_words.specs.Word.{StandsFor, Word, plain}
+use Rattle.osdp_words.specs.Word.{Word, plain}
 use Rattle.osdp_line_programs.specs.Settings.{Give, ReadsSettings, after}
 
 pub some_same : {A : Type 0} (a b : A) → Some a ≡ Some b → a ≡ b

@@ -1,4 +1,4 @@
-use Rattle.std.proofs.Common.{◌≡◌, Some, ap, sym, refl, subst}
+use Rattle.std.proofs.Common.{Some, ap, sym}
 use Rattle.osdp_words.specs.Word.{texts}
 use Rattle.osdp_line_programs.specs.PanelSettings.{SettingFits, defaults, put, setting_name, setting_value}
 use Rattle.osdp_line_programs.proofs.Ranges.{set_in_range}
