@@ -1,5 +1,5 @@
 #!/usr/bin/env bash
-# Builds the archive for C and for Rust with `rt lib`, and looks at it from outside: the names in it against those of the header and of rust/; the
+# Builds the archive for C and for Rust, as `rt lib` does (`archive.py`), and looks at it from outside: the names in it against those of the header and of rust/; the
 # structs, each with the bytes around it; a whole session in C over malloc, with each block refused in turn, over the fixed pool, and with the address
 # sanitizer and its leak detection; the examples in C, with all warnings as errors; and the example in Rust, with no crate from outside. Where a
 # compiler, cargo or another tool isn't there, it fails and names it.
@@ -40,9 +40,9 @@ passes() {
 echo 'int main(void) { return 0; }' >"$work/empty.c"
 build empty "$work/empty.c" -fsanitize=address,undefined || fail "the address sanitizer of $CC is missing"
 
-if ! (cd crates/osdp_c && rt lib) >"$work/lib" 2>&1; then
+if ! python3 tests/archive.py >"$work/lib" 2>&1; then
   tail -n 20 "$work/lib"
-  fail "rt lib has failed"
+  fail "the archive was not built"
   exit 1
 fi
 archive=crates/osdp_c/out/libosdp_c.a
