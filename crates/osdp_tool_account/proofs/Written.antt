@@ -83,7 +83,7 @@ lines_more_at line xs i d text next whole within written all =
     split : drop i xs ≡ get_or xs i d ∷ drop (i + 1) xs
     split = rw add-one (drop-cons xs i d within)
 
-lines_both : (xs ys : List (List Word)) → lines_text (xs ++ ys) ≡ lines_text xs ++ lines_text ys
+pub lines_both : (xs ys : List (List Word)) → lines_text (xs ++ ys) ≡ lines_text xs ++ lines_text ys
 lines_both [] ys = refl
 lines_both (x ∷ xs) ys =
     ap (λ l. line_text x ++ l) (lines_both xs ys) ∙ sym (append_assoc (line_text x) (lines_text xs) (lines_text ys))

@@ -1,5 +1,5 @@
 -- The text of an account: lines, each of which is a list of words.
-use Rattle.std.specs.Prelude.{ℕ, List, [], ◌∷◌, ◌++◌, codes, length, map}
+use Rattle.std.specs.Prelude.{ℕ, ◌+◌, List, [], ◌∷◌, ◌++◌, codes, length, map}
 use Rattle.osdp_controller.specs.declared.report.LostCause.TheVariants.{NoReply, TooBusy, NumberRefused}
 use Rattle.osdp_msg.specs.declared.command.Command.{Command}
 use Rattle.osdp_msg.specs.declared.event.Event.{Event}
@@ -59,3 +59,8 @@ lines_text (line ∷ lines) = line_text line ++ lines_text lines
 
 abbrev pub account_text : ℕ → Account → List ℕ
 account_text reader a = lines_text (account_lines reader a)
+
+-- the texts of these accounts, one after the other; the first is that of the reader of this number
+abbrev pub texts_from : ℕ → List Account → List ℕ
+texts_from number [] = []
+texts_from number (account ∷ others) = account_text number account ++ texts_from (number + 1) others

@@ -1,1 +1,2 @@
 pub mod AccountText
+pub mod Laws

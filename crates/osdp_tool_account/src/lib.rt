@@ -2,6 +2,8 @@
 #![tactic(auto)]
 
 mod account;
+mod laws;
 mod lines;
 
 pub use account::account_text;
+pub use laws::{has_one_account, has_one_each};

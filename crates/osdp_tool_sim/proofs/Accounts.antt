@@ -20,8 +20,8 @@ use Rattle.osdp_sim_bus_laws.specs.Accepted.{AcceptsEach}
 use Rattle.osdp_sim_bus_laws.specs.Accounts.{EachMeets, accounts_in}
 use Rattle.osdp_tool_streams.specs.declared.fault.ToolFault.{ToolFault}
 use Rattle.osdp_tool_streams.specs.declared.fault.ToolFault.TheVariants.{HoldsPacket, NotQuiet}
-use Rattle.osdp_tool_account.specs.AccountText.{account_text}
-use Rattle.osdp_tool_sim.specs.Several.{TellsEach, line_of, readers_from, texts_from}
+use Rattle.osdp_tool_account.specs.AccountText.{account_text, texts_from}
+use Rattle.osdp_tool_sim.specs.Several.{TellsEach, line_of, readers_from}
 use Rattle.osdp_tool_sim.specs.Told.{IsTextOfEach, TellsReaders}
 
 abbrev pub Ends : Script → Result (Vec declared.Account) (Fault (Vec declared.Account)) → Type 0

@@ -1,5 +1,5 @@
 -- What is told of a script of several readers.
-use Rattle.std.specs.Prelude.{ℕ, ◌+◌, List, [], ◌∷◌, ◌++◌, Result}
+use Rattle.std.specs.Prelude.{ℕ, ◌+◌, List, [], ◌∷◌, Result}
 use Rattle.osdp_bus.specs.Settings.{default_config}
 use Rattle.osdp_script.specs.declared.script.Script.{Script}
 use Rattle.osdp_script.specs.Script.{steps_of}
@@ -13,7 +13,6 @@ use Rattle.osdp_sim_bus.specs.Steps.{after_step, fault_of}
 use Rattle.osdp_sim_bus_laws.specs.Accepted.{AcceptsEach}
 use Rattle.osdp_sim_bus_laws.specs.Accounts.{EachMeets}
 use Rattle.osdp_tool_streams.specs.declared.fault.ToolFault.{ToolFault}
-use Rattle.osdp_tool_account.specs.AccountText.{account_text}
 use Rattle.osdp_tool_sim.specs.Steps.{RunTells, steps_taken}
 
 -- the readers at these addresses, each with room for so many events; the first has this number
@@ -33,8 +32,3 @@ pub record TellsEach (script : Script) (told : List Account) (end : Result (Unit
   pub run_is : RunTells (after_step handler_answer handler_after) fault_of accounts end told (steps_of script) (line_of script)
   pub sessions : EachMeets (HoldsInSessions handler_answer handler_after) (readers_from 1 script.readers.items) told
   pub accepted : AcceptsEach (default_config script.check 64) (readers_from 1 script.readers.items) (steps_taken end (steps_of script)) told
-
--- the texts of these accounts, one after the other; the first is that of the reader of this number
-abbrev pub texts_from : ℕ → List Account → List ℕ
-texts_from number [] = []
-texts_from number (account ∷ others) = account_text number account ++ texts_from (number + 1) others

@@ -5,9 +5,9 @@ use Rattle.osdp_script.specs.Reading.{IsBadLine, IsScriptOf}
 use Rattle.osdp_sim.specs.Account.{Account}
 use Rattle.osdp_tool_streams.specs.declared.fault.ToolFault.{ToolFault}
 use Rattle.osdp_tool_streams.specs.declared.fault.ToolFault.TheVariants.{BadStep, NoMemory}
-use Rattle.osdp_tool_account.specs.AccountText.{account_text}
+use Rattle.osdp_tool_account.specs.AccountText.{account_text, texts_from}
 use Rattle.osdp_tool_sim.specs.One.{TellsOne}
-use Rattle.osdp_tool_sim.specs.Several.{TellsEach, texts_from}
+use Rattle.osdp_tool_sim.specs.Several.{TellsEach}
 
 -- of one reader the text is that of its account
 pub record IsTextOfOne (script : Script) (reader : ℕ × ℕ) (text : List ℕ) (end : Result (Unit {0}) ToolFault) : Type 0 where

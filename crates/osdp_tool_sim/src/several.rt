@@ -5,7 +5,8 @@ ghost use Rattle.osdp_script.specs.Script.{steps_of};
 ghost use Rattle.osdp_script.specs.Settings.{AreReaders};
 ghost use Rattle.osdp_sim.specs.Account.{lists_of};
 ghost use Rattle.osdp_sim_bus.specs.Runs.{lists_of_all};
-ghost use Rattle.osdp_tool_sim.specs.Several.{TellsEach, readers_from, texts_from};
+ghost use Rattle.osdp_tool_account.specs.AccountText.{texts_from};
+ghost use Rattle.osdp_tool_sim.specs.Several.{TellsEach, readers_from};
 ghost use Rattle.osdp_tool_sim.specs.Told.{IsTextOfEach};
 
 use crate::told::{COMMANDS, Told};
