@@ -1,5 +1,5 @@
 -- The values of digits, and bytes of two of them.
-use Rattle.std.proofs.Common.{◌≡◌, ◌⊎◌, inl, inr, ℕ, ◌+◌, ◌*◌, ◌%◌, ◌<◌, ◌≤◌, List, [], ◌∷◌, length, slice_index, slice_index_or, slice_set, Option, Some, None, Result, Ok, Err, MatchResult, MatchOption, Bool, true, false, refl, sym, subst, ap, ◌∙◌, arith}
+use Rattle.std.proofs.Common.{◌≡◌, ◌⊎◌, inl, inr, ℕ, ◌+◌, ◌*◌, ◌%◌, ◌<◌, ◌≤◌, List, [], ◌∷◌, length, slice_index, slice_index_or, slice_set, Option, Some, None, Result, Ok, Err, MatchResult, MatchOption, true, false, refl, sym, subst, ap, ◌∙◌, arith}
 use Rattle.std.proofs.lemmas.Bool.{cases_lt}
 use Rattle.std.proofs.lemmas.List.{get_or-set_same, get_or-set_other}
 use Rattle.std.specs.Result.{result_ok}
@@ -46,8 +46,8 @@ value_set values at v within h is c below =
     elim (cases_lt c at) [
       | inl lt ↦ get_or-set_other values at c v 0 (λ e. omega arith) ∙ h c lt
       | inr le ↦
-        let here : at ≡ c = omega arith in
-        subst (λ n. slice_index (slice_set values at v) n ≡ value_or_none (hex_digit_value n)) here (get_or-set_same values at v 0 within ∙ is)
+          let here : at ≡ c = omega arith in
+          subst (λ n. slice_index (slice_set values at v) n ≡ value_or_none (hex_digit_value n)) here (get_or-set_same values at v 0 within ∙ is)
     ]
 
 -- ---- the byte of two digits

@@ -1,5 +1,5 @@
 -- Lines all of whose characters count.
-use Rattle.std.proofs.Common.{◌≡◌, ◌⊎◌, inl, inr, ℕ, cond, not, true, false, List, [], ◌∷◌, ◌++◌, length, Bool, Option, Some, None, MatchOption, refl, sym, subst, ap, ◌∙◌, arith}
+use Rattle.std.proofs.Common.{◌≡◌, inl, inr, ℕ, cond, not, true, false, List, [], ◌∷◌, ◌++◌, length, Bool, Option, Some, None, MatchOption, refl, sym, subst, ap, ◌∙◌, arith}
 use Rattle.hex.specs.Hex.{hex_digit_value}
 use Rattle.osdp_tool_input.specs.Line.{is_blank, kept, said}
 use Rattle.osdp_tool_input.specs.Laws.{IsComment, SpellsBytes}

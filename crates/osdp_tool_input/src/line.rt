@@ -47,11 +47,7 @@ pub fn keep(line: &mut Vec<u8>, characters: &[u8]) -> Result<(), AllocError>
 }
 
 /// Puts what the characters of a line say in place of these bytes; false where the line is bad.
-fn read_digits(
-    digits: &Digits,
-    characters: &[u8],
-    bytes: &mut Vec<u8>,
-) -> Result<bool, AllocError>
+fn read_digits(digits: &Digits, characters: &[u8], bytes: &mut Vec<u8>) -> Result<bool, AllocError>
     ensures read { IfOk result (λ good. MatchOption (said characters.now) (good ≡ false) (λ read. (good ≡ true) × (bytes.new.items ≡ read))) }
     ensures length { IfOk result (λ good. good ≡ true → 2 * length bytes.new.items ≤ length characters.now) }
 {

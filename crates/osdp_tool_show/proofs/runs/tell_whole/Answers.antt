@@ -33,7 +33,7 @@ tell-requires g c =
     let at = c.items.at + c.pass_skipped-at.result in
     let part = part_of c.in-Some.item in
     let passed = took_passing bytes c.items.at c.pass_skipped-at.result c.args.report.now c.items.report c.pass_skipped-at.new.report _ _ _
-        c.pass_skipped-at.ensures.within c.items.invariant.took (c.pass_skipped-at.ensures.took contents) in
+    c.pass_skipped-at.ensures.within c.items.invariant.took (c.pass_skipped-at.ensures.took contents) in
     let counts = passed.counts in
     let own : by_itself (decided false (drop at bytes)) ≡ Some part =
     sym (c.in-Some.ensures.shown ∙ ap (λ l. by_itself (decided false l)) (take_rest bytes at)) in
@@ -49,7 +49,7 @@ items-preserved g c =
     let before = told (g.W.Write.contents (inner_of c.args.output.now)) c.args.report.now in
     let after = told (g.W.Write.contents (inner_of c.tell.new.output)) c.tell.new.self in
     let passed = took_passing bytes c.items.at c.pass_skipped-at.result c.args.report.now c.items.report c.pass_skipped-at.new.report before _ _
-        c.pass_skipped-at.ensures.within c.items.invariant.took (c.pass_skipped-at.ensures.took contents) in
+    c.pass_skipped-at.ensures.within c.items.invariant.took (c.pass_skipped-at.ensures.took contents) in
     let own : by_itself (decided false (drop at bytes)) ≡ Some part =
     sym (c.in-Some.ensures.shown ∙ ap (λ l. by_itself (decided false l)) (take_rest bytes at)) in
     let was = within_passing bytes c.items.at c.pass_skipped-at.result c.items.invariant.within c.pass_skipped-at.ensures.within in
@@ -77,7 +77,7 @@ returns-in_err-tell-clause-stops g c =
     let part = part_of c.in-Some.item in
     let before = told (g.W.Write.contents (inner_of c.args.output.now)) c.args.report.now in
     let passed = took_passing bytes c.items.at c.pass_skipped-at.result c.args.report.now c.items.report c.pass_skipped-at.new.report before _ _
-        c.pass_skipped-at.ensures.within c.items.invariant.took (c.pass_skipped-at.ensures.took contents) in
+    c.pass_skipped-at.ensures.within c.items.invariant.took (c.pass_skipped-at.ensures.took contents) in
     let own : by_itself (decided false (drop at bytes)) ≡ Some part =
     sym (c.in-Some.ensures.shown ∙ ap (λ l. by_itself (decided false l)) (take_rest bytes at)) in
     let was = within_passing bytes c.items.at c.pass_skipped-at.result c.items.invariant.within c.pass_skipped-at.ensures.within in
