@@ -119,7 +119,8 @@ fn but_poll(command: &Option<Command>) -> Option<&Command>
     }
 }
 
-/// The command that was taken, but POLL: the device does it, once. None where none was, or it couldn't be read.
+/// The command that was taken, but POLL: the device does it, once, unless the answer is a NAK, whose code 41 is the sixth byte. None
+/// where none was taken, or it couldn't be read.
 pub fn taken(response: &Response) -> Option<&Command>
     ensures { option_copied result ≡ taken_in response.now }
 {

@@ -16,7 +16,7 @@
 //!         at += device.take(&bytes[at..], now);
 //!         while let Some(response) = device.next() {
 //!             .. response.bytes() goes out ..
-//!             if let Some(command) = taken(&response) { .. the device does it ..  }
+//!             if let Some(command) = taken(&response) { .. the device does it, unless the answer is a NAK ..  }
 //!             if let Some(setting) = response.comset() { .. the port is set to setting.baud_rate .. }
 //!         }
 //!         if at == bytes.len() { break }

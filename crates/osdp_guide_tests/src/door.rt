@@ -1,16 +1,12 @@
 //! A panel and a device joined in memory: a card opens the door for three seconds.
 
-use crate::device::{Strike, act, card_was_read, new_device, pass};
+use crate::device::{Bytes, Strike, card_was_read, device_turn, new_device};
 use crate::panel::{decide, new_panel};
-use arrayvec::ArrayVec;
 use osdp_bus::{Bus, Entry};
 use osdp_device::{Device, DeviceStatus};
 use osdp_frame::{Address, Burst};
 use osdp_panel::take_turn;
 use std::process::Abort;
-
-/// What the line carries to the panel.
-type Bytes = ArrayVec<u8, 1440>;
 
 /// The panel's loop, once: it reads, takes its turn, and decides. What it writes.
 fn panel_turn(bus: &mut Bus, door: Entry, bytes: &[u8], now: u64) -> Option<Burst> {
@@ -22,24 +18,6 @@ fn panel_turn(bus: &mut Bus, door: Entry, bytes: &[u8], now: u64) -> Option<Burs
         decide(bus, door, report, now);
     }
     turn.burst
-}
-
-/// The device's loop, once: it reads, answers, and acts. What it writes.
-fn device_turn(
-    device: &mut Device<DeviceStatus>,
-    strike: &mut Strike,
-    bytes: &[u8],
-    now: u64,
-) -> Bytes {
-    let mut written = Bytes::new();
-    device.take(bytes, now);
-    device.tick(now);
-    if let Some(response) = device.next() {
-        let _ = written.try_extend_from_slice(response.bytes());
-        act(strike, &response, now);
-    }
-    pass(device, strike, now);
-    written
 }
 
 /// The line from a moment on, in steps of ten milliseconds, up to another.

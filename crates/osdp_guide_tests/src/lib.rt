@@ -1,9 +1,11 @@
-//! The code that the guide shows: a panel's own part, a device's own part, and a test that joins them in memory.
+//! The code that the guide shows: a panel's own part, a device, a test of the device by packets, and one that joins both in memory.
 #![tactic(auto)]
 
 #[cfg(test)]
 mod device;
 #[cfg(test)]
 mod door;
+#[cfg(test)]
+mod packets;
 #[cfg(test)]
 mod panel;
