@@ -1,6 +1,7 @@
 """A panel and three readers on one line that loses, damages and repeats bursts.
 
-Takes the folder `crates`, with the programs, and a seed, if not 1. The relay opens every terminal itself and keeps it open. It cuts
+Takes the folder `crates`, with the programs, a seed, if not 1, and the folder of the examples in C, where those are to run. The relay opens every
+terminal itself and keeps it open. It cuts
 bursts by their length field and keeps their order; each of the panel's goes to all readers. In each direction 5 % of all bursts are
 lost, the last byte of 5 % is changed, and 5 % come twice: a seeded generator decides, burst by burst. From the 50th order on each
 reader is silent once for two seconds. Moments make runs differ, and what is asked of them holds for all.
@@ -96,9 +97,8 @@ class Relay:
 class Script:
     """One of the examples, as it runs: what it has written, line by line."""
 
-    def __init__(self, name, *words):
-        command = [sys.executable, "-B", str(EXAMPLES / name), *map(str, words)]
-        self.process = subprocess.Popen(command, stdin=subprocess.PIPE, stdout=subprocess.PIPE)
+    def __init__(self, *words):
+        self.process = subprocess.Popen([str(word) for word in words], stdin=subprocess.PIPE, stdout=subprocess.PIPE)
         os.set_blocking(self.process.stdout.fileno(), False)
         self.lines = []
         self.rest = b""
@@ -202,16 +202,25 @@ def run(relay, panel, readers, begun):
             return
 
 
-def main(crates, seed="1"):
+def commands(crates, built):
+    """Of the panel and of a reader, what stands before the port and what before the settings: an example in Python with its program, or one in C."""
+    for name in ("panel", "reader"):
+        if built is None:
+            yield [sys.executable, "-B", EXAMPLES / f"{name}.py"], [f"{crates}/osdp_{name}_lines/out/osdp_{name}_lines"]
+        else:
+            yield [f"{built}/{name}"], []
+
+
+def main(crates, seed="1", built=None):
     begun = time.monotonic()
     relay = Relay(seed)
+    (panel_example, panel_program), (reader_example, reader_program) = commands(crates, built)
     readers = [
-        Script("reader.py", terminal.path, 9600, f"{crates}/osdp_reader_lines/out/osdp_reader_lines", "address", address,
+        Script(*reader_example, terminal.path, 9600, *reader_program, "address", address,
                "vendor", "53494D", "serial", address, "room", 256, "gap", 15)
         for terminal, address in zip(relay.readers, ADDRESSES)
     ]
-    panel = Script("panel.py", relay.panel.path, 9600, ",".join(map(str, ADDRESSES)),
-                   f"{crates}/osdp_panel_lines/out/osdp_panel_lines", *TIMES.split())
+    panel = Script(*panel_example, relay.panel.path, 9600, ",".join(map(str, ADDRESSES)), *panel_program, *TIMES.split())
     try:
         run(relay, panel, readers, begun)
     finally:

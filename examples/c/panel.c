@@ -62,7 +62,7 @@ static void order(const char *line)
     char *text;
     size_t entry = strtoul(line, &text, 10);
     tell("ordered %s\n", line);
-    if (tell_refusal(osdp_panel_submit_text(&panel, entry - 1, text, strlen(text)))) {
+    if (tell_refusal(entry == 0 ? OSDP_BAD_TEXT : osdp_panel_submit_text(&panel, entry - 1, text, strlen(text)))) {
         tell("not taken %s\n", line);
     }
 }
