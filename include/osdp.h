@@ -403,9 +403,10 @@ enum {
 enum {
     /* Nothing: a POLL, a command that couldn't be read, or none. */
     OSDP_ORDER_NONE = 0,
-    /* To do the command, once: it came with a number that had its turn. */
+    /* To do the command, once: it came with a number that had its turn. Nothing is to be done where byte 5 of the burst is 0x41, the code of NAK:
+     * the reader has refused the command. */
     OSDP_ORDER_TAKEN = 1,
-    /* The command came with number 0, where the same order may come again: do what may be done twice. */
+    /* The command came with number 0, where the same order may come again: do what may be done twice, and nothing after a NAK. */
     OSDP_ORDER_AGAIN = 2
 };
 

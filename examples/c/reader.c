@@ -13,6 +13,7 @@
 
 #define TURN 10 /* how long a read waits, in milliseconds */
 #define OUTPUTS 8
+#define NAK 0x41 /* the code of a reply that says that nothing was done */
 #define GOOD UINT64_MAX /* on for good */
 
 static struct osdp_reader reader;
@@ -53,7 +54,7 @@ static void act(const struct osdp_answer *answer, uint64_t now)
     if (answer->order != OSDP_ORDER_NONE) {
         tell("%s %s\n", answer->order == OSDP_ORDER_TAKEN ? "taken" : "again", command_text(&answer->command));
     }
-    if (answer->order == OSDP_ORDER_TAKEN && answer->command.code == 0x68) {
+    if (answer->order == OSDP_ORDER_TAKEN && answer->command.code == 0x68 && answer->burst.bytes[5] != NAK) {
         switch_outputs(&answer->command, now);
     }
     if (answer->moved) {

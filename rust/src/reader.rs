@@ -51,7 +51,8 @@ pub enum Said {
 #[derive(Clone, Debug, PartialEq, Eq)]
 #[allow(clippy::large_enum_variant)]
 pub enum Order {
-    /// The command, once: it came with a number that had its turn.
+    /// The command, once: it came with a number that had its turn. Nothing is to be done where byte 5 of the burst is 0x41, the
+    /// code of NAK: the reader has refused the command.
     Taken(Command),
     /// The command came with number 0, where the same order may come again: what may be done twice.
     Again(Command),

@@ -6,13 +6,12 @@ use Rattle.std.proofs.KnownBytes.{Appends-nil}
 use Rattle.std.specs.Io.KnownBytes.{Appends}
 use Rattle.std.specs.List.{AllByRecursion}
 use Rattle.osdp_frame.specs.Bytes.{AreBytes}
-use Rattle.osdp_frame.specs.Reading.{Part, Passed, part_size, total_size}
-use Rattle.osdp_frame.specs.Held.{Held, begun, decided, new_run}
+use Rattle.osdp_frame.specs.Reading.{Passed, total_size}
+use Rattle.osdp_frame.specs.Held.{begun, decided, new_run}
 use Rattle.osdp_frame.specs.Items.{items}
 use Rattle.osdp_frame.specs.Spelling.{start_of_message}
 use Rattle.osdp_frame.proofs.Head.{AreBytes-drop}
 use Rattle.osdp_frame_laws.proofs.Readings.{decided_nothing, items_undecided, items_decided}
-use Rattle.osdp_tool_lines.specs.declared.tally.Tally.{Tally}
 use Rattle.osdp_tool_lines.specs.Tally.{after_parts, counted}
 use Rattle.osdp_tool_lines.specs.Told.{parts_lines}
 use Rattle.osdp_tool_lines.proofs.Passed.{after_passed, lines_passed}
