@@ -36,7 +36,7 @@ def words(kit, named):
     for folder in [kit / "rlibs", *(library(one).parent for one in sorted(below(NAME, named)))]:
         found += ["-L", f"dependency={folder}"]
     found += ["--antt-project", kit / "rattle/logic/antt-project.json", "--logic-built", kit / "logic_built"]
-    return found + ["--batches", "--jobs", "2", "--toolchain", kit / "toolchain", "--backend", "llvm", "-o", "out/libosdp_c.a"]
+    return found + ["--incremental", "out/incremental", "--jobs", "2", "--toolchain", kit / "toolchain", "--backend", "llvm", "-o", "out/libosdp_c.a"]
 
 
 def main():

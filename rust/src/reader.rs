@@ -6,6 +6,9 @@ use crate::panel::{no_burst, no_message};
 use crate::sys;
 use core::ptr::null_mut;
 
+/// The code of a reply that refuses a command. The code is byte 5 of an answer.
+const NAK: u8 = 0x41;
+
 /// What a reader is.
 #[derive(Clone, Debug, PartialEq, Eq)]
 pub struct ReaderConfig<'a> {
@@ -51,8 +54,8 @@ pub enum Said {
 #[derive(Clone, Debug, PartialEq, Eq)]
 #[allow(clippy::large_enum_variant)]
 pub enum Order {
-    /// The command, once: it came with a number that had its turn. Nothing is to be done where byte 5 of the burst is 0x41, the
-    /// code of NAK: the reader has refused the command.
+    /// The command, once: it came with a number that had its turn. Nothing is to be done where the reader has refused the command
+    /// (`Answer::is_refused`).
     Taken(Command),
     /// The command came with number 0, where the same order may come again: what may be done twice.
     Again(Command),
@@ -78,6 +81,13 @@ pub struct Answer {
     pub moved: Option<Moved>,
     /// What is to be written to the line.
     pub burst: Option<Burst>,
+}
+
+impl Answer {
+    /// Whether the reader has refused the command by a NAK: nothing of it is to be done then.
+    pub fn is_refused(&self) -> bool {
+        self.burst.as_deref().and_then(|bytes| bytes.get(5)) == Some(&NAK)
+    }
 }
 
 fn said_of(kind: u32) -> Option<Said> {
