@@ -18,7 +18,7 @@
  * Heap.       `osdp_panel_new` takes 43,216 bytes in two blocks, and `osdp_panel_add` 1,648 for each command that may wait, in one.
  *             `osdp_reader_new` takes 18,904 bytes, and 1,456 for each event that may wait, in two blocks. `free` gives all back. No other call
  *             takes memory. Where there is none, a call says so, and nothing has changed.
- * Stack.      `osdp_reader_new` takes 93 KiB of stack, each other call at most 71 KiB, as measured on 64-bit x86.
+ * Stack.      `osdp_reader_new` takes 93 KiB of stack, each other call at most 68 KiB, as measured on 64-bit x86.
  * Targets.    64-bit x86 and ARM, where a `size_t` has 64 bits.
  *
  * What the caller owes, which no proof checks:
