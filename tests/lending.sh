@@ -41,8 +41,8 @@ CODE
   fi
 }
 
-# The borrow check comes first and takes seconds. Where it finds nothing, the libraries below are built; that isn't waited for.
+# The borrow check comes first and takes seconds. Where it finds nothing, the libraries below are built, which isn't waited for, or all is proved at once.
 try 'framer.advance();' 'borrow-e0502' 'for osdp_check' 100
 try 'let _ = framer.push(&[0]);' 'borrow-e0502' 'for osdp_check' 100
-try '' 'for osdp_check' 'borrow-e0502' 45
+try '' 'for osdp_check\|logic=proved' 'borrow-e0502' 45
 exit 0
