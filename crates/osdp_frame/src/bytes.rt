@@ -18,6 +18,9 @@ pub const HEAD: usize = 5;
 /// The largest packet that is accepted.
 pub const LARGEST: usize = 1440;
 
+/// What a burst is made longer by.
+const ZEROS: [u8; LARGEST] = [0; LARGEST];
+
 /// What a slice of bytes holds is bytes.
 pub fn are_bytes(bytes: &[u8])
     ensures { AreBytes bytes.now }
@@ -44,10 +47,50 @@ pub fn check_bytes(check: CheckKind, bytes: &[u8]) -> [u8; 2]
     }
 }
 
-/// Puts `bytes` after what stands in `out`.
-pub fn append(out: &mut Burst, bytes: &[u8])
-    requires { length out.old.items + length bytes.now ≤ 1440 }
-    ensures { out.new.items ≡ out.old.items ++ bytes.now }
+/// As many bytes as are asked for in place of what stands in `out`: those that stand there as far as they go, and zeros.
+pub fn resize(out: &mut Burst, count: usize)
+    requires { count ≤ 1440 }
+    ensures { length out.new.items ≡ count }
 {
-    let _ = out.try_extend_from_slice(bytes);
+    let held = out.len();
+    out.truncate(count);
+    if held < count {
+        let _ = out.try_extend_from_slice(&ZEROS[..count - held]);
+    }
+}
+
+/// Writes `head`, `body` and the check of both over `bytes`.
+pub fn write_packet(bytes: &mut [u8], head: [u8; 5], body: &[u8], check: CheckKind)
+    requires { length bytes.old ≡ 5 + length body.now + check_size check }
+    ensures { bytes.new ≡ (head ++ body.now) ++ check_of check (head ++ body.now) }
+{
+    let (front, end) = bytes.split_at_mut(HEAD + body.len());
+    write_front(front, head, body);
+    let sent = check_bytes(check, front);
+    match check {
+        CheckKind::Sum => end[0] = sent[0],
+        CheckKind::Crc => end.copy_from_slice(&sent),
+    }
+}
+
+/// Writes `head` and `body` over `bytes`.
+fn write_front(bytes: &mut [u8], head: [u8; 5], body: &[u8])
+    requires { length bytes.old ≡ 5 + length body.now }
+    ensures { bytes.new ≡ head ++ body.now }
+{
+    let (first, rest) = bytes.split_at_mut(HEAD);
+    first.copy_from_slice(&head);
+    write_body(rest, body);
+}
+
+/// Writes `body` over `bytes`. A body of one byte, as most have, is written without a call.
+fn write_body(bytes: &mut [u8], body: &[u8])
+    requires { length bytes.old ≡ length body.now }
+    ensures { bytes.new ≡ body.now }
+{
+    if let [code] = body {
+        bytes[0] = *code;
+    } else {
+        bytes.copy_from_slice(body);
+    }
 }

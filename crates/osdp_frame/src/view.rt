@@ -6,7 +6,7 @@ ghost use Rattle.osdp_frame.specs.Packet.{IsPacket};
 ghost use Rattle.osdp_frame.specs.Packed.{packed};
 ghost use Rattle.osdp_frame.specs.Spelling.{Spells, address_byte, control_byte};
 
-use crate::bytes::{HEAD, LARGEST, START_OF_MESSAGE, append, are_bytes, check_bytes, count_bytes};
+use crate::bytes::{HEAD, LARGEST, START_OF_MESSAGE, are_bytes, count_bytes, resize, write_packet};
 use crate::frame::Burst;
 use crate::{Address, CheckKind, Seq};
 use std::marker::Model;
@@ -104,17 +104,9 @@ impl<'a> FrameView<'a> {
         let count = count_bytes(length as u16);
         let address = self.address_byte();
         let control = self.control_byte();
-        out.clear();
-        append(
-            out,
-            &[START_OF_MESSAGE, address, count[0], count[1], control],
-        );
-        append(out, self.body);
-        let check = check_bytes(self.check, out.as_slice());
-        match self.check {
-            CheckKind::Sum => append(out, &[check[0]]),
-            CheckKind::Crc => append(out, &check),
-        }
+        let head = [START_OF_MESSAGE, address, count[0], count[1], control];
+        resize(out, length);
+        write_packet(out.as_mut_slice(), head, self.body, self.check);
     }
 
     /// The address, with its highest bit set in a reply.
