@@ -2,73 +2,13 @@
 //! computes the CRC and reads digits by tables, and allocates nothing for a line. It knows the messages that the inputs of the
 //! bench hold, and reads one byte on after a refusal the plain way: each check is computed anew.
 
-mod machines;
-
 use std::io::{self, Read, Write};
 use std::process::exit;
+use yardstick::packets::{first, First};
+use yardstick::work;
 
-const LARGEST: usize = 1440;
 const PIECE: usize = 64 * 1024;
 const LIMIT: u64 = 67_108_864;
-
-const fn crc_table() -> [u16; 256] {
-    let mut table = [0u16; 256];
-    let mut index = 0;
-    while index < 256 {
-        let mut state = (index as u16) << 8;
-        let mut bit = 0;
-        while bit < 8 {
-            state = if state & 0x8000 != 0 { (state << 1) ^ 0x1021 } else { state << 1 };
-            bit += 1;
-        }
-        table[index] = state;
-        index += 1;
-    }
-    table
-}
-
-static CRC_TABLE: [u16; 256] = crc_table();
-
-fn crc(bytes: &[u8]) -> u16 {
-    bytes.iter().fold(0x1d0f, |state, byte| {
-        (state << 8) ^ CRC_TABLE[usize::from((state >> 8) as u8 ^ byte)]
-    })
-}
-
-fn checksum(bytes: &[u8]) -> u8 {
-    bytes.iter().fold(0u8, |sum, byte| sum.wrapping_add(*byte)).wrapping_neg()
-}
-
-enum First {
-    Packet(usize),
-    Skipped(u8),
-    Refused(u8),
-}
-
-fn first(rest: &[u8], ended: bool) -> Option<First> {
-    let start = *rest.first()?;
-    if start != 0x53 {
-        return Some(First::Skipped(start));
-    }
-    let at_end = if ended { Some(First::Refused(4)) } else { None };
-    if rest.len() < 5 {
-        return at_end;
-    }
-    let size = if rest[4] & 4 != 0 { 2 } else { 1 };
-    let length = usize::from(u16::from_le_bytes([rest[2], rest[3]]));
-    if length < 6 + size {
-        return Some(First::Refused(1));
-    }
-    if length > LARGEST {
-        return Some(First::Refused(2));
-    }
-    if rest.len() < length {
-        return at_end;
-    }
-    let (front, check) = rest[..length].split_at(length - size);
-    let right = if size == 2 { check == crc(front).to_le_bytes() } else { check[0] == checksum(front) };
-    Some(if right { First::Packet(length) } else { First::Refused(3) })
-}
 
 struct Printer<W: Write> {
     output: W,
@@ -280,7 +220,7 @@ fn main() {
     let words: Vec<String> = std::env::args().skip(1).collect();
     if let [first, kind, count] = &words[..] {
         if first == "machines" {
-            let done = count.parse().ok().and_then(|count| machines::done(kind, count));
+            let done = count.parse().ok().and_then(|count| work::done(kind, count));
             println!("{}", done.map_or(String::from("bad words"), |done| done.to_string()));
             return;
         }
