@@ -1,6 +1,7 @@
 //! Commands: what the controller sends to a reader.
 
-ghost use Rattle.std.specs.Prelude.{◌≡◌, ◌∷◌, length, None, Some, Ok, IfOk, IfErr, true};
+ghost use Rattle.std.specs.Prelude.{◌≡◌, ◌↔◌, ◌∷◌, length, None, Some, Ok, IfOk, IfErr, IfSome, IsOk, IsSome, true};
+ghost use Rattle.std.specs.Result.{result_ok};
 ghost use Rattle.osdp_words.specs.Reading.{ReadsWords};
 ghost use Rattle.osdp_words.specs.Word.{AllStandFor, texts, words_in};
 ghost use Rattle.osdp_msg.specs.CommandTable.{CommandFits, IsCommand, command_code, command_data, command_counts_agree, command_fault, command_length_allowed, command_of, command_at};
@@ -11,6 +12,7 @@ use crate::fault::{BadWords, MsgFault, length_fault};
 use crate::leds::Leds;
 use crate::outputs::Outputs;
 use crate::parsing::{MOST_WORDS, parse_byte};
+use crate::placing::{place_leds, place_maker, place_outputs, place_text};
 use crate::printing::{print_byte, print_records};
 use crate::records::with_records;
 use crate::spelling::{code_alone, with_byte};
@@ -88,26 +90,26 @@ fn fault(code: u8, bytes: &[u8]) -> Option<MsgFault>
     (!counts_agree(code, bytes)).then_some(MsgFault::Count)
 }
 
-/// The command that a code and data without a fault stand for.
+/// Puts the command that a code and data without a fault stand for in place of what stands in `command`.
 #[tactic(auto, unfolding(crate::specs::CommandTable::command_at))]
-fn value_at(code: u8, bytes: &[u8]) -> Command
+fn place(code: u8, bytes: &[u8], command: &mut Option<Command>)
     requires { command_fault code bytes.now ≡ None }
-    ensures { result ≡ command_at code bytes.now }
+    ensures { command.new ≡ Some (command_at code bytes.now) }
 {
     match code {
-        0x61 => Command::Id(bytes[0]),
-        0x62 => Command::Cap(bytes[0]),
-        0x64 => Command::LocalStatus,
-        0x65 => Command::InputStatus,
-        0x66 => Command::OutputStatus,
-        0x67 => Command::ReaderStatus,
-        0x68 => Command::Output(Outputs::read(bytes)),
-        0x69 => Command::Led(Leds::read(bytes)),
-        0x6A => Command::Buzzer(Buzzer::read(bytes)),
-        0x6B => Command::Text(Text::read(bytes)),
-        0x6E => Command::Comset(Communication::read(bytes)),
-        0x80 => Command::Maker(MakerMessage::read(bytes)),
-        _ => Command::Poll,
+        0x61 => *command = Some(Command::Id(bytes[0])),
+        0x62 => *command = Some(Command::Cap(bytes[0])),
+        0x64 => *command = Some(Command::LocalStatus),
+        0x65 => *command = Some(Command::InputStatus),
+        0x66 => *command = Some(Command::OutputStatus),
+        0x67 => *command = Some(Command::ReaderStatus),
+        0x68 => place_outputs(bytes, command),
+        0x69 => place_leds(bytes, command),
+        0x6A => *command = Some(Command::Buzzer(Buzzer::read(bytes))),
+        0x6B => place_text(bytes, command),
+        0x6E => *command = Some(Command::Comset(Communication::read(bytes))),
+        0x80 => place_maker(bytes, command),
+        _ => *command = Some(Command::Poll),
     }
 }
 
@@ -116,10 +118,12 @@ fn value_at(code: u8, bytes: &[u8]) -> Command
 fn decode(code: u8, bytes: &[u8]) -> Result<Command, MsgFault>
     ensures { result ≡ command_of code bytes.now }
 {
-    match fault(code, bytes) {
-        Some(fault) => Err(fault),
-        None => Ok(value_at(code, bytes)),
+    if let Some(fault) = fault(code, bytes) {
+        return Err(fault);
     }
+    let mut command = None;
+    place(code, bytes, &mut command);
+    Ok(command.unwrap())
 }
 
 /// The command whose text begins with a name and goes on with these words.
@@ -153,6 +157,25 @@ impl Command {
         ensures function { result ≡ command_of code bytes.now }
     {
         decode(code, bytes)
+    }
+
+    /// Puts the command that a code and data stand for in place of what stands in `command`, or none, and tells the first fault
+    /// that holds. Outputs, LEDs, a text and a maker's message are written over those that stand there, so that a caller with one
+    /// place for command after command moves their bytes alone.
+    #[tactic(auto, unfolding(crate::specs::CommandTable::command_of))]
+    pub fn read_into(code: u8, bytes: &[u8], command: &mut Option<Command>) -> Result<(), MsgFault>
+        ensures value { IfSome command.new (IsCommand code bytes.now) }
+        ensures some { IsOk result ↔ IsSome command.new }
+        ensures fault { IfErr result (λ e. command_fault code bytes.now ≡ Some e) }
+        ensures only { (m : Command) → IsCommand code bytes.now m → command.new ≡ Some m }
+        ensures function { command.new ≡ result_ok (command_of code bytes.now) }
+    {
+        if let Some(fault) = fault(code, bytes) {
+            *command = None;
+            return Err(fault);
+        }
+        place(code, bytes, command);
+        Ok(())
     }
 
     /// The code and the data of the command.

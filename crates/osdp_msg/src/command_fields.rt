@@ -6,7 +6,9 @@ ghost use Rattle.osdp_words.specs.Reading.{ReadsWords};
 ghost use Rattle.osdp_words.specs.Word.{plain, text_of, texts};
 ghost use Rattle.osdp_msg.specs.CommandFields.{BuzzerFits, buzzer_at, buzzer_data, buzzer_words, TextFits, text_at, text_data, text_words, CommunicationFits, communication_at, communication_data, communication_words, MakerFits, maker_at, maker_data, maker_words};
 
-use crate::spelling::{Spelling, append, append_u32, code_alone, list_of, rest, with_bytes};
+use crate::spelling::{
+    Spelling, append, append_u32, code_alone, copy_over, list_of, rest, with_bytes,
+};
 use arrayvec::ArrayVec;
 use byteorder::{ByteOrder, LittleEndian};
 use osdp_words::{ByteList, Fields};
@@ -115,6 +117,20 @@ impl Text {
             column: bytes[4],
             characters: list_of(rest(bytes, 6)),
         }
+    }
+
+    /// Puts the text that the bytes are in place of this.
+    pub(crate) fn read_over(&mut self, bytes: &[u8])
+        requires some { 6 ≤ length bytes.now }
+        requires room { length bytes.now ≤ 261 }
+        ensures { self.new ≡ text_at bytes.now }
+    {
+        self.reader = bytes[0];
+        self.command = bytes[1];
+        self.time = bytes[2];
+        self.row = bytes[3];
+        self.column = bytes[4];
+        copy_over(&mut self.characters, rest(bytes, 6));
     }
 
     pub(crate) fn write(&self) -> Spelling
@@ -243,6 +259,16 @@ impl MakerMessage {
             vendor: [bytes[0], bytes[1], bytes[2]],
             bytes: list_of(rest(bytes, 3)),
         }
+    }
+
+    /// Puts the message that the bytes are in place of this.
+    pub(crate) fn read_over(&mut self, bytes: &[u8])
+        requires some { 3 ≤ length bytes.now }
+        requires room { length bytes.now ≤ 1432 }
+        ensures { self.new ≡ maker_at bytes.now }
+    {
+        self.vendor = [bytes[0], bytes[1], bytes[2]];
+        copy_over(&mut self.bytes, rest(bytes, 3));
     }
 
     pub(crate) fn write(&self, code: u8) -> Spelling

@@ -8,7 +8,7 @@ ghost use Rattle.osdp_msg.specs.CommandFields.{LedFits, led_at, led_word, record
 ghost use Rattle.osdp_msg.specs.Records.{records_at};
 
 use crate::parsing::parse_records;
-use crate::records::{Record, read_records};
+use crate::records::{Record, read_records, read_records_over};
 use crate::spelling::{Spelling, append, append_u16, list_of, rest};
 use arrayvec::ArrayVec;
 use byteorder::{ByteOrder, LittleEndian};
@@ -211,6 +211,16 @@ impl Leds {
         Leds {
             records: read_records(bytes),
         }
+    }
+
+    /// Puts the records that the bytes are in place of these.
+    pub(crate) fn read_over(&mut self, bytes: &[u8])
+        requires some { 14 ≤ length bytes.now }
+        requires room { length bytes.now ≤ 1432 }
+        requires whole { length bytes.now % 14 ≡ 0 }
+        ensures { self.new ≡ records_at led_at 14 bytes.now }
+    {
+        read_records_over(&mut self.records, bytes);
     }
 
     /// An equal value.

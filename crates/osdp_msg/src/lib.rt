@@ -16,6 +16,7 @@ mod leds;
 mod nak;
 mod outputs;
 mod parsing;
+mod placing;
 mod printing;
 mod raw;
 mod records;

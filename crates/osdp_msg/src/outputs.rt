@@ -8,7 +8,7 @@ ghost use Rattle.osdp_msg.specs.CommandFields.{OutputFits, output_at, output_wor
 ghost use Rattle.osdp_msg.specs.Records.{records_at};
 
 use crate::parsing::parse_records;
-use crate::records::{Record, read_records};
+use crate::records::{Record, read_records, read_records_over};
 use crate::spelling::{Spelling, append_u16, list_of, rest};
 use arrayvec::ArrayVec;
 use byteorder::{ByteOrder, LittleEndian};
@@ -139,6 +139,16 @@ impl Outputs {
         Outputs {
             records: read_records(bytes),
         }
+    }
+
+    /// Puts the records that the bytes are in place of these.
+    pub(crate) fn read_over(&mut self, bytes: &[u8])
+        requires some { 4 ≤ length bytes.now }
+        requires room { length bytes.now ≤ 1432 }
+        requires whole { length bytes.now % 4 ≡ 0 }
+        ensures { self.new ≡ records_at output_at 4 bytes.now }
+    {
+        read_records_over(&mut self.records, bytes);
     }
 
     /// An equal value.

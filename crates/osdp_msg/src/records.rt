@@ -55,12 +55,25 @@ pub(crate) fn read_records<R: Record, const N: usize>(bytes: &[u8]) -> ArrayVec<
     ensures { result.items ≡ records_at R.read_at R.SIZE bytes.now }
 {
     let mut records = ArrayVec::new();
+    read_records_over(&mut records, bytes);
+    records
+}
+
+/// Puts the records that the bytes are in place of those of a list.
+pub(crate) fn read_records_over<R: Record, const N: usize>(
+    records: &mut ArrayVec<R, N>,
+    bytes: &[u8],
+)
+    requires whole { length bytes.now % R.SIZE ≡ 0 }
+    requires room { length bytes.now < R.SIZE * (N + 1) }
+    ensures { records.new.items ≡ records_at R.read_at R.SIZE bytes.now }
+{
+    records.clear();
     let mut left = bytes;
     for _ in 0..bytes.len() / R::SIZE {
         records.push(R::read(left));
         left = rest(left, R::SIZE);
     }
-    records
 }
 
 /// A message of records.

@@ -29,6 +29,18 @@ pub(crate) fn list_of<T: Copy + Default + Drop, const N: usize>(items: &[T]) -> 
     list
 }
 
+/// Puts these elements in place of those of a list.
+pub(crate) fn copy_over<T: Copy + Default + Drop, const N: usize>(
+    list: &mut ArrayVec<T, N>,
+    items: &[T],
+)
+    requires { length items.now ≤ N }
+    ensures { list.new.items ≡ items.now }
+{
+    list.clear();
+    list.try_extend_from_slice(items).unwrap();
+}
+
 /// A message of a code alone.
 pub(crate) fn code_alone(code: u8) -> Spelling
     ensures { result.items ≡ code ∷ [] }

@@ -342,21 +342,13 @@ fn set_poll(command: &mut Option<Command>)
 
 /// The same of any command.
 #[inline(never)]
+#[tactic(auto, using(crate::proofs::Reading::read_is, crate::proofs::Reading::faults_are))]
 fn read_other(packet: &FrameView, command: &mut Option<Command>) -> Result<(), MsgFault>
     ensures command { IfSome command.new (λ read. command_in packet.now ≡ Ok read) }
     ensures some { IsOk result ↔ IsSome command.new }
     ensures fault { IfErr result (λ fault. command_in packet.now ≡ Err fault) }
 {
-    match Command::read(packet.code(), packet.payload()) {
-        Ok(read) => {
-            *command = Some(read);
-            Ok(())
-        }
-        Err(fault) => {
-            *command = None;
-            Err(fault)
-        }
-    }
+    Command::read_into(packet.code(), packet.payload(), command)
 }
 
 /// Where an accepted COMSET sets it, the address.

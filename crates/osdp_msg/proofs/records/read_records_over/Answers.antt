@@ -2,7 +2,7 @@ use Rattle.std.proofs.Common.{◌<◌, ◌/◌, length, arith}
 use Rattle.std.proofs.lemmas.List.{length-drop}
 use Rattle.osdp_msg.proofs.RecordLists.{next_left, records_more}
 use Rattle.osdp_msg.specs.Records.{records_at}
-use Rattle.osdp_msg.proofs.records.read_records.Goals as goal
+use Rattle.osdp_msg.proofs.records.read_records_over.Goals as goal
 
 pub loop-preserved : goal.loop-preserved
 loop-preserved g c =

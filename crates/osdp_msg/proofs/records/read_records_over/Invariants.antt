@@ -1,6 +1,6 @@
 use Rattle.std.proofs.Common.{◌≡◌, ◌++◌, ◌+◌, ◌*◌, ◌-◌, ◌/◌, length}
 use Rattle.osdp_msg.specs.Records.{records_at, records_from}
-use Rattle.osdp_msg.proofs.records.read_records.Given as goal
+use Rattle.osdp_msg.proofs.records.read_records_over.Given as goal
 
 abbrev pub invariant-loop : goal.invariant-loop
 invariant-loop g l = record {

@@ -2,7 +2,7 @@ use Rattle.std.proofs.Common.{◌-◌, eqb, length, slice_index, true, arith}
 use Rattle.std.proofs.lemmas.Bool.{eqb-true}
 use Rattle.osdp_msg.specs.CommandTable.{command_fault}
 use Rattle.osdp_msg.proofs.Table.{at_least, exactly, some_multiple}
-use Rattle.osdp_msg.proofs.command.value_at.Goals as goal
+use Rattle.osdp_msg.proofs.command.place.Goals as goal
 
 pub bounds-bytes-0 : goal.bounds-bytes-0
 unfolding command_fault
@@ -16,27 +16,27 @@ bounds-bytes-0-in-98 c =
     let p = (exactly (length c.args.bytes.now) 1 true (rw c.in-98.is at c.requires)).0 in
     omega (arith, p)
 
-pub read-requires : goal.read-requires
+pub place_outputs-requires : goal.place_outputs-requires
 unfolding command_fault
-read-requires c =
+place_outputs-requires c =
     let p = some_multiple 4 4 (length c.args.bytes.now) true (rw c.in-104.is at c.requires) in
     record { some = p.0; room = p.1; whole = p.2 }
 
-pub read-requires-in-105 : goal.read-requires-in-105
+pub place_leds-requires : goal.place_leds-requires
 unfolding command_fault
-read-requires-in-105 c =
+place_leds-requires c =
     let p = some_multiple 14 14 (length c.args.bytes.now) true (rw c.in-105.is at c.requires) in
     record { some = p.0; room = p.1; whole = p.2 }
 
-pub read-requires-in-106 : goal.read-requires-in-106
+pub read-requires : goal.read-requires
 unfolding command_fault
-read-requires-in-106 c =
+read-requires c =
     let p = exactly (length c.args.bytes.now) 5 true (rw c.in-106.is at c.requires) in
     p.0
 
-pub read-requires-in-107 : goal.read-requires-in-107
+pub place_text-requires : goal.place_text-requires
 unfolding command_fault
-read-requires-in-107 c =
+place_text-requires c =
     let bs = c.args.bytes.now in
     let p = at_least 6 (length bs) (eqb (slice_index bs 5) (length bs - 6)) (rw c.in-107.is at c.requires) in
     let count = eqb-true (slice_index bs 5) (length bs - 6) p.2 in
@@ -48,8 +48,8 @@ read-requires-in-110 c =
     let p = exactly (length c.args.bytes.now) 5 true (rw c.in-110.is at c.requires) in
     p.0
 
-pub read-requires-in-128 : goal.read-requires-in-128
+pub place_maker-requires : goal.place_maker-requires
 unfolding command_fault
-read-requires-in-128 c =
+place_maker-requires c =
     let p = at_least 3 (length c.args.bytes.now) true (rw c.in-128.is at c.requires) in
     record { some = p.0; room = p.1 }
