@@ -1,4 +1,5 @@
 pub mod Acks
+pub mod Asking
 pub mod Choices
 pub mod Keeping
 pub mod Told

@@ -23,6 +23,7 @@ pub enum Answer {
 
 impl Answer {
     /// What a packet from a reader says.
+    #[inline(never)]
     pub(crate) fn of(frame: &FrameView<'_>) -> Answer
         ensures { result ≡ answer_of frame.now }
     {

@@ -197,11 +197,12 @@ impl Controller {
         ensures step { result ≡ (ticks now self.old.session self.old.waiting).step }
         ensures machine { self.new ≡ after_tick now self.old }
     {
+        let mut step = Step::nothing();
         self.session.see(now);
-        if self.has_nothing_due() {
-            return Step::nothing();
+        if !self.has_nothing_due() {
+            self.step(&mut step);
         }
-        self.step()
+        step
     }
 
     /// What is due at a moment, put into what the caller lends: whether a packet is to be sent, whose bytes stand in `out` then. Where
@@ -229,17 +230,16 @@ impl Controller {
         !self.session.is_reached() && (self.waiting.is_empty() || !self.session.state.is_idle())
     }
 
-    /// What is due at the greatest moment seen.
+    /// Does what is due at the greatest moment seen, and puts it into a step that has nothing.
     #[inline(never)]
-    fn step(&mut self) -> Step
-        ensures step { result ≡ (ticks_in self.old.session.state self.old.session self.old.waiting).step }
+    fn step(&mut self, step: &mut Step)
+        requires frame { step.old.frame ≡ None }
+        requires report { step.old.report ≡ None }
+        ensures step { step.new ≡ (ticks_in self.old.session.state self.old.session self.old.waiting).step }
         ensures machine { self.new ≡ after_act self.old }
     {
-        let mut report = None;
-        let sends = self.act(&mut report);
-        Step {
-            frame: self.session.frame_if(sends),
-            report,
+        if self.act(&mut step.report) {
+            self.session.put_frame(&mut step.frame);
         }
     }
 

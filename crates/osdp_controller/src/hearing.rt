@@ -1,11 +1,12 @@
 //! The table of frames.
 
-ghost use Rattle.std.specs.Prelude.{◌≡◌, ◌<◌, [], ◌∷◌, true, false, Option, None, Some, is_none, IfSome, MatchResult};
+ghost use Rattle.std.specs.Prelude.{◌≡◌, ◌<◌, [], ◌∷◌, true, false, Option, None, Some, is_none, is_some, IfSome, MatchResult};
 ghost use Rattle.osdp_controller.specs.declared.answer.Answer.TheVariants.{Plain, Unreadable};
 ghost use Rattle.osdp_controller.specs.declared.report.Report.TheVariants.{Moved};
 ghost use Rattle.osdp_controller.specs.declared.state.Stage.TheVariants as stages;
 ghost use Rattle.osdp_controller.specs.Answers.{answer_of};
-ghost use Rattle.osdp_controller.specs.Hearing.{answered, answered_unread, com_of, command_answered, comset_of, event_in, hears, hears_busy, hears_in, is_ack, is_from_reader, is_numbered, loses, moved_by, opening_answered, pausing_hears, pd_id_of, poll_told, rests, waiting_hears};
+ghost use Rattle.osdp_controller.specs.Exchanges.{submitted_command};
+ghost use Rattle.osdp_controller.specs.Hearing.{answered, answered_unread, com_of, comset_of, event_in, hears, hears_busy, hears_in, is_ack, is_from_reader, is_numbered, loses, moved_by, opening_answered, pausing_hears, pd_id_of, poll_told, rests, waiting_hears};
 ghost use Rattle.osdp_controller.specs.Held.{exchange_of, is_held, outstanding_in, sends_in, stage_of};
 ghost use Rattle.osdp_controller.specs.Machine.{IsSession};
 ghost use Rattle.osdp_controller.specs.Private.{is_no_answer, is_no_answer_in, numbered_in};
@@ -18,6 +19,7 @@ use crate::session::Session;
 use crate::state::Stage;
 use osdp_frame::{Address, FrameView, Seq};
 use osdp_msg::{Command, Communication, Event, PdId, Reply};
+use std::mem;
 
 impl Session {
     /// Whether a packet is a reply from the own address that can be read.
@@ -35,6 +37,7 @@ impl Session {
     }
 
     /// The session ends without an answer.
+    #[inline(never)]
     fn lose(&mut self, cause: LostCause, report: &mut Option<Report>)
         requires { is_held self.old.state ≡ true }
         ensures report { report.new ≡ (loses cause (outstanding_in self.old.state) self.old).report }
@@ -60,6 +63,7 @@ impl Session {
     }
 
     /// A COMSET is answered by its COM: the session ends, and the reader is at its new address.
+    #[inline(never)]
     fn move_to(&mut self, command: Command, answered: Communication, report: &mut Option<Report>)
         requires { answered.address < 127 }
         ensures report { report.new ≡ Some (Moved command answered) }
@@ -71,48 +75,54 @@ impl Session {
     }
 
     /// A command is answered.
-    fn hear_answer(&mut self, command: Command, reply: Reply, report: &mut Option<Report>)
-        ensures report { report.new ≡ (command_answered (moved_by (comset_of command) (com_of reply)) command reply self.old).report }
-        ensures session { self.new ≡ (command_answered (moved_by (comset_of command) (com_of reply)) command reply self.old).session }
+    #[inline(never)]
+    #[tactic(auto, using(crate::proofs::Asking::asking))]
+    fn hear_answer(&mut self, reply: &mut Reply, report: &mut Option<Report>)
+        requires held { is_held self.old.state ≡ true }
+        requires asked { is_some (submitted_command (outstanding_in self.old.state).exchange) ≡ true }
+        ensures report { report.new ≡ (answered (outstanding_in self.old.state).exchange reply.old self.old).report }
+        ensures session { self.new ≡ (answered (outstanding_in self.old.state).exchange reply.old self.old).session }
     {
-        match moved_by(&command, &reply) {
-            Some(answered) => self.move_to(command, answered, report),
-            None => {
-                self.rest();
-                *report = Some(Report::Settled(command, reply));
+        if let Some(command) = self.state.take_command() {
+            match moved_by(&command, reply) {
+                Some(answered) => self.move_to(command, answered, report),
+                None => {
+                    self.rest();
+                    *report = Some(Report::Settled(command, mem::replace(reply, Reply::Ack)));
+                }
             }
         }
     }
 
-    /// A reply that is neither BUSY, NAK 1 nor NAK 4 answers the outstanding exchange.
-    fn settle(&mut self, reply: Reply, report: &mut Option<Report>)
+    /// A reply that is neither BUSY, NAK 1 nor NAK 4 answers the outstanding exchange. It is taken out of its place where it is told, and
+    /// is not moved on the way.
+    fn settle(&mut self, reply: &mut Reply, report: &mut Option<Report>)
         requires held { is_held self.old.state ≡ true }
-        requires answer { is_no_answer (outstanding_in self.old.state).exchange (Plain reply) ≡ false }
+        requires answer { is_no_answer (outstanding_in self.old.state).exchange (Plain reply.old) ≡ false }
         requires none { report.old ≡ None }
-        ensures report { report.new ≡ (answered (outstanding_in self.old.state).exchange reply self.old).report }
-        ensures session { self.new ≡ (answered (outstanding_in self.old.state).exchange reply self.old).session }
+        ensures report { report.new ≡ (answered (outstanding_in self.old.state).exchange reply.old self.old).report }
+        ensures session { self.new ≡ (answered (outstanding_in self.old.state).exchange reply.old self.old).session }
     {
-        match self.state.asked {
-            Asked::Opening => self.open(pd_id_of(&reply), report),
-            Asked::Polling => self.settle_poll(reply, report),
-            Asked::Submitted => match self.state.command.take() {
-                Some(command) => self.hear_answer(command, reply, report),
-                None => self.settle_poll(reply, report),
-            },
+        match (self.state.asked, &self.state.command) {
+            (Asked::Opening, _) => self.open(pd_id_of(reply), report),
+            (Asked::Submitted, Some(_)) => self.hear_answer(reply, report),
+            (Asked::Polling, _) | (Asked::Submitted, None) => self.settle_poll(reply, report),
         }
     }
 
     /// A POLL is answered.
-    fn settle_poll(&mut self, reply: Reply, report: &mut Option<Report>)
+    #[inline(never)]
+    fn settle_poll(&mut self, reply: &mut Reply, report: &mut Option<Report>)
         requires { report.old ≡ None }
-        ensures report { report.new ≡ poll_told reply (event_in reply) }
+        ensures report { report.new ≡ poll_told reply.old (event_in reply.old) }
         ensures session { self.new ≡ at_rest self.old }
     {
         self.rest();
-        tell_poll(reply, report);
+        tell_poll(mem::replace(reply, Reply::Ack), report);
     }
 
     /// The opening ID is answered by a PDID.
+    #[inline(never)]
     fn open(&mut self, id: Option<PdId>, report: &mut Option<Report>)
         requires some { is_none id ≡ false }
         requires none { report.old ≡ None }
@@ -126,6 +136,7 @@ impl Session {
     }
 
     /// A reply that cannot be read answers the outstanding exchange.
+    #[inline(never)]
     fn settle_unread(&mut self, code: u8, report: &mut Option<Report>)
         requires held { is_held self.old.state ≡ true }
         requires answer { is_no_answer (outstanding_in self.old.state).exchange (Unreadable code) ≡ false }
@@ -137,35 +148,35 @@ impl Session {
     }
 
     /// An answer comes while it is waited for.
-    fn hear_waiting(&mut self, answer: Answer, report: &mut Option<Report>)
+    fn hear_waiting(&mut self, answer: &mut Answer, report: &mut Option<Report>)
         requires waiting { stage_of self.old.state ≡ stages.Waiting }
-        requires answer { is_no_answer (outstanding_in self.old.state).exchange answer ≡ false }
+        requires answer { is_no_answer (outstanding_in self.old.state).exchange answer.old ≡ false }
         requires none { report.old ≡ None }
-        ensures report { report.new ≡ (waiting_hears answer (sends_in self.old.state) (outstanding_in self.old.state) self.old).report }
-        ensures session { self.new ≡ (waiting_hears answer (sends_in self.old.state) (outstanding_in self.old.state) self.old).session }
+        ensures report { report.new ≡ (waiting_hears answer.old (sends_in self.old.state) (outstanding_in self.old.state) self.old).report }
+        ensures session { self.new ≡ (waiting_hears answer.old (sends_in self.old.state) (outstanding_in self.old.state) self.old).session }
     {
         match answer {
             Answer::NotTaken => self.hear_busy(report),
             Answer::Damaged => self.state.wait_until(self.greatest),
             Answer::NumberRefused => self.lose(LostCause::NumberRefused, report),
             Answer::Plain(reply) => self.settle(reply, report),
-            Answer::Unreadable(code) => self.settle_unread(code, report),
+            Answer::Unreadable(code) => self.settle_unread(*code, report),
         }
     }
 
     /// An answer comes in a pause.
-    fn hear_pausing(&mut self, answer: Answer, report: &mut Option<Report>)
+    fn hear_pausing(&mut self, answer: &mut Answer, report: &mut Option<Report>)
         requires held { is_held self.old.state ≡ true }
-        requires answer { is_no_answer (outstanding_in self.old.state).exchange answer ≡ false }
+        requires answer { is_no_answer (outstanding_in self.old.state).exchange answer.old ≡ false }
         requires none { report.old ≡ None }
-        ensures report { report.new ≡ (pausing_hears answer (outstanding_in self.old.state) self.old).report }
-        ensures session { self.new ≡ (pausing_hears answer (outstanding_in self.old.state) self.old).session }
+        ensures report { report.new ≡ (pausing_hears answer.old (outstanding_in self.old.state) self.old).report }
+        ensures session { self.new ≡ (pausing_hears answer.old (outstanding_in self.old.state) self.old).session }
     {
         match answer {
             Answer::NotTaken | Answer::Damaged => {}
             Answer::NumberRefused => self.lose(LostCause::NumberRefused, report),
             Answer::Plain(reply) => self.settle(reply, report),
-            Answer::Unreadable(code) => self.settle_unread(code, report),
+            Answer::Unreadable(code) => self.settle_unread(*code, report),
         }
     }
 
@@ -181,11 +192,11 @@ impl Session {
     }
 
     /// An answer with the number of the exchange comes, where one is outstanding.
-    fn hear_numbered(&mut self, answer: Answer, report: &mut Option<Report>)
-        requires answer { is_no_answer_in self.old.state answer ≡ false }
+    fn hear_numbered(&mut self, answer: &mut Answer, report: &mut Option<Report>)
+        requires answer { is_no_answer_in self.old.state answer.old ≡ false }
         requires none { report.old ≡ None }
-        ensures report { report.new ≡ (numbered_in self.old.state answer self.old).report }
-        ensures session { self.new ≡ (numbered_in self.old.state answer self.old).session }
+        ensures report { report.new ≡ (numbered_in self.old.state answer.old self.old).report }
+        ensures session { self.new ≡ (numbered_in self.old.state answer.old self.old).session }
     {
         match self.state.stage {
             Stage::Closed | Stage::Quiet | Stage::Idle => {}
@@ -242,9 +253,9 @@ impl Session {
         ensures session { self.new ≡ (hears_in self.old.state frame.now.sequence (answer_of frame.now) self.old).session }
         ensures kept { IsSession self.new }
     {
-        let answer = Answer::of(frame);
+        let mut answer = Answer::of(frame);
         if self.is_numbered(frame.seq(), &answer) && !self.is_no_answer(&answer) {
-            self.hear_numbered(answer, report);
+            self.hear_numbered(&mut answer, report);
         }
     }
 }

@@ -1,10 +1,10 @@
 //! What is kept of a session, and the small steps of its tables.
 
-ghost use Rattle.std.specs.Prelude.{◌≡◌, ◌+◌, ◌<◌, ◌≤◌, ◌^◌, length, false, true};
+ghost use Rattle.std.specs.Prelude.{◌≡◌, ◌+◌, ◌<◌, ◌≤◌, ◌^◌, Some, length, false, true};
 ghost use Rattle.osdp_frame.specs.Packed.{packed};
 ghost use Rattle.osdp_frame.specs.Spelling.{Spells};
 ghost use Rattle.osdp_controller.specs.Held.{is_held, outstanding_in};
-ghost use Rattle.osdp_controller.specs.Private.{frame_if, frame_in};
+ghost use Rattle.osdp_controller.specs.Private.{frame_in};
 ghost use Rattle.osdp_controller.specs.Sessions.{after_send, at_rest, later, new_session, seen};
 
 use crate::config::ControllerConfig;
@@ -73,26 +73,30 @@ impl Session {
         made.unwrap()
     }
 
-    /// The frame of the outstanding exchange.
-    fn frame(&self) -> Frame
+    /// Puts the frame of the outstanding exchange into a place of the caller's.
+    // Each function that holds a frame or a body stands by itself, so that the stack has no more than one of them at a time.
+    #[inline(never)]
+    pub(crate) fn put_frame(&self, frame: &mut Option<Frame>)
         requires { is_held self.now.state ≡ true }
-        ensures { result ≡ frame_in self.now }
+        ensures { frame.new ≡ Some (frame_in self.now) }
     {
         match (self.state.asked, &self.state.command) {
-            (Asked::Opening, _) => self.frame_of(&OPENING).to_frame(),
+            (Asked::Opening, _) => self.put_body(&OPENING, frame),
             (Asked::Submitted, Some(command)) => {
-                self.frame_of(command.write().as_slice()).to_frame()
+                self.put_body(command.write().as_slice(), frame);
             }
-            (Asked::Polling, _) | (Asked::Submitted, None) => self.frame_of(&POLL).to_frame(),
+            (Asked::Polling, _) | (Asked::Submitted, None) => self.put_body(&POLL, frame),
         }
     }
 
-    /// The frame of the outstanding exchange, where it is sent now.
-    pub(crate) fn frame_if(&self, sends: bool) -> Option<Frame>
-        requires { sends ≡ true → is_held self.now.state ≡ true }
-        ensures { result ≡ frame_if sends self.now }
+    /// Puts the frame with this code and data into a place of the caller's.
+    #[inline(never)]
+    fn put_body(&self, body: &[u8], frame: &mut Option<Frame>)
+        requires some { 1 ≤ length body.now }
+        requires room { length body.now ≤ 1433 }
+        ensures { frame.new ≡ Some (packed false self.now.config.address self.now.number self.now.config.check false 0 body.now) }
     {
-        if sends { Some(self.frame()) } else { None }
+        *frame = Some(self.frame_of(body).to_frame());
     }
 
     /// Puts the bytes of the outstanding exchange's frame in place of what stands in `out`.
