@@ -3,9 +3,11 @@
 //! `answer_lines` reads to the end of the input. What the machine is, and what it answers, stands at its `impl` of `LineMachine`.
 #![tactic(auto)]
 
+mod call;
 mod lines;
 mod machine;
 mod run;
 
-pub use machine::{HEARD, LineMachine};
+pub use call::{LineCall, read_line};
+pub use machine::LineMachine;
 pub use run::answer_lines;

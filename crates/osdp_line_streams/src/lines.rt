@@ -5,7 +5,8 @@ ghost use Rattle.osdp_tool_streams.specs.Watched.{inner_of, has_failed};
 ghost use Rattle.osdp_line_streams.specs.Steps.{EndsLine, Goes, Step, StopsIn};
 ghost use Rattle.osdp_line_streams.specs.Answers.{heard};
 
-use crate::machine::{HEARD, LineMachine};
+use crate::call::HEARD;
+use crate::machine::LineMachine;
 use osdp_tool_streams::{ToolFault, Watched, flush_out, write_out};
 use std::alloc::Global;
 use std::io::Write;

@@ -1,10 +1,9 @@
 -- What calls come to, where they end well.
-use Rattle.std.proofs.Common.{◌≡◌, List, ◌++◌, ℕ, ◌<◌, ◌^◌, Option, Result, Ok, Err, inl, inr, refl, subst, ap, ◌∙◌, append_assoc}
+use Rattle.std.proofs.Common.{◌≡◌, List, ◌++◌, ℕ, ◌<◌, ◌^◌, Option, Result, Ok, Err, refl, subst, ap, ◌∙◌, append_assoc}
 use Rattle.std.specs.Prelude.{IfSome, OnOk}
 use Rattle.osdp_bus.specs.Deadlines.{IsDeadline}
-use Rattle.osdp_panel_calls.specs.declared.call.PanelCall.{PanelCall}
-use Rattle.osdp_panel_calls.specs.Lines.{Ends, IsAnswered, Says, SaysNothing, refuses}
-use Rattle.osdp_panel_calls.specs.Sessions.{Called, Comes, IsDue, Session, answered, ended}
+use Rattle.osdp_panel_calls.specs.Lines.{Ends}
+use Rattle.osdp_panel_calls.specs.Sessions.{Called, Comes, IsDue, Session, ended}
 use Rattle.osdp_panel_calls.specs.Texts.{due_line}
 
 module _ {A E : Type 0} where
@@ -27,15 +26,3 @@ module _ {A E : Type 0} where
         },
       )
   due_written (Err e) before t0 t1 s done due writes deadline range = tt
-
-  pub call_answered : (r : Result A E) (line : List ℕ) (call : PanelCall) (s next : Session) (t0 t2 : List ℕ) → Says line call
-      → OnOk r ((c : Called) × Ends (answered call s) c × Comes t0 t2 next c) → OnOk r ((c : Called) × IsAnswered line s c × Comes t0 t2 next c)
-  call_answered (Ok x) line call s next t0 t2 says (c, ends, comes) = (c, inl (call, says, ends), comes)
-  call_answered (Err e) line call s next t0 t2 says comes = tt
-
-  pub line_refused : (r : Result A E) (line : List ℕ) (s next : Session) (t0 t2 : List ℕ) → SaysNothing line
-      → OnOk r ((c : Called) × Ends (refuses s) c × Comes t0 t2 next c) → OnOk r ((c : Called) × IsAnswered line s c × Comes t0 t2 next c)
-  line_refused (Ok x) line s next t0 t2 nothing (c, ends, comes) = (c, inr (nothing, ends), comes)
-  line_refused (Err e) line s next t0 t2 nothing comes = tt
-
-pub ruleset lines_answered = (call_answered, line_refused)

@@ -8,11 +8,11 @@
 //!                                 due 600
 //! ```
 //!
-//! `LinePanel::answer` answers a line. What it answers is the definitions in `specs/`, over those of `osdp_bus`.
+//! `LinePanel` is a `LineMachine`: `answer_line` answers a line, and `LinePanel::answer` a call. What they answer is the definitions in `specs/`,
+//! over those of `osdp_bus`.
 #![tactic(auto)]
 
 mod call;
-mod line;
 mod machine;
 mod say;
 mod session;

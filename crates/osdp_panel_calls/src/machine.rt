@@ -1,22 +1,45 @@
 //! A panel as a machine that is called by lines.
 
-ghost use Rattle.osdp_panel_calls.specs.Lines.{Answers};
+ghost use Rattle.std.proofs.Common.{inl, inr};
+ghost use Rattle.osdp_panel_calls.specs.Calls.{CallFits, call_words};
+ghost use Rattle.osdp_panel_calls.specs.Lines.{Answers, Gives, refuses};
+ghost use Rattle.osdp_panel_calls.specs.Sessions.{answered};
 
+use crate::call::PanelCall;
 use crate::session::LinePanel;
-use osdp_line_streams::LineMachine;
-use std::alloc::{AllocError, Global};
+use osdp_line_streams::{LineCall, LineMachine};
+use std::alloc::AllocError;
+
+impl LineCall for PanelCall {
+    ghost words_of = { call_words };
+
+    ghost fits = { CallFits };
+
+    fn parse(words: &[&str]) -> Option<PanelCall> {
+        PanelCall::parse(words)
+    }
+}
 
 impl LineMachine for LinePanel {
+    type Call = PanelCall;
+
     ghost answers = { Answers };
+
+    ghost answers_call = { λ s call. Gives (answered call s) };
+
+    ghost refuses = { λ s. Gives (refuses s) };
 
     ghost is_ready = { λ p. Unit {0} };
 
-    fn answer_line(
-        &mut self,
-        alloc: Global,
-        line: &[u8],
-        text: &mut String,
-    ) -> Result<(), AllocError> {
-        LinePanel::answer_line(self, alloc, line, text)
+    ghost call_answers = { λ s next line text call says gives. record { called = gives.0; is = inl (call, says, gives.1); text_is = gives.2; next_is = gives.3 } };
+
+    ghost refusal_answers = { λ s next line text nothing gives. record { called = gives.0; is = inr (nothing, gives.1); text_is = gives.2; next_is = gives.3 } };
+
+    fn answer_call(&mut self, call: PanelCall, text: &mut String) -> Result<(), AllocError> {
+        self.answer(call, text)
+    }
+
+    fn refuse_line(&mut self, text: &mut String) -> Result<(), AllocError> {
+        self.refuse(text)
     }
 }

@@ -4,12 +4,11 @@ ghost use Rattle.std.specs.Prelude.{◌≡◌, ◌++◌, ℕ, List, IfErr, IfOk,
 ghost use Rattle.osdp_bus.specs.Machine.{NewEnds, add_refusal, after_add, after_begin_at, after_retarget_at, after_submit_at, after_withdraw_at, begin_refusal_at, changed_unless, retarget_refusal_at, submit_refusal_at, withdrawal_at};
 ghost use Rattle.osdp_bus.specs.Settings.{IsBusConfig};
 ghost use Rattle.osdp_bus.specs.Ticking.{bus_ticks};
-ghost use Rattle.osdp_panel_calls.specs.Lines.{Ends, IsAnswered, refuses};
+ghost use Rattle.osdp_panel_calls.specs.Lines.{Ends, refuses};
 ghost use Rattle.osdp_panel_calls.specs.Sessions.{Called, Comes, answered, does, new_session, told};
 ghost use Rattle.osdp_panel_calls.specs.Texts.{refusal_line, send_line, withdrawal_line};
 
 use crate::call::PanelCall;
-use crate::line::read_line;
 use crate::say::{push_due, push_refusal, push_report, push_sent, push_withdrawal};
 use osdp_bus::{Bus, BusConfig, BusFault, Entry};
 use osdp_frame::Address;
@@ -160,6 +159,9 @@ impl LinePanel {
     }
 
     /// Answers a call: does what it orders, writes the lines that tell what came of it, and the one that ends the answer.
+    ///
+    /// After an error, which is one of memory, the text has a beginning of the answer; what the call changed stays so, and a report that was
+    /// taken is lost.
     pub fn answer(&mut self, call: PanelCall, text: &mut String) -> Result<(), AllocError>
         ensures { OnOk result ((c : Called) × Ends (answered call self.old) c × Comes (string_bytes text.old) (string_bytes text.new) self.new c) }
     {
@@ -169,27 +171,10 @@ impl LinePanel {
     }
 
     /// Answers a line that is no call: nothing changes.
-    fn refuse(&mut self, text: &mut String) -> Result<(), AllocError>
+    pub(crate) fn refuse(&mut self, text: &mut String) -> Result<(), AllocError>
         ensures { OnOk result ((c : Called) × Ends (refuses self.old) c × Comes (string_bytes text.old) (string_bytes text.new) self.new c) }
     {
         text.push_str("refused line\n")?;
         self.end(text)
-    }
-
-    /// Answers a line. After an error, which is one of memory, the text has a beginning of the answer; what the call changed
-    /// stays so, and a report that was taken is lost.
-    #[tactic(auto, using(crate::proofs::Calls::lines_answered))]
-    pub fn answer_line(
-        &mut self,
-        alloc: Global,
-        line: &[u8],
-        text: &mut String,
-    ) -> Result<(), AllocError>
-        ensures { OnOk result ((c : Called) × IsAnswered line.now self.old c × Comes (string_bytes text.old) (string_bytes text.new) self.new c) }
-    {
-        match read_line(alloc, line)? {
-            Some(call) => self.answer(call, text),
-            None => self.refuse(text),
-        }
     }
 }

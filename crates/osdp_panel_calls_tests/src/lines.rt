@@ -2,6 +2,7 @@
 
 use osdp_bus::{BusConfig, BusFault};
 use osdp_frame::CheckKind;
+use osdp_line_streams::LineMachine;
 use osdp_panel_calls::LinePanel;
 use std::alloc::Global;
 use std::process::Abort;

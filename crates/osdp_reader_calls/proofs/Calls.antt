@@ -1,5 +1,5 @@
 -- What calls come to, where they end well.
-use Rattle.std.proofs.Common.{◌≡◌, List, ◌++◌, ℕ, length, Result, Ok, Err, inl, inr, refl, sym, subst, ap, ◌∙◌, append_assoc}
+use Rattle.std.proofs.Common.{◌≡◌, List, ◌++◌, ℕ, length, Result, Ok, Err, refl, sym, subst, ap, ◌∙◌, append_assoc}
 use Rattle.std.specs.Prelude.{OnOk}
 use Rattle.osdp_reader.specs.State.{ReaderState}
 use Rattle.osdp_device.specs.Hearing.{Heard, IsAllRead, reads_all}
@@ -8,9 +8,7 @@ use Rattle.osdp_device.specs.Status.{status_after, status_answer}
 use Rattle.osdp_device.specs.declared.status.DeviceStatus.{DeviceStatus}
 use Rattle.osdp_device.proofs.Pieces.{all_read}
 use Rattle.osdp_device.proofs.Receipt.{received_silence, received_tick}
-use Rattle.osdp_reader_calls.specs.declared.call.ReaderCall.{ReaderCall}
-use Rattle.osdp_reader_calls.specs.Lines.{IsAnswered, Says, SaysNothing, refuses}
-use Rattle.osdp_reader_calls.specs.Sessions.{Called, Comes, Session, answered, ended, heard}
+use Rattle.osdp_reader_calls.specs.Sessions.{Called, Comes, Session, ended, heard}
 use Rattle.osdp_reader_calls.specs.Texts.{all_lines, waiting_line}
 
 module _ {A E : Type 0} where
@@ -58,17 +56,5 @@ module _ {A E : Type 0} where
   }
   comes_ended (Err e) t0 t1 t2 mid next c first last = tt
 
-  pub call_answered : (r : Result A E) (line : List ℕ) (call : ReaderCall) (s next : Session) (t0 t2 : List ℕ) → Says line call
-      → OnOk r (Comes t0 t2 next (answered call s)) → OnOk r ((c : Called) × IsAnswered line s c × Comes t0 t2 next c)
-  call_answered (Ok x) line call s next t0 t2 says comes = (answered call s, inl (call, says, refl), comes)
-  call_answered (Err e) line call s next t0 t2 says comes = tt
-
-  pub line_refused : (r : Result A E) (line : List ℕ) (s next : Session) (t0 t2 : List ℕ) → SaysNothing line
-      → OnOk r (Comes t0 t2 next (refuses s)) → OnOk r ((c : Called) × IsAnswered line s c × Comes t0 t2 next c)
-  line_refused (Ok x) line s next t0 t2 nothing comes = (refuses s, inr (nothing, refl), comes)
-  line_refused (Err e) line s next t0 t2 nothing comes = tt
-
 -- all that is held once a run has ended by a tick or a silence
 pub ruleset reads_held = (comes_read, received_tick, received_silence)
-
-pub ruleset lines_answered = (call_answered, line_refused)

@@ -1,28 +1,25 @@
 -- What a line is answered.
-use Rattle.std.specs.Prelude.{◌≡◌, ◌⊎◌, ℕ, ◌≤◌, List, length, IsUtf8}
-use Rattle.osdp_words.specs.Word.{AllStandFor, words_in}
+use Rattle.std.specs.Prelude.{◌≡◌, ◌⊎◌, ℕ, List}
+use Rattle.osdp_line_streams.specs.Calls.{Says as LineSays, SaysNothing as LineSaysNothing}
 use Rattle.osdp_reader_calls.specs.declared.call.ReaderCall.{ReaderCall}
 use Rattle.osdp_reader_calls.specs.Calls.{CallFits, call_words}
 use Rattle.osdp_reader_calls.specs.Sessions.{Called, Session, answered, ended}
 use Rattle.osdp_reader_calls.specs.Texts.{no_line}
 
--- how many characters a line may have
-abbrev pub longest : ℕ
-longest = 8192
-
 -- the characters of a line are the words of a call
-pub record Says (line : List ℕ) (call : ReaderCall) : Type 0 where
-  pub short : length line ≤ longest
-  pub text : IsUtf8 line
-  pub words : AllStandFor (call_words call) (words_in line)
-  pub fits : CallFits call
+abbrev pub Says : List ℕ → ReaderCall → Type 0
+Says = LineSays call_words CallFits
 
 abbrev pub SaysNothing : List ℕ → Type 0
-SaysNothing line = (call : ReaderCall) → Says line call → ⊥
+SaysNothing = LineSaysNothing call_words CallFits
 
 -- a line that is none changes nothing
 abbrev pub refuses : Session → Called
 refuses s = ended (record { text = no_line; session = s })
+
+-- what ends so, as the text of an answer, and the session after it
+abbrev pub Gives : Called → List ℕ → Session → Type 0
+Gives c text next = (text ≡ c.text) × (next ≡ c.session)
 
 -- what a line comes to: what its call does, or else it is refused
 abbrev pub IsAnswered : List ℕ → Session → Called → Type 0

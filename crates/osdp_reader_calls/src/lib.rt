@@ -8,11 +8,11 @@
 //! event KEYPAD 0 31            -> waiting 1
 //! ```
 //!
-//! `LineDevice::answer` answers a line. What it answers is the definitions in `specs/`, over those of `osdp_device`.
+//! `LineDevice` is a `LineMachine`: `answer_line` answers a line, and `LineDevice::answer` a call. What they answer is the definitions in `specs/`,
+//! over those of `osdp_device`.
 #![tactic(auto)]
 
 mod call;
-mod line;
 mod machine;
 mod say;
 mod session;

@@ -1,23 +1,46 @@
 //! A device as a machine that is called by lines.
 
+ghost use Rattle.std.proofs.Common.{inl, inr, refl};
 ghost use Rattle.osdp_device.specs.Hearing.{IsAllRead};
-ghost use Rattle.osdp_reader_calls.specs.Lines.{Answers};
+ghost use Rattle.osdp_reader_calls.specs.Calls.{CallFits, call_words};
+ghost use Rattle.osdp_reader_calls.specs.Lines.{Answers, Gives, refuses};
+ghost use Rattle.osdp_reader_calls.specs.Sessions.{answered};
 
+use crate::call::ReaderCall;
 use crate::session::LineDevice;
-use osdp_line_streams::LineMachine;
-use std::alloc::{AllocError, Global};
+use osdp_line_streams::{LineCall, LineMachine};
+use std::alloc::AllocError;
+
+impl LineCall for ReaderCall {
+    ghost words_of = { call_words };
+
+    ghost fits = { CallFits };
+
+    fn parse(words: &[&str]) -> Option<ReaderCall> {
+        ReaderCall::parse(words)
+    }
+}
 
 impl LineMachine for LineDevice {
+    type Call = ReaderCall;
+
     ghost answers = { Answers };
+
+    ghost answers_call = { λ s call. Gives (answered call s) };
+
+    ghost refuses = { λ s. Gives (refuses s) };
 
     ghost is_ready = { λ d. IsAllRead d.line };
 
-    fn answer_line(
-        &mut self,
-        alloc: Global,
-        line: &[u8],
-        text: &mut String,
-    ) -> Result<(), AllocError> {
-        LineDevice::answer_line(self, alloc, line, text)
+    ghost call_answers = { λ s next line text call says gives. record { called = answered call s; is = inl (call, says, refl); text_is = gives.0; next_is = gives.1 } };
+
+    ghost refusal_answers = { λ s next line text nothing gives. record { called = refuses s; is = inr (nothing, refl); text_is = gives.0; next_is = gives.1 } };
+
+    fn answer_call(&mut self, call: ReaderCall, text: &mut String) -> Result<(), AllocError> {
+        self.answer(call, text)
+    }
+
+    fn refuse_line(&mut self, text: &mut String) -> Result<(), AllocError> {
+        self.refuse(text)
     }
 }

@@ -7,11 +7,10 @@ ghost use Rattle.osdp_device.specs.Status.{status_after, status_answer};
 ghost use Rattle.osdp_reader.specs.State.{after_set_busy, after_set_handler};
 ghost use Rattle.osdp_reader.specs.declared.fault.ReaderFault.TheVariants.{OutOfRange};
 ghost use Rattle.osdp_reader_calls.specs.Sessions.{Called, Comes, after_event, answered, does, heard, new_session, submit_text};
-ghost use Rattle.osdp_reader_calls.specs.Lines.{IsAnswered, refuses};
+ghost use Rattle.osdp_reader_calls.specs.Lines.{refuses};
 ghost use Rattle.osdp_reader_calls.specs.Texts.{all_lines, waiting_line};
 
 use crate::call::ReaderCall;
-use crate::line::read_line;
 use crate::say::{push_response, push_waiting};
 use osdp_device::{Device, DeviceStatus};
 use osdp_msg::Event;
@@ -180,6 +179,8 @@ impl LineDevice {
     }
 
     /// Answers a call: does what it orders, writes the lines that tell what came of it, and the one that ends the answer.
+    ///
+    /// After an error, which is one of memory, the text has a beginning of the answer, and the device may hold packets that weren't read.
     pub fn answer(&mut self, call: ReaderCall, text: &mut String) -> Result<(), AllocError>
         requires { IsAllRead self.old.line }
         ensures { OnOk result (Comes (string_bytes text.old) (string_bytes text.new) self.new (answered call self.old)) }
@@ -189,29 +190,11 @@ impl LineDevice {
     }
 
     /// Answers a line that is no call: nothing changes.
-    fn refuse(&mut self, text: &mut String) -> Result<(), AllocError>
+    pub(crate) fn refuse(&mut self, text: &mut String) -> Result<(), AllocError>
         requires { IsAllRead self.old.line }
         ensures { OnOk result (Comes (string_bytes text.old) (string_bytes text.new) self.new (refuses self.old)) }
     {
         text.push_str("refused line\n")?;
         self.end(text)
-    }
-
-    /// Answers a line. After an error, which is one of memory, the text has a beginning of the answer, and the device may hold
-    /// packets that weren't read.
-    #[tactic(auto, using(crate::proofs::Calls::lines_answered))]
-    pub fn answer_line(
-        &mut self,
-        alloc: Global,
-        line: &[u8],
-        text: &mut String,
-    ) -> Result<(), AllocError>
-        requires { IsAllRead self.old.line }
-        ensures { OnOk result ((c : Called) × IsAnswered line.now self.old c × Comes (string_bytes text.old) (string_bytes text.new) self.new c) }
-    {
-        match read_line(alloc, line)? {
-            Some(call) => self.answer(call, text),
-            None => self.refuse(text),
-        }
     }
 }

@@ -4,22 +4,13 @@ ghost use Rattle.osdp_device.specs.Hearing.{IsAllRead};
 
 use arrayvec::ArrayVec;
 use osdp_frame::Address;
-use osdp_msg::{PdCap, PdId};
+use osdp_line_streams::LineMachine;
+use osdp_msg::PdCap;
 use osdp_reader::{ReaderConfig, ReaderFault};
 use osdp_reader_calls::LineDevice;
+use osdp_script_reader::script_config;
 use std::alloc::Global;
 use std::process::Abort;
-
-/// What its PDID tells, as in `53851300004553494D010101000000010000E3`.
-const IDENTITY: PdId = PdId {
-    vendor: [0x53, 0x49, 0x4d],
-    model: 1,
-    version: 1,
-    serial: 1,
-    firmware_major: 1,
-    firmware_minor: 0,
-    firmware_build: 0,
-};
 
 /// A device at 5 with room for one event, and a gap of 20 ms.
 fn new_device(rt: &impl Abort, alloc: Global) -> LineDevice
@@ -29,10 +20,12 @@ fn new_device(rt: &impl Abort, alloc: Global) -> LineDevice
     made.ok().expect(rt, "a device")
 }
 
+/// Who it is, is told by `53851300004553494D010101000000010000E3`.
 fn config(rt: &impl Abort) -> ReaderConfig {
+    let address = Address::new(5).expect(rt, "an address");
     ReaderConfig {
-        address: Address::new(5).expect(rt, "an address"),
-        id: IDENTITY,
+        address,
+        id: script_config(1, address).id,
         caps: PdCap {
             capabilities: ArrayVec::new(),
         },
