@@ -6,6 +6,7 @@ use std::process::Abort;
 mod events;
 mod made;
 mod options;
+mod placed;
 mod reasons;
 mod refusals;
 mod vectors;
