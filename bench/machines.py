@@ -12,7 +12,7 @@ HERE = os.path.dirname(os.path.abspath(__file__))
 PROGRAM = os.path.join(HERE, "..", "crates", "osdp_bench", "out", "osdp_bench")
 KINDS = [
     "poll", "poll_into", "out", "out_into", "turn_into", "repeat", "poll_heard", "out_heard", "repeat_heard", "ignored", "idle", "idle_into",
-    "encode", "encode_to", "framer_sum", "framer_crc", "crc",
+    "encode", "encode_to", "framer_sum", "framer_crc", "crc", "session_poll", "session_out",
 ]
 
 

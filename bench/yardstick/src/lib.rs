@@ -7,5 +7,6 @@ pub mod controller;
 pub mod packets;
 pub mod reader;
 pub mod replies;
+pub mod script;
 pub mod session;
 pub mod work;

@@ -5,7 +5,7 @@
 use std::io::{self, Read, Write};
 use std::process::exit;
 use yardstick::packets::{first, First};
-use yardstick::work;
+use yardstick::{script, work};
 
 const PIECE: usize = 64 * 1024;
 const LIMIT: u64 = 67_108_864;
@@ -224,6 +224,11 @@ fn main() {
             println!("{}", done.map_or(String::from("bad words"), |done| done.to_string()));
             return;
         }
+    }
+    if words == ["account"] {
+        let script = io::read_to_string(io::stdin()).unwrap_or_default();
+        print!("{}", script::told(&script).unwrap_or_else(|| String::from("bad script\n")));
+        return;
     }
     let raw = words.iter().any(|word| word == "--raw");
     let join = words.iter().any(|word| word == "--join");

@@ -41,14 +41,14 @@ pub struct OutOfRange;
 #[derive(Clone, Copy, Debug, PartialEq, Eq)]
 pub struct Full;
 
-/// What a packet is to a reader, and the bytes to send, which the reader lends. The command is the packet's, none where it couldn't be read.
+/// What a packet is to a reader, and the bytes to send, which the reader lends. The command is read from the packet.
 #[derive(Clone, Copy, Debug, PartialEq, Eq)]
 pub enum Response<'packet, 'reader> {
     Silent,
     Secured(&'reader [u8]),
-    Zero(Option<Command<'packet>>, &'reader [u8]),
+    Zero(Result<Command<'packet>, Fault>, &'reader [u8]),
     Repeat(&'reader [u8]),
-    Taken(Option<Command<'packet>>, &'reader [u8]),
+    Taken(Result<Command<'packet>, Fault>, &'reader [u8]),
     Busy(&'reader [u8]),
     Wrong(&'reader [u8]),
 }
@@ -162,8 +162,8 @@ impl<H: Handler> Reader<H> {
         let command = Command::of(packet.body);
         self.last = Some(0);
         self.offered = false;
-        self.act(packet.head, command, false);
-        Response::Zero(command.ok(), self.sent.as_slice())
+        self.act(packet.head, &command, false);
+        Response::Zero(command, self.sent.as_slice())
     }
 
     /// The next number: the command is acted on, and its reply is kept.
@@ -174,14 +174,14 @@ impl<H: Handler> Reader<H> {
             self.offered = false;
         }
         self.last = Some(packet.head.number);
-        self.act(packet.head, command, true);
-        Response::Taken(command.ok(), self.stored.as_slice())
+        self.act(packet.head, &command, true);
+        Response::Taken(command, self.stored.as_slice())
     }
 
     /// Writes the reply to a command in its place.
-    fn act(&mut self, head: Head, command: Result<Command<'_>, Fault>, taken: bool) {
+    fn act(&mut self, head: Head, command: &Result<Command<'_>, Fault>, taken: bool) {
         let burst = if taken { &mut self.stored } else { &mut self.sent };
-        let reply = match &command {
+        let reply = match command {
             Ok(Command::Poll) => match self.events.front() {
                 Some(event) if taken => {
                     self.offered = true;

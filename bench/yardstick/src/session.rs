@@ -247,7 +247,7 @@ impl<H: Handler> Simulation<H> {
         let Some(bytes) = moved(&mut self.to_reader, way)? else { return Ok(()) };
         let Some(packet) = View::first(&bytes) else { return Ok(()) };
         let response = self.reader.hear(&packet);
-        if let Response::Taken(Some(command), _) = response {
+        if let Response::Taken(Ok(command), _) = response {
             if command != Command::Poll {
                 self.account.taken.push(|to| command.write(to));
             }

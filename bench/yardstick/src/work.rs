@@ -128,7 +128,7 @@ fn heard(body: &[u8], count: u64) -> Option<u64> {
     reader.hear(&asked(0, body));
     Some(times(count, |place| {
         let packet = asked((place % 3) as u8 + 1, body);
-        matches!(reader.hear(black_box(&packet)), Response::Taken(Some(_), bytes) if bytes.len() == 8)
+        matches!(reader.hear(black_box(&packet)), Response::Taken(Ok(_), bytes) if bytes.len() == 8)
     }))
 }
 

@@ -75,11 +75,11 @@ fn packets_that_change_nothing() {
 #[test]
 fn numbers_of_a_session() {
     let mut reader = reader(4);
-    let Response::Zero(Some(Command::Id(0)), bytes) = reader.hear(&asked(5, 0, &[0x61, 0])) else { panic!() };
+    let Response::Zero(Ok(Command::Id(0)), bytes) = reader.hear(&asked(5, 0, &[0x61, 0])) else { panic!() };
     assert_eq!(bytes, [0x53, 0x85, 0x13, 0, 0, 0x45, 0x53, 0x49, 0x4d, 1, 1, 1, 0, 0, 0, 1, 0, 0, 0xe3]);
     let out = [0x68, 0, 2, 0, 0];
     for number in [1, 2, 3, 1] {
-        let Response::Taken(Some(Command::Output(_)), bytes) = reader.hear(&asked(5, number, &out)) else { panic!() };
+        let Response::Taken(Ok(Command::Output(_)), bytes) = reader.hear(&asked(5, number, &out)) else { panic!() };
         assert_eq!(body(number, bytes), [0x40]);
     }
     assert_eq!(reader.handler().told, 4);

@@ -5,6 +5,7 @@ use yardstick::controller::{self, Cause};
 use yardstick::reader;
 use yardstick::replies::{Event, Keypad, PdId};
 use yardstick::session::{run_session, Account, End, Fault, Messages, Move, SimConfig, SimStep, Stop};
+use yardstick::script::told;
 use yardstick::work::{done, Device};
 
 const TO_READER: SimStep<'_> = SimStep::ToReader(Move::Deliver);
@@ -105,4 +106,15 @@ fn work_comes_out() {
         assert_eq!(done(kind, 250), Some(250), "{kind}");
     }
     assert_eq!(done("dim", 1), None);
+}
+
+/// A script with its messages as digits, and the account of it.
+#[test]
+fn a_script() {
+    let script = "check sum\nreader 5 4\nissue 1 6800020000\nqueue 1 53000131\nwait 400\nto-reader deliver\nto-controller deliver\n\
+                  wait 50\nto-reader deliver\nto-controller deliver\nwait 50\nto-reader deliver\nto-controller deliver\n";
+    let account = "reader 1 issued 1 taken 1 settled 1 unsettled 0 queued 1 reported 1\n\
+                   taken 6800020000\nsettled 6800020000 = 40\nreported 53000131\n";
+    assert_eq!(told(script).as_deref(), Some(account));
+    assert_eq!(told("check sum\nreader 5 4\ndim 1\n"), None);
 }

@@ -28,7 +28,7 @@ impl Handler for Device {
 }
 
 /// What the reader is.
-fn reader_config(address: Address) -> ReaderConfig {
+pub fn reader_config(address: Address) -> ReaderConfig {
     ReaderConfig {
         address,
         id: PdId {

@@ -4,6 +4,7 @@ use crate::exchanges::{outs, outs_into, polls, polls_into, turns};
 use crate::heard::{heard, repeats_heard};
 use crate::hearing::{idle_ticks, idle_ticks_into, ignored_frames, repeats};
 use crate::packets::{checks, encoded, encoded_to, framed};
+use crate::sessions::{out_rounds, poll_rounds};
 use osdp_frame::CheckKind;
 use std::alloc::Global;
 
@@ -44,6 +45,10 @@ pub enum Work {
     FramerCrc,
     /// The CRC of 1438 bytes.
     Crc,
+    /// A round of POLL and ACK in a schedule over a simulated line.
+    SessionPolls,
+    /// A round of OUT and ACK in a schedule over a simulated line.
+    SessionOuts,
 }
 
 impl Work {
@@ -67,6 +72,8 @@ impl Work {
             "framer_sum" => Some(Work::FramerSum),
             "framer_crc" => Some(Work::FramerCrc),
             "crc" => Some(Work::Crc),
+            "session_poll" => Some(Work::SessionPolls),
+            "session_out" => Some(Work::SessionOuts),
             _ => None,
         }
     }
@@ -91,6 +98,8 @@ impl Work {
             Work::FramerSum => framed(CheckKind::Sum, count),
             Work::FramerCrc => framed(CheckKind::Crc, count),
             Work::Crc => Some(checks(count)),
+            Work::SessionPolls => poll_rounds(alloc, count),
+            Work::SessionOuts => out_rounds(alloc, count),
         }
     }
 }

@@ -9,6 +9,7 @@ mod heard;
 mod hearing;
 mod kind;
 mod packets;
+mod sessions;
 
 use kind::Work;
 use std::env;
