@@ -3,21 +3,18 @@
 use osdp_check::{Crc16, check_of};
 use osdp_frame::{Address, Burst, CheckKind, FrameView, Framer, Item, Seq};
 
+/// A packet to the reader at 5, with this number and body.
+fn view(check: CheckKind, number: u8, body: &[u8]) -> Option<FrameView<'_>> {
+    let seq = Seq::new(number)?;
+    FrameView::new(false, Address::new(5)?, seq, check, false, 0, body)
+}
+
 /// So many POLLs as bytes, each in a burst of its own.
 pub fn encoded(count: u64) -> Option<u64> {
     let mut done = 0u64;
     for place in 0..count {
         let body = [0x60];
-        let seq = Seq::new((place % 4) as u8)?;
-        let packet = FrameView::new(
-            false,
-            Address::new(5)?,
-            seq,
-            CheckKind::Crc,
-            false,
-            0,
-            &body,
-        )?;
+        let packet = view(CheckKind::Crc, (place % 4) as u8, &body)?;
         done = done.saturating_add(u64::from(packet.encode().len() == 8));
     }
     Some(done)
@@ -29,16 +26,7 @@ pub fn encoded_to(count: u64) -> Option<u64> {
     let mut burst = Burst::new();
     for place in 0..count {
         let body = [0x60];
-        let seq = Seq::new((place % 4) as u8)?;
-        let packet = FrameView::new(
-            false,
-            Address::new(5)?,
-            seq,
-            CheckKind::Crc,
-            false,
-            0,
-            &body,
-        )?;
+        let packet = view(CheckKind::Crc, (place % 4) as u8, &body)?;
         packet.encode_to(&mut burst);
         done = done.saturating_add(u64::from(burst.len() == 8));
     }
@@ -48,15 +36,7 @@ pub fn encoded_to(count: u64) -> Option<u64> {
 /// So many of the largest packets through a framer.
 pub fn framed(check: CheckKind, count: u64) -> Option<u64> {
     let body = [0x61; 1433];
-    let packet = FrameView::new(
-        false,
-        Address::new(5)?,
-        Seq::new(1)?,
-        check,
-        false,
-        0,
-        &body,
-    )?;
+    let packet = view(check, 1, &body)?;
     let burst = packet.encode();
     let mut framer = Framer::new();
     let mut done = 0u64;

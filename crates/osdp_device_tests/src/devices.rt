@@ -1,26 +1,18 @@
 //! Devices, and what each says.
+//!
+//! A table of digits is one text, since a prover reads it faster than arrays of bytes.
 
-use crate::packets::{bytes_of, is_spelled};
 use arrayvec::ArrayVec;
 use osdp_device::{Device, DeviceStatus};
 use osdp_frame::Address;
-use osdp_msg::{PdCap, PdId};
+use osdp_msg::PdCap;
 use osdp_reader::{Reader, ReaderConfig};
+use osdp_script_reader::script_config;
+use osdp_words::byte_list;
 use std::alloc::Global;
 use std::process::Abort;
 
 pub const ID: &str = "530508000061003F";
-
-/// What its PDID tells, as in `53851300004553494D010101000000010000E3`.
-const IDENTITY: PdId = PdId {
-    vendor: [0x53, 0x49, 0x4d],
-    model: 1,
-    version: 1,
-    serial: 1,
-    firmware_major: 1,
-    firmware_minor: 0,
-    firmware_build: 0,
-};
 
 /// A device at 5 whose program has set two inputs, two outputs and a reader.
 pub fn status() -> DeviceStatus {
@@ -32,11 +24,12 @@ pub fn status() -> DeviceStatus {
     status
 }
 
-/// A reader at 5 with room for four events.
+/// A reader at 5 with room for four events. Who it is, is told by `53851300004553494D010101000000010000E3`.
 pub fn new_reader(rt: &impl Abort, alloc: Global) -> Reader<DeviceStatus> {
+    let address = Address::new(5).expect(rt, "an address");
     let config = ReaderConfig {
-        address: Address::new(5).expect(rt, "an address"),
-        id: IDENTITY,
+        address,
+        id: script_config(1, address).id,
         caps: PdCap {
             capabilities: ArrayVec::new(),
         },
@@ -52,9 +45,14 @@ pub fn new_device(rt: &impl Abort, alloc: Global) -> Device<DeviceStatus> {
 
 /// The bytes of these digits come at a moment: all of them are taken at once.
 pub fn hears(rt: &impl Abort, device: &mut Device<DeviceStatus>, digits: &str, now: u64) {
-    let mut buffer = [0; 32];
-    let bytes = bytes_of(rt, digits, &mut buffer);
-    assert_eq!(rt; device.take(bytes, now), bytes.len());
+    let bytes = byte_list::<32>(digits).expect(rt, digits);
+    assert_eq!(rt; device.take(bytes.as_slice(), now), bytes.len());
+}
+
+/// The bytes are those of the digits.
+pub fn is_spelled(rt: &impl Abort, bytes: &[u8], digits: &str) {
+    let spelled = byte_list::<32>(digits).expect(rt, digits);
+    assert_eq!(rt; bytes, spelled.as_slice());
 }
 
 /// It says these bytes, and nothing more.

@@ -8,6 +8,4 @@ mod devices;
 #[cfg(test)]
 mod moments;
 #[cfg(test)]
-mod packets;
-#[cfg(test)]
 mod status;

@@ -1,9 +1,9 @@
 //! When a run is over: by moments alone, and never by a read that gave no bytes.
 
 use crate::devices::{ID, answers, hears, is_quiet, new_device, new_reader, opened, says};
-use crate::packets::bytes_of;
 use osdp_device::{Device, DeviceStatus};
 use osdp_reader::Kind;
+use osdp_words::byte_list;
 use std::process::Abort;
 
 /// POLL with number 1, and what answers it where no event waits.
@@ -65,8 +65,8 @@ fn noise_and_no_gap(rt: HostRuntime) {
 
 /// A POLL in two pieces, the second so much later, with a read of no bytes between them, and perhaps an answer.
 fn comes_in_two(rt: &impl Abort, device: &mut Device<DeviceStatus>, cut: usize, later: u64) {
-    let mut buffer = [0; 32];
-    let bytes = bytes_of(rt, POLL, &mut buffer);
+    let spelled = byte_list::<32>(POLL).expect(rt, POLL);
+    let bytes = spelled.as_slice();
     assert!(rt; cut <= bytes.len() && later < 1000);
     assert_eq!(rt; device.take(&bytes[..cut], 2000), cut);
     is_quiet(rt, device);

@@ -1,7 +1,6 @@
 //! What a device tells and does whose program set beforehand what there is.
 
-use crate::devices::{hears, opened};
-use crate::packets::is_spelled;
+use crate::devices::{hears, is_spelled, opened};
 use osdp_device::{again, taken};
 use osdp_msg::Command;
 use osdp_reader::Response;

@@ -5,6 +5,7 @@ pub mod OneMeaning
 pub mod TextWords
 pub mod CommandTexts
 pub mod ReplyTexts
+pub mod EventReplies
 pub mod PlainWords
 pub mod PlainCommands
 pub mod PlainReplies

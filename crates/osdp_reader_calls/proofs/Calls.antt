@@ -1,5 +1,5 @@
 -- What calls come to, where they end well.
-use Rattle.std.proofs.Common.{◌≡◌, List, ◌++◌, ℕ, length, Result, Ok, Err, refl, sym, subst, ap, ◌∙◌, append_assoc}
+use Rattle.std.proofs.Common.{◌≡◌, List, ◌++◌, ℕ, length, Result, Ok, Err, sym, subst, ap, ◌∙◌, append_assoc}
 use Rattle.std.specs.Prelude.{OnOk}
 use Rattle.osdp_reader.specs.State.{ReaderState}
 use Rattle.osdp_device.specs.Hearing.{Heard, IsAllRead, reads_all}
@@ -8,20 +8,19 @@ use Rattle.osdp_device.specs.Status.{status_after, status_answer}
 use Rattle.osdp_device.specs.declared.status.DeviceStatus.{DeviceStatus}
 use Rattle.osdp_device.proofs.Pieces.{all_read}
 use Rattle.osdp_device.proofs.Receipt.{received_silence, received_tick}
-use Rattle.osdp_reader_calls.specs.Sessions.{Called, Comes, Session, ended, heard}
+use Rattle.osdp_reader_calls.specs.Sessions.{Called, Comes, IsHeard, Session, ended, heard}
 use Rattle.osdp_reader_calls.specs.Texts.{all_lines, waiting_line}
 
 module _ {A E : Type 0} where
   -- what was heard was written
   pub comes_heard : (r : Result A E) (before after : List ℕ) (q : ReaderState DeviceStatus) (m : Received) (s : Session) (h : Heard DeviceStatus)
-      → OnOk r (after ≡ before ++ all_lines h.said) → OnOk r (q ≡ h.reader) → OnOk r (m ≡ h.line) → OnOk r (IsAllRead m)
-      → OnOk r (Comes before after (record { reader = q; line = m; now = s.now }) (heard h s))
-  comes_heard (Ok x) before after q m s h text reader line read = record {
-    text = text;
-    session = (λ i. record { reader = reader i; line = line i; now = s.now });
-    read = read;
+      → OnOk r (IsHeard before after q m h) → OnOk r (Comes before after (record { reader = q; line = m; now = s.now }) (heard h s))
+  comes_heard (Ok x) before after q m s h is = record {
+    text = is.text;
+    session = (λ i. record { reader = is.reader_is i; line = is.line_is i; now = s.now });
+    read = is.read;
   }
-  comes_heard (Err e) before after q m s h text reader line read = tt
+  comes_heard (Err e) before after q m s h is = tt
 
   -- all that is held was read, and what is said written
   pub comes_read : (r : Result A E) (before after : List ℕ) (q r1 : ReaderState DeviceStatus) (m l1 l2 : Received) (s : Session)

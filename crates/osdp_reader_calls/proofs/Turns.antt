@@ -1,7 +1,7 @@
 -- Answers that are written in turn.
 use Rattle.std.proofs.Common.{◌≡◌, ℕ, ◌+◌, ◌-◌, ◌<◌, ◌≤◌, Bool, true, false, cond, min, List, [], ◌∷◌, ◌++◌, length, length-drop, take, drop, Option, refl, sym, subst, ap, ◌∙◌, arith, append_assoc, append-nil}
 use Rattle.std.proofs.Math.Seq.{drop-drop}
-use Rattle.std.proofs.lemmas.List.{take_all}
+use Rattle.std.proofs.lemmas.List.{drop_all, take_all}
 use Rattle.osdp_frame.proofs.Head.{AreBytes-drop}
 use Rattle.osdp_frame.specs.Bytes.{AreBytes}
 use Rattle.osdp_frame.specs.Held.{Held}
@@ -15,6 +15,7 @@ use Rattle.osdp_device.specs.declared.status.DeviceStatus.{DeviceStatus}
 use Rattle.osdp_device.proofs.Pieces.{all_read, fewer_turns, last_turn, seen_in_turn, takes_in_turn}
 use Rattle.osdp_device.proofs.Receipt.{received_pushed, received_tick}
 use Rattle.osdp_device.proofs.Turning.{tells_in_turn}
+use Rattle.osdp_reader_calls.specs.Sessions.{IsHeard}
 use Rattle.osdp_reader_calls.specs.Texts.{all_lines, said_lines}
 
 abbrev State : Type 0
@@ -59,7 +60,7 @@ pub record IsOnTheWay (start : List ℕ) (all : Heard DeviceStatus) (now : ℕ) 
   pub line : (hears_bytes status_answer status_after rest now r l).line ≡ all.line
 
 -- after a turn it still is
-pub turn_on : (start : List ℕ) (all : Heard DeviceStatus) (now : ℕ) (text next : List ℕ) (rest left : List ℕ) (r q : State) (l taken m : Received)
+turn_on : (start : List ℕ) (all : Heard DeviceStatus) (now : ℕ) (text next : List ℕ) (rest left : List ℕ) (r q : State) (l taken m : Received)
     → IsReceived l → AreBytes rest → IsOnTheWay start all now text rest r l
     → taken ≡ after_take rest now l → left ≡ drop (count_taken rest now l) rest
     → next ≡ text ++ all_lines (reads_all status_answer status_after r taken).said
@@ -87,7 +88,7 @@ turn_on start all now text next rest left r q l taken m is fits on takes lefts w
     }
 
 -- and needs fewer turns
-pub turn_fewer : (now : ℕ) (rest left : List ℕ) (r : State) (l taken m : Received) → IsReceived l → IsAllRead l → AreBytes rest → 0 < length rest
+turn_fewer : (now : ℕ) (rest left : List ℕ) (r : State) (l taken m : Received) → IsReceived l → IsAllRead l → AreBytes rest → 0 < length rest
     → taken ≡ after_take rest now l → left ≡ drop (count_taken rest now l) rest → m ≡ (reads_all status_answer status_after r taken).line
     → turns_left left now m < turns_left rest now l
 turn_fewer now rest left r l taken m is all fits some takes lefts line =
@@ -98,24 +99,20 @@ turn_fewer now rest left r l taken m is all fits some takes lefts line =
     omega (arith, same, fewer_turns status_answer status_after rest now r l is all fits some)
 
 -- after the last turn, all was said
-pub record IsThere (start : List ℕ) (all : Heard DeviceStatus) (text : List ℕ) (r : State) (l : Received) : Type 0 where
-  pub text_is : text ≡ start ++ all_lines all.said
-  pub reader_is : r ≡ all.reader
-  pub line_is : l ≡ all.line
-
-pub there : (start : List ℕ) (all : Heard DeviceStatus) (now : ℕ) (text rest : List ℕ) (r : State) (l : Received) → IsOnTheWay start all now text rest r l
-    → rest ≡ [] → now ≤ l.greatest → IsThere start all text r l
+there : (start : List ℕ) (all : Heard DeviceStatus) (now : ℕ) (text rest : List ℕ) (r : State) (l : Received) → IsOnTheWay start all now text rest r l
+    → rest ≡ [] → now ≤ l.greatest → IsHeard start text r l all
 there start all now text rest r l on none seen =
     let h : Heard DeviceStatus = record { said = []; reader = r; line = l } in
     let last : hears_bytes status_answer status_after [] now r l ≡ h = last_turn status_answer status_after now h on.read seen in
     let nothing : hears_bytes status_answer status_after rest now r l ≡ h = ap (λ b. hears_bytes status_answer status_after b now r l) none ∙ last in
     record {
-      text_is = sym (append-nil text) ∙ sym (ap (λ (x : Heard DeviceStatus). text ++ all_lines x.said) nothing) ∙ on.text;
+      text = sym (append-nil text) ∙ sym (ap (λ (x : Heard DeviceStatus). text ++ all_lines x.said) nothing) ∙ on.text;
       reader_is = sym (ap (λ (x : Heard DeviceStatus). x.reader) nothing) ∙ on.reader;
       line_is = sym (ap (λ (x : Heard DeviceStatus). x.line) nothing) ∙ on.line;
+      read = on.read;
     }
 
-pub seen_by : (now : ℕ) (rest : List ℕ) (r : State) (l taken m : Received) → taken ≡ after_take rest now l
+seen_by : (now : ℕ) (rest : List ℕ) (r : State) (l taken m : Received) → taken ≡ after_take rest now l
     → m ≡ (reads_all status_answer status_after r taken).line → now ≤ m.greatest
 seen_by now rest r l taken m takes line =
     let m_is : m ≡ (reads_all status_answer status_after r (after_take rest now l)).line =
@@ -137,14 +134,14 @@ received_take [] now l is fits = record { gap = is.gap; bytes = is.bytes; some =
 received_take (b ∷ bytes) now l is fits = received_pushed (after_tick now l) (b ∷ bytes) (received_tick now l is) fits
 
 -- a turn, as the code takes it
-pub record Turn (now : ℕ) (bytes : List ℕ) (at count : ℕ) (r : State) (l taken : Received) : Type 0 where
-  pub fits : AreBytes (drop at bytes)
-  pub takes : taken ≡ after_take (drop at bytes) now l
-  pub lefts : drop (at + count) bytes ≡ drop (count_taken (drop at bytes) now l) (drop at bytes)
-  pub received : IsReceived taken
-  pub within : at + count ≤ length bytes
+record Turn (now : ℕ) (bytes : List ℕ) (at count : ℕ) (r : State) (l taken : Received) : Type 0 where
+  fits : AreBytes (drop at bytes)
+  takes : taken ≡ after_take (drop at bytes) now l
+  lefts : drop (at + count) bytes ≡ drop (count_taken (drop at bytes) now l) (drop at bytes)
+  received : IsReceived taken
+  within : at + count ≤ length bytes
 
-pub turn : (now : ℕ) (bytes : List ℕ) (at count : ℕ) (r : State) (l taken : Received) → AreBytes bytes → at ≤ length bytes → IsReceived l
+turn : (now : ℕ) (bytes : List ℕ) (at count : ℕ) (r : State) (l taken : Received) → AreBytes bytes → at ≤ length bytes → IsReceived l
     → count ≡ count_taken (take (length bytes - at) (drop at bytes)) now l → taken ≡ after_take (take (length bytes - at) (drop at bytes)) now l
     → Turn now bytes at count r l taken
 turn now bytes at count r l taken fits within is counts takes =
@@ -162,6 +159,34 @@ turn now bytes at count r l taken fits within is counts takes =
     }
 
 -- what was written, read by the reader as it was before the turn
-pub wrote : (text next : List ℕ) (r q : State) (taken : Received) → q ≡ r → next ≡ text ++ all_lines (reads_all status_answer status_after q taken).said
+wrote : (text next : List ℕ) (r q : State) (taken : Received) → q ≡ r → next ≡ text ++ all_lines (reads_all status_answer status_after q taken).said
     → next ≡ text ++ all_lines (reads_all status_answer status_after r taken).said
 wrote text next r q taken same writes = writes ∙ ap (λ x. text ++ all_lines (reads_all status_answer status_after x taken).said) same
+
+-- A turn, and the answers to it: the device stays on the way, and is there, or needs fewer turns.
+pub record Turned (start : List ℕ) (all : Heard DeviceStatus) (now : ℕ) (bytes : List ℕ) (at count : ℕ) (next : List ℕ) (q : State) (l m : Received)
+    : Type 0 where
+  pub within : at + count ≤ length bytes
+  pub way : IsOnTheWay start all now next (drop (at + count) bytes) q m
+  pub whole : at + count ≡ length bytes → IsHeard start next q m all
+  pub fewer : (at + count ≡ length bytes → ⊥) → turns_left (drop (at + count) bytes) now m < turns_left (drop at bytes) now l
+
+pub turned_on : (start : List ℕ) (all : Heard DeviceStatus) (now : ℕ) (bytes : List ℕ) (at count : ℕ) (text next : List ℕ) (r p q : State)
+    (l taken m : Received) → AreBytes bytes → at ≤ length bytes → IsReceived l → IsOnTheWay start all now text (drop at bytes) r l
+    → count ≡ count_taken (take (length bytes - at) (drop at bytes)) now l → taken ≡ after_take (take (length bytes - at) (drop at bytes)) now l
+    → p ≡ r → next ≡ text ++ all_lines (reads_all status_answer status_after p taken).said
+    → q ≡ (reads_all status_answer status_after p taken).reader → m ≡ (reads_all status_answer status_after p taken).line
+    → Turned start all now bytes at count next q l m
+turned_on start all now bytes at count text next r p q l taken m fits within is way counts takes same writes reader line =
+    let rest = drop at bytes in
+    let left = drop (at + count) bytes in
+    let t = turn now bytes at count r l taken fits within is counts takes in
+    let line_is = line ∙ ap (λ x. (reads_all status_answer status_after x taken).line) same in
+    let on = turn_on start all now text next rest left r q l taken m is t.fits way t.takes t.lefts (wrote text next r p taken same writes)
+    (reader ∙ ap (λ x. (reads_all status_answer status_after x taken).reader) same) line_is t.received in
+    record {
+      within = t.within;
+      way = on;
+      whole = λ done. there start all now next left q m on (drop_all (at + count) bytes (omega (arith, done))) (seen_by now rest r l taken m t.takes line_is);
+      fewer = λ more. turn_fewer now rest left r l taken m is way.read t.fits (omega (arith, length-drop at bytes, t.within, more)) t.takes t.lefts line_is;
+    }

@@ -64,6 +64,13 @@ ended c = record c { text = c.text ++ waiting_line (length c.session.reader.queu
 abbrev pub answered : ReaderCall → Session → Called
 answered call s = ended (does call s)
 
+-- what is heard, as the code has it: the text grows by its lines, and reader and line are those after it, with all read that came
+pub record IsHeard (before after : List ℕ) (reader : ReaderState DeviceStatus) (line : Received) (h : Heard DeviceStatus) : Type 0 where
+  pub text : after ≡ before ++ all_lines h.said
+  pub reader_is : reader ≡ h.reader
+  pub line_is : line ≡ h.line
+  pub read : IsAllRead line
+
 -- the code's answer to a call: the text grows by its lines, and the session is the one after it, with all read that came
 pub record Comes (before after : List ℕ) (next : Session) (c : Called) : Type 0 where
   pub text : after ≡ before ++ c.text

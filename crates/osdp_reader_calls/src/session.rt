@@ -6,7 +6,7 @@ ghost use Rattle.osdp_device.specs.Receiving.{IsGap};
 ghost use Rattle.osdp_device.specs.Status.{status_after, status_answer};
 ghost use Rattle.osdp_reader.specs.State.{after_set_busy, after_set_handler};
 ghost use Rattle.osdp_reader.specs.declared.fault.ReaderFault.TheVariants.{OutOfRange};
-ghost use Rattle.osdp_reader_calls.specs.Sessions.{Called, Comes, after_event, answered, does, heard, new_session, submit_text};
+ghost use Rattle.osdp_reader_calls.specs.Sessions.{Called, Comes, IsHeard, after_event, answered, does, heard, new_session, submit_text};
 ghost use Rattle.osdp_reader_calls.specs.Lines.{refuses};
 ghost use Rattle.osdp_reader_calls.specs.Texts.{all_lines, waiting_line};
 
@@ -54,13 +54,8 @@ fn hear(
     text: &mut String,
 ) -> Result<(), AllocError>
     requires { IsAllRead device.old.line }
-    ensures text { OnOk result (string_bytes text.new ≡ string_bytes text.old
-        ++ all_lines (hears_bytes status_answer status_after bytes.now now device.old.reader device.old.line).said) }
-    ensures reader { OnOk result (device.new.reader
-        ≡ (hears_bytes status_answer status_after bytes.now now device.old.reader device.old.line).reader) }
-    ensures line { OnOk result (device.new.line
-        ≡ (hears_bytes status_answer status_after bytes.now now device.old.reader device.old.line).line) }
-    ensures read { OnOk result (IsAllRead device.new.line) }
+    ensures { OnOk result (IsHeard (string_bytes text.old) (string_bytes text.new) device.new.reader device.new.line
+        (hears_bytes status_answer status_after bytes.now now device.old.reader device.old.line)) }
 {
     let mut at = 0;
     'turns: loop {

@@ -5,13 +5,11 @@ use Rattle.osdp_frame.specs.declared.check_kind.CheckKind.{CheckKind}
 use Rattle.osdp_frame.specs.declared.check_kind.CheckKind.TheVariants.{Crc, Sum}
 use Rattle.osdp_msg.specs.declared.command.Command.{Command}
 use Rattle.osdp_msg.specs.declared.event.Event.{Event}
-use Rattle.osdp_msg.specs.declared.event.Event.TheVariants as events
-use Rattle.osdp_msg.specs.declared.reply.Reply.{Reply}
-use Rattle.osdp_msg.specs.declared.reply.Reply.TheVariants as replies
 use Rattle.osdp_msg.specs.CommandText.{command_words}
 use Rattle.osdp_msg.specs.Events.{EventFits, event_reply, event_words}
 use Rattle.osdp_msg.proofs.RowTexts.{IsRow, differ}
 use Rattle.osdp_msg_laws.proofs.CommandTexts.{command_one_meaning}
+use Rattle.osdp_msg_laws.proofs.EventReplies.{same_event}
 use Rattle.osdp_msg_laws.proofs.OneMeaning.{numbers_then, states_one}
 use Rattle.osdp_msg_laws.proofs.ReplyTexts.{reply_one_meaning}
 use Rattle.osdp_sim.specs.declared.step.Move.{Move}
@@ -66,30 +64,9 @@ one_issue : (readers : ℕ) → HasOne (λ (x : ℕ × Command). number x.0 ∷ 
 one_issue readers given x y h k s t =
     numbered command_words _ command_one_meaning readers given x y (h.there, h.fits) (k.there, k.fits) s t
 
--- the event of a reply that tells one
-event_of : Event → Reply → Event
-event_of other (replies.LocalState x) = events.LocalState x
-event_of other (replies.Inputs x) = events.Inputs x
-event_of other (replies.Outputs x) = events.Outputs x
-event_of other (replies.Readers x) = events.Readers x
-event_of other (replies.Raw x) = events.Raw x
-event_of other (replies.Formatted x) = events.Formatted x
-event_of other (replies.Keypad x) = events.Keypad x
-event_of other reply = other
-
-event_again : (other e : Event) → event_of other (event_reply e) ≡ e
-unfolding event_of
-event_again other (events.LocalState x) = refl
-event_again other (events.Inputs x) = refl
-event_again other (events.Outputs x) = refl
-event_again other (events.Readers x) = refl
-event_again other (events.Raw x) = refl
-event_again other (events.Formatted x) = refl
-event_again other (events.Keypad x) = refl
-
 one_event : HasOne event_words EventFits
 one_event given x y h k s t =
-    sym (event_again x x) ∙ ap (event_of x) (reply_one_meaning given (event_reply x) (event_reply y) h k s t) ∙ event_again x y
+    same_event x y (reply_one_meaning given (event_reply x) (event_reply y) h k s t)
 
 one_queue : (readers : ℕ) → HasOne (λ (x : ℕ × Event). number x.0 ∷ event_words x.1) (λ (x : ℕ × Event). IsHappening readers x.0 x.1)
 one_queue readers given x y h k s t =

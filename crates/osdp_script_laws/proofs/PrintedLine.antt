@@ -1,6 +1,6 @@
 -- A line as it is printed says what it was printed of.
-use Rattle.std.proofs.Common.{◌≡◌, ◌≢◌, ◌<◌, ◌≤◌, ◌^◌, lit<, ℕ, zero, suc, Bool, true, false, not, cond, eqb, List, [], ◌∷◌, ◌++◌, codes, filter, length, map, slice_index, inr, refl, sym, ap, subst, ◌∙◌, arith, IsUtf8}
-use Rattle.std.specs.List.{AllByRecursion, slice_split}
+use Rattle.std.proofs.Common.{◌≡◌, ◌≢◌, ◌<◌, ◌≤◌, ◌^◌, lit<, ℕ, zero, suc, Bool, true, false, not, cond, eqb, List, [], ◌∷◌, codes, filter, length, map, inr, refl, sym, ap, subst, ◌∙◌, arith}
+use Rattle.std.specs.List.{AllByRecursion}
 use Rattle.std.specs.Str.{IsAscii}
 use Rattle.std.proofs.lemmas.Bool.{ne_eqb}
 use Rattle.std.proofs.lemmas.Str.{IsUtf8-from_ascii}

@@ -7,10 +7,7 @@ use Rattle.std.proofs.lemmas.List.{append_cancel_left, append_cancel_right, map-
 use Rattle.std.proofs.lemmas.List.Elements.{All-head, All-tail}
 use Rattle.osdp_controller.specs.declared.report.LostCause.TheVariants.{NoReply, TooBusy, NumberRefused}
 use Rattle.osdp_msg.specs.declared.command.Command.{Command}
-use Rattle.osdp_msg.specs.declared.event.Event.{Event}
-use Rattle.osdp_msg.specs.declared.event.Event.TheVariants as events
 use Rattle.osdp_msg.specs.declared.reply.Reply.{Reply}
-use Rattle.osdp_msg.specs.declared.reply.Reply.TheVariants as replies
 use Rattle.osdp_msg.specs.CommandTable.{CommandFits}
 use Rattle.osdp_msg.specs.CommandText.{command_text, command_words}
 use Rattle.osdp_msg.specs.Events.{EventFits, event_reply, event_text, event_words}
@@ -19,6 +16,7 @@ use Rattle.osdp_msg.specs.ReplyText.{reply_text, reply_words}
 use Rattle.osdp_msg.proofs.RowTexts.{differ}
 use Rattle.osdp_msg_laws.specs.Laws.{IsPlainCharacter, IsPlainWord}
 use Rattle.osdp_msg_laws.proofs.CommandTexts.{command_one_text}
+use Rattle.osdp_msg_laws.proofs.EventReplies.{same_event}
 use Rattle.osdp_msg_laws.proofs.PlainCommands.{plain_commands}
 use Rattle.osdp_msg_laws.proofs.PlainReplies.{plain_events, plain_replies}
 use Rattle.osdp_msg_laws.proofs.PrintedWords.{ArePrintedWords, IsPrintedWord, IsTextCharacter, both_printed, name_printed, plain_words_printed, same_printed, text_shown}
@@ -153,27 +151,6 @@ one_pair (c, r) (d, s) h k e =
 
 -- ---- events
 
--- the event of a reply that tells one
-event_of : Event → Reply → Event
-event_of other (replies.LocalState x) = events.LocalState x
-event_of other (replies.Inputs x) = events.Inputs x
-event_of other (replies.Outputs x) = events.Outputs x
-event_of other (replies.Readers x) = events.Readers x
-event_of other (replies.Raw x) = events.Raw x
-event_of other (replies.Formatted x) = events.Formatted x
-event_of other (replies.Keypad x) = events.Keypad x
-event_of other reply = other
-
-event_again : (other e : Event) → event_of other (event_reply e) ≡ e
-unfolding event_of
-event_again other (events.LocalState x) = refl
-event_again other (events.Inputs x) = refl
-event_again other (events.Outputs x) = refl
-event_again other (events.Readers x) = refl
-event_again other (events.Raw x) = refl
-event_again other (events.Formatted x) = refl
-event_again other (events.Keypad x) = refl
-
 pub event_shown : HasText reported_line EventFits
 event_shown x fits =
     text_shown (reported_line x) (name_printed (codes "reported") (lit< tt) refl, plain_words_printed (event_words x) (plain_events x fits))
@@ -182,7 +159,7 @@ pub one_event : HasOne reported_line EventFits
 unfolding reply_text
 one_event x y h k e =
     let texts = ap (λ (l : List ℕ). drop 1 l) (append_cancel_left (codes "reported") (codes " " ++ event_text x) (codes " " ++ event_text y) e) in
-    sym (event_again x x) ∙ ap (event_of x) (reply_one_text (event_reply x) (event_reply y) h k texts) ∙ event_again x y
+    same_event x y (reply_one_text (event_reply x) (event_reply y) h k texts)
 
 -- ---- ends
 
