@@ -60,7 +60,7 @@ impl Link {
         let Step::Send(packet) = self.controller.tick(self.now) else { return false };
         let response = self.reader.hear(&packet);
         let Some(reply) = View::first(response.bytes()) else { return false };
-        black_box(self.controller.hear(&reply, self.now));
+        black_box(&self.controller.hear(&reply, self.now));
         !self.controller.outstanding()
     }
 
@@ -73,7 +73,7 @@ impl Link {
         let Some(packet) = View::first(self.burst.as_slice()) else { return false };
         let response = self.reader.hear(&packet);
         let Some(reply) = View::first(response.bytes()) else { return false };
-        black_box(self.controller.hear(&reply, self.now));
+        black_box(&self.controller.hear(&reply, self.now));
         !self.controller.outstanding()
     }
 
@@ -117,7 +117,7 @@ fn turns(count: u64) -> Option<u64> {
             link.burst.write_view(&packet);
             black_box(link.burst.as_slice());
         }
-        black_box(link.controller.hear(black_box(&ack), link.now));
+        black_box(&link.controller.hear(black_box(&ack), link.now));
         !link.controller.outstanding()
     }))
 }
