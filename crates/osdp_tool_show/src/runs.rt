@@ -1,9 +1,10 @@
 //! Runs of bytes, told item by item.
 
-ghost use Rattle.std.specs.Prelude.{◌≡◌, ◌≢◌, ◌+◌, ◌*◌, ◌<◌, ◌≤◌, ◌^◌, ◌++◌, ℕ, List, Option, true, false, None, length, take, IfOk, OnOk, OnErr};
+ghost use Rattle.std.specs.Prelude.{◌≡◌, ◌≢◌, ◌+◌, ◌*◌, ◌<◌, ◌≤◌, ◌^◌, ◌++◌, ℕ, List, Option, true, false, None, Some, length, take, IfOk, IfSome, OnOk, OnErr};
 ghost use Rattle.std.specs.List.{AllByRecursion};
 ghost use Rattle.osdp_frame.specs.Bytes.{AreBytes};
-ghost use Rattle.osdp_frame.specs.Held.{after_gap, decided, new_run};
+ghost use Rattle.osdp_frame.specs.Held.{after_gap, by_itself, decided, new_run};
+ghost use Rattle.osdp_frame.specs.Shown.{part_of};
 ghost use Rattle.osdp_frame.specs.Spelling.{start_of_message};
 ghost use Rattle.osdp_tool_lines.specs.Tally.{counted};
 ghost use Rattle.osdp_tool_streams.specs.Watched.{inner_of, has_failed};
@@ -14,12 +15,18 @@ ghost use Rattle.osdp_tool_show.specs.Written.{StopsWithin};
 
 use crate::report::Report;
 use memchr::memchr;
-use osdp_frame::{Framer, whole_item};
+use osdp_frame::{Framer, Item, whole_item};
 use osdp_tool_streams::{ToolFault, Watched};
 use std::io::Write;
 
 /// So many bytes are given to a framer one by one before it is given all that there are.
 const TRIES: u8 = 8;
+
+/// So many bytes stand before the body of a packet, and tell its count.
+const HEAD: usize = 5;
+
+/// The largest packet that is accepted.
+const LARGEST: usize = 1440;
 
 /// Tells of the items that the held bytes decide, and takes them off.
 #[inline(never)]
@@ -75,8 +82,20 @@ fn pass_skipped(report: &mut Report, bytes: &[u8]) -> usize
     count
 }
 
-/// Tells of the packets and the skipped bytes at the head of the bytes, where none are held, and gives how many
-/// bytes these are.
+/// What is told by itself at the head of the bytes: a packet, or a skipped byte where it has a line.
+#[inline(always)]
+fn own_item(full: bool, bytes: &[u8]) -> Option<Item<'_>>
+    ensures { IfSome result (λ item. by_itself (decided false bytes.now) ≡ Some (part_of item)) }
+{
+    match whole_item(bytes) {
+        Some(Item::Skipped(_)) if !full => None,
+        item => item,
+    }
+}
+
+/// Tells of the packets at the head of the bytes, where none are held, and gives how many bytes these are. Skipped bytes
+/// that have no line are counted before the packets alone: the search for their end costs much beside a short packet.
+#[inline(never)]
 fn tell_whole<W: Write>(
     report: &mut Report,
     bytes: &[u8],
@@ -89,10 +108,9 @@ fn tell_whole<W: Write>(
         (told (W.contents (inner_of output.old)) report.old) (told (W.contents (inner_of output.new)) report.new)) }
     ensures stops { OnErr result (StopsIn bytes.now new_run report.old (told (W.contents (inner_of output.old)) report.old) (W.contents (inner_of output.new))) }
 {
-    let mut at = 0;
+    let mut at = pass_skipped(report, bytes);
     'items: loop {
-        at += pass_skipped(report, &bytes[at..]);
-        let Some(item) = whole_item(&bytes[at..]) else {
+        let Some(item) = own_item(report.full, &bytes[at..]) else {
             return Ok(at);
         };
         report.tell(&item, output)?;
@@ -147,13 +165,33 @@ fn take_held<W: Write>(
     Ok(count)
 }
 
-/// How many of so many bytes the framer is given: one at a time at first, since where nothing is held after an
-/// item the next ones need no framer.
-fn given_count(tries: u8, left: usize) -> usize
-    ensures within { result ≤ left }
-    ensures some { 0 < left → 0 < result }
+/// How many of these bytes a framer that holds none is given: as many as the count of the packet tells, where it can
+/// have so many, and else as many as tell that it can't.
+fn first_count(bytes: &[u8]) -> usize
+    ensures within { result ≤ length bytes.now }
+    ensures some { 0 < length bytes.now → 0 < result }
 {
-    if tries < TRIES { left.min(1) } else { left }
+    let count = match bytes {
+        [_, _, low, high, ..] => usize::from(u16::from_le_bytes([*low, *high])),
+        _ => 0,
+    };
+    let told = if count <= LARGEST { count } else { 0 };
+    told.max(HEAD).min(bytes.len())
+}
+
+/// How many of these bytes the framer is given, where so many before them needed none. None where skipped bytes can be
+/// passed over at once. Where some are held: one at a time at first, since where nothing is held after an item the next
+/// ones need no framer.
+fn given_count(is_empty: bool, whole: usize, tries: u8, bytes: &[u8]) -> usize
+    ensures within { result ≤ length bytes.now }
+    ensures some { 0 < length bytes.now → 0 < whole + result }
+{
+    match bytes {
+        [0x53, ..] if is_empty => first_count(bytes),
+        _ if whole > 0 => 0,
+        _ if tries < TRIES => bytes.len().min(1),
+        _ => bytes.len(),
+    }
 }
 
 /// The tries after one at which so many bytes needed no framer.
@@ -184,7 +222,7 @@ pub fn take<W: Write>(
     'pieces: while at < bytes.len() {
         let whole = take_whole(framer, report, &bytes[at..], output)?;
         at += whole;
-        let some = given_count(tries, bytes.len() - at);
+        let some = given_count(framer.is_empty(), whole, tries, &bytes[at..]);
         at += take_held(framer, report, &bytes[at..at + some], output)?;
         tries = next_tries(tries, whole);
     }

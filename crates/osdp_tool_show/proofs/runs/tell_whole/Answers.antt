@@ -1,42 +1,30 @@
-use Rattle.std.proofs.Common.{refl, ◌≡◌, ◌+◌, ◌-◌, ◌≤◌, ◌∙◌, Some, length, length-take, length-drop, drop, take, false, subst, sym, ap, arith}
+use Rattle.std.proofs.Common.{refl, ◌≡◌, ◌+◌, ◌≤◌, ◌∙◌, Some, length, length-take, length-drop, drop, take, false, subst, sym, ap, arith}
 use Rattle.std.proofs.lemmas.List.{take_rest}
 use Rattle.osdp_tool_streams.specs.Watched.{inner_of}
 use Rattle.osdp_frame.specs.Held.{new_run, by_itself, decided}
 use Rattle.osdp_frame.specs.Reading.{part_size}
 use Rattle.osdp_frame.specs.Shown.{part_of}
 use Rattle.osdp_tool_show.specs.Machine.{told, Took}
-use Rattle.osdp_tool_show.proofs.Standing.{took_start}
-use Rattle.osdp_tool_show.proofs.Passed.{took_passing, within_passing}
-use Rattle.osdp_tool_show.proofs.WholeItems.{settled_new, took_item, item_within}
+use Rattle.osdp_tool_show.proofs.WholeItems.{took_item, item_within}
 use Rattle.osdp_tool_show.proofs.WholeItems.{item_stops}
 use Rattle.osdp_tool_show.proofs.Beginnings.{on_err}
 use Rattle.osdp_tool_show.proofs.runs.tell_whole.Goals as goal
 
 pub items-init : goal.items-init
 items-init g c = record {
-  within = omega arith;
-  took = took_start new_run c.args.report.now _ settled_new;
+  within = c.pass_skipped-at.ensures.within;
+  took = c.pass_skipped-at.ensures.took (g.W.Write.contents (inner_of c.args.output.now));
   unfailed = refl;
 }
-
-pub pass_skipped-at-requires : goal.pass_skipped-at-requires
-pass_skipped-at-requires g c =
-    let bytes = c.args.bytes.now in
-    let at = c.items.at in
-    let counts = c.items.invariant.took.counts in
-    omega (arith, length-take at bytes, length-drop at bytes, length-take (length bytes - at) (drop at bytes))
 
 pub tell-requires : goal.tell-requires
 tell-requires g c =
     let bytes = c.args.bytes.now in
-    let contents = g.W.Write.contents (inner_of c.items.output) in
-    let at = c.items.at + c.pass_skipped-at.result in
+    let at = c.items.at in
     let part = part_of c.in-Some.item in
-    let passed = took_passing bytes c.items.at c.pass_skipped-at.result c.args.report.now c.items.report c.pass_skipped-at.new.report _ _ _
-    c.pass_skipped-at.ensures.within c.items.invariant.took (c.pass_skipped-at.ensures.took contents) in
-    let counts = passed.counts in
+    let counts = c.items.invariant.took.counts in
     let own : by_itself (decided false (drop at bytes)) ≡ Some part =
-    sym (c.in-Some.ensures.shown ∙ ap (λ l. by_itself (decided false l)) (take_rest bytes at)) in
+    sym (ap (λ l. by_itself (decided false l)) (take_rest bytes at)) ∙ c.in-Some.ensures in
     let there : part_size part ≤ length (drop at bytes) = item_within bytes at part (λ k. omega (arith, c.type_inv.bytes k)) own in
     omega (arith, length-take at bytes, length-drop at bytes)
 
@@ -44,42 +32,31 @@ pub items-preserved : goal.items-preserved
 items-preserved g c =
     let bytes = c.args.bytes.now in
     let contents = g.W.Write.contents (inner_of c.items.output) in
-    let at = c.items.at + c.pass_skipped-at.result in
+    let at = c.items.at in
     let part = part_of c.in-Some.item in
     let before = told (g.W.Write.contents (inner_of c.args.output.now)) c.args.report.now in
     let after = told (g.W.Write.contents (inner_of c.tell.new.output)) c.tell.new.self in
-    let passed = took_passing bytes c.items.at c.pass_skipped-at.result c.args.report.now c.items.report c.pass_skipped-at.new.report before _ _
-    c.pass_skipped-at.ensures.within c.items.invariant.took (c.pass_skipped-at.ensures.took contents) in
     let own : by_itself (decided false (drop at bytes)) ≡ Some part =
-    sym (c.in-Some.ensures.shown ∙ ap (λ l. by_itself (decided false l)) (take_rest bytes at)) in
-    let was = within_passing bytes c.items.at c.pass_skipped-at.result c.items.invariant.within c.pass_skipped-at.ensures.within in
+    sym (ap (λ l. by_itself (decided false l)) (take_rest bytes at)) ∙ c.in-Some.ensures in
     let there : part_size part ≤ length (drop at bytes) = item_within bytes at part (λ k. omega (arith, c.type_inv.bytes k)) own in
     let size : c.size-at.result ≡ part_size part = c.size-at.ensures in
     record {
       within = omega (arith, length-drop at bytes);
       took = subst (λ n. Took (take (at + n) bytes) new_run new_run c.args.report.now c.tell.new.self before after)
           (sym size)
-          (took_item bytes at c.args.report.now c.pass_skipped-at.new.report c.tell.new.self before _ after part (λ k. omega (arith, c.type_inv.bytes k)) was
-          passed own c.in_ok-tell.ensures.tells);
+          (took_item bytes at c.args.report.now c.items.report c.tell.new.self before _ after part (λ k. omega (arith, c.type_inv.bytes k)) c.items.invariant.within
+          c.items.invariant.took own c.in_ok-tell.ensures.tells);
       unfailed = c.in_ok-tell.ensures.step ∙ c.items.invariant.unfailed;
     }
-
-pub returns-in_default-clause-took : goal.returns-in_default-clause-took
-returns-in_default-clause-took g c =
-    took_passing c.args.bytes.now c.items.at c.pass_skipped-at.result c.args.report.now c.items.report c.pass_skipped-at.new.report _ _ _
-    c.pass_skipped-at.ensures.within c.items.invariant.took (c.pass_skipped-at.ensures.took (g.W.Write.contents (inner_of c.items.output)))
 
 pub returns-in_err-tell-clause-stops : goal.returns-in_err-tell-clause-stops
 returns-in_err-tell-clause-stops g c =
     let bytes = c.args.bytes.now in
     let contents = g.W.Write.contents (inner_of c.items.output) in
-    let at = c.items.at + c.pass_skipped-at.result in
+    let at = c.items.at in
     let part = part_of c.in-Some.item in
     let before = told (g.W.Write.contents (inner_of c.args.output.now)) c.args.report.now in
-    let passed = took_passing bytes c.items.at c.pass_skipped-at.result c.args.report.now c.items.report c.pass_skipped-at.new.report before _ _
-    c.pass_skipped-at.ensures.within c.items.invariant.took (c.pass_skipped-at.ensures.took contents) in
     let own : by_itself (decided false (drop at bytes)) ≡ Some part =
-    sym (c.in-Some.ensures.shown ∙ ap (λ l. by_itself (decided false l)) (take_rest bytes at)) in
-    let was = within_passing bytes c.items.at c.pass_skipped-at.result c.items.invariant.within c.pass_skipped-at.ensures.within in
-    on_err c.from_residual.result (item_stops bytes at c.args.report.now c.pass_skipped-at.new.report before (told contents c.pass_skipped-at.new.report)
-    (g.W.Write.contents (inner_of c.tell.new.output)) part (λ k. omega (arith, c.type_inv.bytes k)) was passed own c.in_err-tell.ensures.stops)
+    sym (ap (λ l. by_itself (decided false l)) (take_rest bytes at)) ∙ c.in-Some.ensures in
+    on_err c.from_residual.result (item_stops bytes at c.args.report.now c.items.report before (told contents c.items.report)
+    (g.W.Write.contents (inner_of c.tell.new.output)) part (λ k. omega (arith, c.type_inv.bytes k)) c.items.invariant.within c.items.invariant.took own c.in_err-tell.ensures.stops)

@@ -7,9 +7,9 @@ use Rattle.osdp_tool_show.proofs.runs.tell_whole.Given as goal
 abbrev pub invariant-items : goal.invariant-items
 invariant-items g l = record {
   within : l.at ≤ length l.bytes;
-  took : Took (take l.at l.bytes) new_run new_run l.initial.report l.report
-      (told (g.W.Write.contents (inner_of l.initial.output)) l.initial.report) (told (g.W.Write.contents (inner_of l.output)) l.report);
-  unfailed : has_failed l.output ≡ has_failed l.initial.output;
+  took : Took (take l.at l.bytes) new_run new_run l.fn.report l.report
+      (told (g.W.Write.contents (inner_of l.fn.output)) l.fn.report) (told (g.W.Write.contents (inner_of l.output)) l.report);
+  unfailed : has_failed l.output ≡ has_failed l.fn.output;
 }
 
 abbrev pub decreases-items : goal.decreases-items
