@@ -4,7 +4,7 @@ use crate::device::{Device, controller, reader};
 use osdp_controller::{Controller, Report};
 use osdp_frame::{Address, Burst, CheckKind, FrameView, Item, Seq, whole_item};
 use osdp_msg::{Command, OutputRecord, Outputs};
-use osdp_reader::Reader;
+use osdp_reader::{Heard, Reader};
 use std::alloc::Global;
 
 /// What is due at a moment goes to the reader, and its answer, found in its bytes, to the controller. Whether nothing is outstanding then.
@@ -55,13 +55,15 @@ pub fn outs(alloc: Global, count: u64) -> Option<u64> {
     Some(done)
 }
 
-/// What the calls of a controller that write into what is lent are lent.
+/// What the calls of both machines that write into what is lent are lent.
 #[derive(Debug, Drop)]
 pub struct Lent {
     /// The packet that goes out.
     pub burst: Burst,
     /// What is told.
     pub report: Option<Report>,
+    /// What the reader makes of the packet.
+    pub heard: Heard,
 }
 
 impl Lent {
@@ -70,11 +72,13 @@ impl Lent {
         Lent {
             burst: Burst::new(),
             report: None,
+            heard: Heard::new(),
         }
     }
 }
 
-/// An exchange as `exchange` has it, by the calls of the controller that write into what is lent: its packet is found in its bytes too.
+/// An exchange as `exchange` has it, by the calls of both machines that write into what is lent: the controller's packet is found in its
+/// bytes too.
 pub fn exchange_into(
     controller: &mut Controller,
     reader: &mut Reader<Device>,
@@ -87,15 +91,15 @@ pub fn exchange_into(
     let Some(Item::Packet(asked)) = whole_item(lent.burst.as_slice()) else {
         return false;
     };
-    let response = reader.on_frame(&asked);
-    let Some(Item::Packet(packet)) = whole_item(response.bytes()) else {
+    reader.hear(&asked, &mut lent.heard);
+    let Some(Item::Packet(packet)) = whole_item(lent.heard.bytes()) else {
         return false;
     };
     controller.hear(&packet, now, &mut lent.report);
     !controller.outstanding()
 }
 
-/// So many exchanges of POLL and ACK, the controller's part written into what is lent.
+/// So many exchanges of POLL and ACK, written into what is lent.
 pub fn polls_into(alloc: Global, count: u64) -> Option<u64> {
     let mut controller = controller(alloc, 1)?;
     let mut reader = reader(alloc)?;
@@ -115,7 +119,7 @@ pub fn polls_into(alloc: Global, count: u64) -> Option<u64> {
     Some(done)
 }
 
-/// So many exchanges of OUT and ACK, the controller's part written into what is lent.
+/// So many exchanges of OUT and ACK, written into what is lent.
 pub fn outs_into(alloc: Global, count: u64) -> Option<u64> {
     let mut controller = controller(alloc, 1000)?;
     let mut reader = reader(alloc)?;

@@ -15,9 +15,9 @@ pub enum Work {
     Polls,
     /// An OUT and its ACK over both machines.
     Outs,
-    /// A POLL and its ACK over both machines, the controller's part written into what is lent.
+    /// A POLL and its ACK over both machines, written into what is lent.
     PollsInto,
-    /// An OUT and its ACK over both machines, the controller's part written into what is lent.
+    /// An OUT and its ACK over both machines, written into what is lent.
     OutsInto,
     /// A POLL and its ACK at a controller alone, written into what is lent.
     Turns,
