@@ -87,9 +87,7 @@ queue KEYPAD 0 34
 clean 2
 queue KEYPAD 0 35
 queue KEYPAD 0 36
-wait 50
-to-reader deliver
-to-controller deliver",
+round 50",
         "issued 0 taken 0 settled 0 unsettled 0 queued 5 reported 3
 reported KEYPAD 0 31
 reported KEYPAD 0 32

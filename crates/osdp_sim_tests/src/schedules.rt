@@ -7,8 +7,9 @@ use arrayvec::ArrayVec;
 use osdp_controller::ControllerConfig;
 use osdp_door::Door;
 use osdp_frame::{Address, CheckKind};
-use osdp_msg::{PdCap, PdId};
+use osdp_msg::PdCap;
 use osdp_reader::ReaderConfig;
+use osdp_script_reader::script_config;
 use osdp_session::run_session;
 use osdp_sim::{Account, Fault, Lengths, SimConfig};
 use std::alloc::Global;
@@ -17,15 +18,7 @@ use std::process::Abort;
 /// A door at address 5 with room for four events, and a controller with room for 64 commands.
 pub fn config(rt: &impl Abort) -> SimConfig {
     let address = Address::new(5).expect(rt, "an address");
-    let id = PdId {
-        vendor: [0x53, 0x49, 0x4d],
-        model: 1,
-        version: 1,
-        serial: 1,
-        firmware_major: 1,
-        firmware_minor: 0,
-        firmware_build: 0,
-    };
+    let id = script_config(1, address).id;
     let caps = PdCap {
         capabilities: ArrayVec::new(),
     };
@@ -59,18 +52,10 @@ fn nothing_is_lost(rt: HostRuntime) {
 issue BUZ 0 2 5 5 1
 queue KEYPAD 0 31
 queue KEYPAD 0 32
-wait 400
-to-reader deliver
-to-controller deliver
-wait 50
-to-reader deliver
-to-controller deliver
-wait 50
-to-reader deliver
-to-controller deliver
-wait 50
-to-reader deliver
-to-controller deliver",
+round 400
+round 50
+round 50
+round 50",
         "issued 2 taken 2 settled 2 unsettled 0 queued 2 reported 1
 taken OUT 0:2:0
 taken BUZ 0 2 5 5 1
@@ -88,15 +73,11 @@ fn an_answer_is_lost(rt: HostRuntime) {
         &rt,
         rt.alloc(),
         "issue OUT 0:2:0
-wait 400
-to-reader deliver
-to-controller deliver
+round 400
 wait 50
 to-reader deliver
 to-controller drop
-wait 200
-to-reader deliver
-to-controller deliver",
+round 200",
         "issued 1 taken 1 settled 1 unsettled 0 queued 0 reported 0
 taken OUT 0:2:0
 settled OUT 0:2:0 = ACK
@@ -112,26 +93,18 @@ fn a_reply_is_damaged(rt: HostRuntime) {
         rt.alloc(),
         "queue RAW 0 0 26 0A0B0C40
 queue KEYPAD 0 31
-wait 400
-to-reader deliver
-to-controller deliver
+round 400
 wait 50
 to-reader deliver
 to-controller damage 00
 wait 200
 to-reader deliver
 to-controller damage 53
-wait 200
-to-reader deliver
-to-controller deliver
+round 200
 busy on
-wait 50
-to-reader deliver
-to-controller deliver
+round 50
 busy off
-wait 50
-to-reader deliver
-to-controller deliver",
+round 50",
         "issued 0 taken 0 settled 0 unsettled 0 queued 2 reported 2
 reported RAW 0 0 26 0A0B0C40
 reported KEYPAD 0 31
@@ -146,9 +119,7 @@ fn a_command_is_repeated(rt: HostRuntime) {
         &rt,
         rt.alloc(),
         "issue OUT 0:2:0
-wait 400
-to-reader deliver
-to-controller deliver
+round 400
 wait 50
 to-reader repeat
 to-reader deliver
@@ -170,9 +141,7 @@ fn the_opening_comes_late(rt: HostRuntime) {
         rt.alloc(),
         "queue KEYPAD 0 31
 wait 400
-wait 200
-to-reader deliver
-to-controller deliver
+round 200
 wait 50
 to-reader deliver
 to-reader deliver
@@ -188,12 +157,8 @@ reported KEYPAD 0 31
 #[test]
 fn an_event_is_told_again(rt: HostRuntime) {
     let rows = "queue KEYPAD 0 31
-wait 400
-to-reader deliver
-to-controller deliver
-wait 50
-to-reader deliver
-to-controller deliver
+round 400
+round 50
 wait 50
 to-reader drop
 wait 200
@@ -202,12 +167,8 @@ wait 200
 to-reader drop
 wait 200
 reopen 1
-wait 400
-to-reader deliver
-to-controller deliver
-wait 50
-to-reader deliver
-to-controller deliver";
+round 400
+round 50";
     let account = outcome(&rt, rt.alloc(), rows)
         .ok()
         .expect(&rt, "an account");
@@ -238,9 +199,7 @@ fn a_command_is_told_unsettled(rt: HostRuntime) {
         rt.alloc(),
         "issue OUT 0:2:0
 issue OUT 1:2:0
-wait 400
-to-reader deliver
-to-controller deliver
+round 400
 wait 50
 to-reader deliver
 to-controller drop
@@ -250,12 +209,8 @@ wait 200
 to-reader drop
 wait 200
 reopen 1
-wait 400
-to-reader deliver
-to-controller deliver
-wait 50
-to-reader deliver
-to-controller deliver",
+round 400
+round 50",
         "issued 2 taken 2 settled 1 unsettled 1 queued 0 reported 0
 taken OUT 0:2:0
 taken OUT 1:2:0
@@ -273,12 +228,8 @@ fn a_reader_moves(rt: HostRuntime) {
         &rt,
         rt.alloc(),
         "issue COMSET 7 9600
-wait 400
-to-reader deliver
-to-controller deliver
-wait 50
-to-reader deliver
-to-controller deliver",
+round 400
+round 50",
         "issued 1 taken 1 settled 1 unsettled 0 queued 0 reported 0
 taken COMSET 7 9600
 settled COMSET 7 9600 = COM 7 9600
@@ -299,22 +250,12 @@ queue KEYPAD 0 31
 wait 400
 to-reader drop
 busy on
-wait 200
-to-reader deliver
-to-controller deliver
+round 200
 busy off
-wait 400
-to-reader deliver
-to-controller deliver
-wait 400
-to-reader deliver
-to-controller deliver
-wait 400
-to-reader deliver
-to-controller deliver
-wait 400
-to-reader deliver
-to-controller deliver",
+round 400
+round 400
+round 400
+round 400",
         "issued 2 taken 2 settled 2 unsettled 0 queued 1 reported 1
 taken OUT 0:2:0
 taken LSTAT
@@ -338,9 +279,7 @@ to-reader repeat
 to-controller drop
 to-reader deliver
 to-controller deliver
-wait 50
-to-reader deliver
-to-controller deliver";
+round 50";
     comes_to(&rt, rt.alloc(), rows, text);
     let text = "issued 1 taken 1 settled 0 unsettled 0 queued 0 reported 0
 taken OUT 0:2:0
@@ -349,14 +288,10 @@ taken OUT 0:2:0
 wait 400
 to-reader deliver
 to-controller repeat
-wait 50
-to-reader deliver
-to-controller deliver";
+round 50";
     comes_to(&rt, rt.alloc(), rows, text);
     let rows = "issue OUT 0:2:0
-wait 400
-to-reader deliver
-to-controller deliver
+round 400
 wait 50
 to-reader deliver
 to-controller damage 00";
@@ -364,9 +299,7 @@ to-controller damage 00";
     let text = "issued 1 taken 0 settled 0 unsettled 0 queued 0 reported 0
 ";
     let rows = "issue OUT 0:2:0
-wait 400
-to-reader deliver
-to-controller deliver
+round 400
 wait 50
 to-reader damage 00";
     comes_to(&rt, rt.alloc(), rows, text);

@@ -40,9 +40,8 @@ fn way(rt: &impl Abort, text: &str) -> Move {
     }
 }
 
-/// A row's step, for reader 1.
-fn step(rt: &impl Abort, alloc: Global, row: &str) -> SimStep {
-    let (name, rest) = row.split_once(' ').expect(rt, "a step");
+/// The step of this name, for reader 1.
+fn step(rt: &impl Abort, alloc: Global, name: &str, rest: &str) -> SimStep {
     match name {
         "issue" => SimStep::Issue(1, command(rt, alloc, rest)),
         "queue" => SimStep::Queue(1, event(rt, alloc, rest)),
@@ -77,9 +76,11 @@ fn push_clean(rt: &impl Abort, steps: &mut Vec<SimStep>, rounds: usize) {
 pub fn steps(rt: &impl Abort, alloc: Global, rows: &str) -> Vec<SimStep> {
     let mut steps = Vec::new(alloc);
     for row in rows.lines() {
-        match row.strip_prefix("clean ") {
-            Some(rounds) => push_clean(rt, &mut steps, rounds.parse().expect(rt, "a count")),
-            None => steps.push(step(rt, alloc, row)).expect(rt, "memory"),
+        let (name, rest) = row.split_once(' ').expect(rt, "a step");
+        match name {
+            "clean" => push_clean(rt, &mut steps, rest.parse().expect(rt, "a count")),
+            "round" => push_round(rt, &mut steps, rest.parse().expect(rt, "a time")),
+            _ => steps.push(step(rt, alloc, name, rest)).expect(rt, "memory"),
         }
     }
     steps
