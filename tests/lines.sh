@@ -31,6 +31,15 @@ expect() {
   printf '%s' "$err" | cmp -s - "$work/err" || fault "$name: other text on standard error: $(head -c 200 "$work/err")"
 }
 
+# $1: what is tried; then the program and its words. Standard input is a table: a row is a line of the program's input, ` > `, and its answer,
+# whose lines are parted by `;`.
+answers() {
+  local name=$1
+  shift
+  cat >"$work/table"
+  expect "$name" 0 "$(sed 's/.* > //' "$work/table" | tr ';' '\n')"$'\n' '' "$@" < <(sed 's/ > .*//' "$work/table")
+}
+
 bad_panel=$'osdp_panel_lines: bad words\n'
 bad_reader=$'osdp_reader_lines: bad words\n'
 expect 'a panel that is told nothing' 0 '' '' osdp_panel_lines </dev/null
@@ -71,6 +80,58 @@ for which in panel reader; do
   [ $? -eq 3 ] || fault "$which: a full device ends it with another status"
   echo "osdp_${which}_lines: write failed" | cmp -s - "$work/err" || fault "$which: a full device: other text on standard error"
 done
+
+answers 'a session opens, a command is settled, an event is told, and it is lost with a command' osdp_panel_lines check sum capacity 1 <<'TABLE'
+add 5 > due none
+begin 1 > due 400
+submit 1 OUT 0:2:0 > due 400
+at 400 > due 400
+tick > send 530508000061003F;due 600
+at 410 > due 600
+bytes 53851300004553494D010101000000010000E3 > opened 1 PDID 53494D 1 1 1 1 0 0;due 410
+tick > send 53050B0001680002000032;due 610
+at 420 > due 610
+bytes 538507000140E0 > settled 1 OUT 0:2:0 = ACK;due 470
+at 470 > due 470
+tick > send 5305070002603F;due 670
+at 480 > due 670
+bytes 53850B0002530002313263 > event 1 KEYPAD 0 3132;due 530
+submit 1 ID 0 > due 480
+tick > send 530508000361003C;due 680
+bytes 53850800034104D8 > lost 1 number-refused ID 0;due none
+TABLE
+answers 'a command that waits is taken back, and a device goes to another address' osdp_panel_lines check sum capacity 1 <<'TABLE'
+add 5 > due none
+submit 1 COMSET 7 9600 > due none
+retarget 1 6 > refused B3;due none
+withdraw 1 > withdrawn 1 COMSET 7 9600;due none
+withdraw 1 > due none
+retarget 1 6 > due none
+add 6 > refused B3;due none
+TABLE
+answers 'each refusal, and lines that are none' osdp_panel_lines check sum capacity 1 <<'TABLE'
+add 127 > refused B5;due none
+add 5 > due none
+add 5 > refused B3;due none
+begin 2 > refused B4;due none
+withdraw 2 > refused B4;due none
+retarget 2 5 > refused B4;due none
+submit 2 ID 0 > refused B4;due none
+submit 1 POLL > refused C4;due none
+submit 1 ID 0 > due none
+submit 1 ID 0 > refused C3;due none
+begin 1 > due 400
+begin 1 > refused C5;due 400
+begin 0 > refused line;due 400
+add 128 > refused line;due 400
+tick 1 > refused line;due 400
+submit 1 NOTHING > refused line;due 400
+at 007 > refused line;due 400
+silence > due 400
+TABLE
+answers 'an ID with number 0 is answered, and told as acted on' osdp_reader_lines address 5 vendor 53494D model 1 version 1 serial 1 firmware 1:0:0 <<'TABLE'
+bytes 530508000061003F > send 53851300004553494D010101000000010000E3;again ID 0;waiting 0
+TABLE
 
 # ---- what fails in turn
 
