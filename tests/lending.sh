@@ -41,8 +41,9 @@ CODE
   fi
 }
 
-# The borrow check comes first and takes seconds. Where it finds nothing, the libraries below are built, which isn't waited for, or all is proved at once.
-try 'framer.advance();' 'borrow-e0502' 'for osdp_check' 100
-try 'let _ = framer.push(&[0]);' 'borrow-e0502' 'for osdp_check' 100
+# The borrow check comes first and takes seconds; but where a check of another copy left work on this machine, the libraries are built
+# before it. Where it finds nothing, the libraries below are built, which isn't waited for, or all is proved at once.
+try 'framer.advance();' 'borrow-e0502' 'for osdp_check' 600
+try 'let _ = framer.push(&[0]);' 'borrow-e0502' 'for osdp_check' 600
 try '' 'for osdp_check\|logic=proved' 'borrow-e0502' 45
 exit 0
