@@ -98,7 +98,7 @@ fn stays(rt: &impl Abort, controller: &mut Controller, now: u64) {
     assert!(rt; step.report.is_none() && step.frame.is_none());
 }
 
-/// A tick at this moment ends the session for want of a reply, with this command unsettled.
+/// A tick at this moment ends the session, since no reply came, with this command unsettled.
 fn ends(rt: &impl Abort, controller: &mut Controller, now: u64, command: &Option<Command>) {
     let step = controller.tick(now);
     assert!(rt; step.frame.is_none() && is_lost(&step.report, LostCause::NoReply, command));

@@ -111,13 +111,13 @@ plain_lack (word ∷ words) h =
     (λ same. sign_is_not_plain (subst (λ (l : List ℕ). AllByRecursion IsPlainCharacter l) same h.0.each).0, plain_lack words h.1)
 
 -- the words before the first sign, and those after it
-at_sign : (xs ys before behind : List (List ℕ)) → LacksSign xs → LacksSign ys → xs ++ codes "=" ∷ before ≡ ys ++ codes "=" ∷ behind
-    → (xs ≡ ys) × (before ≡ behind)
-at_sign [] [] before behind h k e = (refl, ap (λ (l : List (List ℕ)). drop 1 l) e)
-at_sign [] (y ∷ ys) before behind h k e = absurd (k.0 (sym (ap (λ (l : List (List ℕ)). get_or l 0 []) e)))
-at_sign (x ∷ xs) [] before behind h k e = absurd (h.0 (ap (λ (l : List (List ℕ)). get_or l 0 []) e))
-at_sign (x ∷ xs) (y ∷ ys) before behind h k e =
-    let rest = at_sign xs ys before behind h.1 k.1 (ap (λ (l : List (List ℕ)). drop 1 l) e) in
+at_sign : (xs ys one other : List (List ℕ)) → LacksSign xs → LacksSign ys → xs ++ codes "=" ∷ one ≡ ys ++ codes "=" ∷ other
+    → (xs ≡ ys) × (one ≡ other)
+at_sign [] [] one other h k e = (refl, ap (λ (l : List (List ℕ)). drop 1 l) e)
+at_sign [] (y ∷ ys) one other h k e = absurd (k.0 (sym (ap (λ (l : List (List ℕ)). get_or l 0 []) e)))
+at_sign (x ∷ xs) [] one other h k e = absurd (h.0 (ap (λ (l : List (List ℕ)). get_or l 0 []) e))
+at_sign (x ∷ xs) (y ∷ ys) one other h k e =
+    let rest = at_sign xs ys one other h.1 k.1 (ap (λ (l : List (List ℕ)). drop 1 l) e) in
     let same : x ≡ y = ap (λ (l : List (List ℕ)). get_or l 0 []) e in
     (ap (λ (word : List ℕ). word ∷ xs) same ∙ ap (λ (l : List (List ℕ)). y ∷ l) rest.0, rest.1)
 

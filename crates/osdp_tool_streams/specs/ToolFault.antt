@@ -21,7 +21,7 @@ status_of NoMemory = 4
 abbrev pub IsOfStream : ToolFault → Type 0
 IsOfStream fault = (fault ≡ ReadFailed) ⊎ (fault ≡ WriteFailed)
 
--- a status is 2, 3 or 4; it is 3 exactly at a stream's fault, and 4 exactly for want of memory
+-- a status is 2, 3 or 4; it is 3 exactly at a stream's fault, and 4 exactly where memory ran out
 pub record StatusTellsCause (fault : ToolFault) : Type 0 where
   pub range : (status_of fault ≡ 2) ⊎ ((status_of fault ≡ 3) ⊎ (status_of fault ≡ 4))
   pub stream : (status_of fault ≡ 3) ↔ IsOfStream fault

@@ -9,7 +9,7 @@ ghost use Rattle.osdp_tool_streams.specs.declared.watch.Watched.{Watched};
 
 use crate::fault::ToolFault;
 
-/// A status is 2, 3 or 4: 3 exactly at a failed read or write, 4 exactly for want of memory.
+/// A status is 2, 3 or 4: 3 exactly at a failed read or write, 4 exactly where memory ran out.
 pub fn status_tells_cause(fault: ToolFault)
     ensures { StatusTellsCause fault }
 {}
