@@ -5,7 +5,7 @@ ghost use Rattle.osdp_controller.specs.Comsets.{is_comset};
 ghost use Rattle.osdp_controller.specs.Held.{is_held};
 ghost use Rattle.osdp_controller.specs.Private.{after_act, frame_if, next_in, rest_in};
 ghost use Rattle.osdp_controller.specs.Ticking.{stays, ticks_in};
-ghost use Rattle.std.specs.Prelude.{◌≡◌, ◌↔◌, ◌*◌, ◌+◌, ◌≤◌, IfErr, None, Some, OnOk, is_some, length, true};
+ghost use Rattle.std.specs.Prelude.{◌≡◌, ◌↔◌, ◌*◌, ◌+◌, ◌++◌, ◌<◌, ◌≤◌, [], ◌∷◌, IfErr, None, Some, OnOk, is_some, length, true};
 
 use crate::config::{ControllerConfig, is_device};
 use crate::fault::ControllerFault;
@@ -114,6 +114,7 @@ impl Controller {
     ///
     /// PollSubmitted (C4) for a POLL; else Full (C3) where as many wait as there is room for. The command
     /// comes back, and nothing has changed.
+    #[inline(always)]
     pub fn submit(&mut self, command: Command) -> Result<(), (ControllerFault, Command)>
         ensures ok { OnOk result (submit_refusal command self.old ≡ None) }
         ensures accepted { OnOk result (self.new ≡ after_submit command self.old) }
@@ -123,10 +124,11 @@ impl Controller {
         if matches!(command, Command::Poll) {
             return Err((ControllerFault::PollSubmitted, command));
         }
-        match self.waiting.try_push_back(command) {
-            Ok(()) => Ok(()),
-            Err(command) => Err((ControllerFault::Full, command)),
+        if self.waiting.is_full() {
+            return Err((ControllerFault::Full, command));
         }
+        put_back(command, &mut self.waiting);
+        Ok(())
     }
 
     /// How many commands wait. The outstanding one isn't counted.
@@ -337,6 +339,15 @@ fn is_comset(command: &Command) -> bool
     ensures { result ≡ is_comset command.now }
 {
     matches!(command, Command::Comset(_))
+}
+
+/// Puts a command after those that wait, where there is room.
+#[inline(never)]
+fn put_back(command: Command, waiting: &mut HeapCircularBuffer<Command>)
+    requires { length waiting.old.items < waiting.old.capacity }
+    ensures { waiting.new ≡ buffer (waiting.old.items ++ command ∷ []) waiting.old.capacity }
+{
+    let _ = waiting.try_push_back(command);
 }
 
 /// The front of the waiting commands, which leaves them, where the session is open and nothing is outstanding.
