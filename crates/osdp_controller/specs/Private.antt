@@ -1,5 +1,5 @@
 -- What functions inside the crate say of themselves. No row of a table and no law speaks of these.
-use Rattle.std.specs.Prelude.{Bool, true, false, nat_le, if◌then◌else◌, List, drop, slice_get, Option, Some, None, is_none}
+use Rattle.std.specs.Prelude.{Bool, true, false, not, ◌&&◌, nat_le, nat_lt, if◌then◌else◌, List, drop, slice_get, Option, Some, None, is_none}
 use Rattle.std.specs.Option.{option_map_or}
 use Rattle.osdp_frame.specs.Packet.{Packet}
 use Rattle.osdp_msg.specs.declared.command.Command.{Command}
@@ -23,6 +23,11 @@ use Rattle.osdp_controller.specs.Ticking.{ticks_in}
 -- the moment that the state waits for is reached
 abbrev pub is_reached : Session → Bool
 is_reached s = option_map_or (λ moment. nat_le moment s.greatest) (moment_of s.state) false
+
+-- no answer came in time to the last of the sends
+abbrev pub is_over : State → Session → Bool
+is_over (Waiting until sends o) s = nat_le until s.greatest && not (nat_lt sends s.config.sends)
+is_over _ s = false
 
 -- the command that a tick in a state takes from the waiting ones, and those that stay
 abbrev pub next_in : State → List Command → Option Command

@@ -307,7 +307,9 @@ impl Session {
 fn tell_settled(command: &mut Command, report: &mut Option<Report>)
     ensures { report.new ≡ Some (Settled command.old Ack) }
 {
-    *report = Some(Report::Settled(mem::replace(command, Command::Poll), Reply::Ack));
+    let mut settled = Command::Poll;
+    mem::swap(&mut settled, command);
+    *report = Some(Report::Settled(settled, Reply::Ack));
 }
 
 /// Puts a reply in place of that of a command that is told as settled.
