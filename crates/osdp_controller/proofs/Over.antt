@@ -1,11 +1,11 @@
 -- The last of the sends.
-use Rattle.std.proofs.Common.{◌≡◌, ℕ, ◌<◌, Bool, true, false, ◌&&◌, not, List, [], ◌∷◌, ◌+◌, None, refl}
+use Rattle.std.proofs.Common.{◌≡◌, Bool, true, false, ◌&&◌, not, List, [], ◌∷◌, ◌+◌, None, refl}
 use Rattle.std.specs.Prelude.{nat_lt, nat_le, if◌then◌else◌}
 use Rattle.osdp_msg.specs.declared.command.Command.{Command}
 use Rattle.osdp_controller.specs.declared.session.Session.{Session}
 use Rattle.osdp_controller.specs.declared.state.State.{State}
 use Rattle.osdp_controller.specs.declared.state.State.TheVariants.{Closed, Quiet, Idle, Waiting, Pausing}
-use Rattle.osdp_controller.specs.Held.{is_held, outstanding_in}
+use Rattle.osdp_controller.specs.Held.{outstanding_in}
 use Rattle.osdp_controller.specs.Private.{is_over}
 use Rattle.osdp_controller.specs.Ticking.{Ticked, begins, gives_up, sends_frame, stays, ticks_in}
 use Rattle.osdp_controller.specs.declared.exchange.Exchange.TheVariants.{Opening, Polling}
@@ -24,19 +24,6 @@ over (Quiet until) s waiting h = cc
 over (Idle due) s waiting h = cc
 over (Waiting until sends o) s waiting h = second (nat_le until s.greatest) (nat_lt sends s.config.sends) _ _ _ h
 over (Pausing until o) s waiting h = cc
-
-pub over_held : (state : State) (s : Session) → is_over state s ≡ true → is_held state ≡ true
-over_held Closed s h = cc
-over_held (Quiet until) s h = cc
-over_held (Idle due) s h = cc
-over_held (Waiting until sends o) s h = refl
-over_held (Pausing until o) s h = cc
-
--- a wait that has come to its end, but not the last one
-pub left : (a b : Bool) → a ≡ true → (a && not b) ≡ false → b ≡ true
-left true true e h = refl
-left true false e h = cc
-left false b e h = cc
 
 not_second : {A : Type 0} (P : A → Type 0) (a b : Bool) (x y z : A) → (a && not b) ≡ false → P x → P z → P (if a then (if b then x else y) else z)
 not_second P true true x y z h p q = p
