@@ -9,8 +9,7 @@ use std::alloc::Global;
 
 /// What is due at a moment goes to the reader, and its answer, found in its bytes, to the controller. Whether nothing is outstanding then.
 pub fn exchange(controller: &mut Controller, reader: &mut Reader<Device>, now: u64) -> bool {
-    let step = controller.tick(now);
-    let Some(frame) = &step.frame else {
+    let Some(frame) = controller.tick(now).frame else {
         return false;
     };
     let response = reader.on_frame(&frame.view());

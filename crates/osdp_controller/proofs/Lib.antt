@@ -2,4 +2,5 @@ pub mod Acks
 pub mod Asking
 pub mod Choices
 pub mod Keeping
+pub mod Over
 pub mod Told

@@ -1,12 +1,15 @@
 -- What functions inside the crate say of themselves. No row of a table and no law speaks of these.
-use Rattle.std.specs.Prelude.{Bool, true, false, nat_le, if◌then◌else◌, List, drop, slice_get, Option, Some, None, is_none}
+use Rattle.std.specs.Prelude.{Bool, true, false, not, ◌&&◌, nat_le, nat_lt, if◌then◌else◌, List, drop, slice_get, Option, Some, None, is_none}
 use Rattle.std.specs.Option.{option_map_or}
 use Rattle.osdp_frame.specs.Packet.{Packet}
 use Rattle.osdp_msg.specs.declared.command.Command.{Command}
+use Rattle.osdp_msg.specs.declared.reply.Reply.TheVariants.{Ack}
 use Rattle.osdp_controller.specs.declared.answer.Answer.{Answer}
 use Rattle.osdp_controller.specs.declared.answer.Answer.TheVariants.{Plain, Unreadable}
 use Rattle.osdp_controller.specs.declared.exchange.Exchange.{Exchange}
-use Rattle.osdp_controller.specs.declared.exchange.Exchange.TheVariants.{Opening}
+use Rattle.osdp_controller.specs.declared.exchange.Exchange.TheVariants.{Opening, Polling, Asking}
+use Rattle.osdp_controller.specs.declared.report.Report.{Report}
+use Rattle.osdp_controller.specs.declared.report.Report.TheVariants.{Settled}
 use Rattle.osdp_controller.specs.declared.session.Session.{Session}
 use Rattle.osdp_controller.specs.declared.state.State.{State}
 use Rattle.osdp_controller.specs.declared.state.State.TheVariants.{Closed, Quiet, Idle, Waiting, Pausing}
@@ -20,6 +23,11 @@ use Rattle.osdp_controller.specs.Ticking.{ticks_in}
 -- the moment that the state waits for is reached
 abbrev pub is_reached : Session → Bool
 is_reached s = option_map_or (λ moment. nat_le moment s.greatest) (moment_of s.state) false
+
+-- no answer came in time to the last of the sends
+abbrev pub is_over : State → Session → Bool
+is_over (Waiting until sends o) s = nat_le until s.greatest && not (nat_lt sends s.config.sends)
+is_over _ s = false
 
 -- the command that a tick in a state takes from the waiting ones, and those that stay
 abbrev pub next_in : State → List Command → Option Command
@@ -39,6 +47,17 @@ abbrev pub is_no_answer_in : State → Answer → Bool
 is_no_answer_in (Waiting until sends o) answer = is_no_answer o.exchange answer
 is_no_answer_in (Pausing until o) answer = is_no_answer o.exchange answer
 is_no_answer_in _ answer = false
+
+-- an ACK answers the exchange
+abbrev pub takes_ack : Exchange → Bool
+takes_ack Opening = false
+takes_ack _ = true
+
+-- what an ACK to an exchange tells: that the command is settled that was submitted for it
+abbrev pub acknowledged : Exchange → Option Report
+acknowledged Opening = None
+acknowledged Polling = None
+acknowledged (Asking command) = Some (Settled command Ack)
 
 -- an answer with the number of the exchange, by the state; where none is outstanding it is ignored
 abbrev pub numbered_in : State → Answer → Session → Heard

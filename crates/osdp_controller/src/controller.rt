@@ -3,9 +3,9 @@
 ghost use Rattle.circular_buffer.specs.Buffer.{buffer};
 ghost use Rattle.osdp_controller.specs.Comsets.{is_comset};
 ghost use Rattle.osdp_controller.specs.Held.{is_held};
-ghost use Rattle.osdp_controller.specs.Private.{after_act, frame_if, next_in, rest_in};
+ghost use Rattle.osdp_controller.specs.Private.{after_act, frame_if, is_over, next_in, rest_in};
 ghost use Rattle.osdp_controller.specs.Ticking.{stays, ticks_in};
-ghost use Rattle.std.specs.Prelude.{◌≡◌, ◌↔◌, ◌*◌, ◌+◌, ◌≤◌, IfErr, None, Some, OnOk, is_some, length, true};
+ghost use Rattle.std.specs.Prelude.{◌≡◌, ◌↔◌, ◌*◌, ◌+◌, ◌≤◌, IfErr, None, Some, OnOk, is_some, length, true, false};
 
 use crate::config::{ControllerConfig, is_device};
 use crate::fault::ControllerFault;
@@ -208,6 +208,7 @@ impl Controller {
     /// What is due at a moment, put into what the caller lends: whether a packet is to be sent, whose bytes stand in `out` then. Where
     /// none is, `out` is as it was. What is to be told, or that nothing is, stands in `report` in place of what stood there.
     #[inline(always)]
+    #[tactic(auto, using(crate::proofs::Over::over, crate::proofs::Over::tells_nothing))]
     pub fn tick_into(&mut self, now: u64, out: &mut Burst, report: &mut Option<Report>) -> bool
         ensures sent { result ≡ is_some (ticks now self.old.session self.old.waiting).step.frame }
         ensures bytes { IsWritten (ticks now self.old.session self.old.waiting).step.frame out.old.items out.new.items }
@@ -219,7 +220,12 @@ impl Controller {
         if self.has_nothing_due() {
             return false;
         }
-        self.act_into(out, report)
+        if self.session.is_over() {
+            self.session.give_up(report);
+            false
+        } else {
+            self.act_into(out)
+        }
     }
 
     /// Whether nothing is due at the greatest moment seen.
@@ -232,47 +238,49 @@ impl Controller {
 
     /// Does what is due at the greatest moment seen, and puts it into a step that has nothing.
     #[inline(never)]
+    #[tactic(auto, using(crate::proofs::Over::over, crate::proofs::Over::tells_nothing))]
     fn step(&mut self, step: &mut Step)
         requires frame { step.old.frame ≡ None }
         requires report { step.old.report ≡ None }
         ensures step { step.new ≡ (ticks_in self.old.session.state self.old.session self.old.waiting).step }
         ensures machine { self.new ≡ after_act self.old }
     {
-        if self.act(&mut step.report) {
+        if self.session.is_over() {
+            self.session.give_up(&mut step.report);
+        } else if self.act() {
             self.session.put_frame(&mut step.frame);
         }
     }
 
-    /// Does what is due at the greatest moment seen. Whether the frame of the outstanding exchange goes out.
-    fn act(&mut self, report: &mut Option<Report>) -> bool
-        requires { report.old ≡ None }
+    /// Does what is due at the greatest moment seen, where the session goes on. Whether the frame of the outstanding exchange goes out.
+    fn act(&mut self) -> bool
+        requires { is_over self.old.session.state self.old.session ≡ false }
         ensures frame { (ticks_in self.old.session.state self.old.session self.old.waiting).step.frame ≡ frame_if result self.new.session }
-        ensures report { report.new ≡ (ticks_in self.old.session.state self.old.session self.old.waiting).step.report }
         ensures machine { self.new ≡ after_act self.old }
         ensures held { result ≡ true → is_held self.new.session.state ≡ true }
     {
         if self.waiting.is_empty() {
-            return self.session.tick(report);
+            return self.session.tick();
         }
         match next_command(&self.session.state, &mut self.waiting) {
             Some(command) => {
                 self.session.begin_command(command);
                 true
             }
-            None => self.session.tick(report),
+            None => self.session.tick(),
         }
     }
 
-    /// Does what is due at the greatest moment seen, and puts the packet that goes out into `out`. Whether one does.
+    /// Does what is due at the greatest moment seen, where the session goes on, and puts the packet that goes out into `out`. Whether one
+    /// does.
     #[inline(never)]
-    fn act_into(&mut self, out: &mut Burst, report: &mut Option<Report>) -> bool
-        requires { report.old ≡ None }
+    fn act_into(&mut self, out: &mut Burst) -> bool
+        requires { is_over self.old.session.state self.old.session ≡ false }
         ensures sent { result ≡ is_some (ticks_in self.old.session.state self.old.session self.old.waiting).step.frame }
         ensures bytes { IsWritten (ticks_in self.old.session.state self.old.session self.old.waiting).step.frame out.old.items out.new.items }
-        ensures report { report.new ≡ (ticks_in self.old.session.state self.old.session self.old.waiting).step.report }
         ensures machine { self.new ≡ after_act self.old }
     {
-        let sends = self.act(report);
+        let sends = self.act();
         if sends {
             self.session.spell(out);
         }

@@ -2,14 +2,16 @@
 
 ghost use Rattle.std.specs.Prelude.{◌≡◌, ◌<◌, [], ◌∷◌, true, false, Option, None, Some, is_none, is_some, IfSome, MatchResult};
 ghost use Rattle.osdp_controller.specs.declared.answer.Answer.TheVariants.{Plain, Unreadable};
-ghost use Rattle.osdp_controller.specs.declared.report.Report.TheVariants.{Moved};
+ghost use Rattle.osdp_controller.specs.declared.report.Report.TheVariants.{Moved, Settled};
+ghost use Rattle.osdp_msg.specs.declared.reply.Reply.TheVariants.{Ack};
+ghost use Rattle.osdp_msg.specs.declared.command.Command.{Command};
 ghost use Rattle.osdp_controller.specs.declared.state.Stage.TheVariants as stages;
 ghost use Rattle.osdp_controller.specs.Answers.{answer_of};
 ghost use Rattle.osdp_controller.specs.Exchanges.{submitted_command};
 ghost use Rattle.osdp_controller.specs.Hearing.{answered, answered_unread, com_of, comset_of, event_in, hears, hears_busy, hears_in, is_ack, is_from_reader, is_numbered, loses, moved_by, opening_answered, pausing_hears, pd_id_of, poll_told, rests, waiting_hears};
 ghost use Rattle.osdp_controller.specs.Held.{exchange_of, is_held, outstanding_in, sends_in, stage_of};
 ghost use Rattle.osdp_controller.specs.Machine.{IsSession};
-ghost use Rattle.osdp_controller.specs.Private.{is_no_answer, is_no_answer_in, numbered_in};
+ghost use Rattle.osdp_controller.specs.Private.{acknowledged, is_no_answer, is_no_answer_in, numbered_in};
 ghost use Rattle.osdp_controller.specs.Sessions.{at_rest, closed};
 
 use crate::answer::Answer;
@@ -64,14 +66,55 @@ impl Session {
 
     /// A COMSET is answered by its COM: the session ends, and the reader is at its new address.
     #[inline(never)]
-    fn move_to(&mut self, command: Command, answered: Communication, report: &mut Option<Report>)
-        requires { answered.address < 127 }
-        ensures report { report.new ≡ Some (Moved command answered) }
+    fn move_to(&mut self, answered: Communication, report: &mut Option<Report>)
+        requires held { is_held self.old.state ≡ true }
+        requires device { answered.address < 127 }
+        ensures report { (command : Command) → submitted_command (outstanding_in self.old.state).exchange ≡ Some command → report.new ≡ Some (Moved command answered) }
         ensures session { self.new ≡ closed (record self.old { config = record self.old.config { address = answered.address } }) }
     {
+        if let Some(command) = self.state.take_command() {
+            *report = Some(Report::Moved(command, answered));
+        }
         self.config.address = Address::new(answered.address).unwrap();
         self.state.close();
-        *report = Some(Report::Moved(command, answered));
+    }
+
+    /// The command that was submitted, where one is outstanding, is settled by an ACK.
+    #[inline(never)]
+    fn settle_acknowledged(&mut self, report: &mut Option<Report>)
+        requires held { is_held self.old.state ≡ true }
+        requires none { report.old ≡ None }
+        ensures report { report.new ≡ acknowledged (outstanding_in self.old.state).exchange }
+        ensures session { self.new ≡ at_rest self.old }
+    {
+        match (self.state.asked, &mut self.state.command) {
+            (Asked::Submitted, Some(command)) => tell_settled(command, report),
+            (Asked::Opening | Asked::Polling, _) | (Asked::Submitted, None) => {}
+        }
+        self.rest();
+    }
+
+    /// The command that was submitted is settled by a reply, which is taken out of its place.
+    fn settle_command(&mut self, reply: &mut Reply, report: &mut Option<Report>)
+        requires held { is_held self.old.state ≡ true }
+        requires none { report.old ≡ None }
+        ensures report { (command : Command) → submitted_command (outstanding_in self.old.state).exchange ≡ Some command → report.new ≡ Some (Settled command reply.old) }
+        ensures session { self.new ≡ at_rest self.old }
+    {
+        self.settle_acknowledged(report);
+        put_reply(reply, report);
+    }
+
+    /// The COM that moves the reader, where a COMSET is outstanding and the reply answers it so.
+    fn moved_by(&self, reply: &Reply) -> Option<Communication>
+        requires held { is_held self.now.state ≡ true }
+        ensures value { (command : Command) → submitted_command (outstanding_in self.now.state).exchange ≡ Some command → result ≡ moved_by (comset_of command) (com_of reply.now) }
+        ensures device { IfSome result (λ answered. answered.address < 127) }
+    {
+        match &self.state.command {
+            Some(command) => moved_by(command, reply),
+            None => None,
+        }
     }
 
     /// A command is answered.
@@ -80,17 +123,13 @@ impl Session {
     fn hear_answer(&mut self, reply: &mut Reply, report: &mut Option<Report>)
         requires held { is_held self.old.state ≡ true }
         requires asked { is_some (submitted_command (outstanding_in self.old.state).exchange) ≡ true }
+        requires none { report.old ≡ None }
         ensures report { report.new ≡ (answered (outstanding_in self.old.state).exchange reply.old self.old).report }
         ensures session { self.new ≡ (answered (outstanding_in self.old.state).exchange reply.old self.old).session }
     {
-        if let Some(command) = self.state.take_command() {
-            match moved_by(&command, reply) {
-                Some(answered) => self.move_to(command, answered, report),
-                None => {
-                    self.rest();
-                    *report = Some(Report::Settled(command, mem::replace(reply, Reply::Ack)));
-                }
-            }
+        match self.moved_by(reply) {
+            Some(answered) => self.move_to(answered, report),
+            None => self.settle_command(reply, report),
         }
     }
 
@@ -229,19 +268,22 @@ impl Session {
         ensures session { self.new ≡ (hears_in self.old.state frame.now.sequence (answer_of frame.now) self.old).session }
         ensures kept { IsSession self.new }
     {
-        if self.is_acknowledged_by(frame) {
+        if !self.is_acknowledged_by(frame) {
+            self.hear_reply(frame, report);
+        } else if self.state.is_polling() {
             self.rest();
         } else {
-            self.hear_reply(frame, report);
+            self.settle_acknowledged(report);
         }
     }
 
-    /// Whether a packet is the ACK that a POLL waits for.
+    /// Whether a packet is the ACK that a POLL or a command that was submitted waits for.
     #[tactic(auto, using(crate::proofs::Acks::acked))]
     fn is_acknowledged_by(&self, frame: &FrameView<'_>) -> bool
-        ensures { result ≡ true → hears_in self.now.state frame.now.sequence (answer_of frame.now) self.now ≡ rests None self.now }
+        ensures held { result ≡ true → is_held self.now.state ≡ true }
+        ensures heard { result ≡ true → hears_in self.now.state frame.now.sequence (answer_of frame.now) self.now ≡ rests (acknowledged (outstanding_in self.now.state).exchange) self.now }
     {
-        frame.seq() == self.number && self.state.is_polling() && is_ack_alone(frame.body())
+        frame.seq() == self.number && self.state.is_asking() && is_ack_alone(frame.body())
     }
 
     /// A reply comes from the own address, at the greatest moment seen, and is read.
@@ -257,6 +299,26 @@ impl Session {
         if self.is_numbered(frame.seq(), &answer) && !self.is_no_answer(&answer) {
             self.hear_numbered(&mut answer, report);
         }
+    }
+}
+
+/// Tells that a command is settled by an ACK. What is left in its place is of no use.
+#[inline(never)]
+fn tell_settled(command: &mut Command, report: &mut Option<Report>)
+    ensures { report.new ≡ Some (Settled command.old Ack) }
+{
+    let mut settled = Command::Poll;
+    mem::swap(&mut settled, command);
+    *report = Some(Report::Settled(settled, Reply::Ack));
+}
+
+/// Puts a reply in place of that of a command that is told as settled.
+#[inline(never)]
+fn put_reply(reply: &mut Reply, report: &mut Option<Report>)
+    ensures { (command : Command) → report.old ≡ Some (Settled command Ack) → report.new ≡ Some (Settled command reply.old) }
+{
+    if let Some(Report::Settled(_, place)) = report {
+        mem::swap(place, reply);
     }
 }
 

@@ -3,15 +3,17 @@
 ghost use Rattle.std.specs.Prelude.{◌≡◌, ◌+◌, ◌<◌, ◌≤◌, ◌^◌, Some, length, false, true};
 ghost use Rattle.osdp_frame.specs.Packed.{packed};
 ghost use Rattle.osdp_frame.specs.Spelling.{Spells};
+ghost use Rattle.osdp_controller.specs.declared.exchange.Exchange.TheVariants.{Asking};
 ghost use Rattle.osdp_controller.specs.Held.{is_held, outstanding_in};
 ghost use Rattle.osdp_controller.specs.Private.{frame_in};
-ghost use Rattle.osdp_controller.specs.Sessions.{after_send, at_rest, later, new_session, seen};
+ghost use Rattle.osdp_controller.specs.Sessions.{after_send, at_rest, frame_of, later, new_session, seen};
 
 use crate::config::ControllerConfig;
 use crate::exchange::Asked;
 use crate::state::Held;
 use crate::ticking::first_number;
 use osdp_frame::{Burst, Frame, FrameView, Seq};
+use osdp_msg::Command;
 
 /// A session with one reader.
 #[derive(Debug, Drop)]
@@ -74,7 +76,8 @@ impl Session {
     }
 
     /// Puts the frame of the outstanding exchange into a place of the caller's.
-    // Each function that holds a frame or a body stands by itself, so that the stack has no more than one of them at a time.
+    // Each function that holds a frame or a body stands by itself, so that the stack has no more than one of them at a time, and nothing is
+    // written on the way of a POLL for a command that there might be.
     #[inline(never)]
     pub(crate) fn put_frame(&self, frame: &mut Option<Frame>)
         requires { is_held self.now.state ≡ true }
@@ -82,11 +85,17 @@ impl Session {
     {
         match (self.state.asked, &self.state.command) {
             (Asked::Opening, _) => self.put_body(&OPENING, frame),
-            (Asked::Submitted, Some(command)) => {
-                self.put_body(command.write().as_slice(), frame);
-            }
+            (Asked::Submitted, Some(command)) => self.put_command(command, frame),
             (Asked::Polling, _) | (Asked::Submitted, None) => self.put_body(&POLL, frame),
         }
+    }
+
+    /// Puts the frame of a command into a place of the caller's.
+    #[inline(never)]
+    fn put_command(&self, command: &Command, frame: &mut Option<Frame>)
+        ensures { frame.new ≡ Some (frame_of (Asking command.now) self.now) }
+    {
+        self.put_body(command.write().as_slice(), frame);
     }
 
     /// Puts the frame with this code and data into a place of the caller's.
@@ -106,11 +115,27 @@ impl Session {
     {
         match (self.state.asked, &self.state.command) {
             (Asked::Opening, _) => self.frame_of(&OPENING).encode_to(out),
-            (Asked::Submitted, Some(command)) => {
-                self.frame_of(command.write().as_slice()).encode_to(out);
-            }
+            (Asked::Submitted, Some(command)) => self.spell_command(command, out),
             (Asked::Polling, _) | (Asked::Submitted, None) => self.frame_of(&POLL).encode_to(out),
         }
+    }
+
+    /// Puts the bytes of a command's frame in place of what stands in `out`.
+    #[inline(never)]
+    fn spell_command(&self, command: &Command, out: &mut Burst)
+        ensures { Spells (frame_of (Asking command.now) self.now) out.new.items }
+    {
+        self.spell_body(command.write().as_slice(), out);
+    }
+
+    /// Puts the bytes of the frame with this code and data in place of what stands in `out`.
+    #[inline(never)]
+    fn spell_body(&self, body: &[u8], out: &mut Burst)
+        requires some { 1 ≤ length body.now }
+        requires room { length body.now ≤ 1433 }
+        ensures { Spells (packed false self.now.config.address self.now.number self.now.config.check false 0 body.now) out.new.items }
+    {
+        self.frame_of(body).encode_to(out);
     }
 
     /// The outstanding exchange is asked once more, as this send.

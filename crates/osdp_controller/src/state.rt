@@ -7,6 +7,7 @@ ghost use Rattle.osdp_controller.specs.declared.state.Stage.TheVariants as stage
 ghost use Rattle.osdp_controller.specs.declared.state.State.TheVariants.{Closed, Idle, Pausing, Quiet, Waiting};
 ghost use Rattle.osdp_controller.specs.Exchanges.{submitted_command};
 ghost use Rattle.osdp_controller.specs.Held.{exchange_of, is_held, outstanding_in, sends_in, stage_of};
+ghost use Rattle.osdp_controller.specs.Private.{takes_ack};
 ghost use Rattle.osdp_controller.specs.States.{is_closed, is_idle, moment_of};
 
 use crate::exchange::{Asked, Outstanding};
@@ -132,6 +133,17 @@ impl Held {
             (Stage::Waiting | Stage::Pausing, Asked::Polling) => true,
             (Stage::Closed | Stage::Quiet | Stage::Idle, _)
             | (Stage::Waiting | Stage::Pausing, Asked::Opening | Asked::Submitted) => false,
+        }
+    }
+
+    /// Whether a POLL or a command that was submitted is outstanding.
+    pub(crate) fn is_asking(&self) -> bool
+        ensures { result ≡ true → (is_held self.now ≡ true) × (takes_ack (outstanding_in self.now).exchange ≡ true) }
+    {
+        match (self.stage, self.asked) {
+            (Stage::Waiting | Stage::Pausing, Asked::Polling | Asked::Submitted) => true,
+            (Stage::Closed | Stage::Quiet | Stage::Idle, _)
+            | (Stage::Waiting | Stage::Pausing, Asked::Opening) => false,
         }
     }
 

@@ -1,16 +1,18 @@
 //! The table of ticks.
 
-ghost use Rattle.std.specs.Prelude.{◌≡◌, ◌≢◌, [], ◌+◌, ◌<◌, ◌^◌, None, true};
+ghost use Rattle.std.specs.Prelude.{◌≡◌, ◌≢◌, [], ◌+◌, ◌<◌, ◌^◌, Some, nat_lt, true, false};
 ghost use Rattle.osdp_frame.specs.Packet.{next_sequence};
 ghost use Rattle.osdp_controller.specs.declared.exchange.Asked.TheVariants.{Submitted};
 ghost use Rattle.osdp_controller.specs.declared.exchange.Exchange.TheVariants.{Asking};
+ghost use Rattle.osdp_controller.specs.declared.report.LostCause.TheVariants.{NoReply};
 ghost use Rattle.osdp_controller.specs.declared.state.Stage.TheVariants as stages;
 ghost use Rattle.osdp_controller.specs.Held.{exchange_of, is_held, outstanding_in, sends_in, stage_of};
 ghost use Rattle.osdp_controller.specs.Machine.{IsSession, IsSubmitted};
+ghost use Rattle.osdp_controller.specs.Sessions.{after_send, closed, lost};
 ghost use Rattle.osdp_controller.specs.Settings.{IsConfig};
-ghost use Rattle.osdp_controller.specs.Private.{frame_if, is_reached};
+ghost use Rattle.osdp_controller.specs.Private.{frame_if, is_over, is_reached};
 ghost use Rattle.osdp_controller.specs.States.{moment_of};
-ghost use Rattle.osdp_controller.specs.Ticking.{begins, sends_frame, ticks_in, tries_again};
+ghost use Rattle.osdp_controller.specs.Ticking.{begins, ticks_in};
 
 use crate::exchange::Asked;
 use crate::report::{LostCause, Report};
@@ -49,24 +51,36 @@ impl Session {
         self.state.begin_command(command, until);
     }
 
-    /// No answer came in time: the same frame again, or the end of the session. Whether the frame goes out.
-    fn try_again(&mut self, report: &mut Option<Report>) -> bool
+    /// No answer came in time: the same frame goes out again.
+    fn try_again(&mut self)
         requires waiting { stage_of self.old.state ≡ stages.Waiting }
         requires few { (outstanding_in self.old.state).sent + 1 < 2 ^ 32 }
-        requires none { report.old ≡ None }
-        ensures frame { (tries_again (sends_in self.old.state) (outstanding_in self.old.state) self.old []).step.frame ≡ frame_if result self.new }
-        ensures report { report.new ≡ (tries_again (sends_in self.old.state) (outstanding_in self.old.state) self.old []).step.report }
-        ensures session { self.new ≡ (tries_again (sends_in self.old.state) (outstanding_in self.old.state) self.old []).session }
-        ensures held { result ≡ true → is_held self.new.state ≡ true }
+        requires left { nat_lt (sends_in self.old.state) self.old.config.sends ≡ true }
+        ensures { self.new ≡ after_send (sends_in self.old.state + 1) (outstanding_in self.old.state) self.old }
     {
-        let sends = self.state.sends;
-        if sends < self.config.sends {
-            self.send(sends + 1);
-            return true;
+        self.send(self.state.sends + 1);
+    }
+
+    /// Whether no answer came in time to the last of the sends.
+    pub(crate) fn is_over(&self) -> bool
+        ensures { result ≡ is_over self.now.state self.now }
+    {
+        match self.state.stage {
+            Stage::Closed | Stage::Quiet | Stage::Idle | Stage::Pausing => false,
+            Stage::Waiting => self.state.moment <= self.greatest
+                && !(self.state.sends < self.config.sends),
         }
+    }
+
+    /// The session ends without an answer to the last of the sends.
+    #[inline(never)]
+    pub(crate) fn give_up(&mut self, report: &mut Option<Report>)
+        requires { is_over self.old.state self.old ≡ true }
+        ensures report { report.new ≡ Some (lost NoReply (outstanding_in self.old.state)) }
+        ensures session { self.new ≡ closed self.old }
+    {
         *report = Some(Report::Lost(LostCause::NoReply, self.state.take_command()));
         self.state.close();
-        false
     }
 
     /// The moment that the state waits for.
@@ -87,11 +101,10 @@ impl Session {
     }
 
     /// A tick where no command waits, at the greatest moment seen. Whether the frame of the outstanding exchange goes out.
-    pub(crate) fn tick(&mut self, report: &mut Option<Report>) -> bool
+    pub(crate) fn tick(&mut self) -> bool
         requires session { IsSession self.old }
-        requires none { report.old ≡ None }
+        requires going { is_over self.old.state self.old ≡ false }
         ensures frame { (ticks_in self.old.state self.old []).step.frame ≡ frame_if result self.new }
-        ensures report { report.new ≡ (ticks_in self.old.state self.old []).step.report }
         ensures session { self.new ≡ (ticks_in self.old.state self.old []).session }
         ensures held { result ≡ true → is_held self.new.state ≡ true }
         ensures kept { IsSession self.new }
@@ -103,7 +116,7 @@ impl Session {
             Stage::Closed => return false,
             Stage::Quiet => self.begin(Asked::Opening, first_number()),
             Stage::Idle => self.begin(Asked::Polling, self.next_number()),
-            Stage::Waiting => return self.try_again(report),
+            Stage::Waiting => self.try_again(),
             Stage::Pausing => self.send(1),
         }
         true

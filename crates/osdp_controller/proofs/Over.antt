@@ -1,0 +1,45 @@
+-- The last of the sends.
+use Rattle.std.proofs.Common.{◌≡◌, Bool, true, false, ◌&&◌, not, List, [], ◌∷◌, ◌+◌, None, refl}
+use Rattle.std.specs.Prelude.{nat_lt, nat_le, if◌then◌else◌}
+use Rattle.osdp_msg.specs.declared.command.Command.{Command}
+use Rattle.osdp_controller.specs.declared.session.Session.{Session}
+use Rattle.osdp_controller.specs.declared.state.State.{State}
+use Rattle.osdp_controller.specs.declared.state.State.TheVariants.{Closed, Quiet, Idle, Waiting, Pausing}
+use Rattle.osdp_controller.specs.Held.{outstanding_in}
+use Rattle.osdp_controller.specs.Private.{is_over}
+use Rattle.osdp_controller.specs.Ticking.{Ticked, begins, gives_up, sends_frame, stays, ticks_in}
+use Rattle.osdp_controller.specs.declared.exchange.Exchange.TheVariants.{Opening, Polling}
+use Rattle.osdp_frame.specs.Packet.{next_sequence}
+use Rattle.osdp_controller.proofs.Choices.{either_way}
+
+second : {A : Type 0} (a b : Bool) (x y z : A) → (a && not b) ≡ true → (if a then (if b then x else y) else z) ≡ y
+second true true x y z h = cc
+second true false x y z h = refl
+second false b x y z h = cc
+
+-- a session that is over gives up
+pub over : (state : State) (s : Session) (waiting : List Command) → is_over state s ≡ true → ticks_in state s waiting ≡ gives_up (outstanding_in state) s waiting
+over Closed s waiting h = cc
+over (Quiet until) s waiting h = cc
+over (Idle due) s waiting h = cc
+over (Waiting until sends o) s waiting h = second (nat_le until s.greatest) (nat_lt sends s.config.sends) _ _ _ h
+over (Pausing until o) s waiting h = cc
+
+not_second : {A : Type 0} (P : A → Type 0) (a b : Bool) (x y z : A) → (a && not b) ≡ false → P x → P z → P (if a then (if b then x else y) else z)
+not_second P true true x y z h p q = p
+not_second P true false x y z h p q = cc
+not_second P false b x y z h p q = q
+
+-- one that isn't over tells nothing by itself
+pub tells_nothing : (state : State) (s : Session) (waiting : List Command) → is_over state s ≡ false → (ticks_in state s waiting).step.report ≡ None
+tells_nothing Closed s waiting h = refl
+tells_nothing (Quiet until) s waiting h =
+    either_way (λ (t : Ticked). t.step.report ≡ None) (nat_le until s.greatest) (begins Opening 0 s waiting) (stays s waiting) (λ e. refl) (λ e. refl)
+tells_nothing (Idle due) s (command ∷ rest) h = refl
+tells_nothing (Idle due) s [] h =
+    either_way (λ (t : Ticked). t.step.report ≡ None) (nat_le due s.greatest) (begins Polling (next_sequence s.number) s []) (stays s []) (λ e. refl) (λ e. refl)
+tells_nothing (Waiting until sends o) s waiting h =
+    not_second (λ (t : Ticked). t.step.report ≡ None) (nat_le until s.greatest) (nat_lt sends s.config.sends)
+    (sends_frame (sends + 1) o s waiting) (gives_up o s waiting) (stays s waiting) h refl refl
+tells_nothing (Pausing until o) s waiting h =
+    either_way (λ (t : Ticked). t.step.report ≡ None) (nat_le until s.greatest) (sends_frame 1 o s waiting) (stays s waiting) (λ e. refl) (λ e. refl)
