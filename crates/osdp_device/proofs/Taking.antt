@@ -8,9 +8,8 @@ use Rattle.osdp_frame_laws.proofs.Readings.{items_undecided}
 use Rattle.osdp_msg.specs.declared.command.Command.{Command}
 use Rattle.osdp_reader.specs.declared.handler.Answer.{Answer}
 use Rattle.osdp_reader.specs.State.{ReaderState}
-use Rattle.std.specs.Option.{option_map}
-use Rattle.osdp_reader.specs.declared.response.Response.{Response}
-use Rattle.osdp_device.specs.Saying.{Said, after_item, said_in, said_of}
+use Rattle.osdp_device.proofs.Sayings.{none_said, stays}
+use Rattle.osdp_device.specs.Saying.{Said, after_item, is_answered, said_of}
 use Rattle.osdp_device.specs.Telling.{Told, next_told, told_by, told_or}
 
 module _ {H : Type 0} (answer_of : H → Command → Answer) (after : H → Command → H) where
@@ -57,10 +56,11 @@ module _ {H : Type 0} (answer_of : H → Command → Answer) (after : H → Comm
   told_after r heard held next part said is advanced told hears none =
       sym (told_of_first r heard held next part said is advanced told hears ∙ told_later said heard next (next_told answer_of after heard next) none)
 
--- what is answered is said
-pub some_said : (response : Option Response) → is_some response ≡ true → is_some (option_map said_in response) ≡ true
-some_said (Some response) some = refl
-some_said None some = some
+  -- an item that isn't answered is passed over
+  pub told_passed : (r : ReaderState H) (held next : Held) (part : Part) → decided held.ended held.bytes ≡ Some part → next ≡ after_advance held
+      → is_answered r part ≡ false → next_told answer_of after r next ≡ next_told answer_of after r held
+  told_passed r held next part is advanced silent =
+      told_after r r held next part None is advanced (none_said answer_of after part r silent) (stays answer_of after part r silent) refl
 
 -- what a call tells, whether its first item tells something, tells nothing or is not there
-pub ruleset taking = (told_here, told_after, told_nothing)
+pub ruleset taking = (told_here, told_passed, told_nothing)

@@ -1,5 +1,5 @@
 -- What a device says to what comes on its line.
-use Rattle.std.specs.Prelude.{ℕ, List, [], Option, Some, None}
+use Rattle.std.specs.Prelude.{ℕ, Bool, true, false, List, [], Option, Some, None}
 use Rattle.osdp_frame.specs.Packet.{Packet}
 use Rattle.osdp_frame.specs.Reading.{Part, Whole, Passed, Bad}
 use Rattle.osdp_frame.specs.Spelling.{spelling}
@@ -36,6 +36,11 @@ abbrev pub unless_silent : Kind → Said → Option Said
 unless_silent Silent said = None
 unless_silent _ said = Some said
 
+-- whether it says something
+abbrev pub speaks : Kind → Bool
+speaks Silent = false
+speaks _ = true
+
 -- every command but POLL, which asks for events alone
 abbrev pub but_poll : Option Command → Option Command
 but_poll (Some Poll) = None
@@ -56,6 +61,18 @@ taken_in response = taken_by (response_kind response) (response_command response
 
 abbrev pub again_in : Response → Option Command
 again_in response = again_by (response_kind response) (response_command response)
+
+module _ {H : Type 0} where
+  -- whether something is said to an item: to a packet that isn't for another device, or from one
+  abbrev pub is_answered : ReaderState H → Part → Bool
+  is_answered r (Whole p) = speaks (kind_of r p)
+  is_answered r (Passed byte) = false
+  is_answered r (Bad fault) = false
+
+  -- whether there is an item, and something is said to it
+  abbrev pub answers_first : ReaderState H → Option Part → Bool
+  answers_first r None = false
+  answers_first r (Some part) = is_answered r part
 
 module _ {H : Type 0} (answer_of : H → Command → Answer) (after : H → Command → H) where
   -- what is said to a packet

@@ -1,14 +1,16 @@
 //! A reader on a serial line.
 
-ghost use Rattle.std.specs.Prelude.{◌≡◌, ◌↔◌, IfSome, IsSome};
+ghost use Rattle.std.specs.Prelude.{◌≡◌, ◌↔◌, true, false, IfSome, IsSome, None, Some};
 ghost use Rattle.std.specs.Option.{option_copied, option_map};
+ghost use Rattle.osdp_frame.specs.Held.{decided};
+ghost use Rattle.osdp_frame.specs.Reading.{Whole};
 ghost use Rattle.osdp_frame.specs.Shown.{part_of};
 ghost use Rattle.osdp_device.specs.Receiving.{IsGap, IsReceived, after_silence, after_take, after_tick, count_taken, new_line};
-ghost use Rattle.osdp_device.specs.Saying.{after_item, again_in, but_poll, said_in, said_of, taken_in};
+ghost use Rattle.osdp_device.specs.Saying.{after_item, again_in, answers_first, but_poll, is_answered, said_in, said_of, taken_in};
 ghost use Rattle.osdp_device.specs.Telling.{next_told};
 
 use crate::receiver::Receiver;
-use osdp_frame::Item;
+use osdp_frame::{FrameView, Item};
 use osdp_msg::Command;
 use osdp_reader::{Handler, Kind, Reader, Response};
 
@@ -80,33 +82,54 @@ impl<H: Handler> Device<H> {
         ensures reader { self.new.reader ≡ (next_told H.answer_of H.after self.old.reader self.old.line.held).reader }
         ensures line { self.new.line ≡ record self.old.line { held = (next_told H.answer_of H.after self.old.reader self.old.line.held).held } }
     {
-        'items: while let Some(item) = self.line.next() {
-            let response = hear_item(&mut self.reader, &item);
-            self.line.advance();
-            if response.is_some() {
-                return response;
-            }
+        if !self.pass_over() {
+            return None;
         }
-        None
+        let Some(Item::Packet(packet)) = self.line.next() else {
+            unreachable!();
+        };
+        let response = answer(&mut self.reader, &packet);
+        self.line.advance();
+        Some(response)
+    }
+
+    /// Takes off what the reader doesn't answer, and tells whether a packet that it answers stands first then.
+    #[tactic(auto, using(crate::proofs::Taking::taking))]
+    fn pass_over(&mut self) -> bool
+        ensures told { next_told H.answer_of H.after self.new.reader self.new.line.held ≡ next_told H.answer_of H.after self.old.reader self.old.line.held }
+        ensures reader { self.new.reader ≡ self.old.reader }
+        ensures line { self.new.line ≡ record self.old.line { held = self.new.line.held } }
+        ensures first { result ≡ answers_first self.new.reader (decided self.new.line.held.ended self.new.line.held.bytes) }
+        ensures none { result ≡ false → decided self.new.line.held.ended self.new.line.held.bytes ≡ None }
+    {
+        'items: while let Some(item) = self.line.next() {
+            if is_answered(&self.reader, &item) {
+                return true;
+            }
+            self.line.advance();
+        }
+        false
     }
 }
 
-/// A packet is handed to the reader; another item is passed over.
-#[tactic(auto, using(crate::proofs::Sayings::said_here))]
-fn hear_item<H: Handler>(reader: &mut Reader<H>, item: &Item<'_>) -> Option<Response>
-    ensures said { option_map said_in result ≡ said_of H.answer_of H.after (part_of item.now) reader.old }
-    ensures reader { reader.new ≡ after_item H.answer_of H.after (part_of item.now) reader.old }
+/// Whether a reader answers an item.
+fn is_answered<H: Handler>(reader: &Reader<H>, item: &Item<'_>) -> bool
+    ensures { result ≡ is_answered reader.now (part_of item.now) }
 {
     match item {
-        Item::Packet(frame) => {
-            let response = reader.on_frame(frame);
-            if response.kind() == Kind::Silent {
-                return None;
-            }
-            Some(response)
-        }
-        Item::Skipped(_) | Item::Refused(_) => None,
+        Item::Packet(packet) => reader.kind(packet) != Kind::Silent,
+        Item::Skipped(_) | Item::Refused(_) => false,
     }
+}
+
+/// What a reader says to a packet that it answers.
+#[tactic(auto, using(crate::proofs::Sayings::said_here))]
+fn answer<H: Handler>(reader: &mut Reader<H>, packet: &FrameView) -> Response
+    requires { is_answered reader.old (Whole packet.now) ≡ true }
+    ensures said { Some (said_in result) ≡ said_of H.answer_of H.after (Whole packet.now) reader.old }
+    ensures reader { reader.new ≡ after_item H.answer_of H.after (Whole packet.now) reader.old }
+{
+    reader.on_frame(packet)
 }
 
 /// A command that is read, but POLL.

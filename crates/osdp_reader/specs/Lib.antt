@@ -4,4 +4,3 @@ pub mod Replies
 pub mod State
 pub mod Table
 pub mod Responses
-pub mod Hearing

@@ -1,12 +1,10 @@
 //! What comes of a packet, in a place that is used for packet after packet.
 
 ghost use Rattle.std.specs.Prelude.{◌≡◌, [], None};
-ghost use Rattle.osdp_reader.specs.Hearing.{bytes_at, command_at};
-ghost use Rattle.osdp_reader.specs.Responses.{accepted_comset, response_bytes, response_command, response_kind};
+ghost use Rattle.osdp_reader.specs.Responses.{accepted_comset};
 ghost use Rattle.osdp_reader.specs.declared.kind.Kind.TheVariants.{Silent};
 
 use crate::kind::Kind;
-use crate::response::Response;
 use osdp_frame::Burst;
 use osdp_msg::{Command, Communication};
 
@@ -51,23 +49,6 @@ impl Heard {
         match &self.command {
             Some(Command::Comset(setting)) if setting.address <= 126 => Some(*setting),
             Some(_) | None => None,
-        }
-    }
-
-    /// The same as a response: without the command at the lines that act on none.
-    pub(crate) fn into_response(self) -> Response
-        ensures kind { response_kind result ≡ self.kind }
-        ensures command { response_command result ≡ command_at self.kind self.command }
-        ensures bytes { response_bytes result ≡ bytes_at self.kind self.burst.items }
-    {
-        match self.kind {
-            Kind::Silent => Response::Silent,
-            Kind::Secured => Response::Secured(self.burst),
-            Kind::Zero => Response::Zero(self.command, self.burst),
-            Kind::Repeat => Response::Repeat(self.burst),
-            Kind::Taken => Response::Taken(self.command, self.burst),
-            Kind::Busy => Response::Busy(self.burst),
-            Kind::Wrong => Response::Wrong(self.burst),
         }
     }
 }

@@ -135,6 +135,21 @@ impl<H: Handler> Reader<H> {
         replace(&mut self.handler, handler)
     }
 
+    /// The first line of the table that a packet meets, were it taken now. Nothing changes.
+    pub fn kind(&self, packet: &FrameView) -> Kind
+        ensures { result ≡ kind_of self.now packet.now }
+    {
+        if self.is_for_another(packet) {
+            Kind::Silent
+        } else if packet.has_block() {
+            Kind::Secured
+        } else if packet.seq().get() == 0 {
+            if self.busy { Kind::Busy } else { Kind::Zero }
+        } else {
+            kind_by_number(self.last, packet.seq(), self.busy)
+        }
+    }
+
     /// Takes a packet of the line. What comes of it is the reader's table.
     pub fn on_frame(&mut self, packet: &FrameView) -> Response
         ensures kind { response_kind result ≡ kind_of self.old packet.now }
@@ -143,9 +158,18 @@ impl<H: Handler> Reader<H> {
         ensures reader { self.new ≡ (hears H.answer_of H.after self.old packet.now).reader }
         ensures fits { IfSome (hears H.answer_of H.after self.old packet.now).said ReplyFits }
     {
-        let mut heard = Heard::new();
-        self.hear(packet, &mut heard);
-        heard.into_response()
+        let mut response = Response::Repeat(Burst::new());
+        match self.kind(packet) {
+            Kind::Repeat => {}
+            Kind::Silent => response = Response::Silent,
+            Kind::Secured => response = Response::Secured(Burst::new()),
+            Kind::Zero => response = Response::Zero(Some(Command::Poll), Burst::new()),
+            Kind::Taken => response = Response::Taken(Some(Command::Poll), Burst::new()),
+            Kind::Busy => response = Response::Busy(Burst::new()),
+            Kind::Wrong => response = Response::Wrong(Burst::new()),
+        }
+        self.respond(packet, &mut response);
+        response
     }
 
     /// Takes a packet of the line, as `on_frame` does, and puts what comes of it in place of what stands in `heard`. A caller
@@ -187,6 +211,32 @@ impl<H: Handler> Reader<H> {
         }
     }
 
+    /// Fills a response that was begun for the line of the table that a packet meets. It is filled where it stands, so neither its command
+    /// nor its bytes are moved.
+    #[inline(never)]
+    fn respond(&mut self, packet: &FrameView, response: &mut Response)
+        requires { response_kind response.old ≡ kind_of self.old packet.now }
+        ensures kind { response_kind response.new ≡ kind_of self.old packet.now }
+        ensures command { response_command response.new ≡ (hears H.answer_of H.after self.old packet.now).command }
+        ensures reply { IsSpelled (hears H.answer_of H.after self.old packet.now).reply (response_bytes response.new) }
+        ensures reader { self.new ≡ (hears H.answer_of H.after self.old packet.now).reader }
+        ensures fits { IfSome (hears H.answer_of H.after self.old packet.now).said ReplyFits }
+    {
+        match response {
+            Response::Silent => {}
+            Response::Secured(out) => {
+                spell_nak(packet, packet.seq(), NakReason::SecurityBlock, out);
+            }
+            Response::Zero(command, out) => self.begin(packet, command, out),
+            Response::Repeat(out) => self.stored.put(out),
+            Response::Taken(command, out) => self.take(packet, command, out),
+            Response::Busy(out) => spell_busy(packet, zero(), out),
+            Response::Wrong(out) => {
+                spell_nak(packet, packet.seq(), NakReason::UnexpectedSequence, out);
+            }
+        }
+    }
+
     /// Whether a packet is for another device, or from one.
     fn is_for_another(&self, packet: &FrameView) -> bool
         ensures { result ≡ is_for_another self.now packet.now }
@@ -194,21 +244,6 @@ impl<H: Handler> Reader<H> {
         let address = packet.address().get();
         packet.is_reply()
             || !(address == self.config.address.get() || address == Address::CONFIGURATION)
-    }
-
-    /// The first line of the table that the packet meets.
-    fn kind(&self, packet: &FrameView) -> Kind
-        ensures { result ≡ kind_of self.now packet.now }
-    {
-        if self.is_for_another(packet) {
-            Kind::Silent
-        } else if packet.has_block() {
-            Kind::Secured
-        } else if packet.seq().get() == 0 {
-            if self.busy { Kind::Busy } else { Kind::Zero }
-        } else {
-            kind_by_number(self.last, packet.seq(), self.busy)
-        }
     }
 
     /// Acts on a packet with number 0.

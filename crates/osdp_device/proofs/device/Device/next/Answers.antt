@@ -1,30 +1,37 @@
-use Rattle.std.proofs.Common.{refl, sym, ap, ◌∙◌}
-use Rattle.std.specs.Option.{option_map}
-use Rattle.osdp_frame_laws.proofs.OneByOne.{fewer_held}
-use Rattle.osdp_frame.specs.Held.{Held, after_advance}
+use Rattle.std.proofs.Common.{◌≡◌, refl, sym, ap, Some, ◌∙◌}
+use Rattle.osdp_frame.specs.Held.{Held, after_advance, decided}
+use Rattle.osdp_frame.specs.Reading.{Whole}
 use Rattle.osdp_frame.specs.Shown.{part_of}
 use Rattle.osdp_device.specs.Saying.{said_in}
 use Rattle.osdp_device.specs.Receiving.{Received}
-use Rattle.osdp_device.proofs.Taking.{some_said, told_here}
+use Rattle.osdp_device.proofs.Taking.{told_here}
 use Rattle.osdp_device.proofs.device.Device.next.Goals as goal
 
-pub items-smaller : goal.items-smaller
-items-smaller g c = fewer_held c.items.self.line.held c.advance.new.self.held _ (sym c.in-Some.ensures) (ap (λ l. l.held) c.advance.ensures)
+pub returns-clause-said : goal.returns-clause-said
+returns-clause-said g c =
+    let here : decided c.pass_over.new.self.line.held.ended c.pass_over.new.self.line.held.bytes ≡ Some (Whole c.in-Some-Packet.packet) =
+    sym c.in-Some-Packet.ensures ∙ ap (λ i. Some (part_of i)) c.in-Some-Packet.field-0-is in
+    let told = told_here g.H.Handler.answer_of g.H.Handler.after c.pass_over.new.self.reader c.answer-response.new.reader c.pass_over.new.self.line.held
+    c.advance.new.self.held (Whole c.in-Some-Packet.packet) (Some (said_in c.answer-response.result)) here
+    (ap (λ l. l.held) c.advance.ensures) c.answer-response.ensures.said c.answer-response.ensures.reader refl in
+    sym (ap (λ t. t.said) told) ∙ ap (λ t. t.said) c.pass_over.ensures.told
 
-pub returns-then-is_some-clause-reader : goal.returns-then-is_some-clause-reader
-returns-then-is_some-clause-reader g c =
-    let told = told_here g.H.Handler.answer_of g.H.Handler.after c.items.self.reader c.hear_item-response.new.reader c.items.self.line.held
-    c.advance.new.self.held (part_of c.in-Some.item) (option_map said_in c.hear_item-response.result) (sym c.in-Some.ensures)
-    (ap (λ l. l.held) c.advance.ensures) c.hear_item-response.ensures.said c.hear_item-response.ensures.reader
-    (some_said c.hear_item-response.result (sym c.is_some.ensures ∙ c.if-is_some.true)) in
-    sym (ap (λ t. t.reader) told) ∙ ap (λ t. t.reader) c.items.invariant.told
+pub returns-clause-reader : goal.returns-clause-reader
+returns-clause-reader g c =
+    let here : decided c.pass_over.new.self.line.held.ended c.pass_over.new.self.line.held.bytes ≡ Some (Whole c.in-Some-Packet.packet) =
+    sym c.in-Some-Packet.ensures ∙ ap (λ i. Some (part_of i)) c.in-Some-Packet.field-0-is in
+    let told = told_here g.H.Handler.answer_of g.H.Handler.after c.pass_over.new.self.reader c.answer-response.new.reader c.pass_over.new.self.line.held
+    c.advance.new.self.held (Whole c.in-Some-Packet.packet) (Some (said_in c.answer-response.result)) here
+    (ap (λ l. l.held) c.advance.ensures) c.answer-response.ensures.said c.answer-response.ensures.reader refl in
+    sym (ap (λ t. t.reader) told) ∙ ap (λ t. t.reader) c.pass_over.ensures.told
 
-pub returns-then-is_some-clause-line : goal.returns-then-is_some-clause-line
-returns-then-is_some-clause-line g c =
-    let told = told_here g.H.Handler.answer_of g.H.Handler.after c.items.self.reader c.hear_item-response.new.reader c.items.self.line.held
-    (after_advance c.items.self.line.held) (part_of c.in-Some.item) (option_map said_in c.hear_item-response.result) (sym c.in-Some.ensures)
-    refl c.hear_item-response.ensures.said c.hear_item-response.ensures.reader
-    (some_said c.hear_item-response.result (sym c.is_some.ensures ∙ c.if-is_some.true)) in
-    let left = sym (ap (λ t. t.held) told) ∙ ap (λ t. t.held) c.items.invariant.told in
-    c.advance.ensures ∙ ap (λ (l : Received). record l { held = after_advance c.items.self.line.held }) c.items.invariant.line
+pub returns-clause-line : goal.returns-clause-line
+returns-clause-line g c =
+    let here : decided c.pass_over.new.self.line.held.ended c.pass_over.new.self.line.held.bytes ≡ Some (Whole c.in-Some-Packet.packet) =
+    sym c.in-Some-Packet.ensures ∙ ap (λ i. Some (part_of i)) c.in-Some-Packet.field-0-is in
+    let told = told_here g.H.Handler.answer_of g.H.Handler.after c.pass_over.new.self.reader c.answer-response.new.reader c.pass_over.new.self.line.held
+    (after_advance c.pass_over.new.self.line.held) (Whole c.in-Some-Packet.packet) (Some (said_in c.answer-response.result)) here
+    refl c.answer-response.ensures.said c.answer-response.ensures.reader refl in
+    let left = sym (ap (λ t. t.held) told) ∙ ap (λ t. t.held) c.pass_over.ensures.told in
+    c.advance.ensures ∙ ap (λ (l : Received). record l { held = after_advance c.pass_over.new.self.line.held }) c.pass_over.ensures.line
     ∙ ap (λ (h : Held). record c.args.self.now.line { held = h }) left

@@ -1,12 +1,13 @@
 use Rattle.std.proofs.Common.{◌≡◌, length}
 use Rattle.osdp_device.specs.Telling.{next_told}
-use Rattle.osdp_device.proofs.device.Device.next.Given as goal
+use Rattle.osdp_device.proofs.device.Device.pass_over.Given as goal
 
 -- the items left tell what all of them do
 abbrev pub invariant-items : goal.invariant-items
 invariant-items g l = record {
   told : next_told g.H.Handler.answer_of g.H.Handler.after l.self.reader l.self.line.held
       ≡ next_told g.H.Handler.answer_of g.H.Handler.after l.initial.self.reader l.initial.self.line.held;
+  reader : l.self.reader ≡ l.initial.self.reader;
   line : l.self.line ≡ record l.initial.self.line { held = l.self.line.held };
 }
 
