@@ -13,6 +13,7 @@ use Rattle.osdp_controller.specs.Hearing.{comset_of}
 use Rattle.osdp_controller.specs.Machine.{AreSettings, IsMachine, Machine, after_begin, after_retarget, after_submit, begin_refusal, kept_in, or_no_device, refused_unless_closed, retarget_refusal, submit_refusal, withdrawn_in, changed_unless as changed_machine}
 use Rattle.osdp_controller_laws.specs.Commands.{asked_in}
 use Rattle.osdp_controller_laws.specs.Runs.{Submit as SubmitTo, Begin as BeginOf, Retarget as RetargetOf, Withdraw as WithdrawOf}
+use Rattle.osdp_controller_laws.proofs.Closed.{was_closed}
 use Rattle.osdp_controller_laws.proofs.Well.{keeps_each, stays_well}
 use Rattle.osdp_bus.specs.declared.config.BusConfig.{BusConfig}
 use Rattle.osdp_bus.specs.declared.device.Device.{Device}
@@ -47,13 +48,6 @@ pub or_none : (f : Option BusFault) (taken : Bool) → or_taken f taken ≡ None
 or_none None true h = cc
 or_none None false h = (refl, refl)
 or_none (Some fault) taken h = cc
-
-pub was_closed : (state : State) → refused_unless_closed state ≡ None → state ≡ Closed
-was_closed Closed h = refl
-was_closed (Quiet until) h = cc
-was_closed (Idle due) h = cc
-was_closed (Waiting until sends o) h = cc
-was_closed (Pausing until o) h = cc
 
 pub no_device : (f : Option ControllerFault) (address : ℕ) → or_no_device f address ≡ None → f ≡ None
 no_device None address h = refl

@@ -16,7 +16,7 @@ use Rattle.osdp_bus.proofs.Runs.{hears_items-append, left_over-append}
 use Rattle.osdp_bus.proofs.Waiting.{IsFound, found}
 use Rattle.osdp_bus_laws.specs.Packets.{CutsChangeNothing, GoesToItsAddress, PacketsGoToTheirAddress}
 use Rattle.osdp_bus_laws.proofs.Changing.{Sound}
-use Rattle.osdp_bus_laws.proofs.Moments.{hears_at_moment}
+use Rattle.osdp_controller_laws.proofs.Kept.{hears_at_moment}
 use Rattle.osdp_bus_laws.proofs.Places.{none_at}
 use Rattle.osdp_bus_laws.proofs.Sound.{SoundBus, sound_items}
 use Rattle.osdp_bus_laws.proofs.Turning.{set_here}

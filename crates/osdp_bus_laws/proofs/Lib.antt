@@ -6,7 +6,6 @@ pub mod Calling
 pub mod Exchanging
 pub mod Telling
 pub mod Reserving
-pub mod Moments
 pub mod Incoming
 pub mod Turning
 pub mod Fairness

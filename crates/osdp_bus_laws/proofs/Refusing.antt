@@ -15,6 +15,7 @@ use Rattle.osdp_controller.specs.Comsets.{has_comset}
 use Rattle.osdp_controller.specs.Hearing.{comset_of}
 use Rattle.osdp_controller.specs.Machine.{Machine, or_no_device, refused_unless_closed, submit_refusal}
 use Rattle.osdp_controller.specs.States.{is_closed}
+use Rattle.osdp_controller_laws.proofs.Closed.{may_begin}
 use Rattle.osdp_bus.specs.declared.device.Device.{Device}
 use Rattle.osdp_bus.specs.declared.fault.BusFault.{BusFault}
 use Rattle.osdp_bus.specs.declared.fault.BusFault.TheVariants.{TooMany, AddressTaken, OutOfRange, Full, PollSubmitted, NotClosed}
@@ -158,13 +159,6 @@ begun_is_open (Idle due) h = refl
 begun_is_open (Waiting until sends o) h = refl
 begun_is_open (Pausing until o) h = refl
 
-not_begun_is_closed : (state : State) → is_closed state ≡ true → refused_unless_closed state ≡ None
-not_begun_is_closed Closed h = refl
-not_begun_is_closed (Quiet until) h = absurd cc
-not_begun_is_closed (Idle due) h = absurd cc
-not_begun_is_closed (Waiting until sends o) h = absurd cc
-not_begun_is_closed (Pausing until o) h = absurd cc
-
 not_open : (entry : ℕ) (d : Device) (b : BusState) → device_of entry b ≡ Some d → is_closed d.controller.session.state ≡ true → IsOpen entry b → ⊥
 not_open entry d b at closed (e, there, open_there) =
     let same = ap (λ (x : Device). is_closed x.controller.session.state) (same_device entry d e b at there) in
@@ -176,7 +170,7 @@ judges_begin entry now b = by_device (device_of entry b) refl
   where
     by_state : (d : Device) → device_of entry b ≡ Some d → (t : Bool) → is_closed d.controller.session.state ≡ t
         → Judges NotClosed (IsOpen entry b) Accepts (begin_refusal_of (Some d))
-    by_state d at true closed = inr (not_open entry d b at closed, ap (option_map bus_fault) (not_begun_is_closed d.controller.session.state closed))
+    by_state d at true closed = inr (not_open entry d b at closed, ap (option_map bus_fault) (may_begin d.controller.session.state closed))
     by_state d at false begun = inl ((d, at, begun), ap (option_map bus_fault) (begun_is_open d.controller.session.state begun))
 
     by_device : (o : Option Device) → device_of entry b ≡ o → JudgesInOrder (Begin entry now) b (begin_refusal_of o)
@@ -317,7 +311,7 @@ judges_retarget entry address b = by_device (device_of entry b) refl
       not_open entry d b at closed,
       subst (λ f. Judges OutOfRange (127 ≤ address) (Judges AddressTaken (IsTakenByAnother entry address b ⊎ AwaitsMove entry b) Accepts)
           (or_taken (option_map bus_fault (or_no_device f address)) (is_taken_beside entry address b.devices.entries || has_comset d.controller.waiting)))
-          (sym (not_begun_is_closed d.controller.session.state closed)) (by_address d at (nat_lt address 127) refl),
+          (sym (may_begin d.controller.session.state closed)) (by_address d at (nat_lt address 127) refl),
     )
     by_state d at false begun = inl (
       (d, at, begun),

@@ -16,6 +16,7 @@ use Rattle.osdp_controller.specs.Ticking.{ticks}
 use Rattle.osdp_controller.proofs.Choices.{either_way}
 use Rattle.osdp_controller_laws.specs.Laws.{exchange_in}
 use Rattle.osdp_controller_laws.specs.Runs.{Call as CallOf, Tick as TickOf, Hear, after_call as after_call_of, sent_by as sent_by_of}
+use Rattle.osdp_controller_laws.proofs.Closed.{was_closed}
 use Rattle.osdp_controller_laws.proofs.Lasting.{Holds, holds_call, more}
 use Rattle.osdp_controller_laws.proofs.OneCall.{begins_with_frame}
 use Rattle.osdp_controller_laws.proofs.Stepwise.{sends_its_frame}
@@ -31,7 +32,7 @@ use Rattle.osdp_bus_laws.specs.Calls.{Call, Add, Begin, Submit, Withdraw, Retarg
 use Rattle.osdp_bus_laws.specs.Resending.{HoldersSendTheSame, IsTheLastAgain, last_sent, sent_by}
 use Rattle.osdp_bus_laws.specs.Sending.{own_frame}
 use Rattle.osdp_bus_laws.specs.Turns.{asking, judged}
-use Rattle.osdp_bus_laws.proofs.Calling.{map_none, no_device, or_none, sound_call, sound_new, was_closed}
+use Rattle.osdp_bus_laws.proofs.Calling.{map_none, no_device, or_none, sound_call, sound_new}
 use Rattle.osdp_bus_laws.proofs.Changing.{HoldsAlone}
 use Rattle.osdp_bus_laws.proofs.OneDevice.{heard_holds}
 use Rattle.osdp_bus_laws.proofs.Places.{IsAt, added, replaced}

@@ -8,6 +8,7 @@ use Rattle.osdp_frame.specs.Items.{items, left_over, reading}
 use Rattle.osdp_frame.specs.Packet.{Packet}
 use Rattle.osdp_frame.specs.Reading.{Part, Whole, Passed, Bad}
 use Rattle.osdp_controller.specs.Machine as controllers
+use Rattle.osdp_controller_laws.proofs.Closed.{silent_frame}
 use Rattle.osdp_bus.specs.Buses.{BusState, Devices, seen, waiting_after}
 use Rattle.osdp_bus.specs.Devices as devices
 use Rattle.osdp_bus.specs.Devices.{first_from, is_at}
@@ -21,7 +22,7 @@ use Rattle.osdp_multidrop.specs.Line.{Site, changed, first_gets, gets, site_at}
 use Rattle.osdp_sim.specs.Line.{packets_in, whole_packets}
 use Rattle.osdp_bus_links.specs.Links.{HearsAsAMove, IsHeard, IsNoRefusalOf, TellsEach, device_of, heard}
 use Rattle.osdp_bus_links.proofs.Devices.{freed_same, get_device, set_device}
-use Rattle.osdp_bus_links.proofs.Telling.{EndsAreTold, refuses_none, silent_frame, told_nothing, told_one}
+use Rattle.osdp_bus_links.proofs.Telling.{EndsAreTold, refuses_none, told_nothing, told_one}
 use Rattle.osdp_bus_links.proofs.Ticks.{nothing_silent}
 
 -- ---- the packets among items

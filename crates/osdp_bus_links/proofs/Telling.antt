@@ -1,22 +1,13 @@
 -- Which site is told the report that waits, and that its session ends exactly where that is told.
 use Rattle.std.proofs.Common.{◌≡◌, ◌≢◌, ◌||◌, ◌<◌, ◌+◌, ℕ, zero, suc, Bool, true, false, cond, List, [], ◌∷◌, Option, Some, None, refl, sym, subst, ap, arith}
-use Rattle.osdp_frame.specs.Packet.{Packet}
-use Rattle.osdp_msg.specs.declared.command.Command.{Command}
-use Rattle.osdp_controller.specs.Answers.{answer_of as said_by}
-use Rattle.osdp_controller.specs.Hearing.{Heard, hears, hears_in, ignores, is_from_reader}
-use Rattle.osdp_controller.specs.Sessions.{seen}
 use Rattle.osdp_controller.specs.States.{is_closed}
-use Rattle.osdp_controller.specs.Ticking.{ticks_in}
-use Rattle.osdp_controller.specs.declared.answer.Answer.{Answer}
 use Rattle.osdp_controller.specs.declared.report.Report.{Report}
 use Rattle.osdp_controller.specs.declared.session.Session.{Session}
-use Rattle.osdp_controller.specs.declared.state.State.{State}
-use Rattle.osdp_controller.specs.declared.state.State.TheVariants.{Closed, Quiet, Idle, Waiting, Pausing}
-use Rattle.osdp_controller_laws.specs.Commands.{TellsEnds, tells_end}
+use Rattle.osdp_controller_laws.specs.Commands.{TellsEnds}
 use Rattle.osdp_bus.specs.Buses.{waiting_after}
-use Rattle.osdp_link_laws.proofs.Lines.{both}
 use Rattle.osdp_link_laws.proofs.Numbers.{is_false, is_true}
-use Rattle.osdp_link_laws.proofs.Reports.{HoldsOfReports}
+use Rattle.osdp_link_laws.proofs.Refusals.{NoRefusal, refuses_none as none_refused}
+use Rattle.osdp_link_laws.proofs.Reports.{HoldsOfReports, weaker}
 use Rattle.osdp_multidrop.specs.Line.{Site, changed, site_at}
 use Rattle.osdp_multidrop.proofs.Changing.{some_same}
 use Rattle.osdp_bus_links.specs.Links.{IsNoRefusalOf, IsTold, TellsEach, TellsFrom, report_for}
@@ -26,40 +17,13 @@ use Rattle.osdp_bus_links.specs.Links.{IsNoRefusalOf, IsTold, TellsEach, TellsFr
 abbrev pub EndsAreTold : Type 0
 EndsAreTold = (now : ℕ) (s : Session) → TellsEnds now s
 
--- nothing ends where no session lasts
-pub silent_tick : (state : State) (s : Session) (waiting : List Command) → is_closed state ≡ true → tells_end (ticks_in state s waiting).step.report ≡ false
-silent_tick Closed s waiting e = refl
-silent_tick (Quiet until) s waiting e = absurd cc
-silent_tick (Idle due) s waiting e = absurd cc
-silent_tick (Waiting until sends o) s waiting e = absurd cc
-silent_tick (Pausing until o) s waiting e = absurd cc
-
-abbrev IsSilent : Heard → Type 0
-IsSilent h = tells_end h.report ≡ false
-
-silent_in : (state : State) (number : ℕ) (a : Answer) (s : Session) → is_closed state ≡ true → IsSilent (hears_in state number a s)
-silent_in Closed number a s e = refl
-silent_in (Quiet until) number a s e = absurd cc
-silent_in (Idle due) number a s e = absurd cc
-silent_in (Waiting until sends o) number a s e = absurd cc
-silent_in (Pausing until o) number a s e = absurd cc
-
-pub silent_frame : (p : Packet) (now : ℕ) (s : Session) → is_closed s.state ≡ true → IsSilent (hears p now s)
-silent_frame p now s e =
-    both IsSilent (is_from_reader p s) (hears_in s.state p.sequence (said_by p) (seen now s)) (ignores (seen now s))
-    (silent_in s.state p.sequence (said_by p) (seen now s) e) refl
-
 -- what a tick or a plain reply may bring refuses no number
+refuses_none_here : (entry : ℕ) (r : Option Report) → NoRefusal r → IsNoRefusalOf (waiting_after entry r None)
+refuses_none_here entry None none = tt
+refuses_none_here entry (Some r) none = none
+
 pub refuses_none : (entry : ℕ) → HoldsOfReports (λ r. IsNoRefusalOf (waiting_after entry r None))
-refuses_none entry = record {
-  nothing = tt;
-  opened = λ id. tt;
-  settled = λ c a is. tt;
-  moved = λ c a d is. tt;
-  event = λ e. tt;
-  polled = λ a. tt;
-  busy = λ o. tt;
-}
+refuses_none entry = weaker NoRefusal (λ r. IsNoRefusalOf (waiting_after entry r None)) (refuses_none_here entry) none_refused
 
 -- ---- who is told
 

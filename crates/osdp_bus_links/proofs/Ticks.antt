@@ -7,6 +7,7 @@ use Rattle.osdp_frame.specs.Packet.{Packet}
 use Rattle.osdp_msg.specs.declared.command.Command.{Command}
 use Rattle.osdp_controller.specs.Machine as controllers
 use Rattle.osdp_controller.specs.Sessions as clocks
+use Rattle.osdp_controller_laws.proofs.Closed.{silent_tick}
 use Rattle.osdp_reader.specs.declared.handler.Answer.{Answer}
 use Rattle.osdp_bus.specs.Buses.{BusState, has_report, holder, is_silent, seen, waiting_after}
 use Rattle.osdp_bus.specs.Devices as devices
@@ -18,7 +19,7 @@ use Rattle.osdp_multidrop.specs.Line as line
 use Rattle.osdp_multidrop.specs.Line.{Net, NetMove, Site, Tick, changed, run, site_at, tagged, ticks_of}
 use Rattle.osdp_bus_links.specs.Links.{IsBusOf, IsNoRefusalOf, IsTickAt, TellsEach, TicksAsAMove, device_of, packets_on}
 use Rattle.osdp_bus_links.proofs.Devices.{freed_same, get_device, get_none, set_device}
-use Rattle.osdp_bus_links.proofs.Telling.{EndsAreTold, silent_tick, told_nothing, told_one}
+use Rattle.osdp_bus_links.proofs.Telling.{EndsAreTold, told_nothing, told_one}
 
 -- ---- nothing is held
 

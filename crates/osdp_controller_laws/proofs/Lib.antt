@@ -8,5 +8,7 @@ pub mod Stepwise
 pub mod Well
 pub mod Endings
 pub mod InOrder
+pub mod Kept
 pub mod OneCall
+pub mod Closed
 pub mod InRange

@@ -1,35 +1,23 @@
 -- What one call keeps to.
-use Rattle.std.proofs.Common.{◌≡◌, ap, ℕ, ◌+◌, true, false, List, [], ◌∷◌, Option, Some, None, refl}
+use Rattle.std.proofs.Common.{◌≡◌, ap, sym, ℕ, ◌+◌, true, false, List, [], ◌∷◌, Option, Some, None, refl}
 use Rattle.std.specs.Prelude.{if◌then◌else◌, nat_lt, nat_le, is_none, is_some}
 use Rattle.osdp_frame.specs.Packet.{Packet, next_sequence}
 use Rattle.osdp_msg.specs.declared.command.Command.{Command}
-use Rattle.osdp_msg.specs.declared.command_fields.Communication.{Communication}
-use Rattle.osdp_msg.specs.declared.event.Event.{Event as EventOfReader}
-use Rattle.osdp_msg.specs.declared.reply.Reply.{Reply}
-use Rattle.osdp_msg.specs.declared.reply_fields.PdId.{PdId}
-use Rattle.osdp_controller.specs.declared.answer.Answer.{Answer}
-use Rattle.osdp_controller.specs.declared.answer.Answer.TheVariants.{NotTaken, Damaged, NumberRefused, Plain, Unreadable}
 use Rattle.osdp_controller.specs.declared.config.ControllerConfig.{ControllerConfig}
-use Rattle.osdp_controller.specs.declared.exchange.Exchange.{Exchange}
-use Rattle.osdp_controller.specs.declared.exchange.Exchange.TheVariants.{Opening, Polling, Asking}
-use Rattle.osdp_controller.specs.declared.exchange.Outstanding.{Outstanding}
+use Rattle.osdp_controller.specs.declared.exchange.Exchange.TheVariants.{Opening, Polling}
 use Rattle.osdp_controller.specs.declared.fault.ControllerFault.{ControllerFault}
-use Rattle.osdp_controller.specs.declared.report.LostCause.TheVariants as causes
 use Rattle.osdp_controller.specs.declared.report.Report.{Report}
-use Rattle.osdp_controller.specs.declared.report.Report.TheVariants.{PollAnswered}
 use Rattle.osdp_controller.specs.declared.session.Session.{Session}
 use Rattle.osdp_controller.specs.declared.state.State.{State}
 use Rattle.osdp_controller.specs.declared.state.State.TheVariants.{Closed, Quiet, Idle, Waiting, Pausing}
-use Rattle.osdp_controller.specs.Answers.{answer_of}
 use Rattle.osdp_controller_laws.specs.Calls.{BeginsWithFrame, KeepsSettings, WaitsUntilDue, told_address}
-use Rattle.osdp_controller.specs.Hearing.{Heard, answered, answered_unread, com_of, command_answered, comset_of, event_in, hears, hears_busy, is_ack, loses, moved_by, opening_answered, pausing_hears, pd_id_of, poll_told, waiting_hears}
-use Rattle.osdp_controller.specs.Private.{numbered_in}
+use Rattle.osdp_controller.specs.Hearing.{Heard, hears}
 use Rattle.osdp_controller.specs.Machine.{Machine, acts, after_begin, after_retarget, after_submit, changed_unless, is_outstanding, refused_unless_closed, retarget_refusal, submit_refusal}
 use Rattle.osdp_controller_laws.specs.Runs.{Call, Submit, Begin, Retarget, Withdraw, Tick, Hear}
-use Rattle.osdp_controller.specs.Sessions.{later, seen}
+use Rattle.osdp_controller.specs.Sessions.{seen}
 use Rattle.osdp_controller.specs.Ticking.{Ticked, begins, gives_up, sends_frame, stays, ticks_in, tries_again}
 use Rattle.osdp_controller.proofs.Choices.{either_way}
-use Rattle.osdp_controller_laws.proofs.Frames.{either_frame}
+use Rattle.osdp_controller_laws.proofs.Kept.{HoldsOfKept, frame_keeps, tick_keeps}
 use Rattle.osdp_controller_laws.proofs.Stepwise.{frames_in_steps}
 
 -- an exchange begins
@@ -104,84 +92,14 @@ waits_until_due now m = still_stays m.session.state (seen now m.session) m.waiti
 
 -- the settings
 
-abbrev SetBy : ControllerConfig → Option Report → ControllerConfig → Type 0
-SetBy c report d = d ≡ record c { address = told_address report c.address }
+abbrev SetBy : ControllerConfig → Option Report → ℕ → ControllerConfig → Type 0
+SetBy c report greatest d = d ≡ record c { address = told_address report c.address }
 
-abbrev TickSets : ControllerConfig → Ticked → Type 0
-TickSets c t = SetBy c t.step.report t.session.config
-
-tick_sets : (state : State) (s : Session) (w : List Command) → TickSets s.config (ticks_in state s w)
-tick_sets Closed s w = refl
-tick_sets (Quiet until) s w =
-    either_way (TickSets s.config) (nat_le until s.greatest) (begins Opening 0 s w) (stays s w) (λ b. refl) (λ b. refl)
-tick_sets (Idle due) s (command ∷ w) = refl
-tick_sets (Idle due) s [] =
-    either_way (TickSets s.config) (nat_le due s.greatest) (begins Polling (next_sequence s.number) s []) (stays s []) (λ b. refl) (λ b. refl)
-tick_sets (Waiting until sends o) s w =
-    either_way (TickSets s.config) (nat_le until s.greatest) (tries_again sends o s w) (stays s w)
-    (λ b. either_way (TickSets s.config) (nat_lt sends s.config.sends) (sends_frame (sends + 1) o s w) (gives_up o s w) (λ c. refl) (λ c. refl))
-    (λ b. refl)
-tick_sets (Pausing until o) s w =
-    either_way (TickSets s.config) (nat_le until s.greatest) (sends_frame 1 o s w) (stays s w) (λ b. refl) (λ b. refl)
-
-abbrev FrameSets : ControllerConfig → Heard → Type 0
-FrameSets c h = SetBy c h.report h.session.config
-
-busy_sets : (o : Outstanding) (s : Session) → FrameSets s.config (hears_busy o s)
-busy_sets o s =
-    either_way (FrameSets s.config) (nat_lt s.config.busy_limit (o.busies + 1)) (loses causes.TooBusy o s)
-    (record { session = record s { state = Pausing (later s.config.busy_wait s) (record o { busies = o.busies + 1 }) }; report = None })
-    (λ b. refl) (λ b. refl)
-
-opening_sets : (id : Option PdId) (s : Session) → FrameSets s.config (opening_answered id s)
-opening_sets None s = refl
-opening_sets (Some id) s = refl
-
-poll_sets : (reply : Reply) (event : Option EventOfReader) (c : ControllerConfig) → SetBy c (poll_told reply event) c
-poll_sets reply (Some event) c = refl
-poll_sets reply None c =
-    either_way (λ (r : Option Report). SetBy c r c) (is_ack reply) None (Some (PollAnswered reply)) (λ b. refl) (λ b. refl)
-
-command_sets : (moved : Option Communication) (command : Command) (reply : Reply) (s : Session)
-    → FrameSets s.config (command_answered moved command reply s)
-command_sets None command reply s = refl
-command_sets (Some d) command reply s = refl
-
-answer_sets : (x : Exchange) (reply : Reply) (s : Session) → FrameSets s.config (answered x reply s)
-answer_sets Opening reply s = opening_sets (pd_id_of reply) s
-answer_sets Polling reply s = poll_sets reply (event_in reply) s.config
-answer_sets (Asking command) reply s = command_sets (moved_by (comset_of command) (com_of reply)) command reply s
-
-unread_sets : (x : Exchange) (code : ℕ) (s : Session) → FrameSets s.config (answered_unread x code s)
-unread_sets Opening code s = refl
-unread_sets Polling code s = refl
-unread_sets (Asking command) code s = refl
-
-waiting_sets : (a : Answer) (sends : ℕ) (o : Outstanding) (s : Session) → FrameSets s.config (waiting_hears a sends o s)
-waiting_sets NotTaken sends o s = busy_sets o s
-waiting_sets Damaged sends o s = refl
-waiting_sets NumberRefused sends o s = refl
-waiting_sets (Plain reply) sends o s = answer_sets o.exchange reply s
-waiting_sets (Unreadable code) sends o s = unread_sets o.exchange code s
-
-pausing_sets : (a : Answer) (o : Outstanding) (s : Session) → FrameSets s.config (pausing_hears a o s)
-pausing_sets NotTaken o s = refl
-pausing_sets Damaged o s = refl
-pausing_sets NumberRefused o s = refl
-pausing_sets (Plain reply) o s = answer_sets o.exchange reply s
-pausing_sets (Unreadable code) o s = unread_sets o.exchange code s
-
-numbered_sets : (state : State) (a : Answer) (s : Session) → FrameSets s.config (numbered_in state a s)
-numbered_sets Closed a s = refl
-numbered_sets (Quiet until) a s = refl
-numbered_sets (Idle due) a s = refl
-numbered_sets (Waiting until sends o) a s = waiting_sets a sends o s
-numbered_sets (Pausing until o) a s = pausing_sets a o s
-
-frame_sets : (p : Packet) (now : ℕ) (s : Session) → FrameSets s.config (hears p now s)
-frame_sets p now s =
-    either_frame (FrameSets s.config) p now s
-    (λ from h. numbered_sets s.state (answer_of p) (seen now s)) refl
+set_by : (c : ControllerConfig) (greatest : ℕ) → HoldsOfKept (SetBy c) greatest c
+set_by c greatest = record {
+  same = λ report is. ap (λ (a : ℕ). record c { address = a }) (sym is);
+  moved = λ command d device. refl;
+}
 
 abbrev AddressSet : Machine → ℕ → Machine → Type 0
 AddressSet m address k = k.session.config ≡ record m.session.config { address = address }
@@ -204,5 +122,7 @@ keeps_settings (Submit command) m = submit_sets (submit_refusal command m) comma
 keeps_settings (Begin now) m = begin_sets now (refused_unless_closed m.session.state) m
 keeps_settings (Retarget address) m = retarget_sets (retarget_refusal address m) address m
 keeps_settings Withdraw m = refl
-keeps_settings (Tick now) m = tick_sets m.session.state (seen now m.session) m.waiting
-keeps_settings (Hear p now) m = frame_sets p now m.session
+keeps_settings (Tick now) m =
+    let s = seen now m.session in tick_keeps (SetBy s.config) m.session.state s m.waiting (set_by s.config s.greatest)
+keeps_settings (Hear p now) m =
+    let s = seen now m.session in frame_keeps (SetBy s.config) p now m.session (set_by s.config s.greatest)

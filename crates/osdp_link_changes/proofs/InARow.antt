@@ -12,6 +12,7 @@ use Rattle.osdp_controller.specs.declared.config.ControllerConfig.{ControllerCon
 use Rattle.osdp_controller.specs.declared.fault.ControllerFault.{ControllerFault}
 use Rattle.osdp_controller.specs.declared.state.State.{State}
 use Rattle.osdp_controller.specs.declared.state.State.TheVariants.{Closed, Quiet, Idle, Waiting, Pausing}
+use Rattle.osdp_controller_laws.proofs.Closed.{closed_is, was_closed}
 use Rattle.osdp_reader.specs.declared.config.ReaderConfig.{ReaderConfig}
 use Rattle.osdp_reader.specs.declared.handler.Answer.{Answer}
 use Rattle.osdp_reader.specs.Table.{answer_to}
@@ -21,7 +22,7 @@ use Rattle.osdp_link_laws.specs.Sessions.{queued, submitted}
 use Rattle.osdp_link_laws.proofs.Advancing.{HoldsAtSomeStage}
 use Rattle.osdp_link_laws.proofs.Devices.{IsDevice, move_there}
 use Rattle.osdp_link_laws.proofs.Growing.{Grows, goes_on}
-use Rattle.osdp_link_laws.proofs.InARow.{Assumed}
+use Rattle.osdp_link_laws.proofs.InARow.{Assumed, begins_more}
 use Rattle.osdp_link_laws.proofs.Lines.{each_of, each_rest}
 use Rattle.osdp_link_laws.proofs.Once.{GoesOn, fresh, is_once}
 use Rattle.osdp_link_laws.proofs.Sessions.{lasts_or_leaves, leaves}
@@ -32,10 +33,6 @@ use Rattle.osdp_link_changes.specs.Handlers.{AreAnswersOf, KeepHandler, KeepsHan
 use Rattle.osdp_link_changes.specs.Sessions.{AreInARow, AreOnce, IsOnce, LastsOrLeaves, accounts}
 use Rattle.osdp_link_changes.proofs.Given.{AnswersAs, move_gives}
 use Rattle.osdp_link_changes.proofs.Waiting.{IsQuiet, moving_waited, stays_quiet, waited}
-
-pub begins_more : {A : Type 0} (xs ys zs more : List A) → IsBeginning xs ys → zs ≡ ys ++ more → IsBeginning xs zs
-begins_more xs ys zs more (rest, is) longer =
-    (rest ++ more, longer ∙ ap (λ l. l ++ more) is ∙ append_assoc xs rest more)
 
 -- the last session goes on
 row_goes_on : (s u : Session) (cs : List Command) (es : List Event) (before : List Session) → Grows cs es s.account u.account
@@ -67,20 +64,6 @@ same_row s u before same row = by_account before same row
       ),
       row,
     )
-
-closed_is : (state : State) → is_closed state ≡ true → state ≡ Closed
-closed_is Closed e = refl
-closed_is (Quiet until) e = absurd cc
-closed_is (Idle due) e = absurd cc
-closed_is (Waiting until sends o) e = absurd cc
-closed_is (Pausing until o) e = absurd cc
-
-pub may_begin : (state : State) → controllers.refused_unless_closed state ≡ None → state ≡ Closed
-may_begin Closed e = refl
-may_begin (Quiet until) e = absurd cc
-may_begin (Idle due) e = absurd cc
-may_begin (Waiting until sends o) e = absurd cc
-may_begin (Pausing until o) e = absurd cc
 
 module _ {H : Type 0} (answer_of : H → Command → Answer) (after : H → Command → H) where
   answered_commands : (settings : ReaderConfig) (h : H) (cs : List Command)
@@ -175,7 +158,7 @@ module _ {H : Type 0} (answer_of : H → Command → Answer) (after : H → Comm
           (
             s.link.controller.waiting,
             s.link.reader.queue.events,
-            leaves h.fixed answer_of after settings (handler_of s) at (waited s.withdrawn s.link) held (may_begin s.link.controller.session.state may),
+            leaves h.fixed answer_of after settings (handler_of s) at (waited s.withdrawn s.link) held (was_closed s.link.controller.session.state may),
             ([], sym (append-nil s.link.controller.waiting)),
             ([], sym (append-nil s.link.reader.queue.events)),
           ),

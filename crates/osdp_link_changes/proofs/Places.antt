@@ -6,35 +6,22 @@ use Rattle.osdp_msg.specs.declared.command.Command.{Command}
 use Rattle.osdp_msg.specs.declared.event.Event.{Event}
 use Rattle.osdp_controller.specs.Machine as controllers
 use Rattle.osdp_controller.specs.declared.fault.ControllerFault.{ControllerFault}
+use Rattle.osdp_controller_laws.proofs.Closed.{was_closed}
 use Rattle.osdp_reader.specs.declared.config.ReaderConfig.{ReaderConfig}
 use Rattle.osdp_reader.specs.declared.handler.Answer.{Answer}
 use Rattle.osdp_link_laws.specs.Headline.{Begins, handler_after}
-use Rattle.osdp_link_laws.specs.Link.{Account, Link, Move, Queue as QueueEvent, Reopen, SetBusy, Submit, Tick, ToController, ToReader, after_move}
+use Rattle.osdp_link_laws.specs.Link.{Link, Move, Queue as QueueEvent, Reopen, SetBusy, Submit, Tick, ToController, ToReader, after_move}
 use Rattle.osdp_link_laws.specs.Sessions.{HaveLeft, queued, settled_commands, submitted}
 use Rattle.osdp_link_laws.proofs.Growing.{goes_on}
-use Rattle.osdp_link_laws.proofs.InARow.{Assumed}
+use Rattle.osdp_link_laws.proofs.InARow.{Assumed, left_more}
 use Rattle.osdp_link_laws.proofs.Once.{GoesOn}
 use Rattle.osdp_link_laws.proofs.Sessions.{leaves}
 use Rattle.osdp_link_changes.specs.Changes as changed
 use Rattle.osdp_link_changes.specs.Changes.{AreChanges, Change, Changed, Moves, Session, SetHandler, Withdraw, after_change, all_queued, all_submitted, given_at, queued_by, run, submitted_by, unchanged}
 use Rattle.osdp_link_changes.specs.Handlers.{KeepHandler}
 use Rattle.osdp_link_changes.specs.Sessions.{accounts, done_in}
-use Rattle.osdp_link_changes.proofs.InARow.{Stands, begins, begins_more, may_begin, standing}
+use Rattle.osdp_link_changes.proofs.InARow.{Stands, begins, standing}
 use Rattle.osdp_link_changes.proofs.Waiting.{waited}
-
--- more events come after all of them
-left_more : (all more : List Event) (earlier : List Account) (gone : List Event) → HaveLeft all earlier gone → HaveLeft (all ++ more) earlier gone
-left_more all more [] gone none = none
-left_more all more (t ∷ earlier) gone (before, left, again, prior, stands, is, told_is, few) = (
-  before,
-  left,
-  again,
-  left_more all more earlier before prior,
-  begins_more (before ++ t.queued) all (all ++ more) more stands refl,
-  is,
-  told_is,
-  few,
-)
 
 -- the commands of a session that has ended, and those that still wait
 parted : (settled unsettled gone waiting : List Command)
@@ -87,7 +74,7 @@ module _ {H : Type 0} (answer_of : H → Command → Answer) (after : H → Comm
   placing_again None [] [] now s cs es may h placed =
       let handler = handler_after answer_of after settings first (accounts s.before) in
       let left = leaves h.fixed answer_of after settings handler h.holds.0 (waited s.withdrawn s.link) h.holds.1
-      (may_begin s.link.controller.session.state may) in
+      (was_closed s.link.controller.session.state may) in
       let t = s.link.account in
       record {
         commands = placed.commands

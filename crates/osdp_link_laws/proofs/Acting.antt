@@ -9,7 +9,6 @@ use Rattle.osdp_msg.specs.declared.command.Command.TheVariants as command
 use Rattle.osdp_msg.specs.declared.event.Event.{Event}
 use Rattle.osdp_msg.specs.declared.event.Event.TheVariants as event
 use Rattle.osdp_msg.specs.declared.reply.Reply.{Reply}
-use Rattle.osdp_msg.specs.declared.reply.Reply.TheVariants as reply
 use Rattle.osdp_controller.specs.declared.config.ControllerConfig.{ControllerConfig}
 use Rattle.osdp_controller.specs.declared.exchange.Exchange.{Exchange}
 use Rattle.osdp_controller.specs.declared.exchange.Exchange.TheVariants.{Opening, Polling, Asking}
@@ -18,8 +17,8 @@ use Rattle.osdp_reader.specs.declared.config.ReaderConfig.{ReaderConfig}
 use Rattle.osdp_reader.specs.declared.handler.Answer.{Answer}
 use Rattle.osdp_reader.specs.declared.kind.Kind.TheVariants.{Silent, Zero, Repeat, Taken, Busy, Wrong}
 use Rattle.osdp_reader.specs.Queue.{Queue, event_for, released}
-use Rattle.osdp_reader.specs.Replies.{own_reply}
 use Rattle.osdp_reader.specs.State.{ReaderState}
+use Rattle.osdp_reader_laws.proofs.Sequences.{same_own}
 use Rattle.osdp_reader.specs.Table.{answer_to, answered, event_or_answer, kind_by_number, kind_of, moved}
 use Rattle.osdp_link_laws.specs.Link.{Account, taken_command}
 use Rattle.osdp_link_laws.proofs.Lines.{both}
@@ -117,22 +116,7 @@ module _ (fixed : ControllerConfig) {H : Type 0} where
       → config.id ≡ other.id → config.caps ≡ other.caps
       → answer_to answer_of after config handler c ≡ answer_to answer_of after other handler c
   same_answer answer_of after config other handler c id caps =
-      ap (λ o. answered answer_of after o handler c) (own config other c id caps)
-    where
-      own : (config other : ReaderConfig) (c : Command) → config.id ≡ other.id → config.caps ≡ other.caps → own_reply config c ≡ own_reply other c
-      own config other command.Poll id caps = refl
-      own config other (command.Id kept) id caps = ap (λ i. Some (reply.PdId i)) id
-      own config other (command.Cap kept) id caps = ap (λ i. Some (reply.PdCap i)) caps
-      own config other command.LocalStatus id caps = refl
-      own config other command.InputStatus id caps = refl
-      own config other command.OutputStatus id caps = refl
-      own config other command.ReaderStatus id caps = refl
-      own config other (command.Output records) id caps = refl
-      own config other (command.Led records) id caps = refl
-      own config other (command.Buzzer b) id caps = refl
-      own config other (command.Text t) id caps = refl
-      own config other (command.Comset c) id caps = refl
-      own config other (command.Maker m) id caps = refl
+      ap (λ o. answered answer_of after o handler c) (same_own config other c id caps)
 
 -- a command other than POLL has no event for its answer, and is taken as one
 pub no_event : (c : Command) (events : List Event) → c ≢ command.Poll → event_for c events ≡ None

@@ -4,49 +4,21 @@ use Rattle.std.specs.Prelude.{◌||◌, option_to_list}
 use Rattle.osdp_frame.specs.Packet.{Packet}
 use Rattle.osdp_msg.specs.declared.command.Command.{Command}
 use Rattle.osdp_msg.specs.declared.event.Event.{Event}
-use Rattle.osdp_controller.specs.Answers.{answer_of as said_by}
-use Rattle.osdp_controller.specs.Hearing.{Heard, hears, hears_in, ignores, is_from_reader}
+use Rattle.osdp_controller.specs.Hearing.{hears}
 use Rattle.osdp_controller.specs.Machine as controllers
 use Rattle.osdp_controller.specs.Sessions.{seen}
 use Rattle.osdp_controller.specs.States.{is_closed}
-use Rattle.osdp_controller.specs.Ticking.{ticks, ticks_in}
-use Rattle.osdp_controller.specs.declared.answer.Answer.{Answer}
+use Rattle.osdp_controller.specs.Ticking.{ticks}
 use Rattle.osdp_controller.specs.declared.fault.ControllerFault.{ControllerFault}
 use Rattle.osdp_controller.specs.declared.report.Report.{Report}
 use Rattle.osdp_controller.specs.declared.session.Session.{Session}
-use Rattle.osdp_controller.specs.declared.state.State.{State}
-use Rattle.osdp_controller.specs.declared.state.State.TheVariants.{Closed, Quiet, Idle, Waiting, Pausing}
 use Rattle.osdp_controller_laws.specs.Commands.{TellsEnds, tells_end}
+use Rattle.osdp_controller_laws.proofs.Closed.{silent_frame, silent_tick, was_closed}
 use Rattle.osdp_reader.specs.declared.handler.Answer.{Answer as HandlerAnswer}
 use Rattle.osdp_link_laws.specs.Ends.{EndOnce, count, ends_in, lasting}
-use Rattle.osdp_link_laws.specs.Headline.{Begins}
 use Rattle.osdp_link_laws.specs.Link as link
 use Rattle.osdp_link_laws.specs.Link.{Delivered, Delivery, Link, Lost, Move, Queue as QueueEvent, Reopen, Repeated, SetBusy, Submit, Tick, ToController, ToReader, after_move, run}
 use Rattle.osdp_link_laws.specs.Refusals.{reports, told_by, told_by_front}
-use Rattle.osdp_link_laws.proofs.Lines.{both}
-
--- nothing ends where no session lasts
-silent_tick : (state : State) (s : Session) (waiting : List Command) → is_closed state ≡ true → tells_end (ticks_in state s waiting).step.report ≡ false
-silent_tick Closed s waiting e = refl
-silent_tick (Quiet until) s waiting e = absurd cc
-silent_tick (Idle due) s waiting e = absurd cc
-silent_tick (Waiting until sends o) s waiting e = absurd cc
-silent_tick (Pausing until o) s waiting e = absurd cc
-
-abbrev IsSilent : Heard → Type 0
-IsSilent h = tells_end h.report ≡ false
-
-silent_in : (state : State) (number : ℕ) (a : Answer) (s : Session) → is_closed state ≡ true → IsSilent (hears_in state number a s)
-silent_in Closed number a s e = refl
-silent_in (Quiet until) number a s e = absurd cc
-silent_in (Idle due) number a s e = absurd cc
-silent_in (Waiting until sends o) number a s e = absurd cc
-silent_in (Pausing until o) number a s e = absurd cc
-
-silent_frame : (p : Packet) (now : ℕ) (s : Session) → is_closed s.state ≡ true → IsSilent (hears p now s)
-silent_frame p now s e =
-    both IsSilent (is_from_reader p s) (hears_in s.state p.sequence (said_by p) (seen now s)) (ignores (seen now s))
-    (silent_in s.state p.sequence (said_by p) (seen now s) e) refl
 
 -- a session that lasted lasts on, or its end is told
 one_less : (closed told next : Bool) → next ≡ (closed || told) → (closed ≡ true → told ≡ false) → count told + lasting next ≡ lasting closed
@@ -96,20 +68,13 @@ module _ {H : Type 0} (answer_of : H → Command → HandlerAnswer) (after : H �
     to_controller (q ∷ qs) Lost now l = omega arith
     to_controller (q ∷ qs) Repeated now l = heard q now l
 
-    over : (state : State) → controllers.refused_unless_closed state ≡ None → is_closed state ≡ true
-    over Closed e = refl
-    over (Quiet until) e = absurd cc
-    over (Idle due) e = absurd cc
-    over (Waiting until sends o) e = absurd cc
-    over (Pausing until o) e = absurd cc
-
     reopening : (refusal : Option ControllerFault) (ps qs : List Packet) (now : ℕ) (l : Link H) → controllers.begin_refusal l.controller ≡ refusal
         → Counts 0 l (link.reopens refusal ps qs now l)
     reopening (Some fault) ps qs now l is = omega arith
     reopening None (p ∷ ps) qs now l is = omega arith
     reopening None [] (q ∷ qs) now l is = omega arith
     reopening None [] [] now l is =
-        let closed : lasting (is_closed l.controller.session.state) ≡ 0 = ap lasting (over l.controller.session.state is) in
+        let closed : lasting (is_closed l.controller.session.state) ≡ 0 = ap (λ s. lasting (is_closed s)) (was_closed l.controller.session.state is) in
         omega (arith, closed)
 
     counts : (move : Move) (l : Link H) → Counts (count (tells_end (told_by move l))) l (after_move answer_of after move l)

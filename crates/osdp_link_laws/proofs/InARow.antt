@@ -8,8 +8,8 @@ use Rattle.osdp_controller.specs.Machine as controllers
 use Rattle.osdp_controller.specs.declared.config.ControllerConfig.{ControllerConfig}
 use Rattle.osdp_controller.specs.declared.exchange.Exchange.TheVariants.{Polling}
 use Rattle.osdp_controller.specs.declared.fault.ControllerFault.{ControllerFault}
-use Rattle.osdp_controller.specs.declared.state.State.{State}
-use Rattle.osdp_controller.specs.declared.state.State.TheVariants.{Closed, Quiet, Idle, Waiting, Pausing}
+use Rattle.osdp_controller.specs.declared.state.State.TheVariants.{Closed}
+use Rattle.osdp_controller_laws.proofs.Closed.{was_closed}
 use Rattle.osdp_reader.specs.declared.config.ReaderConfig.{ReaderConfig}
 use Rattle.osdp_reader.specs.declared.handler.Answer.{Answer}
 use Rattle.osdp_link_laws.specs.Headline.{AreMoves, AreOnce, Begins, IsMove, MaySubmit, handler_after, IsBeginning}
@@ -27,7 +27,8 @@ use Rattle.osdp_link_laws.proofs.Once.{GoesOn, fresh, is_once, moving}
 use Rattle.osdp_link_laws.proofs.Sessions.{lasts_or_leaves, leaves}
 use Rattle.osdp_link_laws.proofs.Stages.{Fresh, Waits, frame}
 
-begins_more : {A : Type 0} (xs ys zs more : List A) → IsBeginning xs ys → zs ≡ ys ++ more → IsBeginning xs zs
+-- more comes after what begins it
+pub begins_more : {A : Type 0} (xs ys zs more : List A) → IsBeginning xs ys → zs ≡ ys ++ more → IsBeginning xs zs
 begins_more xs ys zs more (rest, is) longer =
     (rest ++ more, longer ∙ ap (λ l. l ++ more) is ∙ append_assoc xs rest more)
 
@@ -40,7 +41,7 @@ row_goes_on t u cs es (before ∷ earlier) grows ((waiting, events, left, comman
 )
 
 -- more events come after all of them
-left_more : (all more : List Event) (earlier : List Account) (gone : List Event) → HaveLeft all earlier gone → HaveLeft (all ++ more) earlier gone
+pub left_more : (all more : List Event) (earlier : List Account) (gone : List Event) → HaveLeft all earlier gone → HaveLeft (all ++ more) earlier gone
 left_more all more [] gone none = none
 left_more all more (t ∷ earlier) gone (before, left, again, prior, stands, is, told_is, few) = (
   before,
@@ -86,13 +87,6 @@ module _ {H : Type 0} (answer_of : H → Command → Answer) (after : H → Comm
 
   abbrev AllStands : Link H → Type 0
   AllStands l = Stands answer_of after settings first l
-
-  is_closed : (state : State) → controllers.refused_unless_closed state ≡ None → state ≡ Closed
-  is_closed Closed e = refl
-  is_closed (Quiet until) e = absurd cc
-  is_closed (Idle due) e = absurd cc
-  is_closed (Waiting until sends o) e = absurd cc
-  is_closed (Pausing until o) e = absurd cc
 
   -- a move within the session
   keeps_on : Assumed → (move : Move) (l : Link H) → GoesOn move → IsMove answer_of after move l → AllStands l
@@ -143,7 +137,7 @@ module _ {H : Type 0} (answer_of : H → Command → Answer) (after : H → Comm
           (
             l.controller.waiting,
             l.reader.queue.events,
-            leaves h.fixed answer_of after settings handler at l held (is_closed l.controller.session.state may),
+            leaves h.fixed answer_of after settings handler at l held (was_closed l.controller.session.state may),
             ([], sym (append-nil l.controller.waiting)),
             ([], sym (append-nil l.reader.queue.events)),
           ),
@@ -193,7 +187,7 @@ module _ {H : Type 0} (answer_of : H → Command → Answer) (after : H → Comm
       again None [] (q ∷ qs) now may = placed
       again None [] [] now may =
           let left = leaves h.fixed answer_of after settings (handler_after answer_of after settings first l.earlier) h.holds.0 l h.holds.1
-          (is_closed l.controller.session.state may) in
+          (was_closed l.controller.session.state may) in
           record {
             commands = placed.commands
                 ∙ ap (λ all. told_in l.earlier ++ all) (left.commands ∙ sym (append_assoc (settled_commands l.account) l.account.unsettled l.controller.waiting))

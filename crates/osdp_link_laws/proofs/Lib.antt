@@ -26,6 +26,7 @@ pub mod Rounds
 pub mod Through
 pub mod InTime
 pub mod Clean
+pub mod ToldAlong
 pub mod Refusals
 pub mod TwoLists
 pub mod Reports

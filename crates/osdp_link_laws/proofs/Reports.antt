@@ -108,3 +108,15 @@ module _ (P : Option Report → Type 0) where
     front_so Lost (p ∷ ps) now s plain = all.nothing
     front_so Repeated [] now s plain = all.nothing
     front_so Repeated (p ∷ ps) now s plain = heard_so p now s plain.0
+
+-- what follows from it holds of them too
+pub weaker : (P Q : Option Report → Type 0) → ((r : Option Report) → P r → Q r) → HoldsOfReports P → HoldsOfReports Q
+weaker P Q so all = record {
+  nothing = so None all.nothing;
+  opened = λ id. so (Some (report.Opened id)) (all.opened id);
+  settled = λ c a is. so (Some (report.Settled c a)) (all.settled c a is);
+  moved = λ c a d is. so (Some (report.Moved c d)) (all.moved c a d is);
+  event = λ e. so (Some (report.Event e)) (all.event e);
+  polled = λ a. so (Some (report.PollAnswered a)) (all.polled a);
+  busy = λ o. so (Some (lost TooBusy o)) (all.busy o);
+}

@@ -1,7 +1,7 @@
 -- A COMSET to a device's address is only ever told moved.
 use Rattle.std.proofs.Common.{◌≡◌, ◌<◌, ℕ, Bool, true, false, cond, eqb, leb, ltb, List, [], ◌∷◌, ◌++◌, All, Option, Some, None, refl, sym, subst, ap, ◌∙◌, arith, append_assoc}
 use Rattle.std.proofs.lemmas.Bool.{leb-false, leb-true, lt-ltb}
-use Rattle.std.specs.Prelude.{◌&&◌, option_to_list}
+use Rattle.std.specs.Prelude.{◌&&◌, IfSome}
 use Rattle.osdp_frame.specs.Packet.{Packet}
 use Rattle.osdp_msg.specs.declared.command.Command.{Command}
 use Rattle.osdp_msg.specs.declared.command.Command.TheVariants as command
@@ -23,12 +23,12 @@ use Rattle.osdp_link_laws.specs.Names.{IsNoDevice, IsToldAsAsked}
 use Rattle.osdp_link_laws.specs.Peers.{IsPlainlySaid}
 use Rattle.osdp_link_laws.specs.Refusals.{reports, told_by, told_by_front}
 use Rattle.osdp_link_laws.proofs.Deliveries.{all_said}
-use Rattle.osdp_link_laws.proofs.InARow.{Assumed, Stands, begins, standing}
-use Rattle.osdp_link_laws.proofs.Lines.{each_all, each_append}
+use Rattle.osdp_link_laws.proofs.InARow.{Assumed, Stands, standing}
 use Rattle.osdp_link_laws.proofs.Numbers.{is_true}
 use Rattle.osdp_link_laws.proofs.Once.{is_once}
 use Rattle.osdp_link_laws.proofs.Reports.{HoldsOfReports, heard_so, tick_so}
 use Rattle.osdp_link_laws.proofs.Stages.{Each}
+use Rattle.osdp_link_laws.proofs.ToldAlong.{all_reports}
 
 -- a command that is settled didn't move the reader, and no reply is unread
 abbrev Unmoved : Option Report → Type 0
@@ -53,8 +53,7 @@ unmoved = record {
 }
 
 abbrev pub ToldAsAsked : Option Report → Type 0
-ToldAsAsked None = Unit {0}
-ToldAsAsked (Some r) = IsToldAsAsked r
+ToldAsAsked r = IfSome r IsToldAsAsked
 
 -- the COM of a COMSET to a device's address moves the reader
 above : (d : Communication) (small : Bool) → leb d.address 126 ≡ small → moved_by (Some d) (com_of (cond small (reply.Com d) not_processed)) ≡ None → 126 < d.address
@@ -139,22 +138,8 @@ module _ {H : Type 0} (answer_of : H → Command → Answer) (after : H → Comm
       )
   move_told given (Reopen now) l fits h = tt
 
-  one_report : (r : Option Report) → ToldAsAsked r → Each IsToldAsAsked (option_to_list r)
-  one_report None so = tt
-  one_report (Some r) so = (so, tt)
-
-  reports_told : Assumed answer_of after settings first → (moves : List Move) (l : Link H) → AreMoves answer_of after moves l
-      → Stands answer_of after settings first l → Each IsToldAsAsked (reports answer_of after moves l)
-  reports_told given [] l fits h = tt
-  reports_told given (move ∷ moves) l fits h =
-      let new = after_move answer_of after move l in
-      each_append IsToldAsAsked (option_to_list (told_by move l)) (reports answer_of after moves new)
-      (one_report (told_by move l) (move_told given move l fits.0 h))
-      (reports_told given moves new fits.1 (standing answer_of after settings first given move l fits.0 h))
-
 module _ {H : Type 0} (answer_of : H → Command → Answer) (after : H → Command → H) where
   pub tell_as_asked : (l : Link H) (moves : List Move) → Assumed answer_of after l.reader.config l.reader.handler → Begins l → AreMoves answer_of after moves l
       → All IsToldAsAsked (reports answer_of after moves l)
   tell_as_asked l moves given b fits =
-      each_all IsToldAsAsked (reports answer_of after moves l)
-      (reports_told answer_of after l.reader.config l.reader.handler given moves l fits (begins answer_of after l b))
+      all_reports IsToldAsAsked answer_of after l moves given (move_told answer_of after l.reader.config l.reader.handler given) b fits

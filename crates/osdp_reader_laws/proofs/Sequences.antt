@@ -17,7 +17,7 @@ same_rest : (c d : Command) (cs ds : List Command) → c ∷ cs ≡ d ∷ ds →
 same_rest c d cs ds e = cc
 
 -- what is answered without the handler doesn't depend on the address
-same_own : (c d : ReaderConfig) (asked : Command) → c.id ≡ d.id → c.caps ≡ d.caps → own_reply c asked ≡ own_reply d asked
+pub same_own : (c d : ReaderConfig) (asked : Command) → c.id ≡ d.id → c.caps ≡ d.caps → own_reply c asked ≡ own_reply d asked
 same_own c d command.Poll id caps = refl
 same_own c d (command.Id kept) id caps = ap (λ i. Some (reply.PdId i)) id
 same_own c d (command.Cap kept) id caps = ap (λ k. Some (reply.PdCap k)) caps

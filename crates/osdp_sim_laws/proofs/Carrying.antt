@@ -9,11 +9,11 @@ use Rattle.osdp_msg.specs.declared.command.Command.{Command}
 use Rattle.osdp_msg.specs.declared.event.Event.{Event}
 use Rattle.osdp_controller.specs.Machine as controllers
 use Rattle.osdp_controller.specs.States.{is_closed}
+use Rattle.osdp_controller_laws.proofs.Closed.{may_begin}
 use Rattle.osdp_controller.specs.Ticking.{Ticked}
 use Rattle.osdp_controller.specs.declared.report.Report.{Report}
 use Rattle.osdp_controller.specs.declared.fault.ControllerFault.{ControllerFault}
 use Rattle.osdp_controller.specs.declared.state.State.{State}
-use Rattle.osdp_controller.specs.declared.state.State.TheVariants.{Closed, Quiet, Idle, Waiting, Pausing}
 use Rattle.osdp_reader.specs.State as readers
 use Rattle.osdp_link_laws.specs.Link as link
 use Rattle.osdp_link_laws.specs.Link.{Link}
@@ -54,19 +54,12 @@ none_on : (ps : List Packet) → (length (map spelling ps) == 0) ≡ true → ps
 none_on [] e = refl
 none_on (p ∷ ps) e = absurd (let some = ne_eqb (length (map spelling (p ∷ ps))) 0 (λ h. omega (arith, h)) in cc)
 
-is_over : (state : State) → is_closed state ≡ true → controllers.refused_unless_closed state ≡ None
-is_over Closed e = refl
-is_over (Quiet until) e = absurd cc
-is_over (Idle due) e = absurd cc
-is_over (Waiting until sends o) e = absurd cc
-is_over (Pausing until o) e = absurd cc
-
 pub is_quiet : (ps qs : List Packet) (state : State)
     → (if true && not (length (map spelling ps) == 0 && length (map spelling qs) == 0 && is_closed state) then Some NotQuiet else None) ≡ None
     → (ps ≡ []) × (qs ≡ []) × (controllers.refused_unless_closed state ≡ None)
 is_quiet ps qs state e =
     let all = all_true (length (map spelling ps) == 0) (length (map spelling qs) == 0) (is_closed state) e in
-    (none_on ps all.0, none_on qs all.1, is_over state all.2)
+    (none_on ps all.0, none_on qs all.1, may_begin state all.2)
 
 module _ {H : Type 0} where
   -- what is on the line can be spelled

@@ -1,6 +1,6 @@
 -- Schedules without losses, over bytes: which commands are settled and which events are reported.
-use Rattle.std.proofs.Common.{◌≡◌, ◌≤◌, ◌<◌, ◌+◌, ◌-◌, ℕ, zero, suc, arith, Bool, true, false, ◌==◌, if◌then◌else◌, ltb, All, List, [], ◌∷◌, ◌++◌, length, take, drop, Option, Some, None, Result, Ok, Err, inl, inr, refl, sym, subst, ap, ◌∙◌, append_assoc}
-use Rattle.std.proofs.lemmas.Bool.{le-ltb, lt-ltb}
+use Rattle.std.proofs.Common.{◌≡◌, ◌≤◌, ◌<◌, ◌+◌, ◌-◌, ℕ, zero, suc, arith, Bool, true, false, ◌==◌, if◌then◌else◌, All, List, [], ◌∷◌, ◌++◌, length, take, drop, Option, Some, None, Ok, Err, inl, inr, refl, sym, subst, ap, ◌∙◌}
+use Rattle.std.proofs.lemmas.Bool.{le-ltb}
 use Rattle.std.proofs.lemmas.Bool.Decides.{eqb_tells, leb_tells}
 use Rattle.std.proofs.lemmas.List.{append-nil, length-append, length-take}
 use Rattle.osdp_msg.specs.declared.command.Command.{Command}
@@ -22,30 +22,29 @@ use Rattle.osdp_link_laws.specs.Headline as headline
 use Rattle.osdp_link_laws.specs.Headline.{with_answers}
 use Rattle.osdp_link_laws.proofs.Lines.{each_all, each_append, each_front, each_of}
 use Rattle.osdp_link_laws.proofs.Stages.{Each}
+use Rattle.osdp_link_laws.specs.Ends.{count}
 use Rattle.osdp_sim.specs.Account.{Account, lists_of}
 use Rattle.osdp_sim.specs.Runs.{AreSettings, FitAlong, Stops, is_well, run}
 use Rattle.osdp_sim.specs.Schedules.{first_fault}
 use Rattle.osdp_sim.specs.State.{SimState, set_up}
 use Rattle.osdp_sim.specs.Steps as steps
 use Rattle.osdp_sim.specs.Steps.{fault_of, moment_after}
-use Rattle.osdp_sim.specs.declared.account.Account as declared
 use Rattle.osdp_sim.specs.declared.config.SimConfig.{SimConfig}
 use Rattle.osdp_sim.specs.declared.fault.Cause.{Cause}
 use Rattle.osdp_sim.specs.declared.fault.Cause.TheVariants.{HoldsPacket, NoMemory, NotQuiet, OutOfRange}
-use Rattle.osdp_sim.specs.declared.fault.Fault.{Fault}
 use Rattle.osdp_sim.specs.declared.step.SimStep.{SimStep}
 use Rattle.osdp_sim.specs.declared.step.SimStep.TheVariants.{Issue, Queue, Busy, Wait, ToReader, ToController, Reopen}
-use Rattle.osdp_sim_laws.specs.Accepted.{IsAmong, but_poll, commands_of, events_of}
+use Rattle.osdp_sim_laws.specs.Accepted.{commands_of, events_of}
 use Rattle.osdp_sim_laws.specs.Accounts.{AreOver, IsInSession, all_in}
 use Rattle.osdp_sim_laws.specs.Clean.{GoesInTurn, IsInTurn, IsOrder, clean as clean_rounds}
 use Rattle.osdp_sim_laws.specs.Moves.{clock_after, first_link, in_bytes, moves_of}
 use Rattle.osdp_sim_laws.specs.OneLink.{OneLink}
-use Rattle.osdp_sim_laws.specs.Progress.{IsRun, round, rounds}
+use Rattle.osdp_sim_laws.specs.Progress.{IsRun, rounds}
 use Rattle.osdp_sim_laws.proofs.Accepting.{Accepts, among_few, accepts_commands, accepts_events, submit_is}
 use Rattle.osdp_sim_laws.proofs.Coming.{count_of, fits_on, moments_of, round_in_time, rounds_are, rounds_within, run_both, runs_on, steps_in_time, well_on}
-use Rattle.osdp_sim_laws.proofs.Ends.{HaveEnded, count, run_ended}
+use Rattle.osdp_sim_laws.proofs.Ends.{HaveEnded, run_ended}
 use Rattle.osdp_sim_laws.proofs.Holding.{IsWithin, begins, goes_from_first, no_account, run_within, steps_within}
-use Rattle.osdp_sim_laws.proofs.Moments.{LinkInTime, clock_on, controller_in_time, last_moment, reader_in_time, tick_in_time}
+use Rattle.osdp_sim_laws.proofs.Moments.{LinkInTime, clock_on, last_moment}
 use Rattle.osdp_sim_laws.proofs.Schedules.{Follows, GoesFrom, goes_from, goes_on, schedule_follows}
 
 -- ---- orders

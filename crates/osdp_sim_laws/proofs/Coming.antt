@@ -19,6 +19,7 @@ use Rattle.osdp_link_laws.specs.Addresses.{StayWhereTheyAre}
 use Rattle.osdp_link_laws.specs.Sessions.{HaveLeft, all_queued, all_submitted, told_in}
 use Rattle.osdp_link_laws.proofs.Lines.{each_all, each_append, each_front, each_of}
 use Rattle.osdp_link_laws.proofs.Stages.{Each}
+use Rattle.osdp_link_laws.specs.Ends.{count}
 use Rattle.osdp_sim.specs.Account.{Account}
 use Rattle.osdp_sim.specs.Runs.{FitAlong, is_well, run}
 use Rattle.osdp_sim.specs.State.{SimState, set_up}
@@ -33,7 +34,7 @@ use Rattle.osdp_sim_laws.specs.OneLink.{OneLink}
 use Rattle.osdp_sim_laws.specs.Progress.{ComesOn, ComesThrough, IsClear, Recovers, clear, rounds}
 use Rattle.osdp_sim_laws.proofs.Clearing.{AtMost, Cleared, clears, losses_within, steps_few}
 use Rattle.osdp_sim_laws.proofs.Accounts.{some_begun}
-use Rattle.osdp_sim_laws.proofs.Ends.{HaveEnded, count, first_well, run_ended}
+use Rattle.osdp_sim_laws.proofs.Ends.{HaveEnded, first_well, run_ended}
 use Rattle.osdp_sim_laws.proofs.Holding.{IsWithin, begins, goes_from_first, no_account, run_within, steps_within}
 use Rattle.osdp_sim_laws.proofs.Moments.{LinkInTime, begins_in_time, clock_on, controller_in_time, last_moment, queues_in_time, reader_in_time, submits_in_time, tick_in_time}
 use Rattle.osdp_sim_laws.proofs.Schedules.{Follows, goes_from, goes_on, schedule_follows}

@@ -1,25 +1,22 @@
 -- Each session that has ended has one end.
-use Rattle.std.proofs.Common.{◌≡◌, ◌<◌, ◌+◌, ℕ, Bool, true, false, not, ◌&&◌, ◌||◌, ◌==◌, if◌then◌else◌, arith, List, [], ◌∷◌, length, Option, Some, None, is_none, refl, ap, ◌∙◌}
+use Rattle.std.proofs.Common.{◌≡◌, ◌+◌, Bool, true, false, not, ◌&&◌, ◌||◌, ◌==◌, if◌then◌else◌, arith, List, [], ◌∷◌, length, Option, Some, None, is_none, refl, ap, ◌∙◌}
 use Rattle.std.proofs.lemmas.List.{length-append}
 use Rattle.osdp_frame.specs.Packet.{Packet}
 use Rattle.osdp_msg.specs.declared.command.Command.{Command}
 use Rattle.osdp_msg.specs.declared.event.Event.{Event}
-use Rattle.osdp_controller.specs.Answers.{answer_of as said_by}
-use Rattle.osdp_controller.specs.Hearing.{Heard, hears, hears_in, ignores, is_from_reader}
+use Rattle.osdp_controller.specs.Hearing.{hears}
 use Rattle.osdp_controller.specs.Machine as controllers
 use Rattle.osdp_controller.specs.Sessions.{seen}
 use Rattle.osdp_controller.specs.States.{is_closed}
-use Rattle.osdp_controller.specs.Ticking.{ticks, ticks_in}
-use Rattle.osdp_controller.specs.declared.answer.Answer.{Answer}
+use Rattle.osdp_controller.specs.Ticking.{ticks}
 use Rattle.osdp_controller.specs.declared.fault.ControllerFault.{ControllerFault}
 use Rattle.osdp_controller.specs.declared.report.Report.{Report}
 use Rattle.osdp_controller.specs.declared.report.Report.TheVariants as report
-use Rattle.osdp_controller.specs.declared.session.Session.{Session}
 use Rattle.osdp_controller.specs.declared.state.State.{State}
-use Rattle.osdp_controller.specs.declared.state.State.TheVariants.{Closed, Quiet, Idle, Waiting, Pausing}
 use Rattle.osdp_controller_laws.specs.Commands.{tells_end}
+use Rattle.osdp_controller_laws.proofs.Closed.{silent_frame, silent_tick}
 use Rattle.osdp_reader.specs.declared.handler.Answer.{Answer as HandlerAnswer}
-use Rattle.osdp_link_laws.proofs.Lines.{both}
+use Rattle.osdp_link_laws.specs.Ends.{count}
 use Rattle.osdp_sim.specs.Account.{Account, lengths_of, with_report}
 use Rattle.osdp_sim.specs.Line.{handed, packets_in}
 use Rattle.osdp_sim.specs.Runs.{is_well, run}
@@ -38,10 +35,6 @@ pub first_well : (fault : Option Cause) (rest : Bool) → (is_none fault && rest
 first_well None rest e = (refl, e)
 first_well (Some cause) rest e = absurd cc
 
-abbrev pub count : Bool → ℕ
-count true = 1
-count false = 0
-
 ends_of_report : (r : Option Report) (a : Account) → length (with_report r a).ends ≡ length a.ends + count (tells_end r)
 ends_of_report None a = omega arith
 ends_of_report (Some (report.Opened id)) a = omega arith
@@ -52,7 +45,7 @@ ends_of_report (Some (report.PollAnswered answer)) a = omega arith
 ends_of_report (Some (report.Unread command code)) a = omega arith
 ends_of_report (Some (report.Lost cause command)) a = length-append a.ends (ending.Lost cause ∷ [])
 
-sessions_of_report : (r : Option Report) (a : Account) → (with_report r a).sessions ≡ a.sessions
+pub sessions_of_report : (r : Option Report) (a : Account) → (with_report r a).sessions ≡ a.sessions
 sessions_of_report None a = refl
 sessions_of_report (Some (report.Opened id)) a = refl
 sessions_of_report (Some (report.Settled command answer)) a = refl
@@ -62,34 +55,20 @@ sessions_of_report (Some (report.PollAnswered answer)) a = refl
 sessions_of_report (Some (report.Unread command code)) a = refl
 sessions_of_report (Some (report.Lost cause command)) a = refl
 
--- nothing ends where no session lasts
-silent_tick : (state : State) (s : Session) (waiting : List Command) → is_closed state ≡ true → tells_end (ticks_in state s waiting).step.report ≡ false
-silent_tick Closed s waiting e = refl
-silent_tick (Quiet until) s waiting e = absurd cc
-silent_tick (Idle due) s waiting e = absurd cc
-silent_tick (Waiting until sends o) s waiting e = absurd cc
-silent_tick (Pausing until o) s waiting e = absurd cc
-
-abbrev IsSilent : Heard → Type 0
-IsSilent h = tells_end h.report ≡ false
-
-silent_in : (state : State) (number : ℕ) (a : Answer) (s : Session) → is_closed state ≡ true → IsSilent (hears_in state number a s)
-silent_in Closed number a s e = refl
-silent_in (Quiet until) number a s e = absurd cc
-silent_in (Idle due) number a s e = absurd cc
-silent_in (Waiting until sends o) number a s e = absurd cc
-silent_in (Pausing until o) number a s e = absurd cc
-
-silent_frame : (p : Packet) (now : ℕ) (s : Session) → is_closed s.state ≡ true → IsSilent (hears p now s)
-silent_frame p now s e =
-    both IsSilent (is_from_reader p s) (hears_in s.state p.sequence (said_by p) (seen now s)) (ignores (seen now s))
-    (silent_in s.state p.sequence (said_by p) (seen now s) e) refl
-
 counts_join : (closed ends : Bool) → (closed ≡ true → ends ≡ false) → count (closed || ends) ≡ count closed + count ends
 counts_join true true one = absurd (let none = one refl in cc)
 counts_join true false one = refl
 counts_join false true one = refl
 counts_join false false one = refl
+
+-- a report, and whether the session is closed before it and after it: as many ends as sessions, but for the last one while it lasts
+pub ends_after : (r : Option Report) (a : Account) (closed next : Bool) → next ≡ (closed || tells_end r) → (closed ≡ true → tells_end r ≡ false)
+    → length a.ends + 1 ≡ length a.sessions + count closed → length (with_report r a).ends + 1 ≡ length (with_report r a).sessions + count next
+ends_after r a closed next is one h =
+    let ends = ends_of_report r a in
+    let same = ap (λ l. length l) (sessions_of_report r a) in
+    let later = ap count is ∙ counts_join closed (tells_end r) one in
+    omega (arith, ends, same, later, h)
 
 last_of : (a b c : Bool) → (a && b && c) ≡ true → c ≡ true
 last_of true true c e = e
@@ -106,10 +85,7 @@ module _ {H : Type 0} where
       → (is_closed s.controller.session.state ≡ true → tells_end r ≡ false) → HaveEnded s
       → length (with_report r s.account).ends + 1 ≡ length (with_report r s.account).sessions + count (is_closed state)
   ended_by r s state is one h =
-      let ends = ends_of_report r s.account in
-      let same = ap (λ l. length l) (sessions_of_report r s.account) in
-      let later = ap count is ∙ counts_join (is_closed s.controller.session.state) (tells_end r) one in
-      omega (arith, ends, same, later, h)
+      ends_after r s.account (is_closed s.controller.session.state) (is_closed state) is one h
 
   where_ended : (there : Bool) (old new : SimState H) → HaveEnded old → (there ≡ true → HaveEnded new) → HaveEnded (if there then new else old)
   where_ended true old new before later = later refl

@@ -19,6 +19,7 @@ use Rattle.osdp_link_laws.specs.Sessions.{AreInARow, LastsOrLeaves, settled_comm
 use Rattle.osdp_link_laws.proofs.Lines.{each_all, each_append, each_of}
 use Rattle.osdp_link_laws.proofs.Sessions.{taken_commands}
 use Rattle.osdp_link_laws.proofs.Stages.{Each}
+use Rattle.osdp_link_laws.specs.Ends.{count}
 use Rattle.osdp_sim.specs.Account.{Account, empty_account, lists_of, with_session}
 use Rattle.osdp_sim.specs.Runs.{FitAlong, Stops, run, steps_done}
 use Rattle.osdp_sim.specs.State.{SimState, set_up}
@@ -32,7 +33,7 @@ use Rattle.osdp_sim_laws.specs.Accounts.{IsInARow, IsInSession, IsNoRefusal, IsO
 use Rattle.osdp_sim_laws.specs.OneLink.{OneLink}
 use Rattle.osdp_sim_laws.specs.Progress.{IsRun}
 use Rattle.osdp_sim_laws.specs.Moves.{step_clock, first_link, move_of, moves_of}
-use Rattle.osdp_sim_laws.proofs.Ends.{count, run_ended}
+use Rattle.osdp_sim_laws.proofs.Ends.{run_ended}
 use Rattle.osdp_sim_laws.proofs.Schedules.{GoesFrom, schedule_follows}
 
 -- nothing is sent, and nothing is told
@@ -206,7 +207,7 @@ module _ {H : Type 0} (answer_of : H → Command → Answer) (after : H → Comm
   few a t (inr (ended, leaves)) one = omega (arith, ended, one)
 
   -- of one session alone
-  of_one : (config : ReaderConfig) (handler : H) (a : Account) (t : link.Account) (earlier : List link.Account) → earlier ≡ []
+  pub of_one : (config : ReaderConfig) (handler : H) (a : Account) (t : link.Account) (earlier : List link.Account) → earlier ≡ []
       → IsOf a t earlier → AreOnce answer_of after config handler (t ∷ earlier) → LastsOrHasEnded a t → All IsNoRefusal a.ends → IsOnce answer_of after config handler a
   of_one config handler a t (u ∷ earlier) none lists once ends causes = absurd cc
   of_one config handler a t [] none lists once ends causes =

@@ -1,5 +1,5 @@
 -- A schedule over a line of bytes is a list of moves of the link over its packets.
-use Rattle.std.proofs.Common.{◌≡◌, ℕ, Bool, true, false, not, ◌&&◌, ◌==◌, if◌then◌else◌, List, [], ◌∷◌, ◌++◌, length, arith, ◌+◌, Option, Some, None, is_none, refl, sym, subst, ap, ◌∙◌, append_assoc}
+use Rattle.std.proofs.Common.{◌≡◌, ℕ, Bool, true, false, not, ◌&&◌, ◌==◌, if◌then◌else◌, List, [], ◌∷◌, ◌++◌, length, arith, ◌+◌, Some, None, refl, sym, subst, ap, ◌∙◌, append_assoc}
 use Rattle.std.specs.Prelude.{option_to_list}
 use Rattle.osdp_msg.specs.declared.command.Command.{Command}
 use Rattle.osdp_controller.specs.Machine as controllers
@@ -16,6 +16,7 @@ use Rattle.osdp_link_laws.specs.Refusals.{reports, told_by}
 use Rattle.osdp_link_laws.specs.Sessions.{LastsOrLeaves, all_queued, all_submitted, queued, submitted}
 use Rattle.osdp_link_laws.proofs.Lines.{each_front, each_rest}
 use Rattle.osdp_link_laws.proofs.Stages.{Each}
+use Rattle.osdp_link_laws.specs.Ends.{count}
 use Rattle.osdp_sim.specs.Account.{Account}
 use Rattle.osdp_sim.specs.Runs.{FitAlong, is_well, run}
 use Rattle.osdp_sim.specs.State.{SimState}
@@ -30,7 +31,7 @@ use Rattle.osdp_sim_laws.specs.OneLink.{EndsAreTold, ReadsPackets}
 use Rattle.osdp_sim_laws.specs.Moves.{clock_after, step_clock, in_bytes, move_of, moves_of}
 use Rattle.osdp_sim_laws.proofs.Carrying.{ArePackets, HasLeft, IsCarried, is_quiet, issuing, nothing, queueing, reopening, setting_busy, ticking}
 use Rattle.osdp_sim_laws.proofs.Delivering.{says_what_fits, to_controller, to_reader}
-use Rattle.osdp_sim_laws.proofs.Ends.{HaveEnded, count, first_well, step_ended}
+use Rattle.osdp_sim_laws.proofs.Ends.{HaveEnded, first_well, step_ended}
 
 module _ {H : Type 0} (answer_of : H → Command → Answer) (after : H → Command → H) where
   -- the simulation is carried on by these moves
