@@ -1,5 +1,6 @@
 pub mod Acks
 pub mod Asking
+pub mod Bodies
 pub mod Choices
 pub mod Keeping
 pub mod Over
