@@ -1,23 +1,28 @@
 -- Bursts on the line: each is the packet that it spells.
-use Rattle.std.proofs.Common.{◌≡◌, ◌↔◌, ◌⊎◌, ◌≤◌, ◌-◌, ℕ, true, false, not, ◌==◌, min, if◌then◌else◌, arith, List, [], ◌∷◌, ◌++◌, length, take, drop, MatchOption, Option, Some, None, option_to_list, inl, inr, refl, sym, ap, ◌∙◌}
+use Rattle.std.proofs.Common.{◌≡◌, ◌↔◌, ◌⊎◌, ◌<◌, ◌≤◌, ◌-◌, ℕ, true, false, not, ◌==◌, min, if◌then◌else◌, arith, List, [], ◌∷◌, ◌++◌, length, take, get_or, Option, Some, None, inl, inr, refl, sym, ap, ◌∙◌}
 use Rattle.std.proofs.lemmas.Bool.{ne_eqb}
 use Rattle.std.proofs.lemmas.List.{take_all}
+use Rattle.std.specs.Prelude.{option_map}
 use Rattle.arrayvec.specs.ArrayVec.{ArrayVec}
-use Rattle.osdp_frame.specs.Held.{after_gap, after_push, decided, new_run}
+use Rattle.osdp_frame.specs.Held.{after_gap, after_push, by_itself, decided, new_run}
 use Rattle.osdp_frame.specs.Items.{items, reading}
 use Rattle.osdp_frame.specs.Packet.{Packet, largest}
 use Rattle.osdp_frame.specs.Reading.{Part, Whole, Passed, Bad, IsFirst}
+use Rattle.osdp_frame.specs.Shown.{part_of}
 use Rattle.osdp_frame.specs.Spelling.{Spells, spelling}
+use Rattle.osdp_frame.specs.declared.fault.FrameFault.{FrameFault}
+use Rattle.osdp_frame.specs.declared.item.Item.{Item}
+use Rattle.osdp_frame.specs.declared.item.Item.TheVariants as shown
 use Rattle.osdp_reader.specs.Spelled.{IsSpelled}
 use Rattle.osdp_sim.specs.Line.{bytes_of, handed, has_packet, packets_in, sent, whole_packets}
 use Rattle.osdp_sim.specs.Steps.{damage_fault}
 use Rattle.osdp_sim.specs.declared.fault.Cause.TheVariants.{HoldsPacket}
 use Rattle.osdp_sim.specs.declared.step.Move.{Move}
-use Rattle.osdp_sim.specs.declared.step.Move.TheVariants.{Deliver, Drop, Damage}
+use Rattle.osdp_sim.specs.declared.step.Move.TheVariants.{Drop, Damage}
 
 -- what spells a packet has it first
 pub spelled_first : (p : Packet) (bytes : List ℕ) → Spells p bytes
-    → ((part : Part) → (decided true bytes ≡ Some part) ↔ IsFirst true bytes part) → decided true bytes ≡ Some (Whole p)
+    → ((part : Part) → (decided false bytes ≡ Some part) ↔ IsFirst false bytes part) → decided false bytes ≡ Some (Whole p)
 spelled_first p bytes spelled decides =
     (decides (Whole p)).1 (λ more ends. record { bytes = bytes; after = more; spelled = spelled; parts = refl })
 
@@ -39,26 +44,32 @@ no_packets (Whole p ∷ parts) e = absurd cc
 no_packets (Passed b ∷ parts) e = no_packets parts e
 no_packets (Bad fault ∷ parts) e = no_packets parts e
 
--- nothing is left where the rest is the whole
-nothing_left : {A : Type 0} (xs : List A) → xs ≡ drop 1 xs → xs ≡ []
-nothing_left [] is = refl
-nothing_left (x ∷ xs) is = absurd (let short : length (x ∷ xs) ≡ length xs = ap length is in omega (arith, short))
+-- the item that stands first in a burst is its packet
+pub whole_packet : (p : Packet) (o : Option Item) → option_map part_of o ≡ Some (Whole p) → o ≡ Some (shown.Packet p)
+whole_packet p None is = absurd cc
+whole_packet p (Some (shown.Packet q)) is = cc
+whole_packet p (Some (shown.Skipped b)) is = absurd cc
+whole_packet p (Some (shown.Refused fault)) is = absurd cc
 
-pub nothing_there : {A : Type 0} (xs : List A) → length xs ≤ 0 → xs ≡ []
-nothing_there [] none = refl
-nothing_there (x ∷ xs) none = absurd (omega arith)
+pub burst_packet : (p : Packet) (bytes : List ℕ) (o : Option Item) → option_map part_of o ≡ by_itself (decided false bytes)
+    → decided false bytes ≡ Some (Whole p) → o ≡ Some (shown.Packet p)
+burst_packet p bytes o shows is = whole_packet p o (shows ∙ ap by_itself is)
 
--- what a delivery hands over
-pub delivered : (move : Move) (o : Option (ArrayVec ℕ)) (line rest : List (ArrayVec ℕ)) → move ≡ Deliver → line ≡ option_to_list o ++ rest → rest ≡ drop 1 line
-    → MatchOption o (packets_in (handed move (bytes_of line)) ≡ []) (λ burst. packets_in (handed move (bytes_of line)) ≡ packets_in burst.items)
-delivered move None line rest is parts left =
-    ap (λ l. packets_in (handed move (bytes_of l))) (nothing_left line (parts ∙ left)) ∙ no_bytes
-delivered move (Some burst) line rest is parts left =
-    ap (λ m. packets_in (handed m (bytes_of line))) is ∙ ap (λ l. packets_in (handed Deliver (bytes_of l))) parts
+pub no_item : (p : Packet) → None ≡ Some (shown.Packet p) → ⊥
+no_item p is = cc
 
--- the packet that a framer shows of a burst is the burst's
-pub one_packet : (p q : Packet) (o : Option Part) → Some (Whole q) ≡ o → o ≡ Some (Whole p) → p ∷ [] ≡ q ∷ []
-one_packet p q o shown is = cc
+pub no_other : (p : Packet) (item : Item) → Some item ≡ Some (shown.Packet p)
+    → ((b : ℕ) × (item ≡ shown.Skipped b)) ⊎ ((fault : FrameFault) × (item ≡ shown.Refused fault)) → ⊥
+no_other p item is (inl (b, other)) = cc
+no_other p item is (inr (fault, other)) = cc
+
+pub same_packet : (p q : Packet) (item : Item) → Some item ≡ Some (shown.Packet p) → item ≡ shown.Packet q → p ≡ q
+same_packet p q item is shows = cc
+
+-- the last of a list
+pub last_place : {A : Type 0} (xs : List A) (y d : A) → get_or (xs ++ y ∷ []) (length xs) d ≡ y
+last_place [] y d = refl
+last_place (x ∷ xs) y d = last_place xs y d
 
 -- what is sent are the bytes of the burst
 pub sent_burst : (o : Option Packet) (bytes : List ℕ) → IsSpelled o bytes → (length bytes == 0) ≡ false

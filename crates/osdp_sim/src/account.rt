@@ -1,14 +1,12 @@
 //! What a schedule comes to.
 
 ghost use Rattle.std.specs.Prelude.{◌≡◌, OnOk};
-ghost use Rattle.osdp_reader.specs.Responses.{response_bytes, response_command, response_kind};
 ghost use Rattle.osdp_sim.specs.Account.{empty_account, lists_of, taken_by, taken_command, with_issued, with_queued, with_report, with_session, with_taken};
 ghost use Rattle.osdp_sim.specs.Room.{HasPlaces};
 
 use osdp_controller::{LostCause, Report};
-use osdp_frame::Burst;
 use osdp_msg::{Command, Event, Reply};
-use osdp_reader::Response;
+use osdp_reader::{Heard, Kind};
 use std::alloc::{AllocError, Global};
 
 /// How a session ended.
@@ -92,6 +90,24 @@ impl Account {
         self.sessions.try_reserve(1)
     }
 
+    /// Makes room for so many commands that are issued, and for one more, which every step has a place for, if there is memory for them
+    /// all at once.
+    pub fn expect(&mut self, commands: usize)
+        ensures { lists_of self.new ≡ lists_of self.old }
+    {
+        if commands == 0 {
+            return;
+        }
+        let places = commands.saturating_add(1);
+        let _ = self.issued.try_reserve_exact(places);
+        let _ = self.taken.try_reserve_exact(places);
+        // The largest block has places to spare, which no page of memory is taken for: an allocator that gives back to the system what is
+        // free at its end, where that is more than twice its largest block, as that of the C library does, then keeps it for the next run.
+        let _ = self
+            .settled
+            .try_reserve_exact(places.saturating_add(places / 8 + 64));
+    }
+
     /// A session begins.
     pub fn begin(&mut self)
         requires { HasPlaces self.old }
@@ -109,19 +125,19 @@ impl Account {
     }
 
     /// A command was accepted.
-    pub fn issue(&mut self, command: Command)
+    pub fn issue(&mut self, command: &Command)
         requires { HasPlaces self.old }
-        ensures { lists_of self.new ≡ with_issued command (lists_of self.old) }
+        ensures { lists_of self.new ≡ with_issued command.now (lists_of self.old) }
     {
-        self.issued.push_reserved(command);
+        self.issued.push_reserved(command.copy());
     }
 
     /// An event was accepted.
-    pub fn queue(&mut self, event: Event)
+    pub fn queue(&mut self, event: &Event)
         requires { HasPlaces self.old }
-        ensures { lists_of self.new ≡ with_queued event (lists_of self.old) }
+        ensures { lists_of self.new ≡ with_queued event.now (lists_of self.old) }
     {
-        self.queued.push_reserved(event);
+        self.queued.push_reserved(event.copy());
     }
 
     /// The reader has taken a command: a POLL isn't counted.
@@ -132,6 +148,19 @@ impl Account {
         let Some(command) = command else { return };
         if !matches!(command, Command::Poll) {
             self.taken.push_reserved(command);
+        }
+    }
+
+    /// The reader has heard a packet, and made this of it. A command that it has taken leaves its place there, but for a POLL, which isn't
+    /// counted.
+    #[inline(always)]
+    pub fn take_heard(&mut self, heard: &mut Heard)
+        requires { HasPlaces self.old }
+        ensures account { lists_of self.new ≡ with_taken (taken_by heard.old.kind heard.old.command) (lists_of self.old) }
+        ensures burst { heard.new.burst ≡ heard.old.burst }
+    {
+        if heard.kind == Kind::Taken && !matches!(heard.command, Some(Command::Poll)) {
+            self.take(heard.command.take());
         }
     }
 
@@ -156,20 +185,15 @@ impl Account {
             }
         }
     }
-}
 
-/// Of a response, the command that was taken and the burst to send, which is empty where nothing is.
-pub fn taken_and_sent(response: Response) -> (Option<Command>, Burst)
-    ensures taken { taken_command result.0 ≡ taken_by (response_kind response) (response_command response) }
-    ensures burst { result.1.items ≡ response_bytes response }
-{
-    match response {
-        Response::Silent => (None, Burst::new()),
-        Response::Taken(command, burst) => (command, burst),
-        Response::Secured(burst)
-        | Response::Zero(_, burst)
-        | Response::Repeat(burst)
-        | Response::Busy(burst)
-        | Response::Wrong(burst) => (None, burst),
+    /// The controller has reported what stands there, if anything does. It leaves its place.
+    #[inline(always)]
+    pub fn tell_any(&mut self, report: &mut Option<Report>)
+        requires { HasPlaces self.old }
+        ensures { lists_of self.new ≡ with_report report.old (lists_of self.old) }
+    {
+        if report.is_some() {
+            self.tell(report.take());
+        }
     }
 }

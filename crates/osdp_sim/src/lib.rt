@@ -23,6 +23,7 @@
 mod account;
 mod config;
 mod fault;
+pub mod hearing;
 pub mod laws;
 pub mod line;
 mod schedule;
@@ -30,7 +31,7 @@ mod session;
 mod simulation;
 mod step;
 
-pub use account::{Account, End, Lengths, taken_and_sent};
+pub use account::{Account, End, Lengths};
 pub use config::SimConfig;
 pub use fault::{Cause, Fault};
 pub use schedule::{Listed, Schedule};

@@ -1,16 +1,15 @@
 //! One direction of a line, for what simulates one.
 
-ghost use Rattle.std.specs.Prelude.{◌≡◌, All, IfSome, MatchOption, [], None, Some, ℕ};
-ghost use Rattle.osdp_frame.specs.Held.{decided};
-ghost use Rattle.osdp_frame.specs.Packet.{Packet};
-ghost use Rattle.osdp_frame.specs.Reading.{Whole};
+ghost use Rattle.std.specs.Prelude.{◌≡◌, ◌<◌, ◌≤◌, ◌+◌, ◌++◌, ◌∷◌, All, [], None, option_to_list};
+ghost use Rattle.std.specs.VecDeque.{deque_capacity, deque_len};
 ghost use Rattle.osdp_frame.specs.Spelling.{Spells};
 ghost use Rattle.osdp_sim.specs.Line.{IsSent, bytes_of, handed, holds_packet, left, packets_in};
 ghost use Rattle.osdp_sim.specs.Steps.{damage_fault};
 
 use crate::fault::Cause;
+use crate::laws::reads_packets;
 use crate::step::Move;
-use osdp_frame::{Burst, Framer, Item};
+use osdp_frame::{Burst, FrameView, Framer, Item, whole_item};
 use std::collections::VecDeque;
 
 /// Whether a packet stands in a run of these bytes.
@@ -47,41 +46,63 @@ pub fn damage_fault(way: &Move) -> Option<Cause>
     }
 }
 
-/// Moves the line on, and gives the burst that comes through as it was sent. Damage holds no packet, so nothing of it does.
-pub fn move_on(line: &mut VecDeque<Burst>, way: &Move) -> Option<Burst>
+/// The packet that a burst is.
+pub fn packet_of(burst: &Burst) -> FrameView<'_>
+    requires { IsSent burst.now.items }
+    ensures { Spells result burst.now.items }
+{
+    osdp_frame_laws::spelling_of_bytes();
+    osdp_frame_laws::first_item_decided();
+    let Some(item) = whole_item(burst.as_slice()) else {
+        unreachable!();
+    };
+    match item {
+        Item::Packet(packet) => packet,
+        Item::Skipped(_) | Item::Refused(_) => unreachable!(),
+    }
+}
+
+/// The packet that a move hands over, where the burst in front comes through as it was sent. Damage holds no packet, so nothing of it does.
+pub fn handed_packet<'a>(line: &'a VecDeque<Burst>, way: &Move) -> Option<FrameView<'a>>
     requires well { damage_fault way.now ≡ None }
-    requires sent { All IsSent (bytes_of line.old.items) }
+    requires sent { All IsSent (bytes_of line.now.items) }
+    ensures { packets_in (handed way.now (bytes_of line.now.items)) ≡ option_to_list result }
+{
+    reads_packets();
+    match way {
+        Move::Deliver | Move::Repeat => {
+            let burst = line.front()?;
+            Some(packet_of(burst))
+        }
+        Move::Drop | Move::Damage(_) => None,
+    }
+}
+
+/// Moves the line on: the burst in front leaves it, unless it will come through again.
+pub fn move_on(line: &mut VecDeque<Burst>, way: &Move)
     ensures line { bytes_of line.new.items ≡ left way.now (bytes_of line.old.items) }
-    ensures packets { MatchOption result (packets_in (handed way.now (bytes_of line.old.items)) ≡ [])
-        (λ burst. packets_in (handed way.now (bytes_of line.old.items)) ≡ packets_in burst.items) }
-    ensures sent { IfSome result (λ burst. IsSent burst.items) }
+    ensures fewer { deque_len line.new ≤ deque_len line.old }
+    ensures capacity { deque_capacity line.new ≡ deque_capacity line.old }
 {
     match way {
-        Move::Deliver => line.pop_front(),
-        Move::Repeat => match line.front() {
-            Some(burst) => Some(copy(burst)),
-            None => None,
-        },
-        Move::Drop | Move::Damage(_) => {
+        Move::Repeat => {}
+        Move::Deliver | Move::Drop | Move::Damage(_) => {
             let _ = line.pop_front();
-            None
         }
     }
 }
 
-/// A framer that holds a burst, which is a run of its own.
-pub fn framed(burst: &Burst) -> Framer
-    requires { IsSent burst.now.items }
-    ensures { (p : Packet) → Spells p burst.now.items → decided result.ended result.bytes ≡ Some (Whole p) }
+/// A burst goes out, after those that are on their way. Its bytes alone are moved.
+pub fn send(line: &mut VecDeque<Burst>, burst: &Burst)
+    requires { deque_len line.old < deque_capacity line.old }
+    ensures items { line.new.items ≡ line.old.items ++ burst.now ∷ [] }
+    ensures len { deque_len line.new ≡ deque_len line.old + 1 }
+    ensures capacity { deque_capacity line.new ≡ deque_capacity line.old }
 {
-    osdp_frame_laws::spelling_of_bytes();
-    osdp_frame_laws::first_item_decided();
-    osdp_frame_laws::reading_of_spelling();
-    osdp_frame_laws::sizes_of_reading();
-    let mut framer = Framer::new();
-    framer.push(burst.as_slice());
-    framer.gap();
-    framer
+    line.push_back_reserved(Burst::new());
+    if let Some(place) = line.back_mut() {
+        let _ = place.try_extend_from_slice(burst.as_slice());
+    }
 }
 
 /// A copy of a burst.

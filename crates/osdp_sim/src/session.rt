@@ -11,7 +11,7 @@ ghost use Rattle.osdp_sim.specs.Steps.{StepFits, after_step, fault_of};
 use crate::account::Account;
 use crate::config::SimConfig;
 use crate::fault::{Cause, Fault};
-use crate::schedule::{Listed, Schedule};
+use crate::schedule::Schedule;
 use crate::simulation::Simulation;
 use crate::step::SimStep;
 use osdp_reader::Handler;
@@ -32,7 +32,54 @@ pub fn run_session<H: Handler>(
     ensures ends { RunEnds H.answer_of H.after config.now handler steps.now result }
     ensures fits { FitAlong H.answer_of H.after (steps_done steps.now result) (set_up config.now handler) }
 {
-    run_schedule(alloc, config, handler, Listed { rest: steps })
+    match Simulation::new(alloc, config, handler) {
+        Ok(mut simulation) => {
+            simulation.account.expect(issues(steps));
+            run_listed(simulation, steps)
+        }
+        Err(cause) => Err(Fault {
+            step: 0,
+            cause,
+            account: Account::new(alloc),
+        }),
+    }
+}
+
+/// How many commands a list of steps issues to the first reader.
+fn issues(steps: &[SimStep]) -> usize {
+    steps
+        .iter()
+        .filter(|step| matches!(step, SimStep::Issue(1, _)))
+        .count()
+}
+
+/// Takes the steps of a list where they lie, up to the first that is refused or finds no memory.
+fn run_listed<H: Handler>(
+    simulation: Simulation<H>,
+    steps: &[SimStep],
+) -> Result<Account, Fault<Account>>
+    requires sent { AreSent (state_of simulation) }
+    ensures ok { IfOk result (λ account. (is_well H.answer_of H.after steps.now (state_of simulation) ≡ true)
+        × (lists_of account ≡ (run H.answer_of H.after steps.now (state_of simulation)).account)) }
+    ensures err { IfErr result (λ fault. (1 ≤ fault.step)
+        × StopsAt H.answer_of H.after fault.step fault.cause (lists_of fault.account) steps.now (state_of simulation)) }
+    ensures fits { FitAlong H.answer_of H.after (steps_done steps.now result) (state_of simulation) }
+{
+    let mut simulation = simulation;
+    let mut left = steps;
+    let mut number = 0;
+    'steps: while let Some((step, rest)) = left.split_first() {
+        left = rest;
+        number += 1;
+        if let Err(cause) = try_step(&mut simulation, step) {
+            return Err(Fault {
+                step: number,
+                cause,
+                account: simulation.account,
+            });
+        }
+    }
+    Ok(simulation.account)
 }
 
 /// The same of steps that are handed out one at a time.

@@ -1,25 +1,24 @@
 //! Both ends and the line between them.
 
-ghost use Rattle.std.specs.Prelude.{◌≡◌, ◌↔◌, ◌<◌, IsTrue, IfOk, IfErr, None, OnOk, ◌∷◌, []};
-ghost use Rattle.std.specs.VecDeque.{deque_capacity, deque_len};
+ghost use Rattle.std.specs.Prelude.{◌≡◌, ◌↔◌, IsTrue, IfOk, IfErr, None, OnOk};
 ghost use Rattle.osdp_msg.specs.CommandTable.{CommandFits};
 ghost use Rattle.osdp_controller.specs.Machine as controllers;
-ghost use Rattle.osdp_sim.specs.Room.{HasPlaces, HasRoom, state_of};
+ghost use Rattle.osdp_sim.specs.Room.{HasRoom, state_of};
 ghost use Rattle.osdp_sim.specs.Runs.{AreSettings, IsControllerCause, IsSetUpCause, ReaderInRange};
 ghost use Rattle.osdp_sim.specs.State.{AreSent, set_up};
-ghost use Rattle.osdp_sim.specs.Steps.{SaysFit, StepFits, after_step, damage_fault, fault_of, is_quiet, reader_hears};
+ghost use Rattle.osdp_sim.specs.Steps.{StepFits, after_step, damage_fault, fault_of, is_quiet};
 ghost use Rattle.osdp_sim.specs.declared.step.SimStep.TheVariants.{Issue, Queue, Reopen, ToController, ToReader, Wait};
 
-use crate::account::{Account, taken_and_sent};
+use crate::account::Account;
 use crate::config::SimConfig;
 use crate::fault::Cause;
-use crate::laws::reads_packets;
-use crate::line::{damage_fault, framed, move_on};
+use crate::hearing::hear;
+use crate::line::{damage_fault, handed_packet, move_on, send};
 use crate::step::{Move, SimStep};
-use osdp_controller::{Controller, ControllerFault, Step};
-use osdp_frame::{Burst, FrameView, Item};
+use osdp_controller::{Controller, ControllerFault, Report};
+use osdp_frame::Burst;
 use osdp_msg::{Command, Event};
-use osdp_reader::{Handler, Reader};
+use osdp_reader::{Handler, Heard, Reader};
 use std::alloc::{AllocError, Global};
 use std::collections::VecDeque;
 
@@ -38,6 +37,12 @@ pub struct Simulation<H: Handler> {
     pub clock: u64,
     /// What has happened so far.
     pub account: Account,
+    /// The packet that the controller sent last, as bytes. This and what follows are lent to both ends, step after step.
+    out: Burst,
+    /// What the controller told last, if it told anything.
+    report: Option<Report>,
+    /// What the reader made of the packet that it heard last.
+    heard: Heard,
 }
 
 /// Whether the reader's settings are in their ranges.
@@ -94,6 +99,9 @@ impl<H: Handler> Simulation<H> {
             to_controller: VecDeque::new(alloc),
             clock: 0,
             account,
+            out: Burst::new(),
+            report: None,
+            heard: Heard::new(),
         })
     }
 
@@ -179,7 +187,7 @@ impl<H: Handler> Simulation<H> {
             return;
         }
         if self.controller.submit(command.copy()).is_ok() {
-            self.account.issue(command.copy());
+            self.account.issue(command);
         }
     }
 
@@ -192,7 +200,7 @@ impl<H: Handler> Simulation<H> {
             return;
         }
         if self.reader.submit_event(event.copy()).is_ok() {
-            self.account.queue(event.copy());
+            self.account.queue(event);
         }
     }
 
@@ -202,12 +210,15 @@ impl<H: Handler> Simulation<H> {
         ensures state { state_of self.new ≡ after_step H.answer_of H.after (Wait wait) (state_of self.old) }
         ensures fits { StepFits H.answer_of H.after (Wait wait) (state_of self.old) }
     {
+        osdp_frame_laws::one_spelling();
         self.clock = self.clock.saturating_add(wait);
-        let Step { frame, report } = self.controller.tick(self.clock);
-        if let Some(frame) = &frame {
-            self.to_reader.push_back_reserved(frame.encode());
+        if self
+            .controller
+            .tick_into(self.clock, &mut self.out, &mut self.report)
+        {
+            send(&mut self.to_reader, &self.out);
         }
-        self.account.tell(report);
+        self.account.tell_any(&mut self.report);
     }
 
     /// The session begins again.
@@ -222,7 +233,7 @@ impl<H: Handler> Simulation<H> {
         }
     }
 
-    /// The line moves on towards the reader.
+    /// The line moves on towards the reader, which hears the packet that comes through, and its answer goes out.
     fn to_reader(&mut self, way: &Move)
         requires room { HasRoom self.old }
         requires well { damage_fault way.now ≡ None }
@@ -230,46 +241,29 @@ impl<H: Handler> Simulation<H> {
         ensures state { state_of self.new ≡ after_step H.answer_of H.after (ToReader way.now) (state_of self.old) }
         ensures fits { StepFits H.answer_of H.after (ToReader way.now) (state_of self.old) }
     {
-        reads_packets();
-        let Some(burst) = move_on(&mut self.to_reader, way) else {
-            return
-        };
-        let framer = framed(&burst);
-        if let Some(Item::Packet(packet)) = framer.next() {
-            self.reader_hears(&packet);
+        if let Some(packet) = handed_packet(&self.to_reader, way) {
+            hear(
+                &mut self.reader,
+                &packet,
+                &mut self.heard,
+                &mut self.account,
+                &mut self.to_controller,
+            );
         }
+        move_on(&mut self.to_reader, way);
     }
 
-    /// The line moves on towards the controller.
+    /// The line moves on towards the controller, which hears the packet that comes through.
     fn to_controller(&mut self, way: &Move)
         requires room { HasRoom self.old }
         requires well { damage_fault way.now ≡ None }
         requires sent { AreSent (state_of self.old) }
         ensures state { state_of self.new ≡ after_step H.answer_of H.after (ToController way.now) (state_of self.old) }
     {
-        reads_packets();
-        let Some(burst) = move_on(&mut self.to_controller, way) else {
-            return
-        };
-        let framer = framed(&burst);
-        if let Some(Item::Packet(packet)) = framer.next() {
-            let report = self.controller.on_frame(&packet, self.clock);
-            self.account.tell(report);
+        if let Some(packet) = handed_packet(&self.to_controller, way) {
+            self.controller.hear(&packet, self.clock, &mut self.report);
+            self.account.tell_any(&mut self.report);
         }
-    }
-
-    /// The reader hears a packet, and its answer goes out.
-    fn reader_hears(&mut self, packet: &FrameView<'_>)
-        requires place { deque_len self.old.to_controller < deque_capacity self.old.to_controller }
-        requires places { HasPlaces self.old.account }
-        ensures state { state_of self.new ≡ reader_hears H.answer_of H.after (packet.now ∷ []) (state_of self.old) }
-        ensures fits { SaysFit H.answer_of H.after (packet.now ∷ []) (state_of self.old).reader }
-    {
-        osdp_frame_laws::one_spelling();
-        let (command, burst) = taken_and_sent(self.reader.on_frame(packet));
-        self.account.take(command);
-        if !burst.is_empty() {
-            self.to_controller.push_back_reserved(burst);
-        }
+        move_on(&mut self.to_controller, way);
     }
 }

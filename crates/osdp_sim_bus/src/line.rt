@@ -3,7 +3,7 @@
 ghost use Rattle.std.specs.Prelude.{◌≡◌, ◌+◌, ◌≤◌, ◌++◌, [], ◌∷◌, All, OnOk, length, map};
 ghost use Rattle.std.specs.List.{flat_map};
 ghost use Rattle.std.specs.VecDeque.{deque_capacity, deque_len};
-ghost use Rattle.osdp_sim.specs.Line.{bytes_of, handed, left};
+ghost use Rattle.osdp_sim.specs.Line.{bytes_of, handed};
 ghost use Rattle.osdp_sim.specs.Steps.{SaysFit};
 ghost use Rattle.osdp_sim_bus.specs.Room.{HasPlace, sites_of};
 ghost use Rattle.osdp_sim_bus.specs.Steps.{hears_run, site_hears, site_says};
@@ -11,52 +11,41 @@ ghost use Rattle.osdp_sim_bus.specs.Steps.{hears_run, site_hears, site_says};
 use crate::site::Site;
 use osdp_bus::Bus;
 use osdp_frame::{Burst, FrameView};
-use osdp_reader::Handler;
+use osdp_reader::{Handler, Heard};
 use osdp_sim::Move;
-use osdp_sim::line::copy;
 use std::alloc::AllocError;
 use std::collections::VecDeque;
 
-/// Moves the line on, and gives the bytes that come through; none where nothing does.
-pub fn hand_over(line: &mut VecDeque<Burst>, way: &Move) -> Burst
-    ensures line { bytes_of line.new.items ≡ left way.now (bytes_of line.old.items) }
-    ensures handed { result.items ≡ handed way.now (bytes_of line.old.items) }
+/// The bytes that a move hands over; none where nothing comes through.
+pub fn handed<'a>(line: &'a VecDeque<Burst>, way: &'a Move) -> &'a [u8]
+    ensures { result.now ≡ handed way.now (bytes_of line.now.items) }
 {
+    let Some(burst) = line.front() else {
+        return &[];
+    };
     match way {
-        Move::Repeat => match line.front() {
-            Some(burst) => copy(burst),
-            None => Burst::new(),
-        },
-        Move::Deliver => match line.pop_front() {
-            Some(burst) => burst,
-            None => Burst::new(),
-        },
-        Move::Drop => {
-            let _ = line.pop_front();
-            Burst::new()
-        }
-        Move::Damage(bytes) => match line.pop_front() {
-            Some(_) => copy(bytes),
-            None => Burst::new(),
-        },
+        Move::Deliver | Move::Repeat => burst.as_slice(),
+        Move::Drop => &[],
+        Move::Damage(bytes) => bytes.as_slice(),
     }
 }
 
 /// A run of bytes comes to the bus, which then sees the line silent.
-pub fn hand_in(bus: &mut Bus, run: &Burst, now: u64)
-    ensures { bus.new ≡ hears_run run.now.items now bus.old }
+pub fn hand_in(bus: &mut Bus, run: &[u8], now: u64)
+    ensures { bus.new ≡ hears_run run.now now bus.old }
 {
     if run.is_empty() {
         return;
     }
-    bus.on_bytes(run.as_slice(), now);
+    bus.on_bytes(run, now);
     bus.on_silence(now);
 }
 
-/// All readers hear a packet, in their order, and what each of them answers goes out.
+/// All readers hear a packet, in their order, and what each of them answers goes out. What the last of them made of it stands in `heard`.
 pub fn hear_all<H: Handler>(
     sites: &mut [Site<H>],
     packet: &FrameView<'_>,
+    heard: &mut Heard,
     line: &mut VecDeque<Burst>,
 )
     requires place { deque_len line.old + length sites.old ≤ deque_capacity line.old }
@@ -66,7 +55,7 @@ pub fn hear_all<H: Handler>(
     ensures fits { All (λ site. SaysFit H.answer_of H.after (packet.now ∷ []) site.reader) (sites_of sites.old) }
 {
     for site in sites.iter_mut() {
-        site.hear(packet, line);
+        site.hear(packet, heard, line);
     }
 }
 

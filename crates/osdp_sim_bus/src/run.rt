@@ -15,8 +15,8 @@ use crate::settings::are_readers;
 use crate::simulation::Simulation;
 use crate::site::Site;
 use osdp_bus::{Bus, BusConfig, BusFault};
-use osdp_frame::Address;
-use osdp_reader::{Handler, ReaderConfig};
+use osdp_frame::{Address, Burst};
+use osdp_reader::{Handler, Heard, ReaderConfig};
 use osdp_sim::{Account, Cause, Fault, Listed, Schedule, SimStep};
 use std::alloc::Global;
 use std::collections::VecDeque;
@@ -85,6 +85,8 @@ fn set_up<H: Handler>(
         to_readers: VecDeque::new(alloc),
         to_bus: VecDeque::new(alloc),
         clock: 0,
+        out: Burst::new(),
+        heard: Heard::new(),
     };
     Ok((simulation, told))
 }

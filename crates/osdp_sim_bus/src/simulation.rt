@@ -9,14 +9,13 @@ ghost use Rattle.osdp_sim_bus.specs.Room.{HasPlace, HasRoom, state_of};
 ghost use Rattle.osdp_sim_bus.specs.State.{AreSent};
 ghost use Rattle.osdp_sim_bus.specs.Steps.{DamageIsBytes, StepFits, after_step, fault_of, is_quiet, is_there, takes_report};
 
-use crate::line::{grow_all, hand_in, hand_over, hear_all};
+use crate::line::{grow_all, hand_in, handed, hear_all};
 use crate::site::Site;
 use osdp_bus::Bus;
-use osdp_frame::{Burst, Item};
+use osdp_frame::Burst;
 use osdp_msg::{Command, Event};
-use osdp_reader::Handler;
-use osdp_sim::laws::reads_packets;
-use osdp_sim::line::{damage_fault, framed, move_on};
+use osdp_reader::{Handler, Heard};
+use osdp_sim::line::{damage_fault, handed_packet, move_on, send};
 use osdp_sim::{Cause, Move, SimStep};
 use std::alloc::AllocError;
 use std::collections::VecDeque;
@@ -34,6 +33,9 @@ pub struct Simulation<H: Handler> {
     pub to_bus: VecDeque<Burst>,
     /// The moment, in milliseconds since the set-up.
     pub clock: u64,
+    /// The burst that the bus sent last, and what a reader made of the packet that it heard last: both are lent, step after step.
+    pub out: Burst,
+    pub heard: Heard,
 }
 
 impl<H: Handler> Simulation<H> {
@@ -124,7 +126,7 @@ impl<H: Handler> Simulation<H> {
             return;
         }
         if self.bus.submit(number - 1, command.copy()).is_ok() {
-            self.sites[number - 1].account.issue(command.copy());
+            self.sites[number - 1].account.issue(command);
         }
     }
 
@@ -180,8 +182,8 @@ impl<H: Handler> Simulation<H> {
     {
         osdp_frame_laws::one_spelling();
         self.clock = self.clock.saturating_add(wait);
-        if let Some(burst) = self.bus.tick(self.clock) {
-            self.to_readers.push_back_reserved(burst);
+        if self.bus.tick_into(self.clock, &mut self.out) {
+            send(&mut self.to_readers, &self.out);
         }
         self.take_report();
     }
@@ -194,14 +196,10 @@ impl<H: Handler> Simulation<H> {
         ensures state { state_of self.new ≡ after_step H.answer_of H.after (ToReader way.now) (state_of self.old) }
         ensures fits { StepFits H.answer_of H.after (ToReader way.now) (state_of self.old) }
     {
-        reads_packets();
-        let Some(burst) = move_on(&mut self.to_readers, way) else {
-            return
-        };
-        let framer = framed(&burst);
-        if let Some(Item::Packet(packet)) = framer.next() {
-            hear_all(&mut self.sites, &packet, &mut self.to_bus);
+        if let Some(packet) = handed_packet(&self.to_readers, way) {
+            hear_all(&mut self.sites, &packet, &mut self.heard, &mut self.to_bus);
         }
+        move_on(&mut self.to_readers, way);
     }
 
     /// The line moves on towards the bus.
@@ -211,8 +209,8 @@ impl<H: Handler> Simulation<H> {
         ensures fits { DamageIsBytes way.now }
     {
         see_damage(way);
-        let run = hand_over(&mut self.to_bus, way);
-        hand_in(&mut self.bus, &run, self.clock);
+        hand_in(&mut self.bus, handed(&self.to_bus, way), self.clock);
+        move_on(&mut self.to_bus, way);
         self.take_report();
     }
 }

@@ -12,8 +12,9 @@ ghost use Rattle.osdp_sim_bus.specs.Steps.{site_hears, site_queues, site_says};
 
 use osdp_frame::{Burst, FrameView};
 use osdp_msg::Event;
-use osdp_reader::{Handler, Reader, ReaderConfig};
-use osdp_sim::{Account, Cause, taken_and_sent};
+use osdp_reader::{Handler, Heard, Reader, ReaderConfig};
+use osdp_sim::hearing::hear;
+use osdp_sim::{Account, Cause};
 use std::alloc::Global;
 use std::collections::VecDeque;
 
@@ -52,12 +53,12 @@ impl<H: Handler> Site<H> {
         ensures { site_of self.new ≡ site_queues event.now (site_of self.old) }
     {
         if self.reader.submit_event(event.copy()).is_ok() {
-            self.account.queue(event.copy());
+            self.account.queue(event);
         }
     }
 
-    /// The reader hears a packet, and its answer goes out.
-    pub fn hear(&mut self, packet: &FrameView<'_>, line: &mut VecDeque<Burst>)
+    /// The reader hears a packet, and its answer goes out. What it made of the packet stands in `heard`, in place of what stood there.
+    pub fn hear(&mut self, packet: &FrameView<'_>, heard: &mut Heard, line: &mut VecDeque<Burst>)
         requires place { deque_len line.old < deque_capacity line.old }
         requires places { HasPlace self.old }
         ensures site { site_of self.new ≡ site_hears H.answer_of H.after packet.now (site_of self.old) }
@@ -66,11 +67,6 @@ impl<H: Handler> Site<H> {
         ensures room { deque_capacity line.new ≡ deque_capacity line.old }
         ensures fits { SaysFit H.answer_of H.after (packet.now ∷ []) (site_of self.old).reader }
     {
-        osdp_frame_laws::one_spelling();
-        let (command, burst) = taken_and_sent(self.reader.on_frame(packet));
-        self.account.take(command);
-        if !burst.is_empty() {
-            line.push_back_reserved(burst);
-        }
+        hear(&mut self.reader, packet, heard, &mut self.account, line);
     }
 }
