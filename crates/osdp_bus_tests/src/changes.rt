@@ -1,33 +1,10 @@
 //! Packets with one byte changed, while one of three devices holds the line.
 
-use crate::packets::{bytes_of, is_spelled};
 use crate::rows::{Row, WHOLE, new_bus, run, submit};
 use osdp_bus::Bus;
-use osdp_check::{Crc16, Sum8, check_of};
+use osdp_test_packets::{PACKETS, bytes_of, check_anew, is_spelled};
 use std::alloc::Global;
 use std::process::Abort;
-
-/// Packets of our tables, each as published.
-const PACKETS: &str = "\
-53000700006046
-530008000460EBAA
-538008000540689F
-530508000061003F
-53050B0001680002000032
-53050C000568000200005183
-530515000269000002050501001E000101000200F9
-53050C00016E078025000081
-53851300004553494D010101000000010000E3
-53850D000146020108080100C0
-5385090002480001D4
-53850F00015000001A000A0B0C404D
-53850B0002530002313263
-53850800034104D8
-538507000079A8
-53FF0700004067
-53050B00038053494D0130
-53850A00039053494DA2
-";
 
 /// What becomes of a byte.
 const CHANGES: [u8; 3] = [0x01, 0x80, 0xff];
@@ -76,11 +53,11 @@ fn goes_on(rt: &impl Abort, bus: &mut Bus) {
             let bytes = burst.as_slice();
             assert!(rt; bytes.len() >= 7);
             if bytes[1] == 0 && !polled[0] {
-                is_spelled(rt, bytes, POLL_0);
+                assert!(rt; is_spelled(bytes, POLL_0));
                 polled[0] = true;
             }
             if bytes[1] == 6 && !polled[1] {
-                is_spelled(rt, bytes, POLL_6);
+                assert!(rt; is_spelled(bytes, POLL_6));
                 polled[1] = true;
             }
         }
@@ -98,28 +75,15 @@ fn comes(rt: &impl Abort, alloc: Global, packet: &[u8]) {
     goes_on(rt, &mut bus);
 }
 
-/// Spells the check of a packet anew, of the kind that its control byte names.
-fn check_anew(rt: &impl Abort, packet: &mut [u8]) {
-    let count = packet.len();
-    assert!(rt; count >= 7);
-    if packet[4] & 4 == 0 {
-        packet[count - 1] = check_of::<Sum8>(&packet[..count - 1])[0];
-    } else {
-        let check = check_of::<Crc16>(&packet[..count - 2]);
-        packet[count - 2] = check[0];
-        packet[count - 1] = check[1];
-    }
-}
-
 /// The byte of a packet at a place is changed, without and with its check.
 fn comes_changed(rt: &impl Abort, alloc: Global, digits: &str, place: usize, change: u8) {
     let mut buffer = [0; 32];
-    let count = bytes_of(rt, digits, &mut buffer).len();
+    let count = bytes_of(digits, &mut buffer).expect(rt, digits).len();
     assert!(rt; count <= 32 && place < count);
     let packet = &mut buffer[..count];
     packet[place] ^= change;
     comes(rt, alloc, packet);
-    check_anew(rt, packet);
+    check_anew(packet);
     comes(rt, alloc, packet);
 }
 

@@ -6,8 +6,6 @@
 #[cfg(test)]
 mod changes;
 #[cfg(test)]
-mod packets;
-#[cfg(test)]
 mod reservations;
 #[cfg(test)]
 mod rows;

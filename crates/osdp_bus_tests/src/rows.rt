@@ -1,10 +1,10 @@
 //! Rows of calls with their answers.
 
-use crate::packets::{bytes_of, is_spelled};
 use osdp_bus::{Bus, BusConfig, BusFault, Entry};
 use osdp_controller::Report;
 use osdp_frame::{Address, CheckKind};
 use osdp_msg::Command;
+use osdp_test_packets::{bytes_of, is_spelled};
 use std::alloc::Global;
 use std::process::Abort;
 
@@ -94,7 +94,7 @@ pub fn is_told(rt: &impl Abort, bus: &mut Bus, entry: Entry, expected: &str) {
 /// Hands over the bytes of these digits, cut as is asked for.
 fn hands_over(rt: &impl Abort, bus: &mut Bus, now: u64, digits: &str, cut: Cut) {
     let mut buffer = [0; 32];
-    let bytes = bytes_of(rt, digits, &mut buffer);
+    let bytes = bytes_of(digits, &mut buffer).expect(rt, digits);
     let count = cut.after.min(bytes.len().saturating_sub(1));
     bus.on_bytes(&bytes[..count], now);
     bus.on_bytes(&bytes[count..], now.saturating_add(cut.later));
@@ -106,7 +106,7 @@ pub fn run(rt: &impl Abort, bus: &mut Bus, rows: &[Row], cut: Cut) {
         match row {
             Row::Sends(now, digits) => {
                 let burst = bus.tick(*now).expect(rt, digits);
-                is_spelled(rt, burst.as_slice(), digits);
+                assert!(rt; is_spelled(burst.as_slice(), digits), "{digits}");
             }
             Row::Stays(now) => assert!(rt; bus.tick(*now).is_none(), "at {now}"),
             Row::Hears(now, digits) => hands_over(rt, bus, *now, digits, cut),

@@ -1,13 +1,13 @@
 //! The rate that a device changes to, by packets.
 
 use crate::identity::IDENTITY;
-use crate::packets::is_spelled;
 use crate::responses::response_to_digits;
 use arrayvec::ArrayVec;
 use osdp_door::{Door, new_reader};
 use osdp_frame::Address;
 use osdp_msg::{Communication, PdCap};
 use osdp_reader::{Reader, ReaderConfig};
+use osdp_test_packets::is_spelled;
 use std::alloc::Global;
 use std::process::Abort;
 
@@ -29,7 +29,7 @@ fn new_door(rt: &impl Abort, alloc: Global) -> Reader<Door> {
 fn tells(rt: &impl Abort, reader: &mut Reader<Door>, row: &str, told: Option<Communication>) {
     let (given, sent) = row.split_once(' ').expect(rt, "a reply");
     let response = response_to_digits(rt, reader, given);
-    is_spelled(rt, response.bytes(), sent);
+    assert!(rt; is_spelled(response.bytes(), sent), "{sent}");
     assert!(rt; response.comset() == told);
 }
 

@@ -4,10 +4,10 @@ mod damage;
 mod withdrawing;
 
 use crate::identity::IDENTITY;
-use crate::packets::{bytes_of, is_spelled};
 use osdp_controller::*;
 use osdp_frame::{Address, CheckKind, Framer, Item};
 use osdp_msg::{Command, Reply};
+use osdp_test_packets::{bytes_of, is_spelled};
 use std::alloc::Global;
 use std::process::Abort;
 
@@ -66,7 +66,7 @@ fn framer_of(rt: &impl Abort, bytes: &[u8]) -> Framer {
 /// The report on the one packet of these digits.
 fn hear(rt: &impl Abort, controller: &mut Controller, digits: &str, now: u64) -> Option<Report> {
     let mut buffer = [0; 32];
-    let mut framer = framer_of(rt, bytes_of(rt, digits, &mut buffer));
+    let mut framer = framer_of(rt, bytes_of(digits, &mut buffer).expect(rt, digits));
     match framer.next() {
         Some(Item::Packet(frame)) => controller.on_frame(&frame, now),
         _ => {
@@ -87,7 +87,7 @@ fn sends(rt: &impl Abort, controller: &mut Controller, now: u64, digits: &str) {
     let step = controller.tick(now);
     assert!(rt; step.report.is_none());
     let frame = step.frame.expect(rt, "a frame");
-    is_spelled(rt, frame.encode().as_slice(), digits);
+    assert!(rt; is_spelled(frame.encode().as_slice(), digits), "{digits}");
     assert!(rt; controller.outstanding());
 }
 
@@ -181,7 +181,10 @@ fn settles_output(rt: &impl Abort, controller: &mut Controller) {
 fn tells_event(rt: &impl Abort, report: Option<Report>, digits: &str) {
     match report {
         Some(Report::Event(event)) => {
-            is_spelled(rt, event.to_reply().write().as_slice(), digits);
+            assert!(rt;
+                is_spelled(event.to_reply().write().as_slice(), digits),
+                "{digits}"
+            );
         }
         _ => assert!(rt; false, "an event"),
     }

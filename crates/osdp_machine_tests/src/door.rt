@@ -1,13 +1,13 @@
 //! The door after a reader, by packets.
 
 use crate::identity::IDENTITY;
-use crate::packets::is_spelled;
 use crate::responses::response_to_digits;
 use arrayvec::ArrayVec;
 use osdp_door::*;
 use osdp_frame::Address;
 use osdp_msg::PdCap;
 use osdp_reader::{Reader, ReaderConfig};
+use osdp_test_packets::is_spelled;
 use std::alloc::Global;
 use std::process::Abort;
 
@@ -46,7 +46,7 @@ const EXCHANGES: &str = "\
 fn is_answered(rt: &impl Abort, reader: &mut Reader<Door>, row: &str) {
     let (given, sent) = row.split_once(' ').expect(rt, "a reply");
     let response = response_to_digits(rt, reader, given);
-    is_spelled(rt, response.bytes(), sent);
+    assert!(rt; is_spelled(response.bytes(), sent), "{sent}");
 }
 
 /// The commands of these rows are answered so, in their order.

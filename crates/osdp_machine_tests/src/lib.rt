@@ -16,8 +16,6 @@ mod identity;
 #[cfg(test)]
 mod link;
 #[cfg(test)]
-mod packets;
-#[cfg(test)]
 mod reader;
 #[cfg(test)]
 mod responses;

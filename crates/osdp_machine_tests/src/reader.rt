@@ -7,12 +7,12 @@ mod answers;
 mod damage;
 
 use crate::identity::IDENTITY;
-use crate::packets::{bytes_of, is_spelled};
 use crate::responses::{response_to, response_to_digits};
 use arrayvec::ArrayVec;
 use osdp_frame::{Address, Framer, Item};
 use osdp_msg::{Capability, Event, Keypad, NakReason, PdCap};
 use osdp_reader::*;
+use osdp_test_packets::{bytes_of, is_spelled};
 use std::alloc::Global;
 use std::mem;
 use std::process::Abort;
@@ -92,7 +92,7 @@ fn name_of(kind: Kind) -> &'static str {
 fn meets_line(rt: &impl Abort, reader: &mut Reader<Bench>, given: &str, kind: &str, sent: &str) {
     let response = response_to_digits(rt, reader, given);
     assert!(rt; name_of(response.kind()) == kind, "{given}");
-    is_spelled(rt, response.bytes(), sent);
+    assert!(rt; is_spelled(response.bytes(), sent), "{sent}");
 }
 
 /// So many events wait.
@@ -107,7 +107,7 @@ fn stands(rt: &impl Abort, reader: &Reader<Bench>, state: &str) {
         None => has_waiting(rt, reader, state),
         Some((waiting, stored)) => {
             has_waiting(rt, reader, waiting);
-            is_spelled(rt, reader.stored(), stored);
+            assert!(rt; is_spelled(reader.stored(), stored), "{stored}");
         }
     }
 }
@@ -157,7 +157,7 @@ const TOLD: &str = "\
 #[test]
 fn an_event_is_told_until_the_next_number(rt: HostRuntime) {
     let mut reader = opened(&rt, rt.alloc(), 4, Answer::Done);
-    is_spelled(&rt, reader.stored(), "none");
+    assert!(rt; is_spelled(reader.stored(), "none"));
     press(&rt, &mut reader, b"12");
     are_answered(&rt, &mut reader, TOLD);
 }
@@ -235,7 +235,7 @@ fn a_busy_reader_takes_nothing_but_repeats(rt: HostRuntime) {
 fn is_moved(rt: &impl Abort, reader: &mut Reader<Bench>, comset: &str, later: &str) {
     is_answered(rt, reader, comset);
     assert_eq!(rt; reader.address().get(), 7);
-    is_spelled(rt, reader.stored(), "none");
+    assert!(rt; is_spelled(reader.stored(), "none"));
     are_answered(rt, reader, later);
 }
 
@@ -337,7 +337,7 @@ fn is_made(rt: &impl Abort, alloc: Global, address: u8, capacity: usize) {
     let reader = made.ok().expect(rt, "a reader");
     assert_eq!(rt; reader.address().get(), address);
     assert_eq!(rt; reader.waiting(), 0);
-    is_spelled(rt, reader.stored(), "none");
+    assert!(rt; is_spelled(reader.stored(), "none"));
 }
 
 /// No reader is made with these settings, whether there is memory or not.

@@ -1,8 +1,8 @@
 //! Packets handed to a reader.
 
-use crate::packets::bytes_of;
 use osdp_frame::{ReadItem, read_at};
 use osdp_reader::{Handler, Reader, Response};
+use osdp_test_packets::bytes_of;
 use std::process::Abort;
 
 /// What a reader makes of the packet that stands first in these bytes; none where no packet does.
@@ -25,6 +25,6 @@ pub fn response_to_digits<H: Handler>(
     digits: &str,
 ) -> Response {
     let mut buffer = [0; 32];
-    let run = bytes_of(rt, digits, &mut buffer);
+    let run = bytes_of(digits, &mut buffer).expect(rt, digits);
     response_to(rt, reader, run).expect(rt, "a packet")
 }

@@ -4,6 +4,7 @@ use osdp_bus::{Bus, BusConfig, Entry};
 use osdp_controller::Report;
 use osdp_frame::{Address, Burst, CheckKind};
 use osdp_panel::take_turn;
+use osdp_test_packets::bytes_of;
 use std::alloc::Global;
 use std::process::Abort;
 
@@ -44,21 +45,14 @@ fn is_told(rt: &impl Abort, told: &Option<(Entry, Report)>, word: &str) {
     }
 }
 
-/// The bytes that these digits spell. The word `none` spells none.
-fn bytes_of<'a>(rt: &impl Abort, digits: &str, buffer: &'a mut [u8; 32]) -> &'a [u8] {
-    let digits = if digits == "none" { "" } else { digits };
-    let count = digits.len() / 2;
-    assert!(rt; count <= 32, "{digits}");
-    let bytes = &mut buffer[..count];
-    assert!(rt; hex::decode_to_slice(digits, bytes).is_ok(), "{digits}");
-    bytes
-}
-
 /// The burst is that of the digits, or none.
 fn is_written(rt: &impl Abort, burst: &Option<Burst>, digits: &str) {
     let mut buffer = [0; 32];
     match burst {
-        Some(burst) => assert_eq!(rt; burst.as_slice(), bytes_of(rt, digits, &mut buffer)),
+        Some(burst) => assert_eq!(rt;
+            burst.as_slice(),
+            bytes_of(digits, &mut buffer).expect(rt, digits)
+        ),
         None => assert_eq!(rt; digits, "none"),
     }
 }
@@ -73,7 +67,7 @@ fn turns(rt: &impl Abort, bus: &mut Bus, row: &str) {
     let (ticked, sleeps) = rest.split_once(' ').expect(rt, row);
     let now = moment.parse().ok().expect(rt, row);
     let mut buffer = [0; 32];
-    let turn = take_turn(bus, bytes_of(rt, given, &mut buffer), now);
+    let turn = take_turn(bus, bytes_of(given, &mut buffer).expect(rt, given), now);
     is_written(rt, &turn.burst, written);
     is_told(rt, &turn.heard, heard);
     is_told(rt, &turn.ticked, ticked);

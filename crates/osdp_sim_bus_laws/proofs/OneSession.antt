@@ -27,9 +27,10 @@ use Rattle.osdp_sim_bus.specs.Runs.{steps_done}
 use Rattle.osdp_sim_bus.specs.State.{Given, LineState, Site, new_site, set_up}
 use Rattle.osdp_sim_bus.specs.Steps.{after_step, all_hear, all_hear_each, changed_site, hears_run, is_there, issued, site_hears, site_is_busy, site_is_told, site_issues, site_queues, site_queues_unless, told, waited}
 use Rattle.osdp_sim_laws.specs.Accounts.{AreOver, IsInSession, IsNoRefusal, IsOf, IsOnce, LastsOrHasEnded}
+use Rattle.osdp_sim_laws.proofs.Ends.{sessions_of_report}
+use Rattle.osdp_sim_laws.proofs.Holding.{of_one}
 use Rattle.osdp_sim_bus_laws.specs.Accounts.{HoldsOnce, StaysInARow, accounts_in}
 use Rattle.osdp_sim_bus_laws.proofs.Rows.{answers, told_by}
-use Rattle.osdp_sim_bus_laws.proofs.Sites.{sessions_of_report}
 
 get_each : {A : Type 0} (P : A → Type 0) (k : ℕ) (x : A) (xs : List A) → Each P xs → slice_get xs k ≡ Some x → P x
 get_each P k x [] all is = absurd cc
@@ -144,31 +145,7 @@ none_earlier a t [] lists one = refl
 none_earlier a t (u ∷ earlier) lists one =
     let many = sessions_are a.sessions t.queued (u ∷ earlier) lists.queued.0 lists.queued.1 in absurd (omega (arith, many, one))
 
-few : (a : Account) (t : link.Account) → LastsOrHasEnded a t → HasOne a → length a.ends ≤ 1
-few a t (inl (lasts, none)) one = omega (arith, lasts, one)
-few a t (inr (ended, leaves)) one = omega (arith, ended, one)
-
 module _ {H : Type 0} (answer_of : H → Command → Answer) (after : H → Command → H) where
-  of_one : (config : ReaderConfig) (handler : H) (a : Account) (t : link.Account) (earlier : List link.Account) → earlier ≡ [] → HasOne a
-      → IsOf a t earlier → AreOnce answer_of after config handler (t ∷ earlier) → LastsOrHasEnded a t → All IsNoRefusal a.ends
-      → IsOnce answer_of after config handler a
-  of_one config handler a t (u ∷ earlier) none one lists once ends causes = absurd cc
-  of_one config handler a t [] none one lists once ends causes =
-      let held = once.0 in
-      let gone : lists.queued.0 ≡ [] = lists.queued.1.1 in
-      let queued : a.queued ≡ t.queued = lists.queued.2 ∙ ap (λ es. es ++ t.queued) gone in
-      record {
-        taken = subst (λ cs. IsBeginning cs a.issued) (sym lists.taken) (subst (IsBeginning t.taken) (sym lists.issued) held.taken);
-        settled = (
-          held.settled.0,
-          ap (with_answers answer_of after config handler) lists.taken ∙ held.settled.1 ∙ ap (λ l. l ++ held.settled.0) (sym lists.settled),
-          held.settled.2,
-        );
-        reported = subst (λ es. IsBeginning es a.queued) (sym lists.reported) (subst (IsBeginning t.reported) (sym queued) held.reported);
-        ends = few a t ends one;
-        causes = causes;
-      }
-
   pub all_once : StaysInARow answer_of after → HoldsOnce answer_of after
   all_once rows config readers steps answer is was within =
       let ones : Each HasOne (accounts_in answer) =
@@ -183,7 +160,7 @@ module _ {H : Type 0} (answer_of : H → Command → Answer) (after : H → Comm
             let one = get_each HasOne k mine.0 (accounts_in answer) ones mine.1 in (
               mine.0,
               mine.1,
-              of_one given.0 given.2 mine.0 its.last its.earlier (none_earlier mine.0 its.last its.earlier its.lists one) one
+              of_one answer_of after given.0 given.2 mine.0 its.last its.earlier (none_earlier mine.0 its.last its.earlier its.lists one)
                   its.lists its.once its.ends its.causes,
             );
       }

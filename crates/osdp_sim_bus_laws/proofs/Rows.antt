@@ -23,16 +23,11 @@ use Rattle.osdp_sim_bus.specs.Runs as simulation
 use Rattle.osdp_sim_bus.specs.Runs.{AreSettings, FitAlong, Stops, is_well, lists_of_all, steps_done}
 use Rattle.osdp_sim_bus.specs.State.{Given, LineState, Site, accounts, set_up}
 use Rattle.osdp_sim_laws.specs.Accounts.{IsInARow, IsNoRefusal, LastsOrHasEnded}
-use Rattle.osdp_sim_laws.proofs.Ends as ends
 use Rattle.osdp_sim_laws.proofs.Holding.{each_one, last_one, one_unsettled, told_first}
 use Rattle.osdp_sim_bus_laws.specs.Accounts.{BusAnswer, EachMeets, IsAnswer, StaysInARow, WasSetUp, accounts_in}
 use Rattle.osdp_sim_bus_laws.specs.Moves.{Done, IsSiteOf, SchedulesAreMoves, count}
 use Rattle.osdp_sim_bus_laws.proofs.Beginning.{first_net, first_site, follows_first, has_site, is_set_up}
-use Rattle.osdp_sim_bus_laws.proofs.Sites.{get_site}
-
-counts_alike : (closed : Bool) → count closed ≡ ends.count closed
-counts_alike true = refl
-counts_alike false = refl
+use Rattle.osdp_sim_bus_laws.proofs.Sites.{counts_alike, get_site}
 
 module _ {H : Type 0} where
   account_at : (k : ℕ) (u : Site H) (us : List (Site H)) → slice_get us k ≡ Some u

@@ -18,6 +18,7 @@ use Rattle.osdp_link_laws.specs.Link as link
 use Rattle.osdp_link_laws.specs.Refusals as refusals
 use Rattle.osdp_link_laws.proofs.Numbers.{is_false, is_true}
 use Rattle.osdp_link_laws.proofs.Stages.{Each}
+use Rattle.osdp_link_laws.specs.Ends as ends
 use Rattle.osdp_multidrop.specs.Line as line
 use Rattle.osdp_multidrop.specs.Line.{changed, said_from, site_at, tagged}
 use Rattle.osdp_bus_links.specs.Links.{IsNoRefusalOf, IsTold, TellsFrom, packets_on, report_for}
@@ -28,35 +29,14 @@ use Rattle.osdp_sim_bus.specs.State.{Site}
 use Rattle.osdp_sim_bus.specs.Steps.{changed_site, site_hears, site_is_told, site_says}
 use Rattle.osdp_sim_laws.specs.Accounts.{IsOf}
 use Rattle.osdp_sim_bus_laws.specs.Moves.{IsSiteOf, SitesOf, count}
+use Rattle.osdp_sim_laws.proofs.Ends.{ends_after}
 use Rattle.osdp_sim_laws.proofs.Accounts.{causes_of, tells_report, tells_taken}
 
 -- ---- reports and ends
 
-ends_of_report : (r : Option Report) (a : Account) → length (with_report r a).ends ≡ length a.ends + count (tells_end r)
-ends_of_report None a = omega arith
-ends_of_report (Some (report.Opened id)) a = omega arith
-ends_of_report (Some (report.Settled command answer)) a = omega arith
-ends_of_report (Some (report.Moved command answered)) a = length-append a.ends (ending.Moved ∷ [])
-ends_of_report (Some (report.Event event)) a = omega arith
-ends_of_report (Some (report.PollAnswered answer)) a = omega arith
-ends_of_report (Some (report.Unread command code)) a = omega arith
-ends_of_report (Some (report.Lost cause command)) a = length-append a.ends (ending.Lost cause ∷ [])
-
-pub sessions_of_report : (r : Option Report) (a : Account) → (with_report r a).sessions ≡ a.sessions
-sessions_of_report None a = refl
-sessions_of_report (Some (report.Opened id)) a = refl
-sessions_of_report (Some (report.Settled command answer)) a = refl
-sessions_of_report (Some (report.Moved command answered)) a = refl
-sessions_of_report (Some (report.Event event)) a = refl
-sessions_of_report (Some (report.PollAnswered answer)) a = refl
-sessions_of_report (Some (report.Unread command code)) a = refl
-sessions_of_report (Some (report.Lost cause command)) a = refl
-
-counts_join : (closed ends : Bool) → (closed ≡ true → ends ≡ false) → count (closed || ends) ≡ count closed + count ends
-counts_join true true one = absurd (let none = one refl in cc)
-counts_join true false one = refl
-counts_join false true one = refl
-counts_join false false one = refl
+pub counts_alike : (closed : Bool) → count closed ≡ ends.count closed
+counts_alike true = refl
+counts_alike false = refl
 
 plain_for : (k : ℕ) (r : Option (ℕ × Report)) → IsNoRefusalOf r → Each refusals.IsNoRefusal (option_to_list (report_for k r) ++ [])
 plain_for k None plain = tt
@@ -118,11 +98,12 @@ module _ {H : Type 0} where
     tells = subst (λ a. IsOf (with_report r u.account) a t.earlier) (sym is.account)
         (subst (λ e. IsOf (with_report r u.account) (link.told r s.account) e) (sym is.earlier) (tells_report r u.account s.account s.earlier h.tells));
     ended =
-        let ends = ends_of_report r u.account in
-        let same = ap (λ l. length l) (sessions_of_report r u.account) in
-        let later = ap count is.closes ∙ counts_join (is_closed s.controller.session.state) (tells_end r) is.once in
+        let was = counts_alike (is_closed s.controller.session.state) in
+        let now = counts_alike (is_closed t.controller.session.state) in
         let before = h.ended in
-        omega (arith, ends, same, later, before);
+        let later = ends_after r u.account (is_closed s.controller.session.state) (is_closed t.controller.session.state) is.closes is.once
+        (omega (arith, before, was)) in
+        omega (arith, later, now);
     causes = causes_of r u.account plain h.causes;
   }
 

@@ -9,6 +9,7 @@ use Rattle.osdp_frame.specs.Spelling.{spelling}
 use Rattle.osdp_msg.specs.declared.command.Command.{Command}
 use Rattle.osdp_controller.specs.Machine as controllers
 use Rattle.osdp_controller.specs.States.{is_closed}
+use Rattle.osdp_controller_laws.proofs.Closed.{may_begin}
 use Rattle.osdp_controller.specs.declared.state.State.{State}
 use Rattle.osdp_controller.specs.declared.state.State.TheVariants.{Closed, Quiet, Idle, Waiting, Pausing}
 use Rattle.osdp_reader.specs.declared.handler.Answer.{Answer}
@@ -53,13 +54,6 @@ all_true false b c e = absurd cc
 none_on : (ps : List (ℕ × Packet)) → (length (map spelling (packets_on ps)) == 0) ≡ true → ps ≡ []
 none_on [] e = refl
 none_on (p ∷ ps) e = absurd (let some = ne_eqb (length (map spelling (packets_on (p ∷ ps)))) 0 (λ h. omega (arith, h)) in cc)
-
-over : (state : State) → is_closed state ≡ true → controllers.refused_unless_closed state ≡ None
-over Closed e = refl
-over (Quiet until) e = absurd cc
-over (Idle due) e = absurd cc
-over (Waiting until sends o) e = absurd cc
-over (Pausing until o) e = absurd cc
 
 abbrev has_ended : Option Device → Bool
 has_ended o = option_map_or (λ (d : Device). is_closed d.controller.session.state) o false
@@ -108,7 +102,7 @@ module _ {H : Type 0} (answer_of : H → Command → Answer) (after : H → Comm
         by_site (Some t) at to_readers to_controllers ended =
             let there = ap (λ ds. slice_get ds place) h.bus.entries ∙ get_device place t n.sites at in
             let closed : is_closed t.controller.session.state ≡ true = ended_closed (slice_get s.bus.devices.entries place) (device_of t) there ended in
-            let none : controllers.begin_refusal t.controller ≡ None = over t.controller.session.state closed in
+            let none : controllers.begin_refusal t.controller ≡ None = may_begin t.controller.session.state closed in
             let g = max s.bus.greatest s.clock in
             let refusal : begin_refusal_at place s.bus ≡ None = ap begin_refusal_of there ∙ ap (option_map bus_fault) none in
             let same : line.after_net answer_of after (Reopen place g) n ≡ record n { sites = changed place (line.begins g t) n.sites } =

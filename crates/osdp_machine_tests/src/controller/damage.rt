@@ -1,9 +1,10 @@
 //! Packets with one byte changed.
 
 use super::*;
-use crate::damage::{PACKETS, changed, check_anew, checked_count};
+use crate::damage::{changed, checked_count};
 use osdp_frame::FrameView;
 use osdp_msg::NakReason;
+use osdp_test_packets::{PACKETS, check_anew};
 
 /// Each packet that a run of these bytes has goes to the controller, and a tick follows.
 fn feed(controller: &mut Controller, bytes: &[u8]) {
@@ -33,7 +34,7 @@ fn feed_changes_at(rt: &impl Abort, controller: &mut Controller, packet: &[u8], 
 /// Each byte of the packet is changed in each way.
 fn feed_changes(rt: &impl Abort, controller: &mut Controller, digits: &str) {
     let mut buffer = [0; 32];
-    let packet = bytes_of(rt, digits, &mut buffer);
+    let packet = bytes_of(digits, &mut buffer).expect(rt, digits);
     for place in 0..packet.len() {
         feed_changes_at(rt, controller, packet, place);
     }
@@ -110,7 +111,7 @@ fn ask(rt: &impl Abort, controller: &mut Controller, command: &Command) -> u8 {
     assert!(rt; controller.submit(command.copy()).is_ok());
     let now = controller.next_deadline().expect(rt, "a deadline");
     let frame = controller.tick(now).frame.expect(rt, "a frame");
-    is_spelled(rt, frame.view().body(), "6800020000");
+    assert!(rt; is_spelled(frame.view().body(), "6800020000"));
     frame.view().seq().get()
 }
 
@@ -154,7 +155,7 @@ fn changed_reply(rt: &impl Abort, packet: &[u8], number: u8, place: usize, chang
     reply[1] = 0x85;
     reply[4] = packet[4] / 4 * 4 + number;
     let mut bytes = changed(rt, &reply[..len], place, change);
-    check_anew(rt, &mut bytes[..len]);
+    check_anew(&mut bytes[..len]);
     bytes
 }
 
@@ -205,7 +206,7 @@ fn changes_are_answered(rt: &impl Abort, alloc: Global, packet: &[u8], place: us
 /// Each byte of a reply is changed but those of its length and its check. Tells how many replies the digits are: one or none.
 fn reply_is_answered(rt: &impl Abort, alloc: Global, digits: &str) -> usize {
     let mut buffer = [0; 32];
-    let packet = bytes_of(rt, digits, &mut buffer);
+    let packet = bytes_of(digits, &mut buffer).expect(rt, digits);
     assert!(rt; packet.len() >= 7);
     if packet[1] < 128 {
         return 0;

@@ -83,7 +83,7 @@ fn is_told(rt: &impl Abort, alloc: Global, row: &str) {
     for kind in [Kind::Taken, Kind::Repeat] {
         let response = response_to_digits(rt, &mut reader, given);
         assert_eq!(rt; response.kind(), kind, "{row}");
-        is_spelled(rt, response.bytes(), sent);
+        assert!(rt; is_spelled(response.bytes(), sent), "{sent}");
     }
 }
 

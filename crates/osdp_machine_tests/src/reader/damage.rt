@@ -1,7 +1,8 @@
 //! Damaged packets.
 
 use super::*;
-use crate::damage::{PACKETS, changed, check_anew, checked_count};
+use crate::damage::{changed, checked_count};
+use osdp_test_packets::{PACKETS, check_anew};
 
 /// Hands the packets in a run to a reader, and answers how many there were and the last answer.
 fn hand_over(rt: &impl Abort, reader: &mut Reader<Bench>, run: &[u8]) -> (usize, Response) {
@@ -31,11 +32,11 @@ const DAMAGED: &str = "53001400016B0001000101075300070000604624";
 fn a_packet_within_a_damaged_one_is_answered(rt: HostRuntime) {
     let mut reader = reader_with(&rt, rt.alloc(), 0, 4, Answer::Done);
     let mut buffer = [0; 32];
-    let run = bytes_of(&rt, DAMAGED, &mut buffer);
+    let run = bytes_of(DAMAGED, &mut buffer).expect(&rt, DAMAGED);
     let (count, answer) = hand_over(&rt, &mut reader, run);
     assert_eq!(rt; count, 1);
     assert_eq!(rt; answer.kind(), Kind::Zero);
-    is_spelled(&rt, answer.bytes(), "538007000040E6");
+    assert!(rt; is_spelled(answer.bytes(), "538007000040E6"));
 }
 
 /// Each change of the byte at this place reaches a reader, which says nothing. Answers how many packets there were.
@@ -54,7 +55,7 @@ fn changes_at(rt: &impl Abort, reader: &mut Reader<Bench>, packet: &[u8], place:
 /// Each change of each byte of the packet likewise.
 fn changes_of(rt: &impl Abort, reader: &mut Reader<Bench>, digits: &str) -> usize {
     let mut buffer = [0; 32];
-    let packet = bytes_of(rt, digits, &mut buffer);
+    let packet = bytes_of(digits, &mut buffer).expect(rt, digits);
     let mut count: usize = 0;
     for place in 0..packet.len() {
         count = count.saturating_add(changes_at(rt, reader, packet, place));
@@ -77,7 +78,7 @@ fn no_changed_byte_stops_a_reader(rt: HostRuntime) {
 /// The packet of an ID with number 0 to this address.
 fn id_to(rt: &impl Abort, address: u8) -> [u8; 8] {
     let mut packet = [0x53, address, 0x08, 0x00, 0x00, 0x61, 0x00, 0x00];
-    check_anew(rt, &mut packet);
+    check_anew(&mut packet);
     packet
 }
 
@@ -151,7 +152,7 @@ impl Trial {
         for change in 1..=255u8 {
             let mut run = changed(rt, packet, place, change);
             assert!(rt; count <= 32);
-            check_anew(rt, &mut run[..count]);
+            check_anew(&mut run[..count]);
             self.meet(rt, alloc, &run[..count]);
         }
     }
@@ -159,7 +160,7 @@ impl Trial {
     /// Each change of each byte before the check.
     fn meet_changes(&mut self, rt: &impl Abort, alloc: Global, digits: &str) {
         let mut buffer = [0; 32];
-        let packet = bytes_of(rt, digits, &mut buffer);
+        let packet = bytes_of(digits, &mut buffer).expect(rt, digits);
         for place in 0..checked_count(rt, packet) {
             self.meet_changes_at(rt, alloc, packet, place);
         }
