@@ -1,6 +1,5 @@
 pub mod Acks
 pub mod Asking
-pub mod Bodies
 pub mod Choices
 pub mod Keeping
 pub mod Over

@@ -1,7 +1,6 @@
 //! What is kept of a session, and the small steps of its tables.
 
-ghost use Rattle.std.specs.Prelude.{◌≡◌, ◌∷◌, ◌+◌, ◌<◌, ◌≤◌, ◌^◌, IfSome, Some, length, false, true};
-ghost use Rattle.osdp_msg.specs.CommandTable.{command_code, command_data};
+ghost use Rattle.std.specs.Prelude.{◌≡◌, ◌+◌, ◌<◌, ◌≤◌, ◌^◌, Some, length, false, true};
 ghost use Rattle.osdp_frame.specs.Packed.{packed};
 ghost use Rattle.osdp_frame.specs.Spelling.{Spells};
 ghost use Rattle.osdp_controller.specs.declared.exchange.Exchange.TheVariants.{Asking};
@@ -96,17 +95,6 @@ impl Session {
     fn put_command(&self, command: &Command, frame: &mut Option<Frame>)
         ensures { frame.new ≡ Some (frame_of (Asking command.now) self.now) }
     {
-        match one_output(command) {
-            Some(body) => self.put_body(&body, frame),
-            None => self.put_written(command, frame),
-        }
-    }
-
-    /// Puts the frame of a command, which is written first, into a place of the caller's.
-    #[inline(never)]
-    fn put_written(&self, command: &Command, frame: &mut Option<Frame>)
-        ensures { frame.new ≡ Some (frame_of (Asking command.now) self.now) }
-    {
         self.put_body(command.write().as_slice(), frame);
     }
 
@@ -135,17 +123,6 @@ impl Session {
     /// Puts the bytes of a command's frame in place of what stands in `out`.
     #[inline(never)]
     fn spell_command(&self, command: &Command, out: &mut Burst)
-        ensures { Spells (frame_of (Asking command.now) self.now) out.new.items }
-    {
-        match one_output(command) {
-            Some(body) => self.spell_body(&body, out),
-            None => self.spell_written(command, out),
-        }
-    }
-
-    /// Puts the bytes of a command's frame, whose body is written first, in place of what stands in `out`.
-    #[inline(never)]
-    fn spell_written(&self, command: &Command, out: &mut Burst)
         ensures { Spells (frame_of (Asking command.now) self.now) out.new.items }
     {
         self.spell_body(command.write().as_slice(), out);
@@ -178,21 +155,6 @@ impl Session {
         let due = self.later(self.config.poll_interval);
         self.state.rest(due);
     }
-}
-
-/// The code and data of an OUT for one output, which need no room for the largest command. None of any other command.
-#[tactic(auto, using(crate::proofs::Bodies::one_output))]
-fn one_output(command: &Command) -> Option<[u8; 5]>
-    ensures { IfSome result (λ body. body ≡ command_code command.now ∷ command_data command.now) }
-{
-    let Command::Output(outputs) = command else {
-        return None;
-    };
-    let [record] = outputs.records() else {
-        return None;
-    };
-    let timer = record.timer.to_le_bytes();
-    Some([0x68, record.output, record.control, timer[0], timer[1]])
 }
 
 /// The code and data of the opening ID.

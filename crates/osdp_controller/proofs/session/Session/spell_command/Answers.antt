@@ -4,7 +4,7 @@ use Rattle.osdp_controller.specs.Sessions.{frame_of}
 use Rattle.osdp_frame.specs.Packed.{packed}
 use Rattle.std.specs.Prelude.{false}
 use Rattle.osdp_controller.proofs.Acks.{spells_same}
-use Rattle.osdp_controller.proofs.session.Session.spell_written.Goals as goal
+use Rattle.osdp_controller.proofs.session.Session.spell_command.Goals as goal
 
 pub returns : goal.returns
 returns c =
