@@ -1,6 +1,9 @@
 //! Exchanges: a command and the wait for its answer.
 
-use osdp_msg::Command;
+ghost use Rattle.std.specs.Prelude.{◌≡◌, [], ◌∷◌, IfSome};
+ghost use Rattle.osdp_msg.specs.declared.command.Command.TheVariants.{Output};
+
+use osdp_msg::{Command, OutputRecord};
 
 /// What an exchange asks, as the tables say it.
 #[derive(Debug, Drop)]
@@ -33,4 +36,17 @@ pub enum Asked {
     Polling,
     /// A command that was submitted.
     Submitted,
+}
+
+/// What an OUT for one output tells it. None of any other command.
+pub(crate) fn single_output(command: &Command) -> Option<OutputRecord>
+    ensures { IfSome result (λ only. command.now ≡ Output (only ∷ [])) }
+{
+    let Command::Output(outputs) = command else {
+        return None;
+    };
+    match outputs.records() {
+        [record] => Some(*record),
+        _ => None,
+    }
 }

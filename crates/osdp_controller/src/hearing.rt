@@ -4,6 +4,7 @@ ghost use Rattle.std.specs.Prelude.{◌≡◌, ◌<◌, [], ◌∷◌, true, fal
 ghost use Rattle.osdp_controller.specs.declared.answer.Answer.TheVariants.{Plain, Unreadable};
 ghost use Rattle.osdp_controller.specs.declared.report.Report.TheVariants.{Moved, Settled};
 ghost use Rattle.osdp_msg.specs.declared.reply.Reply.TheVariants.{Ack};
+ghost use Rattle.osdp_msg.specs.declared.command.Command.TheVariants.{Output};
 ghost use Rattle.osdp_msg.specs.declared.command.Command.{Command};
 ghost use Rattle.osdp_controller.specs.declared.state.Stage.TheVariants as stages;
 ghost use Rattle.osdp_controller.specs.Answers.{answer_of};
@@ -15,12 +16,12 @@ ghost use Rattle.osdp_controller.specs.Private.{acknowledged, is_no_answer, is_n
 ghost use Rattle.osdp_controller.specs.Sessions.{at_rest, closed};
 
 use crate::answer::Answer;
-use crate::exchange::Asked;
+use crate::exchange::{Asked, single_output};
 use crate::report::{LostCause, Report};
 use crate::session::Session;
 use crate::state::Stage;
 use osdp_frame::{Address, FrameView, Seq};
-use osdp_msg::{Command, Communication, Event, PdId, Reply};
+use osdp_msg::{Command, Communication, Event, OutputRecord, Outputs, PdId, Reply};
 use std::mem;
 
 impl Session {
@@ -303,8 +304,27 @@ impl Session {
 }
 
 /// Tells that a command is settled by an ACK. What is left in its place is of no use.
-#[inline(never)]
 fn tell_settled(command: &mut Command, report: &mut Option<Report>)
+    ensures { report.new ≡ Some (Settled command.old Ack) }
+{
+    match single_output(command) {
+        Some(only) => tell_output(only, report),
+        None => tell_taken(command, report),
+    }
+}
+
+/// Tells that an OUT for one output is settled by an ACK. It is made anew in the place where it is told, which writes less than to move it there.
+#[inline(never)]
+fn tell_output(only: OutputRecord, report: &mut Option<Report>)
+    ensures { report.new ≡ Some (Settled (Output (only ∷ [])) Ack) }
+{
+    let outputs = Outputs::new(&[only]).unwrap();
+    *report = Some(Report::Settled(Command::Output(outputs), Reply::Ack));
+}
+
+/// Tells that a command is settled by an ACK, and takes it out of its place.
+#[inline(never)]
+fn tell_taken(command: &mut Command, report: &mut Option<Report>)
     ensures { report.new ≡ Some (Settled command.old Ack) }
 {
     let mut settled = Command::Poll;

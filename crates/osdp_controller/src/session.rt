@@ -10,7 +10,7 @@ ghost use Rattle.osdp_controller.specs.Private.{frame_in};
 ghost use Rattle.osdp_controller.specs.Sessions.{after_send, at_rest, frame_of, later, new_session, seen};
 
 use crate::config::ControllerConfig;
-use crate::exchange::Asked;
+use crate::exchange::{Asked, single_output};
 use crate::state::Held;
 use crate::ticking::first_number;
 use osdp_frame::{Burst, Frame, FrameView, Seq};
@@ -185,12 +185,7 @@ impl Session {
 fn one_output(command: &Command) -> Option<[u8; 5]>
     ensures { IfSome result (λ body. body ≡ command_code command.now ∷ command_data command.now) }
 {
-    let Command::Output(outputs) = command else {
-        return None;
-    };
-    let [record] = outputs.records() else {
-        return None;
-    };
+    let record = single_output(command)?;
     let timer = record.timer.to_le_bytes();
     Some([0x68, record.output, record.control, timer[0], timer[1]])
 }
