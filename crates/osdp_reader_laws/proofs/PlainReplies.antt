@@ -10,7 +10,7 @@ use Rattle.osdp_msg.specs.declared.event.Event.TheVariants as event
 use Rattle.osdp_msg.specs.declared.fault.MsgFault.{MsgFault}
 use Rattle.osdp_msg.specs.declared.fault.MsgFault.TheVariants.{UnknownCode, Length, Count}
 use Rattle.osdp_msg.specs.declared.nak.NakReason.{NakReason}
-use Rattle.osdp_msg.specs.declared.nak.NakReason.TheVariants.{CheckCharacters, CommandLength, UnknownCommand, UnexpectedSequence, SecurityBlock, SecurityConditions, BiometricType, BiometricFormat, RecordNotProcessed, Other}
+use Rattle.osdp_msg.specs.declared.nak.NakReason.TheVariants.{CommandLength, UnknownCommand}
 use Rattle.osdp_msg.specs.declared.reply.Reply.{Reply}
 use Rattle.osdp_msg.specs.declared.reply.Reply.TheVariants as reply
 use Rattle.osdp_msg.specs.Events.{event_reply}
