@@ -38,42 +38,14 @@ WhyIf None p s = Unit {0}
 WhyIf (Some report) p s = WhyTold report p s
 
 pd_id_is : (reply : Reply) (id : PdId) → pd_id_of reply ≡ Some id → reply ≡ replies.PdId id
-pd_id_is replies.Ack id h = cc
-pd_id_is (replies.Nak n) id h = cc
 pd_id_is (replies.PdId p) id h = cc
-pd_id_is (replies.PdCap p) id h = cc
-pd_id_is (replies.LocalState s) id h = cc
-pd_id_is (replies.Inputs states) id h = cc
-pd_id_is (replies.Outputs states) id h = cc
-pd_id_is (replies.Readers states) id h = cc
-pd_id_is (replies.Raw r) id h = cc
-pd_id_is (replies.Formatted f) id h = cc
-pd_id_is (replies.Keypad k) id h = cc
-pd_id_is (replies.Com c) id h = cc
-pd_id_is replies.Busy id h = cc
-pd_id_is (replies.MakerReply m) id h = cc
+pd_id_is reply id h = cc
 
 com_is : (reply : Reply) (d : Communication) → com_of reply ≡ Some d → reply ≡ replies.Com d
-com_is replies.Ack d h = cc
-com_is (replies.Nak n) d h = cc
-com_is (replies.PdId p) d h = cc
-com_is (replies.PdCap p) d h = cc
-com_is (replies.LocalState s) d h = cc
-com_is (replies.Inputs states) d h = cc
-com_is (replies.Outputs states) d h = cc
-com_is (replies.Readers states) d h = cc
-com_is (replies.Raw r) d h = cc
-com_is (replies.Formatted f) d h = cc
-com_is (replies.Keypad k) d h = cc
 com_is (replies.Com c) d h = cc
-com_is replies.Busy d h = cc
-com_is (replies.MakerReply m) d h = cc
+com_is reply d h = cc
 
 event_is : (reply : Reply) (e : EventOfReader) → event_in reply ≡ Some e → reply ≡ event_reply e
-event_is replies.Ack e h = cc
-event_is (replies.Nak n) e h = cc
-event_is (replies.PdId p) e h = cc
-event_is (replies.PdCap p) e h = cc
 event_is (replies.LocalState s) e h = let same : events.LocalState s ≡ e = cc in ap event_reply same
 event_is (replies.Inputs states) e h = let same : events.Inputs states ≡ e = cc in ap event_reply same
 event_is (replies.Outputs states) e h = let same : events.Outputs states ≡ e = cc in ap event_reply same
@@ -81,24 +53,11 @@ event_is (replies.Readers states) e h = let same : events.Readers states ≡ e =
 event_is (replies.Raw r) e h = let same : events.Raw r ≡ e = cc in ap event_reply same
 event_is (replies.Formatted f) e h = let same : events.Formatted f ≡ e = cc in ap event_reply same
 event_is (replies.Keypad k) e h = let same : events.Keypad k ≡ e = cc in ap event_reply same
-event_is (replies.Com c) e h = cc
-event_is replies.Busy e h = cc
-event_is (replies.MakerReply m) e h = cc
+event_is reply e h = cc
 
 comset_is : (command : Command) (a : Communication) → comset_of command ≡ Some a → command ≡ commands.Comset a
-comset_is commands.Poll a h = cc
-comset_is (commands.Id kept) a h = cc
-comset_is (commands.Cap kept) a h = cc
-comset_is commands.LocalStatus a h = cc
-comset_is commands.InputStatus a h = cc
-comset_is commands.OutputStatus a h = cc
-comset_is commands.ReaderStatus a h = cc
-comset_is (commands.Output records) a h = cc
-comset_is (commands.Led records) a h = cc
-comset_is (commands.Buzzer b) a h = cc
-comset_is (commands.Text t) a h = cc
 comset_is (commands.Comset c) a h = cc
-comset_is (commands.Maker m) a h = cc
+comset_is command a h = cc
 
 -- both are there, with one device's address
 MovesTo : Option Communication → Option Communication → Communication → Type 0

@@ -33,43 +33,16 @@ use Rattle.osdp_link_changes.specs.Changes.{given_at, given_by, given_to, given_
 
 poll_or_not : (c : Command) → (c ≡ command.Poll) ⊎ (c ≢ command.Poll)
 poll_or_not command.Poll = inl refl
-poll_or_not (command.Id kept) = inr (λ e. absurd cc)
-poll_or_not (command.Cap kept) = inr (λ e. absurd cc)
-poll_or_not command.LocalStatus = inr (λ e. absurd cc)
-poll_or_not command.InputStatus = inr (λ e. absurd cc)
-poll_or_not command.OutputStatus = inr (λ e. absurd cc)
-poll_or_not command.ReaderStatus = inr (λ e. absurd cc)
-poll_or_not (command.Output records) = inr (λ e. absurd cc)
-poll_or_not (command.Led records) = inr (λ e. absurd cc)
-poll_or_not (command.Buzzer b) = inr (λ e. absurd cc)
-poll_or_not (command.Text t) = inr (λ e. absurd cc)
-poll_or_not (command.Comset c) = inr (λ e. absurd cc)
-poll_or_not (command.Maker m) = inr (λ e. absurd cc)
+poll_or_not c = inr (λ e. absurd cc)
 
 given_is : (c : Command) (a : Reply) → c ≢ command.Poll → given_to c a ≡ (c, a) ∷ []
 given_is command.Poll a other = absurd (other refl)
-given_is (command.Id kept) a other = refl
-given_is (command.Cap kept) a other = refl
-given_is command.LocalStatus a other = refl
-given_is command.InputStatus a other = refl
-given_is command.OutputStatus a other = refl
-given_is command.ReaderStatus a other = refl
-given_is (command.Output records) a other = refl
-given_is (command.Led records) a other = refl
-given_is (command.Buzzer b) a other = refl
-given_is (command.Text t) a other = refl
-given_is (command.Comset c) a other = refl
-given_is (command.Maker m) a other = refl
+given_is c a other = refl
 
 told_takes_none : (r : Option Report) (t : Account) → (told r t).taken ≡ t.taken
 told_takes_none None t = refl
 told_takes_none (Some (report.Opened id)) t = refl
-told_takes_none (Some (report.Settled c a)) t = refl
-told_takes_none (Some (report.Moved c a)) t = refl
-told_takes_none (Some (report.Event e)) t = refl
-told_takes_none (Some (report.PollAnswered a)) t = refl
-told_takes_none (Some (report.Unread c code)) t = refl
-told_takes_none (Some (report.Lost cause c)) t = refl
+told_takes_none r t = refl
 
 module _ (fixed : ControllerConfig) {H : Type 0} (answer_of : H → Command → Answer) (after : H → Command → H) (settings : ReaderConfig) (first : H) where
   -- what a reader answers by, after these commands

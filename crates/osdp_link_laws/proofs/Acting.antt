@@ -121,33 +121,11 @@ module _ (fixed : ControllerConfig) {H : Type 0} where
 -- a command other than POLL has no event for its answer, and is taken as one
 pub no_event : (c : Command) (events : List Event) → c ≢ command.Poll → event_for c events ≡ None
 no_event command.Poll events other = absurd (other refl)
-no_event (command.Id kept) events other = refl
-no_event (command.Cap kept) events other = refl
-no_event command.LocalStatus events other = refl
-no_event command.InputStatus events other = refl
-no_event command.OutputStatus events other = refl
-no_event command.ReaderStatus events other = refl
-no_event (command.Output records) events other = refl
-no_event (command.Led records) events other = refl
-no_event (command.Buzzer b) events other = refl
-no_event (command.Text t) events other = refl
-no_event (command.Comset c) events other = refl
-no_event (command.Maker m) events other = refl
+no_event c events other = refl
 
 pub taken_is : (c : Command) (front : List Event) (t : Account) → c ≢ command.Poll → taken_command c front t ≡ record t { taken = t.taken ++ c ∷ [] }
 taken_is command.Poll front t other = absurd (other refl)
-taken_is (command.Id kept) front t other = refl
-taken_is (command.Cap kept) front t other = refl
-taken_is command.LocalStatus front t other = refl
-taken_is command.InputStatus front t other = refl
-taken_is command.OutputStatus front t other = refl
-taken_is command.ReaderStatus front t other = refl
-taken_is (command.Output records) front t other = refl
-taken_is (command.Led records) front t other = refl
-taken_is (command.Buzzer b) front t other = refl
-taken_is (command.Text s) front t other = refl
-taken_is (command.Comset c) front t other = refl
-taken_is (command.Maker m) front t other = refl
+taken_is c front t other = refl
 
 -- an event that was reported leaves when the next number is taken
 abbrev pub PastIs : List Event → List Event → List Event → List Event → Type 0

@@ -138,20 +138,8 @@ poll_tells None r a =
     ∙ sym (ap (λ l. record a { reported = l }) (append-nil a.reported))
 
 com_is : (r : Reply) (c : Communication) → com_of r ≡ Some c → reply.Com c ≡ r
-com_is reply.Ack c e = absurd cc
-com_is (reply.Nak n) c e = absurd cc
-com_is (reply.PdId i) c e = absurd cc
-com_is (reply.PdCap p) c e = absurd cc
-com_is (reply.LocalState s) c e = absurd cc
-com_is (reply.Inputs s) c e = absurd cc
-com_is (reply.Outputs s) c e = absurd cc
-com_is (reply.Readers s) c e = absurd cc
-com_is (reply.Raw r) c e = absurd cc
-com_is (reply.Formatted f) c e = absurd cc
-com_is (reply.Keypad k) c e = absurd cc
 com_is (reply.Com d) c e = cc
-com_is reply.Busy c e = absurd cc
-com_is (reply.MakerReply m) c e = absurd cc
+com_is a c e = absurd cc
 
 only_if : (b : Bool) (y c : Communication) → cond b (Some y) None ≡ Some c → Some y ≡ Some c
 only_if true y c e = e

@@ -51,19 +51,8 @@ unmoved c (Some d) none = elim (leb_tells c.address 126) [
 ]
 
 pub stays_put : (c : Command) (a : Reply) → SetsNoAddress c → moved_by (comset_of c) (com_of a) ≡ None
-stays_put command.Poll a none = refl
-stays_put (command.Id b) a none = refl
-stays_put (command.Cap b) a none = refl
-stays_put command.LocalStatus a none = refl
-stays_put command.InputStatus a none = refl
-stays_put command.OutputStatus a none = refl
-stays_put command.ReaderStatus a none = refl
-stays_put (command.Output b) a none = refl
-stays_put (command.Led b) a none = refl
-stays_put (command.Buzzer b) a none = refl
-stays_put (command.Text b) a none = refl
 stays_put (command.Comset c) a none = unmoved c (com_of a) none
-stays_put (command.Maker b) a none = refl
+stays_put c a none = refl
 
 -- an exchange that asks no COMSET to a device's address
 abbrev pub MovesNone : Exchange → Type 0

@@ -68,20 +68,9 @@ above d true test none =
 module _ {H : Type 0} (answer_of : H → Command → Answer) (after : H → Command → H) where
   no_device : (config : ReaderConfig) (h : H) (c : Command) (a : Reply) → a ≡ (answer_to answer_of after config h c).reply
       → moved_by (comset_of c) (com_of a) ≡ None → IsNoDevice (comset_of c)
-  no_device config h command.Poll a is none = tt
-  no_device config h (command.Id kept) a is none = tt
-  no_device config h (command.Cap kept) a is none = tt
-  no_device config h command.LocalStatus a is none = tt
-  no_device config h command.InputStatus a is none = tt
-  no_device config h command.OutputStatus a is none = tt
-  no_device config h command.ReaderStatus a is none = tt
-  no_device config h (command.Output records) a is none = tt
-  no_device config h (command.Led records) a is none = tt
-  no_device config h (command.Buzzer b) a is none = tt
-  no_device config h (command.Text t) a is none = tt
   no_device config h (command.Comset d) a is none =
       above d (leb d.address 126) refl (subst (λ r. moved_by (Some d) (com_of r) ≡ None) is none)
-  no_device config h (command.Maker m) a is none = tt
+  no_device config h c a is none = tt
 
   -- a settled command has the answer of its place
   answered_by : (config : ReaderConfig) (h : H) (cs : List Command) (xs ys : List (Command × Reply)) (c : Command) (a : Reply)

@@ -10,7 +10,7 @@ use Rattle.osdp_msg.specs.declared.event.Event.TheVariants as event
 use Rattle.osdp_msg.specs.declared.fault.MsgFault.{MsgFault}
 use Rattle.osdp_msg.specs.declared.fault.MsgFault.TheVariants.{UnknownCode, Length, Count}
 use Rattle.osdp_msg.specs.declared.nak.NakReason.{NakReason}
-use Rattle.osdp_msg.specs.declared.nak.NakReason.TheVariants.{CheckCharacters, CommandLength, UnknownCommand, UnexpectedSequence, SecurityBlock, SecurityConditions, BiometricType, BiometricFormat, RecordNotProcessed, Other}
+use Rattle.osdp_msg.specs.declared.nak.NakReason.TheVariants.{CommandLength, UnknownCommand}
 use Rattle.osdp_msg.specs.declared.reply.Reply.{Reply}
 use Rattle.osdp_msg.specs.declared.reply.Reply.TheVariants as reply
 use Rattle.osdp_msg.specs.Events.{event_reply}
@@ -40,76 +40,31 @@ unread_plain Length = two
 unread_plain Count = two
 
 done_plain : (c : Command) → IsPlain (done_reply c)
-done_plain command.Poll = nine
-done_plain (command.Id kept) = nine
-done_plain (command.Cap kept) = nine
-done_plain command.LocalStatus = nine
-done_plain command.InputStatus = nine
-done_plain command.OutputStatus = nine
-done_plain command.ReaderStatus = nine
 done_plain (command.Output records) = tt
 done_plain (command.Led records) = tt
 done_plain (command.Buzzer b) = tt
 done_plain (command.Text t) = tt
-done_plain (command.Comset c) = nine
 done_plain (command.Maker m) = tt
+done_plain c = nine
 
 local_plain : (c : Command) (tamper power : ℕ) → IsPlain (local_reply c tamper power)
-local_plain command.Poll tamper power = nine
-local_plain (command.Id kept) tamper power = nine
-local_plain (command.Cap kept) tamper power = nine
 local_plain command.LocalStatus tamper power = tt
-local_plain command.InputStatus tamper power = nine
-local_plain command.OutputStatus tamper power = nine
-local_plain command.ReaderStatus tamper power = nine
-local_plain (command.Output records) tamper power = nine
-local_plain (command.Led records) tamper power = nine
-local_plain (command.Buzzer b) tamper power = nine
-local_plain (command.Text t) tamper power = nine
-local_plain (command.Comset c) tamper power = nine
-local_plain (command.Maker m) tamper power = nine
+local_plain c tamper power = nine
 
 list_plain : (c : Command) (states : List ℕ) → IsPlain (list_reply c states)
-list_plain command.Poll states = nine
-list_plain (command.Id kept) states = nine
-list_plain (command.Cap kept) states = nine
-list_plain command.LocalStatus states = nine
 list_plain command.InputStatus states = tt
 list_plain command.OutputStatus states = tt
 list_plain command.ReaderStatus states = tt
-list_plain (command.Output records) states = nine
-list_plain (command.Led records) states = nine
-list_plain (command.Buzzer b) states = nine
-list_plain (command.Text t) states = nine
-list_plain (command.Comset c) states = nine
-list_plain (command.Maker m) states = nine
+list_plain c states = nine
 
 maker_plain : (c : Command) (vendor bytes : List ℕ) → IsPlain (maker_reply c vendor bytes)
-maker_plain command.Poll vendor bytes = nine
-maker_plain (command.Id kept) vendor bytes = nine
-maker_plain (command.Cap kept) vendor bytes = nine
-maker_plain command.LocalStatus vendor bytes = nine
-maker_plain command.InputStatus vendor bytes = nine
-maker_plain command.OutputStatus vendor bytes = nine
-maker_plain command.ReaderStatus vendor bytes = nine
-maker_plain (command.Output records) vendor bytes = nine
-maker_plain (command.Led records) vendor bytes = nine
-maker_plain (command.Buzzer b) vendor bytes = nine
-maker_plain (command.Text t) vendor bytes = nine
-maker_plain (command.Comset c) vendor bytes = nine
 maker_plain (command.Maker m) vendor bytes = tt
+maker_plain c vendor bytes = nine
 
 refusal_plain : (reason : NakReason) → IsPlain (refusal_reply reason)
-refusal_plain CheckCharacters = nine
 refusal_plain CommandLength = two
 refusal_plain UnknownCommand = three
-refusal_plain UnexpectedSequence = nine
-refusal_plain SecurityBlock = nine
-refusal_plain SecurityConditions = nine
-refusal_plain BiometricType = nine
-refusal_plain BiometricFormat = nine
-refusal_plain RecordNotProcessed = nine
-refusal_plain (Other n) = nine
+refusal_plain reason = nine
 
 for_plain : (a : Answer) (c : Command) → IsPlain (reply_for a c)
 for_plain answer.Done c = done_plain c
@@ -124,23 +79,12 @@ IsPlainIf None = Unit {0}
 IsPlainIf (Some r) = IsPlain r
 
 own_plain : (config : ReaderConfig) (c : Command) → IsPlainIf (own_reply config c)
-own_plain config command.Poll = tt
-own_plain config (command.Id kept) = tt
-own_plain config (command.Cap kept) = tt
-own_plain config command.LocalStatus = tt
-own_plain config command.InputStatus = tt
-own_plain config command.OutputStatus = tt
-own_plain config command.ReaderStatus = tt
-own_plain config (command.Output records) = tt
-own_plain config (command.Led records) = tt
-own_plain config (command.Buzzer b) = tt
-own_plain config (command.Text t) = tt
 own_plain config (command.Comset c) = by_range (nat_le c.address 126)
   where
     by_range : (within : Bool) → IsPlain (cond within (reply.Com c) not_processed)
     by_range true = tt
     by_range false = nine
-own_plain config (command.Maker m) = tt
+own_plain config c = tt
 
 event_plain : (e : Event) → IsPlain (event_reply e)
 event_plain (event.LocalState s) = tt
@@ -157,18 +101,7 @@ told_plain (Some e) = event_plain e
 
 event_for_plain : (c : Command) (events : List Event) → IsPlainIf (event_for c events)
 event_for_plain command.Poll events = told_plain (slice_get events 0)
-event_for_plain (command.Id kept) events = tt
-event_for_plain (command.Cap kept) events = tt
-event_for_plain command.LocalStatus events = tt
-event_for_plain command.InputStatus events = tt
-event_for_plain command.OutputStatus events = tt
-event_for_plain command.ReaderStatus events = tt
-event_for_plain (command.Output records) events = tt
-event_for_plain (command.Led records) events = tt
-event_for_plain (command.Buzzer b) events = tt
-event_for_plain (command.Text t) events = tt
-event_for_plain (command.Comset c) events = tt
-event_for_plain (command.Maker m) events = tt
+event_for_plain c events = tt
 
 module _ {H : Type 0} (answer_of : H → Command → Answer) (after : H → Command → H) where
   answered_plain : (own : Option Reply) (handler : H) (c : Command) → IsPlainIf own

@@ -18,19 +18,9 @@ same_rest c d cs ds e = cc
 
 -- what is answered without the handler doesn't depend on the address
 pub same_own : (c d : ReaderConfig) (asked : Command) → c.id ≡ d.id → c.caps ≡ d.caps → own_reply c asked ≡ own_reply d asked
-same_own c d command.Poll id caps = refl
 same_own c d (command.Id kept) id caps = ap (λ i. Some (reply.PdId i)) id
 same_own c d (command.Cap kept) id caps = ap (λ k. Some (reply.PdCap k)) caps
-same_own c d command.LocalStatus id caps = refl
-same_own c d command.InputStatus id caps = refl
-same_own c d command.OutputStatus id caps = refl
-same_own c d command.ReaderStatus id caps = refl
-same_own c d (command.Output records) id caps = refl
-same_own c d (command.Led records) id caps = refl
-same_own c d (command.Buzzer b) id caps = refl
-same_own c d (command.Text t) id caps = refl
-same_own c d (command.Comset asked) id caps = refl
-same_own c d (command.Maker m) id caps = refl
+same_own c d asked id caps = refl
 
 module _ {H : Type 0} (answer_of : H → Command → Answer) (after : H → Command → H) where
   pub answers_anywhere : (c d : ReaderConfig) (handler : H) (commands : List Command) → c.id ≡ d.id → c.caps ≡ d.caps

@@ -116,18 +116,7 @@ counts n m is = elim (eqb_tells n m) [ inl same ↦ same.1 | inr other ↦ absur
 pub submit_is : (c : Command) (m : Machine) → ((controllers.submit_refusal c m ≡ None → ⊥) × (but_poll c ≡ []))
     ⊎ ((controllers.submit_refusal c m ≡ (if ltb (length m.waiting) m.capacity then None else Some Full)) × (but_poll c ≡ c ∷ []))
 submit_is command.Poll m = inl (λ e. absurd cc, refl)
-submit_is (command.Id a) m = inr (refl, refl)
-submit_is (command.Cap a) m = inr (refl, refl)
-submit_is command.LocalStatus m = inr (refl, refl)
-submit_is command.InputStatus m = inr (refl, refl)
-submit_is command.OutputStatus m = inr (refl, refl)
-submit_is command.ReaderStatus m = inr (refl, refl)
-submit_is (command.Output a) m = inr (refl, refl)
-submit_is (command.Led a) m = inr (refl, refl)
-submit_is (command.Buzzer a) m = inr (refl, refl)
-submit_is (command.Text a) m = inr (refl, refl)
-submit_is (command.Comset a) m = inr (refl, refl)
-submit_is (command.Maker a) m = inr (refl, refl)
+submit_is c m = inr (refl, refl)
 
 -- a tick makes no command wait
 abbrev pub Few : ℕ → Ticked → Type 0

@@ -37,23 +37,14 @@ first_well (Some cause) rest e = absurd cc
 
 ends_of_report : (r : Option Report) (a : Account) → length (with_report r a).ends ≡ length a.ends + count (tells_end r)
 ends_of_report None a = omega arith
-ends_of_report (Some (report.Opened id)) a = omega arith
-ends_of_report (Some (report.Settled command answer)) a = omega arith
 ends_of_report (Some (report.Moved command answered)) a = length-append a.ends (ending.Moved ∷ [])
-ends_of_report (Some (report.Event event)) a = omega arith
-ends_of_report (Some (report.PollAnswered answer)) a = omega arith
-ends_of_report (Some (report.Unread command code)) a = omega arith
 ends_of_report (Some (report.Lost cause command)) a = length-append a.ends (ending.Lost cause ∷ [])
+ends_of_report r a = omega arith
 
 pub sessions_of_report : (r : Option Report) (a : Account) → (with_report r a).sessions ≡ a.sessions
 sessions_of_report None a = refl
 sessions_of_report (Some (report.Opened id)) a = refl
-sessions_of_report (Some (report.Settled command answer)) a = refl
-sessions_of_report (Some (report.Moved command answered)) a = refl
-sessions_of_report (Some (report.Event event)) a = refl
-sessions_of_report (Some (report.PollAnswered answer)) a = refl
-sessions_of_report (Some (report.Unread command code)) a = refl
-sessions_of_report (Some (report.Lost cause command)) a = refl
+sessions_of_report r a = refl
 
 counts_join : (closed ends : Bool) → (closed ≡ true → ends ≡ false) → count (closed || ends) ≡ count closed + count ends
 counts_join true true one = absurd (let none = one refl in cc)

@@ -18,11 +18,14 @@ use Rattle.osdp_sim_bus.specs.Runs.{RunEnds, Stops, StopsAt, lists_of_all, steps
 use Rattle.osdp_sim_bus.specs.State.{Given}
 use Rattle.osdp_sim_bus_laws.specs.Accepted.{AcceptsEach}
 use Rattle.osdp_sim_bus_laws.specs.Accounts.{EachMeets, accounts_in}
+use Rattle.osdp_sim_bus.specs.State.{Given, accounts}
+use Rattle.osdp_sim_bus.specs.Steps.{after_step, fault_of}
 use Rattle.osdp_tool_streams.specs.declared.fault.ToolFault.{ToolFault}
-use Rattle.osdp_tool_streams.specs.declared.fault.ToolFault.TheVariants.{HoldsPacket, NotQuiet}
 use Rattle.osdp_tool_account.specs.AccountText.{account_text, texts_from}
 use Rattle.osdp_tool_sim.specs.Several.{TellsEach, line_of, readers_from}
+use Rattle.osdp_tool_sim.specs.Steps.{EndsBy}
 use Rattle.osdp_tool_sim.specs.Told.{IsTextOfEach, TellsReaders}
+use Rattle.osdp_tool_sim.proofs.Stopped.{stop_is_told}
 
 abbrev pub Ends : Script → Result (Vec declared.Account) (Fault (Vec declared.Account)) → Type 0
 Ends script r =
@@ -65,35 +68,28 @@ pub each_ok : (script : Script) (told : Vec declared.Account) → Ends script (O
 each_ok script told ends holds accepts = record { run_is = (ends.1, ends.2); sessions = holds; accepted = accepts }
 
 -- a step was refused, and the bus and the readers were set up
-packet_at : (script : Script) (at : ℕ) (told : List Account)
-    → Stops handler_answer handler_after at cause.HoldsPacket told (default_config script.check 64) (readers_from 1 script.readers.items) (steps_of script)
-    → (1 ≤ at) × StopsAt handler_answer handler_after at cause.HoldsPacket told (steps_of script) (line_of script)
-packet_at script zero told stops = absurd stops.0
-packet_at script (suc before) told stops = (omega arith, stops.1)
+stopped_at : (script : Script) (why : Cause) (at : ℕ) (end : Result (Unit {0}) ToolFault) (told : List Account) → EndsBy why at end
+    → Stops handler_answer handler_after at why told (default_config script.check 64) (readers_from 1 script.readers.items) (steps_of script)
+    → (1 ≤ at) × StopsAt handler_answer handler_after at why told (steps_of script) (line_of script)
+stopped_at script cause.HoldsPacket zero end told is stops = absurd stops.0
+stopped_at script cause.NotQuiet zero end told is stops = absurd stops.0
+stopped_at script cause.NoMemory zero end told is stops = absurd is
+stopped_at script cause.OutOfRange zero end told is stops = absurd is
+stopped_at script why (suc before) end told is stops = (omega arith, stops.1)
 
-quiet_at : (script : Script) (at : ℕ) (told : List Account)
-    → Stops handler_answer handler_after at cause.NotQuiet told (default_config script.check 64) (readers_from 1 script.readers.items) (steps_of script)
-    → (1 ≤ at) × StopsAt handler_answer handler_after at cause.NotQuiet told (steps_of script) (line_of script)
-quiet_at script zero told stops = absurd stops.0
-quiet_at script (suc before) told stops = (omega arith, stops.1)
-
-pub each_packet : (script : Script) (fault : Fault (Vec declared.Account)) → Ends script (Err fault)
+pub each_stopped : (script : Script) (fault : Fault (Vec declared.Account)) (end : Result (Unit {0}) ToolFault) → Ends script (Err fault)
     → (1 ≤ fault.step → Holds script (lists_of_all fault.account.items)) → (1 ≤ fault.step → Accepted script (Err fault))
-    → fault.cause ≡ cause.HoldsPacket → TellsEach script (lists_of_all fault.account.items) (Err (HoldsPacket fault.step))
-each_packet script fault ends holds accepts is =
-    let stops = packet_at script fault.step (lists_of_all fault.account.items)
-    (subst (λ (why : Cause). Stops handler_answer handler_after fault.step why (lists_of_all fault.account.items)
-    (default_config script.check 64) (readers_from 1 script.readers.items) (steps_of script)) is ends) in
-    record { run_is = stops.1; sessions = holds stops.0; accepted = accepts stops.0 }
-
-pub each_quiet : (script : Script) (fault : Fault (Vec declared.Account)) → Ends script (Err fault)
-    → (1 ≤ fault.step → Holds script (lists_of_all fault.account.items)) → (1 ≤ fault.step → Accepted script (Err fault))
-    → fault.cause ≡ cause.NotQuiet → TellsEach script (lists_of_all fault.account.items) (Err (NotQuiet fault.step))
-each_quiet script fault ends holds accepts is =
-    let stops = quiet_at script fault.step (lists_of_all fault.account.items)
-    (subst (λ (why : Cause). Stops handler_answer handler_after fault.step why (lists_of_all fault.account.items)
-    (default_config script.check 64) (readers_from 1 script.readers.items) (steps_of script)) is ends) in
-    record { run_is = stops.1; sessions = holds stops.0; accepted = accepts stops.0 }
+    → EndsBy fault.cause fault.step end → TellsEach script (lists_of_all fault.account.items) end
+each_stopped script fault end ends holds accepts is =
+    let lists = lists_of_all fault.account.items in
+    let stops = stopped_at script fault.cause fault.step end lists is ends in
+    let told = stop_is_told (after_step handler_answer handler_after) fault_of accounts fault.cause fault.step end lists (steps_of script) (line_of script) is stops.1 in
+    record {
+      run_is = told.0;
+      sessions = holds stops.0;
+      accepted = subst (λ (taken : List SimStep). AcceptsEach (default_config script.check 64) (readers_from 1 script.readers.items) taken lists) (sym told.1)
+          (accepts stops.0);
+    }
 
 -- a script that hasn't one reader
 pub of_each : (readers : List (ℕ × ℕ)) (script : Script) (text : List ℕ) (end : Result (Unit {0}) ToolFault)

@@ -1,4 +1,5 @@
 pub mod ReadWhole
+pub mod Stopped
 pub mod Running
 pub mod Counting
 pub mod Accounts

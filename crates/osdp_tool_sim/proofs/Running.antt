@@ -1,5 +1,5 @@
 -- What a run hands back is told.
-use Rattle.std.proofs.Common.{◌≡◌, ◌≤◌, ℕ, zero, suc, List, Result, Ok, Err, IfOk, subst, arith}
+use Rattle.std.proofs.Common.{◌≡◌, ◌≤◌, ℕ, zero, suc, List, Result, Ok, Err, IfOk, sym, subst, arith}
 use Rattle.osdp_script.specs.declared.script.Script.{Script}
 use Rattle.osdp_script.specs.Script.{steps_of}
 use Rattle.osdp_script_reader.specs.Handler.{handler_after, handler_answer, new_handler}
@@ -15,8 +15,12 @@ use Rattle.osdp_sim.specs.declared.fault.Fault.{Fault}
 use Rattle.osdp_sim.specs.Account.{Account, lists_of}
 use Rattle.osdp_sim.specs.Runs.{RunEnds, Stops, StopsAt}
 use Rattle.osdp_sim_laws.specs.Accepted.{AcceptsByRoom}
-use Rattle.osdp_tool_streams.specs.declared.fault.ToolFault.TheVariants.{HoldsPacket, NotQuiet}
+use Rattle.osdp_sim.specs.Steps.{after_step, fault_of}
+use Rattle.osdp_sim_laws.specs.Accepted.{IsAccepted, commands_of, events_of}
+use Rattle.osdp_tool_streams.specs.declared.fault.ToolFault.{ToolFault}
 use Rattle.osdp_tool_sim.specs.One.{TellsOne, config_of, start_of}
+use Rattle.osdp_tool_sim.specs.Steps.{EndsBy}
+use Rattle.osdp_tool_sim.proofs.Stopped.{stop_is_told}
 
 abbrev pub Holds : ℕ → Account → Type 0
 Holds address lists = HoldsInSessions handler_answer handler_after (script_config 1 address) new_handler lists
@@ -46,37 +50,32 @@ told_ok script address events account accepts ends sessions =
     record { run_is = (ends.1, ends.2); sessions = sessions; issued = accepted.0; queued = accepted.1 }
 
 -- a step was refused, and both ends were set up
-packet_at : (script : Script) (address events at : ℕ) (lists : Account)
-    → Stops handler_answer handler_after at cause.HoldsPacket lists (config_of script.check (address, events)) new_handler (steps_of script)
-    → (1 ≤ at) × StopsAt handler_answer handler_after at cause.HoldsPacket lists (steps_of script) (start_of script.check (address, events))
-packet_at script address events zero lists stops = absurd stops.0
-packet_at script address events (suc before) lists stops = (omega arith, stops.1)
+stopped_at : (script : Script) (address events : ℕ) (why : Cause) (at : ℕ) (end : Result (Unit {0}) ToolFault) (lists : Account) → EndsBy why at end
+    → Stops handler_answer handler_after at why lists (config_of script.check (address, events)) new_handler (steps_of script)
+    → (1 ≤ at) × StopsAt handler_answer handler_after at why lists (steps_of script) (start_of script.check (address, events))
+stopped_at script address events cause.HoldsPacket zero end lists is stops = absurd stops.0
+stopped_at script address events cause.NotQuiet zero end lists is stops = absurd stops.0
+stopped_at script address events cause.NoMemory zero end lists is stops = absurd is
+stopped_at script address events cause.OutOfRange zero end lists is stops = absurd is
+stopped_at script address events why (suc before) end lists is stops = (omega arith, stops.1)
 
-quiet_at : (script : Script) (address events at : ℕ) (lists : Account)
-    → Stops handler_answer handler_after at cause.NotQuiet lists (config_of script.check (address, events)) new_handler (steps_of script)
-    → (1 ≤ at) × StopsAt handler_answer handler_after at cause.NotQuiet lists (steps_of script) (start_of script.check (address, events))
-quiet_at script address events zero lists stops = absurd stops.0
-quiet_at script address events (suc before) lists stops = (omega arith, stops.1)
-
-pub told_packet : (script : Script) (address events : ℕ) (fault : Fault declared.Account) → AcceptsByRoom handler_answer handler_after
+pub told_stopped : (script : Script) (address events : ℕ) (fault : Fault declared.Account) (end : Result (Unit {0}) ToolFault)
+    → AcceptsByRoom handler_answer handler_after
     → RunEnds handler_answer handler_after (config_of script.check (address, events)) new_handler (steps_of script) (Err fault)
-    → (1 ≤ fault.step → Holds address (lists_of fault.account)) → fault.cause ≡ cause.HoldsPacket
-    → TellsOne script (address, events) (lists_of fault.account) (Err (HoldsPacket fault.step))
-told_packet script address events fault accepts ends sessions is =
-    let stops = packet_at script address events fault.step (lists_of fault.account)
-    (subst (λ (why : Cause). Stops handler_answer handler_after fault.step why (lists_of fault.account) (config_of script.check (address, events)) new_handler (steps_of script)) is ends) in
+    → (1 ≤ fault.step → Holds address (lists_of fault.account)) → EndsBy fault.cause fault.step end
+    → TellsOne script (address, events) (lists_of fault.account) end
+told_stopped script address events fault end accepts ends sessions is =
+    let lists = lists_of fault.account in
+    let stops = stopped_at script address events fault.cause fault.step end lists is ends in
+    let told = stop_is_told (after_step handler_answer handler_after) fault_of (λ s. s.account) fault.cause fault.step end lists (steps_of script)
+    (start_of script.check (address, events)) is stops.1 in
     let accepted = accepts (config_of script.check (address, events)) new_handler (steps_of script) (Err fault) ends in
-    record { run_is = stops.1; sessions = sessions stops.0; issued = accepted.0; queued = accepted.1 }
-
-pub told_quiet : (script : Script) (address events : ℕ) (fault : Fault declared.Account) → AcceptsByRoom handler_answer handler_after
-    → RunEnds handler_answer handler_after (config_of script.check (address, events)) new_handler (steps_of script) (Err fault)
-    → (1 ≤ fault.step → Holds address (lists_of fault.account)) → fault.cause ≡ cause.NotQuiet
-    → TellsOne script (address, events) (lists_of fault.account) (Err (NotQuiet fault.step))
-told_quiet script address events fault accepts ends sessions is =
-    let stops = quiet_at script address events fault.step (lists_of fault.account)
-    (subst (λ (why : Cause). Stops handler_answer handler_after fault.step why (lists_of fault.account) (config_of script.check (address, events)) new_handler (steps_of script)) is ends) in
-    let accepted = accepts (config_of script.check (address, events)) new_handler (steps_of script) (Err fault) ends in
-    record { run_is = stops.1; sessions = sessions stops.0; issued = accepted.0; queued = accepted.1 }
+    record {
+      run_is = told.0;
+      sessions = sessions stops.0;
+      issued = subst (λ (taken : List SimStep). IsAccepted 64 (commands_of taken) lists.issued) (sym told.1) accepted.0;
+      queued = subst (λ (taken : List SimStep). IsAccepted events (events_of taken) lists.queued) (sym told.1) accepted.1;
+    }
 
 pub if_ok : {T E : Type 0} {P Q : T → Type 0} (r : Result T E) → ((x : T) → P x → Q x) → IfOk r P → IfOk r Q
 if_ok (Ok x) f p = f x p

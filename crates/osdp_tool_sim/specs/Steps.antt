@@ -1,5 +1,5 @@
 -- What the run of a script's steps comes to, over a line with one reader or with several.
-use Rattle.std.specs.Prelude.{◌≡◌, ◌-◌, true, List, Option, take, Result, Ok, Err}
+use Rattle.std.specs.Prelude.{◌≡◌, ◌-◌, ℕ, true, List, Option, take, Result, Ok, Err}
 use Rattle.osdp_sim.specs.declared.fault.Cause.{Cause}
 use Rattle.osdp_sim.specs.declared.fault.Cause.TheVariants as cause
 use Rattle.osdp_sim.specs.declared.step.SimStep.{SimStep}
@@ -28,3 +28,10 @@ abbrev pub steps_taken : Result (Unit {0}) ToolFault → List SimStep → List S
 steps_taken (Err (HoldsPacket step)) steps = take (step - 1) steps
 steps_taken (Err (NotQuiet step)) steps = take (step - 1) steps
 steps_taken _ steps = steps
+
+-- a step was refused for this cause, and it is told so
+abbrev pub EndsBy : Cause → ℕ → Result (Unit {0}) ToolFault → Type 0
+EndsBy cause.HoldsPacket step end = end ≡ Err (HoldsPacket step)
+EndsBy cause.NotQuiet step end = end ≡ Err (NotQuiet step)
+EndsBy cause.NoMemory step end = ⊥
+EndsBy cause.OutOfRange step end = ⊥

@@ -7,13 +7,13 @@ ghost use Rattle.osdp_sim.specs.Account.{lists_of};
 ghost use Rattle.osdp_tool_sim.specs.One.{TellsOne, config_of};
 ghost use Rattle.osdp_tool_sim.specs.Told.{IsTextOfOne};
 
-use crate::told::{COMMANDS, Told};
+use crate::told::{COMMANDS, Told, stopped};
 use osdp_controller::ControllerConfig;
 use osdp_frame::{Address, CheckKind};
 use osdp_script::Script;
 use osdp_script_reader::{ScriptReader, script_config};
 use osdp_session::run_schedule;
-use osdp_sim::{Account, Cause, SimConfig};
+use osdp_sim::{Account, SimConfig};
 use osdp_tool_account::account_text;
 use osdp_tool_streams::ToolFault;
 use std::alloc::Global;
@@ -46,18 +46,7 @@ fn run_one(
     let config = settings(script.check, address, events);
     match run_schedule(alloc, &config, ScriptReader::new(), script.schedule()) {
         Ok(what) => Ok(Told { what, end: Ok(()) }),
-        Err(fault) => match fault.cause {
-            Cause::HoldsPacket => Ok(Told {
-                what: fault.account,
-                end: Err(ToolFault::HoldsPacket(fault.step as u64)),
-            }),
-            Cause::NotQuiet => Ok(Told {
-                what: fault.account,
-                end: Err(ToolFault::NotQuiet(fault.step as u64)),
-            }),
-            Cause::NoMemory => Err(ToolFault::NoMemory),
-            Cause::OutOfRange => unreachable!(),
-        },
+        Err(fault) => stopped(fault),
     }
 }
 

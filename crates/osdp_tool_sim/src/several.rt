@@ -9,14 +9,14 @@ ghost use Rattle.osdp_tool_account.specs.AccountText.{texts_from};
 ghost use Rattle.osdp_tool_sim.specs.Several.{TellsEach, readers_from};
 ghost use Rattle.osdp_tool_sim.specs.Told.{IsTextOfEach};
 
-use crate::told::{COMMANDS, Told};
+use crate::told::{COMMANDS, Told, stopped};
 use osdp_bus::BusConfig;
 use osdp_frame::Address;
 use osdp_reader::ReaderConfig;
 use osdp_script::Script;
 use osdp_script_reader::{ScriptReader, script_config};
 use osdp_session::run_bus_schedule;
-use osdp_sim::{Account, Cause};
+use osdp_sim::Account;
 use osdp_tool_account::account_text;
 use osdp_tool_streams::ToolFault;
 use std::alloc::{AllocError, Global};
@@ -53,18 +53,7 @@ fn run_several(alloc: Global, script: &Script) -> Result<Told<Vec<Account>>, Too
     let config = BusConfig::new(script.check, COMMANDS);
     match run_bus_schedule(alloc, &config, readers, script.schedule()) {
         Ok(what) => Ok(Told { what, end: Ok(()) }),
-        Err(fault) => match fault.cause {
-            Cause::HoldsPacket => Ok(Told {
-                what: fault.account,
-                end: Err(ToolFault::HoldsPacket(fault.step as u64)),
-            }),
-            Cause::NotQuiet => Ok(Told {
-                what: fault.account,
-                end: Err(ToolFault::NotQuiet(fault.step as u64)),
-            }),
-            Cause::NoMemory => Err(ToolFault::NoMemory),
-            Cause::OutOfRange => unreachable!(),
-        },
+        Err(fault) => stopped(fault),
     }
 }
 

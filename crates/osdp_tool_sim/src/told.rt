@@ -1,5 +1,9 @@
 //! What is told of a script.
 
+ghost use Rattle.std.specs.Prelude.{◌≡◌, IfErr, IfOk};
+ghost use Rattle.osdp_tool_sim.specs.Steps.{EndsBy};
+
+use osdp_sim::{Cause, Fault};
 use osdp_tool_streams::ToolFault;
 
 /// How many commands may wait for each reader.
@@ -12,4 +16,24 @@ pub(crate) struct Told<T> {
     pub what: T,
     /// The step that was refused, if one was.
     pub end: Result<(), ToolFault>,
+}
+
+/// What is told of a schedule that has stopped at a step, or was stopped by memory.
+pub(crate) fn stopped<T: Drop>(fault: Fault<T>) -> Result<Told<T>, ToolFault>
+    requires { fault.cause ≡ Cause.OutOfRange → ⊥ }
+    ensures told { IfOk result (λ told. (told.what ≡ fault.account) × EndsBy fault.cause fault.step told.end) }
+    ensures fault { IfErr result (λ untold. untold ≡ ToolFault.NoMemory) }
+{
+    match fault.cause {
+        Cause::HoldsPacket => Ok(Told {
+            what: fault.account,
+            end: Err(ToolFault::HoldsPacket(fault.step as u64)),
+        }),
+        Cause::NotQuiet => Ok(Told {
+            what: fault.account,
+            end: Err(ToolFault::NotQuiet(fault.step as u64)),
+        }),
+        Cause::NoMemory => Err(ToolFault::NoMemory),
+        Cause::OutOfRange => unreachable!(),
+    }
 }
