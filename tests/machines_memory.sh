@@ -31,12 +31,15 @@ for name in "${tests[@]}"; do
 done
 
 cd ../osdp_sim_tests || exit 1
-for number in 1 16 17; do
+# Ten to set up; three that ask beforehand for the room that the commands of the schedule may take, without which it goes on; four by the steps.
+for number in 1 13 17 18; do
   tried=$(rt try --test --fail-alloc "$number" 2>&1)
   grep -q "test refusals::want_of_memory_is_told ... ok" <<<"$tried" || fail "simulated line: out of memory was not told"
-  needed="test refusals::memory_is_needed ... FAILED"
-  [ "$number" -eq 17 ] && needed="test refusals::memory_is_needed ... ok"
-  grep -q "$needed" <<<"$tried" || fail "simulated line: allocation $number is not as it should be"
+  case "$number" in
+    13 | 18) needed="ok" ;;
+    *) needed="FAILED" ;;
+  esac
+  grep -q "test refusals::memory_is_needed ... $needed" <<<"$tried" || fail "simulated line: allocation $number is not as it should be"
 done
 
 cd ../osdp_bus_tests || exit 1

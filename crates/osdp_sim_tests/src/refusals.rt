@@ -122,7 +122,7 @@ fn want_of_memory_is_told(rt: HostRuntime) {
     }
 }
 
-/// It needs all of its memory.
+/// It needs its memory, but for the room that is asked for beforehand.
 #[test]
 fn memory_is_needed(rt: HostRuntime) {
     let ended = run_session(rt.alloc(), &config(&rt), Door::new(), &opens());
