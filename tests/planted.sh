@@ -1,0 +1,3 @@
+#!/usr/bin/env bash
+# The text that each planted edit replaces stands once in its file: an edit that no longer applies is written anew with the code.
+exec python3 "$(dirname "$0")/../tools/planted" --texts
