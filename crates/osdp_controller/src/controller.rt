@@ -3,9 +3,9 @@
 ghost use Rattle.circular_buffer.specs.Buffer.{buffer};
 ghost use Rattle.osdp_controller.specs.Comsets.{is_comset};
 ghost use Rattle.osdp_controller.specs.Held.{is_held};
-ghost use Rattle.osdp_controller.specs.Private.{after_act, frame_if, is_over, next_in, rest_in};
+ghost use Rattle.osdp_controller.specs.Private.{after_act, frame_if, is_over, next_in};
 ghost use Rattle.osdp_controller.specs.Ticking.{stays, ticks_in};
-ghost use Rattle.std.specs.Prelude.{◌≡◌, ◌↔◌, ◌*◌, ◌+◌, ◌≤◌, IfErr, None, Some, OnOk, is_some, length, true, false};
+ghost use Rattle.std.specs.Prelude.{◌≡◌, ◌↔◌, ◌*◌, ◌+◌, ◌≤◌, IfErr, None, Some, OnOk, drop, is_some, length, option_copied, true, false};
 
 use crate::config::{ControllerConfig, is_device};
 use crate::fault::ControllerFault;
@@ -259,16 +259,12 @@ impl Controller {
         ensures machine { self.new ≡ after_act self.old }
         ensures held { result ≡ true → is_held self.new.session.state ≡ true }
     {
-        if self.waiting.is_empty() {
-            return self.session.tick();
+        match next_command(&self.session.state, &self.waiting) {
+            Some(command) => self.session.begin_command(command),
+            None => return self.session.tick(),
         }
-        match next_command(&self.session.state, &mut self.waiting) {
-            Some(command) => {
-                self.session.begin_command(command);
-                true
-            }
-            None => self.session.tick(),
-        }
+        drop_front(&mut self.waiting);
+        true
     }
 
     /// Does what is due at the greatest moment seen, where the session goes on, and puts the packet that goes out into `out`. Whether one
@@ -347,13 +343,22 @@ fn is_comset(command: &Command) -> bool
     matches!(command, Command::Comset(_))
 }
 
-/// The front of the waiting commands, which leaves them, where the session is open and nothing is outstanding.
-fn next_command(state: &Held, waiting: &mut HeapCircularBuffer<Command>) -> Option<Command>
-    ensures command { result ≡ next_in state.now waiting.old.items }
-    ensures rest { waiting.new ≡ buffer (rest_in state.now waiting.old.items) waiting.old.capacity }
+/// The front of the waiting commands, where the session is open and nothing is outstanding.
+fn next_command<'a>(
+    state: &Held,
+    waiting: &'a HeapCircularBuffer<Command>,
+) -> Option<&'a Command>
+    ensures { option_copied result ≡ next_in state.now waiting.now.items }
 {
     if !state.is_idle() {
         return None;
     }
-    waiting.pop_front()
+    waiting.front()
+}
+
+/// The front of the waiting commands leaves them.
+fn drop_front(waiting: &mut HeapCircularBuffer<Command>)
+    ensures { waiting.new ≡ buffer (drop 1 waiting.old.items) waiting.old.capacity }
+{
+    let _front = waiting.pop_front();
 }

@@ -87,7 +87,7 @@ impl Session {
         ensures report { report.new ≡ acknowledged (outstanding_in self.old.state).exchange }
         ensures session { self.new ≡ at_rest self.old }
     {
-        match (self.state.asked, &mut self.state.command) {
+        match (self.state.asked, &self.state.command) {
             (Asked::Submitted, Some(command)) => tell_settled(command, report),
             (Asked::Opening | Asked::Polling, _) | (Asked::Submitted, None) => {}
         }
@@ -302,14 +302,15 @@ impl Session {
     }
 }
 
-/// Tells that a command is settled by an ACK. What is left in its place is of no use.
+/// Tells that a command is settled by an ACK.
 #[inline(never)]
-fn tell_settled(command: &mut Command, report: &mut Option<Report>)
-    ensures { report.new ≡ Some (Settled command.old Ack) }
+fn tell_settled(command: &Command, report: &mut Option<Report>)
+    ensures { report.new ≡ Some (Settled command.now Ack) }
 {
-    let mut settled = Command::Poll;
-    mem::swap(&mut settled, command);
-    *report = Some(Report::Settled(settled, Reply::Ack));
+    *report = Some(Report::Settled(Command::Poll, Reply::Ack));
+    if let Some(Report::Settled(settled, _)) = report {
+        command.copy_into(settled);
+    }
 }
 
 /// Puts a reply in place of that of a command that is told as settled.

@@ -12,6 +12,7 @@ use crate::config::ControllerConfig;
 use crate::exchange::Asked;
 use crate::state::Held;
 use crate::ticking::first_number;
+use arrayvec::ArrayVec;
 use osdp_frame::{Burst, Frame, FrameView, Seq};
 use osdp_msg::Command;
 
@@ -95,7 +96,9 @@ impl Session {
     fn put_command(&self, command: &Command, frame: &mut Option<Frame>)
         ensures { frame.new ≡ Some (frame_of (Asking command.now) self.now) }
     {
-        self.put_body(command.write().as_slice(), frame);
+        let mut body = ArrayVec::new();
+        command.write_into(&mut body);
+        self.put_body(body.as_slice(), frame);
     }
 
     /// Puts the frame with this code and data into a place of the caller's.
@@ -125,7 +128,9 @@ impl Session {
     fn spell_command(&self, command: &Command, out: &mut Burst)
         ensures { Spells (frame_of (Asking command.now) self.now) out.new.items }
     {
-        self.spell_body(command.write().as_slice(), out);
+        let mut body = ArrayVec::new();
+        command.write_into(&mut body);
+        self.spell_body(body.as_slice(), out);
     }
 
     /// Puts the bytes of the frame with this code and data in place of what stands in `out`.

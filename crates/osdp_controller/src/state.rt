@@ -1,6 +1,6 @@
 //! Where a session stands.
 
-ghost use Rattle.std.specs.Prelude.{◌≡◌, ◌≢◌, ◌+◌, ◌<◌, ◌^◌, true, None};
+ghost use Rattle.std.specs.Prelude.{◌≡◌, ◌≢◌, ◌+◌, ◌<◌, ◌^◌, true, None, Some};
 ghost use Rattle.osdp_controller.specs.declared.exchange.Asked.TheVariants.{Submitted};
 ghost use Rattle.osdp_controller.specs.declared.exchange.Exchange.TheVariants.{Asking, Polling};
 ghost use Rattle.osdp_controller.specs.declared.state.Stage.TheVariants as stages;
@@ -194,8 +194,8 @@ impl Held {
     }
 
     /// A command is asked for the first time.
-    pub(crate) fn begin_command(&mut self, command: Command, until: u64)
-        ensures { self.new ≡ Waiting until 1 (record { exchange = Asking command; busies = 0; sent = 1 }) }
+    pub(crate) fn begin_command(&mut self, command: &Command, until: u64)
+        ensures { self.new ≡ Waiting until 1 (record { exchange = Asking command.now; busies = 0; sent = 1 }) }
     {
         self.stage = Stage::Waiting;
         self.moment = until;
@@ -203,7 +203,7 @@ impl Held {
         self.asked = Asked::Submitted;
         self.busies = 0;
         self.sent = 1;
-        self.command = Some(command);
+        put_command(command, &mut self.command);
     }
 
     /// The exchange is asked once more, as this send.
@@ -247,4 +247,15 @@ impl Held {
             Asked::Submitted => self.command.take(),
         }
     }
+}
+
+/// Puts an equal command in a place. One that stands there is written over.
+fn put_command(command: &Command, place: &mut Option<Command>)
+    ensures { place.new ≡ Some command.now }
+{
+    if let Some(place) = place {
+        command.copy_into(place);
+        return;
+    }
+    *place = Some(command.copy());
 }

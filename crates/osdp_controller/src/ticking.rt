@@ -40,10 +40,10 @@ impl Session {
     }
 
     /// A command begins a new exchange with the next number.
-    pub(crate) fn begin_command(&mut self, command: Command)
+    pub(crate) fn begin_command(&mut self, command: &Command)
         requires config { IsConfig self.old.config }
-        requires command { IsSubmitted command }
-        ensures session { self.new ≡ (begins (Asking command) (next_sequence self.old.number) self.old []).session }
+        requires command { IsSubmitted command.now }
+        ensures session { self.new ≡ (begins (Asking command.now) (next_sequence self.old.number) self.old []).session }
         ensures kept { IsSession self.new }
     {
         self.number = self.next_number();

@@ -6,7 +6,6 @@ ghost use Rattle.osdp_frame.specs.Packet.{IsPacket};
 ghost use Rattle.osdp_frame.specs.Packed.{packed};
 ghost use Rattle.osdp_frame.specs.Spelling.{Spells};
 
-use crate::bytes::{HEAD, LARGEST, are_bytes};
 use crate::{Address, CheckKind, FrameView, Seq};
 use arrayvec::ArrayVec;
 use std::marker::Model;
@@ -65,12 +64,8 @@ impl Frame {
         ensures { let packet = packed reply address seq check block reserved body.items in
             SomeIff result (IsPacket packet) packet }
     {
-        let length = body.len();
-        if length == 0 || HEAD + length + check.size() > LARGEST || reserved > 15 {
-            return None;
-        }
-        are_bytes(body.as_slice());
-        let _ranges = (address.get(), seq.get());
+        let bytes = body.as_slice();
+        FrameView::new(reply, address, seq, check, block, reserved, bytes)?;
         Some(Frame {
             reply,
             address,

@@ -37,6 +37,7 @@ pub fn read_at(run: &[u8], place: usize) -> ReadItem
 
 /// The packet, or the byte that begins none, at the head of `bytes`: the next item of each run that goes on
 /// with its bytes. None where no byte is there, where a refused byte is, or where bytes to come decide.
+#[inline(always)]
 pub fn whole_item(bytes: &[u8]) -> Option<Item<'_>>
     ensures shown { option_map part_of result ≡ by_itself (decided false bytes.now) }
     ensures first { IfSome result (λ item. IsFirst false (take (part_size (part_of item)) bytes.now) (part_of item)) }

@@ -6,6 +6,7 @@ pub mod CommandFields
 pub mod ReplyFields
 pub mod Refusal
 pub mod CommandTable
+pub mod ListedCommands
 pub mod CommandText
 pub mod ReplyTable
 pub mod ReplyText

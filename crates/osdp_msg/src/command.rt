@@ -1,21 +1,22 @@
 //! Commands: what the controller sends to a reader.
 
-ghost use Rattle.std.specs.Prelude.{◌≡◌, ◌↔◌, ◌∷◌, length, None, Some, Ok, IfOk, IfErr, IfSome, IsOk, IsSome, true};
+ghost use Rattle.std.specs.Prelude.{◌≡◌, ◌↔◌, ◌∷◌, length, None, Some, Ok, IfOk, IfErr, IfSome, IsOk, IsSome, true, false};
 ghost use Rattle.std.specs.Result.{result_ok};
 ghost use Rattle.osdp_words.specs.Reading.{ReadsWords};
 ghost use Rattle.osdp_words.specs.Word.{AllStandFor, texts, words_in};
 ghost use Rattle.osdp_msg.specs.CommandTable.{CommandFits, IsCommand, command_code, command_data, command_counts_agree, command_fault, command_length_allowed, command_of, command_at};
 ghost use Rattle.osdp_msg.specs.CommandText.{command_words, command_text};
+ghost use Rattle.osdp_msg.specs.ListedCommands.{has_list};
 
 use crate::command_fields::{Buzzer, Communication, MakerMessage, Text};
 use crate::fault::{BadWords, MsgFault, length_fault};
 use crate::leds::Leds;
 use crate::outputs::Outputs;
 use crate::parsing::{MOST_WORDS, parse_byte};
-use crate::placing::{place_leds, place_maker, place_outputs, place_text};
+use crate::placing::{copy_list, place_list};
 use crate::printing::{print_byte, print_records};
-use crate::records::with_records;
-use crate::spelling::{code_alone, with_byte};
+use crate::records::put_records;
+use crate::spelling::{put_byte, put_code};
 use arrayvec::ArrayVec;
 use osdp_words::words_in;
 use std::fmt;
@@ -103,12 +104,12 @@ fn place(code: u8, bytes: &[u8], command: &mut Option<Command>)
         0x65 => *command = Some(Command::InputStatus),
         0x66 => *command = Some(Command::OutputStatus),
         0x67 => *command = Some(Command::ReaderStatus),
-        0x68 => place_outputs(bytes, command),
-        0x69 => place_leds(bytes, command),
+        0x68 => place_list::<Outputs>(bytes, command),
+        0x69 => place_list::<Leds>(bytes, command),
         0x6A => *command = Some(Command::Buzzer(Buzzer::read(bytes))),
-        0x6B => place_text(bytes, command),
+        0x6B => place_list::<Text>(bytes, command),
         0x6E => *command = Some(Command::Comset(Communication::read(bytes))),
-        0x80 => place_maker(bytes, command),
+        0x80 => place_list::<MakerMessage>(bytes, command),
         _ => *command = Some(Command::Poll),
     }
 }
@@ -183,20 +184,30 @@ impl Command {
         ensures spelled { result.items ≡ command_code self.now ∷ command_data self.now }
         ensures fits { CommandFits self.now }
     {
+        let mut spelling = ArrayVec::new();
+        self.write_into(&mut spelling);
+        spelling
+    }
+
+    /// Puts the code and the data of the command in place of what stands in `spelling`.
+    pub fn write_into(&self, spelling: &mut ArrayVec<u8, 1433>)
+        ensures spelled { spelling.new.items ≡ command_code self.now ∷ command_data self.now }
+        ensures fits { CommandFits self.now }
+    {
         match self {
-            Command::Poll => code_alone(0x60),
-            Command::Id(kept) => with_byte(0x61, *kept),
-            Command::Cap(kept) => with_byte(0x62, *kept),
-            Command::LocalStatus => code_alone(0x64),
-            Command::InputStatus => code_alone(0x65),
-            Command::OutputStatus => code_alone(0x66),
-            Command::ReaderStatus => code_alone(0x67),
-            Command::Output(outputs) => with_records(0x68, outputs.records()),
-            Command::Led(leds) => with_records(0x69, leds.records()),
-            Command::Buzzer(buzzer) => buzzer.write(),
-            Command::Text(text) => text.write(),
-            Command::Comset(communication) => communication.write(0x6E),
-            Command::Maker(message) => message.write(0x80),
+            Command::Poll => put_code(spelling, 0x60),
+            Command::Id(kept) => put_byte(spelling, 0x61, *kept),
+            Command::Cap(kept) => put_byte(spelling, 0x62, *kept),
+            Command::LocalStatus => put_code(spelling, 0x64),
+            Command::InputStatus => put_code(spelling, 0x65),
+            Command::OutputStatus => put_code(spelling, 0x66),
+            Command::ReaderStatus => put_code(spelling, 0x67),
+            Command::Output(outputs) => put_records(spelling, 0x68, outputs.records()),
+            Command::Led(leds) => put_records(spelling, 0x69, leds.records()),
+            Command::Buzzer(buzzer) => buzzer.write_into(spelling),
+            Command::Text(text) => text.write_into(spelling),
+            Command::Comset(communication) => communication.write_into(spelling, 0x6E),
+            Command::Maker(message) => message.write_into(spelling, 0x80),
         }
     }
 
@@ -227,20 +238,54 @@ impl Command {
     pub fn copy(&self) -> Command
         ensures { result ≡ self.now }
     {
+        let mut command = Command::Poll;
+        self.copy_into(&mut command);
+        command
+    }
+
+    /// Puts an equal command in place of what stands in `place`. Outputs, LEDs, a text and a maker's message are written over those that
+    /// stand there, so that a caller with one place for command after command moves their bytes alone.
+    pub fn copy_into(&self, place: &mut Command)
+        ensures { place.new ≡ self.now }
+    {
         match self {
-            Command::Poll => Command::Poll,
-            Command::Id(kept) => Command::Id(*kept),
-            Command::Cap(kept) => Command::Cap(*kept),
-            Command::LocalStatus => Command::LocalStatus,
-            Command::InputStatus => Command::InputStatus,
-            Command::OutputStatus => Command::OutputStatus,
-            Command::ReaderStatus => Command::ReaderStatus,
-            Command::Output(outputs) => Command::Output(outputs.copy()),
-            Command::Led(leds) => Command::Led(leds.copy()),
-            Command::Buzzer(buzzer) => Command::Buzzer(*buzzer),
-            Command::Text(text) => Command::Text(text.copy()),
-            Command::Comset(communication) => Command::Comset(*communication),
-            Command::Maker(message) => Command::Maker(message.copy()),
+            Command::Output(outputs) => copy_list(outputs, place),
+            Command::Led(leds) => copy_list(leds, place),
+            Command::Text(text) => copy_list(text, place),
+            Command::Maker(message) => copy_list(message, place),
+            Command::Poll
+            | Command::Id(_)
+            | Command::Cap(_)
+            | Command::LocalStatus
+            | Command::InputStatus
+            | Command::OutputStatus
+            | Command::ReaderStatus
+            | Command::Buzzer(_)
+            | Command::Comset(_) => self.copy_small(place),
+        }
+    }
+
+    /// Puts an equal command in place of what stands in `place`, where it has no list.
+    // It stands by itself, since what it writes has the size of the largest command.
+    #[inline(never)]
+    fn copy_small(&self, place: &mut Command)
+        requires { has_list self.now ≡ false }
+        ensures { place.new ≡ self.now }
+    {
+        match self {
+            Command::Id(kept) => *place = Command::Id(*kept),
+            Command::Cap(kept) => *place = Command::Cap(*kept),
+            Command::LocalStatus => *place = Command::LocalStatus,
+            Command::InputStatus => *place = Command::InputStatus,
+            Command::OutputStatus => *place = Command::OutputStatus,
+            Command::ReaderStatus => *place = Command::ReaderStatus,
+            Command::Buzzer(buzzer) => *place = Command::Buzzer(*buzzer),
+            Command::Comset(communication) => *place = Command::Comset(*communication),
+            Command::Poll
+            | Command::Output(_)
+            | Command::Led(_)
+            | Command::Text(_)
+            | Command::Maker(_) => *place = Command::Poll,
         }
     }
 }

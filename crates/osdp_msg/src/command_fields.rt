@@ -7,7 +7,7 @@ ghost use Rattle.osdp_words.specs.Word.{plain, text_of, texts};
 ghost use Rattle.osdp_msg.specs.CommandFields.{BuzzerFits, buzzer_at, buzzer_data, buzzer_words, TextFits, text_at, text_data, text_words, CommunicationFits, communication_at, communication_data, communication_words, MakerFits, maker_at, maker_data, maker_words};
 
 use crate::spelling::{
-    Spelling, append, append_u32, code_alone, copy_over, list_of, rest, with_bytes,
+    Spelling, append, append_u32, copy_over, list_of, put_byte, put_bytes, rest,
 };
 use arrayvec::ArrayVec;
 use byteorder::{ByteOrder, LittleEndian};
@@ -43,8 +43,9 @@ impl Buzzer {
         }
     }
 
-    pub(crate) fn write(self) -> Spelling
-        ensures spelled { result.items ≡ 0x6A ∷ buzzer_data self }
+    /// Puts the message in place of what stands in `spelling`.
+    pub(crate) fn write_into(self, spelling: &mut Spelling)
+        ensures spelled { spelling.new.items ≡ 0x6A ∷ buzzer_data self }
         ensures fits { BuzzerFits self }
     {
         let data = [
@@ -54,7 +55,7 @@ impl Buzzer {
             self.off_time,
             self.count,
         ];
-        with_bytes(0x6A, &data)
+        put_bytes(spelling, 0x6A, &data);
     }
 
     pub(crate) fn print<W: fmt::Write>(self, f: &mut fmt::Formatter<W>) -> fmt::Result
@@ -104,18 +105,15 @@ pub struct Text {
 }
 
 impl Text {
-    pub(crate) fn read(bytes: &[u8]) -> Text
-        requires some { 6 ≤ length bytes.now }
-        requires room { length bytes.now ≤ 261 }
-        ensures { result ≡ text_at bytes.now }
-    {
+    /// A text without characters, whose numbers are all 0.
+    pub(crate) fn least() -> Text {
         Text {
-            reader: bytes[0],
-            command: bytes[1],
-            time: bytes[2],
-            row: bytes[3],
-            column: bytes[4],
-            characters: list_of(rest(bytes, 6)),
+            reader: 0,
+            command: 0,
+            time: 0,
+            row: 0,
+            column: 0,
+            characters: ArrayVec::new(),
         }
     }
 
@@ -133,8 +131,9 @@ impl Text {
         copy_over(&mut self.characters, rest(bytes, 6));
     }
 
-    pub(crate) fn write(&self) -> Spelling
-        ensures spelled { result.items ≡ 0x6B ∷ text_data self.now }
+    /// Puts the message in place of what stands in `spelling`.
+    pub(crate) fn write_into(&self, spelling: &mut Spelling)
+        ensures spelled { spelling.new.items ≡ 0x6B ∷ text_data self.now }
         ensures fits { TextFits self.now }
     {
         let count = self.characters.len() as u8;
@@ -146,19 +145,20 @@ impl Text {
             self.column,
             count,
         ];
-        let mut spelling = with_bytes(0x6B, &front);
-        append(&mut spelling, self.characters.as_slice());
-        spelling
+        put_bytes(spelling, 0x6B, &front);
+        append(spelling, self.characters.as_slice());
     }
 
-    /// An equal value.
-    pub(crate) fn copy(&self) -> Text
-        ensures { result ≡ self.now }
+    /// Puts another text in place of this.
+    pub(crate) fn copy_over(&mut self, other: &Text)
+        ensures { self.new ≡ other.now }
     {
-        Text {
-            characters: list_of(self.characters.as_slice()),
-            ..*self
-        }
+        self.reader = other.reader;
+        self.command = other.command;
+        self.time = other.time;
+        self.row = other.row;
+        self.column = other.column;
+        copy_over(&mut self.characters, other.characters.as_slice());
     }
 
     pub(crate) fn print<W: fmt::Write>(&self, f: &mut fmt::Formatter<W>) -> fmt::Result
@@ -211,14 +211,13 @@ impl Communication {
         }
     }
 
-    pub(crate) fn write(self, code: u8) -> Spelling
-        ensures spelled { result.items ≡ code ∷ communication_data self }
+    /// Puts the message with this code in place of what stands in `spelling`.
+    pub(crate) fn write_into(self, spelling: &mut Spelling, code: u8)
+        ensures spelled { spelling.new.items ≡ code ∷ communication_data self }
         ensures fits { CommunicationFits self }
     {
-        let mut spelling = code_alone(code);
-        spelling.push(self.address);
-        append_u32(&mut spelling, self.baud_rate);
-        spelling
+        put_byte(spelling, code, self.address);
+        append_u32(spelling, self.baud_rate);
     }
 
     pub(crate) fn print<W: fmt::Write>(self, f: &mut fmt::Formatter<W>, name: &str) -> fmt::Result
@@ -261,6 +260,14 @@ impl MakerMessage {
         }
     }
 
+    /// A message without bytes, of the maker 00 00 00.
+    pub(crate) fn least() -> MakerMessage {
+        MakerMessage {
+            vendor: [0; 3],
+            bytes: ArrayVec::new(),
+        }
+    }
+
     /// Puts the message that the bytes are in place of this.
     pub(crate) fn read_over(&mut self, bytes: &[u8])
         requires some { 3 ≤ length bytes.now }
@@ -271,13 +278,21 @@ impl MakerMessage {
         copy_over(&mut self.bytes, rest(bytes, 3));
     }
 
-    pub(crate) fn write(&self, code: u8) -> Spelling
-        ensures spelled { result.items ≡ code ∷ maker_data self.now }
+    /// Puts the message with this code in place of what stands in `spelling`.
+    pub(crate) fn write_into(&self, spelling: &mut Spelling, code: u8)
+        ensures spelled { spelling.new.items ≡ code ∷ maker_data self.now }
         ensures fits { MakerFits self.now }
     {
-        let mut spelling = with_bytes(code, &self.vendor);
-        append(&mut spelling, self.bytes.as_slice());
-        spelling
+        put_bytes(spelling, code, &self.vendor);
+        append(spelling, self.bytes.as_slice());
+    }
+
+    /// Puts another message in place of this.
+    pub(crate) fn copy_over(&mut self, other: &MakerMessage)
+        ensures { self.new ≡ other.now }
+    {
+        self.vendor = other.vendor;
+        copy_over(&mut self.bytes, other.bytes.as_slice());
     }
 
     /// An equal value.

@@ -8,8 +8,8 @@ ghost use Rattle.osdp_msg.specs.CommandFields.{LedFits, led_at, led_word, record
 ghost use Rattle.osdp_msg.specs.Records.{records_at};
 
 use crate::parsing::parse_records;
-use crate::records::{Record, read_records, read_records_over};
-use crate::spelling::{Spelling, append, append_u16, list_of, rest};
+use crate::records::{Record, read_records_over};
+use crate::spelling::{Spelling, append, append_u16, copy_over, list_of, rest};
 use arrayvec::ArrayVec;
 use byteorder::{ByteOrder, LittleEndian};
 use std::fmt;
@@ -202,15 +202,11 @@ impl Leds {
         self.records.as_slice()
     }
 
-    pub(crate) fn read(bytes: &[u8]) -> Leds
-        requires some { 14 ≤ length bytes.now }
-        requires room { length bytes.now ≤ 1432 }
-        requires whole { length bytes.now % 14 ≡ 0 }
-        ensures { result ≡ records_at led_at 14 bytes.now }
-    {
-        Leds {
-            records: read_records(bytes),
-        }
+    /// One record whose numbers are all 0.
+    pub(crate) fn least() -> Leds {
+        let mut records = ArrayVec::new();
+        records.push(LedRecord::default());
+        Leds { records }
     }
 
     /// Puts the records that the bytes are in place of these.
@@ -223,13 +219,11 @@ impl Leds {
         read_records_over(&mut self.records, bytes);
     }
 
-    /// An equal value.
-    pub(crate) fn copy(&self) -> Leds
-        ensures { result ≡ self.now }
+    /// Puts the records of another in place of these.
+    pub(crate) fn copy_over(&mut self, other: &Leds)
+        ensures { self.new ≡ other.now }
     {
-        Leds {
-            records: list_of(self.records()),
-        }
+        copy_over(&mut self.records, other.records());
     }
 
     pub(crate) fn parse(words: &[&str]) -> Option<Leds>

@@ -8,8 +8,8 @@ ghost use Rattle.osdp_msg.specs.CommandFields.{OutputFits, output_at, output_wor
 ghost use Rattle.osdp_msg.specs.Records.{records_at};
 
 use crate::parsing::parse_records;
-use crate::records::{Record, read_records, read_records_over};
-use crate::spelling::{Spelling, append_u16, list_of, rest};
+use crate::records::{Record, read_records_over};
+use crate::spelling::{Spelling, append_u16, copy_over, list_of, rest};
 use arrayvec::ArrayVec;
 use byteorder::{ByteOrder, LittleEndian};
 use std::fmt;
@@ -130,15 +130,11 @@ impl Outputs {
         self.records.as_slice()
     }
 
-    pub(crate) fn read(bytes: &[u8]) -> Outputs
-        requires some { 4 ≤ length bytes.now }
-        requires room { length bytes.now ≤ 1432 }
-        requires whole { length bytes.now % 4 ≡ 0 }
-        ensures { result ≡ records_at output_at 4 bytes.now }
-    {
-        Outputs {
-            records: read_records(bytes),
-        }
+    /// One record whose numbers are all 0.
+    pub(crate) fn least() -> Outputs {
+        let mut records = ArrayVec::new();
+        records.push(OutputRecord::default());
+        Outputs { records }
     }
 
     /// Puts the records that the bytes are in place of these.
@@ -151,13 +147,11 @@ impl Outputs {
         read_records_over(&mut self.records, bytes);
     }
 
-    /// An equal value.
-    pub(crate) fn copy(&self) -> Outputs
-        ensures { result ≡ self.now }
+    /// Puts the records of another in place of these.
+    pub(crate) fn copy_over(&mut self, other: &Outputs)
+        ensures { self.new ≡ other.now }
     {
-        Outputs {
-            records: list_of(self.records()),
-        }
+        copy_over(&mut self.records, other.records());
     }
 
     pub(crate) fn parse(words: &[&str]) -> Option<Outputs>

@@ -1,114 +1,223 @@
 //! Commands with lists, put in place of what stands there.
 //!
-//! Where a command of the same kind stands there, its list is written over. What makes a whole command is a function of its own that
-//! is not inlined, since a function writes zeros over its large locals where it begins.
+//! Where a command of the same kind stands there, its list is written over, so that the bytes of the list alone are moved. What makes
+//! a whole command is a function of its own that is not inlined, since a function writes zeros over its large locals where it begins.
 
-ghost use Rattle.std.specs.Prelude.{◌≡◌, ◌≤◌, ◌%◌, length, Some};
-ghost use Rattle.osdp_msg.specs.CommandFields.{led_at, maker_at, output_at, text_at};
-ghost use Rattle.osdp_msg.specs.Records.{records_at};
-ghost use Rattle.osdp_msg.specs.declared.command.Command.TheVariants as variants;
+ghost use Rattle.std.specs.Prelude.{◌≡◌, ℕ, Bool, List, Some, true, false};
+ghost use Rattle.osdp_msg.specs.declared.command.Command.{Command};
+ghost use Rattle.osdp_msg.specs.ListedCommands.{has_list};
 
 use crate::command::Command;
 use crate::command_fields::{MakerMessage, Text};
 use crate::leds::Leds;
 use crate::outputs::Outputs;
 
-/// Puts the outputs there that these bytes are.
+/// What a command holds that has a list.
+pub(crate) trait Listed: Drop {
+    ghost within: { Self → Command };
+
+    ghost is_within: { Command → Bool };
+
+    ghost are_data: { List ℕ → Type 0 };
+
+    ghost at: { List ℕ → Self };
+
+    /// A command of this kind with the least that one can hold.
+    fn least() -> Command
+        ensures { is_within result ≡ true };
+
+    /// Puts what the bytes are in place of what a command of this kind holds. Whether it is of this kind.
+    fn read_over(bytes: &[u8], command: &mut Command) -> bool
+        requires { are_data bytes.now }
+        ensures found { result ≡ is_within command.old }
+        ensures read { result ≡ true → command.new ≡ within (at bytes.now) };
+
+    /// Puts an equal value in place of what a command of this kind holds. Whether it is of this kind.
+    fn copy_over(&self, command: &mut Command) -> bool
+        ensures found { result ≡ is_within command.old }
+        ensures copied { result ≡ true → command.new ≡ within self.now };
+}
+
+/// Puts the command there whose data these bytes are.
 #[inline(never)]
-pub(crate) fn place_outputs(bytes: &[u8], command: &mut Option<Command>)
-    requires some { 4 ≤ length bytes.now }
-    requires room { length bytes.now ≤ 1432 }
-    requires whole { length bytes.now % 4 ≡ 0 }
-    ensures { command.new ≡ Some (variants.Output (records_at output_at 4 bytes.now)) }
+pub(crate) fn place_list<L: Listed>(bytes: &[u8], place: &mut Option<Command>)
+    requires { L.are_data bytes.now }
+    ensures { place.new ≡ Some (L.within (L.at bytes.now)) }
 {
-    if let Some(Command::Output(outputs)) = command {
-        outputs.read_over(bytes);
+    if let Some(command) = place {
+        read_list::<L>(bytes, command);
         return;
     }
-    new_outputs(bytes, command);
-}
-
-/// The same where another kind of command stands there, or none.
-#[inline(never)]
-fn new_outputs(bytes: &[u8], command: &mut Option<Command>)
-    requires some { 4 ≤ length bytes.now }
-    requires room { length bytes.now ≤ 1432 }
-    requires whole { length bytes.now % 4 ≡ 0 }
-    ensures { command.new ≡ Some (variants.Output (records_at output_at 4 bytes.now)) }
-{
-    *command = Some(Command::Output(Outputs::read(bytes)));
-}
-
-/// Puts the LEDs there that these bytes are.
-#[inline(never)]
-pub(crate) fn place_leds(bytes: &[u8], command: &mut Option<Command>)
-    requires some { 14 ≤ length bytes.now }
-    requires room { length bytes.now ≤ 1432 }
-    requires whole { length bytes.now % 14 ≡ 0 }
-    ensures { command.new ≡ Some (variants.Led (records_at led_at 14 bytes.now)) }
-{
-    if let Some(Command::Led(leds)) = command {
-        leds.read_over(bytes);
-        return;
+    *place = Some(L::least());
+    if let Some(command) = place {
+        read_list::<L>(bytes, command);
     }
-    new_leds(bytes, command);
 }
 
-/// The same where another kind of command stands there, or none.
-#[inline(never)]
-fn new_leds(bytes: &[u8], command: &mut Option<Command>)
-    requires some { 14 ≤ length bytes.now }
-    requires room { length bytes.now ≤ 1432 }
-    requires whole { length bytes.now % 14 ≡ 0 }
-    ensures { command.new ≡ Some (variants.Led (records_at led_at 14 bytes.now)) }
+/// Puts the command there whose data these bytes are, where a command stands.
+fn read_list<L: Listed>(bytes: &[u8], command: &mut Command)
+    requires { L.are_data bytes.now }
+    ensures { command.new ≡ L.within (L.at bytes.now) }
 {
-    *command = Some(Command::Led(Leds::read(bytes)));
-}
-
-/// Puts the text there that these bytes are.
-#[inline(never)]
-pub(crate) fn place_text(bytes: &[u8], command: &mut Option<Command>)
-    requires some { 6 ≤ length bytes.now }
-    requires room { length bytes.now ≤ 261 }
-    ensures { command.new ≡ Some (variants.Text (text_at bytes.now)) }
-{
-    if let Some(Command::Text(text)) = command {
-        text.read_over(bytes);
-        return;
+    if !L::read_over(bytes, command) {
+        place_least::<L>(command);
+        let _is_within = L::read_over(bytes, command);
     }
-    new_text(bytes, command);
 }
 
-/// The same where another kind of command stands there, or none.
+/// Puts an equal command there.
 #[inline(never)]
-fn new_text(bytes: &[u8], command: &mut Option<Command>)
-    requires some { 6 ≤ length bytes.now }
-    requires room { length bytes.now ≤ 261 }
-    ensures { command.new ≡ Some (variants.Text (text_at bytes.now)) }
+pub(crate) fn copy_list<L: Listed>(list: &L, command: &mut Command)
+    ensures { command.new ≡ L.within list.now }
 {
-    *command = Some(Command::Text(Text::read(bytes)));
-}
-
-/// Puts the maker's message there that these bytes are.
-#[inline(never)]
-pub(crate) fn place_maker(bytes: &[u8], command: &mut Option<Command>)
-    requires some { 3 ≤ length bytes.now }
-    requires room { length bytes.now ≤ 1432 }
-    ensures { command.new ≡ Some (variants.Maker (maker_at bytes.now)) }
-{
-    if let Some(Command::Maker(message)) = command {
-        message.read_over(bytes);
-        return;
+    if !list.copy_over(command) {
+        place_least::<L>(command);
+        let _is_within = list.copy_over(command);
     }
-    new_maker(bytes, command);
 }
 
-/// The same where another kind of command stands there, or none.
+/// Puts the least command of the kind there.
 #[inline(never)]
-fn new_maker(bytes: &[u8], command: &mut Option<Command>)
-    requires some { 3 ≤ length bytes.now }
-    requires room { length bytes.now ≤ 1432 }
-    ensures { command.new ≡ Some (variants.Maker (maker_at bytes.now)) }
+fn place_least<L: Listed>(command: &mut Command)
+    ensures { L.is_within command.new ≡ true }
 {
-    *command = Some(Command::Maker(MakerMessage::read(bytes)));
+    *command = L::least();
+}
+
+impl Listed for Outputs {
+    ghost use Rattle.osdp_msg.specs.declared.command.Command.TheVariants.{Output};
+    ghost use Rattle.osdp_msg.specs.CommandFields.{output_at};
+    ghost use Rattle.osdp_msg.specs.ListedCommands.{AreRecords, is_output};
+    ghost use Rattle.osdp_msg.specs.Records.{records_at};
+
+    ghost within = { Output };
+
+    ghost is_within = { is_output };
+
+    ghost are_data = { AreRecords 4 };
+
+    ghost at = { records_at output_at 4 };
+
+    fn least() -> Command {
+        Command::Output(Outputs::least())
+    }
+
+    fn read_over(bytes: &[u8], command: &mut Command) -> bool {
+        if let Command::Output(outputs) = command {
+            outputs.read_over(bytes);
+            return true;
+        }
+        false
+    }
+
+    fn copy_over(&self, command: &mut Command) -> bool {
+        if let Command::Output(outputs) = command {
+            outputs.copy_over(self);
+            return true;
+        }
+        false
+    }
+}
+
+impl Listed for Leds {
+    ghost use Rattle.osdp_msg.specs.declared.command.Command.TheVariants.{Led};
+    ghost use Rattle.osdp_msg.specs.CommandFields.{led_at};
+    ghost use Rattle.osdp_msg.specs.ListedCommands.{AreRecords, is_led};
+    ghost use Rattle.osdp_msg.specs.Records.{records_at};
+
+    ghost within = { Led };
+
+    ghost is_within = { is_led };
+
+    ghost are_data = { AreRecords 14 };
+
+    ghost at = { records_at led_at 14 };
+
+    fn least() -> Command {
+        Command::Led(Leds::least())
+    }
+
+    fn read_over(bytes: &[u8], command: &mut Command) -> bool {
+        if let Command::Led(leds) = command {
+            leds.read_over(bytes);
+            return true;
+        }
+        false
+    }
+
+    fn copy_over(&self, command: &mut Command) -> bool {
+        if let Command::Led(leds) = command {
+            leds.copy_over(self);
+            return true;
+        }
+        false
+    }
+}
+
+impl Listed for Text {
+    ghost use Rattle.osdp_msg.specs.declared.command.Command.TheVariants.{Text as text};
+    ghost use Rattle.osdp_msg.specs.CommandFields.{text_at};
+    ghost use Rattle.osdp_msg.specs.ListedCommands.{HasLength, is_text};
+
+    ghost within = { text };
+
+    ghost is_within = { is_text };
+
+    ghost are_data = { HasLength 6 261 };
+
+    ghost at = { text_at };
+
+    fn least() -> Command {
+        Command::Text(Text::least())
+    }
+
+    fn read_over(bytes: &[u8], command: &mut Command) -> bool {
+        if let Command::Text(text) = command {
+            text.read_over(bytes);
+            return true;
+        }
+        false
+    }
+
+    fn copy_over(&self, command: &mut Command) -> bool {
+        if let Command::Text(text) = command {
+            text.copy_over(self);
+            return true;
+        }
+        false
+    }
+}
+
+impl Listed for MakerMessage {
+    ghost use Rattle.osdp_msg.specs.declared.command.Command.TheVariants.{Maker};
+    ghost use Rattle.osdp_msg.specs.CommandFields.{maker_at};
+    ghost use Rattle.osdp_msg.specs.ListedCommands.{HasLength, is_maker};
+
+    ghost within = { Maker };
+
+    ghost is_within = { is_maker };
+
+    ghost are_data = { HasLength 3 1432 };
+
+    ghost at = { maker_at };
+
+    fn least() -> Command {
+        Command::Maker(MakerMessage::least())
+    }
+
+    fn read_over(bytes: &[u8], command: &mut Command) -> bool {
+        if let Command::Maker(message) = command {
+            message.read_over(bytes);
+            return true;
+        }
+        false
+    }
+
+    fn copy_over(&self, command: &mut Command) -> bool {
+        if let Command::Maker(message) = command {
+            message.copy_over(self);
+            return true;
+        }
+        false
+    }
 }

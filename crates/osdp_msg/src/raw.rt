@@ -9,7 +9,7 @@ ghost use Rattle.osdp_words.specs.Word.{plain, text_of, texts};
 ghost use Rattle.osdp_msg.specs.Raw.{raw_card};
 ghost use Rattle.osdp_msg.specs.ReplyFields.{RawFits, raw_at, raw_data, raw_words};
 
-use crate::spelling::{Spelling, append, append_u16, list_of, rest, with_bytes};
+use crate::spelling::{Spelling, append, append_u16, list_of, put_bytes, rest};
 use arrayvec::ArrayVec;
 use byteorder::{ByteOrder, LittleEndian};
 use osdp_words::{ByteList, Fields};
@@ -98,14 +98,14 @@ impl Raw {
         }
     }
 
-    pub(crate) fn write(&self) -> Spelling
-        ensures spelled { result.items ≡ 0x50 ∷ raw_data self.now }
+    /// Puts the message in place of what stands in `spelling`.
+    pub(crate) fn write_into(&self, spelling: &mut Spelling)
+        ensures spelled { spelling.new.items ≡ 0x50 ∷ raw_data self.now }
         ensures fits { RawFits self.now }
     {
-        let mut spelling = with_bytes(0x50, &[self.reader, self.format]);
-        append_u16(&mut spelling, self.bits);
-        append(&mut spelling, self.bytes.as_slice());
-        spelling
+        put_bytes(spelling, 0x50, &[self.reader, self.format]);
+        append_u16(spelling, self.bits);
+        append(spelling, self.bytes.as_slice());
     }
 
     /// An equal value.

@@ -7,7 +7,7 @@ ghost use Rattle.osdp_words.specs.Reading.{Reads};
 ghost use Rattle.osdp_words.specs.Word.{Word, printed};
 ghost use Rattle.osdp_msg.specs.Records.{records_at};
 
-use crate::spelling::{Spelling, code_alone, rest};
+use crate::spelling::{Spelling, put_code, rest};
 use arrayvec::ArrayVec;
 use std::fmt;
 
@@ -76,15 +76,14 @@ pub(crate) fn read_records_over<R: Record, const N: usize>(
     }
 }
 
-/// A message of records.
-pub(crate) fn with_records<R: Record>(code: u8, records: &[R]) -> Spelling
+/// Puts a message of records in place of what stands in `spelling`.
+pub(crate) fn put_records<R: Record>(spelling: &mut Spelling, code: u8, records: &[R])
     requires { R.SIZE * length records.now ≤ 1432 }
-    ensures spelled { result.items ≡ code ∷ flat_map R.spelled records.now }
+    ensures spelled { spelling.new.items ≡ code ∷ flat_map R.spelled records.now }
     ensures fits { All R.fits records.now }
 {
-    let mut spelling = code_alone(code);
+    put_code(spelling, code);
     for record in records {
-        record.append_to(&mut spelling);
+        record.append_to(spelling);
     }
-    spelling
 }

@@ -11,9 +11,9 @@ use crate::fault::{BadWords, MsgFault, length_fault};
 use crate::parsing::{MOST_WORDS, parse_records, parse_states};
 use crate::printing::{print_bytes, print_records};
 use crate::raw::Raw;
-use crate::records::{read_records, with_records};
+use crate::records::{put_records, read_records};
 use crate::reply_fields::{Formatted, Keypad, LocalState, Nak, PdCap, PdId};
-use crate::spelling::{code_alone, list_of, rest, with_bytes};
+use crate::spelling::{list_of, put_bytes, put_code, rest};
 use arrayvec::ArrayVec;
 use byteorder::{ByteOrder, LittleEndian};
 use osdp_words::words_in;
@@ -177,21 +177,31 @@ impl Reply {
         ensures spelled { result.items ≡ reply_code self.now ∷ reply_data self.now }
         ensures fits { ReplyFits self.now }
     {
+        let mut spelling = ArrayVec::new();
+        self.write_into(&mut spelling);
+        spelling
+    }
+
+    /// Puts the code and the data of the reply in place of what stands in `spelling`.
+    pub fn write_into(&self, spelling: &mut ArrayVec<u8, 1433>)
+        ensures spelled { spelling.new.items ≡ reply_code self.now ∷ reply_data self.now }
+        ensures fits { ReplyFits self.now }
+    {
         match self {
-            Reply::Ack => code_alone(0x40),
-            Reply::Nak(nak) => nak.write(),
-            Reply::PdId(pd_id) => pd_id.write(),
-            Reply::PdCap(pd_cap) => with_records(0x46, pd_cap.capabilities.as_slice()),
-            Reply::LocalState(state) => state.write(),
-            Reply::Inputs(states) => with_bytes(0x49, states.as_slice()),
-            Reply::Outputs(states) => with_bytes(0x4A, states.as_slice()),
-            Reply::Readers(states) => with_bytes(0x4B, states.as_slice()),
-            Reply::Raw(raw) => raw.write(),
-            Reply::Formatted(formatted) => formatted.write(),
-            Reply::Keypad(keypad) => keypad.write(),
-            Reply::Com(communication) => communication.write(0x54),
-            Reply::Busy => code_alone(0x79),
-            Reply::MakerReply(message) => message.write(0x90),
+            Reply::Ack => put_code(spelling, 0x40),
+            Reply::Nak(nak) => nak.write_into(spelling),
+            Reply::PdId(pd_id) => pd_id.write_into(spelling),
+            Reply::PdCap(pd_cap) => put_records(spelling, 0x46, pd_cap.capabilities.as_slice()),
+            Reply::LocalState(state) => state.write_into(spelling),
+            Reply::Inputs(states) => put_bytes(spelling, 0x49, states.as_slice()),
+            Reply::Outputs(states) => put_bytes(spelling, 0x4A, states.as_slice()),
+            Reply::Readers(states) => put_bytes(spelling, 0x4B, states.as_slice()),
+            Reply::Raw(raw) => raw.write_into(spelling),
+            Reply::Formatted(formatted) => formatted.write_into(spelling),
+            Reply::Keypad(keypad) => keypad.write_into(spelling),
+            Reply::Com(communication) => communication.write_into(spelling, 0x54),
+            Reply::Busy => put_code(spelling, 0x79),
+            Reply::MakerReply(message) => message.write_into(spelling, 0x90),
         }
     }
 

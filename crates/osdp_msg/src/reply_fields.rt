@@ -8,7 +8,7 @@ ghost use Rattle.osdp_msg.specs.ReplyFields.{NakFits, nak_at, nak_data, nak_word
 
 use crate::capability::Capability;
 use crate::nak::NakReason;
-use crate::spelling::{Spelling, append, append_u32, code_alone, list_of, rest, with_bytes};
+use crate::spelling::{Spelling, append, append_u32, list_of, put_byte, put_bytes, rest};
 use arrayvec::ArrayVec;
 use byteorder::{ByteOrder, LittleEndian};
 use osdp_words::{ByteList, Fields};
@@ -35,14 +35,13 @@ impl Nak {
         }
     }
 
-    pub(crate) fn write(&self) -> Spelling
-        ensures spelled { result.items ≡ 0x41 ∷ nak_data self.now }
+    /// Puts the message in place of what stands in `spelling`.
+    pub(crate) fn write_into(&self, spelling: &mut Spelling)
+        ensures spelled { spelling.new.items ≡ 0x41 ∷ nak_data self.now }
         ensures fits { NakFits self.now }
     {
-        let mut spelling = code_alone(0x41);
-        spelling.push(self.reason.number());
-        append(&mut spelling, self.detail.as_slice());
-        spelling
+        put_byte(spelling, 0x41, self.reason.number());
+        append(spelling, self.detail.as_slice());
     }
 
     /// An equal value.
@@ -124,20 +123,20 @@ impl PdId {
         }
     }
 
-    pub(crate) fn write(self) -> Spelling
-        ensures spelled { result.items ≡ 0x45 ∷ pd_id_data self }
+    /// Puts the message in place of what stands in `spelling`.
+    pub(crate) fn write_into(self, spelling: &mut Spelling)
+        ensures spelled { spelling.new.items ≡ 0x45 ∷ pd_id_data self }
         ensures fits { PdIdFits self }
     {
-        let mut spelling = with_bytes(0x45, &self.vendor);
-        append(&mut spelling, &[self.model, self.version]);
-        append_u32(&mut spelling, self.serial);
+        put_bytes(spelling, 0x45, &self.vendor);
+        append(spelling, &[self.model, self.version]);
+        append_u32(spelling, self.serial);
         let firmware = [
             self.firmware_major,
             self.firmware_minor,
             self.firmware_build,
         ];
-        append(&mut spelling, &firmware);
-        spelling
+        append(spelling, &firmware);
     }
 
     pub(crate) fn print<W: fmt::Write>(self, f: &mut fmt::Formatter<W>) -> fmt::Result
@@ -218,11 +217,12 @@ impl LocalState {
         }
     }
 
-    pub(crate) fn write(self) -> Spelling
-        ensures spelled { result.items ≡ 0x48 ∷ local_state_data self }
+    /// Puts the message in place of what stands in `spelling`.
+    pub(crate) fn write_into(self, spelling: &mut Spelling)
+        ensures spelled { spelling.new.items ≡ 0x48 ∷ local_state_data self }
         ensures fits { LocalStateFits self }
     {
-        with_bytes(0x48, &[self.tamper, self.power])
+        put_bytes(spelling, 0x48, &[self.tamper, self.power]);
     }
 
     pub(crate) fn print<W: fmt::Write>(self, f: &mut fmt::Formatter<W>) -> fmt::Result
@@ -265,14 +265,14 @@ impl Formatted {
         }
     }
 
-    pub(crate) fn write(&self) -> Spelling
-        ensures spelled { result.items ≡ 0x51 ∷ formatted_data self.now }
+    /// Puts the message in place of what stands in `spelling`.
+    pub(crate) fn write_into(&self, spelling: &mut Spelling)
+        ensures spelled { spelling.new.items ≡ 0x51 ∷ formatted_data self.now }
         ensures fits { FormattedFits self.now }
     {
         let count = self.digits.len() as u8;
-        let mut spelling = with_bytes(0x51, &[self.reader, self.direction, count]);
-        append(&mut spelling, self.digits.as_slice());
-        spelling
+        put_bytes(spelling, 0x51, &[self.reader, self.direction, count]);
+        append(spelling, self.digits.as_slice());
     }
 
     /// An equal value.
@@ -328,14 +328,14 @@ impl Keypad {
         }
     }
 
-    pub(crate) fn write(&self) -> Spelling
-        ensures spelled { result.items ≡ 0x53 ∷ keypad_data self.now }
+    /// Puts the message in place of what stands in `spelling`.
+    pub(crate) fn write_into(&self, spelling: &mut Spelling)
+        ensures spelled { spelling.new.items ≡ 0x53 ∷ keypad_data self.now }
         ensures fits { KeypadFits self.now }
     {
         let count = self.digits.len() as u8;
-        let mut spelling = with_bytes(0x53, &[self.reader, count]);
-        append(&mut spelling, self.digits.as_slice());
-        spelling
+        put_bytes(spelling, 0x53, &[self.reader, count]);
+        append(spelling, self.digits.as_slice());
     }
 
     /// An equal value.

@@ -41,34 +41,31 @@ pub(crate) fn copy_over<T: Copy + Default + Drop, const N: usize>(
     list.try_extend_from_slice(items).unwrap();
 }
 
-/// A message of a code alone.
-pub(crate) fn code_alone(code: u8) -> Spelling
-    ensures { result.items ≡ code ∷ [] }
+/// Puts a message of a code alone in place of what stands in `spelling`.
+pub(crate) fn put_code(spelling: &mut Spelling, code: u8)
+    ensures { spelling.new.items ≡ code ∷ [] }
 {
-    let mut spelling = ArrayVec::new();
+    spelling.clear();
     spelling.push(code);
-    spelling
 }
 
-/// A message of one byte.
-pub(crate) fn with_byte(code: u8, byte: u8) -> Spelling
-    ensures spelled { result.items ≡ code ∷ byte ∷ [] }
+/// Puts a message of one byte in place of what stands in `spelling`.
+pub(crate) fn put_byte(spelling: &mut Spelling, code: u8, byte: u8)
+    ensures spelled { spelling.new.items ≡ code ∷ byte ∷ [] }
     ensures fits { byte < 256 }
 {
-    let mut spelling = code_alone(code);
+    put_code(spelling, code);
     spelling.push(byte);
-    spelling
 }
 
-/// A message of some bytes.
-pub(crate) fn with_bytes(code: u8, bytes: &[u8]) -> Spelling
+/// Puts a message of some bytes in place of what stands in `spelling`.
+pub(crate) fn put_bytes(spelling: &mut Spelling, code: u8, bytes: &[u8])
     requires { length bytes.now ≤ 1432 }
-    ensures spelled { result.items ≡ code ∷ bytes.now }
+    ensures spelled { spelling.new.items ≡ code ∷ bytes.now }
     ensures fits { IsBytes bytes.now }
 {
-    let mut spelling = code_alone(code);
-    append(&mut spelling, bytes);
-    spelling
+    put_code(spelling, code);
+    append(spelling, bytes);
 }
 
 /// Appends some bytes.

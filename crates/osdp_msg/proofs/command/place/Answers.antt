@@ -16,15 +16,15 @@ bounds-bytes-0-in-98 c =
     let p = (exactly (length c.args.bytes.now) 1 true (rw c.in-98.is at c.requires)).0 in
     omega (arith, p)
 
-pub place_outputs-requires : goal.place_outputs-requires
+pub place_list-requires : goal.place_list-requires
 unfolding command_fault
-place_outputs-requires c =
+place_list-requires c =
     let p = some_multiple 4 4 (length c.args.bytes.now) true (rw c.in-104.is at c.requires) in
     record { some = p.0; room = p.1; whole = p.2 }
 
-pub place_leds-requires : goal.place_leds-requires
+pub place_list-requires-in-105 : goal.place_list-requires-in-105
 unfolding command_fault
-place_leds-requires c =
+place_list-requires-in-105 c =
     let p = some_multiple 14 14 (length c.args.bytes.now) true (rw c.in-105.is at c.requires) in
     record { some = p.0; room = p.1; whole = p.2 }
 
@@ -34,9 +34,9 @@ read-requires c =
     let p = exactly (length c.args.bytes.now) 5 true (rw c.in-106.is at c.requires) in
     p.0
 
-pub place_text-requires : goal.place_text-requires
+pub place_list-requires-in-107 : goal.place_list-requires-in-107
 unfolding command_fault
-place_text-requires c =
+place_list-requires-in-107 c =
     let bs = c.args.bytes.now in
     let p = at_least 6 (length bs) (eqb (slice_index bs 5) (length bs - 6)) (rw c.in-107.is at c.requires) in
     let count = eqb-true (slice_index bs 5) (length bs - 6) p.2 in
@@ -48,8 +48,8 @@ read-requires-in-110 c =
     let p = exactly (length c.args.bytes.now) 5 true (rw c.in-110.is at c.requires) in
     p.0
 
-pub place_maker-requires : goal.place_maker-requires
+pub place_list-requires-in-128 : goal.place_list-requires-in-128
 unfolding command_fault
-place_maker-requires c =
+place_list-requires-in-128 c =
     let p = at_least 3 (length c.args.bytes.now) true (rw c.in-128.is at c.requires) in
     record { some = p.0; room = p.1 }

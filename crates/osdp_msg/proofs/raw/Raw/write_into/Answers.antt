@@ -1,12 +1,12 @@
 use Rattle.std.proofs.Common.{subst}
 use Rattle.osdp_msg.specs.ReplyFields.{RawFits}
-use Rattle.osdp_msg.proofs.raw.Raw.write.Goals as goal
+use Rattle.osdp_msg.proofs.raw.Raw.write_into.Goals as goal
 
 pub returns-clause-fits : goal.returns-clause-fits
 returns-clause-fits c =
     subst RawFits c.self.view_is record {
-      reader = c.with_bytes-spelling.ensures.fits 0;
-      format = c.with_bytes-spelling.ensures.fits 1;
+      reader = c.put_bytes.ensures.fits 0;
+      format = c.put_bytes.ensures.fits 1;
       bits = c.append_u16.ensures.fits;
       needed = c.self.invariant;
       room = rw c.as_slice.ensures.value at c.as_slice.ensures.fits;

@@ -2,7 +2,7 @@ use Rattle.std.proofs.Common.{◌≡◌, ◌∷◌, ◌*◌, ℕ, suc, [], take,
 use Rattle.std.proofs.lemmas.List.{flat_map_more, length-take, take_more}
 use Rattle.std.proofs.lemmas.List.Elements.{All-more}
 use Rattle.osdp_msg.proofs.RecordLists.{length-flat_map_size, spelling_room}
-use Rattle.osdp_msg.proofs.records.with_records.Goals as goal
+use Rattle.osdp_msg.proofs.records.put_records.Goals as goal
 
 pub append_to-requires : goal.append_to-requires
 append_to-requires g c =

@@ -1,6 +1,6 @@
 use Rattle.std.proofs.Common.{◌≡◌, ◌∷◌, take}
 use Rattle.std.specs.List.{All, flat_map}
-use Rattle.osdp_msg.proofs.records.with_records.Given as goal
+use Rattle.osdp_msg.proofs.records.put_records.Given as goal
 
 abbrev pub invariant-loop-record : goal.invariant-loop-record
 invariant-loop-record g l = record {

@@ -1,0 +1,39 @@
+-- Commands that hold a list: outputs, LEDs, a text and a maker's message.
+use Rattle.std.specs.Prelude.{◌≡◌, ◌≤◌, ℕ, ◌%◌, Bool, true, false, List, length}
+use Rattle.osdp_msg.specs.declared.command.Command.{Command}
+use Rattle.osdp_msg.specs.declared.command.Command.TheVariants.{Poll, Id, Cap, LocalStatus, InputStatus, OutputStatus, ReaderStatus, Output, Led, Buzzer, Text, Comset, Maker}
+
+abbrev pub is_output : Command → Bool
+is_output (Output records) = true
+is_output _ = false
+
+abbrev pub is_led : Command → Bool
+is_led (Led records) = true
+is_led _ = false
+
+abbrev pub is_text : Command → Bool
+is_text (Text t) = true
+is_text _ = false
+
+abbrev pub is_maker : Command → Bool
+is_maker (Maker m) = true
+is_maker _ = false
+
+-- the command holds a list
+abbrev pub has_list : Command → Bool
+has_list (Output records) = true
+has_list (Led records) = true
+has_list (Text t) = true
+has_list (Maker m) = true
+has_list _ = false
+
+-- one record at least, and no more bytes than a packet has room for
+pub record AreRecords (size : ℕ) (bytes : List ℕ) : Type 0 where
+  pub some : size ≤ length bytes
+  pub room : length bytes ≤ 1432
+  pub whole : length bytes % size ≡ 0
+
+-- the lengths of the data of a text, and of a maker's message
+pub record HasLength (least most : ℕ) (bytes : List ℕ) : Type 0 where
+  pub some : least ≤ length bytes
+  pub room : length bytes ≤ most
