@@ -1,19 +1,10 @@
 //! LEDs, and what a command tells them.
 
-ghost use Rattle.std.specs.Prelude.{◌≡◌, ◌<◌, ◌≤◌, ◌%◌, length, map};
-ghost use Rattle.std.specs.List.{All};
-ghost use Rattle.osdp_words.specs.Reading.{ReadsWords};
-ghost use Rattle.osdp_words.specs.Word.{texts};
-ghost use Rattle.osdp_msg.specs.CommandFields.{LedFits, led_at, led_word, records_within};
-ghost use Rattle.osdp_msg.specs.Records.{records_at};
-
-use crate::parsing::parse_records;
-use crate::records::{Record, read_records_over};
-use crate::spelling::{Spelling, append, append_u16, copy_over, list_of, rest};
-use arrayvec::ArrayVec;
+use crate::record_list::RecordList;
+use crate::records::Record;
+use crate::spelling::{Spelling, append, append_u16, rest};
 use byteorder::{ByteOrder, LittleEndian};
 use std::fmt;
-use std::marker::Model;
 
 /// What one LED of a reader is to do. Times are in 100 ms. Colors: 0 off, 1 red, 2 green, 3 amber, 4 blue,
 /// 5 magenta, 6 cyan, 7 white.
@@ -162,77 +153,4 @@ impl Record for LedRecord {
 }
 
 /// One to 102 records of LEDs.
-#[derive(Debug, Drop, PartialEq)]
-pub struct Leds {
-    records: ArrayVec<LedRecord, 102>,
-}
-
-impl Model for Leds {
-    ghost use Rattle.std.specs.Prelude.{List, ◌<◌, length};
-    ghost use Rattle.osdp_msg.specs.declared.leds.LedRecord.{LedRecord};
-
-    ghost Value = { List LedRecord };
-
-    ghost view = { λ l. l.records.items };
-
-    ghost invariant = { λ l. 0 < length l.records.items };
-
-    ghost inverse = { λ rs. record { records = record { items = rs } } };
-}
-
-impl Leds {
-    /// These records. None where there is none, or more than 102.
-    pub fn new(records: &[LedRecord]) -> Option<Leds>
-        ensures { result ≡ records_within 102 records.now }
-    {
-        if records.is_empty() || records.len() > 102 {
-            return None;
-        }
-        Some(Leds {
-            records: list_of(records),
-        })
-    }
-
-    /// The records: one at least.
-    pub fn records(&self) -> &[LedRecord]
-        ensures value { result.now ≡ self.now }
-        ensures some { 0 < length self.now }
-        ensures room { length self.now ≤ 102 }
-    {
-        self.records.as_slice()
-    }
-
-    /// One record whose numbers are all 0.
-    pub(crate) fn least() -> Leds {
-        let mut records = ArrayVec::new();
-        records.push(LedRecord::default());
-        Leds { records }
-    }
-
-    /// Puts the records that the bytes are in place of these.
-    pub(crate) fn read_over(&mut self, bytes: &[u8])
-        requires some { 14 ≤ length bytes.now }
-        requires room { length bytes.now ≤ 1432 }
-        requires whole { length bytes.now % 14 ≡ 0 }
-        ensures { self.new ≡ records_at led_at 14 bytes.now }
-    {
-        read_records_over(&mut self.records, bytes);
-    }
-
-    /// Puts the records of another in place of these.
-    pub(crate) fn copy_over(&mut self, other: &Leds)
-        ensures { self.new ≡ other.now }
-    {
-        copy_over(&mut self.records, other.records());
-    }
-
-    pub(crate) fn parse(words: &[&str]) -> Option<Leds>
-        ensures { ReadsWords (λ records. map led_word records) (λ records. (0 < length records) × (length records ≤ 102) × All LedFits records) (texts words.now) result }
-    {
-        let records: ArrayVec<LedRecord, 102> = parse_records(words)?;
-        if records.is_empty() {
-            return None;
-        }
-        Some(Leds { records })
-    }
-}
+pub type Leds = RecordList<LedRecord, 102>;
