@@ -1,7 +1,7 @@
 -- Commands that hold a list: outputs, LEDs, a text and a maker's message.
 use Rattle.std.specs.Prelude.{◌≡◌, ◌≤◌, ℕ, ◌%◌, Bool, true, false, List, length}
 use Rattle.osdp_msg.specs.declared.command.Command.{Command}
-use Rattle.osdp_msg.specs.declared.command.Command.TheVariants.{Poll, Id, Cap, LocalStatus, InputStatus, OutputStatus, ReaderStatus, Output, Led, Buzzer, Text, Comset, Maker}
+use Rattle.osdp_msg.specs.declared.command.Command.TheVariants.{Output, Led, Text, Maker}
 
 abbrev pub is_output : Command → Bool
 is_output (Output records) = true

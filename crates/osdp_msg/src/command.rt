@@ -4,12 +4,12 @@ ghost use Rattle.std.specs.Prelude.{◌≡◌, ◌↔◌, ◌∷◌, length, Non
 ghost use Rattle.std.specs.Result.{result_ok};
 ghost use Rattle.osdp_words.specs.Reading.{ReadsWords};
 ghost use Rattle.osdp_words.specs.Word.{AllStandFor, texts, words_in};
-ghost use Rattle.osdp_msg.specs.CommandTable.{CommandFits, IsCommand, command_code, command_data, command_counts_agree, command_fault, command_length_allowed, command_of, command_at};
+ghost use Rattle.osdp_msg.specs.CommandTable.{CommandFits, IsCommand, command_code, command_data, command_fault, command_of, command_at};
 ghost use Rattle.osdp_msg.specs.CommandText.{command_words, command_text};
 ghost use Rattle.osdp_msg.specs.ListedCommands.{has_list};
 
 use crate::command_fields::{Buzzer, Communication, MakerMessage, Text};
-use crate::fault::{BadWords, MsgFault, length_fault};
+use crate::fault::{BadWords, MsgFault};
 use crate::leds::Leds;
 use crate::outputs::Outputs;
 use crate::parsing::{MOST_WORDS, parse_byte};
@@ -17,6 +17,7 @@ use crate::placing::{copy_list, place_list};
 use crate::printing::{print_byte, print_records};
 use crate::records::put_records;
 use crate::spelling::{put_byte, put_code};
+use crate::tabled::{Tabled, first_fault};
 use arrayvec::ArrayVec;
 use osdp_words::words_in;
 use std::fmt;
@@ -52,30 +53,31 @@ pub enum Command {
     Maker(MakerMessage),
 }
 
-/// Whether the table of commands allows `len` data bytes; None where it hasn't the code.
-fn length_allowed(code: u8, len: usize) -> Option<bool>
-    ensures { result ≡ command_length_allowed code len }
-{
-    match code {
-        0x60 | 0x64 | 0x65 | 0x66 | 0x67 => Some(len == 0),
-        0x61 | 0x62 => Some(len == 1),
-        0x68 => Some(4 <= len && len % 4 == 0),
-        0x69 => Some(14 <= len && len % 14 == 0),
-        0x6A | 0x6E => Some(len == 5),
-        0x6B => Some(6 <= len),
-        0x80 => Some(3 <= len),
-        _ => None,
-    }
-}
+impl Tabled for Command {
+    ghost use Rattle.osdp_msg.specs.CommandTable.{command_counts_agree, command_length_allowed};
 
-/// Whether the counts inside the data agree with their length.
-fn counts_agree(code: u8, bytes: &[u8]) -> bool
-    requires { command_length_allowed code (length bytes.now) ≡ Some true }
-    ensures { result ≡ command_counts_agree code bytes.now }
-{
-    match code {
-        0x6B => usize::from(bytes[5]) == bytes.len() - 6,
-        _ => true,
+    ghost length_allowed = { command_length_allowed };
+
+    ghost counts_agree = { command_counts_agree };
+
+    fn length_allowed(code: u8, len: usize) -> Option<bool> {
+        match code {
+            0x60 | 0x64 | 0x65 | 0x66 | 0x67 => Some(len == 0),
+            0x61 | 0x62 => Some(len == 1),
+            0x68 => Some(4 <= len && len % 4 == 0),
+            0x69 => Some(14 <= len && len % 14 == 0),
+            0x6A | 0x6E => Some(len == 5),
+            0x6B => Some(6 <= len),
+            0x80 => Some(3 <= len),
+            _ => None,
+        }
+    }
+
+    fn counts_agree(code: u8, bytes: &[u8]) -> bool {
+        match code {
+            0x6B => usize::from(bytes[5]) == bytes.len() - 6,
+            _ => true,
+        }
     }
 }
 
@@ -84,11 +86,7 @@ fn counts_agree(code: u8, bytes: &[u8]) -> bool
 fn fault(code: u8, bytes: &[u8]) -> Option<MsgFault>
     ensures { result ≡ command_fault code bytes.now }
 {
-    let len = bytes.len();
-    if let Some(fault) = length_fault(length_allowed(code, len), len) {
-        return Some(fault);
-    }
-    (!counts_agree(code, bytes)).then_some(MsgFault::Count)
+    first_fault::<Command>(code, bytes)
 }
 
 /// Puts the command that a code and data without a fault stand for in place of what stands in `command`.

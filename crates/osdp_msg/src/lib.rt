@@ -24,6 +24,7 @@ mod records;
 mod reply;
 mod reply_fields;
 mod spelling;
+mod tabled;
 
 pub use capability::Capability;
 pub use command::Command;

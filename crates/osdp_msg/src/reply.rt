@@ -3,17 +3,18 @@
 ghost use Rattle.std.specs.Prelude.{◌≡◌, ◌∷◌, length, None, Some, Ok, IfOk, IfErr, true};
 ghost use Rattle.osdp_words.specs.Reading.{ReadsWords};
 ghost use Rattle.osdp_words.specs.Word.{AllStandFor, texts, words_in};
-ghost use Rattle.osdp_msg.specs.ReplyTable.{ReplyFits, IsReply, reply_code, reply_data, reply_counts_agree, reply_fault, reply_length_allowed, reply_of, reply_at};
+ghost use Rattle.osdp_msg.specs.ReplyTable.{ReplyFits, IsReply, reply_code, reply_data, reply_fault, reply_of, reply_at};
 ghost use Rattle.osdp_msg.specs.ReplyText.{reply_words, reply_text};
 
 use crate::command_fields::{Communication, MakerMessage};
-use crate::fault::{BadWords, MsgFault, length_fault};
+use crate::fault::{BadWords, MsgFault};
 use crate::parsing::{MOST_WORDS, parse_records, parse_states};
 use crate::printing::{print_bytes, print_records};
 use crate::raw::Raw;
 use crate::records::{put_records, read_records};
 use crate::reply_fields::{Formatted, Keypad, LocalState, Nak, PdCap, PdId};
 use crate::spelling::{list_of, put_bytes, put_code, rest};
+use crate::tabled::{Tabled, first_fault};
 use arrayvec::ArrayVec;
 use byteorder::{ByteOrder, LittleEndian};
 use osdp_words::words_in;
@@ -52,38 +53,39 @@ pub enum Reply {
     MakerReply(MakerMessage),
 }
 
-/// Whether the table of replies allows `len` data bytes; None where it hasn't the code.
-fn length_allowed(code: u8, len: usize) -> Option<bool>
-    ensures { result ≡ reply_length_allowed code len }
-{
-    match code {
-        0x40 | 0x79 => Some(len == 0),
-        0x41 => Some(1 <= len),
-        0x45 => Some(len == 12),
-        0x46 => Some(len % 3 == 0),
-        0x48 => Some(len == 2),
-        0x49 | 0x4A | 0x4B => Some(true),
-        0x50 => Some(4 <= len),
-        0x51 | 0x90 => Some(3 <= len),
-        0x53 => Some(2 <= len),
-        0x54 => Some(len == 5),
-        _ => None,
-    }
-}
+impl Tabled for Reply {
+    ghost use Rattle.osdp_msg.specs.ReplyTable.{reply_counts_agree, reply_length_allowed};
 
-/// Whether the counts inside the data agree with their length.
-fn counts_agree(code: u8, bytes: &[u8]) -> bool
-    requires { reply_length_allowed code (length bytes.now) ≡ Some true }
-    ensures { result ≡ reply_counts_agree code bytes.now }
-{
-    match code {
-        0x50 => {
-            let bits = LittleEndian::read_u16(rest(bytes, 2));
-            (usize::from(bits) + 7) / 8 == bytes.len() - 4
+    ghost length_allowed = { reply_length_allowed };
+
+    ghost counts_agree = { reply_counts_agree };
+
+    fn length_allowed(code: u8, len: usize) -> Option<bool> {
+        match code {
+            0x40 | 0x79 => Some(len == 0),
+            0x41 => Some(1 <= len),
+            0x45 => Some(len == 12),
+            0x46 => Some(len % 3 == 0),
+            0x48 => Some(len == 2),
+            0x49 | 0x4A | 0x4B => Some(true),
+            0x50 => Some(4 <= len),
+            0x51 | 0x90 => Some(3 <= len),
+            0x53 => Some(2 <= len),
+            0x54 => Some(len == 5),
+            _ => None,
         }
-        0x51 => usize::from(bytes[2]) == bytes.len() - 3,
-        0x53 => usize::from(bytes[1]) == bytes.len() - 2,
-        _ => true,
+    }
+
+    fn counts_agree(code: u8, bytes: &[u8]) -> bool {
+        match code {
+            0x50 => {
+                let bits = LittleEndian::read_u16(rest(bytes, 2));
+                (usize::from(bits) + 7) / 8 == bytes.len() - 4
+            }
+            0x51 => usize::from(bytes[2]) == bytes.len() - 3,
+            0x53 => usize::from(bytes[1]) == bytes.len() - 2,
+            _ => true,
+        }
     }
 }
 
@@ -92,11 +94,7 @@ fn counts_agree(code: u8, bytes: &[u8]) -> bool
 fn fault(code: u8, bytes: &[u8]) -> Option<MsgFault>
     ensures { result ≡ reply_fault code bytes.now }
 {
-    let len = bytes.len();
-    if let Some(fault) = length_fault(length_allowed(code, len), len) {
-        return Some(fault);
-    }
-    (!counts_agree(code, bytes)).then_some(MsgFault::Count)
+    first_fault::<Reply>(code, bytes)
 }
 
 /// The reply that a code and data without a fault stand for.

@@ -234,7 +234,8 @@ fn spell(packet: &FrameView, seq: Seq, reply: &Reply, out: &mut Burst)
     ensures spelled { Spells (reply_packet packet.now seq reply.now) out.new.items }
     ensures fits { ReplyFits reply.now }
 {
-    let body = reply.write();
+    let mut body = ArrayVec::new();
+    reply.write_into(&mut body);
     spell_body(packet, seq, body.as_slice(), out);
 }
 
