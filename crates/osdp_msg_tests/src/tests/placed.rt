@@ -40,8 +40,23 @@ fn is_put(
     is_text(rt, printed.as_str(), text);
 }
 
-/// A row's command is put in place of what stands there.
-fn row_is_put(rt: &impl Abort, alloc: Global, place: &mut Option<Command>, row: &str) {
+/// An equal command is put in place of another one, and its code and data in place of those of the other one.
+fn is_copied(rt: &impl Abort, command: &Command, copied: &mut Command, code: u8, data: &[u8]) {
+    let mut written = copied.write();
+    command.copy_into(copied);
+    assert!(rt; copied == command);
+    copied.write_into(&mut written);
+    is_spelled(rt, written.as_slice(), code, data);
+}
+
+/// A row's command is put in place of what stands there, and then an equal one in place of a copy.
+fn row_is_put(
+    rt: &impl Abort,
+    alloc: Global,
+    place: &mut Option<Command>,
+    copied: &mut Command,
+    row: &str,
+) {
     let (digits, rest) = row.split_once(' ').expect(rt, "a code");
     let code = *bytes_of(rt, alloc, digits)
         .as_slice()
@@ -51,13 +66,16 @@ fn row_is_put(rt: &impl Abort, alloc: Global, place: &mut Option<Command>, row: 
     let digits = if digits == "none" { "" } else { digits };
     let data = bytes_of(rt, alloc, digits);
     is_put(rt, alloc, place, code, data.as_slice(), text);
+    let command = place.as_ref().expect(rt, text);
+    is_copied(rt, command, copied, code, data.as_slice());
 }
 
 #[test]
 fn commands_in_one_place(rt: HostRuntime) {
     let mut place = None;
+    let mut copied = Command::Poll;
     for row in COMMANDS.lines() {
-        row_is_put(&rt, rt.alloc(), &mut place, row);
+        row_is_put(&rt, rt.alloc(), &mut place, &mut copied, row);
     }
 }
 
