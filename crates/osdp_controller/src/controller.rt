@@ -344,10 +344,7 @@ fn is_comset(command: &Command) -> bool
 }
 
 /// The front of the waiting commands, where the session is open and nothing is outstanding.
-fn next_command<'a>(
-    state: &Held,
-    waiting: &'a HeapCircularBuffer<Command>,
-) -> Option<&'a Command>
+fn next_command<'a>(state: &Held, waiting: &'a HeapCircularBuffer<Command>) -> Option<&'a Command>
     ensures { option_copied result ≡ next_in state.now waiting.now.items }
 {
     if !state.is_idle() {
