@@ -40,7 +40,8 @@ fn digits_of<'a>(text: &'a str) -> &'a str
 
 /// The bytes that these digits spell, at most 32. The word `none` spells none. None where they are no such digits.
 pub fn bytes_of<'a>(digits: &str, buffer: &'a mut [u8; 32]) -> Option<&'a [u8]>
-    ensures { MatchOption result ((bytes : List ℕ) → Spells digits.now bytes → 32 < length bytes) (λ bytes. SpellsFew digits.now bytes.now) }
+    ensures room { IfSome result (λ bytes. length bytes.now ≤ 32) }
+    ensures spelled { MatchOption result ((bytes : List ℕ) → Spells digits.now bytes → 32 < length bytes) (λ bytes. SpellsFew digits.now bytes.now) }
 {
     let digits = digits_of(digits);
     let count = digits.len() / 2;
