@@ -3,7 +3,9 @@
 //! What stands among tests is for one crate alone, so this crate has none.
 #![tactic(auto)]
 
-ghost use Rattle.std.specs.Prelude.{◌≡◌, ◌≤◌, ◌<◌, IfSome, length, true};
+ghost use Rattle.std.specs.Prelude.{◌≡◌, ◌↔◌, ℕ, ◌≤◌, ◌<◌, IfSome, IsTrue, List, MatchOption, length};
+ghost use Rattle.osdp_test_packets.specs.Checked.{checked_anew};
+ghost use Rattle.osdp_test_packets.specs.Spelled.{Spells, SpellsFew, digits_of};
 
 use osdp_check::{Crc16, Sum8, check_of};
 
@@ -29,11 +31,19 @@ pub const PACKETS: &str = "\
 53850A00039053494DA2
 ";
 
+/// The digits of a text: none for the word `none`.
+fn digits_of<'a>(text: &'a str) -> &'a str
+    ensures { result.now ≡ digits_of text.now }
+{
+    if text == "none" { "" } else { text }
+}
+
 /// The bytes that these digits spell, at most 32. The word `none` spells none. None where they are no such digits.
 pub fn bytes_of<'a>(digits: &str, buffer: &'a mut [u8; 32]) -> Option<&'a [u8]>
-    ensures { IfSome result (λ bytes. length bytes.now ≤ 32) }
+    ensures room { IfSome result (λ bytes. length bytes.now ≤ 32) }
+    ensures spelled { MatchOption result ((bytes : List ℕ) → Spells digits.now bytes → 32 < length bytes) (λ bytes. SpellsFew digits.now bytes.now) }
 {
-    let digits = if digits == "none" { "" } else { digits };
+    let digits = digits_of(digits);
     let count = digits.len() / 2;
     if count > 32 {
         return None;
@@ -47,7 +57,7 @@ pub fn bytes_of<'a>(digits: &str, buffer: &'a mut [u8; 32]) -> Option<&'a [u8]>
 
 /// The bytes are those that the digits spell.
 pub fn is_spelled(bytes: &[u8], digits: &str) -> bool
-    ensures { result ≡ true → length bytes.now ≤ 32 }
+    ensures { IsTrue result ↔ SpellsFew digits.now bytes.now }
 {
     let mut buffer = [0; 32];
     match bytes_of(digits, &mut buffer) {
@@ -58,7 +68,7 @@ pub fn is_spelled(bytes: &[u8], digits: &str) -> bool
 
 /// Spells the check of a packet anew, of the kind that its control byte names. Fewer than seven bytes stay as they are.
 pub fn check_anew(packet: &mut [u8])
-    ensures { length packet.old < 7 → packet.new ≡ packet.old }
+    ensures { packet.new ≡ checked_anew packet.old }
 {
     let count = packet.len();
     if count < 7 {

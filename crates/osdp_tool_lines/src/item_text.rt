@@ -3,11 +3,11 @@
 ghost use Rattle.std.specs.Prelude.{◌≡◌, ◌++◌, ◌+◌, ◌<◌, ◌^◌, ℕ, true, false, length, OnOk, IfOk, string_bytes, codes};
 ghost use Rattle.std.specs.Fmt.{decimal};
 ghost use Rattle.osdp_frame.specs.Reading.{Whole, Passed, Bad};
-ghost use Rattle.osdp_tool_lines.specs.ItemText.{body_text, fault_name, is_refusal, item_line, counts_line};
+ghost use Rattle.osdp_tool_lines.specs.ItemText.{body_text, fault_name, head_text, is_refusal, item_line, counts_line};
 ghost use Rattle.osdp_tool_lines.specs.Told.{part_line, end_line};
 
 use crate::hex_text::push_bytes;
-use crate::message_text::{bare_command, bare_reply, is_refused, push_command, push_reply};
+use crate::message_text::{Told, is_refused, push_message};
 use crate::number::push_number;
 use crate::packet_text::push_head;
 use crate::tally::Tally;
@@ -40,6 +40,18 @@ fn push_place(text: &mut String, tally: &Tally) -> Result<(), AllocError>
     push_number(text, tally.place)
 }
 
+/// Writes what stands in the line of a packet before its body.
+#[inline(always)]
+fn push_front(text: &mut String, tally: &Tally, view: &FrameView<'_>) -> Result<(), AllocError>
+    requires { tally.now.runs + 1 < 2 ^ 64 }
+    ensures { OnOk result (string_bytes text.new ≡ string_bytes text.old
+        ++ (decimal (tally.now.runs + 1) ++ (codes ":" ++ (decimal tally.now.place ++ (codes " " ++ (head_text view.now ++ codes " ")))))) }
+{
+    push_place(text, tally)?;
+    push_head(text, view)?;
+    text.push_str(" ")
+}
+
 /// Writes the line of a packet whose body is left unread.
 #[inline(never)]
 fn push_unread_packet(
@@ -56,9 +68,8 @@ fn push_unread_packet(
     if !full {
         return Ok(false);
     }
-    push_place(text, tally)?;
-    push_head(text, view)?;
-    text.push_str(" block ")?;
+    push_front(text, tally, view)?;
+    text.push_str("block ")?;
     push_bytes(text, view.body())?;
     text.push_str("\n")?;
     Ok(false)
@@ -82,16 +93,14 @@ fn push_named_packet(
     if !full {
         return Ok(());
     }
-    push_place(text, tally)?;
-    push_head(text, view)?;
-    text.push_str(" ")?;
+    push_front(text, tally, view)?;
     text.push_str(name)?;
     text.push_str("\n")
 }
 
-/// Writes the line of a command that is read to be told, and says whether it is refused.
+/// Writes the line of a packet whose message is read to be told, and says whether it is refused.
 #[inline(never)]
-fn push_read_command(
+fn push_read_packet<M: Told>(
     text: &mut String,
     full: bool,
     tally: &Tally,
@@ -99,28 +108,26 @@ fn push_read_command(
 ) -> Result<bool, AllocError>
     requires room { tally.now.runs + 1 < 2 ^ 64 }
     requires block { view.now.block ≡ false }
-    requires command { view.now.reply ≡ false }
+    requires reply { view.now.reply ≡ M.reply }
     ensures refused { IfOk result (λ refused. refused ≡ is_refusal (Whole view.now)) }
     ensures line { OnOk result (string_bytes text.new ≡ string_bytes text.old ++ part_line full tally.now (Whole view.now)) }
 {
     let code = view.code();
     let bytes = view.payload();
-    let read = Command::read(code, bytes);
+    let read = M::read_message(code, bytes);
     let refused = is_refused(&read);
     if !full && !refused {
         return Ok(false);
     }
-    push_place(text, tally)?;
-    push_head(text, view)?;
-    text.push_str(" ")?;
-    push_command(text, &read, code, bytes)?;
+    push_front(text, tally, view)?;
+    push_message(text, &read, code, bytes)?;
     text.push_str("\n")?;
     Ok(refused)
 }
 
-/// Writes the line of a command, and says whether it is refused.
+/// Writes the line of a packet with a message, and says whether that is refused.
 #[inline(always)]
-fn push_command_packet(
+fn push_message_packet<M: Told>(
     text: &mut String,
     full: bool,
     tally: &Tally,
@@ -128,65 +135,15 @@ fn push_command_packet(
 ) -> Result<bool, AllocError>
     requires room { tally.now.runs + 1 < 2 ^ 64 }
     requires block { view.now.block ≡ false }
-    requires command { view.now.reply ≡ false }
+    requires reply { view.now.reply ≡ M.reply }
     ensures refused { IfOk result (λ refused. refused ≡ is_refusal (Whole view.now)) }
     ensures line { OnOk result (string_bytes text.new ≡ string_bytes text.old ++ part_line full tally.now (Whole view.now)) }
 {
-    if let Some(name) = bare_command(view.code(), view.payload()) {
+    if let Some(name) = M::bare(view.code(), view.payload()) {
         push_named_packet(text, full, tally, view, name)?;
         return Ok(false);
     }
-    push_read_command(text, full, tally, view)
-}
-
-/// Writes the line of a reply that is read to be told, and says whether it is refused.
-#[inline(never)]
-fn push_read_reply(
-    text: &mut String,
-    full: bool,
-    tally: &Tally,
-    view: &FrameView<'_>,
-) -> Result<bool, AllocError>
-    requires room { tally.now.runs + 1 < 2 ^ 64 }
-    requires block { view.now.block ≡ false }
-    requires reply { view.now.reply ≡ true }
-    ensures refused { IfOk result (λ refused. refused ≡ is_refusal (Whole view.now)) }
-    ensures line { OnOk result (string_bytes text.new ≡ string_bytes text.old ++ part_line full tally.now (Whole view.now)) }
-{
-    let code = view.code();
-    let bytes = view.payload();
-    let read = Reply::read(code, bytes);
-    let refused = is_refused(&read);
-    if !full && !refused {
-        return Ok(false);
-    }
-    push_place(text, tally)?;
-    push_head(text, view)?;
-    text.push_str(" ")?;
-    push_reply(text, &read, code, bytes)?;
-    text.push_str("\n")?;
-    Ok(refused)
-}
-
-/// Writes the line of a reply, and says whether it is refused.
-#[inline(always)]
-fn push_reply_packet(
-    text: &mut String,
-    full: bool,
-    tally: &Tally,
-    view: &FrameView<'_>,
-) -> Result<bool, AllocError>
-    requires room { tally.now.runs + 1 < 2 ^ 64 }
-    requires block { view.now.block ≡ false }
-    requires reply { view.now.reply ≡ true }
-    ensures refused { IfOk result (λ refused. refused ≡ is_refusal (Whole view.now)) }
-    ensures line { OnOk result (string_bytes text.new ≡ string_bytes text.old ++ part_line full tally.now (Whole view.now)) }
-{
-    if let Some(name) = bare_reply(view.code(), view.payload()) {
-        push_named_packet(text, full, tally, view, name)?;
-        return Ok(false);
-    }
-    push_read_reply(text, full, tally, view)
+    push_read_packet::<M>(text, full, tally, view)
 }
 
 /// Writes the line of a packet, in full or where its message is refused, and says whether it is.
@@ -205,9 +162,9 @@ pub(crate) fn push_packet(
         return push_unread_packet(text, full, tally, view);
     }
     if view.is_reply() {
-        return push_reply_packet(text, full, tally, view);
+        return push_message_packet::<Reply>(text, full, tally, view);
     }
-    push_command_packet(text, full, tally, view)
+    push_message_packet::<Command>(text, full, tally, view)
 }
 
 /// Writes the line of a skipped byte, in full.

@@ -1,3 +1,4 @@
 pub mod FinalAnswer
+pub mod Reading
 pub mod ToolFault
 pub mod Watched

@@ -4,10 +4,12 @@
 mod answer;
 mod fault;
 pub mod laws;
+mod piece;
 mod transfer;
 mod watch;
 
 pub use answer::{final_answer, finish};
 pub use fault::ToolFault;
+pub use piece::{Piece, read_piece};
 pub use transfer::{flush_out, read_some, write_out};
 pub use watch::Watched;

@@ -1,6 +1,6 @@
 use Rattle.std.proofs.Common.{◌≡◌, length, rules}
 use Rattle.osdp_tool_lines.proofs.BareMessages.{bare_command, poll, local_status, input_status, output_status, reader_status}
-use Rattle.osdp_tool_lines.proofs.message_text.bare_command.Goals as goal
+use Rattle.osdp_tool_lines.proofs.message_text.CommandTold.bare.Goals as goal
 
 pub returns-in-96 : goal.returns-in-96
 returns-in-96 c =

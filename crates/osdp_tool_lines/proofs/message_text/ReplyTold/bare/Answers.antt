@@ -1,6 +1,6 @@
 use Rattle.std.proofs.Common.{◌≡◌, length, rules}
 use Rattle.osdp_tool_lines.proofs.BareMessages.{bare_reply, ack, busy}
-use Rattle.osdp_tool_lines.proofs.message_text.bare_reply.Goals as goal
+use Rattle.osdp_tool_lines.proofs.message_text.ReplyTold.bare.Goals as goal
 
 pub returns-in-64 : goal.returns-in-64
 returns-in-64 c =
