@@ -1,5 +1,6 @@
 """What `panel.py` and `reader.py` share: a serial port, and a program that speaks lines."""
 import os
+import select
 import subprocess
 import termios
 import time
@@ -63,3 +64,11 @@ class Lines:
         piece = os.read(self.source, 4096)
         *whole, self.rest = (self.rest + piece).split(b"\n")
         return [line.decode() for line in whole] if piece else None
+
+
+def wait_for(port, given, wait):
+    """Waits so many seconds, or until something comes: the bytes of the port, the lines that are given, and where more may come from."""
+    ready = select.select([port] + ([given.source] if given else []), [], [], wait)[0]
+    read = os.read(port, 4096) if port in ready else b""
+    lines = given.read() if given and given.source in ready else []
+    return read, lines or [], None if lines is None else given

@@ -8,11 +8,9 @@ Each line of standard input is an order: a reader's number, from 1, and a comman
 standard output is what was ordered, or what the program reports: `opened`, `settled`, `event`, `lost` and others.
 A session that was lost begins again after a second.
 """
-import os
-import select
 import sys
 
-from lines import Lines, Program, moment, open_port, set_rate, write_all
+from lines import Lines, Program, moment, open_port, set_rate, wait_for, write_all
 
 PAUSE = 1000  # from a lost session to the next one, in milliseconds
 
@@ -53,16 +51,13 @@ class Panel:
         """Waits for bytes, for orders or for what is due, and hands it to the program. Where more orders may come from."""
         moments = [begin for begin, _ in self.begins] + ([] if self.due is None else [self.due])
         wait = max(0, min(moments) - moment()) / 1000 if moments else None
-        ready = select.select([self.port] + ([orders.source] if orders else []), [], [], wait)[0]
+        read, lines, orders = wait_for(self.port, orders, wait)
         now = moment()
         self.call(f"at {now}")
-        if self.port in ready:
-            self.call(f"bytes {os.read(self.port, 4096).hex()}")
-        if orders and orders.source in ready:
-            lines = orders.read()
-            orders = None if lines is None else orders
-            for line in lines or []:
-                self.order(line)
+        if read:
+            self.call(f"bytes {read.hex()}")
+        for line in lines:
+            self.order(line)
         for begin, number in [pair for pair in self.begins if pair[0] <= now]:
             self.begins.remove((begin, number))
             self.call(f"begin {number}")

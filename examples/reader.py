@@ -8,11 +8,9 @@ Each line of standard input is handed to the program too: `event KEYPAD 0 31`, `
 standard output is such a line, or what the program tells: `taken` and a command, `moved`, `refused` and others.
 The reader has eight outputs, which an OUT switches; the time of an output is counted here.
 """
-import os
-import select
 import sys
 
-from lines import Lines, Program, moment, open_port, set_rate, write_all
+from lines import Lines, Program, moment, open_port, set_rate, wait_for, write_all
 
 TURN = 0.01  # how long a read waits, in seconds
 NAK = 0x41  # the code of a reply that says that nothing was done
@@ -62,16 +60,13 @@ class Reader:
 
     def turn(self, calls):
         """Waits for bytes and for lines, and hands them to the program. Where more lines may come from."""
-        ready = select.select([self.port] + ([calls.source] if calls else []), [], [], TURN)[0]
+        read, lines, calls = wait_for(self.port, calls, TURN)
         self.call(f"at {moment()}")
-        if self.port in ready:
-            self.call(f"bytes {os.read(self.port, 4096).hex()}")
-        if calls and calls.source in ready:
-            lines = calls.read()
-            calls = None if lines is None else calls
-            for line in lines or []:
-                print(line, flush=True)
-                self.call(line)
+        if read:
+            self.call(f"bytes {read.hex()}")
+        for line in lines:
+            print(line, flush=True)
+            self.call(line)
         self.pass_time()
         self.call("tick")
         return calls

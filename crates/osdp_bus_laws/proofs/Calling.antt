@@ -14,7 +14,7 @@ use Rattle.osdp_controller.specs.Machine.{AreSettings, IsMachine, Machine, after
 use Rattle.osdp_controller_laws.specs.Commands.{asked_in}
 use Rattle.osdp_controller_laws.specs.Runs.{Submit as SubmitTo, Begin as BeginOf, Retarget as RetargetOf, Withdraw as WithdrawOf}
 use Rattle.osdp_controller_laws.proofs.Closed.{was_closed}
-use Rattle.osdp_controller_laws.proofs.Well.{keeps_each, stays_well}
+use Rattle.osdp_controller_laws.proofs.Well.{keeps_config, keeps_each, stays_well}
 use Rattle.osdp_bus.specs.declared.config.BusConfig.{BusConfig}
 use Rattle.osdp_bus.specs.declared.device.Device.{Device}
 use Rattle.osdp_bus.specs.declared.fault.BusFault.{BusFault}
@@ -238,20 +238,11 @@ comes_withdrawn entry d ds sound at =
 -- a device is added
 
 new_settings : (address : ℕ) (c : BusConfig) → address < 127 → IsBusConfig c → AreSettings (controller_config address c) c.capacity
-new_settings address c device is =
-    let in_range = is.controllers.config_in_range in record {
-      config_in_range = record {
-        address = device;
-        reply_wait = in_range.reply_wait;
-        poll_interval = in_range.poll_interval;
-        busy_wait = in_range.busy_wait;
-        quiet_wait = in_range.quiet_wait;
-        sends = in_range.sends;
-        busy_limit = in_range.busy_limit;
-      };
-      room = is.controllers.room;
-      limit = is.controllers.limit;
-    }
+new_settings address c device is = record {
+  config_in_range = keeps_config (controller_config 0 c) address device is.controllers.config_in_range;
+  room = is.controllers.room;
+  limit = is.controllers.limit;
+}
 
 comes_new : (address : ℕ) (b : BusState) → address < 127 → is_taken address b.devices.entries ≡ false → SoundBus b
     → Comes b.devices (length b.devices.entries) (new_device address b.config) None

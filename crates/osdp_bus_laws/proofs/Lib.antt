@@ -1,4 +1,5 @@
 pub mod Places
+pub mod Hearing
 pub mod OneDevice
 pub mod Changing
 pub mod Sound

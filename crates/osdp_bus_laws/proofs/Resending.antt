@@ -4,7 +4,7 @@ use Rattle.std.specs.Prelude.{is_some, not, option_map, slice_get, slice_set}
 use Rattle.std.specs.Option.{option_map_or, option_or}
 use Rattle.osdp_frame.specs.Items.{items}
 use Rattle.osdp_frame.specs.Packet.{Packet}
-use Rattle.osdp_frame.specs.Reading.{Part, Whole, Passed, Bad}
+use Rattle.osdp_frame.specs.Reading.{Part}
 use Rattle.osdp_frame.specs.Spelling.{Spells, spelling}
 use Rattle.osdp_frame.proofs.Spelled.{spelled_is}
 use Rattle.osdp_controller.specs.declared.session.Session.{Session}
@@ -23,8 +23,8 @@ use Rattle.osdp_controller_laws.proofs.Stepwise.{sends_its_frame}
 use Rattle.osdp_bus.specs.declared.device.Device.{Device}
 use Rattle.osdp_bus.specs.declared.fault.BusFault.{BusFault}
 use Rattle.osdp_bus.specs.Buses.{BusState, Devices, device_of, has_report, holder, is_silent, new_bus, seen}
-use Rattle.osdp_bus.specs.Devices.{device_hears, device_ticks, first_from, holds, is_at, is_device_due, is_taken_beside, step_of}
-use Rattle.osdp_bus.specs.Hearing.{after_bytes, ends_run, ends_silent, hears_at, hears_bytes, hears_item, hears_items, hears_with}
+use Rattle.osdp_bus.specs.Devices.{device_hears, device_ticks, holds, is_device_due, is_taken_beside, step_of}
+use Rattle.osdp_bus.specs.Hearing.{after_bytes, ends_run, ends_silent, hears_bytes, hears_items, hears_with}
 use Rattle.osdp_bus.specs.Machine.{add_refusal, after_add, after_begin_at, after_retarget_at, after_submit_at, begin_refusal_at, bus_fault, changed_unless, changes_device, device_begins, device_retargets, device_submits, device_withdraws, new_device, retarget_refusal_at, retarget_refusal_of, submit_refusal_at}
 use Rattle.osdp_bus.specs.Ticking.{BusTicked, bus_ticks, is_due_at, is_held_and_due, next_due, stays, ticks_at, ticks_by, ticks_free, ticks_held, ticks_on, ticks_with}
 use Rattle.osdp_controller.specs.Comsets.{has_comset}
@@ -34,6 +34,7 @@ use Rattle.osdp_bus_laws.specs.Sending.{own_frame}
 use Rattle.osdp_bus_laws.specs.Turns.{asking, judged}
 use Rattle.osdp_bus_laws.proofs.Calling.{map_none, no_device, or_none, sound_call, sound_new}
 use Rattle.osdp_bus_laws.proofs.Changing.{HoldsAlone}
+use Rattle.osdp_bus_laws.proofs.Hearing.{items_keep}
 use Rattle.osdp_bus_laws.proofs.OneDevice.{heard_holds}
 use Rattle.osdp_bus_laws.proofs.Places.{IsAt, added, replaced}
 use Rattle.osdp_bus_laws.proofs.Sending.{holders_send_their_frame}
@@ -122,23 +123,14 @@ keep_set i d e ds at same j f there h = by_place (replaced ds.entries i e j f th
         (d, ap (slice_get ds.entries) here ∙ at, before.0, before.1 ∙ sym (ap own_frame is))
     by_place (inr (other, was)) = (f, was, h, refl)
 
-keep_with : (p : Packet) (now i : ℕ) (o : Option Device) (ds : Devices) → slice_get ds.entries i ≡ o → KeepFrames ds (hears_with p now i o ds)
-keep_with p now i None ds at = keep ds
-keep_with p now i (Some d) ds at = keep_set i d (device_hears p now d) ds at (λ h. (heard_holds p now d h, frame_heard p now d h))
-
-keep_at : (p : Packet) (now : ℕ) (o : Option ℕ) (ds : Devices) → KeepFrames ds (hears_at p now o ds)
-keep_at p now None ds = keep ds
-keep_at p now (Some i) ds = keep_with p now i (slice_get ds.entries i) ds refl
-
-keep_item : (now : ℕ) (part : Part) (ds : Devices) → KeepFrames ds (hears_item now part ds)
-keep_item now (Whole p) ds = keep_at p now (first_from 0 (is_at p.address) ds.entries) ds
-keep_item now (Passed byte) ds = keep ds
-keep_item now (Bad fault) ds = keep ds
+keep_packet : (first : Devices) (now : ℕ) (p : Packet) (i : ℕ) (d : Device) (ds : Devices) → slice_get ds.entries i ≡ Some d → KeepFrames first ds
+    → KeepFrames first (hears_with p now i (Some d) ds)
+keep_packet first now p i d ds at kept =
+    keep_on first ds (hears_with p now i (Some d) ds) kept
+    (keep_set i d (device_hears p now d) ds at (λ h. (heard_holds p now d h, frame_heard p now d h)))
 
 keep_items : (now : ℕ) (parts : List Part) (ds : Devices) → KeepFrames ds (hears_items now parts ds)
-keep_items now [] ds = keep ds
-keep_items now (part ∷ parts) ds =
-    keep_on ds (hears_item now part ds) (hears_items now parts (hears_item now part ds)) (keep_item now part ds) (keep_items now parts (hears_item now part ds))
+keep_items now parts ds = items_keep now (KeepFrames ds) (keep_packet ds now) parts ds (keep ds)
 
 keep_run : (b : BusState) → KeepFrames b.devices (ends_run b).devices
 keep_run b = keep_items b.greatest (items true b.held) b.devices

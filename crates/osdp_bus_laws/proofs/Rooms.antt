@@ -3,18 +3,18 @@ use Rattle.std.proofs.Common.{◌≡◌, ◌∙◌, ap, inl, inr, ℕ, ◌||◌,
 use Rattle.std.specs.Prelude.{not, slice_get, slice_set}
 use Rattle.std.specs.Option.{option_map_or}
 use Rattle.osdp_frame.specs.Items.{items}
-use Rattle.osdp_frame.specs.Packet.{Packet}
-use Rattle.osdp_frame.specs.Reading.{Part, Whole, Passed, Bad}
+use Rattle.osdp_frame.specs.Reading.{Part}
 use Rattle.osdp_controller.proofs.Choices.{either_way}
 use Rattle.osdp_bus.specs.declared.config.BusConfig.{BusConfig}
 use Rattle.osdp_bus.specs.declared.device.Device.{Device}
 use Rattle.osdp_bus.specs.declared.fault.BusFault.{BusFault}
 use Rattle.osdp_bus.specs.Buses.{BusState, Devices, device_of, has_report, holder, is_silent, new_bus, seen}
-use Rattle.osdp_bus.specs.Devices.{device_hears, device_ticks, first_from, is_at}
-use Rattle.osdp_bus.specs.Hearing.{after_bytes, ends_run, ends_silent, hears_at, hears_item, hears_items, hears_with}
+use Rattle.osdp_bus.specs.Devices.{device_hears, device_ticks}
+use Rattle.osdp_bus.specs.Hearing.{after_bytes, ends_run, ends_silent, hears_items}
 use Rattle.osdp_bus.specs.Machine.{add_refusal, after_add, after_begin_at, after_retarget_at, after_submit_at, begin_refusal_at, changed_unless, changes_device, device_begins, device_retargets, device_submits, device_withdraws, new_device, retarget_refusal_at, submit_refusal_at}
 use Rattle.osdp_bus.specs.Ticking.{BusTicked, bus_ticks, is_due_at, is_held_and_due, next_due, stays, ticks_at, ticks_by, ticks_held, ticks_on, ticks_with}
 use Rattle.osdp_bus_laws.specs.Calls.{Call, Add, Begin, Submit, Withdraw, Retarget, OnBytes, OnSilence, Tick, NextReport, after_call, after_calls}
+use Rattle.osdp_bus_laws.proofs.Hearing.{items_keep}
 use Rattle.osdp_bus_laws.proofs.Places.{IsAt, added, replaced}
 
 abbrev RoomsAre : ℕ → List Device → Type 0
@@ -32,23 +32,9 @@ rooms_set room i d e ds at same are = λ j f there. by_place j f (replaced ds i 
     by_place j f (inl (here, is)) = ap (λ (x : Device). x.controller.capacity) is ∙ same ∙ are i d at
     by_place j f (inr (other, was)) = are j f was
 
-rooms_with : (room : ℕ) (p : Packet) (now i : ℕ) (o : Option Device) (ds : Devices) → slice_get ds.entries i ≡ o → RoomsAre room ds.entries
-    → RoomsAre room (hears_with p now i o ds).entries
-rooms_with room p now i None ds at are = are
-rooms_with room p now i (Some d) ds at are = rooms_set room i d (device_hears p now d) ds.entries at refl are
-
-rooms_at : (room : ℕ) (p : Packet) (now : ℕ) (o : Option ℕ) (ds : Devices) → RoomsAre room ds.entries → RoomsAre room (hears_at p now o ds).entries
-rooms_at room p now None ds are = are
-rooms_at room p now (Some i) ds are = rooms_with room p now i (slice_get ds.entries i) ds refl are
-
-rooms_item : (room now : ℕ) (part : Part) (ds : Devices) → RoomsAre room ds.entries → RoomsAre room (hears_item now part ds).entries
-rooms_item room now (Whole p) ds are = rooms_at room p now (first_from 0 (is_at p.address) ds.entries) ds are
-rooms_item room now (Passed byte) ds are = are
-rooms_item room now (Bad fault) ds are = are
-
 rooms_items : (room now : ℕ) (parts : List Part) (ds : Devices) → RoomsAre room ds.entries → RoomsAre room (hears_items now parts ds).entries
-rooms_items room now [] ds are = are
-rooms_items room now (part ∷ parts) ds are = rooms_items room now parts (hears_item now part ds) (rooms_item room now part ds are)
+rooms_items room now =
+    items_keep now (λ (ds : Devices). RoomsAre room ds.entries) (λ p i d ds at are. rooms_set room i d (device_hears p now d) ds.entries at refl are)
 
 rooms_run : (b : BusState) → HasRooms b → HasRooms (ends_run b)
 rooms_run b are = rooms_items b.config.capacity b.greatest (items true b.held) b.devices are

@@ -4,16 +4,17 @@ use Rattle.std.specs.Prelude.{not, ◌&&◌, is_some, slice_get}
 use Rattle.std.specs.Option.{option_map_or}
 use Rattle.osdp_frame.specs.Items.{items}
 use Rattle.osdp_frame.specs.Packet.{Packet}
-use Rattle.osdp_frame.specs.Reading.{Part, Whole, Passed, Bad}
+use Rattle.osdp_frame.specs.Reading.{Part}
 use Rattle.osdp_bus.specs.declared.device.Device.{Device}
 use Rattle.osdp_bus.specs.Buses.{BusState, Devices, device_of, has_report, holder, is_silent, seen}
-use Rattle.osdp_bus.specs.Devices.{device_hears, device_ticks, first_from, holds, is_at, is_device_due, step_of, told_of}
-use Rattle.osdp_bus.specs.Hearing.{after_bytes, ends_run, ends_silent, hears_at, hears_bytes, hears_item, hears_items, hears_with}
+use Rattle.osdp_bus.specs.Devices.{device_hears, device_ticks, holds, is_device_due, step_of, told_of}
+use Rattle.osdp_bus.specs.Hearing.{after_bytes, ends_run, ends_silent, hears_bytes, hears_item, hears_items, hears_with}
 use Rattle.osdp_bus.specs.Settings.{IsBusConfig}
 use Rattle.osdp_bus.specs.Ticking.{BusTicked, bus_ticks, is_due_at, is_held_and_due, next_due, stays, ticks_at, ticks_by, ticks_free, ticks_held, ticks_on, ticks_with}
 use Rattle.osdp_bus.proofs.Waiting.{IsFound, found}
 use Rattle.osdp_controller.proofs.Choices.{either_way}
 use Rattle.osdp_bus_laws.proofs.Changing.{Comes, HoldsAlone, Sound, comes_of, sound_set}
+use Rattle.osdp_bus_laws.proofs.Hearing.{item_keeps, items_keep}
 use Rattle.osdp_bus_laws.proofs.OneDevice.{device_heard, device_ticked, heard_holds, heard_told, names_heard, names_ticked, ticked_told}
 use Rattle.osdp_bus_laws.proofs.Places.{IsAt, none_at, replaced}
 
@@ -25,22 +26,15 @@ comes_heard p now i d ds sound at =
     comes_of ds i d (device_hears p now d) (told_of p now d) sound at (device_heard p now d is) (λ a. names_heard a p now d is)
     (heard_holds p now d) (heard_told p now d)
 
-sound_with : (p : Packet) (now i : ℕ) (o : Option Device) (ds : Devices) → slice_get ds.entries i ≡ o → Sound ds → Sound (hears_with p now i o ds)
-sound_with p now i None ds at sound = sound
-sound_with p now i (Some d) ds at sound = sound_set ds i (device_hears p now d) (told_of p now d) sound (comes_heard p now i d ds sound at)
-
-sound_at : (p : Packet) (now : ℕ) (o : Option ℕ) (ds : Devices) → Sound ds → Sound (hears_at p now o ds)
-sound_at p now None ds sound = sound
-sound_at p now (Some i) ds sound = sound_with p now i (slice_get ds.entries i) ds refl sound
+pub sound_packet : (now : ℕ) (p : Packet) (i : ℕ) (d : Device) (ds : Devices) → slice_get ds.entries i ≡ Some d → Sound ds
+    → Sound (hears_with p now i (Some d) ds)
+sound_packet now p i d ds at sound = sound_set ds i (device_hears p now d) (told_of p now d) sound (comes_heard p now i d ds sound at)
 
 pub sound_item : (now : ℕ) (part : Part) (ds : Devices) → Sound ds → Sound (hears_item now part ds)
-sound_item now (Whole p) ds sound = sound_at p now (first_from 0 (is_at p.address) ds.entries) ds sound
-sound_item now (Passed byte) ds sound = sound
-sound_item now (Bad fault) ds sound = sound
+sound_item now = item_keeps now Sound (sound_packet now)
 
 pub sound_items : (now : ℕ) (parts : List Part) (ds : Devices) → Sound ds → Sound (hears_items now parts ds)
-sound_items now [] ds sound = sound
-sound_items now (part ∷ parts) ds sound = sound_items now parts (hears_item now part ds) (sound_item now part ds sound)
+sound_items now = items_keep now Sound (sound_packet now)
 
 -- who holds the line then held it before
 abbrev pub HeldBefore : ℕ → Devices → Type 0
@@ -52,29 +46,16 @@ WereHeld ds es = (j : ℕ) (f : Device) → slice_get es.entries j ≡ Some f �
 pub same_held : (ds : Devices) → WereHeld ds ds
 same_held ds j f at h = (f, at, h)
 
-held_with : (p : Packet) (now i : ℕ) (o : Option Device) (ds : Devices) → slice_get ds.entries i ≡ o → WereHeld ds (hears_with p now i o ds)
-held_with p now i None ds at = same_held ds
-held_with p now i (Some d) ds at = λ j f there h. by_place j f h (replaced ds.entries i (device_hears p now d) j f there)
+held_packet : (first : Devices) (now : ℕ) (p : Packet) (i : ℕ) (d : Device) (ds : Devices) → slice_get ds.entries i ≡ Some d → WereHeld first ds
+    → WereHeld first (hears_with p now i (Some d) ds)
+held_packet first now p i d ds at were = λ j f there h. by_place j f h (replaced ds.entries i (device_hears p now d) j f there)
   where
-    by_place : (j : ℕ) (f : Device) → holds f ≡ true → IsAt ds.entries i (device_hears p now d) j f → HeldBefore j ds
-    by_place j f h (inl (here, same)) = (d, ap (slice_get ds.entries) here ∙ at, heard_holds p now d (sym (ap holds same) ∙ h))
-    by_place j f h (inr (other, was)) = (f, was, h)
-
-held_at : (p : Packet) (now : ℕ) (o : Option ℕ) (ds : Devices) → WereHeld ds (hears_at p now o ds)
-held_at p now None ds = same_held ds
-held_at p now (Some i) ds = held_with p now i (slice_get ds.entries i) ds refl
-
-held_item : (now : ℕ) (part : Part) (ds : Devices) → WereHeld ds (hears_item now part ds)
-held_item now (Whole p) ds = held_at p now (first_from 0 (is_at p.address) ds.entries) ds
-held_item now (Passed byte) ds = same_held ds
-held_item now (Bad fault) ds = same_held ds
+    by_place : (j : ℕ) (f : Device) → holds f ≡ true → IsAt ds.entries i (device_hears p now d) j f → HeldBefore j first
+    by_place j f h (inl (here, same)) = were j d (ap (slice_get ds.entries) here ∙ at) (heard_holds p now d (sym (ap holds same) ∙ h))
+    by_place j f h (inr (other, was)) = were j f was h
 
 pub held_items : (now : ℕ) (parts : List Part) (ds : Devices) → WereHeld ds (hears_items now parts ds)
-held_items now [] ds = same_held ds
-held_items now (part ∷ parts) ds = λ j f at h. by_later j (held_items now parts (hears_item now part ds) j f at h)
-  where
-    by_later : (j : ℕ) → HeldBefore j (hears_item now part ds) → HeldBefore j ds
-    by_later j (g, at, h) = held_item now part ds j g at h
+held_items now parts ds = items_keep now (WereHeld ds) (held_packet ds now) parts ds (same_held ds)
 
 -- ---- a whole bus
 

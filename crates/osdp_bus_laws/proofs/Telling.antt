@@ -3,18 +3,19 @@ use Rattle.std.proofs.Common.{◌≡◌, ◌∙◌, ap, sym, ℕ, Bool, true, fa
 use Rattle.std.specs.Prelude.{if◌then◌else◌, is_some, not, slice_get, slice_set}
 use Rattle.osdp_frame.specs.Items.{items}
 use Rattle.osdp_frame.specs.Packet.{Packet}
-use Rattle.osdp_frame.specs.Reading.{Part, Whole, Passed, Bad}
+use Rattle.osdp_frame.specs.Reading.{Part}
 use Rattle.osdp_controller.specs.declared.report.Report.{Report}
 use Rattle.osdp_controller.proofs.Choices.{either_way}
 use Rattle.osdp_bus.specs.declared.device.Device.{Device}
 use Rattle.osdp_bus.specs.Buses.{BusState, Devices, device_of, has_report, holder, is_silent, seen, waiting_after}
-use Rattle.osdp_bus.specs.Devices.{device_hears, device_ticks, first_from, is_at, reserved_after, reserved_told, step_of, told_of}
-use Rattle.osdp_bus.specs.Hearing.{after_bytes, ends_run, ends_silent, hears_at, hears_bytes, hears_item, hears_items, hears_with}
+use Rattle.osdp_bus.specs.Devices.{device_hears, device_ticks, reserved_after, reserved_told, step_of, told_of}
+use Rattle.osdp_bus.specs.Hearing.{after_bytes, ends_run, ends_silent, hears_bytes, hears_items, hears_with}
 use Rattle.osdp_bus.specs.Ticking.{BusTicked, bus_ticks, is_due_at, is_held_and_due, next_due, stays, ticks_at, ticks_by, ticks_free, ticks_held, ticks_on, ticks_with}
 use Rattle.osdp_bus_laws.proofs.Changing.{Sound}
+use Rattle.osdp_bus_laws.proofs.Hearing.{items_keep}
 use Rattle.osdp_bus_laws.proofs.OneDevice.{heard_told}
 use Rattle.osdp_bus_laws.proofs.Places.{is_false, reserved_in, reserved_set, reserved_there}
-use Rattle.osdp_bus_laws.proofs.Sound.{SoundBus, sound_item, sound_seen, sound_silent}
+use Rattle.osdp_bus_laws.proofs.Sound.{SoundBus, sound_packet, sound_seen, sound_silent}
 
 -- what is reserved for an entry once a report arises
 abbrev pub reserved_with : Option (ℕ × Report) → ℕ → Option ℕ → Option ℕ
@@ -93,27 +94,22 @@ none_told : (told : Option Report) → is_some told ≡ false → told ≡ None
 none_told None h = refl
 none_told (Some report) h = cc
 
-follows_with : (p : Packet) (now i : ℕ) (o : Option Device) (ds : Devices) → slice_get ds.entries i ≡ o → Sound ds → Follows ds (hears_with p now i o ds)
-follows_with p now i None ds at sound = same_follows ds
-follows_with p now i (Some d) ds at sound =
-    follows_told ds i d (device_hears p now d) (told_of p now d) at refl
-    (λ some. none_told (told_of p now d)
-    (is_false (is_some (told_of p now d)) (λ h. let stands = (heard_told p now d h).0 in let none = sound.waits some i d at in cc)))
+-- the devices are sound, and follow those from before
+abbrev FollowSoundly : Devices → Devices → Type 0
+FollowSoundly first ds = Sound ds × Follows first ds
 
-follows_at : (p : Packet) (now : ℕ) (o : Option ℕ) (ds : Devices) → Sound ds → Follows ds (hears_at p now o ds)
-follows_at p now None ds sound = same_follows ds
-follows_at p now (Some i) ds sound = follows_with p now i (slice_get ds.entries i) ds refl sound
-
-follows_item : (now : ℕ) (part : Part) (ds : Devices) → Sound ds → Follows ds (hears_item now part ds)
-follows_item now (Whole p) ds sound = follows_at p now (first_from 0 (is_at p.address) ds.entries) ds sound
-follows_item now (Passed byte) ds sound = same_follows ds
-follows_item now (Bad fault) ds sound = same_follows ds
+follows_packet : (first : Devices) (now : ℕ) (p : Packet) (i : ℕ) (d : Device) (ds : Devices) → slice_get ds.entries i ≡ Some d → FollowSoundly first ds
+    → FollowSoundly first (hears_with p now i (Some d) ds)
+follows_packet first now p i d ds at (sound, follows) = (
+  sound_packet now p i d ds at sound,
+  follows_on first ds (hears_with p now i (Some d) ds) follows
+      (follows_told ds i d (device_hears p now d) (told_of p now d) at refl
+      (λ some. none_told (told_of p now d)
+      (is_false (is_some (told_of p now d)) (λ h. let stands = (heard_told p now d h).0 in let none = sound.waits some i d at in cc)))),
+)
 
 pub follows_items : (now : ℕ) (parts : List Part) (ds : Devices) → Sound ds → Follows ds (hears_items now parts ds)
-follows_items now [] ds sound = same_follows ds
-follows_items now (part ∷ parts) ds sound =
-    follows_on ds (hears_item now part ds) (hears_items now parts (hears_item now part ds)) (follows_item now part ds sound)
-    (follows_items now parts (hears_item now part ds) (sound_item now part ds sound))
+follows_items now parts ds sound = (items_keep now (FollowSoundly ds) (follows_packet ds now) parts ds (sound, same_follows ds)).1
 
 pub follows_run : (b : BusState) → SoundBus b → Follows b.devices (ends_run b).devices
 follows_run b is = follows_items b.greatest (items true b.held) b.devices is.devices

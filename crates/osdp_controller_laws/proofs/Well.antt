@@ -77,7 +77,7 @@ same_state c address (Idle due) is = tt
 same_state c address (Waiting until sends o) is = (is.0, is.1, same_outstanding c address sends o is.2)
 same_state c address (Pausing until o) is = same_outstanding c address 0 o is
 
-keeps_config : (c : ControllerConfig) (address : ℕ) → address < 127 → IsConfig c → IsConfig (record c { address = address })
+pub keeps_config : (c : ControllerConfig) (address : ℕ) → address < 127 → IsConfig c → IsConfig (record c { address = address })
 keeps_config c address device is = record {
   address = device;
   reply_wait = is.reply_wait;

@@ -1,5 +1,6 @@
 pub mod Meeting
 pub mod PlainReplies
+pub mod Outcomes
 pub mod Keeping
 pub mod Offering
 pub mod Room

@@ -1,5 +1,5 @@
 -- What counts as offered is the front, told by the stored reply.
-use Rattle.std.proofs.Common.{◌≡◌, ℕ, Bool, true, false, cond, eqb, List, [], ◌∷◌, ◌++◌, Option, Some, None, Result, Ok, Err, refl}
+use Rattle.std.proofs.Common.{◌≡◌, ℕ, Bool, false, List, [], ◌∷◌, ◌++◌, Option, Some, None, Result, Ok, Err, refl}
 use Rattle.std.specs.Prelude.{slice_get}
 use Rattle.std.specs.Option.{option_map}
 use Rattle.osdp_frame.specs.Packet.{Packet}
@@ -10,12 +10,12 @@ use Rattle.osdp_msg.specs.declared.fault.MsgFault.{MsgFault}
 use Rattle.osdp_msg.specs.Events.{event_reply}
 use Rattle.osdp_reader.specs.declared.handler.Answer.{Answer}
 use Rattle.osdp_reader.specs.declared.kind.Kind.{Kind}
-use Rattle.osdp_reader.specs.declared.kind.Kind.TheVariants.{Silent, Secured, Zero, Repeat, Taken, Busy, Wrong}
 use Rattle.osdp_reader_laws.specs.Laws.{TellsItsOffer}
 use Rattle.osdp_reader.specs.Queue.{Queue, offering, released}
 use Rattle.osdp_reader.specs.Replies.{reply_packet}
 use Rattle.osdp_reader.specs.State.{ReaderState, after_submit}
 use Rattle.osdp_reader.specs.Table.{begun, command_in, moved, new_address, outcome, taken, event_or_answer}
+use Rattle.osdp_reader_laws.proofs.Outcomes.{by_kind, by_move}
 
 front_stays : (events more : List Event) (front : Event) → slice_get events 0 ≡ Some front
     → slice_get (events ++ more) 0 ≡ Some front
@@ -27,12 +27,7 @@ module _ {H : Type 0} where
   none_offered r none = λ offered. absurd cc
 
   moved_none_offered : (o : Option ℕ) (r : ReaderState H) → r.queue.offered ≡ false → TellsItsOffer (moved o r)
-  moved_none_offered None r none = none_offered r none
-  moved_none_offered (Some a) r none = by_test (eqb a r.config.address)
-    where
-      by_test : (here : Bool) → TellsItsOffer (cond here r (record r { config = record r.config { address = a }; last = None; stored = None }))
-      by_test true = none_offered r none
-      by_test false = none_offered _ none
+  moved_none_offered o r none = by_move TellsItsOffer o r (none_offered r none) (λ address set. none_offered _ none)
 
   pub submit_offer : (r : ReaderState H) (event : Event) → TellsItsOffer r → TellsItsOffer (after_submit event r)
   submit_offer r event tells offered =
@@ -48,6 +43,13 @@ module _ {H : Type 0} where
           },
         ),
       )
+
+  -- an offer stays whether the reader is busy or not, and whatever handler it has
+  pub offer_stays : (r : ReaderState H) (busy : Bool) (handler : H) → TellsItsOffer r
+      → TellsItsOffer (record r { busy = busy; handler = handler })
+  offer_stays r busy handler tells offered =
+      let is = (tells offered).1.1 in
+      ((tells offered).0, ((tells offered).1.0, record { front = is.front; stored = is.stored; number = is.number; body = is.body }))
 
   module _ (answer_of : H → Command → Answer) (after : H → Command → H) where
     begun_offer : (read : Result Command MsgFault) (r : ReaderState H) (p : Packet)
@@ -83,12 +85,7 @@ module _ {H : Type 0} where
     taken_offer (Ok (command.Comset c)) r p = moved_none_offered (new_address (command.Comset c)) _ refl
     taken_offer (Ok (command.Maker m)) r p = none_offered _ refl
 
-    pub outcome_offer : (k : Kind) (r : ReaderState H) (p : Packet) → TellsItsOffer r
-        → TellsItsOffer (outcome answer_of after k r p).reader
-    outcome_offer Silent r p tells = tells
-    outcome_offer Secured r p tells = tells
-    outcome_offer Repeat r p tells = tells
-    outcome_offer Busy r p tells = tells
-    outcome_offer Wrong r p tells = tells
-    outcome_offer Zero r p tells = begun_offer (command_in p) r p
-    outcome_offer Taken r p tells = taken_offer (command_in p) r p
+    pub outcome_offer : (kind : Kind) (r : ReaderState H) (p : Packet) → TellsItsOffer r
+        → TellsItsOffer (outcome answer_of after kind r p).reader
+    outcome_offer kind r p tells =
+        by_kind answer_of after TellsItsOffer kind r p tells (begun_offer (command_in p) r p) (taken_offer (command_in p) r p)

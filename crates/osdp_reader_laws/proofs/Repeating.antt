@@ -5,7 +5,7 @@ use Rattle.osdp_msg.specs.declared.command.Command.{Command}
 use Rattle.osdp_reader.specs.declared.handler.Answer.{Answer}
 use Rattle.osdp_reader.specs.declared.kind.Kind.{Kind}
 use Rattle.osdp_reader.specs.declared.kind.Kind.TheVariants.{Repeat, Taken}
-use Rattle.osdp_reader_laws.specs.Laws.{ComesTo, KeepsWhatItTook}
+use Rattle.osdp_reader_laws.specs.Laws.{AnswersTheSameAgain, ComesTo, KeepsWhatItTook}
 use Rattle.osdp_reader.specs.State.{ReaderState, after_set_handler}
 use Rattle.osdp_reader.specs.Table.{hears, kind_of, outcome}
 
@@ -32,21 +32,7 @@ module _ {H : Type 0} where
         subst (λ (k : Kind). ((outcome answer_of after k r q).reply ≡ r.stored) × ((outcome answer_of after k r q).reader ≡ r)
         × ((outcome answer_of after k r q).command ≡ None)) (sym is) (refl, refl, refl)
 
-    pub the_same_again : KeepsWhatItTook answer_of after → (r : ReaderState H) (p q : Packet) → kind_of r p ≡ Taken
-        → (hears answer_of after r p).reader.config.address ≡ r.config.address
-        → ComesTo r q → q.block ≡ false → q.sequence ≡ p.sequence
-        → let first = hears answer_of after r p in
-        let again = hears answer_of after first.reader q in
-        (again.reply ≡ first.reply) × (again.reader ≡ first.reader) × (again.command ≡ None)
-    the_same_again keeps r p q is stays comes unsecured same =
-        let kept = keeps r p is stays in
-        let later = (hears answer_of after r p).reader in
-        let repeat = is_repeat later q (comes_there r later q stays comes) unsecured
-        (λ zero. taken_number r p is (sym same ∙ zero)) (kept.0 ∙ ap Some (sym same)) in
-        let again = of_repeat later q repeat in
-        (again.0 ∙ kept.1, again.1, again.2)
-
-    -- .. also where another handler was set in between
+    -- a handler that was set in between changes no answer
     pub the_same_still : KeepsWhatItTook answer_of after → (r : ReaderState H) (p q : Packet) (handler : H) → kind_of r p ≡ Taken
         → (hears answer_of after r p).reader.config.address ≡ r.config.address
         → ComesTo r q → q.block ≡ false → q.sequence ≡ p.sequence
@@ -61,3 +47,7 @@ module _ {H : Type 0} where
         (λ zero. taken_number r p is (sym same ∙ zero)) (kept.0 ∙ ap Some (sym same)) in
         let again = of_repeat (after_set_handler handler later) q repeat in
         (again.0 ∙ kept.1, again.1, again.2)
+
+    -- .. nor does the one that was there
+    pub the_same_again : KeepsWhatItTook answer_of after → AnswersTheSameAgain answer_of after
+    the_same_again keeps r p q = the_same_still keeps r p q (hears answer_of after r p).reader.handler

@@ -1,16 +1,18 @@
 use Rattle.std.proofs.Common.{suc, None, refl, arith}
 use Rattle.osdp_reader.specs.Table.{kind_of}
-use Rattle.osdp_reader_laws.proofs.Addresses.{outcome_device}
-use Rattle.osdp_reader_laws.proofs.Keeping.{none_is_some, outcome_stored}
-use Rattle.osdp_reader_laws.proofs.Offering.{none_offered, outcome_offer, submit_offer}
-use Rattle.osdp_reader_laws.proofs.Room.{outcome_room, submit_room}
+use Rattle.osdp_reader_laws.specs.Laws.{HasDeviceAddress, HasRoom, KeepsReply}
+use Rattle.osdp_reader_laws.proofs.Addresses.{keeps_device}
+use Rattle.osdp_reader_laws.proofs.Keeping.{keeps_reply, none_is_some}
+use Rattle.osdp_reader_laws.proofs.Offering.{none_offered, offer_stays, outcome_offer, submit_offer}
+use Rattle.osdp_reader_laws.proofs.Outcomes.{outcome_keeps}
+use Rattle.osdp_reader_laws.proofs.Room.{keeps_room, submit_room}
 use Rattle.osdp_reader_laws.proofs.stays_well.Goals as goal
 
 pub returns-clause-reply : goal.returns-clause-reply
 returns-clause-reply g c = (
   (λ config handler capacity n e. absurd (none_is_some None (suc n) refl e)),
   (
-    (λ r p keeps. outcome_stored g.H.Handler.answer_of g.H.Handler.after (kind_of r p) r p keeps),
+    (λ r p keeps. outcome_keeps g.H.Handler.answer_of g.H.Handler.after KeepsReply (kind_of r p) r p keeps_reply keeps),
     (λ r event free keeps. keeps),
     (λ r busy keeps. keeps),
     (λ r handler keeps. keeps),
@@ -23,12 +25,8 @@ returns-clause-offer g c = (
   (
     (λ r p tells. outcome_offer g.H.Handler.answer_of g.H.Handler.after (kind_of r p) r p tells),
     (λ r event free tells. submit_offer r event tells),
-    (λ r busy tells offered.
-        let is = (tells offered).1.1 in
-        ((tells offered).0, ((tells offered).1.0, record { front = is.front; stored = is.stored; number = is.number; body = is.body }))),
-    (λ r handler tells offered.
-        let is = (tells offered).1.1 in
-        ((tells offered).0, ((tells offered).1.0, record { front = is.front; stored = is.stored; number = is.number; body = is.body }))),
+    (λ r busy tells. offer_stays r busy r.handler tells),
+    (λ r handler tells. offer_stays r r.busy handler tells),
   ),
 )
 
@@ -36,7 +34,7 @@ pub returns-clause-room : goal.returns-clause-room
 returns-clause-room g c = (
   (λ config handler capacity. omega arith),
   (
-    (λ r p room. outcome_room g.H.Handler.answer_of g.H.Handler.after (kind_of r p) r p room),
+    (λ r p room. outcome_keeps g.H.Handler.answer_of g.H.Handler.after HasRoom (kind_of r p) r p keeps_room room),
     (λ r event free room. submit_room r event free room),
     (λ r busy room. room),
     (λ r handler room. room),
@@ -47,7 +45,7 @@ pub returns-clause-address : goal.returns-clause-address
 returns-clause-address g c = (
   (λ config handler capacity device. device),
   (
-    (λ r p device. outcome_device g.H.Handler.answer_of g.H.Handler.after (kind_of r p) r p device),
+    (λ r p device. outcome_keeps g.H.Handler.answer_of g.H.Handler.after HasDeviceAddress (kind_of r p) r p keeps_device device),
     (λ r event free device. device),
     (λ r busy device. device),
     (λ r handler device. device),

@@ -1,0 +1,28 @@
+-- What holds of the devices of a bus through what comes in: what each packet to a device keeps.
+use Rattle.std.proofs.Common.{◌≡◌, ℕ, List, [], ◌∷◌, Option, Some, None, refl}
+use Rattle.std.specs.Prelude.{slice_get}
+use Rattle.osdp_frame.specs.Packet.{Packet}
+use Rattle.osdp_frame.specs.Reading.{Part, Whole, Passed, Bad}
+use Rattle.osdp_bus.specs.declared.device.Device.{Device}
+use Rattle.osdp_bus.specs.Buses.{Devices}
+use Rattle.osdp_bus.specs.Devices.{first_from, is_at}
+use Rattle.osdp_bus.specs.Hearing.{hears_at, hears_item, hears_items, hears_with}
+
+module _ (now : ℕ) (P : Devices → Type 0)
+    (kept : (p : Packet) (i : ℕ) (d : Device) (ds : Devices) → slice_get ds.entries i ≡ Some d → P ds → P (hears_with p now i (Some d) ds)) where
+  with_keeps : (p : Packet) (i : ℕ) (o : Option Device) (ds : Devices) → slice_get ds.entries i ≡ o → P ds → P (hears_with p now i o ds)
+  with_keeps p i None ds at is = is
+  with_keeps p i (Some d) ds at is = kept p i d ds at is
+
+  at_keeps : (p : Packet) (o : Option ℕ) (ds : Devices) → P ds → P (hears_at p now o ds)
+  at_keeps p None ds is = is
+  at_keeps p (Some i) ds is = with_keeps p i (slice_get ds.entries i) ds refl is
+
+  pub item_keeps : (part : Part) (ds : Devices) → P ds → P (hears_item now part ds)
+  item_keeps (Whole p) ds is = at_keeps p (first_from 0 (is_at p.address) ds.entries) ds is
+  item_keeps (Passed byte) ds is = is
+  item_keeps (Bad fault) ds is = is
+
+  pub items_keep : (parts : List Part) (ds : Devices) → P ds → P (hears_items now parts ds)
+  items_keep [] ds is = is
+  items_keep (part ∷ parts) ds is = items_keep parts (hears_item now part ds) (item_keeps part ds is)
