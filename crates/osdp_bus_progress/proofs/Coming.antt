@@ -41,7 +41,7 @@ use Rattle.osdp_sim_bus.specs.Steps.{after_step, fault_of}
 use Rattle.osdp_sim_laws.specs.Accounts.{IsInSession, IsOf}
 use Rattle.osdp_sim_laws.specs.Progress.{rounds}
 use Rattle.osdp_sim_laws.proofs.Coming.{rounds_within}
-use Rattle.osdp_sim_laws.proofs.Ends.{first_well}
+use Rattle.osdp_sim.proofs.Schedules.{first_well}
 use Rattle.osdp_sim_bus_laws.specs.Moves.{Done, Follows, OneBus, SchedulesAreMoves, SitesOf}
 use Rattle.osdp_sim_bus_laws.proofs.Beginning.{first_net, first_site, follows_first, has_site, is_set_up}
 use Rattle.osdp_sim_bus_laws.proofs.OneSession.{HasOne, none_earlier, one_first, one_run}

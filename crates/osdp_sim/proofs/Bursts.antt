@@ -1,5 +1,5 @@
 -- Bursts on the line: each is the packet that it spells.
-use Rattle.std.proofs.Common.{◌≡◌, ◌↔◌, ◌⊎◌, ◌<◌, ◌≤◌, ◌-◌, ℕ, true, false, not, ◌==◌, min, if◌then◌else◌, arith, List, [], ◌∷◌, ◌++◌, length, take, get_or, Option, Some, None, inl, inr, refl, sym, ap, ◌∙◌}
+use Rattle.std.proofs.Common.{◌≡◌, ◌↔◌, ◌⊎◌, ◌<◌, ◌≤◌, ◌-◌, ℕ, true, false, not, ◌==◌, min, if◌then◌else◌, arith, List, [], ◌∷◌, ◌++◌, length, take, Option, Some, None, inl, inr, refl, sym, ap, ◌∙◌}
 use Rattle.std.proofs.lemmas.Bool.{ne_eqb}
 use Rattle.std.proofs.lemmas.List.{take_all}
 use Rattle.std.specs.Prelude.{option_map}
@@ -65,11 +65,6 @@ no_other p item is (inr (fault, other)) = cc
 
 pub same_packet : (p q : Packet) (item : Item) → Some item ≡ Some (shown.Packet p) → item ≡ shown.Packet q → p ≡ q
 same_packet p q item is shows = cc
-
--- the last of a list
-pub last_place : {A : Type 0} (xs : List A) (y d : A) → get_or (xs ++ y ∷ []) (length xs) d ≡ y
-last_place [] y d = refl
-last_place (x ∷ xs) y d = last_place xs y d
 
 -- what is sent are the bytes of the burst
 pub sent_burst : (o : Option Packet) (bytes : List ℕ) → IsSpelled o bytes → (length bytes == 0) ≡ false

@@ -5,6 +5,37 @@ use Rattle.osdp_sim.specs.declared.fault.Cause.{Cause}
 use Rattle.osdp_sim.specs.declared.step.SimStep.{SimStep}
 use Rattle.osdp_sim.specs.Schedules.{HoldsAlong, IsCause, StopsAt, first_fault, is_well, run}
 
+-- the first step is not refused, and the others aren't
+pub first_well : (fault : Option Cause) (rest : Bool) → (is_none fault && rest) ≡ true → (fault ≡ None) × (rest ≡ true)
+first_well None rest e = (refl, e)
+first_well (Some cause) rest e = absurd cc
+
+all_well : (fault : Option Cause) (rest : Bool) → fault ≡ None → rest ≡ true → (is_none fault && rest) ≡ true
+all_well None rest none e = e
+all_well (Some cause) rest none e = absurd cc
+
+-- one list of steps after the other
+module _ {S : Type 0} (after_step : SimStep → S → S) where
+  pub runs_on : (xs ys : List SimStep) (s : S) → run after_step (xs ++ ys) s ≡ run after_step ys (run after_step xs s)
+  runs_on [] ys s = refl
+  runs_on (x ∷ xs) ys s = runs_on xs ys (after_step x s)
+
+  pub well_on : (fault_of : SimStep → S → Option Cause) (xs ys : List SimStep) (s : S) → is_well after_step fault_of (xs ++ ys) s ≡ true
+      → (is_well after_step fault_of xs s ≡ true) × (is_well after_step fault_of ys (run after_step xs s) ≡ true)
+  well_on fault_of [] ys s well = (refl, well)
+  well_on fault_of (x ∷ xs) ys s well =
+      let next = after_step x s in
+      let first = first_well (fault_of x s) (is_well after_step fault_of (xs ++ ys) next) well in
+      let rest = well_on fault_of xs ys next first.1 in
+      (all_well (fault_of x s) (is_well after_step fault_of xs next) first.0 rest.0, rest.1)
+
+  pub holds_on : (Holds : SimStep → S → Type 0) (xs ys : List SimStep) (s : S) → HoldsAlong after_step Holds (xs ++ ys) s
+      → HoldsAlong after_step Holds xs s × HoldsAlong after_step Holds ys (run after_step xs s)
+  holds_on Holds [] ys s along = (tt, along)
+  holds_on Holds (x ∷ xs) ys s along =
+      let rest = holds_on Holds xs ys (after_step x s) along.1 in
+      ((along.0, rest.0), rest.1)
+
 module _ {S : Type 0} (after_step : SimStep → S → S) (fault_of : SimStep → S → Option Cause) (Holds : SimStep → S → Type 0) where
   -- these steps were taken, and led here
   pub record HasTaken (steps : List SimStep) (start s : S) : Type 0 where
@@ -12,26 +43,13 @@ module _ {S : Type 0} (after_step : SimStep → S → S) (fault_of : SimStep →
     pub well : is_well after_step fault_of steps start ≡ true
     pub along : HoldsAlong after_step Holds steps start
 
-  run_after : (steps : List SimStep) (step : SimStep) (s : S)
-      → run after_step (steps ++ step ∷ []) s ≡ after_step step (run after_step steps s)
-  run_after [] step s = refl
-  run_after (first ∷ steps) step s = run_after steps step (after_step first s)
-
-  split : (fault : Option Cause) (rest : Bool) → (is_none fault && rest) ≡ true → (fault ≡ None) × (rest ≡ true)
-  split None rest e = (refl, e)
-  split (Some cause) rest e = absurd cc
-
-  joined : (fault : Option Cause) (rest : Bool) → fault ≡ None → rest ≡ true → (is_none fault && rest) ≡ true
-  joined None rest none e = e
-  joined (Some cause) rest none e = absurd cc
-
   well_after : (steps : List SimStep) (step : SimStep) (s : S) → is_well after_step fault_of steps s ≡ true
       → fault_of step (run after_step steps s) ≡ None → is_well after_step fault_of (steps ++ step ∷ []) s ≡ true
-  well_after [] step s well none = joined (fault_of step s) true none refl
+  well_after [] step s well none = all_well (fault_of step s) true none refl
   well_after (first ∷ steps) step s well none =
       let next = after_step first s in
-      let both = split (fault_of first s) (is_well after_step fault_of steps next) well in
-      joined (fault_of first s) _ both.0 (well_after steps step next both.1 none)
+      let both = first_well (fault_of first s) (is_well after_step fault_of steps next) well in
+      all_well (fault_of first s) _ both.0 (well_after steps step next both.1 none)
 
   along_after : (steps : List SimStep) (step : SimStep) (s : S) → HoldsAlong after_step Holds steps s
       → Holds step (run after_step steps s) → HoldsAlong after_step Holds (steps ++ step ∷ []) s
@@ -43,7 +61,7 @@ module _ {S : Type 0} (after_step : SimStep → S → S) (fault_of : SimStep →
       → fault_of step here ≡ None → Holds step here → next ≡ after_step step here
       → HasTaken (steps ++ step ∷ []) start next
   takes_one steps step start here next taken none holds is = record {
-    here = is ∙ ap (after_step step) taken.here ∙ sym (run_after steps step start);
+    here = is ∙ ap (after_step step) taken.here ∙ sym (runs_on after_step steps (step ∷ []) start);
     well = well_after steps step start taken.well (subst (λ s. fault_of step s ≡ None) taken.here none);
     along = along_after steps step start taken.along (subst (Holds step) taken.here holds);
   }

@@ -1,6 +1,6 @@
 -- What is on the line is sent by an end, whatever step comes.
-use Rattle.std.proofs.Common.{ℕ, zero, suc, Bool, true, false, ◌==◌, arith, if◌then◌else◌, All, List, [], ◌∷◌, length, Option, Some, None, IfSome}
-use Rattle.std.proofs.lemmas.List.Elements.{All-append}
+use Rattle.std.proofs.Common.{ℕ, Bool, true, false, ◌==◌, if◌then◌else◌, All, List, [], ◌∷◌, length, Option, Some, None, IfSome}
+use Rattle.std.proofs.lemmas.List.Elements.{All-append, All-cons, All-nil, All-tail}
 use Rattle.osdp_frame.specs.Packet.{IsPacket, Packet}
 use Rattle.osdp_frame.specs.Spelling.{Spells, spelling}
 use Rattle.osdp_msg.specs.declared.command.Command.{Command}
@@ -23,19 +23,15 @@ abbrev pub HasSpelling : Type 0
 HasSpelling = (p : Packet) → IsPacket p → Spells p (spelling p)
 
 pub all_sent : HasSpelling → (o : Option Packet) → IfSome o IsPacket → All IsSent (sent o)
-all_sent has None fits k d lt = absurd (omega (arith, lt))
-all_sent has (Some p) fits zero d lt = (p, has p fits)
-all_sent has (Some p) fits (suc k) d lt = absurd (omega (arith, lt))
-
-after_first : (burst : List ℕ) (line : List (List ℕ)) → All IsSent (burst ∷ line) → All IsSent line
-after_first burst line all k d lt = all (suc k) d (omega (arith, lt))
+all_sent has None fits = All-nil IsSent
+all_sent has (Some p) fits = All-cons IsSent (spelling p) [] (p, has p fits) (All-nil IsSent)
 
 pub left_sent : (move : Move) (line : List (List ℕ)) → All IsSent line → All IsSent (left move line)
 left_sent move [] all = all
-left_sent Deliver (burst ∷ line) all = after_first burst line all
-left_sent Drop (burst ∷ line) all = after_first burst line all
+left_sent Deliver (burst ∷ line) all = All-tail IsSent burst line all
+left_sent Drop (burst ∷ line) all = All-tail IsSent burst line all
 left_sent Repeat (burst ∷ line) all = all
-left_sent (Damage bytes) (burst ∷ line) all = after_first burst line all
+left_sent (Damage bytes) (burst ∷ line) all = All-tail IsSent burst line all
 
 module _ {H : Type 0} (answer_of : H → Command → Answer) (after : H → Command → H) where
   where_sent : (there : Bool) (old new : SimState H) → AreSent old → AreSent new → AreSent (if there then new else old)

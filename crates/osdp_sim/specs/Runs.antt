@@ -1,12 +1,11 @@
 -- The run of a schedule, and how it ends.
-use Rattle.std.specs.Prelude.{◌≡◌, ℕ, suc, zero, ◌≤◌, ◌-◌, Bool, true, ◌&&◌, is_none, List, [], ◌∷◌, length, take, drop, Option, Some, None, Result, Ok, Err}
+use Rattle.std.specs.Prelude.{ℕ, ◌≤◌, Bool, List, Result}
 use Rattle.osdp_msg.specs.declared.command.Command.{Command}
 use Rattle.osdp_controller.specs.Machine as controllers
 use Rattle.osdp_reader.specs.declared.handler.Answer.{Answer}
 use Rattle.osdp_sim.specs.declared.account.Account as declared
 use Rattle.osdp_sim.specs.declared.config.SimConfig.{SimConfig}
 use Rattle.osdp_sim.specs.declared.fault.Cause.{Cause}
-use Rattle.osdp_sim.specs.declared.fault.Cause.TheVariants.{HoldsPacket, NoMemory, NotQuiet, OutOfRange}
 use Rattle.osdp_sim.specs.declared.fault.Fault.{Fault}
 use Rattle.osdp_sim.specs.declared.step.SimStep.{SimStep}
 use Rattle.osdp_sim.specs.Account.{Account, empty_account, lists_of}
@@ -25,19 +24,14 @@ pub record AreSettings (config : SimConfig) : Type 0 where
   pub reader : ReaderInRange config
   pub controller : controllers.AreSettings config.controller config.commands
 
--- why there is no controller: settings are judged before memory is asked for
+-- why there is no controller ..
 abbrev pub IsControllerCause : Cause → SimConfig → Type 0
-IsControllerCause OutOfRange config = controllers.AreSettings config.controller config.commands → ⊥
-IsControllerCause NoMemory config = controllers.AreSettings config.controller config.commands
-IsControllerCause HoldsPacket config = ⊥
-IsControllerCause NotQuiet config = ⊥
+IsControllerCause cause config =
+    schedules.IsSetUpCause cause (controllers.AreSettings config.controller config.commands)
 
 -- .. and why no step was taken
 abbrev pub IsSetUpCause : Cause → SimConfig → Type 0
-IsSetUpCause OutOfRange config = AreSettings config → ⊥
-IsSetUpCause NoMemory config = AreSettings config
-IsSetUpCause HoldsPacket config = ⊥
-IsSetUpCause NotQuiet config = ⊥
+IsSetUpCause cause config = schedules.IsSetUpCause cause (AreSettings config)
 
 module _ {H : Type 0} (answer_of : H → Command → Answer) (after : H → Command → H) where
   -- the state after these steps
@@ -58,17 +52,13 @@ module _ {H : Type 0} (answer_of : H → Command → Answer) (after : H → Comm
 
   -- .. or nothing was set up
   abbrev pub Stops : ℕ → Cause → Account → SimConfig → H → List SimStep → Type 0
-  Stops zero cause account config handler steps = IsSetUpCause cause config × (account ≡ empty_account)
-  Stops (suc before) cause account config handler steps =
-      AreSettings config × StopsAt (suc before) cause account steps (set_up config handler)
+  Stops at why lists config handler steps =
+      schedules.Stops (after_step answer_of after) fault_of (λ t. t.account) (AreSettings config) empty_account at why lists steps (set_up config handler)
 
   abbrev pub RunEnds : SimConfig → H → List SimStep → Result declared.Account (Fault declared.Account) → Type 0
-  RunEnds config handler steps (Ok account) =
-      AreSettings config × (is_well steps (set_up config handler) ≡ true)
-      × (lists_of account ≡ (run steps (set_up config handler)).account)
-  RunEnds config handler steps (Err fault) = Stops fault.step fault.cause (lists_of fault.account) config handler steps
+  RunEnds config handler steps answer =
+      schedules.RunEnds (after_step answer_of after) fault_of lists_of (λ t. t.account) (AreSettings config) empty_account steps (set_up config handler) answer
 
 -- the steps that were taken
 abbrev pub steps_done : List SimStep → Result declared.Account (Fault declared.Account) → List SimStep
-steps_done steps (Ok account) = steps
-steps_done steps (Err fault) = take (fault.step - 1) steps
+steps_done steps answer = schedules.steps_done steps answer

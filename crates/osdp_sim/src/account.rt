@@ -1,6 +1,6 @@
 //! What a schedule comes to.
 
-ghost use Rattle.std.specs.Prelude.{◌≡◌, OnOk};
+ghost use Rattle.std.specs.Prelude.{◌≡◌, None, OnOk};
 ghost use Rattle.osdp_sim.specs.Account.{empty_account, lists_of, taken_by, taken_command, with_issued, with_queued, with_report, with_session, with_taken};
 ghost use Rattle.osdp_sim.specs.Room.{HasPlaces};
 
@@ -157,6 +157,7 @@ impl Account {
     pub fn take_heard(&mut self, heard: &mut Heard)
         requires { HasPlaces self.old }
         ensures account { lists_of self.new ≡ with_taken (taken_by heard.old.kind heard.old.command) (lists_of self.old) }
+        ensures kind { heard.new.kind ≡ heard.old.kind }
         ensures burst { heard.new.burst ≡ heard.old.burst }
     {
         if heard.kind == Kind::Taken && !matches!(heard.command, Some(Command::Poll)) {
@@ -190,7 +191,8 @@ impl Account {
     #[inline(always)]
     pub fn tell_any(&mut self, report: &mut Option<Report>)
         requires { HasPlaces self.old }
-        ensures { lists_of self.new ≡ with_report report.old (lists_of self.old) }
+        ensures account { lists_of self.new ≡ with_report report.old (lists_of self.old) }
+        ensures none { report.new ≡ None }
     {
         if report.is_some() {
             self.tell(report.take());

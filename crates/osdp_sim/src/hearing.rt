@@ -15,7 +15,8 @@ use osdp_reader::{Handler, Heard, Reader};
 use std::collections::VecDeque;
 
 /// A reader hears a packet: what it has taken goes to its account, and what it answers out on the line. What it made of the packet stands
-/// in `heard`, in place of what stood there.
+/// in `heard`, in place of what stood there. A command that it has taken has gone from there to the account, unless it is a POLL, which no
+/// account counts.
 pub fn hear<H: Handler>(
     reader: &mut Reader<H>,
     packet: &FrameView<'_>,

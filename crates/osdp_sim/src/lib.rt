@@ -26,6 +26,7 @@ mod fault;
 pub mod hearing;
 pub mod laws;
 pub mod line;
+pub mod running;
 mod schedule;
 mod session;
 mod simulation;

@@ -1,10 +1,11 @@
 //! One direction of a line, for what simulates one.
 
-ghost use Rattle.std.specs.Prelude.{◌≡◌, ◌<◌, ◌≤◌, ◌+◌, ◌++◌, ◌∷◌, All, [], None, option_to_list};
+ghost use Rattle.std.specs.Prelude.{◌≡◌, ◌<◌, ◌≤◌, ◌+◌, ◌++◌, ◌∷◌, All, [], IfSome, None, option_to_list};
 ghost use Rattle.std.specs.VecDeque.{deque_capacity, deque_len};
 ghost use Rattle.osdp_frame.specs.Spelling.{Spells};
 ghost use Rattle.osdp_sim.specs.Line.{IsSent, bytes_of, handed, holds_packet, left, packets_in};
 ghost use Rattle.osdp_sim.specs.Steps.{damage_fault};
+ghost use Rattle.osdp_sim.specs.declared.fault.Cause.TheVariants.{HoldsPacket};
 
 use crate::fault::Cause;
 use crate::laws::reads_packets;
@@ -32,7 +33,8 @@ pub(crate) fn holds_packet(run: &Burst) -> bool
 
 /// Why a move of the line is refused: damage may not hold a packet.
 pub fn damage_fault(way: &Move) -> Option<Cause>
-    ensures { result ≡ damage_fault way.now }
+    ensures fault { result ≡ damage_fault way.now }
+    ensures cause { IfSome result (λ cause. cause ≡ HoldsPacket) }
 {
     match way {
         Move::Damage(run) => {

@@ -1,16 +1,15 @@
 //! A schedule, run over one line.
 
-ghost use Rattle.std.specs.Prelude.{◌≡◌, ◌≤◌, ◌<◌, ◌^◌, length, true, IfErr, IfOk, None, OnOk};
-ghost use Rattle.osdp_sim.specs.Account.{lists_of};
+ghost use Rattle.std.specs.Prelude.{◌≡◌, ◌<◌, ◌^◌, length, IfErr, IfOk};
+ghost use Rattle.osdp_sim.specs.Account.{empty_account, lists_of};
 ghost use Rattle.osdp_sim.specs.Room.{state_of};
-ghost use Rattle.osdp_sim.specs.Runs.{FitAlong, RunEnds, StopsAt, is_well, run, steps_done};
-ghost use Rattle.osdp_sim.specs.Schedules.{IsCause};
-ghost use Rattle.osdp_sim.specs.State.{AreSent, set_up};
-ghost use Rattle.osdp_sim.specs.Steps.{StepFits, after_step, fault_of};
+ghost use Rattle.osdp_sim.specs.Runs.{AreSettings, FitAlong, IsSetUpCause, RunEnds, steps_done};
+ghost use Rattle.osdp_sim.specs.State.{set_up};
 
 use crate::account::Account;
 use crate::config::SimConfig;
-use crate::fault::{Cause, Fault};
+use crate::fault::Fault;
+use crate::running::{run_listed, run_steps};
 use crate::schedule::Schedule;
 use crate::simulation::Simulation;
 use crate::step::SimStep;
@@ -32,17 +31,9 @@ pub fn run_session<H: Handler>(
     ensures ends { RunEnds H.answer_of H.after config.now handler steps.now result }
     ensures fits { FitAlong H.answer_of H.after (steps_done steps.now result) (set_up config.now handler) }
 {
-    match Simulation::new(alloc, config, handler) {
-        Ok(mut simulation) => {
-            simulation.account.expect(issues(steps));
-            run_listed(simulation, steps)
-        }
-        Err(cause) => Err(Fault {
-            step: 0,
-            cause,
-            account: Account::new(alloc),
-        }),
-    }
+    let mut simulation = begin(alloc, config, handler)?;
+    simulation.account.expect(issues(steps));
+    run_listed(simulation, steps)
 }
 
 /// How many commands a list of steps issues to the first reader.
@@ -51,35 +42,6 @@ fn issues(steps: &[SimStep]) -> usize {
         .iter()
         .filter(|step| matches!(step, SimStep::Issue(1, _)))
         .count()
-}
-
-/// Takes the steps of a list where they lie, up to the first that is refused or finds no memory.
-fn run_listed<H: Handler>(
-    simulation: Simulation<H>,
-    steps: &[SimStep],
-) -> Result<Account, Fault<Account>>
-    requires sent { AreSent (state_of simulation) }
-    ensures ok { IfOk result (λ account. (is_well H.answer_of H.after steps.now (state_of simulation) ≡ true)
-        × (lists_of account ≡ (run H.answer_of H.after steps.now (state_of simulation)).account)) }
-    ensures err { IfErr result (λ fault. (1 ≤ fault.step)
-        × StopsAt H.answer_of H.after fault.step fault.cause (lists_of fault.account) steps.now (state_of simulation)) }
-    ensures fits { FitAlong H.answer_of H.after (steps_done steps.now result) (state_of simulation) }
-{
-    let mut simulation = simulation;
-    let mut left = steps;
-    let mut number = 0;
-    'steps: while let Some((step, rest)) = left.split_first() {
-        left = rest;
-        number += 1;
-        if let Err(cause) = try_step(&mut simulation, step) {
-            return Err(Fault {
-                step: number,
-                cause,
-                account: simulation.account,
-            });
-        }
-    }
-    Ok(simulation.account)
 }
 
 /// The same of steps that are handed out one at a time.
@@ -93,60 +55,25 @@ pub fn run_schedule<H: Handler, S: Schedule>(
     ensures ends { RunEnds H.answer_of H.after config.now handler (S.left schedule) result }
     ensures fits { FitAlong H.answer_of H.after (steps_done (S.left schedule) result) (set_up config.now handler) }
 {
+    let simulation = begin(alloc, config, handler)?;
+    run_steps(simulation, schedule)
+}
+
+/// Both ends are set up, and the first session begins; or step 0 stops the run, and its account is empty.
+fn begin<H: Handler>(
+    alloc: Global,
+    config: &SimConfig,
+    handler: H,
+) -> Result<Simulation<H>, Fault<Account>>
+    ensures made { IfOk result (λ s. AreSettings config.now × (state_of s ≡ set_up config.now handler)) }
+    ensures none { IfErr result (λ fault. (fault.step ≡ 0) × IsSetUpCause fault.cause config.now × (lists_of fault.account ≡ empty_account)) }
+{
     match Simulation::new(alloc, config, handler) {
-        Ok(simulation) => run_steps(simulation, schedule),
+        Ok(simulation) => Ok(simulation),
         Err(cause) => Err(Fault {
             step: 0,
             cause,
             account: Account::new(alloc),
         }),
     }
-}
-
-/// Takes the steps, up to the first that is refused or finds no memory.
-fn run_steps<H: Handler, S: Schedule>(
-    simulation: Simulation<H>,
-    schedule: S,
-) -> Result<Account, Fault<Account>>
-    requires sent { AreSent (state_of simulation) }
-    requires count { length (S.left schedule) < 2 ^ 64 }
-    ensures ok { IfOk result (λ account. (is_well H.answer_of H.after (S.left schedule) (state_of simulation) ≡ true)
-        × (lists_of account ≡ (run H.answer_of H.after (S.left schedule) (state_of simulation)).account)) }
-    ensures err { IfErr result (λ fault. (1 ≤ fault.step)
-        × StopsAt H.answer_of H.after fault.step fault.cause (lists_of fault.account) (S.left schedule) (state_of simulation)) }
-    ensures fits { FitAlong H.answer_of H.after (steps_done (S.left schedule) result) (state_of simulation) }
-{
-    let mut simulation = simulation;
-    let mut schedule = schedule;
-    let mut at = 0;
-    'steps: while let Some(step) = schedule.next() {
-        at += 1;
-        if let Err(cause) = try_step(&mut simulation, &step) {
-            return Err(Fault {
-                step: at,
-                cause,
-                account: simulation.account,
-            });
-        }
-    }
-    Ok(simulation.account)
-}
-
-/// Takes a step, unless it is refused or there is no memory; then nothing has changed.
-fn try_step<H: Handler>(simulation: &mut Simulation<H>, step: &SimStep) -> Result<(), Cause>
-    requires sent { AreSent (state_of simulation.old) }
-    ensures ok { OnOk result ((fault_of step.now (state_of simulation.old) ≡ None)
-        × (state_of simulation.new ≡ after_step H.answer_of H.after step.now (state_of simulation.old))
-        × StepFits H.answer_of H.after step.now (state_of simulation.old) × AreSent (state_of simulation.new)) }
-    ensures err { IfErr result (λ cause. IsCause cause (fault_of step.now (state_of simulation.old))
-        × (state_of simulation.new ≡ state_of simulation.old)) }
-{
-    if let Some(cause) = simulation.fault(step) {
-        return Err(cause);
-    }
-    if simulation.grow().is_err() {
-        return Err(Cause::NoMemory);
-    }
-    simulation.take(step);
-    Ok(())
 }

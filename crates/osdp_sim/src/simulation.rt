@@ -1,11 +1,13 @@
 //! Both ends and the line between them.
 
-ghost use Rattle.std.specs.Prelude.{◌≡◌, ◌↔◌, IsTrue, IfOk, IfErr, None, OnOk};
+ghost use Rattle.std.specs.Prelude.{◌≡◌, ◌↔◌, IsTrue, IfOk, IfErr, None};
 ghost use Rattle.osdp_msg.specs.CommandTable.{CommandFits};
 ghost use Rattle.osdp_controller.specs.Machine as controllers;
+ghost use Rattle.osdp_sim.specs.Account as account;
+ghost use Rattle.osdp_sim.specs.Account.{lists_of};
 ghost use Rattle.osdp_sim.specs.Room.{HasRoom, state_of};
 ghost use Rattle.osdp_sim.specs.Runs.{AreSettings, IsControllerCause, IsSetUpCause, ReaderInRange};
-ghost use Rattle.osdp_sim.specs.State.{AreSent, set_up};
+ghost use Rattle.osdp_sim.specs.State.{AreSent, SimState, set_up};
 ghost use Rattle.osdp_sim.specs.Steps.{StepFits, after_step, damage_fault, fault_of, is_quiet};
 ghost use Rattle.osdp_sim.specs.declared.step.SimStep.TheVariants.{Issue, Queue, Reopen, ToController, ToReader, Wait};
 
@@ -14,6 +16,7 @@ use crate::config::SimConfig;
 use crate::fault::Cause;
 use crate::hearing::hear;
 use crate::line::{damage_fault, handed_packet, move_on, send};
+use crate::running::SimulatedLine;
 use crate::step::{Move, SimStep};
 use osdp_controller::{Controller, ControllerFault, Report};
 use osdp_frame::Burst;
@@ -105,51 +108,11 @@ impl<H: Handler> Simulation<H> {
         })
     }
 
-    /// Makes room for what one step adds.
-    pub fn grow(&mut self) -> Result<(), AllocError>
-        ensures same { state_of self.new ≡ state_of self.old }
-        ensures room { OnOk result (HasRoom self.new) }
-    {
-        self.to_reader.try_reserve(1)?;
-        self.to_controller.try_reserve(1)?;
-        self.account.grow()
-    }
-
-    /// Why a step is refused.
-    pub fn fault(&self, step: &SimStep) -> Option<Cause>
-        ensures { result ≡ fault_of step.now (state_of self.now) }
-    {
-        match step {
-            SimStep::ToReader(way) | SimStep::ToController(way) => damage_fault(way),
-            SimStep::Reopen(number) => {
-                if *number == 1 && !self.is_quiet() {
-                    Some(Cause::NotQuiet)
-                } else {
-                    None
-                }
-            }
-            SimStep::Issue(..) | SimStep::Queue(..) | SimStep::Busy(..) | SimStep::Wait(_) => None,
-        }
-    }
-
     /// Whether nothing is on the line and the session has ended.
     fn is_quiet(&self) -> bool
         ensures { result ≡ is_quiet (state_of self.now) }
     {
         self.to_reader.is_empty() && self.to_controller.is_empty() && self.controller.is_closed()
-    }
-
-    /// Takes a step that isn't refused.
-    pub fn take(&mut self, step: &SimStep)
-        requires well { fault_of step.now (state_of self.old) ≡ None }
-        requires room { HasRoom self.old }
-        requires sent { AreSent (state_of self.old) }
-        ensures state { state_of self.new ≡ after_step H.answer_of H.after step.now (state_of self.old) }
-        ensures sent { AreSent (state_of self.new) }
-        ensures fits { StepFits H.answer_of H.after step.now (state_of self.old) }
-    {
-        osdp_frame_laws::one_spelling();
-        self.change(step);
     }
 
     /// Does what a step says.
@@ -265,5 +228,58 @@ impl<H: Handler> Simulation<H> {
             self.account.tell_any(&mut self.report);
         }
         move_on(&mut self.to_controller, way);
+    }
+}
+
+impl<H: Handler> SimulatedLine for Simulation<H> {
+    type Told = Account;
+
+    ghost State = { SimState H };
+
+    ghost Lists = { account.Account };
+
+    ghost state_of = { state_of };
+
+    ghost lists_of = { lists_of };
+
+    ghost after_step = { after_step H.answer_of H.after };
+
+    ghost fault_of = { fault_of };
+
+    ghost account_of = { λ s. s.account };
+
+    ghost StepFits = { StepFits H.answer_of H.after };
+
+    ghost IsReady = { λ s. AreSent (state_of s) };
+
+    ghost HasRoom = { HasRoom };
+
+    fn fault(&self, step: &SimStep) -> Option<Cause> {
+        match step {
+            SimStep::ToReader(way) | SimStep::ToController(way) => damage_fault(way),
+            SimStep::Reopen(number) => {
+                if *number == 1 && !self.is_quiet() {
+                    Some(Cause::NotQuiet)
+                } else {
+                    None
+                }
+            }
+            SimStep::Issue(..) | SimStep::Queue(..) | SimStep::Busy(..) | SimStep::Wait(_) => None,
+        }
+    }
+
+    fn grow(&mut self) -> Result<(), AllocError> {
+        self.to_reader.try_reserve(1)?;
+        self.to_controller.try_reserve(1)?;
+        self.account.grow()
+    }
+
+    fn take(&mut self, step: &SimStep) {
+        osdp_frame_laws::one_spelling();
+        self.change(step);
+    }
+
+    fn told(self) -> Account {
+        self.account
     }
 }

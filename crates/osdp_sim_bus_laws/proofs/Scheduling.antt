@@ -19,7 +19,7 @@ use Rattle.osdp_sim_bus.specs.Runs as simulation
 use Rattle.osdp_sim_bus.specs.Runs.{FitAlong}
 use Rattle.osdp_sim_bus.specs.State.{LineState}
 use Rattle.osdp_sim_bus.specs.Steps.{after_step, fault_of}
-use Rattle.osdp_sim_laws.proofs.Ends.{first_well}
+use Rattle.osdp_sim.proofs.Schedules.{first_well}
 use Rattle.osdp_sim_bus_laws.specs.Moves.{Done, Follows, IsKnown, SchedulesAreMoves, StepsAreMoves}
 
 module _ {H : Type 0} (answer_of : H → Command → Answer) (after : H → Command → H) where

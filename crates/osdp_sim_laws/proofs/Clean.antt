@@ -28,7 +28,7 @@ use Rattle.osdp_sim.specs.Runs.{AreSettings, FitAlong, Stops, is_well, run}
 use Rattle.osdp_sim.specs.Schedules.{first_fault}
 use Rattle.osdp_sim.specs.State.{SimState, set_up}
 use Rattle.osdp_sim.specs.Steps as steps
-use Rattle.osdp_sim.specs.Steps.{fault_of, moment_after}
+use Rattle.osdp_sim.specs.Steps.{StepFits, after_step, fault_of, moment_after}
 use Rattle.osdp_sim.specs.declared.config.SimConfig.{SimConfig}
 use Rattle.osdp_sim.specs.declared.fault.Cause.{Cause}
 use Rattle.osdp_sim.specs.declared.fault.Cause.TheVariants.{HoldsPacket, NoMemory, NotQuiet, OutOfRange}
@@ -41,11 +41,12 @@ use Rattle.osdp_sim_laws.specs.Moves.{clock_after, first_link, in_bytes, moves_o
 use Rattle.osdp_sim_laws.specs.OneLink.{OneLink}
 use Rattle.osdp_sim_laws.specs.Progress.{IsRun, rounds}
 use Rattle.osdp_sim_laws.proofs.Accepting.{Accepts, among_few, accepts_commands, accepts_events, submit_is}
-use Rattle.osdp_sim_laws.proofs.Coming.{count_of, fits_on, moments_of, round_in_time, rounds_are, rounds_within, run_both, runs_on, steps_in_time, well_on}
+use Rattle.osdp_sim_laws.proofs.Coming.{count_of, moments_of, round_in_time, rounds_are, rounds_within, steps_in_time}
 use Rattle.osdp_sim_laws.proofs.Ends.{HaveEnded, run_ended}
 use Rattle.osdp_sim_laws.proofs.Holding.{IsWithin, begins, goes_from_first, no_account, run_within, steps_within}
 use Rattle.osdp_sim_laws.proofs.Moments.{LinkInTime, clock_on, last_moment}
-use Rattle.osdp_sim_laws.proofs.Schedules.{Follows, GoesFrom, goes_from, goes_on, schedule_follows}
+use Rattle.osdp_sim.proofs.Schedules.{holds_on, runs_on, well_on}
+use Rattle.osdp_sim_laws.proofs.Schedules.{Follows, GoesFrom, goes_from, goes_on, run_both, schedule_follows}
 
 -- ---- orders
 
@@ -325,8 +326,8 @@ module _ {H : Type 0} (answer_of : H → Command → Answer) (after : H → Comm
       let l = first_link config handler in
       let start = set_up config handler in
       let more = clean_rounds n in
-      let well = well_on answer_of after orders more start is.well in
-      let fits = fits_on answer_of after orders more start is.fits in
+      let well = well_on (after_step answer_of after) fault_of orders more start is.well in
+      let fits = holds_on (after_step answer_of after) (StepFits answer_of after) orders more start is.fits in
       let device = is.settings.controller.config_in_range.address in
       let from = goes_from_first answer_of after given config handler device in
       let first = schedule_follows answer_of after given.reads given.told orders l 0 no_account from well.0 fits.0 in
@@ -346,7 +347,7 @@ module _ {H : Type 0} (answer_of : H → Command → Answer) (after : H → Comm
       let begun = begins answer_of after config handler device in
       let kept = steps_within answer_of after orders 0 (orders_within orders are) in
       let both = each_append (IsWithin answer_of after) ms ns kept (steps_within answer_of after more 0 (clean_within n)) in
-      let ended : run answer_of after (orders ++ more) start ≡ end = runs_on answer_of after orders more start in
+      let ended : run answer_of after (orders ++ more) start ≡ end = runs_on (after_step answer_of after) orders more start in
       let all_none = subst (λ s. Each SetsNoAddress s.account.issued) ended none in
       let first_lists = same_lists config handler before ms (clock_after orders 0) first kept in
       let none_before = subst (Each SetsNoAddress) first_lists.issued

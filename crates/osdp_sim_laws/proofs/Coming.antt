@@ -1,5 +1,5 @@
 -- Rounds that lose nothing, over bytes.
-use Rattle.std.proofs.Common.{◌≡◌, ◌≤◌, ◌<◌, ◌+◌, ◌&&◌, ℕ, zero, suc, Bool, true, false, ◌==◌, if◌then◌else◌, arith, List, [], ◌∷◌, ◌++◌, length, All, Option, Some, None, is_none, inl, inr, refl, sym, subst, ap, ◌∙◌, append_assoc}
+use Rattle.std.proofs.Common.{◌≡◌, ◌≤◌, ◌<◌, ◌+◌, ℕ, zero, suc, Bool, true, false, ◌==◌, if◌then◌else◌, arith, List, [], ◌∷◌, ◌++◌, length, All, inl, inr, refl, sym, subst, ap, ◌∙◌, append_assoc}
 use Rattle.std.specs.Prelude.{map}
 use Rattle.osdp_frame.specs.Packet.{Packet}
 use Rattle.osdp_frame.specs.Spelling.{spelling}
@@ -23,21 +23,21 @@ use Rattle.osdp_link_laws.specs.Ends.{count}
 use Rattle.osdp_sim.specs.Account.{Account}
 use Rattle.osdp_sim.specs.Runs.{FitAlong, is_well, run}
 use Rattle.osdp_sim.specs.State.{SimState, set_up}
-use Rattle.osdp_sim.specs.Steps.{after_step, fault_of, moment_after}
-use Rattle.osdp_sim.specs.declared.fault.Cause.{Cause}
+use Rattle.osdp_sim.specs.Steps.{StepFits, after_step, fault_of, moment_after}
 use Rattle.osdp_sim.specs.declared.config.SimConfig.{SimConfig}
 use Rattle.osdp_sim.specs.declared.step.SimStep.{SimStep}
 use Rattle.osdp_sim.specs.declared.step.SimStep.TheVariants.{Issue, Queue, Busy, Wait, ToReader, ToController, Reopen}
 use Rattle.osdp_sim_laws.specs.Accounts.{IsInSession, all_in}
 use Rattle.osdp_sim_laws.specs.Moves.{clock_after, step_clock, delivery, first_link, in_bytes, move_of, moves_of}
 use Rattle.osdp_sim_laws.specs.OneLink.{OneLink}
-use Rattle.osdp_sim_laws.specs.Progress.{ComesOn, ComesThrough, IsClear, Recovers, clear, rounds}
+use Rattle.osdp_sim_laws.specs.Progress.{ComesOn, ComesThrough, IsClear, IsRun, Recovers, clear, rounds}
 use Rattle.osdp_sim_laws.proofs.Clearing.{AtMost, Cleared, clears, losses_within, steps_few}
 use Rattle.osdp_sim_laws.proofs.Accounts.{some_begun}
-use Rattle.osdp_sim_laws.proofs.Ends.{HaveEnded, first_well, run_ended}
+use Rattle.osdp_sim.proofs.Schedules.{holds_on, runs_on, well_on}
+use Rattle.osdp_sim_laws.proofs.Ends.{HaveEnded, run_ended}
 use Rattle.osdp_sim_laws.proofs.Holding.{IsWithin, begins, goes_from_first, no_account, run_within, steps_within}
 use Rattle.osdp_sim_laws.proofs.Moments.{LinkInTime, begins_in_time, clock_on, controller_in_time, last_moment, queues_in_time, reader_in_time, submits_in_time, tick_in_time}
-use Rattle.osdp_sim_laws.proofs.Schedules.{Follows, goes_from, goes_on, schedule_follows}
+use Rattle.osdp_sim_laws.proofs.Schedules.{Follows, goes_from, goes_on, run_both, schedule_follows}
 use Rattle.osdp_controller.specs.Machine as controllers
 
 -- the moments of so many rounds
@@ -96,17 +96,13 @@ module _ {H : Type 0} (answer_of : H → Command → Answer) (after : H → Comm
   clock_fits (ToController move) clock fits = fits
   clock_fits (Reopen number) clock fits = fits
 
-  pub run_both : (ms ns : List link.Move) (l : Link H) → link.run answer_of after (ms ++ ns) l ≡ link.run answer_of after ns (link.run answer_of after ms l)
-  run_both [] ns l = refl
-  run_both (m ∷ ms) ns l = run_both ms ns (link.after_move answer_of after m l)
-
   pub steps_in_time : (wait : ℕ) (steps : List SimStep) (clock : ℕ) (l : Link H) → clock ≤ last_moment → LinkInTime clock wait l
       → (clock_after steps clock ≤ last_moment) × LinkInTime (clock_after steps clock) wait (link.run answer_of after (moves_of steps clock) l)
   steps_in_time wait [] clock l fits is = (fits, is)
   steps_in_time wait (step ∷ steps) clock l fits is =
       let now = step_clock step clock in
       let rest = steps_in_time wait steps now (link.run answer_of after (move_of step clock) l) (clock_fits step clock fits) (step_in_time wait step clock l fits is) in
-      (rest.0, subst (LinkInTime (clock_after steps now) wait) (sym (run_both (move_of step clock) (moves_of steps now) l)) rest.1)
+      (rest.0, subst (LinkInTime (clock_after steps now) wait) (sym (run_both answer_of after (move_of step clock) (moves_of steps now) l)) rest.1)
 
   -- a round that loses nothing, at a moment
   pub round_in_time : (clock now wait : ℕ) (l : Link H) → clock ≤ now → LinkInTime clock wait l → LinkInTime now wait (link.run answer_of after (progress.round now) l)
@@ -125,32 +121,6 @@ module _ {H : Type 0} (answer_of : H → Command → Answer) (after : H → Comm
         omega (arith, is.0, is.1, fits),
         are_late m wait now (link.run answer_of after (progress.round now) l) on.1 (round_in_time clock now wait l on.0 is),
       )
-
-  -- ---- two schedules, one after the other
-
-  pub runs_on : (xs ys : List SimStep) (s : SimState H) → run answer_of after (xs ++ ys) s ≡ run answer_of after ys (run answer_of after xs s)
-  runs_on [] ys s = refl
-  runs_on (x ∷ xs) ys s = runs_on xs ys (after_step answer_of after x s)
-
-  pub well_on : (xs ys : List SimStep) (s : SimState H) → is_well answer_of after (xs ++ ys) s ≡ true
-      → (is_well answer_of after xs s ≡ true) × (is_well answer_of after ys (run answer_of after xs s) ≡ true)
-  well_on [] ys s well = (refl, well)
-  well_on (x ∷ xs) ys s well =
-      let next = after_step answer_of after x s in
-      let first = first_well (fault_of x s) (is_well answer_of after (xs ++ ys) next) well in
-      let rest = well_on xs ys next first.1 in
-      (none_and (fault_of x s) (is_well answer_of after xs next) first.0 rest.0, rest.1)
-    where
-      none_and : (fault : Option Cause) (more : Bool) → fault ≡ None → more ≡ true → (is_none fault && more) ≡ true
-      none_and None more none e = e
-      none_and (Some cause) more none e = absurd cc
-
-  pub fits_on : (xs ys : List SimStep) (s : SimState H) → FitAlong answer_of after (xs ++ ys) s
-      → FitAlong answer_of after xs s × FitAlong answer_of after ys (run answer_of after xs s)
-  fits_on [] ys s fits = (tt, fits)
-  fits_on (x ∷ xs) ys s fits =
-      let rest = fits_on xs ys (after_step answer_of after x s) fits.1 in
-      ((fits.0, rest.0), rest.1)
 
   -- ---- the lists of one session
 
@@ -180,6 +150,36 @@ module _ {H : Type 0} (answer_of : H → Command → Answer) (after : H → Comm
         queued = ap length (carried.queued ∙ events.2 ∙ ap (λ e. e ++ later.account.queued) gone);
       }
 
+  -- ---- steps, and more of them, as moves of the link
+
+  record InTwo (config : SimConfig) (handler : H) (steps more : List SimStep) : Type 0 where
+    pub first : Follows answer_of after (run answer_of after steps (set_up config handler)) (moves_of steps 0) (first_link config handler)
+        (clock_after steps 0) no_account
+    pub next : let later = link.run answer_of after (moves_of steps 0) (first_link config handler) in
+        let clock = clock_after steps 0 in
+        let a = (run answer_of after steps (set_up config handler)).account in
+        Follows answer_of after (run answer_of after more (in_bytes later clock a)) (moves_of more clock) later (clock_after more clock) a
+
+  in_two : OneLink answer_of after → (config : SimConfig) (handler : H) (steps more : List SimStep) → IsRun answer_of after config handler (steps ++ more)
+      → InTwo config handler steps more
+  in_two given config handler steps more is =
+      let l = first_link config handler in
+      let start = set_up config handler in
+      let well = well_on (after_step answer_of after) fault_of steps more start is.well in
+      let fits = holds_on (after_step answer_of after) (StepFits answer_of after) steps more start is.fits in
+      let from = goes_from_first answer_of after given config handler is.settings.controller.config_in_range.address in
+      let first = schedule_follows answer_of after given.reads given.told steps l 0 no_account from well.0 fits.0 in
+      let ms = moves_of steps 0 in
+      let clock = clock_after steps 0 in
+      let before = run answer_of after steps start in
+      let there : before ≡ in_bytes (link.run answer_of after ms l) clock before.account = first.carried.state in
+      record {
+        first = first;
+        next = schedule_follows answer_of after given.reads given.told more (link.run answer_of after ms l) clock before.account
+            (goes_from answer_of after before ms l 0 clock no_account from first (run_ended answer_of after given.told steps start well.0 refl))
+            (subst (λ s. is_well answer_of after more s ≡ true) there well.1) (subst (FitAlong answer_of after more) there fits.1);
+      }
+
   -- ---- something comes through
 
   -- a session that is over has an end
@@ -195,22 +195,17 @@ module _ {H : Type 0} (answer_of : H → Command → Answer) (after : H → Comm
       let l = first_link config handler in
       let start = set_up config handler in
       let more = rounds m wait in
-      let well = well_on steps more start is.well in
-      let fits = fits_on steps more start is.fits in
-      let from = goes_from_first answer_of after given config handler is.settings.controller.config_in_range.address in
-      let first = schedule_follows answer_of after given.reads given.told steps l 0 no_account from well.0 fits.0 in
+      let two = in_two given config handler steps more is in
+      let first = two.first in
       let ms = moves_of steps 0 in
       let clock = clock_after steps 0 in
       let later = link.run answer_of after ms l in
       let before = run answer_of after steps start in
       let there : before ≡ in_bytes later clock before.account = first.carried.state in
-      let then_ = schedule_follows answer_of after given.reads given.told more later clock before.account
-      (goes_from answer_of after before ms l 0 clock no_account from first (run_ended answer_of after given.told steps start well.0 refl))
-      (subst (λ s. is_well answer_of after more s ≡ true) there well.1) (subst (FitAlong answer_of after more) there fits.1) in
       let ns = moves_of more clock in
       let last = link.run answer_of after ns later in
       let end = run answer_of after more before in
-      let next = subst (λ s. Follows answer_of after (run answer_of after more s) ns later (clock_after more clock) before.account) (sym there) then_ in
+      let next = subst (λ s. Follows answer_of after (run answer_of after more s) ns later (clock_after more clock) before.account) (sym there) two.next in
       let whole = goes_on answer_of after before end ms ns l clock (clock_after more clock) no_account first next in
       let device = is.settings.controller.config_in_range.address in
       let begun = begins answer_of after config handler device in
@@ -227,13 +222,13 @@ module _ {H : Type 0} (answer_of : H → Command → Answer) (after : H → Comm
         ready = sym (ap (λ (s : SimState H). s.reader.busy) there) ∙ clear.ready;
         issued = subst (All SetsNoAddress) first_lists.issued clear.issued;
       } in
-      let moves = subst (λ list. headline.AreMoves answer_of after list later) (rounds_are m wait clock) then_.moves in
+      let moves = subst (λ list. headline.AreMoves answer_of after list later) (rounds_are m wait clock) two.next.moves in
       let found = in_time l ms (moments_of m wait clock) begun range first.moves quiet (are_late m wait clock later timely.0 timely.1) moves in
       let same : link.run answer_of after (progress.rounds (moments_of m wait clock)) later ≡ last =
       ap (λ list. link.run answer_of after list later) (sym (rounds_are m wait clock)) in
-      let joined : link.run answer_of after (ms ++ ns) l ≡ last = run_both ms ns l in
+      let joined : link.run answer_of after (ms ++ ns) l ≡ last = run_both answer_of after ms ns l in
       let long_list : AsLong end.account last.account = subst (λ k. AsLong end.account k.account) joined last_lists in
-      let ended : run answer_of after (steps ++ more) start ≡ end = runs_on steps more start in
+      let ended : run answer_of after (steps ++ more) start ≡ end = runs_on (after_step answer_of after) steps more start in
       let all_ended = run_ended answer_of after given.told (steps ++ more) start is.well refl in
       subst (λ s. s.account.ends ≡ [] → ComesOn m before.account s.account) (sym ended)
       (λ none. elim found [
@@ -264,20 +259,15 @@ module _ {H : Type 0} (answer_of : H → Command → Answer) (after : H → Comm
       let all_steps = steps ++ clear steps in
       let more = rounds m wait in
       let before = run answer_of after all_steps start in
-      let well = well_on all_steps more start is.well in
-      let fits = fits_on all_steps more start is.fits in
-      let from = goes_from_first answer_of after given config handler is.settings.controller.config_in_range.address in
-      let first = schedule_follows answer_of after given.reads given.told all_steps l 0 no_account from well.0 fits.0 in
+      let two = in_two given config handler all_steps more is in
+      let first = two.first in
       let ms = moves_of all_steps 0 in
       let clock = clock_after all_steps 0 in
       let later = link.run answer_of after ms l in
       let there : before ≡ in_bytes later clock before.account = first.carried.state in
-      let next = schedule_follows answer_of after given.reads given.told more later clock before.account
-      (goes_from answer_of after before ms l 0 clock no_account from first (run_ended answer_of after given.told all_steps start well.0 refl))
-      (subst (λ s. is_well answer_of after more s ≡ true) there well.1) (subst (FitAlong answer_of after more) there fits.1) in
       let ended : run answer_of after (all_steps ++ more) start ≡ run answer_of after more (in_bytes later clock before.account) =
-      runs_on all_steps more start ∙ ap (run answer_of after more) there in
-      let issued = ap (λ (s : SimState H). s.account.issued) ended ∙ next.carried.issued in
+      runs_on (after_step answer_of after) all_steps more start ∙ ap (run answer_of after more) there in
+      let issued = ap (λ (s : SimState H). s.account.issued) ended ∙ two.next.carried.issued in
       let none_before : Each SetsNoAddress before.account.issued =
       each_front SetsNoAddress before.account.issued (all_submitted answer_of after (moves_of more clock) later)
       (subst (Each SetsNoAddress) issued (each_of SetsNoAddress (run answer_of after (all_steps ++ more) start).account.issued none)) in
@@ -289,7 +279,7 @@ module _ {H : Type 0} (answer_of : H → Command → Answer) (after : H → Comm
       let few : AtMost (length steps) middle = (omega (arith, at_most.0), omega (arith, at_most.1)) in
       let over = clears answer_of after steps (clock_after steps 0) middle few in
       let is_after : later ≡ link.run answer_of after (moves_of (clear steps) (clock_after steps 0)) middle =
-      ap (λ list. link.run answer_of after list l) (moves_on steps (clear steps) 0) ∙ run_both (moves_of steps 0) (moves_of (clear steps) (clock_after steps 0)) l in
+      ap (λ list. link.run answer_of after list l) (moves_on steps (clear steps) 0) ∙ run_both answer_of after (moves_of steps 0) (moves_of (clear steps) (clock_after steps 0)) l in
       let quiet : Cleared answer_of after later = subst (Cleared answer_of after) (sym is_after) over in
       let is_clear : IsClear before = record {
         to_reader = ap (λ (s : SimState H). s.to_reader) there ∙ ap (map spelling) quiet.to_reader;

@@ -1,5 +1,5 @@
 -- Each session that has ended has one end.
-use Rattle.std.proofs.Common.{◌≡◌, ◌+◌, Bool, true, false, not, ◌&&◌, ◌||◌, ◌==◌, if◌then◌else◌, arith, List, [], ◌∷◌, length, Option, Some, None, is_none, refl, ap, ◌∙◌}
+use Rattle.std.proofs.Common.{◌≡◌, ◌+◌, Bool, true, false, not, ◌&&◌, ◌||◌, ◌==◌, if◌then◌else◌, arith, List, [], ◌∷◌, length, Option, Some, None, refl, ap, ◌∙◌}
 use Rattle.std.proofs.lemmas.List.{length-append}
 use Rattle.osdp_frame.specs.Packet.{Packet}
 use Rattle.osdp_msg.specs.declared.command.Command.{Command}
@@ -17,6 +17,7 @@ use Rattle.osdp_controller_laws.specs.Commands.{tells_end}
 use Rattle.osdp_controller_laws.proofs.Closed.{silent_frame, silent_tick}
 use Rattle.osdp_reader.specs.declared.handler.Answer.{Answer as HandlerAnswer}
 use Rattle.osdp_link_laws.specs.Ends.{count}
+use Rattle.osdp_sim.proofs.Schedules.{first_well}
 use Rattle.osdp_sim.specs.Account.{Account, lengths_of, with_report}
 use Rattle.osdp_sim.specs.Line.{handed, packets_in}
 use Rattle.osdp_sim.specs.Runs.{is_well, run}
@@ -24,16 +25,10 @@ use Rattle.osdp_sim.specs.State.{SimState}
 use Rattle.osdp_sim.specs.Steps as steps
 use Rattle.osdp_sim.specs.Steps.{after_step, controller_hears, fault_of, moment_after, reader_hears}
 use Rattle.osdp_sim.specs.declared.account.End.TheVariants as ending
-use Rattle.osdp_sim.specs.declared.fault.Cause.{Cause}
 use Rattle.osdp_sim.specs.declared.fault.Cause.TheVariants.{NotQuiet}
 use Rattle.osdp_sim.specs.declared.step.SimStep.{SimStep}
 use Rattle.osdp_sim.specs.declared.step.SimStep.TheVariants.{Issue, Queue, Busy, Wait, ToReader, ToController, Reopen}
 use Rattle.osdp_sim_laws.specs.OneLink.{EndsAreTold}
-
--- the first step is well, and so are the others
-pub first_well : (fault : Option Cause) (rest : Bool) → (is_none fault && rest) ≡ true → (fault ≡ None) × (rest ≡ true)
-first_well None rest e = (refl, e)
-first_well (Some cause) rest e = absurd cc
 
 ends_of_report : (r : Option Report) (a : Account) → length (with_report r a).ends ≡ length a.ends + count (tells_end r)
 ends_of_report None a = omega arith

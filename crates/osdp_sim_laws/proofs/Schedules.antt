@@ -31,7 +31,8 @@ use Rattle.osdp_sim_laws.specs.OneLink.{EndsAreTold, ReadsPackets}
 use Rattle.osdp_sim_laws.specs.Moves.{clock_after, step_clock, in_bytes, move_of, moves_of}
 use Rattle.osdp_sim_laws.proofs.Carrying.{ArePackets, HasLeft, IsCarried, is_quiet, issuing, nothing, queueing, reopening, setting_busy, ticking}
 use Rattle.osdp_sim_laws.proofs.Delivering.{says_what_fits, to_controller, to_reader}
-use Rattle.osdp_sim_laws.proofs.Ends.{HaveEnded, first_well, step_ended}
+use Rattle.osdp_sim.proofs.Schedules.{first_well}
+use Rattle.osdp_sim_laws.proofs.Ends.{HaveEnded, step_ended}
 
 module _ {H : Type 0} (answer_of : H → Command → Answer) (after : H → Command → H) where
   -- the simulation is carried on by these moves
@@ -40,7 +41,7 @@ module _ {H : Type 0} (answer_of : H → Command → Answer) (after : H → Comm
     pub moves : AreMoves answer_of after ms l
 
   -- lists of moves, one after the other
-  run_both : (ms ns : List link.Move) (l : Link H) → link.run answer_of after (ms ++ ns) l ≡ link.run answer_of after ns (link.run answer_of after ms l)
+  pub run_both : (ms ns : List link.Move) (l : Link H) → link.run answer_of after (ms ++ ns) l ≡ link.run answer_of after ns (link.run answer_of after ms l)
   run_both [] ns l = refl
   run_both (m ∷ ms) ns l = run_both ms ns (after_move answer_of after m l)
 
@@ -141,29 +142,29 @@ module _ {H : Type 0} (answer_of : H → Command → Answer) (after : H → Comm
 
   -- ---- more moves
 
+  -- what each move adds is gathered over the one list and then over the other
+  gathered_both : {X : Type 0} (of : link.Move → Link H → List X) (all : List link.Move → Link H → List X)
+      → ((l : Link H) → all [] l ≡ [])
+      → ((m : link.Move) (ms : List link.Move) (l : Link H) → all (m ∷ ms) l ≡ of m l ++ all ms (after_move answer_of after m l))
+      → (ms ns : List link.Move) (l : Link H) → all (ms ++ ns) l ≡ all ms l ++ all ns (link.run answer_of after ms l)
+  gathered_both of all none more [] ns l = sym (ap (λ xs. xs ++ all ns l) (none l))
+  gathered_both of all none more (m ∷ ms) ns l =
+      let next = after_move answer_of after m l in
+      let others = all ns (link.run answer_of after ms next) in
+      more m (ms ++ ns) l ∙ ap (λ xs. of m l ++ xs) (gathered_both of all none more ms ns next)
+      ∙ sym (append_assoc (of m l) (all ms next) others) ∙ sym (ap (λ xs. xs ++ others) (more m ms l))
+
   submitted_both : (ms ns : List link.Move) (l : Link H)
       → all_submitted answer_of after (ms ++ ns) l ≡ all_submitted answer_of after ms l ++ all_submitted answer_of after ns (link.run answer_of after ms l)
-  submitted_both [] ns l = refl
-  submitted_both (m ∷ ms) ns l =
-      let next = after_move answer_of after m l in
-      ap (λ cs. submitted m l ++ cs) (submitted_both ms ns next)
-      ∙ sym (append_assoc (submitted m l) (all_submitted answer_of after ms next) (all_submitted answer_of after ns (link.run answer_of after ms next)))
+  submitted_both = gathered_both submitted (all_submitted answer_of after) (λ l. refl) (λ m ms l. refl)
 
   queued_both : (ms ns : List link.Move) (l : Link H)
       → all_queued answer_of after (ms ++ ns) l ≡ all_queued answer_of after ms l ++ all_queued answer_of after ns (link.run answer_of after ms l)
-  queued_both [] ns l = refl
-  queued_both (m ∷ ms) ns l =
-      let next = after_move answer_of after m l in
-      ap (λ es. queued m l ++ es) (queued_both ms ns next)
-      ∙ sym (append_assoc (queued m l) (all_queued answer_of after ms next) (all_queued answer_of after ns (link.run answer_of after ms next)))
+  queued_both = gathered_both queued (all_queued answer_of after) (λ l. refl) (λ m ms l. refl)
 
   reports_both : (ms ns : List link.Move) (l : Link H)
       → reports answer_of after (ms ++ ns) l ≡ reports answer_of after ms l ++ reports answer_of after ns (link.run answer_of after ms l)
-  reports_both [] ns l = refl
-  reports_both (m ∷ ms) ns l =
-      let next = after_move answer_of after m l in
-      ap (λ rs. option_to_list (told_by m l) ++ rs) (reports_both ms ns next)
-      ∙ sym (append_assoc (option_to_list (told_by m l)) (reports answer_of after ms next) (reports answer_of after ns (link.run answer_of after ms next)))
+  reports_both = gathered_both (λ m l. option_to_list (told_by m l)) (reports answer_of after) (λ l. refl) (λ m ms l. refl)
 
   -- more after what follows
   pub goes_on : (s t : SimState H) (ms ns : List link.Move) (l : Link H) (clock later : ℕ) (a : Account) → Follows s ms l clock a

@@ -1,9 +1,8 @@
 use Rattle.std.proofs.Common.{◌≡◌, ◌-◌, ◌++◌, ◌∷◌, [], ℕ, arith, length, ap, rules, slice_index_or, slice_set, ◌∙◌}
-use Rattle.std.proofs.Math.Seq.{set-append_seam}
+use Rattle.std.proofs.Math.Seq.{get_or-append_seam, set-append_seam}
 use Rattle.std.proofs.lemmas.List.{length-append}
 use Rattle.std.specs.VecDeque.{deque_len}
 use Rattle.arrayvec.specs.ArrayVec.{ArrayVec}
-use Rattle.osdp_sim.proofs.Bursts.{last_place}
 use Rattle.osdp_sim.proofs.line.send.Goals as goal
 
 pub returns-in-Some-clause-items : goal.returns-in-Some-clause-items
@@ -16,7 +15,7 @@ returns-in-Some-clause-items c =
     omega (arith, ap length pushed, length-append old (c.new.result ∷ [])) in
     let empty : place ≡ c.new.result =
     c.in-Some.ensures.value ∙ ap (λ n. slice_index_or c.push_back_reserved.new.self.items n place) last
-    ∙ ap (λ l. slice_index_or l (length old) place) pushed ∙ last_place old c.new.result place in
+    ∙ ap (λ l. slice_index_or l (length old) place) pushed ∙ get_or-append_seam old c.new.result [] place in
     let none : place.items ≡ [] = ap (λ (b : ArrayVec ℕ). b.items) empty ∙ c.new.ensures in
     let same : sent ≡ c.args.burst.now = search (rules, none) in
     ap (λ l. slice_set l (deque_len c.push_back_reserved.new.self - 1) sent) pushed

@@ -1,18 +1,17 @@
-use Rattle.std.proofs.Common.{ap, arith, length, ◌∙◌}
-use Rattle.osdp_sim.specs.Room.{state_of}
-use Rattle.osdp_sim.specs.Steps.{StepFits, after_step, fault_of}
+use Rattle.std.proofs.Common.{ap, arith, length}
 use Rattle.osdp_sim.proofs.Schedules.{goes_on}
-use Rattle.osdp_sim.proofs.session.run_steps.Goals as goal
+use Rattle.osdp_sim.proofs.running.run_steps.Goals as goal
 
 pub steps-preserved : goal.steps-preserved
 steps-preserved g c =
+    let line = g.L.SimulatedLine in
     let well = c.in_default-try_step.ensures.ok in
     let cut = c.in-Some.ensures in
     record {
-      come = goes_on (after_step g.H.Handler.answer_of g.H.Handler.after) fault_of (StepFits g.H.Handler.answer_of g.H.Handler.after)
+      come = goes_on line.after_step line.fault_of line.StepFits
           (g.S.Schedule.left c.args.schedule) c.steps.at c.in-Some.step (g.S.Schedule.left c.steps.schedule) (g.S.Schedule.left c.next.new.self)
-          (state_of c.args.simulation) (state_of c.steps.simulation) (state_of c.try_step.new.simulation)
+          (line.state_of c.args.line) (line.state_of c.steps.line) (line.state_of c.try_step.new.line)
           c.steps.invariant.come cut well.0 well.1 well.2;
-      sent = well.3;
+      ready = c.try_step.ensures.ready;
       count = omega (arith, c.steps.invariant.count, ap length cut);
     }

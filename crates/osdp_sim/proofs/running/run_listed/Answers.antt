@@ -1,0 +1,17 @@
+use Rattle.std.proofs.Common.{ap, arith, length}
+use Rattle.osdp_sim.proofs.Schedules.{goes_on}
+use Rattle.osdp_sim.proofs.running.run_listed.Goals as goal
+
+pub steps-preserved : goal.steps-preserved
+steps-preserved g c =
+    let line = g.L.SimulatedLine in
+    let well = c.in_default-try_step.ensures.ok in
+    let cut = c.in-Some.ensures.cases.0 in
+    record {
+      come = goes_on line.after_step line.fault_of line.StepFits
+          c.args.steps.now c.steps.number c.in-Some.step.now c.steps.left.now c.in-Some.rest.now
+          (line.state_of c.args.line) (line.state_of c.steps.line) (line.state_of c.try_step.new.line)
+          c.steps.invariant.come cut well.0 well.1 well.2;
+      ready = c.try_step.ensures.ready;
+      count = omega (arith, c.steps.invariant.count, ap length cut);
+    }
