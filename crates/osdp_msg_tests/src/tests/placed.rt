@@ -44,7 +44,7 @@ fn is_put(
 fn is_copied(rt: &impl Abort, command: &Command, copied: &mut Command, code: u8, data: &[u8]) {
     let mut written = copied.write();
     command.copy_into(copied);
-    assert!(rt; copied == command);
+    assert!(rt; *copied == *command);
     copied.write_into(&mut written);
     is_spelled(rt, written.as_slice(), code, data);
 }
