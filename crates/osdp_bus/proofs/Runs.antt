@@ -1,17 +1,17 @@
 -- Runs of bytes that are read item by item and piece by piece.
-use Rattle.std.proofs.Common.{◌≡◌, ℕ, ◌+◌, ◌-◌, ◌<◌, ◌≤◌, ◌==◌, ◌&&◌, not, Bool, true, false, cond, min, List, [], ◌∷◌, ◌++◌, length, take, drop, Some, None, refl, sym, subst, ap, ◌∙◌, arith, append_assoc, append-nil, length-drop, take-append-drop}
+use Rattle.std.proofs.Common.{◌≡◌, ℕ, ◌+◌, ◌-◌, ◌<◌, ◌==◌, ◌&&◌, not, Bool, true, false, List, [], ◌∷◌, ◌++◌, length, take, drop, Some, None, refl, sym, subst, ap, ◌∙◌, arith, append_assoc, append-nil, length-drop, take-append-drop}
 use Rattle.std.proofs.Math.Seq.{drop-drop}
-use Rattle.std.proofs.lemmas.List.{drop-append-le, take_all}
-use Rattle.std.proofs.lemmas.Bool.{ne_eqb, false≢true}
+use Rattle.std.proofs.lemmas.List.{take_all}
+use Rattle.std.proofs.lemmas.Bool.{false≢true}
 use Rattle.osdp_frame.specs.Bytes.{AreBytes}
 use Rattle.osdp_frame.specs.Reading.{Part, part_size, total_size, IsReading}
 use Rattle.osdp_frame.specs.Held.{Held, decided, later, after_first, after_advance, after_gap, after_push, taken_count}
-use Rattle.osdp_frame.specs.Items.{items, reading, left_over}
-use Rattle.osdp_frame.proofs.Head.{AreBytes-drop}
-use Rattle.osdp_frame.proofs.Decided.{AreBytes-front}
+use Rattle.osdp_frame.specs.Items.{items, left_over}
+use Rattle.osdp_frame.proofs.Head.{AreBytes-drop, AreBytes-take}
 use Rattle.osdp_frame_laws.proofs.LawsOfSpellings.{AreBytes-append}
+use Rattle.osdp_frame_laws.proofs.LeftOver.{gap_items, gap_some, later_some, left_nothing, left_over-append, left_same, some_ended}
 use Rattle.osdp_frame_laws.proofs.OneByOne.{items_after, items_on}
-use Rattle.osdp_frame_laws.proofs.Readings.{decided_nothing, items_undecided, items-append, undecided_small, sizes_reading, is_reading}
+use Rattle.osdp_frame_laws.proofs.Readings.{items_undecided, items-append, is_reading}
 use Rattle.osdp_bus.specs.Buses.{BusState, Devices}
 use Rattle.osdp_bus.specs.Hearing.{ends_run, hears_item, hears_items}
 use Rattle.osdp_bus.specs.Private.{IsHeld, IsRead, rest_of}
@@ -21,16 +21,6 @@ hears_items-append now [] ys ds = refl
 hears_items-append now (x ∷ xs) ys ds = hears_items-append now xs ys (hears_item now x ds)
 
 -- ---- item by item
-
-items_nothing : (ended : Bool) → items ended [] ≡ []
-items_nothing ended = items_undecided ended [] (decided_nothing ended)
-
-some_ended : (b : ℕ) (bytes : List ℕ) → not (length (b ∷ bytes) == 0) ≡ true
-some_ended b bytes = ap not (ne_eqb (length (b ∷ bytes)) 0 (λ h. omega arith))
-
-left_nothing : left_over [] ≡ []
-unfolding left_over
-left_nothing = ap (λ parts. drop (total_size parts) []) (items_nothing false)
 
 left_after : (bytes : List ℕ) (part : Part) → decided false bytes ≡ Some part → left_over (drop (part_size part) bytes) ≡ left_over bytes
 unfolding left_over
@@ -53,13 +43,8 @@ advanced_is held next part is advanced = advanced ∙ ap (after_first held) is
 held_after : (held : Held) (part : Part) → IsHeld held → IsHeld (later held part)
 held_after held part run = record {
   bytes = AreBytes-drop (part_size part) held.bytes run.bytes;
-  some = by_rest held.ended (drop (part_size part) held.bytes);
+  some = later_some held part;
 }
-  where
-    by_rest : (ended : Bool) (rest : List ℕ) → (ended && not (length rest == 0)) ≡ true → 0 < length rest
-    by_rest true [] e = absurd cc
-    by_rest false [] e = absurd cc
-    by_rest ended (b ∷ rest) e = omega arith
 
 -- an item is read: what is left then
 pub record ReadOn (now : ℕ) (held next : Held) (ds next_ds : Devices) : Type 0 where
@@ -86,10 +71,6 @@ nothing_ended true bytes fits some none =
     let nil : bytes ≡ [] = subst (λ l. IsReading bytes l) (items_undecided true bytes none) (is_reading bytes fits) in
     absurd (let more = some refl in let l = ap length nil in omega arith)
 
-left_same : (bytes : List ℕ) → decided false bytes ≡ None → left_over bytes ≡ bytes
-unfolding left_over
-left_same bytes none = ap (λ parts. drop (total_size parts) bytes) (items_undecided false bytes none)
-
 pub record AllRead (held : Held) : Type 0 where
   pub read : IsRead held
   pub items : items held.ended held.bytes ≡ []
@@ -107,71 +88,19 @@ all_read held run none =
 
 -- ---- a run that is over
 
-pub gap_items : (bytes : List ℕ) → items (not (length bytes == 0)) bytes ≡ items true bytes
-gap_items [] = items_nothing (not (length {A = ℕ} [] == 0)) ∙ sym (items_nothing true)
-gap_items (b ∷ bytes) = ap (λ t. items t (b ∷ bytes)) (some_ended b bytes)
-
 pub gap_rest : (bytes : List ℕ) → rest_of (not (length bytes == 0)) bytes ≡ []
 gap_rest bytes = rest_ended bytes
 
 pub gap_held : (held : Held) → AreBytes held.bytes → IsHeld (after_gap held)
-gap_held held fits = record { bytes = fits; some = by_bytes held.bytes }
-  where
-    by_bytes : (bytes : List ℕ) → not (length bytes == 0) ≡ true → 0 < length bytes
-    by_bytes [] e = absurd cc
-    by_bytes (b ∷ bytes) e = omega arith
+gap_held held fits = record { bytes = fits; some = gap_some held.bytes }
 
 -- ---- piece by piece
-
-total_size-append : (xs ys : List Part) → total_size (xs ++ ys) ≡ total_size xs + total_size ys
-total_size-append [] ys = omega arith
-total_size-append (x ∷ xs) ys = omega (arith, total_size-append xs ys)
-
-decided_short : (bytes : List ℕ) → AreBytes bytes → total_size (items false bytes) ≤ length bytes
-decided_short bytes fits =
-    let all = sizes_reading bytes (reading bytes) (is_reading bytes fits) in
-    let split : reading bytes ≡ items false bytes ++ items true (left_over bytes) =
-    ap (items true) (sym (append-nil bytes)) ∙ items-append true bytes [] (subst AreBytes (sym (append-nil bytes)) fits)
-    ∙ ap (λ l. items false bytes ++ items true l) (append-nil (left_over bytes)) in
-    let parts = ap total_size split in
-    omega (arith, total_size-append (items false bytes) (items true (left_over bytes)))
-
-pub left_over-append : (xs ys : List ℕ) → AreBytes (xs ++ ys) → left_over (xs ++ ys) ≡ left_over (left_over xs ++ ys)
-unfolding left_over
-left_over-append xs ys fits =
-    let a = total_size (items false xs) in
-    let rest = drop a xs in
-    let b = total_size (items false (rest ++ ys)) in
-    let both : total_size (items false (xs ++ ys)) ≡ a + b =
-    ap total_size (items-append false xs ys fits) ∙ total_size-append (items false xs) (items false (rest ++ ys)) in
-    ap (λ n. drop n (xs ++ ys)) both ∙ sym (drop-drop b a (xs ++ ys))
-    ∙ ap (drop b) (drop-append-le a xs ys (decided_short xs (AreBytes-front xs ys fits)))
-
-AreBytes-take : (n : ℕ) (bytes : List ℕ) → AreBytes bytes → AreBytes (take n bytes)
-AreBytes-take n bytes fits = AreBytes-front (take n bytes) (drop n bytes) (subst AreBytes (sym (take-append-drop n bytes)) fits)
 
 pub pushed_held : (held : Held) (given : List ℕ) → IsRead held → AreBytes given → IsHeld (after_push held given)
 pushed_held held given run fits = record {
   bytes = AreBytes-append held.bytes (take (taken_count held given) given) run.bytes (AreBytes-take (taken_count held given) given fits);
   some = λ e. absurd (false≢true (sym run.goes_on ∙ e));
 }
-
-min_some : (a b : ℕ) → 0 < a → 0 < b → 0 < min a b
-min_some a b p q = omega arith
-
--- something is taken where something comes
-pub takes_some : (held : Held) (given : List ℕ) → IsRead held → 0 < length given → 0 < taken_count held given
-takes_some held given run some =
-    let small = undecided_small held.bytes run.undecided in
-    subst (λ (e : Bool). 0 < cond e 0 (min (length given) (1440 - length held.bytes))) (sym run.goes_on)
-    (min_some (length given) (1440 - length held.bytes) some (omega arith))
-
-pub takes_within : (held : Held) (given : List ℕ) → taken_count held given ≤ length given
-takes_within held given = by_ended held.ended
-  where
-    by_ended : (e : Bool) → cond e 0 (min (length given) (1440 - length held.bytes)) ≤ length given
-    by_ended true = omega arith
-    by_ended false = omega arith
 
 pub rest_is : (at : ℕ) (bytes : List ℕ) → take (length bytes - at) (drop at bytes) ≡ drop at bytes
 rest_is at bytes = take_all (length bytes - at) (drop at bytes) (omega (arith, length-drop at bytes))

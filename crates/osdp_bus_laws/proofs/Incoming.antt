@@ -12,7 +12,8 @@ use Rattle.osdp_bus.specs.declared.device.Device.{Device}
 use Rattle.osdp_bus.specs.Buses.{BusState, Devices, is_silent, seen}
 use Rattle.osdp_bus.specs.Devices.{address_of, device_hears, first_from, is_at}
 use Rattle.osdp_bus.specs.Hearing.{after_bytes, ends_run, ends_silent, hears_at, hears_bytes, hears_items, hears_packet, hears_with}
-use Rattle.osdp_bus.proofs.Runs.{hears_items-append, left_over-append}
+use Rattle.osdp_bus.proofs.Runs.{hears_items-append}
+use Rattle.osdp_frame_laws.proofs.LeftOver.{left_over-append}
 use Rattle.osdp_bus.proofs.Waiting.{IsFound, found}
 use Rattle.osdp_bus_laws.specs.Packets.{CutsChangeNothing, GoesToItsAddress, PacketsGoToTheirAddress}
 use Rattle.osdp_bus_laws.proofs.Changing.{Sound}

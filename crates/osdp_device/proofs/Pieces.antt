@@ -1,17 +1,17 @@
 -- Bytes that are heard piece by piece.
-use Rattle.std.proofs.Common.{◌≡◌, ℕ, ◌+◌, ◌-◌, ◌*◌, ◌<◌, ◌≤◌, ◌==◌, not, max, nat_le, Bool, true, false, cond, min, List, [], ◌∷◌, ◌++◌, length, take, drop, None, refl, sym, subst, ap, ◌∙◌, arith, append_assoc, append-nil, length-drop, take-append-drop}
+use Rattle.std.proofs.Common.{◌≡◌, ℕ, ◌+◌, ◌-◌, ◌*◌, ◌<◌, ◌≤◌, ◌==◌, not, max, nat_le, Bool, true, false, cond, min, List, [], ◌∷◌, ◌++◌, length, take, drop, refl, sym, subst, ap, ◌∙◌, arith, append_assoc, append-nil, length-drop, take-append-drop}
 use Rattle.std.proofs.Math.Seq.{drop-drop}
-use Rattle.std.proofs.lemmas.List.{drop-append-le}
-use Rattle.std.proofs.lemmas.Bool.{leb-true, ne_eqb}
+use Rattle.std.proofs.lemmas.Bool.{leb-true}
 use Rattle.osdp_frame.specs.Bytes.{AreBytes}
 use Rattle.osdp_frame.specs.Reading.{Part, part_size, total_size, IsReading}
 use Rattle.osdp_frame.specs.Held.{Held, decided, later, after_gap, new_run, taken_count}
-use Rattle.osdp_frame.specs.Items.{items, reading, left_over}
-use Rattle.osdp_frame.proofs.Head.{AreBytes-drop}
+use Rattle.osdp_frame.specs.Items.{items, left_over}
+use Rattle.osdp_frame.proofs.Head.{AreBytes-drop, AreBytes-take}
 use Rattle.osdp_frame.proofs.Decided.{AreBytes-front}
 use Rattle.osdp_frame_laws.proofs.LawsOfSpellings.{AreBytes-append}
+use Rattle.osdp_frame_laws.proofs.LeftOver.{items_nothing, left_is, left_over-append, left_same, some_ended}
 use Rattle.osdp_frame_laws.proofs.OneByOne.{still_ended}
-use Rattle.osdp_frame_laws.proofs.Readings.{decided_nothing, items_undecided, items-append, left_undecided, undecided_small, sizes_reading, is_reading}
+use Rattle.osdp_frame_laws.proofs.Readings.{decided_nothing, items_undecided, items-append, left_undecided, undecided_small, is_reading}
 use Rattle.osdp_msg.specs.declared.command.Command.{Command}
 use Rattle.osdp_reader.specs.declared.handler.Answer.{Answer}
 use Rattle.osdp_reader.specs.State.{ReaderState}
@@ -19,49 +19,7 @@ use Rattle.osdp_device.specs.Receiving.{IsReceived, Received, after_take, comes_
 use Rattle.osdp_device.specs.Saying.{Said, after_item, said_of}
 use Rattle.osdp_device.specs.Telling.{after_items, after_all, items_of, listed, said_to_all}
 use Rattle.osdp_device.specs.Hearing.{Heard, IsAllRead, NeedsFewerTurns, TakesInTurn, hears_bytes, reads_all, reads_on, then_hears, then_reads, turns_left}
-use Rattle.osdp_device.proofs.Receipt.{AreBytes-take}
 use Rattle.osdp_device.proofs.Turning.{splits}
-
--- ---- what is left of a run
-
-items_nothing : (ended : Bool) → items ended [] ≡ []
-items_nothing ended = items_undecided ended [] (decided_nothing ended)
-
-left_is : (bytes : List ℕ) → drop (total_size (items false bytes)) bytes ≡ left_over bytes
-unfolding left_over
-left_is bytes = refl
-
-left_same : (bytes : List ℕ) → decided false bytes ≡ None → left_over bytes ≡ bytes
-unfolding left_over
-left_same bytes none = ap (λ parts. drop (total_size parts) bytes) (items_undecided false bytes none)
-
-total_size-append : (xs ys : List Part) → total_size (xs ++ ys) ≡ total_size xs + total_size ys
-total_size-append [] ys = omega arith
-total_size-append (x ∷ xs) ys = omega (arith, total_size-append xs ys)
-
-decided_short : (bytes : List ℕ) → AreBytes bytes → total_size (items false bytes) ≤ length bytes
-decided_short bytes fits =
-    let all = sizes_reading bytes (reading bytes) (is_reading bytes fits) in
-    let split : reading bytes ≡ items false bytes ++ items true (left_over bytes) =
-    ap (items true) (sym (append-nil bytes)) ∙ items-append true bytes [] (subst AreBytes (sym (append-nil bytes)) fits)
-    ∙ ap (λ l. items false bytes ++ items true l) (append-nil (left_over bytes)) in
-    let parts = ap total_size split in
-    omega (arith, total_size-append (items false bytes) (items true (left_over bytes)))
-
-left_over-append : (xs ys : List ℕ) → AreBytes (xs ++ ys) → left_over (xs ++ ys) ≡ left_over (left_over xs ++ ys)
-unfolding left_over
-left_over-append xs ys fits =
-    let a = total_size (items false xs) in
-    let rest = drop a xs in
-    let b = total_size (items false (rest ++ ys)) in
-    let both : total_size (items false (xs ++ ys)) ≡ a + b =
-    ap total_size (items-append false xs ys fits) ∙ total_size-append (items false xs) (items false (rest ++ ys)) in
-    ap (λ n. drop n (xs ++ ys)) both ∙ sym (drop-drop b a (xs ++ ys))
-    ∙ ap (drop b) (drop-append-le a xs ys (decided_short xs (AreBytes-front xs ys fits)))
-
-left_bytes : (bytes : List ℕ) → AreBytes bytes → AreBytes (left_over bytes)
-unfolding left_over
-left_bytes bytes fits = AreBytes-drop (total_size (items false bytes)) bytes fits
 
 -- ---- what is held after all items
 
@@ -73,9 +31,6 @@ after_open (part ∷ parts) bytes =
 
 all_after_items : (bytes : List ℕ) → after_all (record { bytes = bytes; ended = false }) (items false bytes) ≡ record { bytes = left_over bytes; ended = false }
 all_after_items bytes = after_open (items false bytes) bytes ∙ ap (λ (l : List ℕ). record { bytes = l; ended = false }) (left_is bytes)
-
-some_ended : (b : ℕ) (bytes : List ℕ) → not (length (b ∷ bytes) == 0) ≡ true
-some_ended b bytes = ap not (ne_eqb (length (b ∷ bytes)) 0 (λ h. omega arith))
 
 after_ended : (parts : List Part) (bytes : List ℕ) → AreBytes bytes → items true bytes ≡ parts
     → after_all (record { bytes = bytes; ended = not (length bytes == 0) }) parts ≡ new_run

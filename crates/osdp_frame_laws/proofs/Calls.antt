@@ -14,15 +14,12 @@ use Rattle.osdp_frame.specs.Held.{Held, after_gap, after_push, after_first, deci
 use Rattle.osdp_frame_laws.specs.Calls.{Call, Push, Gap, Advance, IsAfter, IsOfBytes, IsRead, ReadsEachRun, ReadsOn, Run, after_call, after_calls, bytes_taken, empty_run, is_over, items_taken, last_run, run_after, runs_over}
 use Rattle.osdp_frame.proofs.Head.{AreBytes-drop, AreBytes-take}
 use Rattle.osdp_frame.proofs.Decided.{first_decided, stands_first, undecided_none, AreBytes-front, undecided_ended}
+use Rattle.osdp_frame_laws.proofs.LeftOver.{total_size-append}
 use Rattle.osdp_frame_laws.proofs.LawsOfSpellings.{AreBytes-append, AreBytes-nil}
 use Rattle.osdp_frame_laws.proofs.Readings.{is_reading, one_reading, part_size-Stands, sizes_reading, undecided_small}
 
 pub new_after : IsAfter new_run empty_run
 new_after = record { ended = refl; not_over = refl; left = refl; reads = λ more others none r. r }
-
-total_size-append : (xs ys : List Part) → total_size (xs ++ ys) ≡ total_size xs + total_size ys
-total_size-append [] ys = omega arith
-total_size-append (x ∷ xs) ys = omega (arith, total_size-append xs ys)
 
 AreBytes-held : (held : Held) (run : Run) → IsAfter held run → AreBytes run.bytes → AreBytes held.bytes
 AreBytes-held held run b fits = subst (λ l. AreBytes l) (sym b.left) (AreBytes-drop (total_size run.parts) run.bytes fits)

@@ -1,4 +1,5 @@
 pub mod LawsOfSpellings
 pub mod OneByOne
 pub mod Readings
+pub mod LeftOver
 pub mod Calls

@@ -4,7 +4,8 @@ use Rattle.osdp_frame.specs.Held.{after_push, taken_count}
 use Rattle.osdp_frame.specs.Items.{items, left_over}
 use Rattle.osdp_bus.specs.Hearing.{hears_items}
 use Rattle.osdp_bus.specs.Private.{devices_of}
-use Rattle.osdp_bus.proofs.Runs.{rest_is, taken_all, taken_on, takes_some, takes_within}
+use Rattle.osdp_frame_laws.proofs.LeftOver.{takes_some, takes_within}
+use Rattle.osdp_bus.proofs.Runs.{rest_is, taken_all, taken_on}
 use Rattle.osdp_bus.proofs.line.read_bytes.Goals as goal
 
 pub pieces-smaller : goal.pieces-smaller
@@ -13,7 +14,8 @@ pieces-smaller c =
     let bytes = c.args.bytes.now in
     let held = c.pieces.framer in
     let some : 0 < length (drop at bytes) = omega (arith, length-drop at bytes, c.pieces-test.true) in
-    let takes = takes_some held (drop at bytes) c.pieces.invariant.read some in
+    let read = c.pieces.invariant.read in
+    let takes = takes_some held (drop at bytes) read.goes_on read.undecided some in
     let count : c.push-at.result ≡ taken_count held (drop at bytes) = c.push-at.ensures.count ∙ ap (taken_count held) (rest_is at bytes) in
     omega (arith, count, takes, c.pieces-test.true)
 
