@@ -2,11 +2,11 @@
 
 ghost use Rattle.osdp_reader.specs.declared.handler.Answer.TheVariants.{Done};
 
-use arrayvec::ArrayVec;
 use osdp_controller::{Controller, ControllerConfig};
 use osdp_frame::{Address, CheckKind};
-use osdp_msg::{Command, PdCap, PdId};
-use osdp_reader::{Answer, Handler, Reader, ReaderConfig};
+use osdp_msg::Command;
+use osdp_reader::{Answer, Handler, Reader};
+use osdp_script_reader::script_config;
 use std::alloc::Global;
 
 /// A device that does all that it is told.
@@ -27,25 +27,6 @@ impl Handler for Device {
     }
 }
 
-/// What the reader is.
-pub fn reader_config(address: Address) -> ReaderConfig {
-    ReaderConfig {
-        address,
-        id: PdId {
-            vendor: [1, 2, 3],
-            model: 1,
-            version: 1,
-            serial: 1,
-            firmware_major: 1,
-            firmware_minor: 0,
-            firmware_build: 0,
-        },
-        caps: PdCap {
-            capabilities: ArrayVec::new(),
-        },
-    }
-}
-
 /// The controller of a link, a POLL due this long after an answer.
 pub fn controller(alloc: Global, poll_interval: u32) -> Option<Controller> {
     let mut config = ControllerConfig::new(Address::new(5)?, CheckKind::Crc);
@@ -58,6 +39,6 @@ pub fn controller(alloc: Global, poll_interval: u32) -> Option<Controller> {
 
 /// The reader of a link.
 pub fn reader(alloc: Global) -> Option<Reader<Device>> {
-    let config = reader_config(Address::new(5)?);
+    let config = script_config(1, Address::new(5)?);
     Reader::new(alloc, config, Device { is_on: true }, 4).ok()
 }

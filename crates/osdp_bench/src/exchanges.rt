@@ -7,54 +7,41 @@ use osdp_msg::{Command, OutputRecord, Outputs};
 use osdp_reader::{Heard, Reader};
 use std::alloc::Global;
 
-/// What is due at a moment goes to the reader, and its answer, found in its bytes, to the controller. Whether nothing is outstanding then.
-pub fn exchange(controller: &mut Controller, reader: &mut Reader<Device>, now: u64) -> bool {
-    let Some(frame) = controller.tick(now).frame else {
-        return false;
-    };
-    let response = reader.on_frame(&frame.view());
-    let Some(Item::Packet(packet)) = whole_item(response.bytes()) else {
-        return false;
-    };
-    let _report = controller.on_frame(&packet, now);
-    !controller.outstanding()
+/// How the machines are called.
+pub trait Way {
+    /// What is due at a moment goes to the reader, and its answer, found in its bytes, to the controller. Whether nothing is outstanding then.
+    fn exchange(
+        &mut self,
+        controller: &mut Controller,
+        reader: &mut Reader<Device>,
+        now: u64,
+    ) -> bool;
 }
 
-/// So many exchanges of POLL and ACK.
-pub fn polls(alloc: Global, count: u64) -> Option<u64> {
-    let mut controller = controller(alloc, 1)?;
-    let mut reader = reader(alloc)?;
-    let mut done = 0u64;
-    let mut now = 2u64;
-    let _ = exchange(&mut controller, &mut reader, now);
-    for _ in 0..count {
-        now = now.saturating_add(2);
-        done = done.saturating_add(u64::from(exchange(&mut controller, &mut reader, now)));
+/// By the calls that answer by values.
+#[derive(Clone, Copy, Debug)]
+pub struct ByValue;
+
+impl Way for ByValue {
+    fn exchange(
+        &mut self,
+        controller: &mut Controller,
+        reader: &mut Reader<Device>,
+        now: u64,
+    ) -> bool {
+        let Some(frame) = controller.tick(now).frame else {
+            return false;
+        };
+        let response = reader.on_frame(&frame.view());
+        let Some(Item::Packet(packet)) = whole_item(response.bytes()) else {
+            return false;
+        };
+        let _report = controller.on_frame(&packet, now);
+        !controller.outstanding()
     }
-    Some(done)
 }
 
-/// So many exchanges of OUT and ACK.
-pub fn outs(alloc: Global, count: u64) -> Option<u64> {
-    let mut controller = controller(alloc, 1000)?;
-    let mut reader = reader(alloc)?;
-    let mut done = 0u64;
-    let mut now = 2u64;
-    let _ = exchange(&mut controller, &mut reader, now);
-    let record = OutputRecord {
-        output: 3,
-        control: 2,
-        timer: 0,
-    };
-    for _ in 0..count {
-        now = now.saturating_add(2);
-        let _ = controller.submit(Command::Output(Outputs::new(&[record])?));
-        done = done.saturating_add(u64::from(exchange(&mut controller, &mut reader, now)));
-    }
-    Some(done)
-}
-
-/// What the calls of both machines that write into what is lent are lent.
+/// By the calls that write into what is lent.
 #[derive(Debug, Drop)]
 pub struct Lent {
     /// The packet that goes out.
@@ -76,70 +63,73 @@ impl Lent {
     }
 }
 
-/// An exchange as `exchange` has it, by the calls of both machines that write into what is lent: the controller's packet is found in its
-/// bytes too.
-pub fn exchange_into(
-    controller: &mut Controller,
-    reader: &mut Reader<Device>,
-    now: u64,
-    lent: &mut Lent,
-) -> bool {
-    if !controller.tick_into(now, &mut lent.burst, &mut lent.report) {
-        return false;
+impl Way for Lent {
+    /// The controller's packet is found in its bytes too.
+    fn exchange(
+        &mut self,
+        controller: &mut Controller,
+        reader: &mut Reader<Device>,
+        now: u64,
+    ) -> bool {
+        if !controller.tick_into(now, &mut self.burst, &mut self.report) {
+            return false;
+        }
+        let Some(Item::Packet(asked)) = whole_item(self.burst.as_slice()) else {
+            return false;
+        };
+        reader.hear(&asked, &mut self.heard);
+        let Some(Item::Packet(packet)) = whole_item(self.heard.bytes()) else {
+            return false;
+        };
+        controller.hear(&packet, now, &mut self.report);
+        !controller.outstanding()
     }
-    let Some(Item::Packet(asked)) = whole_item(lent.burst.as_slice()) else {
-        return false;
-    };
-    reader.hear(&asked, &mut lent.heard);
-    let Some(Item::Packet(packet)) = whole_item(lent.heard.bytes()) else {
-        return false;
-    };
-    controller.hear(&packet, now, &mut lent.report);
-    !controller.outstanding()
 }
 
-/// So many exchanges of POLL and ACK, written into what is lent.
-pub fn polls_into(alloc: Global, count: u64) -> Option<u64> {
-    let mut controller = controller(alloc, 1)?;
-    let mut reader = reader(alloc)?;
-    let mut lent = Lent::new();
-    let mut done = 0u64;
-    let mut now = 2u64;
-    let _ = exchange_into(&mut controller, &mut reader, now, &mut lent);
-    for _ in 0..count {
-        now = now.saturating_add(2);
-        done = done.saturating_add(u64::from(exchange_into(
-            &mut controller,
-            &mut reader,
-            now,
-            &mut lent,
-        )));
-    }
-    Some(done)
+/// What is asked in each exchange.
+#[derive(Clone, Copy, Debug, PartialEq, Eq)]
+pub enum Asked {
+    /// A POLL.
+    Poll,
+    /// An OUT.
+    Out,
 }
 
-/// So many exchanges of OUT and ACK, written into what is lent.
-pub fn outs_into(alloc: Global, count: u64) -> Option<u64> {
-    let mut controller = controller(alloc, 1000)?;
-    let mut reader = reader(alloc)?;
-    let mut lent = Lent::new();
-    let mut done = 0u64;
-    let mut now = 2u64;
-    let _ = exchange_into(&mut controller, &mut reader, now, &mut lent);
-    let record = OutputRecord {
-        output: 3,
-        control: 2,
-        timer: 0,
-    };
-    for _ in 0..count {
-        now = now.saturating_add(2);
+impl Asked {
+    /// After how long a POLL is due: before the next exchange, or long after it.
+    fn poll_interval(self) -> u32 {
+        match self {
+            Asked::Poll => 1,
+            Asked::Out => 1000,
+        }
+    }
+
+    /// Hands the command over, if it is one. None where it can't be made.
+    fn submit(self, controller: &mut Controller) -> Option<()> {
+        if self == Asked::Poll {
+            return Some(());
+        }
+        let record = OutputRecord {
+            output: 3,
+            control: 2,
+            timer: 0,
+        };
         let _ = controller.submit(Command::Output(Outputs::new(&[record])?));
-        done = done.saturating_add(u64::from(exchange_into(
-            &mut controller,
-            &mut reader,
-            now,
-            &mut lent,
-        )));
+        Some(())
+    }
+}
+
+/// So many exchanges of what is asked and its ACK.
+pub fn exchanges<W: Way>(alloc: Global, asked: Asked, way: &mut W, count: u64) -> Option<u64> {
+    let mut controller = controller(alloc, asked.poll_interval())?;
+    let mut reader = reader(alloc)?;
+    let mut done = 0u64;
+    let mut now = 2u64;
+    let _ = way.exchange(&mut controller, &mut reader, now);
+    for _ in 0..count {
+        now = now.saturating_add(2);
+        asked.submit(&mut controller)?;
+        done = done.saturating_add(u64::from(way.exchange(&mut controller, &mut reader, now)));
     }
     Some(done)
 }
@@ -151,7 +141,7 @@ pub fn turns(alloc: Global, count: u64) -> Option<u64> {
     let mut lent = Lent::new();
     let mut done = 0u64;
     let mut now = 2u64;
-    let _ = exchange_into(&mut controller, &mut reader, now, &mut lent);
+    let _ = lent.exchange(&mut controller, &mut reader, now);
     let body = [0x40];
     for place in 0..count {
         now = now.saturating_add(2);

@@ -1,7 +1,7 @@
 //! What changes nothing: repeats, frames that are ignored, ticks with nothing due.
 
 use crate::device::{controller, reader};
-use crate::exchanges::{Lent, exchange};
+use crate::exchanges::{ByValue, Lent, Way};
 use osdp_frame::{Address, CheckKind, FrameView, Seq};
 use osdp_reader::Kind;
 use std::alloc::Global;
@@ -10,8 +10,8 @@ use std::alloc::Global;
 pub fn repeats(alloc: Global, count: u64) -> Option<u64> {
     let mut controller = controller(alloc, 1)?;
     let mut reader = reader(alloc)?;
-    let _ = exchange(&mut controller, &mut reader, 2);
-    let _ = exchange(&mut controller, &mut reader, 4);
+    let _ = ByValue.exchange(&mut controller, &mut reader, 2);
+    let _ = ByValue.exchange(&mut controller, &mut reader, 4);
     let poll = [0x60];
     let packet = FrameView::new(
         false,
@@ -56,7 +56,7 @@ pub fn ignored_frames(alloc: Global, count: u64) -> Option<u64> {
 pub fn idle_ticks(alloc: Global, count: u64) -> Option<u64> {
     let mut controller = controller(alloc, 3_600_000)?;
     let mut reader = reader(alloc)?;
-    let _ = exchange(&mut controller, &mut reader, 2);
+    let _ = ByValue.exchange(&mut controller, &mut reader, 2);
     let mut done = 0u64;
     for place in 0..count {
         let step = controller.tick(place % 1000);
@@ -69,7 +69,7 @@ pub fn idle_ticks(alloc: Global, count: u64) -> Option<u64> {
 pub fn idle_ticks_into(alloc: Global, count: u64) -> Option<u64> {
     let mut controller = controller(alloc, 3_600_000)?;
     let mut reader = reader(alloc)?;
-    let _ = exchange(&mut controller, &mut reader, 2);
+    let _ = ByValue.exchange(&mut controller, &mut reader, 2);
     let mut lent = Lent::new();
     let mut done = 0u64;
     for place in 0..count {

@@ -1,6 +1,6 @@
 //! The kinds of work.
 
-use crate::exchanges::{outs, outs_into, polls, polls_into, turns};
+use crate::exchanges::{Asked, ByValue, Lent, exchanges, turns};
 use crate::heard::{heard, repeats_heard};
 use crate::hearing::{idle_ticks, idle_ticks_into, ignored_frames, repeats};
 use crate::packets::{checks, encoded, encoded_to, framed};
@@ -81,10 +81,10 @@ impl Work {
     /// Does it so many times, and tells how often it came out as it should. None where there is no memory.
     pub fn done(self, alloc: Global, count: u64) -> Option<u64> {
         match self {
-            Work::Polls => polls(alloc, count),
-            Work::Outs => outs(alloc, count),
-            Work::PollsInto => polls_into(alloc, count),
-            Work::OutsInto => outs_into(alloc, count),
+            Work::Polls => exchanges(alloc, Asked::Poll, &mut ByValue, count),
+            Work::Outs => exchanges(alloc, Asked::Out, &mut ByValue, count),
+            Work::PollsInto => exchanges(alloc, Asked::Poll, &mut Lent::new(), count),
+            Work::OutsInto => exchanges(alloc, Asked::Out, &mut Lent::new(), count),
             Work::Turns => turns(alloc, count),
             Work::Repeats => repeats(alloc, count),
             Work::PollHeard => heard(alloc, &[0x60], count),

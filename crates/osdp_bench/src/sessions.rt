@@ -1,9 +1,10 @@
 //! Schedules, run over a simulated line.
 
-use crate::device::{Device, reader_config};
+use crate::device::Device;
 use osdp_controller::ControllerConfig;
 use osdp_frame::{Address, CheckKind};
 use osdp_msg::{Command, OutputRecord, Outputs};
+use osdp_script_reader::script_config;
 use osdp_session::run_session;
 use osdp_sim::{Move, SimConfig, SimStep};
 use std::alloc::Global;
@@ -35,7 +36,7 @@ fn schedule(alloc: Global, command: Option<&Command>, rounds: usize) -> Option<V
 fn config() -> Option<SimConfig> {
     let address = Address::new(5)?;
     Some(SimConfig {
-        reader: reader_config(address),
+        reader: script_config(1, address),
         events: 4,
         controller: ControllerConfig::new(address, CheckKind::Crc),
         commands: 4,

@@ -4,7 +4,7 @@ use Rattle.std.specs.Prelude.{not, slice_get, slice_set}
 use Rattle.std.specs.Option.{option_map_or}
 use Rattle.osdp_frame.specs.Items.{items}
 use Rattle.osdp_frame.specs.Packet.{Packet}
-use Rattle.osdp_frame.specs.Reading.{Part, Whole, Passed, Bad}
+use Rattle.osdp_frame.specs.Reading.{Part}
 use Rattle.osdp_msg.specs.declared.command.Command.{Command}
 use Rattle.osdp_controller.proofs.Choices.{either_way}
 use Rattle.osdp_controller.specs.Machine.{new_machine}
@@ -14,14 +14,15 @@ use Rattle.osdp_controller_laws.specs.Calls.{IsInRange, StaysInRange, longest_wa
 use Rattle.osdp_controller_laws.specs.Runs.{Begin, Hear, Tick}
 use Rattle.osdp_reader.specs.declared.handler.Answer.{Answer}
 use Rattle.osdp_bus.specs.Buses.{BusState, Devices, device_of, has_report, holder, is_silent, seen}
-use Rattle.osdp_bus.specs.Devices.{device_hears, device_ticks, first_from, holds, is_at, is_device_due}
-use Rattle.osdp_bus.specs.Hearing.{after_bytes, ends_run, ends_silent, hears_at, hears_bytes, hears_item, hears_items, hears_with}
+use Rattle.osdp_bus.specs.Devices.{device_hears, device_ticks, holds, is_device_due}
+use Rattle.osdp_bus.specs.Hearing.{after_bytes, ends_run, ends_silent, hears_bytes, hears_items}
 use Rattle.osdp_bus.specs.Machine.{after_next_report, after_submit_at, device_submits, submit_refusal_at}
 use Rattle.osdp_bus.specs.Settings.{controller_config}
 use Rattle.osdp_bus.specs.Ticking.{BusTicked, bus_ticks, is_due_at, is_held_and_due, next_due, stays, ticks_at, ticks_by, ticks_free, ticks_held, ticks_on, ticks_with}
 use Rattle.osdp_bus.specs.declared.config.BusConfig.{BusConfig}
 use Rattle.osdp_bus.specs.declared.device.Device.{Device}
 use Rattle.osdp_bus.specs.declared.fault.BusFault.{BusFault}
+use Rattle.osdp_bus_laws.proofs.Hearing.{items_keep}
 use Rattle.osdp_bus_laws.proofs.Places.{IsAt, replaced}
 use Rattle.osdp_bus_laws.proofs.Sound.{HeldBefore, IsNobody, WereHeld, held_items, held_there, nobody, still_nobody}
 use Rattle.osdp_link_laws.proofs.Stages.{Each}
@@ -48,23 +49,10 @@ set_all P i e ds all is j f at = by_place (replaced ds i e j f at)
     by_place (inl (here, same)) = subst P (sym same) is
     by_place (inr (other, was)) = all j f was
 
-module _ (P : Device → Type 0) (now : ℕ) (hears : (p : Packet) (d : Device) → P d → P (device_hears p now d)) where
-  all_with : (p : Packet) (i : ℕ) (o : Option Device) (ds : Devices) → slice_get ds.entries i ≡ o → AllAre P ds.entries → AllAre P (hears_with p now i o ds).entries
-  all_with p i None ds at all = all
-  all_with p i (Some d) ds at all = set_all P i (device_hears p now d) ds.entries all (hears p d (all i d at))
-
-  all_at : (p : Packet) (o : Option ℕ) (ds : Devices) → AllAre P ds.entries → AllAre P (hears_at p now o ds).entries
-  all_at p None ds all = all
-  all_at p (Some i) ds all = all_with p i (slice_get ds.entries i) ds refl all
-
-  all_item : (part : Part) (ds : Devices) → AllAre P ds.entries → AllAre P (hears_item now part ds).entries
-  all_item (Whole p) ds all = all_at p (first_from 0 (is_at p.address) ds.entries) ds all
-  all_item (Passed byte) ds all = all
-  all_item (Bad fault) ds all = all
-
-  all_items : (parts : List Part) (ds : Devices) → AllAre P ds.entries → AllAre P (hears_items now parts ds).entries
-  all_items [] ds all = all
-  all_items (part ∷ parts) ds all = all_items parts (hears_item now part ds) (all_item part ds all)
+all_items : (P : Device → Type 0) (now : ℕ) → ((p : Packet) (d : Device) → P d → P (device_hears p now d))
+    → (parts : List Part) (ds : Devices) → AllAre P ds.entries → AllAre P (hears_items now parts ds).entries
+all_items P now hears =
+    items_keep now (λ (ds : Devices). AllAre P ds.entries) (λ p i d ds at all. set_all P i (device_hears p now d) ds.entries all (hears p d (all i d at)))
 
 -- ---- a bus at a moment
 

@@ -1,5 +1,5 @@
 -- The settings of a panel: their words, and what each sets.
-use Rattle.std.specs.Prelude.{◌≡◌, ℕ, ◌<◌, ◌^◌, List, [], ◌∷◌, codes, Option, Some}
+use Rattle.std.specs.Prelude.{ℕ, ◌<◌, ◌^◌, List, [], ◌∷◌, codes, Option, Some}
 use Rattle.osdp_bus.specs.declared.config.BusConfig.{BusConfig}
 use Rattle.osdp_bus.specs.Settings.{default_config}
 use Rattle.osdp_controller.specs.Settings.{IsTime}
@@ -8,7 +8,7 @@ use Rattle.osdp_frame.specs.Check.{check_name}
 use Rattle.osdp_words.specs.Word.{Word, plain, number}
 use Rattle.osdp_line_programs.specs.declared.panel.PanelSetting.{PanelSetting}
 use Rattle.osdp_line_programs.specs.declared.panel.PanelSetting.TheVariants.{Check, ReplyWait, PollInterval, Sends, BusyWait, BusyLimit, QuietWait, Gap, Capacity}
-use Rattle.osdp_line_programs.specs.Settings.{Give, IsRoom, IsSends, ReadsSettings, after}
+use Rattle.osdp_line_programs.specs.Settings.{IsRoom, IsSends, Make, ReadsSettings}
 
 abbrev pub setting_name : PanelSetting → List ℕ
 setting_name (Check kind) = codes "check"
@@ -66,8 +66,8 @@ abbrev pub defaults : BusConfig
 defaults = default_config Crc 64
 
 abbrev pub ReadsPanel : List (List ℕ) → Option BusConfig → Type 0
-ReadsPanel given result = ReadsSettings setting_words SettingFits put defaults given result
+ReadsPanel = ReadsSettings setting_words SettingFits put defaults
 
 -- the words are settings of a panel, and they make this bus of the defaults
 abbrev pub AreOfPanel : List (List ℕ) → BusConfig → Type 0
-AreOfPanel given config = (settings : List PanelSetting) × Give setting_words SettingFits given settings × (after put settings defaults ≡ Some config)
+AreOfPanel = Make setting_words SettingFits put defaults

@@ -1,5 +1,5 @@
 -- The settings of a reader: their words, and what each sets.
-use Rattle.std.specs.Prelude.{◌≡◌, ℕ, ◌<◌, ◌^◌, List, [], ◌∷◌, ◌++◌, codes, length, nat_lt, if◌then◌else◌, slice_index, Option, Some, None}
+use Rattle.std.specs.Prelude.{ℕ, ◌<◌, ◌^◌, List, [], ◌∷◌, ◌++◌, codes, length, nat_lt, if◌then◌else◌, slice_index, Option, Some, None}
 use Rattle.osdp_controller.specs.Settings.{IsTime}
 use Rattle.osdp_msg.specs.declared.reply_fields.PdCap.{PdCap}
 use Rattle.osdp_msg.specs.declared.reply_fields.PdId.{PdId}
@@ -8,7 +8,7 @@ use Rattle.osdp_words.specs.Word.{Word, plain, bytes, number, numbers}
 use Rattle.osdp_line_programs.specs.declared.reader.ReaderSetting.{ReaderSetting}
 use Rattle.osdp_line_programs.specs.declared.reader.ReaderSetting.TheVariants.{At, Vendor, Model, Version, Serial, Firmware, Cap, Room, Gap}
 use Rattle.osdp_line_programs.specs.declared.reader.ReaderSettings.{ReaderSettings}
-use Rattle.osdp_line_programs.specs.Settings.{Give, IsRoom, IsTriple, IsVendor, ReadsSettings, after}
+use Rattle.osdp_line_programs.specs.Settings.{IsRoom, IsTriple, IsVendor, Make, ReadsSettings}
 
 abbrev pub setting_name : ReaderSetting → List ℕ
 setting_name (At address) = codes "address"
@@ -94,11 +94,11 @@ defaults = record {
 }
 
 abbrev pub ReadsReader : List (List ℕ) → Option ReaderSettings → Type 0
-ReadsReader given result = ReadsSettings setting_words SettingFits put defaults given result
+ReadsReader = ReadsSettings setting_words SettingFits put defaults
 
 -- the words are settings of a reader, and they make this one of the defaults
 abbrev pub AreOfReader : List (List ℕ) → ReaderSettings → Type 0
-AreOfReader given config = (settings : List ReaderSetting) × Give setting_words SettingFits given settings × (after put settings defaults ≡ Some config)
+AreOfReader = Make setting_words SettingFits put defaults
 
 -- what a reader asks for
 pub record AreInRange (r : ReaderSettings) : Type 0 where

@@ -1,10 +1,10 @@
 -- How the programs end.
 use Rattle.std.specs.Prelude.{◌≡◌, ◌⊎◌, ℕ, Bool, List, codes, Option, Result, Err}
 use Rattle.std.specs.Io.KnownBytes.{Keeps}
-use Rattle.osdp_bus.specs.declared.config.BusConfig.{BusConfig}
+use Rattle.osdp_line_streams.specs.Answers.{Answering}
 use Rattle.osdp_line_streams.specs.Ending.{Ends}
 use Rattle.osdp_panel_calls.specs.Lines.{Answers as PanelAnswers}
-use Rattle.osdp_panel_calls.specs.Sessions.{Session as PanelSession, new_session as new_panel}
+use Rattle.osdp_panel_calls.specs.Sessions.{new_session as new_panel}
 use Rattle.osdp_reader_calls.specs.Lines.{Answers as ReaderAnswers}
 use Rattle.osdp_reader_calls.specs.Sessions.{Session as ReaderSession, new_session as new_reader}
 use Rattle.osdp_tool_streams.specs.declared.fault.ToolFault.{ToolFault}
@@ -23,32 +23,34 @@ pub record IsRefused {C : Type 0} (AreSettings : C → Type 0) (input_before inp
   pub written : Keeps before after
   pub fault : result ≡ Err BadWords
 
--- the words are settings of a panel, and each line that was read was answered, in order, by the panel of these settings
-pub record IsRunOfPanel (given : List (List ℕ)) (input_before input_after : Option (List ℕ)) (input_failed : Bool)
-    (before after : Option (List ℕ)) (failed : Bool) (result : Result (Unit {0}) ToolFault) : Type 0 where
-  pub config : BusConfig
-  pub settings : AreOfPanel given config
-  pub last : PanelSession
-  pub ends : Ends PanelAnswers (new_panel config) last input_before input_after input_failed before after failed result
+-- what may be so of a run: of its words, of its input before and after and whether that failed, of its output the same, and of its end
+abbrev pub OfRuns : Type 1
+OfRuns = List (List ℕ) → Option (List ℕ) → Option (List ℕ) → Bool → Option (List ℕ) → Option (List ℕ) → Bool → Result (Unit {0}) ToolFault
+    → Type 0
 
-pub record IsRunOfReader (given : List (List ℕ)) (input_before input_after : Option (List ℕ)) (input_failed : Bool)
-    (before after : Option (List ℕ)) (failed : Bool) (result : Result (Unit {0}) ToolFault) : Type 0 where
-  pub config : ReaderSettings
-  pub settings : AreOfReader given config
-  pub last : ReaderSession
-  pub ends : Ends ReaderAnswers (new_reader config.config config.room config.gap) last input_before input_after input_failed before after failed result
+module _ {C M : Type 0} (AreSettings : List (List ℕ) → C → Type 0) (new : C → M) (answers : Answering M) where
+  -- the words are settings, and each line that was read was answered, in order, by the machine of these settings
+  pub record IsRun (given : List (List ℕ)) (input_before input_after : Option (List ℕ)) (input_failed : Bool)
+      (before after : Option (List ℕ)) (failed : Bool) (result : Result (Unit {0}) ToolFault) : Type 0 where
+    pub config : C
+    pub settings : AreSettings given config
+    pub last : M
+    pub ends : Ends answers (new config) last input_before input_after input_failed before after failed result
 
-abbrev pub RunsPanel : List (List ℕ) → Option (List ℕ) → Option (List ℕ) → Bool → Option (List ℕ) → Option (List ℕ) → Bool
-    → Result (Unit {0}) ToolFault → Type 0
-RunsPanel given input_before input_after input_failed before after failed result =
-    IsRefused (AreOfPanel given) input_before input_after before after result
-    ⊎ IsRunOfPanel given input_before input_after input_failed before after failed result
+  abbrev pub Runs : OfRuns
+  Runs given input_before input_after input_failed before after failed result =
+      IsRefused (AreSettings given) input_before input_after before after result
+      ⊎ IsRun given input_before input_after input_failed before after failed result
 
-abbrev pub RunsReader : List (List ℕ) → Option (List ℕ) → Option (List ℕ) → Bool → Option (List ℕ) → Option (List ℕ) → Bool
-    → Result (Unit {0}) ToolFault → Type 0
-RunsReader given input_before input_after input_failed before after failed result =
-    IsRefused (AreOfReader given) input_before input_after before after result
-    ⊎ IsRunOfReader given input_before input_after input_failed before after failed result
+-- a panel without devices, and a reader's device
+abbrev pub RunsPanel : OfRuns
+RunsPanel = Runs AreOfPanel new_panel PanelAnswers
+
+abbrev pub new_device : ReaderSettings → ReaderSession
+new_device settings = new_reader settings.config settings.room settings.gap
+
+abbrev pub RunsReader : OfRuns
+RunsReader = Runs AreOfReader new_device ReaderAnswers
 
 -- what is told of a fault, after the program's name; the others don't come
 abbrev pub fault_text : ToolFault → List ℕ

@@ -14,11 +14,15 @@ abbrev pub after : {S C : Type 0} → (S → C → Option C) → List S → C �
 after put [] config = Some config
 after put (s ∷ settings) config = option_and_then (after put settings) (put s config)
 
--- what the words set, from the defaults: it comes of settings that they are, and there are no others
-pub record ReadsSettings {S C : Type 0} (words : S → List Word) (Fits : S → Type 0) (put : S → C → Option C) (defaults : C)
-    (given : List (List ℕ)) (result : Option C) : Type 0 where
-  pub value : IfSome result (λ config. (settings : List S) × Give words Fits given settings × (after put settings defaults ≡ Some config))
-  pub only : (settings : List S) → Give words Fits given settings → result ≡ after put settings defaults
+module _ {S C : Type 0} (words : S → List Word) (Fits : S → Type 0) (put : S → C → Option C) (defaults : C) (given : List (List ℕ)) where
+  -- the words are settings, and these make this of the defaults
+  abbrev pub Make : C → Type 0
+  Make config = (settings : List S) × Give words Fits given settings × (after put settings defaults ≡ Some config)
+
+  -- what the words set: it comes of settings that they are, and there are no others
+  pub record ReadsSettings (result : Option C) : Type 0 where
+    pub value : IfSome result Make
+    pub only : (settings : List S) → Give words Fits given settings → result ≡ after put settings defaults
 
 -- ---- values
 

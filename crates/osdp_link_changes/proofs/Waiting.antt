@@ -20,6 +20,7 @@ use Rattle.osdp_reader.specs.declared.handler.Answer.{Answer}
 use Rattle.osdp_link_laws.specs.Headline.{IsMove}
 use Rattle.osdp_link_laws.specs.Link as link
 use Rattle.osdp_link_laws.specs.Link.{Delivered, Delivery, Link, Lost, Move, Queue as QueueEvent, Reopen, Repeated, SetBusy, Submit, Tick, ToController, ToReader, after_move}
+use Rattle.osdp_link_laws.proofs.Controllers.{IsKept, going_keeps}
 use Rattle.osdp_link_laws.proofs.Advancing.{HoldsAtSomeStage}
 use Rattle.osdp_link_laws.proofs.Deliveries.{coming_to_controller, coming_to_reader}
 use Rattle.osdp_link_laws.proofs.Lines.{both}
@@ -48,41 +49,16 @@ closed_hears q now s closed =
     both (λ heard. heard.session.state ≡ Closed) (is_from_reader q s) (hears_in s.state q.sequence (said_by q) (seen now s)) (ignores (seen now s))
     (subst (λ state. (hears_in state q.sequence (said_by q) (seen now s)).session.state ≡ Closed) (sym closed) closed) closed
 
+keeps_closed : IsKept (λ s. s.state ≡ Closed)
+keeps_closed = record {
+  tick = λ now m closed. ap (λ t. t.session.state) (closed_tick now m.session m.waiting closed) ∙ closed;
+  frame = λ p now m closed. closed_hears p now m.session closed;
+}
+
 module _ {H : Type 0} (answer_of : H → Command → Answer) (after : H → Command → H) where
-  submits_closed : (refusal : Option ControllerFault) (c : Command) (l : Link H) → l.controller.session.state ≡ Closed
-      → (link.submits refusal c l).controller.session.state ≡ Closed
-  submits_closed (Some fault) c l closed = closed
-  submits_closed None c l closed = closed
-
-  queues_closed : (full : Bool) (e : Event) (l : Link H) → l.controller.session.state ≡ Closed
-      → (link.queues full e l).controller.session.state ≡ Closed
-  queues_closed true e l closed = closed
-  queues_closed false e l closed = closed
-
-  to_reader_closed : (how : Delivery) (ps : List Packet) (l : Link H) → l.controller.session.state ≡ Closed
-      → (link.to_reader answer_of after ps how l).controller.session.state ≡ Closed
-  to_reader_closed how [] l closed = closed
-  to_reader_closed Delivered (p ∷ ps) l closed = closed
-  to_reader_closed Lost (p ∷ ps) l closed = closed
-  to_reader_closed Repeated (p ∷ ps) l closed = closed
-
-  to_controller_closed : (how : Delivery) (now : ℕ) (qs : List Packet) (l : Link H) → l.controller.session.state ≡ Closed
-      → (link.to_controller qs how now l).controller.session.state ≡ Closed
-  to_controller_closed how now [] l closed = closed
-  to_controller_closed Delivered now (q ∷ qs) l closed = closed_hears q now l.controller.session closed
-  to_controller_closed Lost now (q ∷ qs) l closed = closed
-  to_controller_closed Repeated now (q ∷ qs) l closed = closed_hears q now l.controller.session closed
-
   stays_closed : (move : Move) (l : Link H) → GoesOn move → l.controller.session.state ≡ Closed
       → (after_move answer_of after move l).controller.session.state ≡ Closed
-  stays_closed (Submit c) l on closed = submits_closed (submit_refusal c l.controller) c l closed
-  stays_closed (QueueEvent e) l on closed = queues_closed (length l.reader.queue.events == l.reader.queue.capacity) e l closed
-  stays_closed (SetBusy busy) l on closed = closed
-  stays_closed (Tick now) l on closed =
-      ap (λ t. t.session.state) (closed_tick now l.controller.session l.controller.waiting closed) ∙ closed
-  stays_closed (ToReader how) l on closed = to_reader_closed how l.to_reader l closed
-  stays_closed (ToController how now) l on closed = to_controller_closed how now l.to_controller l closed
-  stays_closed (Reopen now) l on closed = absurd on
+  stays_closed = going_keeps answer_of after (λ s. s.state ≡ Closed) keeps_closed
 
   pub stays_quiet : (w : List Command) (move : Move) (l : Link H) → GoesOn move → IsQuiet w l → IsQuiet w (after_move answer_of after move l)
   stays_quiet w move l on (inl nothing) = inl nothing

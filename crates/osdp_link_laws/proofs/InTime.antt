@@ -1,22 +1,19 @@
 -- Ticks that come late enough are due, unless the session has ended.
-use Rattle.std.proofs.Common.{◌≡◌, ◌⊎◌, ℕ, Bool, true, false, List, [], ◌∷◌, length, Option, Some, None, refl, sym, subst, inl, inr}
-use Rattle.std.specs.Prelude.{◌==◌, ◌≢◌}
-use Rattle.osdp_frame.specs.Packet.{Packet}
+use Rattle.std.proofs.Common.{◌≡◌, ◌⊎◌, ℕ, List, [], ◌∷◌, refl, sym, subst, inl, inr}
+use Rattle.std.specs.Prelude.{◌≢◌}
 use Rattle.osdp_msg.specs.declared.command.Command.{Command}
-use Rattle.osdp_msg.specs.declared.event.Event.{Event}
-use Rattle.osdp_controller.specs.Machine.{Machine, after_begin, begin_refusal, changed_unless, submit_refusal}
+use Rattle.osdp_controller.specs.Machine.{after_begin, changed_unless}
 use Rattle.osdp_controller.specs.Sessions.{seen}
 use Rattle.osdp_controller.specs.Ticking.{ticks_in}
-use Rattle.osdp_controller.specs.declared.fault.ControllerFault.{ControllerFault}
 use Rattle.osdp_controller.specs.declared.state.State.{State}
 use Rattle.osdp_controller.specs.declared.state.State.TheVariants.{Closed, Quiet, Idle, Waiting, Pausing}
 use Rattle.osdp_controller_laws.specs.Calls.{ComesDue, IsInRange, StaysInRange}
-use Rattle.osdp_controller_laws.specs.Runs.{Begin, Hear, Tick as TickCall, after_calls}
+use Rattle.osdp_controller_laws.specs.Runs.{Begin, Hear, Tick as TickCall}
 use Rattle.osdp_reader.specs.declared.handler.Answer.{Answer}
 use Rattle.osdp_link_laws.specs.Headline.{AreMoves, Begins}
-use Rattle.osdp_link_laws.specs.Link as link
-use Rattle.osdp_link_laws.specs.Link.{Delivered, Delivery, Link, Lost, Move, Queue as QueueEvent, Reopen, Repeated, SetBusy, Submit, Tick, ToController, ToReader, after_move, run}
+use Rattle.osdp_link_laws.specs.Link.{Delivered, Link, Move, Tick, ToReader, after_move, run}
 use Rattle.osdp_link_laws.specs.Progress.{AreDue, AreLate, ComeOn, IsClear, round, rounds}
+use Rattle.osdp_link_laws.proofs.Controllers.{IsKept, IsKeptByBeginning, moves_keep}
 use Rattle.osdp_link_laws.proofs.InARow.{Assumed}
 use Rattle.osdp_link_laws.proofs.Through.{comes_through, to_controller_closed, to_reader_closed}
 
@@ -31,52 +28,18 @@ module _ {H : Type 0} (answer_of : H → Command → Answer) (after : H → Comm
   abbrev Ranges : Link H → Type 0
   Ranges l = IsInRange l.controller.session
 
+  in_range : IsKept IsInRange
+  in_range = record {
+    tick = λ now m is. stays.later m (TickCall now ∷ []) is;
+    frame = λ p now m is. stays.later m (Hear p now ∷ []) is;
+  }
+
+  begins_in_range : IsKeptByBeginning IsInRange
+  begins_in_range now m may is = subst (λ f. IsInRange (changed_unless f m (after_begin now m)).session) may (stays.later m (Begin now ∷ []) is)
+
   -- every move keeps the controller in its ranges
-  submits_range : (refusal : Option ControllerFault) (c : Command) (l : Link H) → Ranges l → Ranges (link.submits refusal c l)
-  submits_range (Some fault) c l is = is
-  submits_range None c l is = is
-
-  begins_range : (refusal : Option ControllerFault) (ps qs : List Packet) (now : ℕ) (l : Link H) → begin_refusal l.controller ≡ refusal
-      → Ranges l → Ranges (link.reopens refusal ps qs now l)
-  begins_range (Some fault) ps qs now l may is = is
-  begins_range None (p ∷ ps) qs now l may is = is
-  begins_range None [] (q ∷ qs) now l may is = is
-  begins_range None [] [] now l may is = begun_range l.controller may (stays.later l.controller (Begin now ∷ []) is)
-    where
-      begun_range : (m : Machine) → begin_refusal m ≡ None → IsInRange (after_calls (Begin now ∷ []) m).session → IsInRange (after_begin now m).session
-      begun_range m none is = subst (λ f. IsInRange (changed_unless f m (after_begin now m)).session) none is
-
-  queues_range : (full : Bool) (e : Event) (l : Link H) → Ranges l → Ranges (link.queues full e l)
-  queues_range true e l is = is
-  queues_range false e l is = is
-
-  hears_range : (p : Packet) (now : ℕ) (l : Link H) → Ranges l → Ranges (link.controller_gets p now l)
-  hears_range p now l is = stays.later l.controller (Hear p now ∷ []) is
-
-  to_reader_range : (how : Delivery) (ps : List Packet) (l : Link H) → Ranges l → Ranges (link.to_reader answer_of after ps how l)
-  to_reader_range how [] l is = is
-  to_reader_range Delivered (p ∷ ps) l is = is
-  to_reader_range Lost (p ∷ ps) l is = is
-  to_reader_range Repeated (p ∷ ps) l is = is
-
-  to_controller_range : (how : Delivery) (now : ℕ) (qs : List Packet) (l : Link H) → Ranges l → Ranges (link.to_controller qs how now l)
-  to_controller_range how now [] l is = is
-  to_controller_range Delivered now (q ∷ qs) l is = hears_range q now (record l { to_controller = qs }) is
-  to_controller_range Lost now (q ∷ qs) l is = is
-  to_controller_range Repeated now (q ∷ qs) l is = hears_range q now l is
-
-  move_range : (move : Move) (l : Link H) → Ranges l → Ranges (after_move answer_of after move l)
-  move_range (Submit c) l is = submits_range (submit_refusal c l.controller) c l is
-  move_range (QueueEvent e) l is = queues_range (length l.reader.queue.events == l.reader.queue.capacity) e l is
-  move_range (SetBusy busy) l is = is
-  move_range (Tick now) l is = stays.later l.controller (TickCall now ∷ []) is
-  move_range (ToReader how) l is = to_reader_range how l.to_reader l is
-  move_range (ToController how now) l is = to_controller_range how now l.to_controller l is
-  move_range (Reopen now) l is = begins_range (begin_refusal l.controller) l.to_reader l.to_controller now l refl is
-
   run_range : (moves : List Move) (l : Link H) → Ranges l → Ranges (run answer_of after moves l)
-  run_range [] l is = is
-  run_range (move ∷ moves) l is = run_range moves (after_move answer_of after move l) (move_range move l is)
+  run_range moves l is = moves_keep answer_of after IsInRange in_range begins_in_range moves l is
 
   -- a session that has ended stays so over all rounds
   tick_closed : (now : ℕ) (l : Link H) → l.controller.session.state ≡ Closed → (after_move answer_of after (Tick now) l).controller.session.state ≡ Closed

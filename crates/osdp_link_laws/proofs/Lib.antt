@@ -15,6 +15,7 @@ pub mod Deliveries
 pub mod Once
 pub mod Sessions
 pub mod Growing
+pub mod Controllers
 pub mod Devices
 pub mod InARow
 pub mod Due

@@ -30,26 +30,21 @@ module _ (fixed : ControllerConfig) {H : Type 0} (answer_of : H → Command → 
     account = record { issued = h.account.issued; settled = h.account.settled; unsettled = refl; told = h.account.told; offered = h.account.offered };
   }
 
-  pub with_to_reader : (at : Stage) (l : Link H) (ps : List Packet) → At at l → ToReaderAt fixed at ps → At at (record l { to_reader = ps })
-  with_to_reader at l ps h line = record {
+  with_lines : (at : Stage) (l : Link H) (ps qs : List Packet) → At at l → ToReaderAt fixed at ps → ToControllerAt fixed at qs
+      → At at (record l { to_reader = ps; to_controller = qs })
+  with_lines at l ps qs h there here = record {
     stage = h.stage;
     controller = h.controller;
     waiting = h.waiting;
     reader = h.reader;
     answering = h.answering;
-    to_reader = line;
-    to_controller = h.to_controller;
+    to_reader = there;
+    to_controller = here;
     account = h.account;
   }
 
-  pub with_to_controller : (at : Stage) (l : Link H) (ps : List Packet) → At at l → ToControllerAt fixed at ps → At at (record l { to_controller = ps })
-  with_to_controller at l ps h line = record {
-    stage = h.stage;
-    controller = h.controller;
-    waiting = h.waiting;
-    reader = h.reader;
-    answering = h.answering;
-    to_reader = h.to_reader;
-    to_controller = line;
-    account = h.account;
-  }
+  pub with_to_reader : (at : Stage) (l : Link H) (ps : List Packet) → At at l → ToReaderAt fixed at ps → At at (record l { to_reader = ps })
+  with_to_reader at l ps h line = with_lines at l ps l.to_controller h line h.to_controller
+
+  pub with_to_controller : (at : Stage) (l : Link H) (qs : List Packet) → At at l → ToControllerAt fixed at qs → At at (record l { to_controller = qs })
+  with_to_controller at l qs h line = with_lines at l l.to_reader qs h h.to_reader line
