@@ -1,4 +1,4 @@
-use Rattle.std.proofs.Common.{take, subst, ◌∙◌}
+use Rattle.std.proofs.Common.{rules, take, subst, ◌∙◌}
 use Rattle.osdp_tool_streams.specs.Watched.{inner_of}
 use Rattle.osdp_tool_show.specs.Machine.{told}
 use Rattle.osdp_tool_show.specs.Capture.{TookPart}
@@ -29,7 +29,7 @@ returns-then-not-branch-clause-read g c =
     let middle = told (g.W.Write.contents (inner_of c.reads.output)) c.reads.self.report in
     let after = told (g.W.Write.contents (inner_of c.take_read.new.output)) c.take_read.new.self.report in (
       read_bad c.args.limit c.reads.left c.in-Ok-Bytes.count c.read_piece.new.buffer c.args.self.now c.reads.self c.take_read.new.self
-          _ _ _ _ middle after c.read_piece.auto.buffer (rw c.in-Ok-Bytes.field-0-is at c.in-Ok-Bytes.ensures.read) c.reads.invariant.has_read
+          _ _ _ _ middle after (c.read_piece.auto.buffer ∙ search rules) (rw c.in-Ok-Bytes.field-0-is at c.in-Ok-Bytes.ensures.read) c.reads.invariant.has_read
           (subst (λ good. TookPart (take c.in-Ok-Bytes.count c.read_piece.new.buffer) good c.reads.self c.take_read.new.self middle after) c.if-not-branch.true
           c.in_ok-take_read.ensures.took),
       c.in-Ok-Bytes.ensures.failed ∙ c.reads.invariant.input,
