@@ -7,6 +7,13 @@ use Rattle.osdp_tool_streams.specs.declared.fault.ToolFault.TheVariants.{NotHex,
 use Rattle.osdp_tool_streams.specs.declared.fault.ToolFault.TheVariants.{HoldsPacket, NotQuiet, ReadFailed}
 use Rattle.osdp_tool_streams.specs.declared.fault.ToolFault.TheVariants.{WriteFailed, NoMemory}
 
+-- one read: so many bytes at the front of the buffer, none only at the end of the input
+pub record ReadsPiece (room : ℕ) (before after : Option (List ℕ)) (count : ℕ) (buffer : List ℕ) : Type 0 where
+  pub bound : count ≤ room
+  pub taken : Consumes before after (take count buffer)
+  pub sized : length (take count buffer) ≡ count
+  pub end : count ≡ 0 → IsAtEnd after
+
 -- all bytes, within the limit
 pub record ReadsToEnd (limit : ℕ) (before after : Option (List ℕ)) (read : List ℕ) : Type 0 where
   pub taken : Consumes before after read
