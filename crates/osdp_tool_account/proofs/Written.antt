@@ -7,19 +7,19 @@ use Rattle.osdp_msg.specs.declared.command.Command.{Command}
 use Rattle.osdp_msg.specs.declared.event.Event.{Event}
 use Rattle.osdp_msg.specs.declared.reply.Reply.{Reply}
 use Rattle.osdp_msg.specs.CommandText.{command_text, command_words}
-use Rattle.osdp_msg.specs.Events.{event_text}
+use Rattle.osdp_msg.specs.Events.{event_text, event_words}
 use Rattle.osdp_msg.specs.ReplyText.{reply_text, reply_words}
 use Rattle.osdp_sim.specs.Account.{Account}
 use Rattle.osdp_words.specs.Word.{Word, plain, printed, text_of}
-use Rattle.osdp_tool_account.specs.AccountText.{command_line, counts_line, line_text, lines_text, reported_line, settled_line}
+use Rattle.osdp_tool_account.specs.AccountText.{command_line, counts_line, line_text, lines_text}
 
 pub command_is : (name : List ℕ) (c : Command) → line_text (command_line name c) ≡ name ++ (codes " " ++ (command_text c ++ codes "\n"))
 unfolding command_text
 command_is name c = append_assoc name (codes " " ++ text_of (command_words c)) (codes "\n")
 
-pub reported_is : (e : Event) → line_text (reported_line e) ≡ codes "reported " ++ (event_text e ++ codes "\n")
+pub event_is : (name : List ℕ) (e : Event) → line_text (plain name ∷ event_words e) ≡ name ++ (codes " " ++ (event_text e ++ codes "\n"))
 unfolding reply_text
-reported_is e = refl
+event_is name e = append_assoc name (codes " " ++ text_of (event_words e)) (codes "\n")
 
 both_lists : (xs ys : List Word) → flat_map (λ word. codes " " ++ printed word) (xs ++ ys)
     ≡ flat_map (λ word. codes " " ++ printed word) xs ++ flat_map (λ word. codes " " ++ printed word) ys
@@ -28,12 +28,16 @@ both_lists (x ∷ xs) ys =
     ap (λ l. (codes " " ++ printed x) ++ l) (both_lists xs ys)
     ∙ sym (append_assoc (codes " " ++ printed x) (flat_map (λ word. codes " " ++ printed word) xs) (flat_map (λ word. codes " " ++ printed word) ys))
 
-pub settled_is : (c : Command) (r : Reply) → line_text (settled_line (c, r))
-    ≡ codes "settled " ++ (command_text c ++ (codes " = " ++ (reply_text r ++ codes "\n")))
+pub settled_is : (name : List ℕ) (c : Command) (r : Reply) → line_text (plain name ∷ (command_words c ++ plain (codes "=") ∷ reply_words r))
+    ≡ name ++ (codes " " ++ (command_text c ++ (codes " = " ++ (reply_text r ++ codes "\n"))))
 unfolding command_text reply_text
-settled_is c r =
-    ap (λ l. (codes "settled" ++ l) ++ codes "\n") (both_lists (command_words c) (plain (codes "=") ∷ reply_words r))
-    ∙ ap (λ l. codes "settled " ++ l) (append_assoc (text_of (command_words c)) (codes " = " ++ text_of (reply_words r)) (codes "\n"))
+settled_is name c r =
+    ap (λ l. (name ++ l) ++ codes "\n") (both_lists (command_words c) (plain (codes "=") ∷ reply_words r))
+    ∙ append_assoc name ((codes " " ++ text_of (command_words c)) ++ (codes " = " ++ text_of (reply_words r))) (codes "\n")
+    ∙ ap (λ l. name ++ (codes " " ++ l)) (append_assoc (text_of (command_words c)) (codes " = " ++ text_of (reply_words r)) (codes "\n"))
+
+pub end_is : (name word : List ℕ) → line_text (plain name ∷ plain word ∷ []) ≡ name ++ (codes " " ++ (word ++ codes "\n"))
+end_is name word = append_assoc name (codes " " ++ (word ++ [])) (codes "\n") ∙ ap (λ l. name ++ (codes " " ++ (l ++ codes "\n"))) (append-nil word)
 
 pub lines_more : {X : Type 0} (line : X → List Word) (xs : List X) (i : ℕ) (x : X) (text next whole : List ℕ) → i < length xs → x ≡ get_or xs i x
     → next ≡ text ++ line_text (line x) → text ++ lines_text (map line (drop i xs)) ≡ whole
@@ -69,19 +73,6 @@ pub counts_are : (a : Account) (reader i t s u q r : ℕ) (old mid new : List �
 counts_are a reader i t s u q r old mid new ei et es eu eq er first second =
     rw (← ei, ← et, ← es, ← eu, ← eq, ← er)
     (halves old mid new (decimal reader) (decimal i) (decimal t) (decimal s) (decimal u) (decimal q) (decimal r) first second)
-
--- the same of a list whose elements are copied
-pub lines_more_at : {X : Type 0} (line : X → List Word) (xs : List X) (i : ℕ) (d : X) (text next whole : List ℕ) → i < length xs
-    → next ≡ text ++ line_text (line (get_or xs i d)) → text ++ lines_text (map line (drop i xs)) ≡ whole
-    → next ++ lines_text (map line (drop (i + 1) xs)) ≡ whole
-lines_more_at line xs i d text next whole within written all =
-    ap (λ l. l ++ lines_text (map line (drop (i + 1) xs))) written
-    ∙ append_assoc text (line_text (line (get_or xs i d))) (lines_text (map line (drop (i + 1) xs)))
-    ∙ ap (λ l. text ++ lines_text (map line l)) (sym split)
-    ∙ all
-  where
-    split : drop i xs ≡ get_or xs i d ∷ drop (i + 1) xs
-    split = rw add-one (drop-cons xs i d within)
 
 pub lines_both : (xs ys : List (List Word)) → lines_text (xs ++ ys) ≡ lines_text xs ++ lines_text ys
 lines_both [] ys = refl

@@ -4,7 +4,7 @@ ghost use Rattle.std.specs.Prelude.{◌≡◌, ◌++◌, OnOk, IfOk, string_byte
 ghost use Rattle.osdp_sim.specs.Account.{lists_of};
 ghost use Rattle.osdp_tool_account.specs.AccountText.{account_text, counts_line, line_text};
 
-use crate::lines::{push_commands, push_ends, push_reported, push_settled};
+use crate::lines::push_list;
 use osdp_sim::Account;
 use std::alloc::{AllocError, Global};
 
@@ -32,10 +32,10 @@ pub fn account_text(alloc: Global, number: usize, account: &Account) -> Result<S
 {
     let mut text = String::new(alloc);
     push_counts(&mut text, number, account)?;
-    push_commands(&mut text, "taken", &account.taken)?;
-    push_settled(&mut text, &account.settled)?;
-    push_commands(&mut text, "unsettled", &account.unsettled)?;
-    push_reported(&mut text, &account.reported)?;
-    push_ends(&mut text, &account.ends)?;
+    push_list(&mut text, "taken", &account.taken)?;
+    push_list(&mut text, "settled", &account.settled)?;
+    push_list(&mut text, "unsettled", &account.unsettled)?;
+    push_list(&mut text, "reported", &account.reported)?;
+    push_list(&mut text, "ended", &account.ends)?;
     Ok(text)
 }

@@ -1,69 +1,52 @@
 //! Lines of an account.
 
-ghost use Rattle.std.specs.Prelude.{◌≡◌, ◌++◌, OnOk, map, string_bytes};
-ghost use Rattle.osdp_tool_account.specs.AccountText.{command_line, end_name, ended_line, lines_text, line_text, reported_line, settled_line};
+ghost use Rattle.std.specs.Prelude.{◌≡◌, ◌∷◌, ◌++◌, [], List, OnOk, codes, map, string_bytes};
+ghost use Rattle.osdp_msg.specs.CommandText.{command_words};
+ghost use Rattle.osdp_msg.specs.Events.{event_words};
+ghost use Rattle.osdp_msg.specs.ReplyText.{reply_words};
+ghost use Rattle.osdp_words.specs.Word.{Word, plain};
+ghost use Rattle.osdp_tool_account.specs.AccountText.{end_name, lines_text, line_text};
 
 use osdp_controller::LostCause;
 use osdp_msg::{Command, Event, Reply};
 use osdp_sim::End;
 use std::alloc::AllocError;
 
-/// The line of a command.
-fn push_command(text: &mut String, name: &str, command: &Command) -> Result<(), AllocError>
-    ensures { OnOk result (string_bytes text.new ≡ string_bytes text.old ++ line_text (command_line name.now command.now)) }
-{
-    write!(text, "{name} {command}\n")
+/// An item of a list of an account.
+pub(crate) trait Listed {
+    /// What stands in its line after the name of the list.
+    ghost words: { Self → List Word };
+
+    /// The line of the item, which begins by the name of its list.
+    fn push_line(&self, text: &mut String, name: &str) -> Result<(), AllocError>
+        ensures { OnOk result (string_bytes text.new ≡ string_bytes text.old ++ line_text (plain name.now ∷ words self.now)) };
 }
 
-/// The lines of a list of commands, which begin by its name.
-pub(crate) fn push_commands(
-    text: &mut String,
-    name: &str,
-    commands: &[Command],
-) -> Result<(), AllocError>
-    ensures { OnOk result (string_bytes text.new ≡ string_bytes text.old ++ lines_text (map (command_line name.now) commands.now)) }
-{
-    for command in commands {
-        push_command(text, name, command)?;
+impl Listed for Command {
+    ghost words = { command_words };
+
+    fn push_line(&self, text: &mut String, name: &str) -> Result<(), AllocError> {
+        write!(text, "{name} {self}\n")
     }
-    Ok(())
 }
 
-/// The line of a command and its answer.
-fn push_settled_one(text: &mut String, command: &Command, answer: &Reply) -> Result<(), AllocError>
-    ensures { OnOk result (string_bytes text.new ≡ string_bytes text.old ++ line_text (settled_line (command.now, answer.now))) }
-{
-    write!(text, "settled {command} = {answer}\n")
-}
+/// A command that was settled, and its answer.
+impl Listed for (Command, Reply) {
+    ghost words = { λ pair. command_words pair.0 ++ plain (codes "=") ∷ reply_words pair.1 };
 
-/// The lines of the commands that were settled, each with its answer.
-pub(crate) fn push_settled(
-    text: &mut String,
-    settled: &[(Command, Reply)],
-) -> Result<(), AllocError>
-    ensures { OnOk result (string_bytes text.new ≡ string_bytes text.old ++ lines_text (map settled_line settled.now)) }
-{
-    for pair in settled {
-        push_settled_one(text, &pair.0, &pair.1)?;
+    fn push_line(&self, text: &mut String, name: &str) -> Result<(), AllocError> {
+        let command = &self.0;
+        let answer = &self.1;
+        write!(text, "{name} {command} = {answer}\n")
     }
-    Ok(())
 }
 
-/// The line of an event.
-fn push_event(text: &mut String, event: &Event) -> Result<(), AllocError>
-    ensures { OnOk result (string_bytes text.new ≡ string_bytes text.old ++ line_text (reported_line event.now)) }
-{
-    write!(text, "reported {event}\n")
-}
+impl Listed for Event {
+    ghost words = { event_words };
 
-/// The lines of the events that were reported.
-pub(crate) fn push_reported(text: &mut String, events: &[Event]) -> Result<(), AllocError>
-    ensures { OnOk result (string_bytes text.new ≡ string_bytes text.old ++ lines_text (map reported_line events.now)) }
-{
-    for event in events {
-        push_event(text, event)?;
+    fn push_line(&self, text: &mut String, name: &str) -> Result<(), AllocError> {
+        write!(text, "{name} {self}\n")
     }
-    Ok(())
 }
 
 /// How a session ended, in one word.
@@ -78,20 +61,25 @@ fn end_name(end: End) -> &'static str
     }
 }
 
-/// The line of an end.
-fn push_end(text: &mut String, end: End) -> Result<(), AllocError>
-    ensures { OnOk result (string_bytes text.new ≡ string_bytes text.old ++ line_text (ended_line end)) }
-{
-    let name = end_name(end);
-    write!(text, "ended {name}\n")
+impl Listed for End {
+    ghost words = { λ end. plain (end_name end) ∷ [] };
+
+    fn push_line(&self, text: &mut String, name: &str) -> Result<(), AllocError> {
+        let end = end_name(*self);
+        write!(text, "{name} {end}\n")
+    }
 }
 
-/// The lines of how the sessions ended.
-pub(crate) fn push_ends(text: &mut String, ends: &[End]) -> Result<(), AllocError>
-    ensures { OnOk result (string_bytes text.new ≡ string_bytes text.old ++ lines_text (map ended_line ends.now)) }
+/// The lines of a list of an account, each of which begins by its name.
+pub(crate) fn push_list<T: Listed>(
+    text: &mut String,
+    name: &str,
+    items: &[T],
+) -> Result<(), AllocError>
+    ensures { OnOk result (string_bytes text.new ≡ string_bytes text.old ++ lines_text (map (λ item. plain name.now ∷ T.words item) items.now)) }
 {
-    for end in ends {
-        push_end(text, *end)?;
+    for item in items {
+        item.push_line(text, name)?;
     }
     Ok(())
 }

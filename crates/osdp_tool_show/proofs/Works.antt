@@ -1,8 +1,8 @@
 -- A capture that is read to its end.
-use Rattle.std.proofs.Common.{◌≡◌, ℕ, ◌+◌, ◌-◌, ◌≤◌, Bool, true, false, List, [], ◌∷◌, ◌++◌, length, take, drop, take-append-drop, Option, Some, None, Result, Ok, Err, OnOk, OnErr, IfErr, ◌⊎◌, inl, inr, refl, sym, subst, ap, ◌∙◌, arith, append_assoc, append-nil, length-append}
+use Rattle.std.proofs.Common.{◌≡◌, ℕ, ◌+◌, ◌-◌, ◌≤◌, Bool, true, false, List, [], ◌∷◌, ◌++◌, length, take, drop, take-append-drop, Option, Some, None, Result, Ok, Err, OnOk, OnErr, IfErr, ◌⊎◌, inl, inr, refl, sym, subst, ap, ◌∙◌, arith, append_assoc, append-nil, length-append, length-take}
 use Rattle.std.specs.Prelude.{IsErrAnd}
-use Rattle.std.specs.Io.KnownBytes.{Appends, Consumes, Keeps}
-use Rattle.std.proofs.KnownBytes.{Consumes-nil, Consumes-trans}
+use Rattle.std.specs.Io.KnownBytes.{Appends, Consumes, IsAtEnd, Keeps}
+use Rattle.std.proofs.KnownBytes.{Consumes-kept, Consumes-nil, Consumes-trans}
 use Rattle.std.proofs.KnownBytes.{Appends-nil, Appends-trans, Appends-kept}
 use Rattle.osdp_frame.specs.Held.{Held}
 use Rattle.osdp_frame_laws.proofs.Readings.{decided_nothing, items_undecided}
@@ -21,6 +21,7 @@ use Rattle.osdp_tool_streams.specs.declared.fault.ToolFault.{ToolFault}
 use Rattle.osdp_tool_streams.specs.declared.fault.ToolFault.TheVariants.{NotHex, TooLong, BadWords, BadStep}
 use Rattle.osdp_tool_streams.specs.declared.fault.ToolFault.TheVariants.{HoldsPacket, NotQuiet, ReadFailed}
 use Rattle.osdp_tool_streams.specs.declared.fault.ToolFault.TheVariants.{WriteFailed, NoMemory}
+use Rattle.osdp_tool_streams.specs.Reading.{ReadsBytes}
 use Rattle.osdp_tool_show.specs.Machine.{IsSettled, IsStep, EndedRun}
 use Rattle.osdp_tool_show.specs.Written.{IsBeginning, StopsWithin}
 use Rattle.osdp_tool_show.proofs.Beginnings.{begun_all, stops_by}
@@ -39,31 +40,33 @@ pub record HasRead (limit left : ℕ) (old new : Capture) (input_before input_af
   pub count : length read + left ≡ limit
   pub took : TookPiece read true old new before after
 
-pub read_more : (limit left count : ℕ) (piece : List ℕ) (old mid new : Capture) (a b c : Option (List ℕ)) (x y z : Option (List ℕ))
-    → length piece ≡ count → count ≤ left → HasRead limit left old mid a b x y → Consumes b c piece → TookPiece piece true mid new y z
+pub read_more : (limit left count : ℕ) (buffer : List ℕ) (old mid new : Capture) (a b c : Option (List ℕ)) (x y z : Option (List ℕ))
+    → ReadsBytes left b c buffer count → HasRead limit left old mid a b x y → TookPiece (take count buffer) true mid new y z
     → HasRead limit (left - count) old new a c x z
-read_more limit left count piece old mid new a b c x y z sized within h taken took =
+read_more limit left count buffer old mid new a b c x y z piece h took =
     let was = h.count in
-    let lengths = length-append h.read piece in
+    let within = piece.within in
+    let room = piece.room in
     record {
-      read = h.read ++ piece;
-      taken = Consumes-trans a b c h.read piece h.taken taken;
-      count = omega arith;
-      took = took_both h.read piece true old mid new x y z h.took took;
+      read = h.read ++ take count buffer;
+      taken = Consumes-trans a b c h.read (take count buffer) h.taken piece.taken;
+      count = omega (arith, length-append h.read (take count buffer), length-take count buffer);
+      took = took_both h.read (take count buffer) true old mid new x y z h.took took;
     }
 
-pub read_bad : (limit left count : ℕ) (piece : List ℕ) (old mid new : Capture) (a b c : Option (List ℕ)) (x y z : Option (List ℕ))
-    → length piece ≡ count → count ≤ left → count ≤ 65536 → HasRead limit left old mid a b x y → Consumes b c piece → TookPart piece false mid new y z
+pub read_bad : (limit left count : ℕ) (buffer : List ℕ) (old mid new : Capture) (a b c : Option (List ℕ)) (x y z : Option (List ℕ))
+    → length buffer ≡ 65536 → ReadsBytes left b c buffer count → HasRead limit left old mid a b x y → TookPart (take count buffer) false mid new y z
     → ReadToBadLine limit old new a c x z
-read_bad limit left count piece old mid new a b c x y z sized within small h taken took =
+read_bad limit left count buffer old mid new a b c x y z size piece h took =
     let was = h.count in
-    let lengths = length-append h.read piece in
+    let within = piece.within in
+    let room = piece.room in
     record {
       earlier = h.read;
-      piece = piece;
-      taken = Consumes-trans a b c h.read piece h.taken taken;
-      within = omega arith;
-      one_piece = omega arith;
+      piece = take count buffer;
+      taken = Consumes-trans a b c h.read (take count buffer) h.taken piece.taken;
+      within = omega (arith, length-append h.read (take count buffer), length-take count buffer);
+      one_piece = omega (arith, length-take count buffer);
       most = took.0;
       mid = mid;
       middle = y;
@@ -71,41 +74,48 @@ read_bad limit left count piece old mid new a b c x y z sized within small h tak
       took = took.1;
     }
 
-pub read_stops : (limit left count : ℕ) (piece : List ℕ) (old mid : Capture) (a b c : Option (List ℕ)) (x y now : Option (List ℕ))
-    → length piece ≡ count → count ≤ left → HasRead limit left old mid a b x y → Consumes b c piece → StopsInPiece piece mid y now
+pub read_stops : (limit left count : ℕ) (buffer : List ℕ) (old mid : Capture) (a b c : Option (List ℕ)) (x y now : Option (List ℕ))
+    → ReadsBytes left b c buffer count → HasRead limit left old mid a b x y → StopsInPiece (take count buffer) mid y now
     → ReadPart limit old a c x now
-read_stops limit left count piece old mid a b c x y now sized within h taken stops =
+read_stops limit left count buffer old mid a b c x y now piece h stops =
     let was = h.count in
-    let lengths = length-append h.read piece in
+    let within = piece.within in
+    let room = piece.room in
     record {
       read = h.read;
-      piece = piece;
-      taken = Consumes-trans a b c h.read piece h.taken taken;
-      within = omega arith;
+      piece = take count buffer;
+      taken = Consumes-trans a b c h.read (take count buffer) h.taken piece.taken;
+      within = omega (arith, length-append h.read (take count buffer), length-take count buffer);
       mid = mid;
       middle = y;
       took = h.took;
       stops = stops;
     }
 
-single : (xs : List ℕ) → length xs ≡ 1 → (x : ℕ) × (xs ≡ x ∷ [])
-single [] h = absurd (omega arith)
-single (x ∷ []) h = (x, refl)
-single (x ∷ y ∷ xs) h = absurd (omega arith)
-
-pub read_past : (limit left count : ℕ) (piece : List ℕ) (old new : Capture) (a b c : Option (List ℕ)) (x y : Option (List ℕ))
-    → left ≤ 0 → length piece ≡ count → count ≤ 1 → (count ≡ 0 → ⊥) → HasRead limit left old new a b x y → Consumes b c piece
-    → ReadToLimit limit old new a c x y
-read_past limit left count piece old new a b c x y none sized within some h taken =
-    let one = single piece (omega arith) in
+pub read_past : (limit left byte : ℕ) (old new : Capture) (a b c : Option (List ℕ)) (x y : Option (List ℕ))
+    → HasRead limit left old new a b x y → (left ≡ 0) × Consumes b c (byte ∷ []) → ReadToLimit limit old new a c x y
+read_past limit left byte old new a b c x y h past =
     let was = h.count in
+    let none = past.0 in
     record {
       read = h.read;
-      one_more = one.0;
-      taken = Consumes-trans a b c h.read (one.0 ∷ []) h.taken (subst (Consumes b c) one.1 taken);
+      one_more = byte;
+      taken = Consumes-trans a b c h.read (byte ∷ []) h.taken past.1;
       whole = omega arith;
       took = h.took;
     }
+
+pub read_end : (limit left : ℕ) (old new : Capture) (a b c : Option (List ℕ)) (x y : Option (List ℕ))
+    → HasRead limit left old new a b x y → Keeps b c × IsAtEnd c → ReadToEnd limit old new a c x y
+read_end limit left old new a b c x y h ends =
+    let was = h.count in
+    record { read = h.read; taken = Consumes-kept a b c h.read h.taken ends.0; at_end = ends.1; within = omega arith; took = h.took }
+
+pub read_failure : (limit left : ℕ) (old new : Capture) (a b c : Option (List ℕ)) (x y : Option (List ℕ))
+    → HasRead limit left old new a b x y → Keeps b c → ReadToFailure limit old new a c x y
+read_failure limit left old new a b c x y h kept =
+    let was = h.count in
+    record { read = h.read; taken = Consumes-kept a b c h.read h.taken kept; within = omega arith; took = h.took }
 
 -- ---- the end
 

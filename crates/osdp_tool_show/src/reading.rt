@@ -1,13 +1,12 @@
 //! A capture that is read from a stream to its end.
 
 ghost use Rattle.std.specs.Prelude.{◌≡◌, ◌+◌, ◌*◌, ◌<◌, ◌≤◌, ◌^◌, ◌↔◌, ℕ, List, [], length, take, Bool, Option, is_err, true, false, string_bytes, if◌then◌else◌, Result, IfOk, OnOk, OnErr, IfErr};
-ghost use Rattle.std.specs.Io.KnownBytes.{Consumes, IsAtEnd, Keeps};
 ghost use Rattle.osdp_tool_input.specs.declared.form.Form.{Form};
 ghost use Rattle.osdp_tool_streams.specs.Watched.{inner_of, has_failed};
 ghost use Rattle.osdp_tool_show.specs.Machine.{told, IsStep, IsSettled};
 
 use crate::capture::Capture;
-use osdp_tool_streams::{ToolFault, Watched, read_some};
+use osdp_tool_streams::{Piece, ToolFault, Watched, read_piece};
 use std::io::{Read, Write};
 
 /// At most so many bytes are asked for at once.
@@ -20,24 +19,6 @@ pub enum Ending {
     AtBadLine,
     PastLimit,
     AtFailedRead,
-}
-
-/// Reads once into the front of the buffer, at most as many bytes as there is room for.
-fn read_piece<R: Read>(
-    input: &mut Watched<R>,
-    buffer: &mut [u8],
-    room: usize,
-) -> Result<usize, ToolFault>
-    requires within { room ≤ length buffer.old }
-    requires some { 0 < room }
-    ensures failed { has_failed input.new ≡ (if is_err result then true else has_failed input.old) }
-    ensures bound { IfOk result (λ count. count ≤ room) }
-    ensures taken { IfOk result (λ count. Consumes (R.remaining (inner_of input.old)) (R.remaining (inner_of input.new)) (take count buffer.new)) }
-    ensures length { IfOk result (λ count. length (take count buffer.new) ≡ count) }
-    ensures end { IfOk result (λ count. count ≡ 0 → IsAtEnd (R.remaining (inner_of input.new))) }
-    ensures err { OnErr result (Keeps (R.remaining (inner_of input.old)) (R.remaining (inner_of input.new))) }
-{
-    read_some(input, &mut buffer[..room])
 }
 
 impl Capture {
@@ -91,26 +72,18 @@ impl Capture {
     {
         let mut piece = [0u8; 65536];
         let mut left = limit;
-        'reads: while left > 0 {
-            let room = left.min(PIECE);
-            let Ok(count) = read_piece(input, &mut piece, room) else {
-                return Ok(Ending::AtFailedRead);
+        'reads: loop {
+            let count = match read_piece(input, &mut piece, left) {
+                Ok(Piece::Bytes(count)) => count,
+                Ok(Piece::AtEnd) => return Ok(Ending::AtEnd),
+                Ok(Piece::PastLimit) => return Ok(Ending::PastLimit),
+                Err(_) => return Ok(Ending::AtFailedRead),
             };
-            if count == 0 {
-                return Ok(Ending::AtEnd);
-            }
+            let room = left.min(PIECE);
             left -= count;
             if !self.take_read(&piece[..count], room, output)? {
                 return Ok(Ending::AtBadLine);
             }
-        }
-        let Ok(count) = read_piece(input, &mut piece, 1) else {
-            return Ok(Ending::AtFailedRead);
-        };
-        if count == 0 {
-            Ok(Ending::AtEnd)
-        } else {
-            Ok(Ending::PastLimit)
         }
     }
 
