@@ -1,18 +1,11 @@
 -- How an input is read whole.
-use Rattle.std.specs.Prelude.{◌≡◌, ℕ, ◌≤◌, Bool, true, List, [], ◌∷◌, ◌++◌, length, take, Option, Result, Ok, Err}
+use Rattle.std.specs.Prelude.{◌≡◌, ℕ, ◌≤◌, Bool, true, List, [], ◌∷◌, ◌++◌, length, Option, Result, Ok, Err}
 use Rattle.std.specs.Global.{Vec}
 use Rattle.std.specs.Io.KnownBytes.{Consumes, IsAtEnd}
 use Rattle.osdp_tool_streams.specs.declared.fault.ToolFault.{ToolFault}
 use Rattle.osdp_tool_streams.specs.declared.fault.ToolFault.TheVariants.{NotHex, TooLong, BadWords, BadStep}
 use Rattle.osdp_tool_streams.specs.declared.fault.ToolFault.TheVariants.{HoldsPacket, NotQuiet, ReadFailed}
 use Rattle.osdp_tool_streams.specs.declared.fault.ToolFault.TheVariants.{WriteFailed, NoMemory}
-
--- one read: so many bytes at the front of the buffer, none only at the end of the input
-pub record ReadsPiece (room : ℕ) (before after : Option (List ℕ)) (count : ℕ) (buffer : List ℕ) : Type 0 where
-  pub bound : count ≤ room
-  pub taken : Consumes before after (take count buffer)
-  pub sized : length (take count buffer) ≡ count
-  pub end : count ≡ 0 → IsAtEnd after
 
 -- all bytes, within the limit
 pub record ReadsToEnd (limit : ℕ) (before after : Option (List ℕ)) (read : List ℕ) : Type 0 where

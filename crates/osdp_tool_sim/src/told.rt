@@ -1,6 +1,6 @@
 //! What is told of a script.
 
-ghost use Rattle.std.specs.Prelude.{◌≡◌, IfErr, IfOk};
+ghost use Rattle.std.specs.Prelude.{◌≡◌, ◌↔◌, IfErr, IfOk, IsErr};
 ghost use Rattle.osdp_tool_sim.specs.Steps.{EndsBy};
 
 use osdp_sim::{Cause, Fault};
@@ -23,6 +23,7 @@ pub(crate) fn stopped<T: Drop>(fault: Fault<T>) -> Result<Told<T>, ToolFault>
     requires { fault.cause ≡ Cause.OutOfRange → ⊥ }
     ensures told { IfOk result (λ told. (told.what ≡ fault.account) × EndsBy fault.cause fault.step told.end) }
     ensures fault { IfErr result (λ untold. untold ≡ ToolFault.NoMemory) }
+    ensures memory { IsErr result ↔ (fault.cause ≡ Cause.NoMemory) }
 {
     match fault.cause {
         Cause::HoldsPacket => Ok(Told {

@@ -1,12 +1,11 @@
-use Rattle.std.proofs.Common.{◌≡◌, ◌+◌, length}
-use Rattle.std.specs.Io.KnownBytes.{Consumes}
+use Rattle.std.proofs.Common.{◌≡◌}
 use Rattle.osdp_tool_streams.specs.Watched.{inner_of, has_failed}
+use Rattle.osdp_tool_sim.proofs.ReadWhole.{HasRead}
 use Rattle.osdp_tool_sim.proofs.reading.read_all.Given as goal
 
 abbrev pub invariant-reads : goal.invariant-reads
 invariant-reads g l = record {
-  taken : Consumes (g.R.Read.remaining (inner_of l.initial.input)) (g.R.Read.remaining (inner_of l.input)) l.bytes.items;
-  count : length l.bytes.items + l.left ≡ l.limit;
+  has_read : HasRead l.limit l.left l.bytes.items (g.R.Read.remaining (inner_of l.initial.input)) (g.R.Read.remaining (inner_of l.input));
   failed : has_failed l.input ≡ has_failed l.initial.input;
 }
 
