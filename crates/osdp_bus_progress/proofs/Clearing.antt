@@ -1,5 +1,5 @@
 -- A line is cleared: its readers are set ready, and what is on it is lost.
-use Rattle.std.proofs.Common.{◌≡◌, ◌≤◌, ◌<◌, ◌-◌, ◌+◌, ℕ, zero, suc, Bool, true, false, ◌&&◌, cond, List, [], ◌∷◌, ◌++◌, length, map, Option, Some, None, is_some, refl, sym, subst, ap, ◌∙◌, arith}
+use Rattle.std.proofs.Common.{◌≡◌, ◌≤◌, ◌<◌, ◌-◌, ◌+◌, ℕ, zero, suc, false, ◌&&◌, cond, List, [], ◌∷◌, ◌++◌, length, map, Option, Some, None, is_some, refl, sym, subst, ap, ◌∙◌, arith}
 use Rattle.std.specs.Prelude.{nat_le, slice_get, slice_set}
 use Rattle.std.specs.List.{All}
 use Rattle.std.specs.Option.{option_map_or}
@@ -12,6 +12,7 @@ use Rattle.osdp_bus.specs.Machine.{after_next_report}
 use Rattle.osdp_bus.specs.declared.config.BusConfig.{BusConfig}
 use Rattle.osdp_controller.specs.declared.report.Report.{Report}
 use Rattle.osdp_link_laws.specs.Progress.{SetsNoAddress}
+use Rattle.osdp_sim.proofs.Schedules.{runs_on}
 use Rattle.osdp_sim.specs.Account.{Account}
 use Rattle.osdp_sim.specs.Line.{handed, left, packets_in}
 use Rattle.osdp_sim.specs.declared.step.Move.TheVariants.{Drop}
@@ -113,10 +114,6 @@ no_report None e = refl
 no_report (Some r) e = absurd cc
 
 module _ {H : Type 0} (answer_of : H → Command → Answer) (after : H → Command → H) where
-  runs_on : (xs ys : List SimStep) (s : LineState H) → simulation.run answer_of after (xs ++ ys) s ≡ simulation.run answer_of after ys (simulation.run answer_of after xs s)
-  runs_on [] ys s = refl
-  runs_on (x ∷ xs) ys s = runs_on xs ys (after_step answer_of after x s)
-
   -- a reader that is there is set ready
   sets_ready : (n : ℕ) (s : LineState H) → suc n ≤ length s.sites
       → after_step answer_of after (Busy (suc n) false) s ≡ record s { sites = changed_site n (site_is_busy false) s.sites }
@@ -134,7 +131,7 @@ module _ {H : Type 0} (answer_of : H → Command → Answer) (after : H → Comm
   ready_run (suc n) s h =
       let before = record s { sites = calm n s.sites } in
       let long = calm_long n s.sites in
-      runs_on (all_ready n) (Busy (suc n) false ∷ []) s
+      runs_on (after_step answer_of after) (all_ready n) (Busy (suc n) false ∷ []) s
       ∙ ap (λ (t : LineState H). after_step answer_of after (Busy (suc n) false) t) (ready_run n s (omega arith))
       ∙ sets_ready n before (omega arith)
       ∙ ap (λ (sites : List (Site H)). record s { sites = sites }) (one_more n s.sites)
@@ -191,7 +188,7 @@ module _ {H : Type 0} (answer_of : H → Command → Answer) (after : H → Comm
       let ready = record s { sites = calm readers s.sites } in
       let end = simulation.run answer_of after (losses most) ready in
       let here : simulation.run answer_of after (clear readers most) s ≡ end =
-      runs_on (all_ready readers) (losses most) s
+      runs_on (after_step answer_of after) (all_ready readers) (losses most) s
       ∙ ap (λ (t : LineState H). simulation.run answer_of after (losses most) t) (ready_run readers s (omega arith)) in
       let is = losses_run none most ready waits in
       let short = is.to_readers in
@@ -221,7 +218,7 @@ module _ {H : Type 0} (answer_of : H → Command → Answer) (after : H → Comm
       let places : length before.sites ≡ length readers =
       sym (length-map before.sites (λ (site : Site H). site.account)) ∙ counts config readers steps in
       let over : IsCleared before mid =
-      subst (λ (t : LineState H). IsCleared before t) (sym (runs_on steps (clear (length readers) most) (set_up config readers)))
+      subst (λ (t : LineState H). IsCleared before t) (sym (runs_on (after_step answer_of after) steps (clear (length readers) most) (set_up config readers)))
       (cleared none before (length readers) most waits places few less moves) in
       let session = All-append IsInSession steps (clear (length readers) most) within (in_session (length readers) most) in
       let through = comes config readers all_steps m wait is session long over.line none_ended in

@@ -1,5 +1,5 @@
 -- Something comes through for each of several readers.
-use Rattle.std.proofs.Common.{◌≡◌, ◌≤◌, ◌<◌, ◌+◌, ◌++◌, ◌&&◌, ℕ, zero, suc, Bool, true, All, List, [], ◌∷◌, length, map, Option, Some, None, is_none, inl, inr, refl, sym, subst, ap, ◌∙◌, arith}
+use Rattle.std.proofs.Common.{◌≡◌, ◌≤◌, ◌<◌, ◌+◌, ◌++◌, ℕ, zero, suc, All, List, [], ◌∷◌, length, map, Some, inl, inr, refl, sym, subst, ap, ◌∙◌, arith}
 use Rattle.std.proofs.Math.Nat.{div-mul-le_self, suc-mul}
 use Rattle.std.proofs.lemmas.List.{length-map}
 use Rattle.std.specs.Prelude.{◌/◌, ◌*◌, slice_get}
@@ -31,17 +31,16 @@ use Rattle.osdp_multidrop.proofs.Running.{holds_all, holds_first}
 use Rattle.osdp_bus_links.specs.Links.{device_of, packets_on}
 use Rattle.osdp_bus_links.proofs.Telling.{EndsAreTold}
 use Rattle.osdp_sim.specs.Account.{Account}
-use Rattle.osdp_sim.specs.declared.fault.Cause.{Cause}
 use Rattle.osdp_sim.specs.declared.step.SimStep.{SimStep}
 use Rattle.osdp_sim_bus.specs.Laws.{HasAnAccountEach}
 use Rattle.osdp_sim_bus.specs.Runs as simulation
-use Rattle.osdp_sim_bus.specs.Runs.{FitAlong, is_well}
+use Rattle.osdp_sim_bus.specs.Runs.{FitAlong}
 use Rattle.osdp_sim_bus.specs.State.{Given, LineState, Site, accounts, set_up}
-use Rattle.osdp_sim_bus.specs.Steps.{after_step, fault_of}
+use Rattle.osdp_sim_bus.specs.Steps.{StepFits, after_step, fault_of}
 use Rattle.osdp_sim_laws.specs.Accounts.{IsInSession, IsOf}
 use Rattle.osdp_sim_laws.specs.Progress.{rounds}
 use Rattle.osdp_sim_laws.proofs.Coming.{rounds_within}
-use Rattle.osdp_sim.proofs.Schedules.{first_well}
+use Rattle.osdp_sim.proofs.Schedules.{holds_on, runs_on, well_on}
 use Rattle.osdp_sim_bus_laws.specs.Moves.{Done, Follows, OneBus, SchedulesAreMoves, SitesOf}
 use Rattle.osdp_sim_bus_laws.proofs.Beginning.{first_net, first_site, follows_first, has_site, is_set_up}
 use Rattle.osdp_sim_bus_laws.proofs.OneSession.{HasOne, none_earlier, one_first, one_run}
@@ -89,30 +88,6 @@ share : (m count : ℕ) → all_turns (m / count) count ≤ m
 share m count = subst (λ all. all ≤ m) (sym (all_is (m / count) count)) (div-mul-le_self m count)
 
 module _ {H : Type 0} (answer_of : H → Command → Answer) (after : H → Command → H) where
-  -- ---- two schedules, one after the other
-
-  runs_on : (xs ys : List SimStep) (s : LineState H) → simulation.run answer_of after (xs ++ ys) s ≡ simulation.run answer_of after ys (simulation.run answer_of after xs s)
-  runs_on [] ys s = refl
-  runs_on (x ∷ xs) ys s = runs_on xs ys (after_step answer_of after x s)
-
-  well_on : (xs ys : List SimStep) (s : LineState H) → is_well answer_of after (xs ++ ys) s ≡ true → is_well answer_of after xs s ≡ true
-  well_on [] ys s well = refl
-  well_on (x ∷ xs) ys s well =
-      let next = after_step answer_of after x s in
-      let first = first_well (fault_of x s) (is_well answer_of after (xs ++ ys) next) well in
-      none_and (fault_of x s) (is_well answer_of after xs next) first.0 (well_on xs ys next first.1)
-    where
-      none_and : (fault : Option Cause) (more : Bool) → fault ≡ None → more ≡ true → (is_none fault && more) ≡ true
-      none_and None more none e = e
-      none_and (Some cause) more none e = absurd cc
-
-  fits_on : (xs ys : List SimStep) (s : LineState H) → FitAlong answer_of after (xs ++ ys) s
-      → FitAlong answer_of after xs s × FitAlong answer_of after ys (simulation.run answer_of after xs s)
-  fits_on [] ys s fits = (tt, fits)
-  fits_on (x ∷ xs) ys s fits =
-      let rest = fits_on xs ys (after_step answer_of after x s) fits.1 in
-      ((fits.0, rest.0), rest.1)
-
   -- ---- the lists of one session
 
   record AsLong (a : Account) (t : link.Account) : Type 0 where
@@ -151,7 +126,7 @@ module _ {H : Type 0} (answer_of : H → Command → Answer) (after : H → Comm
       later = simulation.run answer_of after (rounds m wait) s
 
       later_is : simulation.run answer_of after (steps ++ rounds m wait) start ≡ later
-      later_is = runs_on steps (rounds m wait) start
+      later_is = runs_on (after_step answer_of after) steps (rounds m wait) start
 
       abbrev first : Net H
       first = first_net config readers
@@ -160,10 +135,10 @@ module _ {H : Type 0} (answer_of : H → Command → Answer) (after : H → Comm
       up = is_set_up config readers is.settings
 
       fits : FitAlong answer_of after steps start × FitAlong answer_of after (rounds m wait) s
-      fits = fits_on steps (rounds m wait) start is.fits
+      fits = holds_on (after_step answer_of after) (StepFits answer_of after) steps (rounds m wait) start is.fits
 
       goes : Done answer_of after s first
-      goes = schedules steps start first up (follows_first config readers) (well_on steps (rounds m wait) start is.well) fits.0
+      goes = schedules steps start first up (follows_first config readers) (well_on (after_step answer_of after) fault_of steps (rounds m wait) start is.well).0 fits.0
 
       abbrev n : Net H
       n = run answer_of after goes.0 first
@@ -351,7 +326,7 @@ module _ {H : Type 0} (answer_of : H → Command → Answer) (after : H → Comm
         let later = simulation.run answer_of after (rounds m wait) s in
         let u = unmapped (λ (site : Site H). site.account) k old s.sites at in
         let v = unmapped (λ (site : Site H). site.account) k new later.sites
-        (subst (λ (w : LineState H). slice_get (accounts w) k ≡ Some new) (runs_on steps (rounds m wait) (set_up config readers)) there) in
+        (subst (λ (w : LineState H). slice_get (accounts w) k ≡ Some new) (runs_on (after_step answer_of after) steps (rounds m wait) (set_up config readers)) there) in
         subst (λ a. ComesOn m (length readers) a new) u.2
         (subst (λ b. ComesOn m (length readers) u.0.account b) v.2
         (comes_on config readers steps m wait is within long clear none k u.0 v.0 u.1 v.1))

@@ -1,7 +1,7 @@
 -- The readers hear a packet one after the other.
-use Rattle.std.proofs.Common.{◌≡◌, ℕ, zero, suc, ◌+◌, ◌<◌, ◌≤◌, arith, All, List, [], ◌∷◌, ◌++◌, length, map, take, drop, get_or, set, refl, sym, subst, ap, ◌∙◌}
+use Rattle.std.proofs.Common.{◌≡◌, ℕ, ◌+◌, ◌<◌, ◌≤◌, arith, All, List, [], ◌∷◌, ◌++◌, length, map, take, drop, get_or, set, refl, sym, subst, ap, ◌∙◌}
 use Rattle.std.proofs.lemmas.List.{append-nil, append_assoc, drop-set-lt, drop_more, length-set, map-append, take_all, take_more, take_more_set}
-use Rattle.std.proofs.lemmas.List.Elements.{All-append}
+use Rattle.std.proofs.lemmas.List.Elements.{All-nil, All-push}
 use Rattle.std.proofs.lemmas.Grind.{drop_more_same, flat_map-append}
 use Rattle.std.specs.List.{flat_map}
 use Rattle.osdp_frame.specs.Packet.{Packet}
@@ -12,13 +12,6 @@ use Rattle.osdp_sim_bus.specs.declared.site.Site as declared
 use Rattle.osdp_sim_bus.specs.Room.{site_of, sites_of}
 use Rattle.osdp_sim_bus.specs.State.{Site}
 use Rattle.osdp_sim_bus.specs.Steps.{site_hears, site_says}
-
-pub all_single : {X : Type 0} (P : X → Type 0) (x : X) → P x → All P (x ∷ [])
-all_single P x holds zero d lt = holds
-all_single P x holds (suc k) d lt = absurd (omega (arith, lt))
-
-pub all_no : {X : Type 0} (P : X → Type 0) → All P []
-all_no P k d lt = absurd (omega (arith, lt))
 
 -- what is left of two lists begins with the same
 pub same_there : {X : Type 0} (xs ys : List X) (i : ℕ) (d : X) → i < length xs → i < length ys → drop i xs ≡ drop i ys → get_or xs i d ≡ get_or ys i d
@@ -43,7 +36,7 @@ module _ {H : Type 0} (answer_of : H → Command → Answer) (after : H → Comm
     done = refl;
     rest = refl;
     line = sym (append-nil line);
-    fits = all_no Says;
+    fits = All-nil Says;
   }
 
   one_longer : (sites : List (declared.Site H)) (count : ℕ) (site : declared.Site H) → count < length sites
@@ -78,7 +71,7 @@ module _ {H : Type 0} (answer_of : H → Command → Answer) (after : H → Comm
             ∙ ap (λ l. before ++ l)
             (ap (λ l. flat_map (site_says answer_of after p) (sites_of (take count old)) ++ l) (sym (append-nil (site_says answer_of after p site)))
             ∙ sym (ap (flat_map (site_says answer_of after p)) longer ∙ flat_map-append (site_says answer_of after p) (sites_of (take count old)) (site ∷ [])));
-        fits = subst (All Says) (sym longer) (All-append Says (sites_of (take count old)) (site ∷ []) h.fits (all_single Says site fit));
+        fits = subst (All Says) (sym longer) (All-push Says (sites_of (take count old)) site h.fits fit);
       }
 
   -- all of them have

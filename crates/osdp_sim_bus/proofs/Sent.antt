@@ -1,6 +1,6 @@
 -- What is on the line is sent by an end, whatever step comes.
-use Rattle.std.proofs.Common.{ℕ, zero, suc, ◌-◌, Bool, true, false, arith, if◌then◌else◌, All, List, [], ◌∷◌, map, Option, Some, None, sym, subst}
-use Rattle.std.proofs.lemmas.List.Elements.{All-append}
+use Rattle.std.proofs.Common.{ℕ, ◌-◌, Bool, true, false, if◌then◌else◌, All, List, [], ◌∷◌, map, Option, Some, None, sym, subst}
+use Rattle.std.proofs.lemmas.List.Elements.{All-append, All-cons, All-head, All-nil, All-tail}
 use Rattle.std.proofs.lemmas.List.Concat.{flat_map-cons}
 use Rattle.std.specs.List.{flat_map}
 use Rattle.osdp_frame.specs.Packet.{Packet}
@@ -18,17 +18,6 @@ use Rattle.osdp_sim.specs.declared.step.SimStep.TheVariants.{Issue, Queue, Busy,
 use Rattle.osdp_sim.proofs.Sent.{HasSpelling, all_sent, left_sent}
 use Rattle.osdp_sim_bus.specs.State.{AreSent, LineState, Site}
 use Rattle.osdp_sim_bus.specs.Steps.{StepFits, after_step, all_hear, all_hear_each, hears_run, is_there, issued, site_hears, site_says, told, waited}
-use Rattle.osdp_sim_bus.proofs.Hearing.{all_no}
-
-all_cons : {X : Type 0} (P : X → Type 0) (x : X) (xs : List X) → P x → All P xs → All P (x ∷ xs)
-all_cons P x xs here others zero d lt = here
-all_cons P x xs here others (suc k) d lt = others k d (omega (arith, lt))
-
-all_after : {X : Type 0} (P : X → Type 0) (x : X) (xs : List X) → All P (x ∷ xs) → All P xs
-all_after P x xs all k d lt = all (suc k) d (omega (arith, lt))
-
-all_first : {X : Type 0} (P : X → Type 0) (x : X) (xs : List X) → All P (x ∷ xs) → P x
-all_first P x xs all = all 0 x (omega arith)
 
 module _ {H : Type 0} (answer_of : H → Command → Answer) (after : H → Command → H) where
   abbrev pub SayFit : List Packet → Site H → Type 0
@@ -49,20 +38,20 @@ module _ {H : Type 0} (answer_of : H → Command → Answer) (after : H → Comm
   -- what all of them say
   says_sent : HasSpelling → (p : Packet) (packets : List Packet) (sites : List (Site H)) → All (SayFit (p ∷ packets)) sites
       → All IsSent (flat_map (site_says answer_of after p) sites)
-  says_sent has p packets [] fit = all_no IsSent
+  says_sent has p packets [] fit = All-nil IsSent
   says_sent has p packets (site ∷ sites) fit =
       subst (All IsSent) (sym (flat_map-cons (site_says answer_of after p) site sites))
       (All-append IsSent (site_says answer_of after p site) (flat_map (site_says answer_of after p) sites)
-      (all_sent has (reader.hears answer_of after site.reader p).reply (all_first (SayFit (p ∷ packets)) site sites fit).1)
-      (says_sent has p packets sites (all_after (SayFit (p ∷ packets)) site sites fit)))
+      (all_sent has (reader.hears answer_of after site.reader p).reply (All-head (SayFit (p ∷ packets)) site sites fit).1)
+      (says_sent has p packets sites (All-tail (SayFit (p ∷ packets)) site sites fit)))
 
   still_fit : (p : Packet) (packets : List Packet) (sites : List (Site H)) → All (SayFit (p ∷ packets)) sites
       → All (SayFit packets) (map (site_hears answer_of after p) sites)
-  still_fit p packets [] fit = all_no (SayFit packets)
+  still_fit p packets [] fit = All-nil (SayFit packets)
   still_fit p packets (site ∷ sites) fit =
-      all_cons (SayFit packets) (site_hears answer_of after p site) (map (site_hears answer_of after p) sites)
-      (all_first (SayFit (p ∷ packets)) site sites fit).2
-      (still_fit p packets sites (all_after (SayFit (p ∷ packets)) site sites fit))
+      All-cons (SayFit packets) (site_hears answer_of after p site) (map (site_hears answer_of after p) sites)
+      (All-head (SayFit (p ∷ packets)) site sites fit).2
+      (still_fit p packets sites (All-tail (SayFit (p ∷ packets)) site sites fit))
 
   heard_sent : HasSpelling → (packets : List Packet) (s : LineState H) → All (SayFit packets) s.sites → AreSent s
       → AreSent (all_hear_each answer_of after packets s)

@@ -1,12 +1,13 @@
 -- What a simulation is, and the room that one step needs.
-use Rattle.std.specs.Prelude.{◌+◌, ◌<◌, ◌≤◌, All, length, List, map}
+use Rattle.std.specs.Prelude.{◌≡◌, ◌+◌, ◌<◌, ◌≤◌, All, length, List, [], map, vec_capacity}
 use Rattle.std.specs.VecDeque.{deque_len, deque_capacity}
 use Rattle.osdp_sim.specs.Account.{lists_of}
 use Rattle.osdp_sim.specs.Line.{bytes_of}
 use Rattle.osdp_sim.specs.Room.{HasPlaces}
+use Rattle.osdp_sim_bus.specs.declared.run.Run.{Run}
 use Rattle.osdp_sim_bus.specs.declared.simulation.Simulation.{Simulation}
 use Rattle.osdp_sim_bus.specs.declared.site.Site as declared
-use Rattle.osdp_sim_bus.specs.State.{LineState, Site}
+use Rattle.osdp_sim_bus.specs.State.{AreSent, LineState, Site}
 
 module _ {H : Type 0} where
   abbrev pub site_of : declared.Site H → Site H
@@ -33,3 +34,9 @@ module _ {H : Type 0} where
     pub to_readers : deque_len s.to_readers < deque_capacity s.to_readers
     pub to_bus : deque_len s.to_bus + length s.sites.items ≤ deque_capacity s.to_bus
     pub sites : All HasPlace s.sites.items
+
+  -- what holds between two steps: each burst is a packet, and there is a place for the account of each reader
+  pub record IsReady (r : Run H) : Type 0 where
+    pub sent : AreSent (state_of r.simulation)
+    pub empty : r.told.items ≡ []
+    pub room : length r.simulation.sites.items ≤ vec_capacity r.told

@@ -1,5 +1,5 @@
 -- The run of a schedule for several readers, and how it ends.
-use Rattle.std.specs.Prelude.{◌≡◌, ℕ, suc, zero, ◌-◌, ◌==◌, nat_le, Bool, true, not, ◌&&◌, List, [], ◌∷◌, length, map, take, Result, Ok, Err}
+use Rattle.std.specs.Prelude.{◌≡◌, ℕ, ◌==◌, nat_le, Bool, true, not, ◌&&◌, List, [], ◌∷◌, length, map, Result}
 use Rattle.std.specs.Global.{Vec}
 use Rattle.std.specs.List.{list_all, list_any}
 use Rattle.osdp_msg.specs.declared.command.Command.{Command}
@@ -11,7 +11,6 @@ use Rattle.osdp_sim.specs.Account.{Account, lists_of}
 use Rattle.osdp_sim.specs.Schedules as schedules
 use Rattle.osdp_sim.specs.declared.account.Account as declared
 use Rattle.osdp_sim.specs.declared.fault.Cause.{Cause}
-use Rattle.osdp_sim.specs.declared.fault.Cause.TheVariants.{HoldsPacket, NoMemory, NotQuiet, OutOfRange}
 use Rattle.osdp_sim.specs.declared.fault.Fault.{Fault}
 use Rattle.osdp_sim.specs.declared.step.SimStep.{SimStep}
 use Rattle.osdp_sim_bus.specs.State.{Given, LineState, accounts, address_of, set_up}
@@ -21,12 +20,9 @@ use Rattle.osdp_sim_bus.specs.Steps.{StepFits, after_step, fault_of}
 abbrev pub lists_of_all : List declared.Account → List Account
 lists_of_all told = map lists_of told
 
--- why there is no bus: settings are judged before memory is asked for
+-- why there is no bus
 abbrev pub IsBusCause : Cause → BusConfig → Type 0
-IsBusCause OutOfRange config = IsBusConfig config → ⊥
-IsBusCause NoMemory config = IsBusConfig config
-IsBusCause HoldsPacket config = ⊥
-IsBusCause NotQuiet config = ⊥
+IsBusCause cause config = schedules.IsSetUpCause cause (IsBusConfig config)
 
 module _ {H : Type 0} where
   abbrev pub is_reader_in_range : Given H → Bool
@@ -52,10 +48,7 @@ module _ {H : Type 0} where
 
   -- .. and why no step was taken
   abbrev pub IsSetUpCause : Cause → BusConfig → List (Given H) → Type 0
-  IsSetUpCause OutOfRange config readers = AreSettings config readers → ⊥
-  IsSetUpCause NoMemory config readers = AreSettings config readers
-  IsSetUpCause HoldsPacket config readers = ⊥
-  IsSetUpCause NotQuiet config readers = ⊥
+  IsSetUpCause cause config readers = schedules.IsSetUpCause cause (AreSettings config readers)
 
   module _ (answer_of : H → Command → Answer) (after : H → Command → H) where
     -- the state after these steps
@@ -76,17 +69,14 @@ module _ {H : Type 0} where
 
     -- .. or nothing was set up, and there are no accounts
     abbrev pub Stops : ℕ → Cause → List Account → BusConfig → List (Given H) → List SimStep → Type 0
-    Stops zero cause told config readers steps = IsSetUpCause cause config readers × (told ≡ [])
-    Stops (suc before) cause told config readers steps =
-        AreSettings config readers × StopsAt (suc before) cause told steps (set_up config readers)
+    Stops at why told config readers steps =
+        schedules.Stops (after_step answer_of after) fault_of accounts (AreSettings config readers) [] at why told steps (set_up config readers)
 
     abbrev pub RunEnds : BusConfig → List (Given H) → List SimStep → Result (Vec declared.Account) (Fault (Vec declared.Account)) → Type 0
-    RunEnds config readers steps (Ok told) =
-        AreSettings config readers × (is_well steps (set_up config readers) ≡ true)
-        × (lists_of_all told.items ≡ accounts (run steps (set_up config readers)))
-    RunEnds config readers steps (Err fault) = Stops fault.step fault.cause (lists_of_all fault.account.items) config readers steps
+    RunEnds config readers steps answer =
+        schedules.RunEnds (after_step answer_of after) fault_of (λ told. lists_of_all told.items) accounts (AreSettings config readers) [] steps
+        (set_up config readers) answer
 
 -- the steps that were taken
 abbrev pub steps_done : List SimStep → Result (Vec declared.Account) (Fault (Vec declared.Account)) → List SimStep
-steps_done steps (Ok told) = steps
-steps_done steps (Err fault) = take (fault.step - 1) steps
+steps_done steps answer = schedules.steps_done steps answer

@@ -1,14 +1,14 @@
 //! A schedule, run over a line with several readers.
 
-ghost use Rattle.std.specs.Prelude.{◌≡◌, ◌≤◌, ◌<◌, ◌^◌, [], length, map, true, IfErr, IfOk, None, OnOk, vec_capacity};
+ghost use Rattle.std.specs.Prelude.{◌≡◌, ◌≤◌, ◌<◌, ◌^◌, List, [], length, map, IfErr, IfOk, OnOk, vec_capacity};
 ghost use Rattle.osdp_bus.specs.Buses.{new_bus};
 ghost use Rattle.osdp_bus.specs.Machine.{after_add, after_begin_at};
 ghost use Rattle.osdp_bus.specs.Settings.{IsBusConfig};
-ghost use Rattle.osdp_sim.specs.Schedules.{IsCause};
+ghost use Rattle.osdp_sim.specs.Account as account;
 ghost use Rattle.osdp_sim.specs.declared.fault.Cause.TheVariants.{NoMemory};
-ghost use Rattle.osdp_sim_bus.specs.Room.{sites_of, state_of};
-ghost use Rattle.osdp_sim_bus.specs.Runs.{AreSettings, FitAlong, IsBusCause, IsSetUpCause, RunEnds, StopsAt, is_well, lists_of_all, run, steps_done};
-ghost use Rattle.osdp_sim_bus.specs.State.{AreSent, accounts, begun_bus, new_site, set_up};
+ghost use Rattle.osdp_sim_bus.specs.Room.{HasRoom, IsReady, sites_of, state_of};
+ghost use Rattle.osdp_sim_bus.specs.Runs.{AreSettings, FitAlong, IsBusCause, IsSetUpCause, RunEnds, lists_of_all, steps_done};
+ghost use Rattle.osdp_sim_bus.specs.State.{LineState, accounts, begun_bus, new_site, set_up};
 ghost use Rattle.osdp_sim_bus.specs.Steps.{StepFits, after_step, fault_of};
 
 use crate::settings::are_readers;
@@ -17,8 +17,9 @@ use crate::site::Site;
 use osdp_bus::{Bus, BusConfig, BusFault};
 use osdp_frame::{Address, Burst};
 use osdp_reader::{Handler, Heard, ReaderConfig};
-use osdp_sim::{Account, Cause, Fault, Listed, Schedule, SimStep};
-use std::alloc::Global;
+use osdp_sim::running::{SimulatedLine, run_listed, run_steps};
+use osdp_sim::{Account, Cause, Fault, Schedule, SimStep};
+use std::alloc::{AllocError, Global};
 use std::collections::VecDeque;
 
 /// Runs a schedule over a line with a bus and these readers, and gives the account of each reader in their order. Of each reader is told
@@ -37,7 +38,8 @@ pub fn run_bus<H: Handler>(
     ensures ends { RunEnds H.answer_of H.after config.now readers.items steps.now result }
     ensures fits { FitAlong H.answer_of H.after (steps_done steps.now result) (set_up config.now readers.items) }
 {
-    run_bus_schedule(alloc, config, readers, Listed { rest: steps })
+    let run = begin(alloc, config, readers)?;
+    run_listed(run, steps)
 }
 
 /// The same of steps that are handed out one at a time.
@@ -51,8 +53,70 @@ pub fn run_bus_schedule<H: Handler, S: Schedule>(
     ensures ends { RunEnds H.answer_of H.after config.now readers.items (S.left schedule) result }
     ensures fits { FitAlong H.answer_of H.after (steps_done (S.left schedule) result) (set_up config.now readers.items) }
 {
+    let run = begin(alloc, config, readers)?;
+    run_steps(run, schedule)
+}
+
+/// A simulation, and room for the accounts that are told.
+#[derive(Drop)]
+struct Run<H: Handler> {
+    simulation: Simulation<H>,
+    told: Vec<Account>,
+}
+
+impl<H: Handler> SimulatedLine for Run<H> {
+    type Told = Vec<Account>;
+
+    ghost State = { LineState H };
+
+    ghost Lists = { List account.Account };
+
+    ghost state_of = { λ r. state_of r.simulation };
+
+    ghost lists_of = { λ told. lists_of_all told.items };
+
+    ghost after_step = { after_step H.answer_of H.after };
+
+    ghost fault_of = { fault_of };
+
+    ghost account_of = { accounts };
+
+    ghost StepFits = { StepFits H.answer_of H.after };
+
+    ghost IsReady = { IsReady };
+
+    ghost HasRoom = { λ r. HasRoom r.simulation };
+
+    fn fault(&self, step: &SimStep) -> Option<Cause> {
+        self.simulation.fault(step)
+    }
+
+    fn grow(&mut self) -> Result<(), AllocError> {
+        self.simulation.grow()
+    }
+
+    fn take(&mut self, step: &SimStep) {
+        self.simulation.take(step);
+    }
+
+    fn told(self) -> Vec<Account> {
+        let Run { simulation, told } = self;
+        accounts(simulation.sites, told)
+    }
+}
+
+/// The readers are set up, and their first sessions begin; or step 0 stops the run, and there are no accounts.
+fn begin<H: Handler>(
+    alloc: Global,
+    config: &BusConfig,
+    readers: Vec<(ReaderConfig, usize, H)>,
+) -> Result<Run<H>, Fault<Vec<Account>>>
+    ensures made { IfOk result (λ r. AreSettings config.now readers.items × (state_of r.simulation ≡ set_up config.now readers.items)) }
+    ensures ready { IfOk result IsReady }
+    ensures none { IfErr result (λ fault. (fault.step ≡ 0) × IsSetUpCause fault.cause config.now readers.items × (lists_of_all fault.account.items ≡ [])) }
+{
     match set_up(alloc, config, readers) {
-        Ok((simulation, told)) => run_steps(simulation, told, schedule),
+        Ok(run) => Ok(run),
         Err(cause) => Err(Fault {
             step: 0,
             cause,
@@ -66,9 +130,9 @@ fn set_up<H: Handler>(
     alloc: Global,
     config: &BusConfig,
     readers: Vec<(ReaderConfig, usize, H)>,
-) -> Result<(Simulation<H>, Vec<Account>), Cause>
-    ensures made { IfOk result (λ s. AreSettings config.now readers.items × (state_of s.0 ≡ set_up config.now readers.items)) }
-    ensures room { IfOk result (λ s. (s.1.items ≡ []) × (length s.0.sites.items ≤ vec_capacity s.1)) }
+) -> Result<Run<H>, Cause>
+    ensures made { IfOk result (λ r. AreSettings config.now readers.items × (state_of r.simulation ≡ set_up config.now readers.items)) }
+    ensures room { IfOk result (λ r. (r.told.items ≡ []) × (length r.simulation.sites.items ≤ vec_capacity r.told)) }
     ensures cause { IfErr result (λ cause. IsSetUpCause cause config.now readers.items) }
 {
     if !are_readers(readers.as_slice()) {
@@ -88,7 +152,7 @@ fn set_up<H: Handler>(
         out: Burst::new(),
         heard: Heard::new(),
     };
-    Ok((simulation, told))
+    Ok(Run { simulation, told })
 }
 
 /// A bus without devices.
@@ -143,57 +207,6 @@ fn add(bus: &mut Bus, address: Address) -> Result<(), Cause>
         return Err(Cause::NoMemory);
     };
     let _ = bus.begin(entry, 0);
-    Ok(())
-}
-
-/// Takes the steps, up to the first that is refused or finds no memory.
-fn run_steps<H: Handler, S: Schedule>(
-    simulation: Simulation<H>,
-    told: Vec<Account>,
-    schedule: S,
-) -> Result<Vec<Account>, Fault<Vec<Account>>>
-    requires sent { AreSent (state_of simulation) }
-    requires count { length (S.left schedule) < 2 ^ 64 }
-    requires empty { told.items ≡ [] }
-    requires room { length simulation.sites.items ≤ vec_capacity told }
-    ensures ok { IfOk result (λ told. (is_well H.answer_of H.after (S.left schedule) (state_of simulation) ≡ true)
-        × (lists_of_all told.items ≡ accounts (run H.answer_of H.after (S.left schedule) (state_of simulation)))) }
-    ensures err { IfErr result (λ fault. (1 ≤ fault.step)
-        × StopsAt H.answer_of H.after fault.step fault.cause (lists_of_all fault.account.items) (S.left schedule) (state_of simulation)) }
-    ensures fits { FitAlong H.answer_of H.after (steps_done (S.left schedule) result) (state_of simulation) }
-{
-    let mut simulation = simulation;
-    let mut schedule = schedule;
-    let mut at = 0;
-    'steps: while let Some(step) = schedule.next() {
-        at += 1;
-        if let Err(cause) = try_step(&mut simulation, &step) {
-            return Err(Fault {
-                step: at,
-                cause,
-                account: accounts(simulation.sites, told),
-            });
-        }
-    }
-    Ok(accounts(simulation.sites, told))
-}
-
-/// Takes a step, unless it is refused or there is no memory; then nothing has changed.
-fn try_step<H: Handler>(simulation: &mut Simulation<H>, step: &SimStep) -> Result<(), Cause>
-    requires sent { AreSent (state_of simulation.old) }
-    ensures ok { OnOk result ((fault_of step.now (state_of simulation.old) ≡ None)
-        × (state_of simulation.new ≡ after_step H.answer_of H.after step.now (state_of simulation.old))
-        × StepFits H.answer_of H.after step.now (state_of simulation.old) × AreSent (state_of simulation.new)) }
-    ensures err { IfErr result (λ cause. IsCause cause (fault_of step.now (state_of simulation.old))
-        × (state_of simulation.new ≡ state_of simulation.old)) }
-{
-    if let Some(cause) = simulation.fault(step) {
-        return Err(cause);
-    }
-    if simulation.grow().is_err() {
-        return Err(Cause::NoMemory);
-    }
-    simulation.take(step);
     Ok(())
 }
 

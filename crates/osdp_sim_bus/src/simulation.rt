@@ -1,8 +1,9 @@
 //! The bus, the readers and the line between them.
 
-ghost use Rattle.std.specs.Prelude.{◌≡◌, All, None, OnOk};
+ghost use Rattle.std.specs.Prelude.{◌≡◌, All, IfSome, None, OnOk};
 ghost use Rattle.osdp_frame.specs.Bytes.{AreBytes};
 ghost use Rattle.osdp_msg.specs.CommandTable.{CommandFits};
+ghost use Rattle.osdp_sim.specs.Schedules.{IsCause};
 ghost use Rattle.osdp_sim.specs.Steps.{damage_fault};
 ghost use Rattle.osdp_sim.specs.declared.step.SimStep.TheVariants.{Issue, Queue, Busy, Wait, ToReader, ToController, Reopen};
 ghost use Rattle.osdp_sim_bus.specs.Room.{HasPlace, HasRoom, state_of};
@@ -33,8 +34,9 @@ pub struct Simulation<H: Handler> {
     pub to_bus: VecDeque<Burst>,
     /// The moment, in milliseconds since the set-up.
     pub clock: u64,
-    /// The burst that the bus sent last, and what a reader made of the packet that it heard last: both are lent, step after step.
+    /// The burst that the bus sent last. It is lent to the bus, step after step.
     pub out: Burst,
+    /// What a reader made of the packet that it heard last. It is lent to the readers, step after step.
     pub heard: Heard,
 }
 
@@ -67,7 +69,8 @@ impl<H: Handler> Simulation<H> {
 
     /// Why a step is refused.
     pub fn fault(&self, step: &SimStep) -> Option<Cause>
-        ensures { result ≡ fault_of step.now (state_of self.now) }
+        ensures fault { result ≡ fault_of step.now (state_of self.now) }
+        ensures cause { IfSome result (λ cause. IsCause cause result) }
     {
         match step {
             SimStep::ToReader(way) | SimStep::ToController(way) => damage_fault(way),

@@ -1,10 +1,9 @@
-use Rattle.std.proofs.Common.{◌<◌, ◌≤◌, ◌∙◌, [], ◌∷◌, All, arith, length, rules, slice_index_or, sym, subst, take}
+use Rattle.std.proofs.Common.{◌<◌, ◌≤◌, ◌∙◌, All, arith, length, rules, slice_index_or, sym, subst, take}
 use Rattle.std.proofs.Math.Seq.{map-set_same}
 use Rattle.std.proofs.lemmas.List.{take_all, take_more_set}
-use Rattle.std.proofs.lemmas.List.Elements.{All-append}
+use Rattle.std.proofs.lemmas.List.Elements.{All-push}
 use Rattle.osdp_sim_bus.specs.Room.{HasPlace, site_of}
 use Rattle.osdp_sim_bus.specs.declared.site.Site.{Site}
-use Rattle.osdp_sim_bus.proofs.Hearing.{all_single}
 use Rattle.osdp_sim_bus.proofs.line.grow_all.Goals as goal
 
 pub returns-in_err-grow-clause-same : goal.returns-in_err-grow-clause-same
@@ -21,7 +20,7 @@ loop-site-preserved g c =
     record {
       same = map-set_same site_of at.sites at.site-index next c.site-item.result (search (rules, c.grow.ensures.same)) ∙ at.invariant.same;
       places = subst (All HasPlace) (sym (take_more_set at.sites at.site-index next within))
-          (All-append HasPlace (take at.site-index at.sites) (next ∷ []) at.invariant.places (all_single HasPlace next c.in_ok-grow.ensures.places));
+          (All-push HasPlace (take at.site-index at.sites) next at.invariant.places c.in_ok-grow.ensures.places);
     }
 
 pub returns-clause-places : goal.returns-clause-places
