@@ -4,7 +4,7 @@ use Rattle.std.proofs.Math.Seq.{drop-drop}
 use Rattle.std.proofs.lemmas.List.{take_all}
 use Rattle.std.proofs.lemmas.Bool.{false≢true}
 use Rattle.osdp_frame.specs.Bytes.{AreBytes}
-use Rattle.osdp_frame.specs.Reading.{Part, part_size, total_size, IsReading}
+use Rattle.osdp_frame.specs.Reading.{RunItem, item_size, total_size, IsReading}
 use Rattle.osdp_frame.specs.Held.{Held, decided, later, after_first, after_advance, after_gap, after_push, taken_count}
 use Rattle.osdp_frame.specs.Items.{items, left_over}
 use Rattle.osdp_frame.proofs.Head.{AreBytes-drop, AreBytes-take}
@@ -16,33 +16,33 @@ use Rattle.osdp_bus.specs.Buses.{BusState, Devices}
 use Rattle.osdp_bus.specs.Hearing.{ends_run, hears_item, hears_items}
 use Rattle.osdp_bus.specs.Private.{IsHeld, IsRead, rest_of}
 
-pub hears_items-append : (now : ℕ) (xs ys : List Part) (ds : Devices) → hears_items now (xs ++ ys) ds ≡ hears_items now ys (hears_items now xs ds)
+pub hears_items-append : (now : ℕ) (xs ys : List RunItem) (ds : Devices) → hears_items now (xs ++ ys) ds ≡ hears_items now ys (hears_items now xs ds)
 hears_items-append now [] ys ds = refl
 hears_items-append now (x ∷ xs) ys ds = hears_items-append now xs ys (hears_item now x ds)
 
 -- ---- item by item
 
-left_after : (bytes : List ℕ) (part : Part) → decided false bytes ≡ Some part → left_over (drop (part_size part) bytes) ≡ left_over bytes
+left_after : (bytes : List ℕ) (part : RunItem) → decided false bytes ≡ Some part → left_over (drop (item_size part) bytes) ≡ left_over bytes
 unfolding left_over
 left_after bytes part is =
-    drop-drop (total_size (items false (drop (part_size part) bytes))) (part_size part) bytes
+    drop-drop (total_size (items false (drop (item_size part) bytes))) (item_size part) bytes
     ∙ ap (λ parts. drop (total_size parts) bytes) (sym (items_after false bytes part is))
 
 rest_ended : (rest : List ℕ) → rest_of (true && not (length rest == 0)) rest ≡ []
 rest_ended [] = left_nothing
 rest_ended (b ∷ rest) = ap (λ e. rest_of (true && e) (b ∷ rest)) (some_ended b rest)
 
-rest_after : (ended : Bool) (bytes : List ℕ) (part : Part) → decided ended bytes ≡ Some part
-    → rest_of (ended && not (length (drop (part_size part) bytes) == 0)) (drop (part_size part) bytes) ≡ rest_of ended bytes
-rest_after true bytes part is = rest_ended (drop (part_size part) bytes)
+rest_after : (ended : Bool) (bytes : List ℕ) (part : RunItem) → decided ended bytes ≡ Some part
+    → rest_of (ended && not (length (drop (item_size part) bytes) == 0)) (drop (item_size part) bytes) ≡ rest_of ended bytes
+rest_after true bytes part is = rest_ended (drop (item_size part) bytes)
 rest_after false bytes part is = left_after bytes part is
 
-advanced_is : (held next : Held) (part : Part) → decided held.ended held.bytes ≡ Some part → next ≡ after_advance held → next ≡ later held part
+advanced_is : (held next : Held) (part : RunItem) → decided held.ended held.bytes ≡ Some part → next ≡ after_advance held → next ≡ later held part
 advanced_is held next part is advanced = advanced ∙ ap (after_first held) is
 
-held_after : (held : Held) (part : Part) → IsHeld held → IsHeld (later held part)
+held_after : (held : Held) (part : RunItem) → IsHeld held → IsHeld (later held part)
 held_after held part run = record {
-  bytes = AreBytes-drop (part_size part) held.bytes run.bytes;
+  bytes = AreBytes-drop (item_size part) held.bytes run.bytes;
   some = later_some held part;
 }
 
@@ -52,7 +52,7 @@ pub record ReadOn (now : ℕ) (held next : Held) (ds next_ds : Devices) : Type 0
   pub heard : hears_items now (items next.ended next.bytes) next_ds ≡ hears_items now (items held.ended held.bytes) ds
   pub left : rest_of next.ended next.bytes ≡ rest_of held.ended held.bytes
 
-pub read_on : (now : ℕ) (held next : Held) (part : Part) (ds next_ds : Devices) → IsHeld held
+pub read_on : (now : ℕ) (held next : Held) (part : RunItem) (ds next_ds : Devices) → IsHeld held
     → decided held.ended held.bytes ≡ Some part → next ≡ after_advance held → next_ds ≡ hears_item now part ds → ReadOn now held next ds next_ds
 read_on now held next part ds next_ds run is advanced heard =
     let here : next ≡ later held part = advanced_is held next part is advanced in
@@ -121,8 +121,8 @@ taken_on now bytes at held pushed next ds next_ds fits run pushes hears lefts =
     let after : drop (at + count) bytes ≡ drop count rest = sym (drop-drop count at bytes) in
     let pushed_is : pushed ≡ record { bytes = b1; ended = false } =
     pushes ∙ ap (λ (e : Bool). record { bytes = b1; ended = e }) run.goes_on in
-    let xs : List Part = items false b1 in
-    let ys : List Part = items false (left_over b1 ++ drop count rest) in
+    let xs : List RunItem = items false b1 in
+    let ys : List RunItem = items false (left_over b1 ++ drop count rest) in
     let rest_fits : AreBytes rest = AreBytes-drop at bytes fits in
     let whole : held.bytes ++ rest ≡ b1 ++ drop count rest =
     ap (λ l. held.bytes ++ l) (sym (take-append-drop count rest)) ∙ sym (append_assoc held.bytes (take count rest) (drop count rest)) in

@@ -2,7 +2,7 @@
 use Rattle.std.specs.Prelude.{ℕ, true, false, if◌then◌else◌, List, [], ◌∷◌, ◌++◌, Option, Some, None, slice_get, slice_set}
 use Rattle.osdp_frame.specs.Items.{items, left_over}
 use Rattle.osdp_frame.specs.Packet.{Packet}
-use Rattle.osdp_frame.specs.Reading.{Part, Whole, Passed, Bad}
+use Rattle.osdp_frame.specs.Reading.{RunItem, PacketItem, SkippedItem, RefusedItem}
 use Rattle.osdp_bus.specs.declared.device.Device.{Device}
 use Rattle.osdp_bus.specs.Buses.{BusState, Devices, is_silent, seen, waiting_after}
 use Rattle.osdp_bus.specs.Devices.{device_hears, first_from, is_at, told_of}
@@ -24,13 +24,13 @@ abbrev pub hears_packet : Packet → ℕ → Devices → Devices
 hears_packet p now ds = hears_at p now (first_from 0 (is_at p.address) ds.entries) ds
 
 -- so do the packets among items; a byte that belongs to none is passed over
-abbrev pub hears_item : ℕ → Part → Devices → Devices
-hears_item now (Whole p) ds = hears_packet p now ds
-hears_item now (Passed byte) ds = ds
-hears_item now (Bad fault) ds = ds
+abbrev pub hears_item : ℕ → RunItem → Devices → Devices
+hears_item now (PacketItem p) ds = hears_packet p now ds
+hears_item now (SkippedItem byte) ds = ds
+hears_item now (RefusedItem fault) ds = ds
 
 -- in their order
-abbrev pub hears_items : ℕ → List Part → Devices → Devices
+abbrev pub hears_items : ℕ → List RunItem → Devices → Devices
 hears_items now [] ds = ds
 hears_items now (part ∷ parts) ds = hears_items now parts (hears_item now part ds)
 

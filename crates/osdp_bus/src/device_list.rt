@@ -6,7 +6,7 @@ ghost use Rattle.osdp_bus.specs.Devices.{first_around, first_from, holds, is_at,
 ghost use Rattle.osdp_bus.specs.Hearing.{hears_item, hears_packet};
 ghost use Rattle.osdp_bus.specs.Private.{devices_of};
 ghost use Rattle.osdp_bus.specs.Waits.{IsDueFrom, any_due, earlier};
-ghost use Rattle.osdp_frame.specs.Shown.{part_of};
+ghost use Rattle.osdp_frame.specs.Shown.{item_of};
 
 use crate::Entry;
 use crate::device::Device;
@@ -138,7 +138,7 @@ impl DeviceList {
 
     /// An item is read from the line.
     pub(crate) fn hear_item(&mut self, item: &Item<'_>, now: u64)
-        ensures devices { devices_of self.new ≡ hears_item now (part_of item.now) (devices_of self.old) }
+        ensures devices { devices_of self.new ≡ hears_item now (item_of item.now) (devices_of self.old) }
         ensures capacity { vec_capacity self.new.entries ≡ vec_capacity self.old.entries }
         ensures count { length self.new.entries.items ≡ length self.old.entries.items }
     {

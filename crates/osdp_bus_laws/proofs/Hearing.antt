@@ -2,7 +2,7 @@
 use Rattle.std.proofs.Common.{◌≡◌, ℕ, List, [], ◌∷◌, Option, Some, None, refl}
 use Rattle.std.specs.Prelude.{slice_get}
 use Rattle.osdp_frame.specs.Packet.{Packet}
-use Rattle.osdp_frame.specs.Reading.{Part, Whole, Passed, Bad}
+use Rattle.osdp_frame.specs.Reading.{RunItem, PacketItem, SkippedItem, RefusedItem}
 use Rattle.osdp_bus.specs.declared.device.Device.{Device}
 use Rattle.osdp_bus.specs.Buses.{Devices}
 use Rattle.osdp_bus.specs.Devices.{first_from, is_at}
@@ -18,11 +18,11 @@ module _ (now : ℕ) (P : Devices → Type 0)
   at_keeps p None ds is = is
   at_keeps p (Some i) ds is = with_keeps p i (slice_get ds.entries i) ds refl is
 
-  pub item_keeps : (part : Part) (ds : Devices) → P ds → P (hears_item now part ds)
-  item_keeps (Whole p) ds is = at_keeps p (first_from 0 (is_at p.address) ds.entries) ds is
-  item_keeps (Passed byte) ds is = is
-  item_keeps (Bad fault) ds is = is
+  pub item_keeps : (part : RunItem) (ds : Devices) → P ds → P (hears_item now part ds)
+  item_keeps (PacketItem p) ds is = at_keeps p (first_from 0 (is_at p.address) ds.entries) ds is
+  item_keeps (SkippedItem byte) ds is = is
+  item_keeps (RefusedItem fault) ds is = is
 
-  pub items_keep : (parts : List Part) (ds : Devices) → P ds → P (hears_items now parts ds)
+  pub items_keep : (parts : List RunItem) (ds : Devices) → P ds → P (hears_items now parts ds)
   items_keep [] ds is = is
   items_keep (part ∷ parts) ds is = items_keep parts (hears_item now part ds) (item_keeps part ds is)

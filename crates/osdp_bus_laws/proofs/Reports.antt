@@ -3,7 +3,7 @@ use Rattle.std.proofs.Common.{◌≡◌, ◌∙◌, ap, sym, ℕ, ◌||◌, Bool
 use Rattle.std.specs.Prelude.{if◌then◌else◌, is_some, not, option_to_list, slice_get}
 use Rattle.osdp_frame.specs.Items.{items}
 use Rattle.osdp_frame.specs.Packet.{Packet}
-use Rattle.osdp_frame.specs.Reading.{Part, Whole, Passed, Bad}
+use Rattle.osdp_frame.specs.Reading.{RunItem, PacketItem, SkippedItem, RefusedItem}
 use Rattle.osdp_controller.specs.declared.report.Report.{Report}
 use Rattle.osdp_bus.specs.declared.device.Device.{Device}
 use Rattle.osdp_bus.specs.Buses.{BusState, Devices, device_of, has_report, holder, is_silent, new_bus, seen, waiting_after}
@@ -51,12 +51,12 @@ waits_at : (p : Packet) (now : ℕ) (o : Option ℕ) (ds : Devices) → Sound ds
 waits_at p now None ds sound = nothing_told ds.report
 waits_at p now (Some i) ds sound = waits_with p now i (slice_get ds.entries i) ds refl sound
 
-waits_item : (now : ℕ) (part : Part) (ds : Devices) → Sound ds → Waits ds.report (hears_item now part ds).report (told_by_item now part ds)
-waits_item now (Whole p) ds sound = waits_at p now (first_from 0 (is_at p.address) ds.entries) ds sound
-waits_item now (Passed byte) ds sound = nothing_told ds.report
-waits_item now (Bad fault) ds sound = nothing_told ds.report
+waits_item : (now : ℕ) (part : RunItem) (ds : Devices) → Sound ds → Waits ds.report (hears_item now part ds).report (told_by_item now part ds)
+waits_item now (PacketItem p) ds sound = waits_at p now (first_from 0 (is_at p.address) ds.entries) ds sound
+waits_item now (SkippedItem byte) ds sound = nothing_told ds.report
+waits_item now (RefusedItem fault) ds sound = nothing_told ds.report
 
-waits_items : (now : ℕ) (parts : List Part) (ds : Devices) → Sound ds → Waits ds.report (hears_items now parts ds).report (told_by_items now parts ds)
+waits_items : (now : ℕ) (parts : List RunItem) (ds : Devices) → Sound ds → Waits ds.report (hears_items now parts ds).report (told_by_items now parts ds)
 waits_items now [] ds sound = nothing_told ds.report
 waits_items now (part ∷ parts) ds sound =
     waits_on ds.report (hears_item now part ds).report (hears_items now parts (hears_item now part ds)).report (told_by_item now part ds)

@@ -4,7 +4,7 @@ use Rattle.std.specs.Prelude.{is_some, not, option_map, slice_get, slice_set}
 use Rattle.std.specs.Option.{option_map_or, option_or}
 use Rattle.osdp_frame.specs.Items.{items}
 use Rattle.osdp_frame.specs.Packet.{Packet}
-use Rattle.osdp_frame.specs.Reading.{Part}
+use Rattle.osdp_frame.specs.Reading.{RunItem}
 use Rattle.osdp_frame.specs.Spelling.{Spells, spelling}
 use Rattle.osdp_frame.proofs.Spelled.{spelled_is}
 use Rattle.osdp_controller.specs.declared.session.Session.{Session}
@@ -129,7 +129,7 @@ keep_packet first now p i d ds at kept =
     keep_on first ds (hears_with p now i (Some d) ds) kept
     (keep_set i d (device_hears p now d) ds at (λ h. (heard_holds p now d h, frame_heard p now d h)))
 
-keep_items : (now : ℕ) (parts : List Part) (ds : Devices) → KeepFrames ds (hears_items now parts ds)
+keep_items : (now : ℕ) (parts : List RunItem) (ds : Devices) → KeepFrames ds (hears_items now parts ds)
 keep_items now parts ds = items_keep now (KeepFrames ds) (keep_packet ds now) parts ds (keep ds)
 
 keep_run : (b : BusState) → KeepFrames b.devices (ends_run b).devices

@@ -3,7 +3,7 @@ use Rattle.std.proofs.Common.{◌≡◌, ◌∙◌, ap, inl, inr, ℕ, ◌||◌,
 use Rattle.std.specs.Prelude.{not, slice_get, slice_set}
 use Rattle.std.specs.Option.{option_map_or}
 use Rattle.osdp_frame.specs.Items.{items}
-use Rattle.osdp_frame.specs.Reading.{Part}
+use Rattle.osdp_frame.specs.Reading.{RunItem}
 use Rattle.osdp_controller.proofs.Choices.{either_way}
 use Rattle.osdp_bus.specs.declared.config.BusConfig.{BusConfig}
 use Rattle.osdp_bus.specs.declared.device.Device.{Device}
@@ -32,7 +32,7 @@ rooms_set room i d e ds at same are = λ j f there. by_place j f (replaced ds i 
     by_place j f (inl (here, is)) = ap (λ (x : Device). x.controller.capacity) is ∙ same ∙ are i d at
     by_place j f (inr (other, was)) = are j f was
 
-rooms_items : (room now : ℕ) (parts : List Part) (ds : Devices) → RoomsAre room ds.entries → RoomsAre room (hears_items now parts ds).entries
+rooms_items : (room now : ℕ) (parts : List RunItem) (ds : Devices) → RoomsAre room ds.entries → RoomsAre room (hears_items now parts ds).entries
 rooms_items room now =
     items_keep now (λ (ds : Devices). RoomsAre room ds.entries) (λ p i d ds at are. rooms_set room i d (device_hears p now d) ds.entries at refl are)
 

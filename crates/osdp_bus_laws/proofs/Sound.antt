@@ -4,7 +4,7 @@ use Rattle.std.specs.Prelude.{not, ◌&&◌, is_some, slice_get}
 use Rattle.std.specs.Option.{option_map_or}
 use Rattle.osdp_frame.specs.Items.{items}
 use Rattle.osdp_frame.specs.Packet.{Packet}
-use Rattle.osdp_frame.specs.Reading.{Part}
+use Rattle.osdp_frame.specs.Reading.{RunItem}
 use Rattle.osdp_bus.specs.declared.device.Device.{Device}
 use Rattle.osdp_bus.specs.Buses.{BusState, Devices, device_of, has_report, holder, is_silent, seen}
 use Rattle.osdp_bus.specs.Devices.{device_hears, device_ticks, holds, is_device_due, step_of, told_of}
@@ -30,10 +30,10 @@ pub sound_packet : (now : ℕ) (p : Packet) (i : ℕ) (d : Device) (ds : Devices
     → Sound (hears_with p now i (Some d) ds)
 sound_packet now p i d ds at sound = sound_set ds i (device_hears p now d) (told_of p now d) sound (comes_heard p now i d ds sound at)
 
-pub sound_item : (now : ℕ) (part : Part) (ds : Devices) → Sound ds → Sound (hears_item now part ds)
+pub sound_item : (now : ℕ) (part : RunItem) (ds : Devices) → Sound ds → Sound (hears_item now part ds)
 sound_item now = item_keeps now Sound (sound_packet now)
 
-pub sound_items : (now : ℕ) (parts : List Part) (ds : Devices) → Sound ds → Sound (hears_items now parts ds)
+pub sound_items : (now : ℕ) (parts : List RunItem) (ds : Devices) → Sound ds → Sound (hears_items now parts ds)
 sound_items now = items_keep now Sound (sound_packet now)
 
 -- who holds the line then held it before
@@ -54,7 +54,7 @@ held_packet first now p i d ds at were = λ j f there h. by_place j f h (replace
     by_place j f h (inl (here, same)) = were j d (ap (slice_get ds.entries) here ∙ at) (heard_holds p now d (sym (ap holds same) ∙ h))
     by_place j f h (inr (other, was)) = were j f was h
 
-pub held_items : (now : ℕ) (parts : List Part) (ds : Devices) → WereHeld ds (hears_items now parts ds)
+pub held_items : (now : ℕ) (parts : List RunItem) (ds : Devices) → WereHeld ds (hears_items now parts ds)
 held_items now parts ds = items_keep now (WereHeld ds) (held_packet ds now) parts ds (same_held ds)
 
 -- ---- a whole bus
@@ -119,7 +119,7 @@ nobody b none j f at h =
     let not_held = none_at holds b.devices.entries j f searched at in
     cc
 
-pub still_nobody : (now : ℕ) (parts : List Part) (ds : Devices) → IsNobody ds → IsNobody (hears_items now parts ds)
+pub still_nobody : (now : ℕ) (parts : List RunItem) (ds : Devices) → IsNobody ds → IsNobody (hears_items now parts ds)
 still_nobody now parts ds nobody j f at h = by_before (held_items now parts ds j f at h)
   where
     by_before : HeldBefore j ds → ⊥

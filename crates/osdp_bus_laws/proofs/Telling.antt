@@ -3,7 +3,7 @@ use Rattle.std.proofs.Common.{◌≡◌, ◌∙◌, ap, sym, ℕ, Bool, true, fa
 use Rattle.std.specs.Prelude.{if◌then◌else◌, is_some, not, slice_get, slice_set}
 use Rattle.osdp_frame.specs.Items.{items}
 use Rattle.osdp_frame.specs.Packet.{Packet}
-use Rattle.osdp_frame.specs.Reading.{Part}
+use Rattle.osdp_frame.specs.Reading.{RunItem}
 use Rattle.osdp_controller.specs.declared.report.Report.{Report}
 use Rattle.osdp_controller.proofs.Choices.{either_way}
 use Rattle.osdp_bus.specs.declared.device.Device.{Device}
@@ -108,7 +108,7 @@ follows_packet first now p i d ds at (sound, follows) = (
       (is_false (is_some (told_of p now d)) (λ h. let stands = (heard_told p now d h).0 in let none = sound.waits some i d at in cc)))),
 )
 
-pub follows_items : (now : ℕ) (parts : List Part) (ds : Devices) → Sound ds → Follows ds (hears_items now parts ds)
+pub follows_items : (now : ℕ) (parts : List RunItem) (ds : Devices) → Sound ds → Follows ds (hears_items now parts ds)
 follows_items now parts ds sound = (items_keep now (FollowSoundly ds) (follows_packet ds now) parts ds (sound, same_follows ds)).1
 
 pub follows_run : (b : BusState) → SoundBus b → Follows b.devices (ends_run b).devices

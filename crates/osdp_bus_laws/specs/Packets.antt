@@ -2,7 +2,7 @@
 use Rattle.std.specs.Prelude.{◌≡◌, ◌≢◌, ℕ, max, List, ◌++◌, Some, slice_get, slice_set}
 use Rattle.osdp_frame.specs.Bytes.{AreBytes}
 use Rattle.osdp_frame.specs.Packet.{Packet}
-use Rattle.osdp_frame.specs.Reading.{Part}
+use Rattle.osdp_frame.specs.Reading.{RunItem}
 use Rattle.osdp_bus.specs.declared.device.Device.{Device}
 use Rattle.osdp_bus.specs.Buses.{BusState, Devices, waiting_after}
 use Rattle.osdp_bus.specs.Devices.{address_of, device_hears, told_of}
@@ -27,7 +27,7 @@ pub record GoesToItsAddress (p : Packet) (now : ℕ) (ds : Devices) : Type 0 whe
 
 -- also of a packet that comes after others of its run, so that one of them may have moved a device
 abbrev pub PacketsGoToTheirAddress : BusState → Type 0
-PacketsGoToTheirAddress b = (before : List Part) (p : Packet) (now : ℕ) → GoesToItsAddress p now (hears_items now before b.devices)
+PacketsGoToTheirAddress b = (before : List RunItem) (p : Packet) (now : ℕ) → GoesToItsAddress p now (hears_items now before b.devices)
 
 -- bytes that come in two pieces at one moment come to the same as in one
 abbrev pub CutsChangeNothing : BusState → Type 0

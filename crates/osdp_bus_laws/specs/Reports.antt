@@ -2,7 +2,7 @@
 use Rattle.std.specs.Prelude.{◌≡◌, ℕ, true, false, not, ◌||◌, if◌then◌else◌, List, [], ◌∷◌, ◌++◌, Option, Some, None, option_to_list, slice_get}
 use Rattle.osdp_frame.specs.Items.{items}
 use Rattle.osdp_frame.specs.Packet.{Packet}
-use Rattle.osdp_frame.specs.Reading.{Part, Whole, Passed, Bad}
+use Rattle.osdp_frame.specs.Reading.{RunItem, PacketItem, SkippedItem, RefusedItem}
 use Rattle.osdp_controller.specs.declared.report.Report.{Report}
 use Rattle.osdp_bus.specs.declared.config.BusConfig.{BusConfig}
 use Rattle.osdp_bus.specs.declared.device.Device.{Device}
@@ -27,13 +27,13 @@ abbrev pub told_by_entry : Packet → ℕ → Option ℕ → Devices → List (�
 told_by_entry p now None ds = []
 told_by_entry p now (Some entry) ds = told_with p now entry (slice_get ds.entries entry)
 
-abbrev pub told_by_item : ℕ → Part → Devices → List (ℕ × Report)
-told_by_item now (Whole p) ds = told_by_entry p now (first_from 0 (is_at p.address) ds.entries) ds
-told_by_item now (Passed byte) ds = []
-told_by_item now (Bad fault) ds = []
+abbrev pub told_by_item : ℕ → RunItem → Devices → List (ℕ × Report)
+told_by_item now (PacketItem p) ds = told_by_entry p now (first_from 0 (is_at p.address) ds.entries) ds
+told_by_item now (SkippedItem byte) ds = []
+told_by_item now (RefusedItem fault) ds = []
 
 -- of items: one after the other
-abbrev pub told_by_items : ℕ → List Part → Devices → List (ℕ × Report)
+abbrev pub told_by_items : ℕ → List RunItem → Devices → List (ℕ × Report)
 told_by_items now [] ds = []
 told_by_items now (part ∷ parts) ds = told_by_item now part ds ++ told_by_items now parts (hears_item now part ds)
 

@@ -6,7 +6,7 @@ use Rattle.std.specs.Prelude.{slice_get, slice_set}
 use Rattle.osdp_frame.specs.Bytes.{AreBytes}
 use Rattle.osdp_frame.specs.Items.{items, left_over, reading}
 use Rattle.osdp_frame.specs.Packet.{Packet}
-use Rattle.osdp_frame.specs.Reading.{Part, Whole, Passed, Bad}
+use Rattle.osdp_frame.specs.Reading.{RunItem, PacketItem, SkippedItem, RefusedItem}
 use Rattle.osdp_controller.specs.Machine as controllers
 use Rattle.osdp_controller_laws.proofs.Closed.{silent_frame}
 use Rattle.osdp_bus.specs.Buses.{BusState, Devices, seen, waiting_after}
@@ -27,20 +27,20 @@ use Rattle.osdp_bus_links.proofs.Ticks.{nothing_silent}
 
 -- ---- the packets among items
 
-none_heard : (now : ℕ) (parts : List Part) (ds : Devices) → whole_packets parts ≡ [] → hears_items now parts ds ≡ ds
+none_heard : (now : ℕ) (parts : List RunItem) (ds : Devices) → whole_packets parts ≡ [] → hears_items now parts ds ≡ ds
 none_heard now [] ds none = refl
-none_heard now (Whole p ∷ parts) ds none = absurd cc
-none_heard now (Passed b ∷ parts) ds none = none_heard now parts ds none
-none_heard now (Bad fault ∷ parts) ds none = none_heard now parts ds none
+none_heard now (PacketItem p ∷ parts) ds none = absurd cc
+none_heard now (SkippedItem b ∷ parts) ds none = none_heard now parts ds none
+none_heard now (RefusedItem fault ∷ parts) ds none = none_heard now parts ds none
 
-one_heard : (now : ℕ) (p : Packet) (parts : List Part) (ds : Devices) → whole_packets parts ≡ p ∷ [] → hears_items now parts ds ≡ hears_packet p now ds
+one_heard : (now : ℕ) (p : Packet) (parts : List RunItem) (ds : Devices) → whole_packets parts ≡ p ∷ [] → hears_items now parts ds ≡ hears_packet p now ds
 one_heard now p [] ds is = absurd cc
-one_heard now p (Whole q ∷ parts) ds is =
+one_heard now p (PacketItem q ∷ parts) ds is =
     let same : q ≡ p = cc in
     let none : whole_packets parts ≡ [] = cc in
     none_heard now parts (hears_packet q now ds) none ∙ ap (λ r. hears_packet r now ds) same
-one_heard now p (Passed b ∷ parts) ds is = one_heard now p parts ds is
-one_heard now p (Bad fault ∷ parts) ds is = one_heard now p parts ds is
+one_heard now p (SkippedItem b ∷ parts) ds is = one_heard now p parts ds is
+one_heard now p (RefusedItem fault ∷ parts) ds is = one_heard now p parts ds is
 
 -- ---- the whole run
 

@@ -4,7 +4,7 @@ use Rattle.std.specs.Prelude.{not, slice_get, slice_set}
 use Rattle.std.specs.Option.{option_map_or}
 use Rattle.osdp_frame.specs.Items.{items}
 use Rattle.osdp_frame.specs.Packet.{Packet}
-use Rattle.osdp_frame.specs.Reading.{Part}
+use Rattle.osdp_frame.specs.Reading.{RunItem}
 use Rattle.osdp_msg.specs.declared.command.Command.{Command}
 use Rattle.osdp_controller.proofs.Choices.{either_way}
 use Rattle.osdp_controller.specs.Machine.{new_machine}
@@ -50,7 +50,7 @@ set_all P i e ds all is j f at = by_place (replaced ds i e j f at)
     by_place (inr (other, was)) = all j f was
 
 all_items : (P : Device → Type 0) (now : ℕ) → ((p : Packet) (d : Device) → P d → P (device_hears p now d))
-    → (parts : List Part) (ds : Devices) → AllAre P ds.entries → AllAre P (hears_items now parts ds).entries
+    → (parts : List RunItem) (ds : Devices) → AllAre P ds.entries → AllAre P (hears_items now parts ds).entries
 all_items P now hears =
     items_keep now (λ (ds : Devices). AllAre P ds.entries) (λ p i d ds at all. set_all P i (device_hears p now d) ds.entries all (hears p d (all i d at)))
 

@@ -16,7 +16,7 @@ use Rattle.osdp_link_laws.proofs.Lines.{each_all}
 use Rattle.osdp_link_laws.proofs.Stages.{Each}
 use Rattle.osdp_multidrop.specs.Line as line
 use Rattle.osdp_multidrop.specs.Line.{Net, Tick, ToControllers, ToReaders, after_net, first_gets, site_at}
-use Rattle.osdp_multidrop.specs.Runs.{IsNetMove, in_front}
+use Rattle.osdp_multidrop.specs.Runs.{NetMoveFits, in_front}
 use Rattle.osdp_bus_links.specs.Links.{HearsAsAMove, device_of, packets_on}
 use Rattle.osdp_bus_links.proofs.Telling.{EndsAreTold}
 use Rattle.osdp_bus_links.proofs.Ticks.{Ends, one_ticked}
@@ -84,7 +84,7 @@ module _ {H : Type 0} (answer_of : H → Command → Answer) (after : H → Comm
 
     pub readers_follow : ReadersFit s.to_readers
         → Follows (after_step answer_of after (step.ToReader Deliver) s) (after_net answer_of after (ToReaders Delivered) n)
-        × IsNetMove answer_of after (ToReaders Delivered) n
+        × NetMoveFits answer_of after (ToReaders Delivered) n
     readers_follow fits =
         let done = readers_by n.to_readers refl h.asked (subst ReadersFit h.to_readers fits) in
         (subst (λ l. Follows (heard_by l) (line.to_readers answer_of after n.to_readers Delivered n)) (sym h.to_readers) done.0, done.1)

@@ -13,13 +13,13 @@ use Rattle.osdp_reader.specs.declared.handler.Answer.{Answer}
 use Rattle.osdp_bus.specs.Settings.{controller_config}
 use Rattle.osdp_bus.specs.declared.config.BusConfig.{BusConfig}
 use Rattle.osdp_link_laws.specs.Addresses.{StayWhereTheyAre}
-use Rattle.osdp_link_laws.specs.Headline.{AreMoves}
+use Rattle.osdp_link_laws.specs.Headline.{MovesFit}
 use Rattle.osdp_link_laws.specs.Link as link
 use Rattle.osdp_link_laws.specs.Link.{Link}
 use Rattle.osdp_link_laws.specs.Peers.{ReadEachOther}
 use Rattle.osdp_link_laws.specs.Progress as progress
 use Rattle.osdp_link_laws.specs.Progress.{SetsNoAddress}
-use Rattle.osdp_link_laws.specs.Sessions.{all_submitted, told_in}
+use Rattle.osdp_link_laws.specs.Sessions.{all_submitted, ended_commands}
 use Rattle.osdp_link_laws.proofs.Lines.{each_all, each_of, each_rest}
 use Rattle.osdp_link_laws.proofs.Stages.{Each}
 use Rattle.osdp_multidrop.specs.Line as line
@@ -225,7 +225,7 @@ module _ {H : Type 0} (answer_of : H → Command → Answer) (after : H → Comm
                 ∙ sym (ap (λ (v : Link H). v.controller.session.config.address) moved);
             ready = sym (ap (λ r. r.busy) u.2.reader) ∙ ready.ready;
             issued = each_all SetsNoAddress t.account.issued
-                (each_rest SetsNoAddress (told_in t.earlier) t.account.issued (subst (Each SetsNoAddress) u.2.tells.issued issued));
+                (each_rest SetsNoAddress (ended_commands t.earlier) t.account.issued (subst (Each SetsNoAddress) u.2.tells.issued issued));
           }
 
       entries_count : length s.bus.devices.entries ≡ length readers
@@ -291,7 +291,7 @@ module _ {H : Type 0} (answer_of : H → Command → Answer) (after : H → Comm
           let through = in_time old ms has.moments begun.begins range l.its.fits
           (subst progress.IsClear l.moved (clear_at k t.0 t.1))
           (subst (progress.AreLate answer_of after has.moments) l.moved has.late)
-          (subst (AreMoves answer_of after (progress.rounds has.moments)) l.moved has.fits) in
+          (subst (MovesFit answer_of after (progress.rounds has.moments)) l.moved has.fits) in
           let last = has.seen_then.site in
           let then_ : view k last has.last ≡ link.run answer_of after (progress.rounds has.moments) (link.run answer_of after ms old) =
           has.seen_then.moved ∙ ap (link.run answer_of after (progress.rounds has.moments)) l.moved in

@@ -6,7 +6,7 @@ use Rattle.osdp_frame.specs.Packet.{Packet}
 use Rattle.osdp_msg.specs.declared.command.Command.{Command}
 use Rattle.osdp_controller.specs.Machine.{is_due}
 use Rattle.osdp_reader.specs.declared.handler.Answer.{Answer}
-use Rattle.osdp_link_laws.specs.Headline.{AreMoves, SaysWhatFits}
+use Rattle.osdp_link_laws.specs.Headline.{MovesFit, SaysWhatFits}
 use Rattle.osdp_link_laws.specs.Link as link
 use Rattle.osdp_link_laws.specs.Link.{Delivered, Link, Move}
 use Rattle.osdp_link_laws.specs.Peers.{ReadEachOther}
@@ -16,7 +16,7 @@ use Rattle.osdp_link_laws.proofs.Round.{at_tick, goes}
 use Rattle.osdp_link_laws.proofs.Stages.{Each}
 use Rattle.osdp_multidrop.specs.Line as line
 use Rattle.osdp_multidrop.specs.Line.{Net, NetMove, Site, Tick, ToControllers, ToReaders, address_of, after_net, changed, first_gets, site_at, tagged, ticks_of}
-use Rattle.osdp_multidrop.specs.Runs.{IsNetMove, in_front}
+use Rattle.osdp_multidrop.specs.Runs.{NetMoveFits, in_front}
 use Rattle.osdp_multidrop.specs.Views.{front_to_controller, front_to_reader, move_of, one_if, own, view}
 use Rattle.osdp_multidrop.proofs.Apart.{IsSited}
 use Rattle.osdp_multidrop.proofs.Changing.{some_same}
@@ -128,12 +128,12 @@ module _ {H : Type 0} (answer_of : H → Command → Answer) (after : H → Comm
     pub each : (k : ℕ) (s : Site H) → site_at k n.sites ≡ Some s → IsSeen k s (its_round i k now) n (round_net i now n)
     pub was : (k : ℕ) (t : Site H) → site_at k (round_net i now n).sites ≡ Some t → IsSited n.sites k
     pub count : length (round_net i now n).sites ≡ length n.sites
-    pub fits : (s : Site H) → site_at i n.sites ≡ Some s → AreMoves answer_of after (progress.round now) (view i s n)
+    pub fits : (s : Site H) → site_at i n.sites ≡ Some s → MovesFit answer_of after (progress.round now) (view i s n)
     pub clear : (s : Site H) → site_at i n.sites ≡ Some s → progress.IsClear (goes answer_of after now (view i s n))
     pub rest : (s : Site H) → site_at i n.sites ≡ Some s → IsAtRest answer_of after peers (goes answer_of after now (view i s n))
 
   module _ (i now : ℕ) (n : Net H) (s : Site H) (h : Holds answer_of after peers n) (quiet : IsQuiet n) (at : site_at i n.sites ≡ Some s)
-      (fits : IsNetMove answer_of after (ToReaders Delivered) (ticked_net i now n)) where
+      (fits : NetMoveFits answer_of after (ToReaders Delivered) (ticked_net i now n)) where
     abbrev o : Option Packet
     o = (ticks_of now s).step.frame
 
@@ -325,7 +325,7 @@ module _ {H : Type 0} (answer_of : H → Command → Answer) (after : H → Comm
         each = round_seen;
         was = λ k t is. round_was k (t, is);
         count = counted;
-        fits = λ t there. subst (λ u. AreMoves answer_of after (progress.round now) (view i u n)) (some_same s t (sym at ∙ there)) (tt, (says, (tt, tt)));
+        fits = λ t there. subst (λ u. MovesFit answer_of after (progress.round now) (view i u n)) (some_same s t (sym at ∙ there)) (tt, (says, (tt, tt)));
         clear = λ t there. subst (λ u. progress.IsClear (goes answer_of after now (view i u n))) (some_same s t (sym at ∙ there)) rested.0;
         rest = λ t there. subst (λ u. IsAtRest answer_of after peers (goes answer_of after now (view i u n))) (some_same s t (sym at ∙ there)) rested.1;
       }

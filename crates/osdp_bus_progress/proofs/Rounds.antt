@@ -19,7 +19,7 @@ use Rattle.osdp_bus.specs.declared.device.Device.{Device}
 use Rattle.osdp_bus_laws.proofs.Exchanging.{has_exchange}
 use Rattle.osdp_bus_laws.proofs.Places.{is_false as unless_true}
 use Rattle.osdp_bus_laws.proofs.Sound.{nobody}
-use Rattle.osdp_link_laws.specs.Headline.{AreMoves}
+use Rattle.osdp_link_laws.specs.Headline.{MovesFit}
 use Rattle.osdp_link_laws.specs.Link as link
 use Rattle.osdp_link_laws.specs.Link.{Delivered, Link}
 use Rattle.osdp_link_laws.specs.Peers.{IsPlainlySaid, ReadEachOther}
@@ -29,7 +29,7 @@ use Rattle.osdp_link_laws.proofs.Numbers.{is_false, is_true}
 use Rattle.osdp_link_laws.proofs.Stages.{Each}
 use Rattle.osdp_multidrop.specs.Line as line
 use Rattle.osdp_multidrop.specs.Line.{Net, Tick, ToReaders, after_net, site_at}
-use Rattle.osdp_multidrop.specs.Runs.{IsNetMove}
+use Rattle.osdp_multidrop.specs.Runs.{NetMoveFits}
 use Rattle.osdp_multidrop.specs.Views.{own, view}
 use Rattle.osdp_multidrop.proofs.Apart.{IsSited, each_by_owner}
 use Rattle.osdp_multidrop.proofs.Changing.{some_same}
@@ -186,7 +186,7 @@ module _ {H : Type 0} (answer_of : H → Command → Answer) (after : H → Comm
             subst (λ g. Follows s1 (after_net answer_of after (Tick entry g) n)) seen_now
             (tick_follows answer_of after ends now entry s n its_site.0 its_site.1 ticks_it fits.0 h.follows)
 
-        heard2 : Follows s2 n2 × IsNetMove answer_of after (ToReaders Delivered) n1
+        heard2 : Follows s2 n2 × NetMoveFits answer_of after (ToReaders Delivered) n1
         heard2 =
             readers_follow answer_of after bus.reads s1 n1 follows1
             (each_of (λ (u : Site H). SaysFit answer_of after (packets_in (handed Deliver s1.to_readers)) u.reader) s1.sites fits.1.0)
@@ -325,7 +325,7 @@ module _ {H : Type 0} (answer_of : H → Command → Answer) (after : H → Comm
       pub follows : Follows (simulation.run answer_of after (rounds m wait) s) last
       pub moments : List ℕ
       pub seen_then : IsSeen answer_of after peers k t (progress.rounds moments) n last
-      pub fits : AreMoves answer_of after (progress.rounds moments) (view k t n)
+      pub fits : MovesFit answer_of after (progress.rounds moments) (view k t n)
       pub late : progress.AreLate answer_of after moments (view k t n)
       pub enough : (turns : ℕ) → all_turns turns count + away ≤ m + (count - 1) → turns ≤ length moments
 
@@ -377,7 +377,7 @@ module _ {H : Type 0} (answer_of : H → Command → Answer) (after : H → Comm
             let now = one.now in
             let through : view k seen.site (round_net answer_of after peers entry now n) ≡ link.run answer_of after (progress.round now) (view k t n) =
             seen.moved ∙ ap (λ b. link.run answer_of after (cond b (progress.round now) []) (view k t n)) (is_true entry k own) in
-            let first = subst (λ j. AreMoves answer_of after (progress.round now) (view j t n)) own (one.round.fits t here) in
+            let first = subst (λ j. MovesFit answer_of after (progress.round now) (view j t n)) own (one.round.fits t here) in
             record {
               last = more.last;
               follows = more.follows;
@@ -387,7 +387,7 @@ module _ {H : Type 0} (answer_of : H → Command → Answer) (after : H → Comm
                 there = more.seen_then.there;
                 moved = more.seen_then.moved ∙ ap (link.run answer_of after (progress.rounds more.moments)) through;
               };
-              fits = (first.0, (first.1.0, (first.1.1.0, subst (AreMoves answer_of after (progress.rounds more.moments)) through more.fits)));
+              fits = (first.0, (first.1.0, (first.1.1.0, subst (MovesFit answer_of after (progress.rounds more.moments)) through more.fits)));
               late = (one.late k t at, subst (progress.AreLate answer_of after more.moments) through more.late);
               enough = λ turns few. own_turn turns m (length more.moments) (let below = h.below in omega (arith, below)) more.enough few;
             }
@@ -407,7 +407,7 @@ module _ {H : Type 0} (answer_of : H → Command → Answer) (after : H → Comm
                 there = more.seen_then.there;
                 moved = more.seen_then.moved ∙ ap (link.run answer_of after (progress.rounds more.moments)) stays;
               };
-              fits = subst (AreMoves answer_of after (progress.rounds more.moments)) stays more.fits;
+              fits = subst (MovesFit answer_of after (progress.rounds more.moments)) stays more.fits;
               late = subst (progress.AreLate answer_of after more.moments) stays more.late;
               enough = λ turns few. more.enough turns (omega (arith, few));
             }

@@ -7,13 +7,13 @@ use Rattle.osdp_frame.specs.Spelling.{Spells}
 use Rattle.osdp_msg.specs.declared.command_fields.Communication.{Communication}
 use Rattle.osdp_msg.specs.declared.reply.Reply.TheVariants.{Ack}
 use Rattle.osdp_msg.specs.ReplyTable.{reply_at, reply_fault, reply_of}
-use Rattle.osdp_controller.specs.declared.answer.Answer.TheVariants.{Plain}
+use Rattle.osdp_controller.specs.declared.meaning.ReplyMeaning.TheVariants.{Plain}
 use Rattle.osdp_controller.specs.declared.exchange.Exchange.{Exchange}
 use Rattle.osdp_controller.specs.declared.exchange.Exchange.TheVariants.{Opening, Polling, Asking}
 use Rattle.osdp_controller.specs.declared.session.Session.{Session}
 use Rattle.osdp_controller.specs.declared.state.State.{State}
 use Rattle.osdp_controller.specs.declared.state.State.TheVariants.{Closed, Quiet, Idle, Waiting, Pausing}
-use Rattle.osdp_controller.specs.Answers.{answer_of}
+use Rattle.osdp_controller.specs.Answers.{meaning_of}
 use Rattle.osdp_controller.specs.Held.{is_held, outstanding_in}
 use Rattle.osdp_controller.specs.Hearing.{answered, comset_of, hears_in, moved_by, rests}
 use Rattle.osdp_controller.specs.Private.{acknowledged, takes_ack}
@@ -22,7 +22,7 @@ ack_read : reply_of 64 [] ≡ Ok Ack
 unfolding reply_of reply_fault reply_at
 ack_read = refl
 
-ack_answer : (p : Packet) → p.body ≡ 0x40 ∷ [] → answer_of p ≡ Plain Ack
+ack_answer : (p : Packet) → p.body ≡ 0x40 ∷ [] → meaning_of p ≡ Plain Ack
 ack_answer p e = rw (e, ack_read) refl
 
 same_number : (n : ℕ) (s : Session) → n ≡ s.number → (n == s.number) ≡ true
@@ -40,7 +40,7 @@ ack_settles Polling s h = refl
 ack_settles (Asking command) s h = rw (stays_without (comset_of command)) refl
 
 pub acked : (state : State) (p : Packet) (s : Session) → p.sequence ≡ s.number → p.body ≡ 0x40 ∷ [] → is_held state ≡ true
-    → takes_ack (outstanding_in state).exchange ≡ true → hears_in state p.sequence (answer_of p) s ≡ rests (acknowledged (outstanding_in state).exchange) s
+    → takes_ack (outstanding_in state).exchange ≡ true → hears_in state p.sequence (meaning_of p) s ≡ rests (acknowledged (outstanding_in state).exchange) s
 acked Closed p s n e h asks = cc
 acked (Quiet until) p s n e h asks = cc
 acked (Idle due) p s n e h asks = cc

@@ -9,8 +9,8 @@ use Rattle.osdp_msg.specs.declared.command.Command.{Command}
 use Rattle.osdp_msg.specs.declared.command_fields.Communication.{Communication}
 use Rattle.osdp_msg.specs.declared.reply.Reply.{Reply}
 use Rattle.osdp_msg.specs.declared.reply_fields.PdId.{PdId}
-use Rattle.osdp_controller.specs.declared.answer.Answer.{Answer}
-use Rattle.osdp_controller.specs.declared.answer.Answer.TheVariants.{NotTaken, Damaged, NumberRefused, Plain, Unreadable}
+use Rattle.osdp_controller.specs.declared.meaning.ReplyMeaning.{ReplyMeaning}
+use Rattle.osdp_controller.specs.declared.meaning.ReplyMeaning.TheVariants.{NotTaken, Damaged, NumberRefused, Plain, Unreadable}
 use Rattle.osdp_controller.specs.declared.config.ControllerConfig.{ControllerConfig}
 use Rattle.osdp_controller.specs.declared.exchange.Exchange.{Exchange}
 use Rattle.osdp_controller.specs.declared.exchange.Exchange.TheVariants.{Opening, Polling, Asking}
@@ -142,7 +142,7 @@ keeps_unread Opening code s is = is
 keeps_unread Polling code s is = record { config = is.config; state = tt; opening = tt }
 keeps_unread (Asking command) code s is = record { config = is.config; state = tt; opening = tt }
 
-keeps_waiting : (a : Answer) (sends : ℕ) (o : Outstanding) (s : Session) → 1 ≤ sends → sends ≤ s.config.sends → IsOutstanding s.config sends o
+keeps_waiting : (a : ReplyMeaning) (sends : ℕ) (o : Outstanding) (s : Session) → 1 ≤ sends → sends ≤ s.config.sends → IsOutstanding s.config sends o
     → (o.exchange ≡ Opening → s.number ≡ 0) → IsSession s → IsSession (waiting_hears a sends o s).session
 keeps_waiting NotTaken sends o s one within out opening is = keeps_busy sends o s is.config within out opening
 keeps_waiting Damaged sends o s one within out opening is = record { config = is.config; state = (one, within, out); opening = opening }
@@ -150,14 +150,14 @@ keeps_waiting NumberRefused sends o s one within out opening is = record { confi
 keeps_waiting (Plain reply) sends o s one within out opening is = keeps_answered o.exchange reply s is
 keeps_waiting (Unreadable code) sends o s one within out opening is = keeps_unread o.exchange code s is
 
-keeps_pausing : (a : Answer) (o : Outstanding) (s : Session) → IsSession s → IsSession (pausing_hears a o s).session
+keeps_pausing : (a : ReplyMeaning) (o : Outstanding) (s : Session) → IsSession s → IsSession (pausing_hears a o s).session
 keeps_pausing NotTaken o s is = is
 keeps_pausing Damaged o s is = is
 keeps_pausing NumberRefused o s is = record { config = is.config; state = tt; opening = tt }
 keeps_pausing (Plain reply) o s is = keeps_answered o.exchange reply s is
 keeps_pausing (Unreadable code) o s is = keeps_unread o.exchange code s is
 
-pub keeps_numbered : (state : State) (a : Answer) (s : Session) → IsState s.config state → OpensAtZero state s.number → IsSession s
+pub keeps_numbered : (state : State) (a : ReplyMeaning) (s : Session) → IsState s.config state → OpensAtZero state s.number → IsSession s
     → IsSession (numbered_in state a s).session
 keeps_numbered Closed a s state opening is = is
 keeps_numbered (Quiet until) a s state opening is = is

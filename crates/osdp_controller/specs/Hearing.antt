@@ -9,8 +9,8 @@ use Rattle.osdp_msg.specs.declared.event.Event.TheVariants as events
 use Rattle.osdp_msg.specs.declared.reply.Reply.{Reply}
 use Rattle.osdp_msg.specs.declared.reply.Reply.TheVariants as replies
 use Rattle.osdp_msg.specs.declared.reply_fields.PdId.{PdId}
-use Rattle.osdp_controller.specs.declared.answer.Answer.{Answer}
-use Rattle.osdp_controller.specs.declared.answer.Answer.TheVariants.{NotTaken, Damaged, NumberRefused, Plain, Unreadable}
+use Rattle.osdp_controller.specs.declared.meaning.ReplyMeaning.{ReplyMeaning}
+use Rattle.osdp_controller.specs.declared.meaning.ReplyMeaning.TheVariants.{NotTaken, Damaged, NumberRefused, Plain, Unreadable}
 use Rattle.osdp_controller.specs.declared.exchange.Exchange.{Exchange}
 use Rattle.osdp_controller.specs.declared.exchange.Exchange.TheVariants.{Opening, Polling, Asking}
 use Rattle.osdp_controller.specs.declared.exchange.Outstanding.{Outstanding}
@@ -21,7 +21,7 @@ use Rattle.osdp_controller.specs.declared.report.Report.TheVariants.{Opened, Set
 use Rattle.osdp_controller.specs.declared.session.Session.{Session}
 use Rattle.osdp_controller.specs.declared.state.State.{State}
 use Rattle.osdp_controller.specs.declared.state.State.TheVariants.{Closed, Quiet, Idle, Waiting, Pausing}
-use Rattle.osdp_controller.specs.Answers.{answer_of, is_not_taken}
+use Rattle.osdp_controller.specs.Answers.{meaning_of, is_not_taken}
 use Rattle.osdp_controller.specs.Sessions.{at_rest, closed, later, lost, seen}
 
 -- what comes of a frame: the session after it, and what is told
@@ -45,7 +45,7 @@ abbrev pub is_from_reader : Packet → Session → Bool
 is_from_reader p s = p.reply && p.address == s.config.address && not p.block
 
 -- it has the number of the exchange; a BUSY may have 0
-abbrev pub is_numbered : ℕ → Answer → Session → Bool
+abbrev pub is_numbered : ℕ → ReplyMeaning → Session → Bool
 is_numbered number answer s = number == s.number || number == 0 && is_not_taken answer
 
 -- the event that a reply tells
@@ -124,7 +124,7 @@ answered_unread Polling code s = rests (Some (Unread None code)) s
 answered_unread (Asking command) code s = rests (Some (Unread (Some command) code)) s
 
 -- while the answer is waited for; after a NAK 1 the next tick repeats or gives up
-abbrev pub waiting_hears : Answer → ℕ → Outstanding → Session → Heard
+abbrev pub waiting_hears : ReplyMeaning → ℕ → Outstanding → Session → Heard
 waiting_hears NotTaken sends o s = hears_busy o s
 waiting_hears Damaged sends o s = ignores (record s { state = Waiting s.greatest sends o })
 waiting_hears NumberRefused sends o s = loses causes.NumberRefused o s
@@ -132,7 +132,7 @@ waiting_hears (Plain reply) sends o s = answered o.exchange reply s
 waiting_hears (Unreadable code) sends o s = answered_unread o.exchange code s
 
 -- in a pause
-abbrev pub pausing_hears : Answer → Outstanding → Session → Heard
+abbrev pub pausing_hears : ReplyMeaning → Outstanding → Session → Heard
 pausing_hears NotTaken o s = ignores s
 pausing_hears Damaged o s = ignores s
 pausing_hears NumberRefused o s = loses causes.NumberRefused o s
@@ -140,7 +140,7 @@ pausing_hears (Plain reply) o s = answered o.exchange reply s
 pausing_hears (Unreadable code) o s = answered_unread o.exchange code s
 
 -- by the state: where no exchange is outstanding a frame is ignored; else it is heard where it has the number
-abbrev pub hears_in : State → ℕ → Answer → Session → Heard
+abbrev pub hears_in : State → ℕ → ReplyMeaning → Session → Heard
 hears_in Closed number answer s = ignores s
 hears_in (Quiet until) number answer s = ignores s
 hears_in (Idle due) number answer s = ignores s
@@ -152,5 +152,5 @@ hears_in (Pausing until o) number answer s =
 -- a frame at a moment
 abbrev pub hears : Packet → ℕ → Session → Heard
 hears p now s =
-    if is_from_reader p s then hears_in s.state p.sequence (answer_of p) (seen now s)
+    if is_from_reader p s then hears_in s.state p.sequence (meaning_of p) (seen now s)
     else ignores (seen now s)

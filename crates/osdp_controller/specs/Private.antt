@@ -4,8 +4,8 @@ use Rattle.std.specs.Option.{option_map_or}
 use Rattle.osdp_frame.specs.Packet.{Packet}
 use Rattle.osdp_msg.specs.declared.command.Command.{Command}
 use Rattle.osdp_msg.specs.declared.reply.Reply.TheVariants.{Ack}
-use Rattle.osdp_controller.specs.declared.answer.Answer.{Answer}
-use Rattle.osdp_controller.specs.declared.answer.Answer.TheVariants.{Plain, Unreadable}
+use Rattle.osdp_controller.specs.declared.meaning.ReplyMeaning.{ReplyMeaning}
+use Rattle.osdp_controller.specs.declared.meaning.ReplyMeaning.TheVariants.{Plain, Unreadable}
 use Rattle.osdp_controller.specs.declared.exchange.Exchange.{Exchange}
 use Rattle.osdp_controller.specs.declared.exchange.Exchange.TheVariants.{Opening, Polling, Asking}
 use Rattle.osdp_controller.specs.declared.report.Report.{Report}
@@ -37,13 +37,13 @@ abbrev pub rest_in : State → List Command → List Command
 rest_in state waiting = if is_idle state then drop 1 waiting else waiting
 
 -- an answer is none to the exchange: the opening ID is answered by a PDID alone
-abbrev pub is_no_answer : Exchange → Answer → Bool
+abbrev pub is_no_answer : Exchange → ReplyMeaning → Bool
 is_no_answer Opening (Plain reply) = is_none (pd_id_of reply)
 is_no_answer Opening (Unreadable code) = true
 is_no_answer _ _ = false
 
 -- nor to one that is outstanding in a state
-abbrev pub is_no_answer_in : State → Answer → Bool
+abbrev pub is_no_answer_in : State → ReplyMeaning → Bool
 is_no_answer_in (Waiting until sends o) answer = is_no_answer o.exchange answer
 is_no_answer_in (Pausing until o) answer = is_no_answer o.exchange answer
 is_no_answer_in _ answer = false
@@ -60,7 +60,7 @@ acknowledged Polling = None
 acknowledged (Asking command) = Some (Settled command Ack)
 
 -- an answer with the number of the exchange, by the state; where none is outstanding it is ignored
-abbrev pub numbered_in : State → Answer → Session → Heard
+abbrev pub numbered_in : State → ReplyMeaning → Session → Heard
 numbered_in Closed answer s = ignores s
 numbered_in (Quiet until) answer s = ignores s
 numbered_in (Idle due) answer s = ignores s

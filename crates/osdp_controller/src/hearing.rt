@@ -1,12 +1,12 @@
 //! The table of frames.
 
 ghost use Rattle.std.specs.Prelude.{◌≡◌, ◌<◌, [], ◌∷◌, true, false, Option, None, Some, is_none, is_some, IfSome, MatchResult};
-ghost use Rattle.osdp_controller.specs.declared.answer.Answer.TheVariants.{Plain, Unreadable};
+ghost use Rattle.osdp_controller.specs.declared.meaning.ReplyMeaning.TheVariants.{Plain, Unreadable};
 ghost use Rattle.osdp_controller.specs.declared.report.Report.TheVariants.{Moved, Settled};
 ghost use Rattle.osdp_msg.specs.declared.reply.Reply.TheVariants.{Ack};
 ghost use Rattle.osdp_msg.specs.declared.command.Command.{Command};
 ghost use Rattle.osdp_controller.specs.declared.state.Stage.TheVariants as stages;
-ghost use Rattle.osdp_controller.specs.Answers.{answer_of};
+ghost use Rattle.osdp_controller.specs.Answers.{meaning_of};
 ghost use Rattle.osdp_controller.specs.Exchanges.{submitted_command};
 ghost use Rattle.osdp_controller.specs.Hearing.{answered, answered_unread, com_of, comset_of, event_in, hears, hears_busy, hears_in, is_ack, is_from_reader, is_numbered, loses, moved_by, opening_answered, pausing_hears, pd_id_of, poll_told, rests, waiting_hears};
 ghost use Rattle.osdp_controller.specs.Held.{exchange_of, is_held, outstanding_in, sends_in, stage_of};
@@ -14,8 +14,8 @@ ghost use Rattle.osdp_controller.specs.Machine.{IsSession};
 ghost use Rattle.osdp_controller.specs.Private.{acknowledged, is_no_answer, is_no_answer_in, numbered_in};
 ghost use Rattle.osdp_controller.specs.Sessions.{at_rest, closed};
 
-use crate::answer::Answer;
 use crate::exchange::Asked;
+use crate::meaning::ReplyMeaning;
 use crate::report::{LostCause, Report};
 use crate::session::Session;
 use crate::state::Stage;
@@ -32,7 +32,7 @@ impl Session {
     }
 
     /// Whether an answer has the number of the exchange. A BUSY may have 0.
-    fn is_numbered(&self, number: Seq, answer: &Answer) -> bool
+    fn is_numbered(&self, number: Seq, answer: &ReplyMeaning) -> bool
         ensures { result ≡ is_numbered number answer.now self.now }
     {
         number == self.number || number.get() == 0 && answer.is_not_taken()
@@ -187,7 +187,7 @@ impl Session {
     }
 
     /// An answer comes while it is waited for.
-    fn hear_waiting(&mut self, answer: &mut Answer, report: &mut Option<Report>)
+    fn hear_waiting(&mut self, answer: &mut ReplyMeaning, report: &mut Option<Report>)
         requires waiting { stage_of self.old.state ≡ stages.Waiting }
         requires answer { is_no_answer (outstanding_in self.old.state).exchange answer.old ≡ false }
         requires none { report.old ≡ None }
@@ -195,16 +195,16 @@ impl Session {
         ensures session { self.new ≡ (waiting_hears answer.old (sends_in self.old.state) (outstanding_in self.old.state) self.old).session }
     {
         match answer {
-            Answer::NotTaken => self.hear_busy(report),
-            Answer::Damaged => self.state.wait_until(self.greatest),
-            Answer::NumberRefused => self.lose(LostCause::NumberRefused, report),
-            Answer::Plain(reply) => self.settle(reply, report),
-            Answer::Unreadable(code) => self.settle_unread(*code, report),
+            ReplyMeaning::NotTaken => self.hear_busy(report),
+            ReplyMeaning::Damaged => self.state.wait_until(self.greatest),
+            ReplyMeaning::NumberRefused => self.lose(LostCause::NumberRefused, report),
+            ReplyMeaning::Plain(reply) => self.settle(reply, report),
+            ReplyMeaning::Unreadable(code) => self.settle_unread(*code, report),
         }
     }
 
     /// An answer comes in a pause.
-    fn hear_pausing(&mut self, answer: &mut Answer, report: &mut Option<Report>)
+    fn hear_pausing(&mut self, answer: &mut ReplyMeaning, report: &mut Option<Report>)
         requires held { is_held self.old.state ≡ true }
         requires answer { is_no_answer (outstanding_in self.old.state).exchange answer.old ≡ false }
         requires none { report.old ≡ None }
@@ -212,15 +212,15 @@ impl Session {
         ensures session { self.new ≡ (pausing_hears answer.old (outstanding_in self.old.state) self.old).session }
     {
         match answer {
-            Answer::NotTaken | Answer::Damaged => {}
-            Answer::NumberRefused => self.lose(LostCause::NumberRefused, report),
-            Answer::Plain(reply) => self.settle(reply, report),
-            Answer::Unreadable(code) => self.settle_unread(*code, report),
+            ReplyMeaning::NotTaken | ReplyMeaning::Damaged => {}
+            ReplyMeaning::NumberRefused => self.lose(LostCause::NumberRefused, report),
+            ReplyMeaning::Plain(reply) => self.settle(reply, report),
+            ReplyMeaning::Unreadable(code) => self.settle_unread(*code, report),
         }
     }
 
     /// Whether an answer is none to the outstanding exchange.
-    fn is_no_answer(&self, answer: &Answer) -> bool
+    fn is_no_answer(&self, answer: &ReplyMeaning) -> bool
         ensures { result ≡ is_no_answer_in self.now.state answer.now }
     {
         match self.state.stage {
@@ -231,7 +231,7 @@ impl Session {
     }
 
     /// An answer with the number of the exchange comes, where one is outstanding.
-    fn hear_numbered(&mut self, answer: &mut Answer, report: &mut Option<Report>)
+    fn hear_numbered(&mut self, answer: &mut ReplyMeaning, report: &mut Option<Report>)
         requires answer { is_no_answer_in self.old.state answer.old ≡ false }
         requires none { report.old ≡ None }
         ensures report { report.new ≡ (numbered_in self.old.state answer.old self.old).report }
@@ -264,8 +264,8 @@ impl Session {
     fn hear_reader(&mut self, frame: &FrameView<'_>, report: &mut Option<Report>)
         requires session { IsSession self.old }
         requires none { report.old ≡ None }
-        ensures report { report.new ≡ (hears_in self.old.state frame.now.sequence (answer_of frame.now) self.old).report }
-        ensures session { self.new ≡ (hears_in self.old.state frame.now.sequence (answer_of frame.now) self.old).session }
+        ensures report { report.new ≡ (hears_in self.old.state frame.now.sequence (meaning_of frame.now) self.old).report }
+        ensures session { self.new ≡ (hears_in self.old.state frame.now.sequence (meaning_of frame.now) self.old).session }
         ensures kept { IsSession self.new }
     {
         if !self.is_acknowledged_by(frame) {
@@ -281,7 +281,7 @@ impl Session {
     #[tactic(auto, using(crate::proofs::Acks::acked))]
     fn is_acknowledged_by(&self, frame: &FrameView<'_>) -> bool
         ensures held { result ≡ true → is_held self.now.state ≡ true }
-        ensures heard { result ≡ true → hears_in self.now.state frame.now.sequence (answer_of frame.now) self.now ≡ rests (acknowledged (outstanding_in self.now.state).exchange) self.now }
+        ensures heard { result ≡ true → hears_in self.now.state frame.now.sequence (meaning_of frame.now) self.now ≡ rests (acknowledged (outstanding_in self.now.state).exchange) self.now }
     {
         frame.seq() == self.number && self.state.is_asking() && is_ack_alone(frame.body())
     }
@@ -291,11 +291,11 @@ impl Session {
     fn hear_reply(&mut self, frame: &FrameView<'_>, report: &mut Option<Report>)
         requires session { IsSession self.old }
         requires none { report.old ≡ None }
-        ensures report { report.new ≡ (hears_in self.old.state frame.now.sequence (answer_of frame.now) self.old).report }
-        ensures session { self.new ≡ (hears_in self.old.state frame.now.sequence (answer_of frame.now) self.old).session }
+        ensures report { report.new ≡ (hears_in self.old.state frame.now.sequence (meaning_of frame.now) self.old).report }
+        ensures session { self.new ≡ (hears_in self.old.state frame.now.sequence (meaning_of frame.now) self.old).session }
         ensures kept { IsSession self.new }
     {
-        let mut answer = Answer::of(frame);
+        let mut answer = ReplyMeaning::of(frame);
         if self.is_numbered(frame.seq(), &answer) && !self.is_no_answer(&answer) {
             self.hear_numbered(&mut answer, report);
         }
@@ -331,13 +331,16 @@ fn is_ack_alone(body: &[u8]) -> bool
 }
 
 /// Whether an answer is none to the exchange: the opening ID is answered by a PDID alone.
-fn is_no_answer(asked: Asked, answer: &Answer) -> bool
+fn is_no_answer(asked: Asked, answer: &ReplyMeaning) -> bool
     ensures { (command : Option Command) → result ≡ is_no_answer (exchange_of asked command) answer.now }
 {
     match (asked, answer) {
-        (Asked::Opening, Answer::Plain(reply)) => pd_id_of(reply).is_none(),
-        (Asked::Opening, Answer::Unreadable(_)) => true,
-        (Asked::Opening, Answer::NotTaken | Answer::Damaged | Answer::NumberRefused)
+        (Asked::Opening, ReplyMeaning::Plain(reply)) => pd_id_of(reply).is_none(),
+        (Asked::Opening, ReplyMeaning::Unreadable(_)) => true,
+        (
+            Asked::Opening,
+            ReplyMeaning::NotTaken | ReplyMeaning::Damaged | ReplyMeaning::NumberRefused,
+        )
         | (Asked::Polling | Asked::Submitted, _) => false,
     }
 }

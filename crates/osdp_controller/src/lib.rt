@@ -8,12 +8,12 @@
 //! Only `Controller::new` takes memory.
 #![tactic(auto)]
 
-mod answer;
 mod config;
 mod controller;
 mod exchange;
 mod fault;
 mod hearing;
+mod meaning;
 mod report;
 mod session;
 mod state;

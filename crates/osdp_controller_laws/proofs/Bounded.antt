@@ -12,7 +12,7 @@ use Rattle.osdp_controller.specs.declared.exchange.Outstanding.{Outstanding}
 use Rattle.osdp_controller.specs.declared.session.Session.{Session}
 use Rattle.osdp_controller.specs.declared.state.State.{State}
 use Rattle.osdp_controller.specs.declared.state.State.TheVariants.{Closed, Quiet, Idle, Waiting, Pausing}
-use Rattle.osdp_controller.specs.Answers.{answer_of}
+use Rattle.osdp_controller.specs.Answers.{meaning_of}
 use Rattle.osdp_controller.specs.Hearing.{Heard, hears}
 use Rattle.osdp_controller.specs.Machine.{IsMachine, IsOutstanding, IsSession, IsState, IsSubmitted, Machine, OpensAtZero, after_begin, after_retarget, is_outstanding, sent_in, submit_refusal}
 use Rattle.osdp_controller_laws.specs.Runs.{Call, Submit, Begin, Retarget, Withdraw, Tick, Hear, Lasts, SendsFew, after_call, frames, sent_by}
@@ -63,7 +63,7 @@ pub keeps_hears : (p : Packet) (now : ℕ) (s : Session) → IsSession s → IsS
 keeps_hears p now s is =
     let after = keeps_seen now s is in
     either_frame (λ (h : Heard). IsSession h.session) p now s
-    (λ from h. keeps_numbered s.state (answer_of p) (seen now s) is.state is.opening after) after
+    (λ from h. keeps_numbered s.state (meaning_of p) (seen now s) is.state is.opening after) after
 
 keeps_call : (call : Call) (m : Machine) → is_outstanding m.session.state ≡ true → IsSession m.session → IsSession (after_call call m).session
 keeps_call (Submit command) m h is = subst IsSession (sym (submit_session (submit_refusal command m) command m)) is

@@ -12,8 +12,8 @@ use Rattle.osdp_msg.specs.declared.reply.Reply.{Reply}
 use Rattle.osdp_msg.specs.declared.reply.Reply.TheVariants as replies
 use Rattle.osdp_msg.specs.declared.reply_fields.PdId.{PdId}
 use Rattle.osdp_msg.specs.Events.{event_reply}
-use Rattle.osdp_controller.specs.declared.answer.Answer.{Answer}
-use Rattle.osdp_controller.specs.declared.answer.Answer.TheVariants.{NotTaken, Damaged, NumberRefused, Plain, Unreadable}
+use Rattle.osdp_controller.specs.declared.meaning.ReplyMeaning.{ReplyMeaning}
+use Rattle.osdp_controller.specs.declared.meaning.ReplyMeaning.TheVariants.{NotTaken, Damaged, NumberRefused, Plain, Unreadable}
 use Rattle.osdp_controller.specs.declared.exchange.Exchange.{Exchange}
 use Rattle.osdp_controller.specs.declared.exchange.Exchange.TheVariants.{Opening, Polling, Asking}
 use Rattle.osdp_controller.specs.declared.exchange.Outstanding.{Outstanding}
@@ -23,7 +23,7 @@ use Rattle.osdp_controller.specs.declared.report.Report.TheVariants.{Moved, Poll
 use Rattle.osdp_controller.specs.declared.session.Session.{Session}
 use Rattle.osdp_controller.specs.declared.state.State.{State}
 use Rattle.osdp_controller.specs.declared.state.State.TheVariants.{Closed, Quiet, Idle, Waiting, Pausing}
-use Rattle.osdp_controller.specs.Answers.{answer_of, is_not_taken}
+use Rattle.osdp_controller.specs.Answers.{meaning_of, is_not_taken}
 use Rattle.osdp_controller.specs.Hearing.{Heard, answered, answered_unread, com_of, command_answered, comset_of, event_in, hears, ignores, is_ack, is_from_reader, is_numbered, loses, moved_by, opening_answered, pausing_hears, pd_id_of, poll_told, waiting_hears}
 use Rattle.osdp_controller.specs.Private.{numbered_in}
 use Rattle.osdp_controller_laws.specs.Laws.{Comes, ComesNumbered, HearsAnswers, IsFromReader, TellsWhy, WhyTold, exchange_in}
@@ -123,14 +123,14 @@ first_of false true h = h
 first_of false false h = h
 
 -- an answer that isn't BUSY has the number of the exchange
-numbered : (p : Packet) (s : Session) (x : Exchange) (answer : Answer) → is_not_taken answer ≡ false → Comes p s x answer → is_numbered p.sequence answer s ≡ true
+numbered : (p : Packet) (s : Session) (x : Exchange) (answer : ReplyMeaning) → is_not_taken answer ≡ false → Comes p s x answer → is_numbered p.sequence answer s ≡ true
     → ComesNumbered p s x answer
 numbered p s x answer plain comes h = record {
   comes = comes;
   number = eqb-true p.sequence s.number (first_of (p.sequence == s.number) (p.sequence == 0) (rw plain at h));
 }
 
-why_waiting : (answer : Answer) (sends : ℕ) (o : Outstanding) (p : Packet) (s t : Session) → Comes p s o.exchange answer → is_numbered p.sequence answer s ≡ true
+why_waiting : (answer : ReplyMeaning) (sends : ℕ) (o : Outstanding) (p : Packet) (s t : Session) → Comes p s o.exchange answer → is_numbered p.sequence answer s ≡ true
     → (o.exchange ≡ Opening → s.number ≡ 0) → WhyIf (waiting_hears answer sends o t).report p s
 why_waiting NotTaken sends o p s t comes h zero =
     either_way (λ (e : Heard). WhyIf e.report p s) (nat_lt t.config.busy_limit (o.busies + 1)) (loses causes.TooBusy o t)
@@ -141,7 +141,7 @@ why_waiting NumberRefused sends o p s t comes h zero = (o.exchange, numbered p s
 why_waiting (Plain reply) sends o p s t comes h zero = why_answered o.exchange reply p s t (numbered p s o.exchange (Plain reply) refl comes h) zero
 why_waiting (Unreadable code) sends o p s t comes h zero = why_unread o.exchange code p s t (numbered p s o.exchange (Unreadable code) refl comes h)
 
-why_pausing : (answer : Answer) (o : Outstanding) (p : Packet) (s t : Session) → Comes p s o.exchange answer → is_numbered p.sequence answer s ≡ true
+why_pausing : (answer : ReplyMeaning) (o : Outstanding) (p : Packet) (s t : Session) → Comes p s o.exchange answer → is_numbered p.sequence answer s ≡ true
     → (o.exchange ≡ Opening → s.number ≡ 0) → WhyIf (pausing_hears answer o t).report p s
 why_pausing NotTaken o p s t comes h zero = tt
 why_pausing Damaged o p s t comes h zero = tt
@@ -172,7 +172,7 @@ pub of_reader : (p : Packet) (s : Session) → IsFromReader p s → is_from_read
 of_reader p s is =
     all_three p.reply (p.address == s.config.address) p.block is.reply (eq-eqb p.address s.config.address is.address) is.without_block
 
-why_numbered : (state : State) (answer : Answer) (p : Packet) (s t : Session) → exchange_in s.state ≡ exchange_in state → is_from_reader p s ≡ true → answer_of p ≡ answer
+why_numbered : (state : State) (answer : ReplyMeaning) (p : Packet) (s t : Session) → exchange_in s.state ≡ exchange_in state → is_from_reader p s ≡ true → meaning_of p ≡ answer
     → is_numbered p.sequence answer s ≡ true → OpensAtZero state s.number → WhyIf (numbered_in state answer t).report p s
 why_numbered Closed answer p s t out from says h zero = tt
 why_numbered (Quiet until) answer p s t out from says h zero = tt
@@ -185,7 +185,7 @@ why_numbered (Pausing until o) answer p s t out from says h zero =
 why_if : (p : Packet) (now : ℕ) (s : Session) → IsSession s → WhyIf (hears p now s).report p s
 why_if p now s is =
     either_frame (λ (e : Heard). WhyIf e.report p s) p now s
-    (λ from h. why_numbered s.state (answer_of p) p s (seen now s) refl from refl h is.opening) tt
+    (λ from h. why_numbered s.state (meaning_of p) p s (seen now s) refl from refl h is.opening) tt
 
 pub tells_why : TellsWhy
 tells_why p now s report is e = subst (λ (o : Option Report). WhyIf o p s) e (why_if p now s is)
@@ -211,6 +211,6 @@ hears_answers p now s x reply is =
     let comes = is.comes in
     by_tests p now s
     ∙ (if_true (is_from_reader p s) (by_number p now s) (ignores (seen now s)) (of_reader p s comes.from_reader)
-    ∙ (if_true (is_numbered p.sequence (answer_of p) s) (numbered_in s.state (answer_of p) (seen now s)) (ignores (seen now s))
-    (same_number p.sequence s.number (p.sequence == 0 && is_not_taken (answer_of p)) is.number)
-    ∙ (ap (λ (a : Answer). numbered_in s.state a (seen now s)) comes.says ∙ numbered_plain s.state x reply (seen now s) comes.outstanding)))
+    ∙ (if_true (is_numbered p.sequence (meaning_of p) s) (numbered_in s.state (meaning_of p) (seen now s)) (ignores (seen now s))
+    (same_number p.sequence s.number (p.sequence == 0 && is_not_taken (meaning_of p)) is.number)
+    ∙ (ap (λ (a : ReplyMeaning). numbered_in s.state a (seen now s)) comes.says ∙ numbered_plain s.state x reply (seen now s) comes.outstanding)))

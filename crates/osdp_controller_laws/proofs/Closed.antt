@@ -2,7 +2,7 @@
 use Rattle.std.proofs.Common.{◌≡◌, ℕ, true, false, List, None, refl, sym, subst, ap}
 use Rattle.osdp_frame.specs.Packet.{Packet}
 use Rattle.osdp_msg.specs.declared.command.Command.{Command}
-use Rattle.osdp_controller.specs.Answers.{answer_of}
+use Rattle.osdp_controller.specs.Answers.{meaning_of}
 use Rattle.osdp_controller.specs.Hearing.{Heard, hears}
 use Rattle.osdp_controller.specs.Machine.{refused_unless_closed}
 use Rattle.osdp_controller.specs.Private.{numbered_in}
@@ -43,4 +43,4 @@ IsSilent h = tells_end h.report ≡ false
 pub silent_frame : (p : Packet) (now : ℕ) (s : Session) → is_closed s.state ≡ true → IsSilent (hears p now s)
 silent_frame p now s e =
     either_frame IsSilent p now s
-    (λ from number. subst (λ (other : State). IsSilent (numbered_in other (answer_of p) (seen now s))) (sym (closed_is s.state e)) refl) refl
+    (λ from number. subst (λ (other : State). IsSilent (numbered_in other (meaning_of p) (seen now s))) (sym (closed_is s.state e)) refl) refl

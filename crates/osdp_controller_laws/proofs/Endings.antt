@@ -7,8 +7,8 @@ use Rattle.osdp_msg.specs.declared.command_fields.Communication.{Communication}
 use Rattle.osdp_msg.specs.declared.event.Event.{Event as EventOfReader}
 use Rattle.osdp_msg.specs.declared.reply.Reply.{Reply}
 use Rattle.osdp_msg.specs.declared.reply_fields.PdId.{PdId}
-use Rattle.osdp_controller.specs.declared.answer.Answer.{Answer}
-use Rattle.osdp_controller.specs.declared.answer.Answer.TheVariants.{NotTaken, Damaged, NumberRefused, Plain, Unreadable}
+use Rattle.osdp_controller.specs.declared.meaning.ReplyMeaning.{ReplyMeaning}
+use Rattle.osdp_controller.specs.declared.meaning.ReplyMeaning.TheVariants.{NotTaken, Damaged, NumberRefused, Plain, Unreadable}
 use Rattle.osdp_controller.specs.declared.exchange.Exchange.{Exchange}
 use Rattle.osdp_controller.specs.declared.exchange.Exchange.TheVariants.{Opening, Polling, Asking}
 use Rattle.osdp_controller.specs.declared.exchange.Outstanding.{Outstanding}
@@ -18,7 +18,7 @@ use Rattle.osdp_controller.specs.declared.report.Report.TheVariants.{PollAnswere
 use Rattle.osdp_controller.specs.declared.session.Session.{Session}
 use Rattle.osdp_controller.specs.declared.state.State.{State}
 use Rattle.osdp_controller.specs.declared.state.State.TheVariants.{Closed, Quiet, Idle, Waiting, Pausing}
-use Rattle.osdp_controller.specs.Answers.{answer_of}
+use Rattle.osdp_controller.specs.Answers.{meaning_of}
 use Rattle.osdp_controller_laws.specs.Commands.{GoesOn, IsAnswered, IsGivenUp, TellsEnds, tells_end, told_command}
 use Rattle.osdp_controller.specs.Exchanges.{submitted_command}
 use Rattle.osdp_controller.specs.Hearing.{Heard, answered, answered_unread, com_of, command_answered, comset_of, event_in, hears, hears_busy, ignores, is_ack, loses, moved_by, opening_answered, pausing_hears, pd_id_of, poll_told, waiting_hears}
@@ -92,7 +92,7 @@ unread_ends Opening code s same = goes_on Opening s same
 unread_ends Polling code s same = inr (record { ended = refl; told = refl })
 unread_ends (Asking command) code s same = inr (record { ended = refl; told = refl })
 
-waiting_ends : (a : Answer) (sends : ℕ) (o : Outstanding) (s : Session) → exchange_in s.state ≡ Some o.exchange
+waiting_ends : (a : ReplyMeaning) (sends : ℕ) (o : Outstanding) (s : Session) → exchange_in s.state ≡ Some o.exchange
     → FrameEnds o.exchange (waiting_hears a sends o s)
 waiting_ends NotTaken sends o s same = busy_ends o s
 waiting_ends Damaged sends o s same = inl (record { outstanding = refl; nothing = refl })
@@ -100,14 +100,14 @@ waiting_ends NumberRefused sends o s same = inr (record { ended = refl; told = r
 waiting_ends (Plain reply) sends o s same = answer_ends o.exchange reply s same
 waiting_ends (Unreadable code) sends o s same = unread_ends o.exchange code s same
 
-pausing_ends : (a : Answer) (o : Outstanding) (s : Session) → exchange_in s.state ≡ Some o.exchange → FrameEnds o.exchange (pausing_hears a o s)
+pausing_ends : (a : ReplyMeaning) (o : Outstanding) (s : Session) → exchange_in s.state ≡ Some o.exchange → FrameEnds o.exchange (pausing_hears a o s)
 pausing_ends NotTaken o s same = goes_on o.exchange s same
 pausing_ends Damaged o s same = goes_on o.exchange s same
 pausing_ends NumberRefused o s same = inr (record { ended = refl; told = refl })
 pausing_ends (Plain reply) o s same = answer_ends o.exchange reply s same
 pausing_ends (Unreadable code) o s same = unread_ends o.exchange code s same
 
-numbered_ends : (state : State) (a : Answer) (s : Session) (x : Exchange) → exchange_in state ≡ Some x → exchange_in s.state ≡ exchange_in state
+numbered_ends : (state : State) (a : ReplyMeaning) (s : Session) (x : Exchange) → exchange_in state ≡ Some x → exchange_in s.state ≡ exchange_in state
     → FrameEnds x (numbered_in state a s)
 numbered_ends Closed a s x h same = cc
 numbered_ends (Quiet until) a s x h same = cc
@@ -120,7 +120,7 @@ numbered_ends (Pausing until o) a s x h same =
 pub frame_ends : (x : Exchange) (p : Packet) (now : ℕ) (s : Session) → exchange_in s.state ≡ Some x → FrameEnds x (hears p now s)
 frame_ends x p now s h =
     either_frame (FrameEnds x) p now s
-    (λ from k. numbered_ends s.state (answer_of p) (seen now s) x h refl) (goes_on x (seen now s) h)
+    (λ from k. numbered_ends s.state (meaning_of p) (seen now s) x h refl) (goes_on x (seen now s) h)
 
 -- a session
 
@@ -174,14 +174,14 @@ unread_closes Opening code s same = same
 unread_closes Polling code s same = refl
 unread_closes (Asking command) code s same = refl
 
-waiting_closes : (a : Answer) (sends : ℕ) (o : Outstanding) (s : Session) → is_closed s.state ≡ false → FrameCloses (waiting_hears a sends o s)
+waiting_closes : (a : ReplyMeaning) (sends : ℕ) (o : Outstanding) (s : Session) → is_closed s.state ≡ false → FrameCloses (waiting_hears a sends o s)
 waiting_closes NotTaken sends o s same = busy_closes o s
 waiting_closes Damaged sends o s same = refl
 waiting_closes NumberRefused sends o s same = refl
 waiting_closes (Plain reply) sends o s same = answer_closes o.exchange reply s same
 waiting_closes (Unreadable code) sends o s same = unread_closes o.exchange code s same
 
-pausing_closes : (a : Answer) (o : Outstanding) (s : Session) → is_closed s.state ≡ false → FrameCloses (pausing_hears a o s)
+pausing_closes : (a : ReplyMeaning) (o : Outstanding) (s : Session) → is_closed s.state ≡ false → FrameCloses (pausing_hears a o s)
 pausing_closes NotTaken o s same = same
 pausing_closes Damaged o s same = same
 pausing_closes NumberRefused o s same = refl
@@ -191,7 +191,7 @@ pausing_closes (Unreadable code) o s same = unread_closes o.exchange code s same
 abbrev FrameClosesIn : Bool → Heard → Type 0
 FrameClosesIn before h = is_closed h.session.state ≡ (before || tells_end h.report)
 
-numbered_closes : (state : State) (a : Answer) (s : Session) → is_closed s.state ≡ is_closed state → FrameClosesIn (is_closed state) (numbered_in state a s)
+numbered_closes : (state : State) (a : ReplyMeaning) (s : Session) → is_closed s.state ≡ is_closed state → FrameClosesIn (is_closed state) (numbered_in state a s)
 numbered_closes Closed a s same = same
 numbered_closes (Quiet until) a s same = same
 numbered_closes (Idle due) a s same = same
@@ -206,7 +206,7 @@ frame_closes : (p : Packet) (now : ℕ) (s : Session) → FrameClosesIn (is_clos
 frame_closes p now s =
     let same = ignored_closes (is_closed s.state) (seen now s) refl in
     either_frame (FrameClosesIn (is_closed s.state)) p now s
-    (λ from k. numbered_closes s.state (answer_of p) (seen now s) refl) same
+    (λ from k. numbered_closes s.state (meaning_of p) (seen now s) refl) same
 
 pub tells_ends : (now : ℕ) (s : Session) → TellsEnds now s
 tells_ends now s = record {

@@ -12,8 +12,8 @@ use Rattle.osdp_msg.specs.declared.reply.Reply.{Reply}
 use Rattle.osdp_msg.specs.declared.reply_fields.PdId.{PdId}
 use Rattle.osdp_msg.specs.CommandTable.{CommandFits, command_code, command_data}
 use Rattle.osdp_msg_laws.proofs.CommandLaws.{commands_fit}
-use Rattle.osdp_controller.specs.declared.answer.Answer.{Answer}
-use Rattle.osdp_controller.specs.declared.answer.Answer.TheVariants.{NotTaken, Damaged, NumberRefused, Plain, Unreadable}
+use Rattle.osdp_controller.specs.declared.meaning.ReplyMeaning.{ReplyMeaning}
+use Rattle.osdp_controller.specs.declared.meaning.ReplyMeaning.TheVariants.{NotTaken, Damaged, NumberRefused, Plain, Unreadable}
 use Rattle.osdp_controller.specs.declared.exchange.Exchange.{Exchange}
 use Rattle.osdp_controller.specs.declared.exchange.Exchange.TheVariants.{Opening, Polling, Asking}
 use Rattle.osdp_controller.specs.declared.exchange.Outstanding.{Outstanding}
@@ -22,7 +22,7 @@ use Rattle.osdp_controller.specs.declared.report.LostCause.TheVariants as causes
 use Rattle.osdp_controller.specs.declared.session.Session.{Session}
 use Rattle.osdp_controller.specs.declared.state.State.{State}
 use Rattle.osdp_controller.specs.declared.state.State.TheVariants.{Closed, Quiet, Idle, Waiting, Pausing}
-use Rattle.osdp_controller.specs.Answers.{answer_of}
+use Rattle.osdp_controller.specs.Answers.{meaning_of}
 use Rattle.osdp_controller_laws.specs.Calls.{ComesDue, IsInRange, SendsPackets, StaysInRange, latest, longest_wait}
 use Rattle.osdp_controller_laws.specs.Commands.{command_of}
 use Rattle.osdp_controller.specs.Exchanges.{exchange_command, submitted_command}
@@ -183,7 +183,7 @@ unread_near Opening code s below same = same
 unread_near Polling code s below same = rest_near s below
 unread_near (Asking command) code s below same = rest_near s below
 
-waiting_near : (a : Answer) (sends : ℕ) (o : Outstanding) (s : Session) → s.number < 4 → (o.exchange ≢ Opening → 0 < s.number)
+waiting_near : (a : ReplyMeaning) (sends : ℕ) (o : Outstanding) (s : Session) → s.number < 4 → (o.exchange ≢ Opening → 0 < s.number)
     → Near s.state s.number (latest s) → FrameNear (waiting_hears a sends o s)
 waiting_near NotTaken sends o s below above same = busy_near o s below above
 waiting_near Damaged sends o s below above same = (below, now_soon s, above)
@@ -191,7 +191,7 @@ waiting_near NumberRefused sends o s below above same = below
 waiting_near (Plain reply) sends o s below above same = answer_near o.exchange reply s below same
 waiting_near (Unreadable code) sends o s below above same = unread_near o.exchange code s below same
 
-pausing_near : (a : Answer) (o : Outstanding) (s : Session) → s.number < 4 → Near s.state s.number (latest s)
+pausing_near : (a : ReplyMeaning) (o : Outstanding) (s : Session) → s.number < 4 → Near s.state s.number (latest s)
     → FrameNear (pausing_hears a o s)
 pausing_near NotTaken o s below same = same
 pausing_near Damaged o s below same = same
@@ -199,7 +199,7 @@ pausing_near NumberRefused o s below same = below
 pausing_near (Plain reply) o s below same = answer_near o.exchange reply s below same
 pausing_near (Unreadable code) o s below same = unread_near o.exchange code s below same
 
-numbered_near : (state : State) (a : Answer) (s : Session) → Near state s.number (latest s) → Near s.state s.number (latest s)
+numbered_near : (state : State) (a : ReplyMeaning) (s : Session) → Near state s.number (latest s) → Near s.state s.number (latest s)
     → FrameNear (numbered_in state a s)
 numbered_near Closed a s near same = same
 numbered_near (Quiet until) a s near same = same
@@ -211,7 +211,7 @@ frame_near : (p : Packet) (now : ℕ) (s : Session) → Near s.state s.number (l
 frame_near p now s near =
     let same = near_seen s.state s.number s now near in
     either_frame FrameNear p now s
-    (λ from h. numbered_near s.state (answer_of p) (seen now s) same same) same
+    (λ from h. numbered_near s.state (meaning_of p) (seen now s) same same) same
 
 -- each call
 

@@ -7,8 +7,8 @@ use Rattle.osdp_msg.specs.declared.command_fields.Communication.{Communication}
 use Rattle.osdp_msg.specs.declared.event.Event.{Event as EventOfReader}
 use Rattle.osdp_msg.specs.declared.reply.Reply.{Reply}
 use Rattle.osdp_msg.specs.declared.reply_fields.PdId.{PdId}
-use Rattle.osdp_controller.specs.declared.answer.Answer.{Answer}
-use Rattle.osdp_controller.specs.declared.answer.Answer.TheVariants.{NotTaken, Damaged, NumberRefused, Plain, Unreadable}
+use Rattle.osdp_controller.specs.declared.meaning.ReplyMeaning.{ReplyMeaning}
+use Rattle.osdp_controller.specs.declared.meaning.ReplyMeaning.TheVariants.{NotTaken, Damaged, NumberRefused, Plain, Unreadable}
 use Rattle.osdp_controller.specs.declared.config.ControllerConfig.{ControllerConfig}
 use Rattle.osdp_controller.specs.declared.exchange.Exchange.{Exchange}
 use Rattle.osdp_controller.specs.declared.exchange.Exchange.TheVariants.{Opening, Polling, Asking}
@@ -19,7 +19,7 @@ use Rattle.osdp_controller.specs.declared.report.Report.TheVariants.{Opened, Set
 use Rattle.osdp_controller.specs.declared.session.Session.{Session}
 use Rattle.osdp_controller.specs.declared.state.State.{State}
 use Rattle.osdp_controller.specs.declared.state.State.TheVariants.{Closed, Quiet, Idle, Waiting, Pausing}
-use Rattle.osdp_controller.specs.Answers.{answer_of}
+use Rattle.osdp_controller.specs.Answers.{meaning_of}
 use Rattle.osdp_controller.specs.Hearing.{Heard, answered, answered_unread, com_of, command_answered, comset_of, event_in, hears, hears_busy, is_ack, loses, moved_by, opening_answered, pausing_hears, pd_id_of, poll_told, waiting_hears}
 use Rattle.osdp_controller.specs.Private.{numbered_in}
 use Rattle.osdp_controller.specs.Sessions.{later, lost, seen}
@@ -94,21 +94,21 @@ module _ (P : Option Report → ℕ → ControllerConfig → Type 0) where
   unread_keeps Polling code s all = all.same (Some (Unread None code)) refl
   unread_keeps (Asking command) code s all = all.same (Some (Unread (Some command) code)) refl
 
-  waiting_keeps : (a : Answer) (sends : ℕ) (o : Outstanding) (s : Session) → HoldsOfKept s.greatest s.config → FrameKeeps (waiting_hears a sends o s)
+  waiting_keeps : (a : ReplyMeaning) (sends : ℕ) (o : Outstanding) (s : Session) → HoldsOfKept s.greatest s.config → FrameKeeps (waiting_hears a sends o s)
   waiting_keeps NotTaken sends o s all = busy_keeps o s all
   waiting_keeps Damaged sends o s all = all.same None refl
   waiting_keeps NumberRefused sends o s all = all.same (Some (lost causes.NumberRefused o)) refl
   waiting_keeps (Plain reply) sends o s all = answer_keeps o.exchange reply s all
   waiting_keeps (Unreadable code) sends o s all = unread_keeps o.exchange code s all
 
-  pausing_keeps : (a : Answer) (o : Outstanding) (s : Session) → HoldsOfKept s.greatest s.config → FrameKeeps (pausing_hears a o s)
+  pausing_keeps : (a : ReplyMeaning) (o : Outstanding) (s : Session) → HoldsOfKept s.greatest s.config → FrameKeeps (pausing_hears a o s)
   pausing_keeps NotTaken o s all = all.same None refl
   pausing_keeps Damaged o s all = all.same None refl
   pausing_keeps NumberRefused o s all = all.same (Some (lost causes.NumberRefused o)) refl
   pausing_keeps (Plain reply) o s all = answer_keeps o.exchange reply s all
   pausing_keeps (Unreadable code) o s all = unread_keeps o.exchange code s all
 
-  numbered_keeps : (state : State) (a : Answer) (s : Session) → HoldsOfKept s.greatest s.config → FrameKeeps (numbered_in state a s)
+  numbered_keeps : (state : State) (a : ReplyMeaning) (s : Session) → HoldsOfKept s.greatest s.config → FrameKeeps (numbered_in state a s)
   numbered_keeps Closed a s all = all.same None refl
   numbered_keeps (Quiet until) a s all = all.same None refl
   numbered_keeps (Idle due) a s all = all.same None refl
@@ -117,7 +117,7 @@ module _ (P : Option Report → ℕ → ControllerConfig → Type 0) where
 
   pub frame_keeps : (p : Packet) (now : ℕ) (s : Session) → HoldsOfKept (max s.greatest now) s.config → FrameKeeps (hears p now s)
   frame_keeps p now s all =
-      either_frame FrameKeeps p now s (λ from h. numbered_keeps s.state (answer_of p) (seen now s) all) (all.same None refl)
+      either_frame FrameKeeps p now s (λ from h. numbered_keeps s.state (meaning_of p) (seen now s) all) (all.same None refl)
 
 -- a packet that a controller is handed moves the greatest moment that it has seen, also where it ignores the packet
 pub hears_at_moment : (p : Packet) (now : ℕ) (s : Session) → (hears p now s).session.greatest ≡ max s.greatest now

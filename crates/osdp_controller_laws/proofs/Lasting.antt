@@ -7,8 +7,8 @@ use Rattle.osdp_msg.specs.declared.command.Command.{Command}
 use Rattle.osdp_msg.specs.declared.command_fields.Communication.{Communication}
 use Rattle.osdp_msg.specs.declared.reply.Reply.{Reply}
 use Rattle.osdp_msg.specs.declared.reply_fields.PdId.{PdId}
-use Rattle.osdp_controller.specs.declared.answer.Answer.{Answer}
-use Rattle.osdp_controller.specs.declared.answer.Answer.TheVariants.{NotTaken, Damaged, NumberRefused, Plain, Unreadable}
+use Rattle.osdp_controller.specs.declared.meaning.ReplyMeaning.{ReplyMeaning}
+use Rattle.osdp_controller.specs.declared.meaning.ReplyMeaning.TheVariants.{NotTaken, Damaged, NumberRefused, Plain, Unreadable}
 use Rattle.osdp_controller.specs.declared.config.ControllerConfig.{ControllerConfig}
 use Rattle.osdp_controller.specs.declared.exchange.Exchange.{Exchange}
 use Rattle.osdp_controller.specs.declared.exchange.Exchange.TheVariants.{Opening, Polling, Asking}
@@ -18,7 +18,7 @@ use Rattle.osdp_controller.specs.declared.report.LostCause.TheVariants as causes
 use Rattle.osdp_controller.specs.declared.session.Session.{Session}
 use Rattle.osdp_controller.specs.declared.state.State.{State}
 use Rattle.osdp_controller.specs.declared.state.State.TheVariants.{Closed, Quiet, Idle, Waiting, Pausing}
-use Rattle.osdp_controller.specs.Answers.{answer_of}
+use Rattle.osdp_controller.specs.Answers.{meaning_of}
 use Rattle.osdp_controller.specs.Hearing.{Heard, answered, answered_unread, com_of, command_answered, comset_of, hears, hears_busy, loses, moved_by, opening_answered, pausing_hears, pd_id_of, waiting_hears}
 use Rattle.osdp_controller.specs.Private.{numbered_in}
 use Rattle.osdp_controller.specs.Machine.{Machine, after_begin, after_retarget, after_submit, changed_unless, is_outstanding, or_no_device, refused_unless_closed, sent_in, submit_refusal}
@@ -102,7 +102,7 @@ holds_unread p c n Opening code s same = same
 holds_unread p c n Polling code s same = tt
 holds_unread p c n (Asking command) code s same = tt
 
-holds_waiting : (p : Packet) (c : ControllerConfig) (n : ℕ) (a : Answer) (sends : ℕ) (o : Outstanding) (s : Session) → Out p c n o s
+holds_waiting : (p : Packet) (c : ControllerConfig) (n : ℕ) (a : ReplyMeaning) (sends : ℕ) (o : Outstanding) (s : Session) → Out p c n o s
     → Holds p c n s.state s → HoldsHeard p c n (waiting_hears a sends o s)
 holds_waiting p c n NotTaken sends o s at same = holds_busy p c n o s at
 holds_waiting p c n Damaged sends o s at same = at
@@ -110,7 +110,7 @@ holds_waiting p c n NumberRefused sends o s at same = tt
 holds_waiting p c n (Plain reply) sends o s at same = holds_answered p c n o.exchange reply s same
 holds_waiting p c n (Unreadable code) sends o s at same = holds_unread p c n o.exchange code s same
 
-holds_pausing : (p : Packet) (c : ControllerConfig) (n : ℕ) (a : Answer) (o : Outstanding) (s : Session) → Holds p c n s.state s
+holds_pausing : (p : Packet) (c : ControllerConfig) (n : ℕ) (a : ReplyMeaning) (o : Outstanding) (s : Session) → Holds p c n s.state s
     → HoldsHeard p c n (pausing_hears a o s)
 holds_pausing p c n NotTaken o s same = same
 holds_pausing p c n Damaged o s same = same
@@ -118,7 +118,7 @@ holds_pausing p c n NumberRefused o s same = tt
 holds_pausing p c n (Plain reply) o s same = holds_answered p c n o.exchange reply s same
 holds_pausing p c n (Unreadable code) o s same = holds_unread p c n o.exchange code s same
 
-holds_numbered : (p : Packet) (c : ControllerConfig) (n : ℕ) (state : State) (a : Answer) (s : Session) → Holds p c n state s
+holds_numbered : (p : Packet) (c : ControllerConfig) (n : ℕ) (state : State) (a : ReplyMeaning) (s : Session) → Holds p c n state s
     → Holds p c n s.state s → HoldsHeard p c n (numbered_in state a s)
 holds_numbered p c n Closed a s at same = same
 holds_numbered p c n (Quiet until) a s at same = same
@@ -139,7 +139,7 @@ holds_hears : (p : Packet) (c : ControllerConfig) (n : ℕ) (q : Packet) (now : 
 holds_hears p c n q now s at =
     let same = holds_seen p c n now s.state s at in
     either_frame (HoldsHeard p c n) q now s
-    (λ from h. holds_numbered p c n s.state (answer_of q) (seen now s) same same) same
+    (λ from h. holds_numbered p c n s.state (meaning_of q) (seen now s) same same) same
 
 -- calls that are refused while an exchange is outstanding
 

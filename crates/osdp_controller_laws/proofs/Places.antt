@@ -7,8 +7,8 @@ use Rattle.osdp_msg.specs.declared.command.Command.{Command}
 use Rattle.osdp_msg.specs.declared.command_fields.Communication.{Communication}
 use Rattle.osdp_msg.specs.declared.reply.Reply.{Reply}
 use Rattle.osdp_msg.specs.declared.reply_fields.PdId.{PdId}
-use Rattle.osdp_controller.specs.declared.answer.Answer.{Answer}
-use Rattle.osdp_controller.specs.declared.answer.Answer.TheVariants.{NotTaken, Damaged, NumberRefused, Plain, Unreadable}
+use Rattle.osdp_controller.specs.declared.meaning.ReplyMeaning.{ReplyMeaning}
+use Rattle.osdp_controller.specs.declared.meaning.ReplyMeaning.TheVariants.{NotTaken, Damaged, NumberRefused, Plain, Unreadable}
 use Rattle.osdp_controller.specs.declared.exchange.Exchange.{Exchange}
 use Rattle.osdp_controller.specs.declared.exchange.Exchange.TheVariants.{Opening, Polling, Asking}
 use Rattle.osdp_controller.specs.declared.exchange.Outstanding.{Outstanding}
@@ -17,7 +17,7 @@ use Rattle.osdp_controller.specs.declared.report.LostCause.TheVariants as causes
 use Rattle.osdp_controller.specs.declared.session.Session.{Session}
 use Rattle.osdp_controller.specs.declared.state.State.{State}
 use Rattle.osdp_controller.specs.declared.state.State.TheVariants.{Closed, Quiet, Idle, Waiting, Pausing}
-use Rattle.osdp_controller.specs.Answers.{answer_of}
+use Rattle.osdp_controller.specs.Answers.{meaning_of}
 use Rattle.osdp_controller.specs.Hearing.{Heard, answered, answered_unread, com_of, command_answered, comset_of, hears, hears_busy, loses, moved_by, opening_answered, pausing_hears, pd_id_of, waiting_hears}
 use Rattle.osdp_controller.specs.Private.{numbered_in}
 use Rattle.osdp_controller.specs.Machine.{Machine, after_begin, after_retarget, after_submit, changed_unless, is_outstanding, refused_unless_closed, retarget_refusal, sent_in, submit_refusal}
@@ -110,7 +110,7 @@ placed_unread count Opening code s at same = same
 placed_unread count Polling code s at same = at
 placed_unread count (Asking command) code s at same = at
 
-placed_waiting : (count : ℕ) (a : Answer) (sends : ℕ) (o : Outstanding) (s : Session) → 1 ≤ o.sent → HasNumberOfPlace count s.number
+placed_waiting : (count : ℕ) (a : ReplyMeaning) (sends : ℕ) (o : Outstanding) (s : Session) → 1 ≤ o.sent → HasNumberOfPlace count s.number
     → Placed count s.state s.number → PlacedIn count (waiting_hears a sends o s)
 placed_waiting count NotTaken sends o s some at same = placed_busy count o s some at
 placed_waiting count Damaged sends o s some at same = (some, at)
@@ -118,7 +118,7 @@ placed_waiting count NumberRefused sends o s some at same = tt
 placed_waiting count (Plain reply) sends o s some at same = placed_answered count o.exchange reply s at same
 placed_waiting count (Unreadable code) sends o s some at same = placed_unread count o.exchange code s at same
 
-placed_pausing : (count : ℕ) (a : Answer) (o : Outstanding) (s : Session) → HasNumberOfPlace count s.number → Placed count s.state s.number
+placed_pausing : (count : ℕ) (a : ReplyMeaning) (o : Outstanding) (s : Session) → HasNumberOfPlace count s.number → Placed count s.state s.number
     → PlacedIn count (pausing_hears a o s)
 placed_pausing count NotTaken o s at same = same
 placed_pausing count Damaged o s at same = same
@@ -126,7 +126,7 @@ placed_pausing count NumberRefused o s at same = tt
 placed_pausing count (Plain reply) o s at same = placed_answered count o.exchange reply s at same
 placed_pausing count (Unreadable code) o s at same = placed_unread count o.exchange code s at same
 
-placed_numbered : (count : ℕ) (state : State) (a : Answer) (s : Session) → Placed count state s.number → Placed count s.state s.number
+placed_numbered : (count : ℕ) (state : State) (a : ReplyMeaning) (s : Session) → Placed count state s.number → Placed count s.state s.number
     → PlacedIn count (numbered_in state a s)
 placed_numbered count Closed a s at same = same
 placed_numbered count (Quiet until) a s at same = same
@@ -137,7 +137,7 @@ placed_numbered count (Pausing until o) a s at same = placed_pausing count a o s
 placed_hears : (count : ℕ) (p : Packet) (now : ℕ) (s : Session) → Placed count s.state s.number → PlacedIn count (hears p now s)
 placed_hears count p now s at =
     either_frame (PlacedIn count) p now s
-    (λ from h. placed_numbered count s.state (answer_of p) (seen now s) at at) at
+    (λ from h. placed_numbered count s.state (meaning_of p) (seen now s) at at) at
 
 -- calls that may be refused
 

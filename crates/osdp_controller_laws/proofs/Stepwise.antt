@@ -7,8 +7,8 @@ use Rattle.osdp_msg.specs.declared.command.Command.{Command}
 use Rattle.osdp_msg.specs.declared.command_fields.Communication.{Communication}
 use Rattle.osdp_msg.specs.declared.reply.Reply.{Reply}
 use Rattle.osdp_msg.specs.declared.reply.Reply.TheVariants.{PdId as PdIdReply}
-use Rattle.osdp_controller.specs.declared.answer.Answer.{Answer}
-use Rattle.osdp_controller.specs.declared.answer.Answer.TheVariants.{NotTaken, Damaged, NumberRefused, Unreadable}
+use Rattle.osdp_controller.specs.declared.meaning.ReplyMeaning.{ReplyMeaning}
+use Rattle.osdp_controller.specs.declared.meaning.ReplyMeaning.TheVariants.{NotTaken, Damaged, NumberRefused, Unreadable}
 use Rattle.osdp_controller.specs.declared.exchange.Exchange.{Exchange}
 use Rattle.osdp_controller.specs.declared.exchange.Exchange.TheVariants.{Opening, Polling, Asking}
 use Rattle.osdp_controller.specs.declared.exchange.Outstanding.{Outstanding}
@@ -17,7 +17,7 @@ use Rattle.osdp_controller.specs.declared.report.Report.TheVariants.{Opened, Set
 use Rattle.osdp_controller.specs.declared.session.Session.{Session}
 use Rattle.osdp_controller.specs.declared.state.State.{State}
 use Rattle.osdp_controller.specs.declared.state.State.TheVariants.{Closed, Quiet, Idle, Waiting, Pausing}
-use Rattle.osdp_controller.specs.Answers.{answer_of, is_not_taken}
+use Rattle.osdp_controller.specs.Answers.{meaning_of, is_not_taken}
 use Rattle.osdp_controller.specs.Hearing.{Heard, answered, answered_unread, com_of, command_answered, comset_of, event_in, hears, hears_in, ignores, is_from_reader, is_numbered, moved_by, poll_told}
 use Rattle.osdp_controller.specs.Private.{numbered_in}
 use Rattle.osdp_controller_laws.specs.Laws.{Comes, ComesNumbered, IsFromReader, exchange_in}
@@ -82,7 +82,7 @@ not_true false h = refl
 
 of_others : (p : Packet) (now : ℕ) (s : Session) → (IsFromReader p s → ⊥) → hears p now s ≡ ignores (seen now s)
 of_others p now s h =
-    if_false (is_from_reader p s) (hears_in s.state p.sequence (answer_of p) (seen now s)) (ignores (seen now s))
+    if_false (is_from_reader p s) (hears_in s.state p.sequence (meaning_of p) (seen now s)) (ignores (seen now s))
     (not_true (is_from_reader p s) (λ from. h (is_reader p s from)))
 
 from_reader : (p : Packet) (now : ℕ) (s : Session) → is_from_reader p s ≡ true → hears p now s ≡ by_number p now s
@@ -96,7 +96,7 @@ either_number false x y e = refl
 either_sender : (p : Packet) (now : ℕ) (s : Session) → by_number p now s ≡ ignores (seen now s) → hears p now s ≡ ignores (seen now s)
 either_sender p now s e = by_tests p now s ∙ either_number (is_from_reader p s) (by_number p now s) (ignores (seen now s)) e
 
-ignored_in : (state : State) (a : Answer) (s : Session) → is_outstanding state ≡ false → numbered_in state a s ≡ ignores s
+ignored_in : (state : State) (a : ReplyMeaning) (s : Session) → is_outstanding state ≡ false → numbered_in state a s ≡ ignores s
 ignored_in Closed a s h = refl
 ignored_in (Quiet until) a s h = refl
 ignored_in (Idle due) a s h = refl
@@ -106,8 +106,8 @@ ignored_in (Pausing until o) a s h = cc
 not_outstanding : (p : Packet) (now : ℕ) (s : Session) → is_outstanding s.state ≡ false → hears p now s ≡ ignores (seen now s)
 not_outstanding p now s h =
     either_sender p now s
-    (either_number (is_numbered p.sequence (answer_of p) s) (numbered_in s.state (answer_of p) (seen now s)) (ignores (seen now s))
-    (ignored_in s.state (answer_of p) (seen now s) h))
+    (either_number (is_numbered p.sequence (meaning_of p) s) (numbered_in s.state (meaning_of p) (seen now s)) (ignores (seen now s))
+    (ignored_in s.state (meaning_of p) (seen now s) h))
 
 neither : (a b c : Bool) → a ≡ false → (b ≡ false) ⊎ (c ≡ false) → (a || b && c) ≡ false
 neither true b c h k = cc
@@ -119,21 +119,21 @@ not_zero : (n : ℕ) (c : Bool) → (n ≢ 0) ⊎ (c ≡ false) → ((n == 0) �
 not_zero n c (inl h) = inl (ne_eqb n 0 h)
 not_zero n c (inr h) = inr h
 
-of_another : (p : Packet) (now : ℕ) (s : Session) → p.sequence ≢ s.number → (p.sequence ≢ 0) ⊎ (is_not_taken (answer_of p) ≡ false)
+of_another : (p : Packet) (now : ℕ) (s : Session) → p.sequence ≢ s.number → (p.sequence ≢ 0) ⊎ (is_not_taken (meaning_of p) ≡ false)
     → hears p now s ≡ ignores (seen now s)
 of_another p now s h k =
     either_sender p now s
-    (if_false (is_numbered p.sequence (answer_of p) s) (numbered_in s.state (answer_of p) (seen now s)) (ignores (seen now s))
-    (neither (p.sequence == s.number) (p.sequence == 0) (is_not_taken (answer_of p)) (ne_eqb p.sequence s.number h)
-    (not_zero p.sequence (is_not_taken (answer_of p)) k)))
+    (if_false (is_numbered p.sequence (meaning_of p) s) (numbered_in s.state (meaning_of p) (seen now s)) (ignores (seen now s))
+    (neither (p.sequence == s.number) (p.sequence == 0) (is_not_taken (meaning_of p)) (ne_eqb p.sequence s.number h)
+    (not_zero p.sequence (is_not_taken (meaning_of p)) k)))
 
 -- an answer with the number of the exchange
-numbered : (p : Packet) (now : ℕ) (s : Session) (state : State) (a : Answer) → is_from_reader p s ≡ true → is_numbered p.sequence (answer_of p) s ≡ true
-    → s.state ≡ state → answer_of p ≡ a → hears p now s ≡ numbered_in state a (seen now s)
+numbered : (p : Packet) (now : ℕ) (s : Session) (state : State) (a : ReplyMeaning) → is_from_reader p s ≡ true → is_numbered p.sequence (meaning_of p) s ≡ true
+    → s.state ≡ state → meaning_of p ≡ a → hears p now s ≡ numbered_in state a (seen now s)
 numbered p now s state a from number e says =
     from_reader p now s from
-    ∙ (if_true (is_numbered p.sequence (answer_of p) s) (numbered_in s.state (answer_of p) (seen now s)) (ignores (seen now s)) number
-    ∙ (ap (λ (t : State). numbered_in t (answer_of p) (seen now s)) e ∙ ap (λ (b : Answer). numbered_in state b (seen now s)) says))
+    ∙ (if_true (is_numbered p.sequence (meaning_of p) s) (numbered_in s.state (meaning_of p) (seen now s)) (ignores (seen now s)) number
+    ∙ (ap (λ (t : State). numbered_in t (meaning_of p) (seen now s)) e ∙ ap (λ (b : ReplyMeaning). numbered_in state b (seen now s)) says))
 
 has_number : (n m : ℕ) (c : Bool) → n ≡ m → (n == m || c) ≡ true
 has_number n m c e = let yes = eq-eqb n m e in rw yes refl
@@ -146,16 +146,16 @@ and_true : (a b : Bool) → a ≡ true → b ≡ true → (a && b) ≡ true
 and_true true b h k = k
 and_true false b h k = cc
 
-busy_number : (p : Packet) (s : Session) → answer_of p ≡ NotTaken → (p.sequence ≡ s.number) ⊎ (p.sequence ≡ 0) → is_numbered p.sequence (answer_of p) s ≡ true
-busy_number p s says (inl e) = has_number p.sequence s.number (p.sequence == 0 && is_not_taken (answer_of p)) e
+busy_number : (p : Packet) (s : Session) → meaning_of p ≡ NotTaken → (p.sequence ≡ s.number) ⊎ (p.sequence ≡ 0) → is_numbered p.sequence (meaning_of p) s ≡ true
+busy_number p s says (inl e) = has_number p.sequence s.number (p.sequence == 0 && is_not_taken (meaning_of p)) e
 busy_number p s says (inr e) =
-    or_true (p.sequence == s.number) (p.sequence == 0 && is_not_taken (answer_of p))
-    (and_true (p.sequence == 0) (is_not_taken (answer_of p)) (eq-eqb p.sequence 0 e) (ap is_not_taken says))
+    or_true (p.sequence == s.number) (p.sequence == 0 && is_not_taken (meaning_of p))
+    (and_true (p.sequence == 0) (is_not_taken (meaning_of p)) (eq-eqb p.sequence 0 e) (ap is_not_taken says))
 
-own_number : (p : Packet) (s : Session) (x : Exchange) (a : Answer) → ComesNumbered p s x a → is_numbered p.sequence (answer_of p) s ≡ true
-own_number p s x a is = has_number p.sequence s.number (p.sequence == 0 && is_not_taken (answer_of p)) is.number
+own_number : (p : Packet) (s : Session) (x : Exchange) (a : ReplyMeaning) → ComesNumbered p s x a → is_numbered p.sequence (meaning_of p) s ≡ true
+own_number p s x a is = has_number p.sequence s.number (p.sequence == 0 && is_not_taken (meaning_of p)) is.number
 
-numbered_by : (p : Packet) (now : ℕ) (s : Session) (state : State) (x : Exchange) (a : Answer) → ComesNumbered p s x a → s.state ≡ state
+numbered_by : (p : Packet) (now : ℕ) (s : Session) (state : State) (x : Exchange) (a : ReplyMeaning) → ComesNumbered p s x a → s.state ≡ state
     → hears p now s ≡ numbered_in state a (seen now s)
 numbered_by p now s state x a is e =
     let comes = is.comes in numbered p now s state a (of_reader p s comes.from_reader) (own_number p s x a is) e comes.says
@@ -165,9 +165,9 @@ busy_again : (p : Packet) (now : ℕ) (s : Session) (until : ℕ) (o : Outstandi
     → hears p now s ≡ ignores (seen now s)
 busy_again p now s until o e is =
     from_reader p now s (of_reader p s is.from_reader)
-    ∙ either_number (is_numbered p.sequence (answer_of p) s) (numbered_in s.state (answer_of p) (seen now s)) (ignores (seen now s))
-    (ap (λ (t : State). numbered_in t (answer_of p) (seen now s)) e
-    ∙ ap (λ (a : Answer). numbered_in (Pausing until o) a (seen now s)) is.says)
+    ∙ either_number (is_numbered p.sequence (meaning_of p) s) (numbered_in s.state (meaning_of p) (seen now s)) (ignores (seen now s))
+    (ap (λ (t : State). numbered_in t (meaning_of p) (seen now s)) e
+    ∙ ap (λ (a : ReplyMeaning). numbered_in (Pausing until o) a (seen now s)) is.says)
 
 unread_in : (state : State) (x : Exchange) (code : ℕ) (s : Session) → exchange_in state ≡ Some x → numbered_in state (Unreadable code) s ≡ answered_unread x code s
 unread_in Closed x code s h = cc

@@ -11,7 +11,7 @@ use Rattle.osdp_controller.specs.declared.report.Report.TheVariants.{Lost}
 use Rattle.osdp_controller.specs.declared.session.Session.{Session}
 use Rattle.osdp_controller.specs.declared.state.State.{State}
 use Rattle.osdp_controller.specs.declared.state.State.TheVariants.{Closed, Quiet, Idle, Waiting, Pausing}
-use Rattle.osdp_controller.specs.Answers.{answer_of}
+use Rattle.osdp_controller.specs.Answers.{meaning_of}
 use Rattle.osdp_controller.specs.Exchanges.{submitted_command}
 use Rattle.osdp_controller.specs.Hearing.{hears_in, ignores, is_from_reader}
 use Rattle.osdp_controller_laws.specs.Laws.{CountsSends, KeepsTime, NumbersTakeTurns, TakesFront, TellsLost, exchange_in}
@@ -119,7 +119,7 @@ same_seen now s h = let e : max s.greatest now ≡ max s.greatest s.greatest = o
 pub keeps_time : (now : ℕ) (m : Machine) → KeepsTime now m
 keeps_time now m = record {
   by_tick = λ h. ap (λ (t : Session). ticks_in m.session.state t m.waiting) (same_seen now m.session h);
-  by_frame = λ p h. ap (λ (t : Session). if is_from_reader p m.session then hears_in m.session.state p.sequence (answer_of p) t else ignores t) (same_seen now m.session h);
+  by_frame = λ p h. ap (λ (t : Session). if is_from_reader p m.session then hears_in m.session.state p.sequence (meaning_of p) t else ignores t) (same_seen now m.session h);
   by_begin = λ h. ap (λ (t : Session). changed_unless (begin_refusal m) m (record m { session = begun t })) (same_seen now m.session h);
 }
 

@@ -7,8 +7,8 @@ use Rattle.osdp_msg.specs.declared.command_fields.Communication.{Communication}
 use Rattle.osdp_msg.specs.declared.reply.Reply.{Reply}
 use Rattle.osdp_msg.specs.declared.reply.Reply.TheVariants as replies
 use Rattle.osdp_msg.specs.Events.{event_reply}
-use Rattle.osdp_controller.specs.declared.answer.Answer.{Answer}
-use Rattle.osdp_controller.specs.declared.answer.Answer.TheVariants.{NotTaken, NumberRefused, Plain, Unreadable}
+use Rattle.osdp_controller.specs.declared.meaning.ReplyMeaning.{ReplyMeaning}
+use Rattle.osdp_controller.specs.declared.meaning.ReplyMeaning.TheVariants.{NotTaken, NumberRefused, Plain, Unreadable}
 use Rattle.osdp_controller.specs.declared.exchange.Exchange.{Exchange}
 use Rattle.osdp_controller.specs.declared.exchange.Exchange.TheVariants.{Opening, Polling, Asking}
 use Rattle.osdp_controller.specs.declared.report.LostCause.{LostCause}
@@ -18,7 +18,7 @@ use Rattle.osdp_controller.specs.declared.report.Report.TheVariants.{Opened, Set
 use Rattle.osdp_controller.specs.declared.session.Session.{Session}
 use Rattle.osdp_controller.specs.declared.state.State.{State}
 use Rattle.osdp_controller.specs.declared.state.State.TheVariants.{Waiting, Pausing}
-use Rattle.osdp_controller.specs.Answers.{answer_of}
+use Rattle.osdp_controller.specs.Answers.{meaning_of}
 use Rattle.osdp_controller.specs.Exchanges.{exchange_number, submitted_command}
 use Rattle.osdp_controller.specs.Hearing.{answered, hears}
 use Rattle.osdp_controller.specs.Machine.{IsSession, Machine, is_outstanding, sent_in}
@@ -40,13 +40,13 @@ pub record IsFromReader (p : Packet) (s : Session) : Type 0 where
   pub without_block : p.block ≡ false
 
 -- it says this while the exchange is outstanding
-pub record Comes (p : Packet) (s : Session) (x : Exchange) (answer : Answer) : Type 0 where
+pub record Comes (p : Packet) (s : Session) (x : Exchange) (answer : ReplyMeaning) : Type 0 where
   pub from_reader : IsFromReader p s
   pub outstanding : exchange_in s.state ≡ Some x
-  pub says : answer_of p ≡ answer
+  pub says : meaning_of p ≡ answer
 
 -- and it has the number of the exchange
-pub record ComesNumbered (p : Packet) (s : Session) (x : Exchange) (answer : Answer) : Type 0 where
+pub record ComesNumbered (p : Packet) (s : Session) (x : Exchange) (answer : ReplyMeaning) : Type 0 where
   pub comes : Comes p s x answer
   pub number : p.sequence ≡ s.number
 

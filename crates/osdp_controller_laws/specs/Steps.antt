@@ -6,7 +6,7 @@ use Rattle.osdp_msg.specs.declared.command_fields.Communication.{Communication}
 use Rattle.osdp_msg.specs.declared.reply.Reply.{Reply}
 use Rattle.osdp_msg.specs.declared.reply.Reply.TheVariants.{PdId as PdIdReply}
 use Rattle.osdp_msg.specs.declared.reply_fields.PdId.{PdId}
-use Rattle.osdp_controller.specs.declared.answer.Answer.TheVariants.{NotTaken, Damaged, NumberRefused, Plain, Unreadable}
+use Rattle.osdp_controller.specs.declared.meaning.ReplyMeaning.TheVariants.{NotTaken, Damaged, NumberRefused, Plain, Unreadable}
 use Rattle.osdp_controller.specs.declared.exchange.Exchange.{Exchange}
 use Rattle.osdp_controller.specs.declared.exchange.Exchange.TheVariants.{Opening, Polling, Asking}
 use Rattle.osdp_controller.specs.declared.exchange.Outstanding.{Outstanding}
@@ -15,7 +15,7 @@ use Rattle.osdp_controller.specs.declared.report.Report.{Report}
 use Rattle.osdp_controller.specs.declared.report.Report.TheVariants.{Opened, Settled, Moved}
 use Rattle.osdp_controller.specs.declared.session.Session.{Session}
 use Rattle.osdp_controller.specs.declared.state.State.TheVariants.{Closed, Quiet, Idle, Waiting, Pausing}
-use Rattle.osdp_controller.specs.Answers.{answer_of, is_not_taken}
+use Rattle.osdp_controller.specs.Answers.{meaning_of, is_not_taken}
 use Rattle.osdp_controller.specs.Hearing.{answered_unread, com_of, comset_of, event_in, hears, hears_busy, ignores, loses, moved_by, poll_told}
 use Rattle.osdp_controller_laws.specs.Laws.{Comes, ComesNumbered, IsFromReader, exchange_in}
 use Rattle.osdp_controller.specs.Machine.{Machine, is_outstanding}
@@ -65,7 +65,7 @@ pub record FramesInSteps (p : Packet) (now : ℕ) (s : Session) : Type 0 where
   -- frames that are not for the exchange change nothing but the moment
   pub of_others : (IsFromReader p s → ⊥) → hears p now s ≡ ignores (seen now s)
   pub not_outstanding : is_outstanding s.state ≡ false → hears p now s ≡ ignores (seen now s)
-  pub of_another : p.sequence ≢ s.number → (p.sequence ≢ 0) ⊎ (is_not_taken (answer_of p) ≡ false) → hears p now s ≡ ignores (seen now s)
+  pub of_another : p.sequence ≢ s.number → (p.sequence ≢ 0) ⊎ (is_not_taken (meaning_of p) ≡ false) → hears p now s ≡ ignores (seen now s)
   -- BUSY, which may have number 0
   pub busy : (until sends : ℕ) (o : Outstanding) → s.state ≡ Waiting until sends o → Comes p s o.exchange NotTaken
       → (p.sequence ≡ s.number) ⊎ (p.sequence ≡ 0) → hears p now s ≡ hears_busy o (seen now s)
@@ -87,7 +87,7 @@ pub record FramesInSteps (p : Packet) (now : ℕ) (s : Session) : Type 0 where
 pub record IsReplyTo (number : ℕ) (s : Session) (q : Packet) (reply : Reply) : Type 0 where
   pub from_reader : IsFromReader q s
   pub sequence : q.sequence ≡ number
-  pub says : answer_of q ≡ Plain reply
+  pub says : meaning_of q ≡ Plain reply
 
 -- the reader is at another address, and the session has ended
 abbrev pub moved_away : Communication → Session → Session

@@ -98,7 +98,7 @@ pub fn ticks_send_their_frame()
 {}
 
 /// What holds of a new controller, its settings and counts in their ranges, holds whatever is called and comes.
-pub fn stays_well()
+pub fn controller_stays_well()
     ensures { StaysWell }
 {}
 

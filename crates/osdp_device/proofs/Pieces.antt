@@ -3,7 +3,7 @@ use Rattle.std.proofs.Common.{◌≡◌, ℕ, ◌+◌, ◌-◌, ◌*◌, ◌<◌
 use Rattle.std.proofs.Math.Seq.{drop-drop}
 use Rattle.std.proofs.lemmas.Bool.{leb-true}
 use Rattle.osdp_frame.specs.Bytes.{AreBytes}
-use Rattle.osdp_frame.specs.Reading.{Part, part_size, total_size, IsReading}
+use Rattle.osdp_frame.specs.Reading.{RunItem, item_size, total_size, IsReading}
 use Rattle.osdp_frame.specs.Held.{Held, decided, later, after_gap, new_run, taken_count}
 use Rattle.osdp_frame.specs.Items.{items, left_over}
 use Rattle.osdp_frame.proofs.Head.{AreBytes-drop, AreBytes-take}
@@ -23,27 +23,27 @@ use Rattle.osdp_device.proofs.Turning.{splits}
 
 -- ---- what is held after all items
 
-after_open : (parts : List Part) (bytes : List ℕ) → after_all (record { bytes = bytes; ended = false }) parts ≡ record { bytes = drop (total_size parts) bytes; ended = false }
+after_open : (parts : List RunItem) (bytes : List ℕ) → after_all (record { bytes = bytes; ended = false }) parts ≡ record { bytes = drop (total_size parts) bytes; ended = false }
 after_open [] bytes = refl
 after_open (part ∷ parts) bytes =
-    after_open parts (drop (part_size part) bytes)
-    ∙ ap (λ (l : List ℕ). record { bytes = l; ended = false }) (drop-drop (total_size parts) (part_size part) bytes)
+    after_open parts (drop (item_size part) bytes)
+    ∙ ap (λ (l : List ℕ). record { bytes = l; ended = false }) (drop-drop (total_size parts) (item_size part) bytes)
 
 all_after_items : (bytes : List ℕ) → after_all (record { bytes = bytes; ended = false }) (items false bytes) ≡ record { bytes = left_over bytes; ended = false }
 all_after_items bytes = after_open (items false bytes) bytes ∙ ap (λ (l : List ℕ). record { bytes = l; ended = false }) (left_is bytes)
 
-after_ended : (parts : List Part) (bytes : List ℕ) → AreBytes bytes → items true bytes ≡ parts
+after_ended : (parts : List RunItem) (bytes : List ℕ) → AreBytes bytes → items true bytes ≡ parts
     → after_all (record { bytes = bytes; ended = not (length bytes == 0) }) parts ≡ new_run
 after_ended [] bytes fits are =
     let nil : bytes ≡ [] = subst (λ l. IsReading bytes l) are (is_reading bytes fits) in
     ap (λ (l : List ℕ). record { bytes = l; ended = not (length l == 0) }) nil
 after_ended (part ∷ parts) [] fits are = absurd (let e = sym (items_nothing true) ∙ are in cc)
 after_ended (part ∷ parts) (b ∷ bytes) fits are =
-    let rest = drop (part_size part) (b ∷ bytes) in
+    let rest = drop (item_size part) (b ∷ bytes) in
     let others : items true rest ≡ parts =
     sym (still_ended true rest) ∙ splits (record { bytes = b ∷ bytes; ended = true }) part parts are in
     ap (λ (e : Bool). after_all (record { bytes = b ∷ bytes; ended = e }) (part ∷ parts)) (some_ended b bytes)
-    ∙ after_ended parts rest (AreBytes-drop (part_size part) (b ∷ bytes) fits) others
+    ∙ after_ended parts rest (AreBytes-drop (item_size part) (b ∷ bytes) fits) others
 
 -- nothing is left of a run that is over
 over : (bytes : List ℕ) → AreBytes bytes → 0 < length bytes → after_all (record { bytes = bytes; ended = true }) (items true bytes) ≡ new_run
@@ -96,18 +96,18 @@ before_silent now l is = by_test (is_silent (seen now l))
     by_test true = record { gap = is.gap; bytes = is.bytes; seen = omega arith }
     by_test false = record { gap = is.gap; bytes = is.bytes; seen = omega arith }
 
-AreBytes-later : (parts : List Part) (held : Held) → AreBytes held.bytes → AreBytes (after_all held parts).bytes
+AreBytes-later : (parts : List RunItem) (held : Held) → AreBytes held.bytes → AreBytes (after_all held parts).bytes
 AreBytes-later [] held fits = fits
-AreBytes-later (part ∷ parts) held fits = AreBytes-later parts (later held part) (AreBytes-drop (part_size part) held.bytes fits)
+AreBytes-later (part ∷ parts) held fits = AreBytes-later parts (later held part) (AreBytes-drop (item_size part) held.bytes fits)
 
 module _ {H : Type 0} (answer_of : H → Command → Answer) (after : H → Command → H) where
   -- ---- items one list after the other
 
-  after_items-append : (xs ys : List Part) (r : ReaderState H) → after_items answer_of after (xs ++ ys) r ≡ after_items answer_of after ys (after_items answer_of after xs r)
+  after_items-append : (xs ys : List RunItem) (r : ReaderState H) → after_items answer_of after (xs ++ ys) r ≡ after_items answer_of after ys (after_items answer_of after xs r)
   after_items-append [] ys r = refl
   after_items-append (x ∷ xs) ys r = after_items-append xs ys (after_item answer_of after x r)
 
-  said_to_all-append : (xs ys : List Part) (r : ReaderState H)
+  said_to_all-append : (xs ys : List RunItem) (r : ReaderState H)
       → said_to_all answer_of after (xs ++ ys) r ≡ said_to_all answer_of after xs r ++ said_to_all answer_of after ys (after_items answer_of after xs r)
   said_to_all-append [] ys r = refl
   said_to_all-append (x ∷ xs) ys r =
@@ -127,8 +127,8 @@ module _ {H : Type 0} (answer_of : H → Command → Answer) (after : H → Comm
       let k = l.held.bytes in
       let whole : (k ++ xs) ++ ys ≡ k ++ (xs ++ ys) = append_assoc k xs ys in
       let all : AreBytes ((k ++ xs) ++ ys) = subst AreBytes (sym whole) (AreBytes-append k (xs ++ ys) held fits) in
-      let a : List Part = items false (k ++ xs) in
-      let b : List Part = items false (left_over (k ++ xs) ++ ys) in
+      let a : List RunItem = items false (k ++ xs) in
+      let b : List RunItem = items false (left_over (k ++ xs) ++ ys) in
       let split : a ++ b ≡ items false (k ++ (xs ++ ys)) = sym (items-append false (k ++ xs) ys all) ∙ ap (items false) whole in
       let left : left_over (left_over (k ++ xs) ++ ys) ≡ left_over (k ++ (xs ++ ys)) = sym (left_over-append (k ++ xs) ys all) ∙ ap left_over whole in
       heard_same _ _ _ _ _ _

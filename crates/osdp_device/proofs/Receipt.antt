@@ -3,7 +3,7 @@ use Rattle.std.proofs.Common.{ℕ, ◌<◌, ◌≤◌, Bool, true, false, cond, 
 use Rattle.std.proofs.lemmas.List.{get_or_past}
 use Rattle.std.proofs.lemmas.Bool.{false≢true}
 use Rattle.osdp_frame.specs.Bytes.{AreBytes}
-use Rattle.osdp_frame.specs.Reading.{Part, part_size}
+use Rattle.osdp_frame.specs.Reading.{RunItem, item_size}
 use Rattle.osdp_frame.specs.Held.{decided, after_first, after_advance, taken_count}
 use Rattle.osdp_frame.proofs.Head.{AreBytes-drop, AreBytes-take}
 use Rattle.osdp_frame_laws.proofs.LawsOfSpellings.{AreBytes-append}
@@ -30,11 +30,11 @@ received_gapped l run = record { gap = run.gap; bytes = run.bytes; some = gap_so
 pub received_advanced : (l : Received) → IsReceived l → IsReceived (record l { held = after_advance l.held })
 received_advanced l run = by_answer (decided l.held.ended l.held.bytes)
   where
-    by_answer : (o : Option Part) → IsReceived (record l { held = after_first l.held o })
+    by_answer : (o : Option RunItem) → IsReceived (record l { held = after_first l.held o })
     by_answer None = run
     by_answer (Some part) = record {
       gap = run.gap;
-      bytes = AreBytes-drop (part_size part) l.held.bytes run.bytes;
+      bytes = AreBytes-drop (item_size part) l.held.bytes run.bytes;
       some = later_some l.held part;
       last = run.last;
     }

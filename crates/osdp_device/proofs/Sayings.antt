@@ -1,7 +1,7 @@
 -- A response says what the reader's table says.
 use Rattle.std.proofs.Common.{◌≡◌, ℕ, true, false, List, Option, Some, None, refl, ap, ◌∙◌}
 use Rattle.osdp_frame.specs.Packet.{Packet}
-use Rattle.osdp_frame.specs.Reading.{Part, Whole, Passed, Bad}
+use Rattle.osdp_frame.specs.Reading.{RunItem, PacketItem, SkippedItem, RefusedItem}
 use Rattle.osdp_frame.proofs.Spelled.{spelled_is}
 use Rattle.osdp_msg.specs.declared.command.Command.{Command}
 use Rattle.osdp_reader.specs.declared.handler.Answer.{Answer}
@@ -56,12 +56,12 @@ module _ {H : Type 0} (answer_of : H → Command → Answer) (after : H → Comm
   stays_by Busy r p silent = absurd cc
   stays_by Wrong r p silent = absurd cc
 
-  pub none_said : (part : Part) (r : ReaderState H) → is_answered r part ≡ false → None ≡ said_of answer_of after part r
-  none_said (Whole p) r silent = says_nothing (kind_of r p) (said_to answer_of after r p) silent
-  none_said (Passed byte) r silent = refl
-  none_said (Bad fault) r silent = refl
+  pub none_said : (part : RunItem) (r : ReaderState H) → is_answered r part ≡ false → None ≡ said_of answer_of after part r
+  none_said (PacketItem p) r silent = says_nothing (kind_of r p) (said_to answer_of after r p) silent
+  none_said (SkippedItem byte) r silent = refl
+  none_said (RefusedItem fault) r silent = refl
 
-  pub stays : (part : Part) (r : ReaderState H) → is_answered r part ≡ false → r ≡ after_item answer_of after part r
-  stays (Whole p) r silent = stays_by (kind_of r p) r p silent
-  stays (Passed byte) r silent = refl
-  stays (Bad fault) r silent = refl
+  pub stays : (part : RunItem) (r : ReaderState H) → is_answered r part ≡ false → r ≡ after_item answer_of after part r
+  stays (PacketItem p) r silent = stays_by (kind_of r p) r p silent
+  stays (SkippedItem byte) r silent = refl
+  stays (RefusedItem fault) r silent = refl

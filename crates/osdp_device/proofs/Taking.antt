@@ -2,7 +2,7 @@
 use Rattle.std.proofs.Common.{◌≡◌, true, false, drop, Option, Some, None, is_some, refl, sym, ap, ◌∙◌}
 use Rattle.osdp_frame.specs.Held.{Held, decided, after_advance, later, after_first}
 use Rattle.osdp_frame.specs.Items.{items}
-use Rattle.osdp_frame.specs.Reading.{Part, part_size}
+use Rattle.osdp_frame.specs.Reading.{RunItem, item_size}
 use Rattle.osdp_frame_laws.proofs.OneByOne.{items_after, still_ended}
 use Rattle.osdp_frame_laws.proofs.Readings.{items_undecided}
 use Rattle.osdp_msg.specs.declared.command.Command.{Command}
@@ -19,12 +19,12 @@ module _ {H : Type 0} (answer_of : H → Command → Answer) (after : H → Comm
   told_nothing r held is = ap (λ parts. told_by answer_of after parts r held) (items_undecided held.ended held.bytes is)
 
   -- what a call tells, from the calls for its first item
-  pub told_of_first : (r heard : ReaderState H) (held next : Held) (part : Part) (said : Option Said)
+  pub told_of_first : (r heard : ReaderState H) (held next : Held) (part : RunItem) (said : Option Said)
       → decided held.ended held.bytes ≡ Some part → next ≡ after_advance held → said ≡ said_of answer_of after part r → heard ≡ after_item answer_of after part r
       → next_told answer_of after r held ≡ told_or answer_of after said heard next (next_told answer_of after heard next)
   told_of_first r heard held next part said is advanced told hears =
       let here : next ≡ later held part = advanced ∙ ap (after_first held) is in
-      let left = drop (part_size part) held.bytes in
+      let left = drop (item_size part) held.bytes in
       let item = after_item answer_of after part r in
       let rest : items (later held part).ended left ≡ items held.ended left = still_ended held.ended left in
       ap (λ parts. told_by answer_of after parts r held) (items_after held.ended held.bytes part is)
@@ -43,21 +43,21 @@ module _ {H : Type 0} (answer_of : H → Command → Answer) (after : H → Comm
   told_later None r held later none = refl
 
   -- it tells something
-  pub told_here : (r heard : ReaderState H) (held next : Held) (part : Part) (said : Option Said)
+  pub told_here : (r heard : ReaderState H) (held next : Held) (part : RunItem) (said : Option Said)
       → decided held.ended held.bytes ≡ Some part → next ≡ after_advance held → said ≡ said_of answer_of after part r → heard ≡ after_item answer_of after part r
       → is_some said ≡ true → next_told answer_of after r held ≡ record { said = said; reader = heard; held = next }
   told_here r heard held next part said is advanced told hears some =
       told_of_first r heard held next part said is advanced told hears ∙ told_at_once said heard next (next_told answer_of after heard next) some
 
   -- it tells nothing, and it goes on
-  pub told_after : (r heard : ReaderState H) (held next : Held) (part : Part) (said : Option Said)
+  pub told_after : (r heard : ReaderState H) (held next : Held) (part : RunItem) (said : Option Said)
       → decided held.ended held.bytes ≡ Some part → next ≡ after_advance held → said ≡ said_of answer_of after part r → heard ≡ after_item answer_of after part r
       → is_some said ≡ false → next_told answer_of after heard next ≡ next_told answer_of after r held
   told_after r heard held next part said is advanced told hears none =
       sym (told_of_first r heard held next part said is advanced told hears ∙ told_later said heard next (next_told answer_of after heard next) none)
 
   -- an item that isn't answered is passed over
-  pub told_passed : (r : ReaderState H) (held next : Held) (part : Part) → decided held.ended held.bytes ≡ Some part → next ≡ after_advance held
+  pub told_passed : (r : ReaderState H) (held next : Held) (part : RunItem) → decided held.ended held.bytes ≡ Some part → next ≡ after_advance held
       → is_answered r part ≡ false → next_told answer_of after r next ≡ next_told answer_of after r held
   told_passed r held next part is advanced silent =
       told_after r r held next part None is advanced (none_said answer_of after part r silent) (stays answer_of after part r silent) refl

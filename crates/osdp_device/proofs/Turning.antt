@@ -1,7 +1,7 @@
 -- Answers that are told in turn.
 use Rattle.std.proofs.Common.{◌≡◌, List, [], ◌∷◌, ◌++◌, drop, Option, Some, None, refl, sym, ap, ◌∙◌}
 use Rattle.osdp_frame.specs.Held.{Held, decided, later}
-use Rattle.osdp_frame.specs.Reading.{Part, part_size}
+use Rattle.osdp_frame.specs.Reading.{RunItem, item_size}
 use Rattle.osdp_frame_laws.proofs.OneByOne.{items_after, still_ended}
 use Rattle.osdp_frame_laws.proofs.Readings.{items_undecided}
 use Rattle.osdp_msg.specs.declared.command.Command.{Command}
@@ -11,20 +11,20 @@ use Rattle.osdp_device.specs.Saying.{Said, after_item, said_of}
 use Rattle.osdp_device.specs.Telling.{TellsInTurn, after_items, after_all, items_of, listed, next_told, said_to_all, told_by, told_or}
 
 -- after the first of the items held are the others
-pub splits : (held : Held) (part : Part) (parts : List Part) → items_of held ≡ part ∷ parts → items_of (later held part) ≡ parts
+pub splits : (held : Held) (part : RunItem) (parts : List RunItem) → items_of held ≡ part ∷ parts → items_of (later held part) ≡ parts
 splits held part parts are = by_answer (decided held.ended held.bytes) refl
   where
-    by_answer : (o : Option Part) → decided held.ended held.bytes ≡ o → items_of (later held part) ≡ parts
+    by_answer : (o : Option RunItem) → decided held.ended held.bytes ≡ o → items_of (later held part) ≡ parts
     by_answer None is = absurd (let e = sym (items_undecided held.ended held.bytes is) ∙ are in cc)
     by_answer (Some first) is =
         let both : first ∷ items_of (later held first) ≡ part ∷ parts =
-        ap (λ l. first ∷ l) (still_ended held.ended (drop (part_size first) held.bytes)) ∙ sym (items_after held.ended held.bytes first is) ∙ are in
+        ap (λ l. first ∷ l) (still_ended held.ended (drop (item_size first) held.bytes)) ∙ sym (items_after held.ended held.bytes first is) ∙ are in
         let same : first ≡ part = cc in
         let rest : items_of (later held first) ≡ parts = cc in
         ap (λ p. items_of (later held p)) (sym same) ∙ rest
 
 module _ {H : Type 0} (answer_of : H → Command → Answer) (after : H → Command → H) where
-  turn : (parts : List Part) (r : ReaderState H) (held : Held) → items_of held ≡ parts → TellsInTurn answer_of after r held (told_by answer_of after parts r held)
+  turn : (parts : List RunItem) (r : ReaderState H) (held : Held) → items_of held ≡ parts → TellsInTurn answer_of after r held (told_by answer_of after parts r held)
   turn [] r held are = record { said = refl; reader = refl; left = refl; all = λ _. are }
   turn (part ∷ parts) r held are = by_said (said_of answer_of after part r) refl (turn parts heard (later held part) rest)
     where

@@ -1,7 +1,7 @@
 -- What a device says to what comes on its line.
 use Rattle.std.specs.Prelude.{ℕ, Bool, true, false, List, [], Option, Some, None}
 use Rattle.osdp_frame.specs.Packet.{Packet}
-use Rattle.osdp_frame.specs.Reading.{Part, Whole, Passed, Bad}
+use Rattle.osdp_frame.specs.Reading.{RunItem, PacketItem, SkippedItem, RefusedItem}
 use Rattle.osdp_frame.specs.Spelling.{spelling}
 use Rattle.osdp_msg.specs.declared.command.Command.{Command}
 use Rattle.osdp_msg.specs.declared.command.Command.TheVariants.{Poll}
@@ -64,13 +64,13 @@ again_in response = again_by (response_kind response) (response_command response
 
 module _ {H : Type 0} where
   -- whether something is said to an item: to a packet that isn't for another device, or from one
-  abbrev pub is_answered : ReaderState H → Part → Bool
-  is_answered r (Whole p) = speaks (kind_of r p)
-  is_answered r (Passed byte) = false
-  is_answered r (Bad fault) = false
+  abbrev pub is_answered : ReaderState H → RunItem → Bool
+  is_answered r (PacketItem p) = speaks (kind_of r p)
+  is_answered r (SkippedItem byte) = false
+  is_answered r (RefusedItem fault) = false
 
   -- whether there is an item, and something is said to it
-  abbrev pub answers_first : ReaderState H → Option Part → Bool
+  abbrev pub answers_first : ReaderState H → Option RunItem → Bool
   answers_first r None = false
   answers_first r (Some part) = is_answered r part
 
@@ -84,13 +84,13 @@ module _ {H : Type 0} (answer_of : H → Command → Answer) (after : H → Comm
   }
 
   -- a byte that belongs to no packet is passed over
-  abbrev pub said_of : Part → ReaderState H → Option Said
-  said_of (Whole p) r = unless_silent (kind_of r p) (said_to r p)
-  said_of (Passed byte) r = None
-  said_of (Bad fault) r = None
+  abbrev pub said_of : RunItem → ReaderState H → Option Said
+  said_of (PacketItem p) r = unless_silent (kind_of r p) (said_to r p)
+  said_of (SkippedItem byte) r = None
+  said_of (RefusedItem fault) r = None
 
   -- the reader after it
-  abbrev pub after_item : Part → ReaderState H → ReaderState H
-  after_item (Whole p) r = (hears answer_of after r p).reader
-  after_item (Passed byte) r = r
-  after_item (Bad fault) r = r
+  abbrev pub after_item : RunItem → ReaderState H → ReaderState H
+  after_item (PacketItem p) r = (hears answer_of after r p).reader
+  after_item (SkippedItem byte) r = r
+  after_item (RefusedItem fault) r = r

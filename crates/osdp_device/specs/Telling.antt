@@ -2,7 +2,7 @@
 use Rattle.std.specs.Prelude.{◌≡◌, List, [], ◌∷◌, ◌++◌, Option, Some, None}
 use Rattle.osdp_frame.specs.Held.{Held, later}
 use Rattle.osdp_frame.specs.Items.{items}
-use Rattle.osdp_frame.specs.Reading.{Part}
+use Rattle.osdp_frame.specs.Reading.{RunItem}
 use Rattle.osdp_msg.specs.declared.command.Command.{Command}
 use Rattle.osdp_reader.specs.declared.handler.Answer.{Answer}
 use Rattle.osdp_reader.specs.State.{ReaderState}
@@ -15,11 +15,11 @@ pub record Told (H : Type 0) : Type 0 where
   pub held : Held
 
 -- the items that the held bytes decide
-abbrev pub items_of : Held → List Part
+abbrev pub items_of : Held → List RunItem
 items_of held = items held.ended held.bytes
 
 -- what is held after all of these items
-abbrev pub after_all : Held → List Part → Held
+abbrev pub after_all : Held → List RunItem → Held
 after_all held [] = held
 after_all held (part ∷ parts) = after_all (later held part) parts
 
@@ -34,7 +34,7 @@ module _ {H : Type 0} (answer_of : H → Command → Answer) (after : H → Comm
   told_or None r held later = later
 
   -- items are taken off in their order, up to and including the first to which something is said
-  abbrev pub told_by : List Part → ReaderState H → Held → Told H
+  abbrev pub told_by : List RunItem → ReaderState H → Held → Told H
   told_by [] r held = record { said = None; reader = r; held = held }
   told_by (part ∷ parts) r held =
       told_or (said_of answer_of after part r) (after_item answer_of after part r) (later held part)
@@ -45,12 +45,12 @@ module _ {H : Type 0} (answer_of : H → Command → Answer) (after : H → Comm
   next_told r held = told_by (items_of held) r held
 
   -- the reader after all of these items
-  abbrev pub after_items : List Part → ReaderState H → ReaderState H
+  abbrev pub after_items : List RunItem → ReaderState H → ReaderState H
   after_items [] r = r
   after_items (part ∷ parts) r = after_items parts (after_item answer_of after part r)
 
   -- all that is said to them, in their order
-  abbrev pub said_to_all : List Part → ReaderState H → List Said
+  abbrev pub said_to_all : List RunItem → ReaderState H → List Said
   said_to_all [] r = []
   said_to_all (part ∷ parts) r =
       listed (said_of answer_of after part r) ++ said_to_all parts (after_item answer_of after part r)

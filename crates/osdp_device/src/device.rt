@@ -3,8 +3,8 @@
 ghost use Rattle.std.specs.Prelude.{◌≡◌, ◌↔◌, true, false, IfSome, IsSome, None, Some};
 ghost use Rattle.std.specs.Option.{option_copied, option_map};
 ghost use Rattle.osdp_frame.specs.Held.{decided};
-ghost use Rattle.osdp_frame.specs.Reading.{Whole};
-ghost use Rattle.osdp_frame.specs.Shown.{part_of};
+ghost use Rattle.osdp_frame.specs.Reading.{PacketItem};
+ghost use Rattle.osdp_frame.specs.Shown.{item_of};
 ghost use Rattle.osdp_device.specs.Receiving.{IsGap, IsReceived, after_silence, after_take, after_tick, count_taken, new_line};
 ghost use Rattle.osdp_device.specs.Saying.{after_item, again_in, answers_first, but_poll, is_answered, said_in, said_of, taken_in};
 ghost use Rattle.osdp_device.specs.Telling.{next_told};
@@ -114,7 +114,7 @@ impl<H: Handler> Device<H> {
 
 /// Whether a reader answers an item.
 fn is_answered<H: Handler>(reader: &Reader<H>, item: &Item<'_>) -> bool
-    ensures { result ≡ is_answered reader.now (part_of item.now) }
+    ensures { result ≡ is_answered reader.now (item_of item.now) }
 {
     match item {
         Item::Packet(packet) => reader.kind(packet) != Kind::Silent,
@@ -125,9 +125,9 @@ fn is_answered<H: Handler>(reader: &Reader<H>, item: &Item<'_>) -> bool
 /// What a reader says to a packet that it answers.
 #[tactic(auto, using(crate::proofs::Sayings::said_here))]
 fn answer<H: Handler>(reader: &mut Reader<H>, packet: &FrameView) -> Response
-    requires { is_answered reader.old (Whole packet.now) ≡ true }
-    ensures said { Some (said_in result) ≡ said_of H.answer_of H.after (Whole packet.now) reader.old }
-    ensures reader { reader.new ≡ after_item H.answer_of H.after (Whole packet.now) reader.old }
+    requires { is_answered reader.old (PacketItem packet.now) ≡ true }
+    ensures said { Some (said_in result) ≡ said_of H.answer_of H.after (PacketItem packet.now) reader.old }
+    ensures reader { reader.new ≡ after_item H.answer_of H.after (PacketItem packet.now) reader.old }
 {
     reader.on_frame(packet)
 }

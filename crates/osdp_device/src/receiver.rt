@@ -3,7 +3,7 @@
 ghost use Rattle.std.specs.Prelude.{◌≡◌, ◌≤◌, ◌==◌, length};
 ghost use Rattle.std.specs.Option.{option_map};
 ghost use Rattle.osdp_frame.specs.Held.{after_advance, decided, taken_count};
-ghost use Rattle.osdp_frame.specs.Shown.{part_of};
+ghost use Rattle.osdp_frame.specs.Shown.{item_of};
 ghost use Rattle.osdp_device.specs.Receiving.{IsReceived, after_silence, after_take, after_tick, comes_in, count_taken, ends_run, ends_silent, new_line, seen};
 
 use osdp_frame::{Framer, Item};
@@ -55,7 +55,7 @@ impl Receiver {
 
     /// The next item, where the bytes held decide it.
     pub(crate) fn next(&self) -> Option<Item<'_>>
-        ensures { option_map part_of result ≡ decided self.now.held.ended self.now.held.bytes }
+        ensures { option_map item_of result ≡ decided self.now.held.ended self.now.held.bytes }
     {
         self.framer.next()
     }

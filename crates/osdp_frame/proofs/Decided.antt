@@ -8,7 +8,7 @@ use Rattle.osdp_frame.specs.Bytes.{AreBytes}
 use Rattle.osdp_frame.specs.Check.{check_size}
 use Rattle.osdp_frame.specs.Packet.{Packet, largest}
 use Rattle.osdp_frame.specs.Spelling.{start_of_message}
-use Rattle.osdp_frame.specs.Reading.{Part, Whole, Passed, Bad, Begins, count_at, check_at, smallest, IsChecked, HasFault, IsFirstFault, Stands, IsFirst, IsUndecided}
+use Rattle.osdp_frame.specs.Reading.{RunItem, PacketItem, SkippedItem, RefusedItem, Begins, count_at, check_at, smallest, IsChecked, HasFault, IsFirstFault, Stands, IsFirst, IsUndecided}
 use Rattle.osdp_frame.specs.Held.{packet_at, is_checked, begun, decided}
 use Rattle.osdp_frame.proofs.Spelled.{same_beginning}
 use Rattle.osdp_frame.proofs.Head.{Tells-Begins, count_at-append, check_at-append, IsChecked-append, is_checked-Decides, IsHead, Begins-packet_at}
@@ -43,16 +43,16 @@ started : (rest after : List ℕ) → rest ≡ start_of_message ∷ after → ge
 started rest after e = ap (λ l. get_or l 0 0) e
 
 -- at most one item stands first
-pub one_item : (rest : List ℕ) (a b : Part) → Stands rest a → Stands rest b → a ≡ b
-one_item rest (Whole p) (Whole q) s t = ap Whole (same_beginning p q s.bytes t.bytes s.after t.after s.spelled t.spelled (sym s.parts ∙ t.parts)).1
-one_item rest (Whole p) (Passed c) s t = absurd (not_passed rest t.0 c t.1 t.2 (Tells-Begins p rest s).start)
-one_item rest (Whole p) (Bad f) s t = absurd (t.2 p s)
-one_item rest (Passed b) (Whole q) s t = absurd (not_passed rest s.0 b s.1 s.2 (Tells-Begins q rest t).start)
-one_item rest (Passed b) (Passed c) s t = ap (λ l. Passed (get_or l 0 0)) (sym s.1 ∙ t.1)
-one_item rest (Passed b) (Bad f) s t = absurd (not_passed rest s.0 b s.1 s.2 (started rest t.0 t.1))
-one_item rest (Bad f) (Whole q) s t = absurd (s.2 q t)
-one_item rest (Bad f) (Passed c) s t = absurd (not_passed rest t.0 c t.1 t.2 (started rest s.0 s.1))
-one_item rest (Bad f) (Bad g) s t = ap Bad (one_fault rest f g s.3 t.3)
+pub one_item : (rest : List ℕ) (a b : RunItem) → Stands rest a → Stands rest b → a ≡ b
+one_item rest (PacketItem p) (PacketItem q) s t = ap PacketItem (same_beginning p q s.bytes t.bytes s.after t.after s.spelled t.spelled (sym s.parts ∙ t.parts)).1
+one_item rest (PacketItem p) (SkippedItem c) s t = absurd (not_passed rest t.0 c t.1 t.2 (Tells-Begins p rest s).start)
+one_item rest (PacketItem p) (RefusedItem f) s t = absurd (t.2 p s)
+one_item rest (SkippedItem b) (PacketItem q) s t = absurd (not_passed rest s.0 b s.1 s.2 (Tells-Begins q rest t).start)
+one_item rest (SkippedItem b) (SkippedItem c) s t = ap (λ l. SkippedItem (get_or l 0 0)) (sym s.1 ∙ t.1)
+one_item rest (SkippedItem b) (RefusedItem f) s t = absurd (not_passed rest s.0 b s.1 s.2 (started rest t.0 t.1))
+one_item rest (RefusedItem f) (PacketItem q) s t = absurd (s.2 q t)
+one_item rest (RefusedItem f) (SkippedItem c) s t = absurd (not_passed rest t.0 c t.1 t.2 (started rest s.0 s.1))
+one_item rest (RefusedItem f) (RefusedItem g) s t = ap RefusedItem (one_fault rest f g s.3 t.3)
 
 -- ---- where a fault holds no packet begins
 
@@ -94,11 +94,11 @@ first_byte-append : (l more : List ℕ) → get_or l 0 0 ≡ start_of_message �
 first_byte-append l more s lt = ap (λ x. x ++ more) (first_byte l s lt)
 
 -- an item at a run's end, where the run has ended
-at_end : (ended : Bool) (rest : List ℕ) (part : Part) → get_or rest 0 0 ≡ start_of_message → 0 < length rest → IsFirstFault Ended rest → cond ended (Some (Bad Ended)) None ≡ Some part → IsFirst ended rest part
+at_end : (ended : Bool) (rest : List ℕ) (part : RunItem) → get_or rest 0 0 ≡ start_of_message → 0 < length rest → IsFirstFault Ended rest → cond ended (Some (RefusedItem Ended)) None ≡ Some part → IsFirst ended rest part
 at_end true rest part start some fault e = λ more none.
     let nil : more ≡ [] = none refl in
     let whole : rest ++ more ≡ rest = ap (λ l. rest ++ l) nil ∙ append-nil rest in
-    subst (λ l. Stands l part) (sym whole) (subst (λ x. Stands rest x) (some_is (Bad Ended) part e) (drop 1 rest, first_byte rest start some, none_ended rest fault.0, fault))
+    subst (λ l. Stands l part) (sym whole) (subst (λ x. Stands rest x) (some_is (RefusedItem Ended) part e) (drop 1 rest, first_byte rest start some, none_ended rest fault.0, fault))
 at_end false rest part start some fault e = absurd (none_some part e)
 
 not_ended : (l : List ℕ) → 5 ≤ length l → count_at l ≤ length l → HasFault Ended l → ⊥
@@ -108,12 +108,12 @@ not_ended l five there ended = elim ended [
 ]
 
 -- the tests, each by its outcome
-abbrev Chain : Bool → Bool → Bool → Bool → Bool → Bool → List ℕ → Option Part
+abbrev Chain : Bool → Bool → Bool → Bool → Bool → Bool → List ℕ → Option RunItem
 Chain ended few short long less right rest =
-    let ending = cond ended (Some (Bad Ended)) None in
-    cond few ending (cond short (Some (Bad TooShort)) (cond long (Some (Bad TooLong)) (cond less ending (cond right (Some (Whole (packet_at rest))) (Some (Bad BadCheck))))))
+    let ending = cond ended (Some (RefusedItem Ended)) None in
+    cond few ending (cond short (Some (RefusedItem TooShort)) (cond long (Some (RefusedItem TooLong)) (cond less ending (cond right (Some (PacketItem (packet_at rest))) (Some (RefusedItem BadCheck))))))
 
-begun_first : (ended few short long less right : Bool) (rest : List ℕ) (part : Part) → AreBytes rest → get_or rest 0 0 ≡ start_of_message → 0 < length rest
+begun_first : (ended few short long less right : Bool) (rest : List ℕ) (part : RunItem) → AreBytes rest → get_or rest 0 0 ≡ start_of_message → 0 < length rest
     → ltb (length rest) 5 ≡ few → ltb (count_at rest) (smallest (check_at rest)) ≡ short → ltb largest (count_at rest) ≡ long → ltb (length rest) (count_at rest) ≡ less → is_checked rest ≡ right
     → Chain ended few short long less right rest ≡ Some part → IsFirst ended rest part
 begun_first ended true short long less right rest part bytes start some few-is short-is long-is less-is right-is e =
@@ -122,7 +122,7 @@ begun_first ended true short long less right rest part bytes start some few-is s
 begun_first ended false true long less right rest part bytes start some few-is short-is long-is less-is right-is e =
     let five : 5 ≤ length rest = ltb-false _ _ few-is in
     let short : count_at rest < smallest (check_at rest) = ltb-true _ _ short-is in
-    subst (λ x. IsFirst ended rest x) (some_is (Bad TooShort) part e) (λ more none.
+    subst (λ x. IsFirst ended rest x) (some_is (RefusedItem TooShort) part e) (λ more none.
     let count = count_at-append rest more five in
     let size = ap check_size (check_at-append rest more five) in
     let still : count_at (rest ++ more) < smallest (check_at (rest ++ more)) = omega arith in
@@ -132,7 +132,7 @@ begun_first ended false false true less right rest part bytes start some few-is 
     let five : 5 ≤ length rest = ltb-false _ _ few-is in
     let not_short : smallest (check_at rest) ≤ count_at rest = ltb-false _ _ short-is in
     let long : largest < count_at rest = ltb-true _ _ long-is in
-    subst (λ x. IsFirst ended rest x) (some_is (Bad TooLong) part e) (λ more none.
+    subst (λ x. IsFirst ended rest x) (some_is (RefusedItem TooLong) part e) (λ more none.
     let count = count_at-append rest more five in
     let size = ap check_size (check_at-append rest more five) in
     let still : largest < count_at (rest ++ more) = omega arith in
@@ -153,14 +153,14 @@ begun_first ended false false false false true rest part bytes start some few-is
       there = ltb-false _ _ less-is;
     } in
     let checked : IsChecked rest = (is_checked-Decides rest head.there).0 right-is in
-    subst (λ x. IsFirst ended rest x) (some_is (Whole (packet_at rest)) part e) (λ more none. Begins-packet_at rest more head checked)
+    subst (λ x. IsFirst ended rest x) (some_is (PacketItem (packet_at rest)) part e) (λ more none. Begins-packet_at rest more head checked)
 begun_first ended false false false false false rest part bytes start some few-is short-is long-is less-is right-is e =
     let five : 5 ≤ length rest = ltb-false _ _ few-is in
     let not_short : smallest (check_at rest) ≤ count_at rest = ltb-false _ _ short-is in
     let not_long : count_at rest ≤ largest = ltb-false _ _ long-is in
     let there : count_at rest ≤ length rest = ltb-false _ _ less-is in
     let wrong : IsChecked rest → ⊥ = λ h. false≢true (sym right-is ∙ (is_checked-Decides rest there).1 h) in
-    subst (λ x. IsFirst ended rest x) (some_is (Bad BadCheck) part e) (λ more none.
+    subst (λ x. IsFirst ended rest x) (some_is (RefusedItem BadCheck) part e) (λ more none.
     let count = count_at-append rest more five in
     let size = ap check_size (check_at-append rest more five) in
     let enough : 5 ≤ length (rest ++ more) = omega (arith, length-append rest more) in
@@ -173,14 +173,14 @@ begun_first ended false false false false false rest part bytes start some few-i
     ))
 
 -- what is decided stands first
-pub first_decided : (ended : Bool) (bytes : List ℕ) (part : Part) → AreBytes bytes → decided ended bytes ≡ Some part → IsFirst ended bytes part
+pub first_decided : (ended : Bool) (bytes : List ℕ) (part : RunItem) → AreBytes bytes → decided ended bytes ≡ Some part → IsFirst ended bytes part
 unfolding decided
 first_decided ended [] part fits e = absurd (none_some part e)
 first_decided ended (b ∷ bytes) part fits e = by_test (eqb b start_of_message) refl e
   where
-    by_test : (t : Bool) → eqb b start_of_message ≡ t → cond t (begun ended (b ∷ bytes)) (Some (Passed b)) ≡ Some part → IsFirst ended (b ∷ bytes) part
+    by_test : (t : Bool) → eqb b start_of_message ≡ t → cond t (begun ended (b ∷ bytes)) (Some (SkippedItem b)) ≡ Some part → IsFirst ended (b ∷ bytes) part
     by_test true is h = begun_first ended _ _ _ _ _ (b ∷ bytes) part fits (eqb-true _ _ is) (omega arith) refl refl refl refl refl h
-    by_test false is h = subst (λ x. IsFirst ended (b ∷ bytes) x) (some_is (Passed b) part h) (λ more none. (bytes ++ more, refl, eqb-false _ _ is))
+    by_test false is h = subst (λ x. IsFirst ended (b ∷ bytes) x) (some_is (SkippedItem b) part h) (λ more none. (bytes ++ more, refl, eqb-false _ _ is))
 
 -- ---- where nothing is decided
 
@@ -202,38 +202,38 @@ unfolding decided
 undecided_none ended [] e = inl refl
 undecided_none ended (b ∷ bytes) e = by_test (eqb b start_of_message) refl e
   where
-    by_test : (t : Bool) → eqb b start_of_message ≡ t → cond t (begun ended (b ∷ bytes)) (Some (Passed b)) ≡ None → IsUndecided ended (b ∷ bytes)
+    by_test : (t : Bool) → eqb b start_of_message ≡ t → cond t (begun ended (b ∷ bytes)) (Some (SkippedItem b)) ≡ None → IsUndecided ended (b ∷ bytes)
     by_test true is h = undecided_begun ended _ _ _ _ _ (b ∷ bytes) (eqb-true _ _ is) refl refl refl refl h
     by_test false is h = absurd cc
 
-nothing_stands : (part : Part) → Stands [] part → ⊥
-nothing_stands (Whole p) s = omega (arith, (Tells-Begins p [] s).long)
-nothing_stands (Passed b) s = let e = s.1 in absurd cc
-nothing_stands (Bad f) s = let e = s.1 in absurd cc
+nothing_stands : (part : RunItem) → Stands [] part → ⊥
+nothing_stands (PacketItem p) s = omega (arith, (Tells-Begins p [] s).long)
+nothing_stands (SkippedItem b) s = let e = s.1 in absurd cc
+nothing_stands (RefusedItem f) s = let e = s.1 in absurd cc
 
 abbrev pub WantsMore : List ℕ → Type 0
 WantsMore bytes =
     (length bytes < 5) ⊎ ((smallest (check_at bytes) ≤ count_at bytes) × (count_at bytes ≤ largest) × (length bytes < count_at bytes))
 
 -- of bytes that want more, only the end of the run could stand first
-only_ended : (bytes : List ℕ) (part : Part) → get_or bytes 0 0 ≡ start_of_message → WantsMore bytes → Stands bytes part → part ≡ Bad Ended
-only_ended bytes (Whole p) start wants s =
+only_ended : (bytes : List ℕ) (part : RunItem) → get_or bytes 0 0 ≡ start_of_message → WantsMore bytes → Stands bytes part → part ≡ RefusedItem Ended
+only_ended bytes (PacketItem p) start wants s =
     let t = Tells-Begins p bytes s in
     absurd (elim wants [
       | inl few ↦ omega (arith, s.spelled.fits.code, t.long)
       | inr less ↦ omega (arith, t.count, t.long, less.2)
     ])
-only_ended bytes (Passed b) start wants s = absurd (not_passed bytes s.0 b s.1 s.2 start)
-only_ended bytes (Bad TooShort) start wants s = absurd (elim wants [
+only_ended bytes (SkippedItem b) start wants s = absurd (not_passed bytes s.0 b s.1 s.2 start)
+only_ended bytes (RefusedItem TooShort) start wants s = absurd (elim wants [
   | inl few ↦ omega (arith, s.3.0)
   | inr less ↦ omega (arith, s.3.1, less.0)
 ])
-only_ended bytes (Bad TooLong) start wants s = absurd (elim wants [
+only_ended bytes (RefusedItem TooLong) start wants s = absurd (elim wants [
   | inl few ↦ omega (arith, s.3.0.0)
   | inr less ↦ omega (arith, s.3.0.1, less.1)
 ])
-only_ended bytes (Bad Ended) start wants s = refl
-only_ended bytes (Bad BadCheck) start wants s = absurd (elim wants [
+only_ended bytes (RefusedItem Ended) start wants s = refl
+only_ended bytes (RefusedItem BadCheck) start wants s = absurd (elim wants [
   | inl few ↦ omega (arith, s.3.0.0)
   | inr less ↦ omega (arith, s.3.0.1, less.2)
 ])
@@ -256,25 +256,25 @@ not_ended_more bytes ended =
     there (subst (λ l. HasFault Ended l) same ended)
 
 -- where more is wanted no item is first
-pub undecided_first : (ended : Bool) (bytes : List ℕ) (part : Part) → IsUndecided ended bytes → IsFirst ended bytes part → ⊥
+pub undecided_first : (ended : Bool) (bytes : List ℕ) (part : RunItem) → IsUndecided ended bytes → IsFirst ended bytes part → ⊥
 undecided_first ended bytes part wants first =
     let stands : Stands bytes part = subst (λ l. Stands l part) (append-nil bytes) (first [] (λ _. refl)) in
     elim wants [
       | inl nil ↦ nothing_stands part (subst (λ l. Stands l part) nil stands)
       | inr w ↦
-          let is : part ≡ Bad Ended = only_ended bytes part w.1 w.2 stands in
+          let is : part ≡ RefusedItem Ended = only_ended bytes part w.1 w.2 stands in
           let later : Stands (bytes ++ enough_more bytes) part = first (enough_more bytes) (λ t. absurd (false≢true (sym w.0 ∙ t))) in
           not_ended_more bytes (subst (λ x. Stands (bytes ++ enough_more bytes) x) is later).3.0
     ]
 
-pub stands_first : (ended : Bool) (bytes : List ℕ) (part : Part) → IsFirst ended bytes part → Stands bytes part
+pub stands_first : (ended : Bool) (bytes : List ℕ) (part : RunItem) → IsFirst ended bytes part → Stands bytes part
 stands_first ended bytes part first = subst (λ l. Stands l part) (append-nil bytes) (first [] (λ _. refl))
 
 -- what stands first is decided
-pub decided_first : (ended : Bool) (bytes : List ℕ) (part : Part) → AreBytes bytes → IsFirst ended bytes part → decided ended bytes ≡ Some part
+pub decided_first : (ended : Bool) (bytes : List ℕ) (part : RunItem) → AreBytes bytes → IsFirst ended bytes part → decided ended bytes ≡ Some part
 decided_first ended bytes part fits first = by_answer (decided ended bytes) refl
   where
-    by_answer : (o : Option Part) → decided ended bytes ≡ o → o ≡ Some part
+    by_answer : (o : Option RunItem) → decided ended bytes ≡ o → o ≡ Some part
     by_answer None is = absurd (undecided_first ended bytes part (undecided_none ended bytes is) first)
     by_answer (Some other) is =
         ap Some (one_item bytes other part (stands_first ended bytes other (first_decided ended bytes other fits is)) (stands_first ended bytes part first))
@@ -282,7 +282,7 @@ decided_first ended bytes part fits first = by_answer (decided ended bytes) refl
 pub none_undecided : (ended : Bool) (bytes : List ℕ) → AreBytes bytes → IsUndecided ended bytes → decided ended bytes ≡ None
 none_undecided ended bytes fits wants = by_answer (decided ended bytes) refl
   where
-    by_answer : (o : Option Part) → decided ended bytes ≡ o → o ≡ None
+    by_answer : (o : Option RunItem) → decided ended bytes ≡ o → o ≡ None
     by_answer None is = refl
     by_answer (Some other) is = absurd (undecided_first ended bytes other wants (first_decided ended bytes other fits is))
 
@@ -302,10 +302,10 @@ AreBytes-front bytes more fits place =
     ]
 
 -- what is first whatever comes is first with more after it
-pub first_more : (ended : Bool) (bytes more : List ℕ) (part : Part) → IsFirst false bytes part → IsFirst ended (bytes ++ more) part
+pub first_more : (ended : Bool) (bytes more : List ℕ) (part : RunItem) → IsFirst false bytes part → IsFirst ended (bytes ++ more) part
 first_more ended bytes more part first = λ later none.
     subst (λ l. Stands l part) (sym (append_assoc bytes more later)) (first (more ++ later) (λ t. absurd (false≢true t)))
 
-pub decided_more : (ended : Bool) (bytes more : List ℕ) (part : Part) → AreBytes (bytes ++ more) → decided false bytes ≡ Some part → decided ended (bytes ++ more) ≡ Some part
+pub decided_more : (ended : Bool) (bytes more : List ℕ) (part : RunItem) → AreBytes (bytes ++ more) → decided false bytes ≡ Some part → decided ended (bytes ++ more) ≡ Some part
 decided_more ended bytes more part fits is =
     decided_first ended (bytes ++ more) part fits (first_more ended bytes more part (first_decided false bytes part (AreBytes-front bytes more fits) is))

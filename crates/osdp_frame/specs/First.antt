@@ -3,17 +3,17 @@ use Rattle.std.specs.Prelude.{◌≡◌, ℕ, ◌≤◌, List, length, Option, S
 use Rattle.osdp_frame.specs.declared.first.First.{First}
 use Rattle.osdp_frame.specs.declared.first.First.TheVariants.{Packet, Skipped, Refused}
 use Rattle.osdp_frame.specs.Held.{packet_at}
-use Rattle.osdp_frame.specs.Reading.{Part, Whole, Passed, Bad, count_at, check_at, smallest}
+use Rattle.osdp_frame.specs.Reading.{RunItem, PacketItem, SkippedItem, RefusedItem, count_at, check_at, smallest}
 
 -- the item in these bytes
-abbrev pub part_in : First → List ℕ → Part
-part_in (Packet count) rest = Whole (packet_at rest)
-part_in (Skipped b) rest = Passed b
-part_in (Refused f) rest = Bad f
+abbrev pub item_in : First → List ℕ → RunItem
+item_in (Packet count) rest = PacketItem (packet_at rest)
+item_in (Skipped b) rest = SkippedItem b
+item_in (Refused f) rest = RefusedItem f
 
-abbrev pub part_if : Option First → List ℕ → Option Part
-part_if None rest = None
-part_if (Some first) rest = Some (part_in first rest)
+abbrev pub item_if : Option First → List ℕ → Option RunItem
+item_if None rest = None
+item_if (Some first) rest = Some (item_in first rest)
 
 -- a packet of so many bytes may stand at the head of the rest
 abbrev pub PacketFits : List ℕ → ℕ → Type 0

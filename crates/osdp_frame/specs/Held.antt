@@ -6,7 +6,7 @@ use Rattle.osdp_frame.specs.Check.{check_of, check_size}
 use Rattle.osdp_frame.specs.Packet.{Packet, largest}
 use Rattle.osdp_frame.specs.Packed.{packed}
 use Rattle.osdp_frame.specs.Spelling.{start_of_message}
-use Rattle.osdp_frame.specs.Reading.{Part, Whole, Passed, Bad, part_size, count_at, check_at, smallest}
+use Rattle.osdp_frame.specs.Reading.{RunItem, PacketItem, SkippedItem, RefusedItem, item_size, count_at, check_at, smallest}
 
 -- the bytes held, and whether the run has ended after them
 pub record Held : Type 0 where
@@ -27,19 +27,19 @@ is_checked rest =
     bytes_eq (slice_range rest checked (count_at rest)) (check_of (check_at rest) (take checked rest))
 
 -- what a byte 53 begins
-abbrev pub begun : Bool → List ℕ → Option Part
+abbrev pub begun : Bool → List ℕ → Option RunItem
 begun ended rest =
-    let at_end = if ended then Some (Bad Ended) else None in
+    let at_end = if ended then Some (RefusedItem Ended) else None in
     if nat_lt (length rest) 5 then at_end
-    else (if nat_lt (count_at rest) (smallest (check_at rest)) then Some (Bad TooShort)
-    else (if nat_lt largest (count_at rest) then Some (Bad TooLong)
+    else (if nat_lt (count_at rest) (smallest (check_at rest)) then Some (RefusedItem TooShort)
+    else (if nat_lt largest (count_at rest) then Some (RefusedItem TooLong)
     else (if nat_lt (length rest) (count_at rest) then at_end
-    else (if is_checked rest then Some (Whole (packet_at rest)) else Some (Bad BadCheck)))))
+    else (if is_checked rest then Some (PacketItem (packet_at rest)) else Some (RefusedItem BadCheck)))))
 
 -- the first item, where the bytes decide it
-unfoldable pub decided : Bool → List ℕ → Option Part
+unfoldable pub decided : Bool → List ℕ → Option RunItem
 decided ended [] = None
-decided ended (b ∷ bytes) = if b == start_of_message then begun ended (b ∷ bytes) else Some (Passed b)
+decided ended (b ∷ bytes) = if b == start_of_message then begun ended (b ∷ bytes) else Some (SkippedItem b)
 
 -- a new run, of which nothing has come
 abbrev pub new_run : Held
@@ -57,13 +57,13 @@ abbrev pub after_gap : Held → Held
 after_gap held = record held { ended = not (length held.bytes == 0) }
 
 -- after an item; an ended run whose last byte goes is a new one
-abbrev pub later : Held → Part → Held
+abbrev pub later : Held → RunItem → Held
 later held part =
-    let rest = drop (part_size part) held.bytes in
+    let rest = drop (item_size part) held.bytes in
     record { bytes = rest; ended = held.ended && not (length rest == 0) }
 
 -- after the first item, where it is decided
-abbrev pub after_first : Held → Option Part → Held
+abbrev pub after_first : Held → Option RunItem → Held
 after_first held None = held
 after_first held (Some part) = later held part
 
@@ -71,8 +71,8 @@ abbrev pub after_advance : Held → Held
 after_advance held = after_first held (decided held.ended held.bytes)
 
 -- of an item that is decided: where its own bytes alone decide it, as they do a packet and a skipped byte
-abbrev pub by_itself : Option Part → Option Part
+abbrev pub by_itself : Option RunItem → Option RunItem
 by_itself None = None
-by_itself (Some (Whole p)) = Some (Whole p)
-by_itself (Some (Passed b)) = Some (Passed b)
-by_itself (Some (Bad f)) = None
+by_itself (Some (PacketItem p)) = Some (PacketItem p)
+by_itself (Some (SkippedItem b)) = Some (SkippedItem b)
+by_itself (Some (RefusedItem f)) = None

@@ -1,21 +1,21 @@
 -- The items that bytes decide, one after the other.
 use Rattle.std.specs.Prelude.{ℕ, zero, suc, Bool, true, false, List, [], ◌∷◌, length, drop}
 use Rattle.std.specs.Option.{option_map_or}
-use Rattle.osdp_frame.specs.Reading.{Part, part_size, total_size, IsFirst, IsUndecided}
+use Rattle.osdp_frame.specs.Reading.{RunItem, item_size, total_size, IsFirst, IsUndecided}
 use Rattle.osdp_frame.specs.Held.{decided}
 
 -- at most `most` of them
-abbrev pub items_within : ℕ → Bool → List ℕ → List Part
+abbrev pub items_within : ℕ → Bool → List ℕ → List RunItem
 items_within zero ended bytes = []
 items_within (suc most) ended bytes =
-    option_map_or (λ part. part ∷ items_within most ended (drop (part_size part) bytes)) (decided ended bytes) []
+    option_map_or (λ part. part ∷ items_within most ended (drop (item_size part) bytes)) (decided ended bytes) []
 
 -- all of them: each takes a byte or more
-unfoldable pub items : Bool → List ℕ → List Part
+unfoldable pub items : Bool → List ℕ → List RunItem
 items ended bytes = items_within (length bytes) ended bytes
 
 -- the reading of a run, as a function of it
-abbrev pub reading : List ℕ → List Part
+abbrev pub reading : List ℕ → List RunItem
 reading run = items true run
 
 -- what is left after the items that bytes decide in a run that goes on
@@ -23,7 +23,7 @@ unfoldable pub left_over : List ℕ → List ℕ
 left_over bytes = drop (total_size (items false bytes)) bytes
 
 -- what a caller sees who takes item after item off until none is shown
-abbrev pub Drains : Bool → List ℕ → List Part → Type 0
+abbrev pub Drains : Bool → List ℕ → List RunItem → Type 0
 Drains ended bytes [] = IsUndecided ended bytes
 Drains ended bytes (part ∷ parts) =
-    IsFirst ended bytes part × Drains ended (drop (part_size part) bytes) parts
+    IsFirst ended bytes part × Drains ended (drop (item_size part) bytes) parts

@@ -9,21 +9,21 @@ use Rattle.osdp_frame.specs.Packet.{Packet, largest, packet_length}
 use Rattle.osdp_frame.specs.Spelling.{Spells, start_of_message}
 
 -- one item of a reading: a packet, a byte that cannot begin one, or a byte 53 that begins none
-pub data Part : Type 0 where
-  Whole : Packet → Part
-  Passed : ℕ → Part
-  Bad : FrameFault → Part
+pub data RunItem : Type 0 where
+  PacketItem : Packet → RunItem
+  SkippedItem : ℕ → RunItem
+  RefusedItem : FrameFault → RunItem
 
 -- how many bytes of the run an item takes
-abbrev pub part_size : Part → ℕ
-part_size (Whole p) = packet_length p
-part_size (Passed b) = 1
-part_size (Bad f) = 1
+abbrev pub item_size : RunItem → ℕ
+item_size (PacketItem p) = packet_length p
+item_size (SkippedItem b) = 1
+item_size (RefusedItem f) = 1
 
 -- how many bytes items take together
-abbrev pub total_size : List Part → ℕ
+abbrev pub total_size : List RunItem → ℕ
 total_size [] = 0
-total_size (part ∷ parts) = part_size part + total_size parts
+total_size (part ∷ parts) = item_size part + total_size parts
 
 -- the packet stands at the head of the rest
 pub record Begins (p : Packet) (rest : List ℕ) : Type 0 where
@@ -68,20 +68,20 @@ IsFirstFault BadCheck rest =
     × (HasFault Ended rest → ⊥)
 
 -- the item that stands first in the rest of a run
-abbrev pub Stands : List ℕ → Part → Type 0
-Stands rest (Whole p) = Begins p rest
-Stands rest (Passed b) = (after : List ℕ) × (rest ≡ b ∷ after) × (b ≢ start_of_message)
-Stands rest (Bad f) =
+abbrev pub Stands : List ℕ → RunItem → Type 0
+Stands rest (PacketItem p) = Begins p rest
+Stands rest (SkippedItem b) = (after : List ℕ) × (rest ≡ b ∷ after) × (b ≢ start_of_message)
+Stands rest (RefusedItem f) =
     (after : List ℕ) × (rest ≡ start_of_message ∷ after) × ((p : Packet) → Begins p rest → ⊥)
     × IsFirstFault f rest
 
 -- the reading of a run: item by item, each going on after the one before
-abbrev pub IsReading : List ℕ → List Part → Type 0
+abbrev pub IsReading : List ℕ → List RunItem → Type 0
 IsReading rest [] = rest ≡ []
-IsReading rest (part ∷ parts) = Stands rest part × IsReading (drop (part_size part) rest) parts
+IsReading rest (part ∷ parts) = Stands rest part × IsReading (drop (item_size part) rest) parts
 
 -- the item that stands first in every run that begins with these bytes, or in the run that is these bytes
-abbrev pub IsFirst : Bool → List ℕ → Part → Type 0
+abbrev pub IsFirst : Bool → List ℕ → RunItem → Type 0
 IsFirst ended bytes part =
     (more : List ℕ) → (IsTrue ended → more ≡ []) → Stands (bytes ++ more) part
 

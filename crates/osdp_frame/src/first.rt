@@ -6,7 +6,7 @@ ghost use Rattle.osdp_frame.specs.Held.{begun, decided, is_checked, packet_at};
 ghost use Rattle.osdp_frame.specs.Reading.{check_at, count_at};
 ghost use Rattle.osdp_frame.specs.Check.{check_of, check_size};
 ghost use Rattle.osdp_frame.specs.Packet.{IsPacket};
-ghost use Rattle.osdp_frame.specs.First.{part_if, FirstFits, PacketFits};
+ghost use Rattle.osdp_frame.specs.First.{item_if, FirstFits, PacketFits};
 
 use crate::buffer::Buffer;
 use crate::bytes::{HEAD, LARGEST, START_OF_MESSAGE, check_bytes};
@@ -106,7 +106,7 @@ pub fn packet_at(rest: &[u8], length: usize) -> FrameView<'_>
 fn begun(rest: &[u8], held: Option<&Buffer>, ended: bool) -> Option<First>
     requires some { 1 ≤ length rest.now }
     requires held { IfSome held (λ buffer. buffer.now.bytes ≡ rest.now) }
-    ensures part { part_if result rest.now ≡ begun ended rest.now }
+    ensures part { item_if result rest.now ≡ begun ended rest.now }
     ensures fits { FirstFits rest.now result }
 {
     let at_end = if ended {
@@ -141,7 +141,7 @@ fn begun(rest: &[u8], held: Option<&Buffer>, ended: bool) -> Option<First>
 #[tactic(auto, unfolding(crate::specs::Held::decided))]
 pub fn first_item(rest: &[u8], held: Option<&Buffer>, ended: bool) -> Option<First>
     requires { IfSome held (λ buffer. buffer.now.bytes ≡ rest.now) }
-    ensures part { part_if result rest.now ≡ decided ended rest.now }
+    ensures part { item_if result rest.now ≡ decided ended rest.now }
     ensures fits { FirstFits rest.now result }
 {
     match rest {

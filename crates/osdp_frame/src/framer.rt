@@ -2,7 +2,7 @@
 
 ghost use Rattle.std.specs.Prelude.{◌≡◌, ◌==◌, ◌↔◌, ◌≤◌, ◌+◌, ◌-◌, ◌<◌, Bool, false, true, IsNone, IfSome, length, take, ◌++◌};
 ghost use Rattle.std.specs.Option.{option_map};
-ghost use Rattle.osdp_frame.specs.First.{FirstFits, part_if};
+ghost use Rattle.osdp_frame.specs.First.{FirstFits, item_if};
 ghost use Rattle.osdp_frame.specs.Held.{after_advance, after_gap, after_push, decided, new_run, taken_count};
 ghost use Rattle.osdp_frame.specs.Reading.{IsFirst, IsUndecided};
 
@@ -43,7 +43,7 @@ impl Model for Framer {
 }
 
 impl Framer {
-    ghost use Rattle.osdp_frame.specs.Shown.{part_of};
+    ghost use Rattle.osdp_frame.specs.Shown.{item_of};
 
     /// A framer that holds nothing, at the beginning of a run.
     #[tactic(auto, unfolding(crate::specs::Held::decided))]
@@ -67,8 +67,8 @@ impl Framer {
     /// The next item, where the bytes held decide it. It changes nothing: `advance` takes the item
     /// off. None where no byte is held, or where bytes to come decide what a byte 53 begins.
     pub fn next(&self) -> Option<Item<'_>>
-        ensures shown { option_map part_of result ≡ decided self.now.ended self.now.bytes }
-        ensures first { IfSome result (λ item. IsFirst self.now.ended self.now.bytes (part_of item)) }
+        ensures shown { option_map item_of result ≡ decided self.now.ended self.now.bytes }
+        ensures first { IfSome result (λ item. IsFirst self.now.ended self.now.bytes (item_of item)) }
         ensures none { IsNone result ↔ IsUndecided self.now.ended self.now.bytes }
         ensures room { length self.now.bytes ≤ 1440 }
     {
@@ -132,7 +132,7 @@ impl Default for Framer {
 /// is a wrong one, the running checks go over these bytes too, since packets may begin within them.
 fn first_held(held: &mut Buffer, ended: bool) -> Option<First>
     ensures same { held.new.bytes ≡ held.old.bytes }
-    ensures part { part_if result held.new.bytes ≡ decided ended held.new.bytes }
+    ensures part { item_if result held.new.bytes ≡ decided ended held.new.bytes }
     ensures fits { FirstFits held.new.bytes result }
 {
     if held.run() > 0 {
@@ -150,7 +150,7 @@ fn first_held(held: &mut Buffer, ended: bool) -> Option<First>
 #[inline(never)]
 fn first_run(held: &mut Buffer, ended: bool) -> Option<First>
     ensures same { held.new.bytes ≡ held.old.bytes }
-    ensures part { part_if result held.new.bytes ≡ decided ended held.new.bytes }
+    ensures part { item_if result held.new.bytes ≡ decided ended held.new.bytes }
     ensures fits { FirstFits held.new.bytes result }
 {
     let count = long_count(held.bytes());
@@ -182,10 +182,10 @@ fn decided_again(
     ended: bool,
 ) -> Option<First>
     requires count { count ≤ length held.old.bytes }
-    requires first { part_if first (take count held.old.bytes) ≡ decided false (take count held.old.bytes) }
+    requires first { item_if first (take count held.old.bytes) ≡ decided false (take count held.old.bytes) }
     requires fits { FirstFits (take count held.old.bytes) first }
     ensures same { held.new.bytes ≡ held.old.bytes }
-    ensures part { part_if result held.new.bytes ≡ decided ended held.new.bytes }
+    ensures part { item_if result held.new.bytes ≡ decided ended held.new.bytes }
     ensures fits { FirstFits held.new.bytes result }
 {
     are_bytes(held.bytes());

@@ -1,9 +1,9 @@
 //! The items of a run's reading, as callers see them.
 
 ghost use Rattle.std.specs.Prelude.{◌≡◌, ◌<◌, ◌≤◌, ℕ, Bool, List, Some, true, length};
-ghost use Rattle.osdp_frame.specs.First.{FirstFits, part_if, part_in};
+ghost use Rattle.osdp_frame.specs.First.{FirstFits, item_if, item_in};
 ghost use Rattle.osdp_frame.specs.Held.{decided};
-ghost use Rattle.osdp_frame.specs.Reading.{part_size};
+ghost use Rattle.osdp_frame.specs.Reading.{item_size};
 
 use crate::bytes::HEAD;
 use crate::first::{First, packet_at};
@@ -21,11 +21,11 @@ pub enum Item<'a> {
 }
 
 impl Item<'_> {
-    ghost use Rattle.osdp_frame.specs.Shown.{part_of};
+    ghost use Rattle.osdp_frame.specs.Shown.{item_of};
 
     /// How many bytes of the run it takes: those of the packet, else 1.
     pub fn size(&self) -> usize
-        ensures { result ≡ part_size (part_of self.now) }
+        ensures { result ≡ item_size (item_of self.now) }
     {
         match self {
             Item::Packet(packet) => HEAD + packet.body().len() + packet.check().size(),
@@ -35,11 +35,11 @@ impl Item<'_> {
 }
 
 impl First {
-    ghost use Rattle.osdp_frame.specs.Shown.{part_of};
+    ghost use Rattle.osdp_frame.specs.Shown.{item_of};
 
     /// How many bytes it takes of those that it stands in.
     pub(crate) fn size(&self) -> usize
-        ensures size { (rest : List ℕ) → FirstFits rest (Some self.now) → part_size (part_in self.now rest) ≡ result }
+        ensures size { (rest : List ℕ) → FirstFits rest (Some self.now) → item_size (item_in self.now rest) ≡ result }
         ensures within { (rest : List ℕ) → FirstFits rest (Some self.now) → result ≤ length rest }
     {
         match self {
@@ -51,8 +51,8 @@ impl First {
     /// The item, shown in the bytes of which it is the first.
     pub(crate) fn shown<'a>(&self, rest: &'a [u8]) -> Item<'a>
         requires fits { FirstFits rest.now (Some self.now) }
-        requires decided { (ended : Bool) × (Some (part_in self.now rest.now) ≡ decided ended rest.now) }
-        ensures { part_of result ≡ part_in self.now rest.now }
+        requires decided { (ended : Bool) × (Some (item_in self.now rest.now) ≡ decided ended rest.now) }
+        ensures { item_of result ≡ item_in self.now rest.now }
     {
         match self {
             First::Packet(length) => Item::Packet(packet_at(rest, *length)),

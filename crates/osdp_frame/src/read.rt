@@ -3,8 +3,8 @@
 ghost use Rattle.std.specs.Prelude.{◌≡◌, ◌<◌, false, IfSome, length, take, drop};
 ghost use Rattle.std.specs.Option.{option_map};
 ghost use Rattle.osdp_frame.specs.Held.{by_itself, decided};
-ghost use Rattle.osdp_frame.specs.Reading.{IsFirst, Stands, part_size};
-ghost use Rattle.osdp_frame.specs.Shown.{part_of, part_read};
+ghost use Rattle.osdp_frame.specs.Reading.{IsFirst, Stands, item_size};
+ghost use Rattle.osdp_frame.specs.Shown.{item_of, item_read};
 
 use crate::bytes::are_bytes;
 use crate::first::{First, first_item};
@@ -25,7 +25,7 @@ pub enum ReadItem {
 /// The item of `run` at `place`, where the reading has come to it. The run ends with the slice.
 pub fn read_at(run: &[u8], place: usize) -> ReadItem
     requires { place < length run.now }
-    ensures { Stands (drop place run.now) (part_read result) }
+    ensures { Stands (drop place run.now) (item_read result) }
 {
     let rest = &run[place..];
     are_bytes(rest);
@@ -39,8 +39,8 @@ pub fn read_at(run: &[u8], place: usize) -> ReadItem
 /// with its bytes. None where no byte is there, where a refused byte is, or where bytes to come decide.
 #[inline(always)]
 pub fn whole_item(bytes: &[u8]) -> Option<Item<'_>>
-    ensures shown { option_map part_of result ≡ by_itself (decided false bytes.now) }
-    ensures first { IfSome result (λ item. IsFirst false (take (part_size (part_of item)) bytes.now) (part_of item)) }
+    ensures shown { option_map item_of result ≡ by_itself (decided false bytes.now) }
+    ensures first { IfSome result (λ item. IsFirst false (take (item_size (item_of item)) bytes.now) (item_of item)) }
 {
     are_bytes(bytes);
     let first = first_item(bytes, None, false)?;
@@ -53,7 +53,7 @@ pub fn whole_item(bytes: &[u8]) -> Option<Item<'_>>
 impl Item<'_> {
     /// The same item with a packet of its own.
     pub fn into_owned(self) -> ReadItem
-        ensures { part_read result ≡ part_of self.entry }
+        ensures { item_read result ≡ item_of self.entry }
     {
         match self {
             Item::Packet(packet) => ReadItem::Packet(packet.to_frame()),

@@ -8,7 +8,7 @@ use Rattle.std.proofs.lemmas.List.{length-append, length-drop, append-nil, drop-
 use Rattle.std.proofs.lemmas.List.Elements.{All-nil, All-cons, All-head, All-tail}
 use Rattle.osdp_frame.specs.Bytes.{AreBytes}
 use Rattle.osdp_frame.specs.Packet.{largest}
-use Rattle.osdp_frame.specs.Reading.{Part, part_size, total_size, Stands, IsReading, IsFirst}
+use Rattle.osdp_frame.specs.Reading.{RunItem, item_size, total_size, Stands, IsReading, IsFirst}
 use Rattle.osdp_frame.specs.Items.{reading}
 use Rattle.osdp_frame.specs.Held.{Held, after_gap, after_push, after_first, decided, new_run, taken_count}
 use Rattle.osdp_frame_laws.specs.Calls.{Call, Push, Gap, Advance, IsAfter, IsOfBytes, IsRead, ReadsEachRun, ReadsOn, Run, after_call, after_calls, bytes_taken, empty_run, is_over, items_taken, last_run, run_after, runs_over}
@@ -16,7 +16,7 @@ use Rattle.osdp_frame.proofs.Head.{AreBytes-drop, AreBytes-take}
 use Rattle.osdp_frame.proofs.Decided.{first_decided, stands_first, undecided_none, AreBytes-front, undecided_ended}
 use Rattle.osdp_frame_laws.proofs.LeftOver.{total_size-append}
 use Rattle.osdp_frame_laws.proofs.LawsOfSpellings.{AreBytes-append, AreBytes-nil}
-use Rattle.osdp_frame_laws.proofs.Readings.{is_reading, one_reading, part_size-Stands, sizes_reading, undecided_small}
+use Rattle.osdp_frame_laws.proofs.Readings.{is_reading, one_reading, item_size-Stands, sizes_reading, undecided_small}
 
 pub new_after : IsAfter new_run empty_run
 new_after = record { ended = refl; not_over = refl; left = refl; reads = λ more others none r. r }
@@ -104,7 +104,7 @@ not_zero : (n : ℕ) → 0 < n → not (eqb n 0) ≡ true
 not_zero n h = grind (arith, nat_tests)
 
 -- at the end of what is held the reading is over
-read_whole : (held : Held) (run : Run) (others : List Part) → IsAfter held run → IsReading held.bytes others
+read_whole : (held : Held) (run : Run) (others : List RunItem) → IsAfter held run → IsReading held.bytes others
     → IsReading run.bytes (run.parts ++ others)
 read_whole held run others b r =
     subst (λ l. IsReading l (run.parts ++ others)) (append-nil run.bytes)
@@ -137,17 +137,17 @@ advance_reads held run b fits =
     let r = by_item (decided held.ended held.bytes) refl in
     record { on = r.0; over = r.1; new = r.2 }
   where
-    next : Option Part → Run
+    next : Option RunItem → Run
     next o = record run { parts = run.parts ++ option_to_list o }
 
     -- a run's end, or its next item
-    Reads : Option Part → Type 0
+    Reads : Option RunItem → Type 0
     Reads o =
         (is_over (next o) ≡ false → IsAfter (after_first held o) (next o))
         × (is_over (next o) ≡ true → IsReading run.bytes (next o).parts)
         × (is_over (next o) ≡ true → after_first held o ≡ new_run)
 
-    by_item : (o : Option Part) → decided held.ended held.bytes ≡ o → Reads o
+    by_item : (o : Option RunItem) → decided held.ended held.bytes ≡ o → Reads o
     by_item None is =
         let same : run.parts ++ [] ≡ run.parts = append-nil run.parts in
         let never : is_over (next None) ≡ true → ⊥ =
@@ -157,12 +157,12 @@ advance_reads held run b fits =
           λ over. absurd (never over),
         )
     by_item (Some part) is =
-        let k = part_size part in
+        let k = item_size part in
         let rest = drop k held.bytes in
         let first : IsFirst held.ended held.bytes part =
         first_decided held.ended held.bytes part (AreBytes-held held run b fits) is in
         let stands : Stands held.bytes part = stands_first held.ended held.bytes part first in
-        let short : k ≤ length held.bytes = part_size-Stands held.bytes part stands in
+        let short : k ≤ length held.bytes = item_size-Stands held.bytes part stands in
         let total : total_size run.parts + k ≡ total_size (run.parts ++ part ∷ []) =
         omega (arith, total_size-append run.parts (part ∷ [])) in
         let size : total_size (run.parts ++ part ∷ []) + length rest ≡ length run.bytes =
@@ -294,7 +294,7 @@ taken_in-calls (Push given) calls held = refl
 taken_in-calls Gap calls held = refl
 taken_in-calls Advance calls held = refl
 
-taken_off : Call → Held → List Part
+taken_off : Call → Held → List RunItem
 taken_off (Push given) held = []
 taken_off Gap held = []
 taken_off Advance held = option_to_list (decided held.ended held.bytes)
@@ -325,9 +325,9 @@ reads_each_run calls of_bytes =
 
 -- ---- what a run may become
 
-pub items_begin : (held : Held) (run : Run) (more : List ℕ) (all : List Part) → IsAfter held run → AreBytes (run.bytes ++ more)
+pub items_begin : (held : Held) (run : Run) (more : List ℕ) (all : List RunItem) → IsAfter held run → AreBytes (run.bytes ++ more)
     → (IsTrue run.ended → more ≡ []) → IsReading (run.bytes ++ more) all
-    → (others : List Part) × (all ≡ run.parts ++ others) × IsReading (held.bytes ++ more) others
+    → (others : List RunItem) × (all ≡ run.parts ++ others) × IsReading (held.bytes ++ more) others
 items_begin held run more all b fits nothing r =
     let front = AreBytes-front run.bytes more fits in
     let left : drop (total_size run.parts) (run.bytes ++ more) ≡ held.bytes ++ more =
@@ -365,9 +365,9 @@ keeps_room (Push given) held room = omega (arith, length-pushed held given, coun
 keeps_room Gap held room = room
 keeps_room Advance held room = by_item (decided held.ended held.bytes)
   where
-    by_item : (o : Option Part) → length (after_first held o).bytes ≤ largest
+    by_item : (o : Option RunItem) → length (after_first held o).bytes ≤ largest
     by_item None = room
-    by_item (Some part) = omega (arith, length-drop (part_size part) held.bytes)
+    by_item (Some part) = omega (arith, length-drop (item_size part) held.bytes)
 
 pub takes_all : (held : Held) (given : List ℕ) → held.ended ≡ false → length held.bytes ≤ largest
     → taken_count held given < length given → length (after_push held given).bytes ≡ largest

@@ -10,7 +10,7 @@ use Rattle.osdp_frame.specs.Bytes.{AreBytes}
 use Rattle.osdp_frame.specs.Check.{check_of}
 use Rattle.osdp_frame.specs.Packet.{Packet, IsPacket, packet_length}
 use Rattle.osdp_frame.specs.Spelling.{Spells, front, address_byte, control_byte, crc_bit}
-use Rattle.osdp_frame.specs.Reading.{Whole, IsReading}
+use Rattle.osdp_frame.specs.Reading.{PacketItem, IsReading}
 use Rattle.osdp_frame.proofs.Spelled.{length-spelled}
 
 AreBytes-cons : (b : ℕ) (bytes : List ℕ) → b < 256 → AreBytes bytes → AreBytes (b ∷ bytes)
@@ -65,7 +65,7 @@ AreBytes-Spells p bytes s =
     let whole = AreBytes-front p n s.fits le in
     subst (λ l. AreBytes l) (sym s.whole) (AreBytes-append (front p n) (check_of p.check (front p n)) whole (AreBytes-check_of p.check (front p n) whole))
 
-pub IsReading-Spells : (p : Packet) (bytes : List ℕ) → Spells p bytes → IsReading bytes (Whole p ∷ [])
+pub IsReading-Spells : (p : Packet) (bytes : List ℕ) → Spells p bytes → IsReading bytes (PacketItem p ∷ [])
 IsReading-Spells p bytes s = (
   record { bytes = bytes; after = []; spelled = s; parts = sym (append-nil bytes) },
   drop_all (packet_length p) bytes (omega (arith, length-spelled p bytes s)),

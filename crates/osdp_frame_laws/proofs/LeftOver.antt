@@ -3,7 +3,7 @@ use Rattle.std.proofs.Common.{◌≡◌, ℕ, ◌+◌, ◌-◌, ◌<◌, ◌≤�
 use Rattle.std.proofs.lemmas.Bool.{ne_eqb}
 use Rattle.std.proofs.lemmas.List.{append-nil, drop-append-le, drop-drop}
 use Rattle.osdp_frame.specs.Bytes.{AreBytes}
-use Rattle.osdp_frame.specs.Reading.{Part, part_size, total_size}
+use Rattle.osdp_frame.specs.Reading.{RunItem, item_size, total_size}
 use Rattle.osdp_frame.specs.Held.{Held, decided, later, taken_count}
 use Rattle.osdp_frame.specs.Items.{items, reading, left_over}
 use Rattle.osdp_frame.proofs.Head.{AreBytes-drop}
@@ -13,7 +13,7 @@ use Rattle.osdp_frame_laws.proofs.Readings.{decided_nothing, items_undecided, it
 pub items_nothing : (ended : Bool) → items ended [] ≡ []
 items_nothing ended = items_undecided ended [] (decided_nothing ended)
 
-pub total_size-append : (xs ys : List Part) → total_size (xs ++ ys) ≡ total_size xs + total_size ys
+pub total_size-append : (xs ys : List RunItem) → total_size (xs ++ ys) ≡ total_size xs + total_size ys
 total_size-append [] ys = omega arith
 total_size-append (x ∷ xs) ys = omega (arith, total_size-append xs ys)
 
@@ -75,8 +75,8 @@ gap_some [] e = absurd cc
 gap_some (b ∷ bytes) e = omega arith
 
 -- .. and after an item, too, a run that has ended holds a byte
-pub later_some : (held : Held) (part : Part) → (later held part).ended ≡ true → 0 < length (later held part).bytes
-later_some held part = by_rest held.ended (drop (part_size part) held.bytes)
+pub later_some : (held : Held) (part : RunItem) → (later held part).ended ≡ true → 0 < length (later held part).bytes
+later_some held part = by_rest held.ended (drop (item_size part) held.bytes)
   where
     by_rest : (ended : Bool) (rest : List ℕ) → (ended && not (length rest == 0)) ≡ true → 0 < length rest
     by_rest true [] e = absurd cc

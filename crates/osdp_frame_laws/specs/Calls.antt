@@ -2,7 +2,7 @@
 use Rattle.std.specs.Prelude.{◌≡◌, ℕ, Bool, IsTrue, true, false, ◌&&◌, ◌==◌, if◌then◌else◌, All, List, [], ◌∷◌, ◌++◌, length, take, drop, option_to_list}
 use Rattle.std.specs.List.{flat_map}
 use Rattle.osdp_frame.specs.Bytes.{AreBytes}
-use Rattle.osdp_frame.specs.Reading.{Part, total_size, IsReading}
+use Rattle.osdp_frame.specs.Reading.{RunItem, total_size, IsReading}
 use Rattle.osdp_frame.specs.Held.{Held, after_advance, after_gap, after_push, decided, new_run, taken_count}
 
 -- a call that may change what is held
@@ -19,7 +19,7 @@ after_call Advance held = after_advance held
 -- what a caller knows of a run: the bytes that were taken in, the items that were taken off, and whether it has ended
 pub record Run : Type 0 where
   pub bytes : List ℕ
-  pub parts : List Part
+  pub parts : List RunItem
   pub ended : Bool
 
 abbrev pub empty_run : Run
@@ -45,7 +45,7 @@ pub record IsAfter (held : Held) (run : Run) : Type 0 where
   pub ended : held.ended ≡ run.ended
   pub not_over : is_over run ≡ false
   pub left : held.bytes ≡ drop (total_size run.parts) run.bytes
-  pub reads : (more : List ℕ) (others : List Part) → (IsTrue run.ended → more ≡ [])
+  pub reads : (more : List ℕ) (others : List RunItem) → (IsTrue run.ended → more ≡ [])
       → IsReading (held.bytes ++ more) others → IsReading (run.bytes ++ more) (run.parts ++ others)
 
 -- after a call what is held stands after the run, or else the run is over, its items are its reading, and a new run begins
@@ -83,7 +83,7 @@ bytes_taken (Push given ∷ calls) held = take (taken_count held given) given ++
 bytes_taken (call ∷ calls) held = bytes_taken calls (after_call call held)
 
 -- the items that they take off
-abbrev pub items_taken : List Call → Held → List Part
+abbrev pub items_taken : List Call → Held → List RunItem
 items_taken [] held = []
 items_taken (Advance ∷ calls) held =
     option_to_list (decided held.ended held.bytes) ++ items_taken calls (after_advance held)

@@ -7,7 +7,7 @@ ghost use Rattle.byteorder.specs.Endian.{little_number};
 ghost use Rattle.osdp_frame.specs.Bytes.{AreBytes};
 ghost use Rattle.osdp_frame.specs.Packet.{IsPacket, Packet, largest};
 ghost use Rattle.osdp_frame.specs.Spelling.{Spells, spelling};
-ghost use Rattle.osdp_frame.specs.Reading.{IsFirst, IsReading, IsUndecided, Part, Stands, Whole, total_size};
+ghost use Rattle.osdp_frame.specs.Reading.{IsFirst, IsReading, IsUndecided, RunItem, Stands, PacketItem, total_size};
 ghost use Rattle.osdp_frame_laws.specs.Calls.{Call, IsAfter, IsOfBytes, ReadsEachRun, ReadsOn, Run, after_call, empty_run};
 ghost use Rattle.osdp_frame.specs.Held.{Held, after_advance, after_push, decided, new_run, taken_count};
 ghost use Rattle.osdp_frame.specs.Items.{Drains, items, left_over, reading};
@@ -38,36 +38,36 @@ pub fn one_number()
 
 /// At most one item stands first in the rest of a run, and each rest has one.
 pub fn one_item()
-    ensures one { (rest : List ℕ) (a b : Part) → Stands rest a → Stands rest b → a ≡ b }
-    ensures some { (b : ℕ) (rest : List ℕ) → AreBytes (b ∷ rest) → (part : Part) × Stands (b ∷ rest) part }
+    ensures one { (rest : List ℕ) (a b : RunItem) → Stands rest a → Stands rest b → a ≡ b }
+    ensures some { (b : ℕ) (rest : List ℕ) → AreBytes (b ∷ rest) → (part : RunItem) × Stands (b ∷ rest) part }
 {}
 
 /// Each run of bytes has exactly one reading.
 pub fn one_reading()
-    ensures one { (run : List ℕ) (xs ys : List Part) → IsReading run xs → IsReading run ys → xs ≡ ys }
+    ensures one { (run : List ℕ) (xs ys : List RunItem) → IsReading run xs → IsReading run ys → xs ≡ ys }
     ensures some { (run : List ℕ) → AreBytes run → IsReading run (reading run) }
 {}
 
 /// The sizes of the items add up to the length of the run.
 pub fn sizes_of_reading()
-    ensures { (run : List ℕ) (parts : List Part) → IsReading run parts → total_size parts ≡ length run }
+    ensures { (run : List ℕ) (parts : List RunItem) → IsReading run parts → total_size parts ≡ length run }
 {}
 
 /// A reading goes on from each place by the rest alone.
 pub fn rest_of_reading()
-    ensures { (run : List ℕ) (front back : List Part) → IsReading run (front ++ back)
+    ensures { (run : List ℕ) (front back : List RunItem) → IsReading run (front ++ back)
         → IsReading (drop (total_size front) run) back }
 {}
 
 /// A run that is a spelling is read as its packet alone.
 pub fn reading_of_spelling()
-    ensures { (p : Packet) (bytes : List ℕ) → Spells p bytes → IsReading bytes (Whole p ∷ []) }
+    ensures { (p : Packet) (bytes : List ℕ) → Spells p bytes → IsReading bytes (PacketItem p ∷ []) }
 {}
 
 /// Bytes decide the first item exactly where it stands first in every run that begins with them, or in
 /// the run that is them; else it depends on bytes to come.
 pub fn first_item_decided()
-    ensures some { (ended : Bool) (bytes : List ℕ) (part : Part) → AreBytes bytes
+    ensures some { (ended : Bool) (bytes : List ℕ) (part : RunItem) → AreBytes bytes
         → (decided ended bytes ≡ Some part) ↔ IsFirst ended bytes part }
     ensures none { (ended : Bool) (bytes : List ℕ) → AreBytes bytes
         → (decided ended bytes ≡ None) ↔ IsUndecided ended bytes }
@@ -84,20 +84,20 @@ pub fn items_in_pieces()
 /// A caller who takes off what is shown until nothing is sees the reading of a run that has ended, and
 /// in a run that goes on a beginning of the reading of all that it may become.
 pub fn items_taken_off()
-    ensures ended { (run : List ℕ) (parts : List Part) → Drains true run parts ↔ IsReading run parts }
-    ensures items { (ended : Bool) (bytes : List ℕ) (parts : List Part) → AreBytes bytes
+    ensures ended { (run : List ℕ) (parts : List RunItem) → Drains true run parts ↔ IsReading run parts }
+    ensures items { (ended : Bool) (bytes : List ℕ) (parts : List RunItem) → AreBytes bytes
         → Drains ended bytes parts → parts ≡ items ended bytes }
-    ensures beginning { (bytes more : List ℕ) (parts all : List Part) → AreBytes (bytes ++ more)
+    ensures beginning { (bytes more : List ℕ) (parts all : List RunItem) → AreBytes (bytes ++ more)
         → Drains false bytes parts → IsReading (bytes ++ more) all
-        → (others : List Part) × (all ≡ parts ++ others) }
+        → (others : List RunItem) × (all ≡ parts ++ others) }
 {}
 
 /// Of the items that held bytes decide an advance takes off the first, and leaves the others: each is one byte or more.
 pub fn items_one_by_one()
-    ensures first { (held : Held) (part : Part) → decided held.ended held.bytes ≡ Some part
+    ensures first { (held : Held) (part : RunItem) → decided held.ended held.bytes ≡ Some part
         → items held.ended held.bytes ≡ part ∷ items (after_advance held).ended (after_advance held).bytes }
     ensures none { (held : Held) → decided held.ended held.bytes ≡ None → items held.ended held.bytes ≡ [] }
-    ensures fewer { (held : Held) (part : Part) → decided held.ended held.bytes ≡ Some part
+    ensures fewer { (held : Held) (part : RunItem) → decided held.ended held.bytes ≡ Some part
         → length (after_advance held).bytes < length held.bytes }
 {}
 
@@ -114,9 +114,9 @@ pub fn reads_on()
 /// may become.
 pub fn reads_each_run()
     ensures each { (calls : List Call) → All IsOfBytes calls → ReadsEachRun calls }
-    ensures beginning { (held : Held) (run : Run) (more : List ℕ) (all : List Part) → IsAfter held run
+    ensures beginning { (held : Held) (run : Run) (more : List ℕ) (all : List RunItem) → IsAfter held run
         → AreBytes (run.bytes ++ more) → (IsTrue run.ended → more ≡ []) → IsReading (run.bytes ++ more) all
-        → (others : List Part) × (all ≡ run.parts ++ others) × IsReading (held.bytes ++ more) others }
+        → (others : List RunItem) × (all ≡ run.parts ++ others) × IsReading (held.bytes ++ more) others }
 {}
 
 /// No more bytes than 1440 are held. A push in a run that goes on takes as many bytes as there is room for, and where

@@ -7,7 +7,7 @@ use Rattle.osdp_device.specs.Status.{status_after, status_answer}
 use Rattle.osdp_device.specs.Telling.{after_items, items_of, listed, said_to_all}
 use Rattle.osdp_device.specs.declared.status.DeviceStatus.{DeviceStatus}
 use Rattle.osdp_frame.specs.Items.{items}
-use Rattle.osdp_frame.specs.Reading.{Part, Whole, Passed, Bad}
+use Rattle.osdp_frame.specs.Reading.{RunItem, PacketItem, SkippedItem, RefusedItem}
 use Rattle.osdp_line_streams.specs.Answers.{Speaks, heard}
 use Rattle.osdp_reader.specs.State.{ReaderState}
 use Rattle.osdp_reader_calls.specs.declared.call.ReaderCall.{ReaderCall}
@@ -44,27 +44,27 @@ record Comes (r : Reader) (h : Heard DeviceStatus) : Type 0 where
   reader : h.reader ≡ after_steps steps r
   text : all_lines h.said ≡ steps_text steps r
 
-packets : List Part → List Step
+packets : List RunItem → List Step
 packets [] = []
-packets (Whole p ∷ parts) = Hears p ∷ packets parts
-packets (Passed byte ∷ parts) = packets parts
-packets (Bad fault ∷ parts) = packets parts
+packets (PacketItem p ∷ parts) = Hears p ∷ packets parts
+packets (SkippedItem byte ∷ parts) = packets parts
+packets (RefusedItem fault ∷ parts) = packets parts
 
-after_packets : (parts : List Part) (r : Reader) → after_items status_answer status_after parts r ≡ after_steps (packets parts) r
+after_packets : (parts : List RunItem) (r : Reader) → after_items status_answer status_after parts r ≡ after_steps (packets parts) r
 unfolding packets
 after_packets [] r = refl
-after_packets (Whole p ∷ parts) r = after_packets parts (after_step (Hears p) r)
-after_packets (Passed byte ∷ parts) r = after_packets parts r
-after_packets (Bad fault ∷ parts) r = after_packets parts r
+after_packets (PacketItem p ∷ parts) r = after_packets parts (after_step (Hears p) r)
+after_packets (SkippedItem byte ∷ parts) r = after_packets parts r
+after_packets (RefusedItem fault ∷ parts) r = after_packets parts r
 
-text_packets : (parts : List Part) (r : Reader) → all_lines (said_to_all status_answer status_after parts r) ≡ steps_text (packets parts) r
+text_packets : (parts : List RunItem) (r : Reader) → all_lines (said_to_all status_answer status_after parts r) ≡ steps_text (packets parts) r
 unfolding packets
 text_packets [] r = refl
-text_packets (Whole p ∷ parts) r =
+text_packets (PacketItem p ∷ parts) r =
     lines_more _ (said_to_all status_answer status_after parts (after_step (Hears p) r))
     ∙ ap (λ l. step_text (Hears p) r ++ l) (text_packets parts (after_step (Hears p) r))
-text_packets (Passed byte ∷ parts) r = text_packets parts r
-text_packets (Bad fault ∷ parts) r = text_packets parts r
+text_packets (SkippedItem byte ∷ parts) r = text_packets parts r
+text_packets (RefusedItem fault ∷ parts) r = text_packets parts r
 
 all_read : (r : Reader) (l : Received) → Comes r (reads_all status_answer status_after r l)
 all_read r l = record { steps = packets (items_of l.held); reader = after_packets (items_of l.held) r; text = text_packets (items_of l.held) r }

@@ -16,7 +16,7 @@ use Rattle.osdp_controller_laws.proofs.Closed.{closed_is, was_closed}
 use Rattle.osdp_reader.specs.declared.config.ReaderConfig.{ReaderConfig}
 use Rattle.osdp_reader.specs.declared.handler.Answer.{Answer}
 use Rattle.osdp_reader.specs.Table.{answer_to}
-use Rattle.osdp_link_laws.specs.Headline.{Begins, IsBeginning, IsMove, MaySubmit, handler_after, with_answers}
+use Rattle.osdp_link_laws.specs.Headline.{Begins, IsBeginning, MoveFits, MaySubmit, handler_after, with_answers}
 use Rattle.osdp_link_laws.specs.Link.{Account, Link, Move, Queue as QueueEvent, Reopen, SetBusy, Submit, Tick, ToController, ToReader, after_move}
 use Rattle.osdp_link_laws.specs.Sessions.{queued, submitted}
 use Rattle.osdp_link_laws.proofs.Advancing.{HoldsAtSomeStage}
@@ -104,7 +104,7 @@ module _ {H : Type 0} (answer_of : H → Command → Answer) (after : H → Comm
   abbrev going : Move → Changed H → Changed H
   going move s = record s { link = after_move answer_of after move s.link; given = s.given ++ given_at answer_of after move s.link }
 
-  keeps_on : Assumed answer_of after settings first → (move : Move) (s : Changed H) → GoesOn move → IsMove answer_of after move s.link → All s
+  keeps_on : Assumed answer_of after settings first → (move : Move) (s : Changed H) → GoesOn move → MoveFits answer_of after move s.link → All s
       → All (going move s)
   keeps_on given move s on fits h =
       let answering = h.holds.1.answering in

@@ -9,7 +9,7 @@ use Rattle.osdp_controller.specs.Machine as controllers
 use Rattle.osdp_controller.specs.declared.fault.ControllerFault.{ControllerFault}
 use Rattle.osdp_reader.specs.declared.handler.Answer.{Answer}
 use Rattle.osdp_reader.specs.Table.{Outcome, hears, kind_of}
-use Rattle.osdp_link_laws.specs.Headline.{Begins, IsMove, SaysWhatFitsIf}
+use Rattle.osdp_link_laws.specs.Headline.{Begins, MoveFits, SaysWhatFitsIf}
 use Rattle.osdp_link_laws.specs.Link as link
 use Rattle.osdp_link_laws.specs.Link.{Delivered, Delivery, Link, Lost, Move, Queue as QueueEvent, Reopen, Repeated, SetBusy, Submit, Tick, ToController, ToReader, after_move}
 use Rattle.osdp_link_laws.specs.Peers.{ReadEachOther}
@@ -203,8 +203,8 @@ module _ {H : Type 0} where
     front_fits Repeated (p ∷ ps) l more fits =
         subst (λ (o : Outcome (List Answer)). IfSome o.said ReplyFits) (sym (told_hears answer_of after l.reader p more)) fits
 
-    move_fits : (move : Move) (l : Link H) (more : List Answer) → IsMove answer_of after move l
-        → IsMove next_answer other_answers move (told_link (answers_at move l ++ more) l)
+    move_fits : (move : Move) (l : Link H) (more : List Answer) → MoveFits answer_of after move l
+        → MoveFits next_answer other_answers move (told_link (answers_at move l ++ more) l)
     move_fits (Submit c) l more fits = fits
     move_fits (QueueEvent e) l more fits = tt
     move_fits (SetBusy busy) l more fits = tt

@@ -5,7 +5,7 @@ use Rattle.osdp_frame.specs.Packet.{Packet}
 use Rattle.osdp_msg.specs.declared.command.Command.{Command}
 use Rattle.osdp_msg.specs.declared.command.Command.TheVariants as command
 use Rattle.osdp_msg.specs.declared.event.Event.{Event}
-use Rattle.osdp_controller.specs.Answers.{answer_of as said_by}
+use Rattle.osdp_controller.specs.Answers.{meaning_of as said_by}
 use Rattle.osdp_controller.specs.Hearing as controller
 use Rattle.osdp_controller.specs.Hearing.{hears_in, ignores, is_from_reader}
 use Rattle.osdp_controller.specs.Machine.{Machine, submit_refusal}
@@ -17,7 +17,7 @@ use Rattle.osdp_controller.specs.declared.session.Session.{Session}
 use Rattle.osdp_controller.specs.declared.state.State.TheVariants.{Closed}
 use Rattle.osdp_reader.specs.declared.config.ReaderConfig.{ReaderConfig}
 use Rattle.osdp_reader.specs.declared.handler.Answer.{Answer}
-use Rattle.osdp_link_laws.specs.Headline.{IsMove}
+use Rattle.osdp_link_laws.specs.Headline.{MoveFits}
 use Rattle.osdp_link_laws.specs.Link as link
 use Rattle.osdp_link_laws.specs.Link.{Delivered, Delivery, Link, Lost, Move, Queue as QueueEvent, Reopen, Repeated, SetBusy, Submit, Tick, ToController, ToReader, after_move}
 use Rattle.osdp_link_laws.proofs.Controllers.{IsKept, going_keeps}
@@ -112,7 +112,7 @@ module _ (fixed : ControllerConfig) {H : Type 0} (answer_of : H → Command → 
       (subst (λ t. HoldsAt (link.ticked t (waited w l))) (closed_tick now s (w ++ ws) closed) h)
 
   pub moving_waited : Premises fixed answer_of after settings first → (w : List Command) (move : Move) (l : Link H) → GoesOn move
-      → IsMove answer_of after move l → IsQuiet w l → HoldsAt (waited w l) → HoldsAt (waited w (after_move answer_of after move l))
+      → MoveFits answer_of after move l → IsQuiet w l → HoldsAt (waited w l) → HoldsAt (waited w (after_move answer_of after move l))
   moving_waited given w (Submit c) l on fits quiet h =
       submits_waited w (submit_refusal c l.controller) c l
       (submitting fixed answer_of after settings first (submit_refusal c l.controller) c (waited w l)

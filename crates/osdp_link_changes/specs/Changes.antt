@@ -12,7 +12,7 @@ use Rattle.osdp_reader.specs.declared.kind.Kind.TheVariants as kind
 use Rattle.osdp_reader.specs.State as readers
 use Rattle.osdp_reader.specs.State.{ReaderState}
 use Rattle.osdp_reader.specs.Table as reader
-use Rattle.osdp_link_laws.specs.Headline.{IsMove}
+use Rattle.osdp_link_laws.specs.Headline.{MoveFits}
 use Rattle.osdp_link_laws.specs.Link as link
 use Rattle.osdp_link_laws.specs.Link.{Account, Delivered, Delivery, Link, Lost, Move, Queue, Reopen, Repeated, SetBusy, Submit, Tick, ToController, ToReader}
 use Rattle.osdp_link_laws.specs.Sessions.{submitted, queued}
@@ -101,7 +101,7 @@ module _ {H : Type 0} where
 
     -- what is asked of a move is asked here too
     abbrev pub IsChange : Change H → Changed H → Type 0
-    IsChange (Moves move) s = IsMove answer_of after move s.link
+    IsChange (Moves move) s = MoveFits answer_of after move s.link
     IsChange (SetHandler handler) s = Unit {0}
     IsChange Withdraw s = Unit {0}
 

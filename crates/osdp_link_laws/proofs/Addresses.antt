@@ -9,14 +9,14 @@ use Rattle.osdp_msg.specs.declared.command_fields.Communication.{Communication}
 use Rattle.osdp_msg.specs.declared.event.Event.{Event}
 use Rattle.osdp_msg.specs.declared.reply.Reply.{Reply}
 use Rattle.osdp_msg.specs.declared.reply_fields.PdId.{PdId}
-use Rattle.osdp_controller.specs.Answers.{answer_of as said_by}
+use Rattle.osdp_controller.specs.Answers.{meaning_of as said_by}
 use Rattle.osdp_controller.specs.Exchanges.{exchange_command}
 use Rattle.osdp_controller.specs.Hearing.{Heard, answered, answered_unread, com_of, command_answered, comset_of, hears, hears_busy, hears_in, ignores, is_from_reader, is_numbered, loses, moved_by, opening_answered, pausing_hears, pd_id_of, waiting_hears}
 use Rattle.osdp_controller.specs.Machine as controllers
 use Rattle.osdp_controller.specs.Sessions.{later, seen}
 use Rattle.osdp_controller.specs.Ticking.{Ticked, begins, gives_up, sends_frame, stays, ticks_in, tries_again}
-use Rattle.osdp_controller.specs.declared.answer.Answer.{Answer}
-use Rattle.osdp_controller.specs.declared.answer.Answer.TheVariants.{NotTaken, Damaged, NumberRefused, Plain, Unreadable}
+use Rattle.osdp_controller.specs.declared.meaning.ReplyMeaning.{ReplyMeaning}
+use Rattle.osdp_controller.specs.declared.meaning.ReplyMeaning.TheVariants.{NotTaken, Damaged, NumberRefused, Plain, Unreadable}
 use Rattle.osdp_controller.specs.declared.exchange.Exchange.{Exchange}
 use Rattle.osdp_controller.specs.declared.exchange.Exchange.TheVariants.{Opening, Polling, Asking}
 use Rattle.osdp_controller.specs.declared.exchange.Outstanding.{Outstanding}
@@ -28,10 +28,10 @@ use Rattle.osdp_controller.specs.declared.state.State.TheVariants.{Closed, Quiet
 use Rattle.osdp_reader.specs.Table as reader
 use Rattle.osdp_reader.specs.Table.{Outcome, begun, command_in, moved, new_address, outcome, taken}
 use Rattle.osdp_reader.specs.State.{ReaderState}
-use Rattle.osdp_reader.specs.declared.handler.Answer.{Answer as HandlerAnswer}
+use Rattle.osdp_reader.specs.declared.handler.Answer.{ReplyMeaning as HandlerAnswer}
 use Rattle.osdp_reader.specs.declared.kind.Kind.{Kind}
 use Rattle.osdp_reader.specs.declared.kind.Kind.TheVariants as kind
-use Rattle.osdp_link_laws.specs.Headline.{AreMoves, IsMove, MaySubmit}
+use Rattle.osdp_link_laws.specs.Headline.{MovesFit, MoveFits, MaySubmit}
 use Rattle.osdp_link_laws.specs.Link as link
 use Rattle.osdp_link_laws.specs.Link.{Delivered, Delivery, Link, Lost, Move, Queue as QueueEvent, Reopen, Repeated, SetBusy, Submit, Tick, ToController, ToReader, after_move, run}
 use Rattle.osdp_link_laws.specs.Peers.{ReadsWhatIsAsked}
@@ -127,21 +127,21 @@ module _ (reads : ReadsWhatIsAsked) (address : ℕ) where
       both HeardWell (ltb s.config.busy_limit (o.busies + 1)) (loses TooBusy o s)
       (record { session = record s { state = Pausing (later s.config.busy_wait s) (record o { busies = o.busies + 1 }) }; report = None }) (tt, is.1) (asks, is.1)
 
-  waiting_well : (a : Answer) (k : ℕ) (o : Outstanding) (s : Session) → AsksKept o.exchange → Stays address s → HeardWell (waiting_hears a k o s)
+  waiting_well : (a : ReplyMeaning) (k : ℕ) (o : Outstanding) (s : Session) → AsksKept o.exchange → Stays address s → HeardWell (waiting_hears a k o s)
   waiting_well NotTaken k o s asks is = busy_well o s asks is
   waiting_well Damaged k o s asks is = (asks, is.1)
   waiting_well NumberRefused k o s asks is = (tt, is.1)
   waiting_well (Plain a) k o s asks is = answered_well o.exchange a s asks.0 is
   waiting_well (Unreadable code) k o s asks is = unread_well o.exchange code s is
 
-  pausing_well : (a : Answer) (o : Outstanding) (s : Session) → AsksKept o.exchange → Stays address s → HeardWell (pausing_hears a o s)
+  pausing_well : (a : ReplyMeaning) (o : Outstanding) (s : Session) → AsksKept o.exchange → Stays address s → HeardWell (pausing_hears a o s)
   pausing_well NotTaken o s asks is = is
   pausing_well Damaged o s asks is = is
   pausing_well NumberRefused o s asks is = (tt, is.1)
   pausing_well (Plain a) o s asks is = answered_well o.exchange a s asks.0 is
   pausing_well (Unreadable code) o s asks is = unread_well o.exchange code s is
 
-  heard_well : (state : State) (number : ℕ) (a : Answer) (s : Session) → Asks state → Stays address s → HeardWell (hears_in state number a s)
+  heard_well : (state : State) (number : ℕ) (a : ReplyMeaning) (s : Session) → Asks state → Stays address s → HeardWell (hears_in state number a s)
   heard_well Closed number a s asks is = is
   heard_well (Quiet until) number a s asks is = is
   heard_well (Idle due) number a s asks is = is
@@ -268,7 +268,7 @@ module _ {H : Type 0} (answer_of : H → Command → HandlerAnswer) (after : H �
     accepted_kept None c fits none e = (none.0, fits)
     accepted_kept (Some fault) c fits none e = absurd cc
 
-    move_keeps : (move : Move) (l : Link H) → IsMove answer_of after move l → Each SetsNoAddress (submitted move l) → Keeps l → Keeps (after_move answer_of after move l)
+    move_keeps : (move : Move) (l : Link H) → MoveFits answer_of after move l → Each SetsNoAddress (submitted move l) → Keeps l → Keeps (after_move answer_of after move l)
     move_keeps (Submit c) l fits none h =
         let refusal = controllers.submit_refusal c l.controller in submits_keeps refusal c l (accepted_kept refusal c fits none) h
     move_keeps (QueueEvent e) l fits none h = queues_keeps (length l.reader.queue.events == l.reader.queue.capacity) e l h
@@ -278,7 +278,7 @@ module _ {H : Type 0} (answer_of : H → Command → HandlerAnswer) (after : H �
     move_keeps (ToController how now) l fits none h = to_controller_keeps how now l.to_controller l h
     move_keeps (Reopen now) l fits none h = begins_keeps (controllers.begin_refusal l.controller) l.to_reader l.to_controller now l h
 
-    run_keeps : (moves : List Move) (l : Link H) → AreMoves answer_of after moves l → Each SetsNoAddress (all_submitted answer_of after moves l) → Keeps l
+    run_keeps : (moves : List Move) (l : Link H) → MovesFit answer_of after moves l → Each SetsNoAddress (all_submitted answer_of after moves l) → Keeps l
         → Keeps (run answer_of after moves l)
     run_keeps [] l fits none h = h
     run_keeps (move ∷ moves) l fits none h =

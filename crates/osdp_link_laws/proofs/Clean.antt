@@ -22,7 +22,7 @@ use Rattle.osdp_reader.specs.Table.{answer_to}
 use Rattle.osdp_reader.specs.declared.config.ReaderConfig.{ReaderConfig}
 use Rattle.osdp_reader.specs.declared.handler.Answer.{Answer}
 use Rattle.osdp_link_laws.specs.Clean.{AreSpaced, IsInTurn, IsOrder}
-use Rattle.osdp_link_laws.specs.Headline.{AreMoves, Begins, MaySubmit, with_answers}
+use Rattle.osdp_link_laws.specs.Headline.{MovesFit, Begins, MaySubmit, with_answers}
 use Rattle.osdp_link_laws.specs.Link as link
 use Rattle.osdp_link_laws.specs.Link.{Account, Link, Move, Queue as QueueEvent, Reopen, SetBusy, Submit, Tick, ToController, ToReader, after_move, new_account, run}
 use Rattle.osdp_link_laws.specs.Progress.{SetsNoAddress, round, rounds}
@@ -143,7 +143,7 @@ module _ (fixed : ControllerConfig) {H : Type 0} (answer_of : H → Command → 
 
   -- each round is an exchange from rest
   rounds_make : Given → (wait interval : ℕ) → interval ≤ wait → (moments : List ℕ) (l : Link H) → IsBetween interval l → AreSpaced answer_of after wait moments l
-      → AreMoves answer_of after (rounds moments) l
+      → MovesFit answer_of after (rounds moments) l
       → let last = run answer_of after (rounds moments) l in
       IsBetween interval last × Made (length moments) l.controller.waiting (unreported l) l.account last.account
   rounds_make given wait interval short [] l b spaced fits = (b, made_none l.controller.waiting (unreported l) l.account)
@@ -241,7 +241,7 @@ module _ (fixed : ControllerConfig) {H : Type 0} (answer_of : H → Command → 
     account = ap (λ (t : Account). record t { queued = t.queued ++ e ∷ [] }) h.account;
   }
 
-  orders_ready : (s : Session) (orders : List Move) (l : Link H) → Each IsOrder orders → AreMoves answer_of after orders l → IsReadied s l
+  orders_ready : (s : Session) (orders : List Move) (l : Link H) → Each IsOrder orders → MovesFit answer_of after orders l → IsReadied s l
       → IsReadied s (run answer_of after orders l)
   orders_ready s [] l all fits h = h
   orders_ready s (Submit c ∷ orders) l all fits h =
@@ -261,7 +261,7 @@ module _ (fixed : ControllerConfig) {H : Type 0} (answer_of : H → Command → 
 
   pub opens_and_goes : Given → (until opening wait : ℕ) (moments : List ℕ) (s : Session) (l : Link H) → IsReadied s l → s.config ≡ fixed → s.state ≡ Quiet until
       → settings.address ≡ fixed.address → until ≤ opening → s.config.poll_interval ≤ wait → Each SetsNoAddress l.account.issued
-      → AreSpaced answer_of after wait moments (run answer_of after (round opening) l) → AreMoves answer_of after (rounds (opening ∷ moments)) l
+      → AreSpaced answer_of after wait moments (run answer_of after (round opening) l) → MovesFit answer_of after (rounds (opening ∷ moments)) l
       → let last = run answer_of after (rounds (opening ∷ moments)) l in
       IsInTurn answer_of after settings first (length moments) last.account × (is_closed last.controller.session.state ≡ false)
   opens_and_goes given until opening wait moments s l h same quiet here reached short none spaced fits =
@@ -312,12 +312,12 @@ module _ (fixed : ControllerConfig) {H : Type 0} (answer_of : H → Command → 
 
 module _ {H : Type 0} (answer_of : H → Command → Answer) (after : H → Command → H) where
   pub goes_in_turn : (l : Link H) (orders : List Move) (opening wait : ℕ) (moments : List ℕ) → Assumed answer_of after l.reader.config l.reader.handler
-      → Begins l → All IsOrder orders → AreMoves answer_of after orders l
+      → Begins l → All IsOrder orders → MovesFit answer_of after orders l
       → l.reader.config.address ≡ l.controller.session.config.address → l.reader.busy ≡ false
       → IfSome (moment_of l.controller.session.state) (λ quiet. quiet ≤ opening) → l.controller.session.config.poll_interval ≤ wait
       → let before = run answer_of after orders l in
       All SetsNoAddress before.account.issued
-      → AreSpaced answer_of after wait moments (run answer_of after (round opening) before) → AreMoves answer_of after (rounds (opening ∷ moments)) before
+      → AreSpaced answer_of after wait moments (run answer_of after (round opening) before) → MovesFit answer_of after (rounds (opening ∷ moments)) before
       → let last = run answer_of after (rounds (opening ∷ moments)) before in
       IsInTurn answer_of after l.reader.config l.reader.handler (length moments) last.account × (is_closed last.controller.session.state ≡ false)
   goes_in_turn l orders opening wait moments given b are fits here ready reached short none spaced more =

@@ -11,11 +11,11 @@ use Rattle.osdp_msg.specs.declared.event.Event.{Event}
 use Rattle.osdp_msg.specs.declared.reply.Reply.{Reply}
 use Rattle.osdp_msg.specs.declared.reply.Reply.TheVariants as reply
 use Rattle.osdp_msg.specs.declared.reply_fields.PdId.{PdId}
-use Rattle.osdp_controller.specs.Answers.{answer_of as said_by}
+use Rattle.osdp_controller.specs.Answers.{meaning_of as said_by}
 use Rattle.osdp_controller.specs.Hearing.{Heard, answered, answered_unread, com_of, command_answered, comset_of, event_in, hears, hears_busy, hears_in, ignores, is_ack, is_numbered, loses, moved_by, opening_answered, pausing_hears, pd_id_of, poll_told, waiting_hears}
 use Rattle.osdp_controller.specs.Sessions.{later, seen}
-use Rattle.osdp_controller.specs.declared.answer.Answer.{Answer}
-use Rattle.osdp_controller.specs.declared.answer.Answer.TheVariants.{NotTaken, Damaged, NumberRefused, Plain, Unreadable}
+use Rattle.osdp_controller.specs.declared.meaning.ReplyMeaning.{ReplyMeaning}
+use Rattle.osdp_controller.specs.declared.meaning.ReplyMeaning.TheVariants.{NotTaken, Damaged, NumberRefused, Plain, Unreadable}
 use Rattle.osdp_controller.specs.declared.exchange.Exchange.{Exchange}
 use Rattle.osdp_controller.specs.declared.exchange.Exchange.TheVariants.{Opening, Polling, Asking}
 use Rattle.osdp_controller.specs.declared.exchange.Outstanding.{Outstanding}
@@ -68,7 +68,7 @@ module _ (r : Option ℕ) (here : ℕ) (ws : List Command) where
     pub far : ToldAsAsked h.report → 126 < asked.address
 
   -- .. or its COM moves the controller
-  pub record Goes (said : Answer) (h : Heard) : Type 0 where
+  pub record Goes (said : ReplyMeaning) (h : Heard) : Type 0 where
     pub answered : Communication
     pub address : h.session.config.address ≡ answered.address
     pub freed : freed_by h.report r ≡ None
@@ -76,13 +76,13 @@ module _ (r : Option ℕ) (here : ℕ) (ws : List Command) where
     pub said_so : said ≡ Plain (reply.Com answered)
     pub device : answered.address < 127
 
-  pub record HeardWell (said : Answer) (h : Heard) : Type 0 where
+  pub record HeardWell (said : ReplyMeaning) (h : Heard) : Type 0 where
     pub one : One (freed_by h.report r) (asked_in h.session.state ++ ws)
     pub fits : Each CommandFits (asked_in h.session.state ++ ws)
     pub goes : StaysHere h ⊎ Frees h ⊎ Goes said h
 
   -- nothing is told of a command, or the session ends without one that was settled
-  stays_well : (said : Answer) (h : Heard) → freed_by h.report r ≡ r → h.session.config.address ≡ here
+  stays_well : (said : ReplyMeaning) (h : Heard) → freed_by h.report r ≡ r → h.session.config.address ≡ here
       → Each CommandFits (asked_in h.session.state ++ ws) → One r (asked_in h.session.state ++ ws) → HeardWell said h
   stays_well said h kept is fits one = record {
     one = subst (λ q. One q (asked_in h.session.state ++ ws)) (sym kept) one;
@@ -90,12 +90,12 @@ module _ (r : Option ℕ) (here : ℕ) (ws : List Command) where
     goes = inl (is, kept);
   }
 
-  opened_well : (said : Answer) (id : Option PdId) (s : Session) → s.config.address ≡ here
+  opened_well : (said : ReplyMeaning) (id : Option PdId) (s : Session) → s.config.address ≡ here
       → Each CommandFits (asked_in s.state ++ ws) → One r (asked_in s.state ++ ws) → Each CommandFits ws → One r ws → HeardWell said (opening_answered id s)
   opened_well said None s is fits one left rest = stays_well said (ignores s) refl is fits one
   opened_well said (Some id) s is fits one left rest = stays_well said (opening_answered (Some id) s) refl is left rest
 
-  settled_well : (said : Answer) (o : Option Communication) (c : Command) (a : Reply) (s : Session) → comset_of c ≡ o → s.config.address ≡ here
+  settled_well : (said : ReplyMeaning) (o : Option Communication) (c : Command) (a : Reply) (s : Session) → comset_of c ≡ o → s.config.address ≡ here
       → Each CommandFits ws → One r (c ∷ ws) → HeardWell said (command_answered None c a s)
   settled_well said None c a s is at fits one =
       stays_well said (command_answered None c a s) (ap (λ o. freed_for o r) is) at fits one.1
@@ -142,25 +142,25 @@ module _ (r : Option ℕ) (here : ℕ) (ws : List Command) where
   answered_well (Asking c) a s at fits one left rest =
       command_well (moved_by (comset_of c) (com_of a)) c a s refl at left.1 rest
 
-  unread_well : (said : Answer) (x : Exchange) (code : ℕ) (s : Session) → s.config.address ≡ here → Each CommandFits (asked_in s.state ++ ws)
+  unread_well : (said : ReplyMeaning) (x : Exchange) (code : ℕ) (s : Session) → s.config.address ≡ here → Each CommandFits (asked_in s.state ++ ws)
       → One r (asked_in s.state ++ ws) → Each CommandFits (pending x ++ ws) → One r (pending x ++ ws) → HeardWell said (answered_unread x code s)
   unread_well said Opening code s at fits one left rest = stays_well said (ignores s) refl at fits one
   unread_well said Polling code s at fits one left rest = stays_well said (answered_unread Polling code s) refl at left rest
   unread_well said (Asking c) code s at fits one left rest = stays_well said (answered_unread (Asking c) code s) refl at left.1 rest.1
 
-  loses_well : (said : Answer) (cause : LostCause) (o : Outstanding) (s : Session) → s.config.address ≡ here → Each CommandFits (pending o.exchange ++ ws)
+  loses_well : (said : ReplyMeaning) (cause : LostCause) (o : Outstanding) (s : Session) → s.config.address ≡ here → Each CommandFits (pending o.exchange ++ ws)
       → One r (pending o.exchange ++ ws) → HeardWell said (loses cause o s)
   loses_well said cause o s at left rest =
       stays_well said (loses cause o s) refl at (each_rest CommandFits (pending o.exchange) ws left) (one_rest r (pending o.exchange) ws rest)
 
-  busy_well : (said : Answer) (o : Outstanding) (s : Session) → s.config.address ≡ here → Each CommandFits (pending o.exchange ++ ws)
+  busy_well : (said : ReplyMeaning) (o : Outstanding) (s : Session) → s.config.address ≡ here → Each CommandFits (pending o.exchange ++ ws)
       → One r (pending o.exchange ++ ws) → HeardWell said (hears_busy o s)
   busy_well said o s at left rest =
       let paused : Heard = record { session = record s { state = Pausing (later s.config.busy_wait s) (record o { busies = o.busies + 1 }) }; report = None } in
       both (HeardWell said) (ltb s.config.busy_limit (o.busies + 1)) (loses causes.TooBusy o s) paused
       (loses_well said causes.TooBusy o s at left rest) (stays_well said paused refl at left rest)
 
-  waiting_well : (a : Answer) (k : ℕ) (o : Outstanding) (s : Session) → s.config.address ≡ here → Each CommandFits (asked_in s.state ++ ws)
+  waiting_well : (a : ReplyMeaning) (k : ℕ) (o : Outstanding) (s : Session) → s.config.address ≡ here → Each CommandFits (asked_in s.state ++ ws)
       → One r (asked_in s.state ++ ws) → Each CommandFits (pending o.exchange ++ ws) → One r (pending o.exchange ++ ws) → HeardWell a (waiting_hears a k o s)
   waiting_well NotTaken k o s at fits one left rest = busy_well NotTaken o s at left rest
   waiting_well Damaged k o s at fits one left rest = stays_well Damaged (waiting_hears Damaged k o s) refl at left rest
@@ -168,7 +168,7 @@ module _ (r : Option ℕ) (here : ℕ) (ws : List Command) where
   waiting_well (Plain a) k o s at fits one left rest = answered_well o.exchange a s at fits one left rest
   waiting_well (Unreadable code) k o s at fits one left rest = unread_well (Unreadable code) o.exchange code s at fits one left rest
 
-  pausing_well : (a : Answer) (o : Outstanding) (s : Session) → s.config.address ≡ here → Each CommandFits (asked_in s.state ++ ws)
+  pausing_well : (a : ReplyMeaning) (o : Outstanding) (s : Session) → s.config.address ≡ here → Each CommandFits (asked_in s.state ++ ws)
       → One r (asked_in s.state ++ ws) → Each CommandFits (pending o.exchange ++ ws) → One r (pending o.exchange ++ ws) → HeardWell a (pausing_hears a o s)
   pausing_well NotTaken o s at fits one left rest = stays_well NotTaken (ignores s) refl at fits one
   pausing_well Damaged o s at fits one left rest = stays_well Damaged (ignores s) refl at fits one
@@ -176,7 +176,7 @@ module _ (r : Option ℕ) (here : ℕ) (ws : List Command) where
   pausing_well (Plain a) o s at fits one left rest = answered_well o.exchange a s at fits one left rest
   pausing_well (Unreadable code) o s at fits one left rest = unread_well (Unreadable code) o.exchange code s at fits one left rest
 
-  in_well : (state : State) (number : ℕ) (a : Answer) (s : Session) → s.state ≡ state → s.config.address ≡ here → Each CommandFits (asked_in s.state ++ ws)
+  in_well : (state : State) (number : ℕ) (a : ReplyMeaning) (s : Session) → s.state ≡ state → s.config.address ≡ here → Each CommandFits (asked_in s.state ++ ws)
       → One r (asked_in s.state ++ ws) → HeardWell a (hears_in state number a s)
   in_well Closed number a s is at fits one = stays_well a (ignores s) refl at fits one
   in_well (Quiet until) number a s is at fits one = stays_well a (ignores s) refl at fits one

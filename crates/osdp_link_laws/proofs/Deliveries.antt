@@ -9,10 +9,10 @@ use Rattle.osdp_msg.specs.declared.event.Event.{Event}
 use Rattle.osdp_msg.specs.declared.reply.Reply.{Reply}
 use Rattle.osdp_msg.specs.declared.reply.Reply.TheVariants as reply
 use Rattle.osdp_controller.specs.Answers as packets
-use Rattle.osdp_controller.specs.Answers.{answer_by_reply}
+use Rattle.osdp_controller.specs.Answers.{meaning_by_reply}
 use Rattle.osdp_controller.specs.Hearing as controller
 use Rattle.osdp_controller.specs.Hearing.{Heard, event_in}
-use Rattle.osdp_controller.specs.declared.answer.Answer.TheVariants.{NotTaken, Plain}
+use Rattle.osdp_controller.specs.declared.meaning.ReplyMeaning.TheVariants.{NotTaken, Plain}
 use Rattle.osdp_controller.specs.declared.config.ControllerConfig.{ControllerConfig}
 use Rattle.osdp_controller.specs.declared.exchange.Exchange.{Exchange}
 use Rattle.osdp_controller.specs.declared.exchange.Exchange.TheVariants.{Opening, Polling, Asking}

@@ -18,7 +18,7 @@ use Rattle.osdp_reader.specs.declared.kind.Kind.TheVariants as kind
 use Rattle.osdp_reader.specs.Table as reader
 use Rattle.osdp_link_laws.specs.Link as link
 use Rattle.osdp_link_laws.specs.Link.{Account, Delivered, Delivery, Link, Lost, Move, Queue as QueueEvent, Reopen, Repeated, SetBusy, Submit, Tick, ToController, ToReader, after_move, run, told}
-use Rattle.osdp_link_laws.specs.Sessions.{accepted, queued, queued_unless, submitted}
+use Rattle.osdp_link_laws.specs.Sessions.{accepted, queued, unless_full, submitted}
 use Rattle.osdp_link_laws.proofs.Once.{GoesOn}
 
 -- an account that goes on with these commands and events
@@ -88,7 +88,7 @@ module _ {H : Type 0} (answer_of : H → Command → Answer) (after : H → Comm
   submits_on (Some fault) c l = same l
   submits_on None c l = (record { issued = refl; queued = sym (append-nil l.account.queued) }, refl)
 
-  queues_on : (full : Bool) (e : Event) (l : Link H) → SameSession [] (queued_unless full e) l (link.queues full e l)
+  queues_on : (full : Bool) (e : Event) (l : Link H) → SameSession [] (unless_full full e) l (link.queues full e l)
   queues_on true e l = same l
   queues_on false e l = (record { issued = sym (append-nil l.account.issued); queued = refl }, refl)
 

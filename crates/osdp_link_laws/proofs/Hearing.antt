@@ -9,8 +9,8 @@ use Rattle.osdp_msg.specs.declared.event.Event.{Event}
 use Rattle.osdp_msg.specs.declared.reply.Reply.{Reply}
 use Rattle.osdp_msg.specs.declared.reply.Reply.TheVariants as reply
 use Rattle.osdp_msg.specs.declared.reply_fields.PdId.{PdId}
-use Rattle.osdp_controller.specs.declared.answer.Answer.{Answer}
-use Rattle.osdp_controller.specs.declared.answer.Answer.TheVariants.{NotTaken, Plain}
+use Rattle.osdp_controller.specs.declared.meaning.ReplyMeaning.{ReplyMeaning}
+use Rattle.osdp_controller.specs.declared.meaning.ReplyMeaning.TheVariants.{NotTaken, Plain}
 use Rattle.osdp_controller.specs.declared.config.ControllerConfig.{ControllerConfig}
 use Rattle.osdp_controller.specs.declared.exchange.Exchange.{Exchange}
 use Rattle.osdp_controller.specs.declared.exchange.Exchange.TheVariants.{Opening, Polling, Asking}
@@ -20,7 +20,7 @@ use Rattle.osdp_controller.specs.declared.report.Report.TheVariants as report
 use Rattle.osdp_controller.specs.declared.session.Session.{Session}
 use Rattle.osdp_controller.specs.declared.state.State.{State}
 use Rattle.osdp_controller.specs.declared.state.State.TheVariants.{Closed, Quiet, Idle, Waiting, Pausing}
-use Rattle.osdp_controller.specs.Answers.{answer_of}
+use Rattle.osdp_controller.specs.Answers.{meaning_of}
 use Rattle.osdp_controller.specs.Hearing.{Heard, answered, com_of, command_answered, comset_of, event_in, hears, hears_busy, hears_in, ignores, is_ack, is_from_reader, is_numbered, loses, moved_by, pausing_hears, poll_told, rests, waiting_hears}
 use Rattle.osdp_controller.specs.Sessions.{later, seen}
 use Rattle.osdp_link_laws.specs.Link.{Account, told}
@@ -88,23 +88,23 @@ module _ (fixed : ControllerConfig) where
 
   -- a packet that is BUSY, or has another number
   pub hears_other : (p : Packet) (now n : ℕ) (x : Exchange) (s : Session)
-      → (answer_of p ≡ NotTaken) ⊎ ((p.sequence ≢ n) × ((r : Reply) × (answer_of p ≡ Plain r)))
+      → (meaning_of p ≡ NotTaken) ⊎ ((p.sequence ≢ n) × ((r : Reply) × (meaning_of p ≡ Plain r)))
       → Asks fixed s.state n x s → Ignored n x (given_up s.state x) (hears p now s)
   hears_other p now n x s (inl busy) asks =
       let there = asks_seen fixed s.state n x s now asks in
-      both (Ignored n x (given_up s.state x)) (is_from_reader p s) (hears_in s.state p.sequence (answer_of p) (seen now s)) (ignores (seen now s))
+      both (Ignored n x (given_up s.state x)) (is_from_reader p s) (hears_in s.state p.sequence (meaning_of p) (seen now s)) (ignores (seen now s))
       (subst (λ a. Ignored n x (given_up s.state x) (hears_in s.state p.sequence a (seen now s))) (sym busy)
       (busy_in s.state p.sequence n x (seen now s) refl there))
       (ignored s.state n x (seen now s) refl there)
   hears_other p now n x s (inr (differ, (r, plain))) asks =
       let there = asks_seen fixed s.state n x s now asks in
-      both (Ignored n x (given_up s.state x)) (is_from_reader p s) (hears_in s.state p.sequence (answer_of p) (seen now s)) (ignores (seen now s))
+      both (Ignored n x (given_up s.state x)) (is_from_reader p s) (hears_in s.state p.sequence (meaning_of p) (seen now s)) (ignores (seen now s))
       (subst (λ a. Ignored n x (given_up s.state x) (hears_in s.state p.sequence a (seen now s))) (sym plain)
       (other_in s.state p.sequence n x r (seen now s) differ refl there))
       (ignored s.state n x (seen now s) refl there)
 
   -- no exchange is outstanding: a packet changes nothing
-  rest_in : (state : State) (number n : ℕ) (a : Answer) (s : Session) → Rests fixed state n s → hears_in state number a s ≡ ignores s
+  rest_in : (state : State) (number n : ℕ) (a : ReplyMeaning) (s : Session) → Rests fixed state n s → hears_in state number a s ≡ ignores s
   rest_in Closed number n a s rests = refl
   rest_in (Quiet until) number n a s rests = absurd rests
   rest_in (Idle due) number n a s rests = refl
@@ -118,8 +118,8 @@ module _ (fixed : ControllerConfig) where
   pub hears_resting : (p : Packet) (now n : ℕ) (s : Session) → Rests fixed s.state n s → Passed n (hears p now s)
   hears_resting p now n s rests =
       let there = rests_seen fixed s.state n s now rests in
-      both (Passed n) (is_from_reader p s) (hears_in s.state p.sequence (answer_of p) (seen now s)) (ignores (seen now s))
-      (subst (Passed n) (sym (rest_in s.state p.sequence n (answer_of p) (seen now s) there)) (refl, there))
+      both (Passed n) (is_from_reader p s) (hears_in s.state p.sequence (meaning_of p) (seen now s)) (ignores (seen now s))
+      (subst (Passed n) (sym (rest_in s.state p.sequence n (meaning_of p) (seen now s) there)) (refl, there))
       (refl, there)
 
   -- what an answer settles or reports
@@ -191,11 +191,11 @@ module _ (fixed : ControllerConfig) where
       (inl (ignored fixed (Pausing until o) n x s e asks))
 
   -- a packet that says the answer
-  pub hears_answer : (pd : PdId) (p : Packet) (now n : ℕ) (x : Exchange) (r : Reply) (s : Session) → answer_of p ≡ Plain r
+  pub hears_answer : (pd : PdId) (p : Packet) (now n : ℕ) (x : Exchange) (r : Reply) (s : Session) → meaning_of p ≡ Plain r
       → IsAnswerTo pd x n r → Asks fixed s.state n x s → MaySettle n x (given_up s.state x) r (hears p now s)
   hears_answer pd p now n x r s says is asks =
       let there = asks_seen fixed s.state n x s now asks in
-      both (MaySettle n x (given_up s.state x) r) (is_from_reader p s) (hears_in s.state p.sequence (answer_of p) (seen now s)) (ignores (seen now s))
+      both (MaySettle n x (given_up s.state x) r) (is_from_reader p s) (hears_in s.state p.sequence (meaning_of p) (seen now s)) (ignores (seen now s))
       (subst (λ a. MaySettle n x (given_up s.state x) r (hears_in s.state p.sequence a (seen now s))) (sym says)
       (answer_in pd s.state p.sequence n x r (seen now s) is refl there))
       (inl (ignored fixed s.state n x (seen now s) refl there))

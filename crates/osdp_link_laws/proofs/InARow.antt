@@ -12,11 +12,11 @@ use Rattle.osdp_controller.specs.declared.state.State.TheVariants.{Closed}
 use Rattle.osdp_controller_laws.proofs.Closed.{was_closed}
 use Rattle.osdp_reader.specs.declared.config.ReaderConfig.{ReaderConfig}
 use Rattle.osdp_reader.specs.declared.handler.Answer.{Answer}
-use Rattle.osdp_link_laws.specs.Headline.{AreMoves, AreOnce, Begins, IsMove, MaySubmit, handler_after, IsBeginning}
+use Rattle.osdp_link_laws.specs.Headline.{MovesFit, AreOnce, Begins, MoveFits, MaySubmit, handler_after, IsBeginning}
 use Rattle.osdp_link_laws.specs.Link as link
 use Rattle.osdp_link_laws.specs.Link.{Account, Delivered, Delivery, Link, Lost, Move, Queue as QueueEvent, Reopen, Repeated, SetBusy, Submit, Tick, ToController, ToReader, after_move, run, told}
 use Rattle.osdp_link_laws.specs.Peers.{IsPlainlySaid, ReadEachOther}
-use Rattle.osdp_link_laws.specs.Sessions.{AreInARow, HaveLeft, LastsOrLeaves, all_queued, all_submitted, told_in, queued, settled_commands, submitted}
+use Rattle.osdp_link_laws.specs.Sessions.{AreInARow, HaveLeft, LastsOrLeaves, all_queued, all_submitted, ended_commands, queued, settled_commands, submitted}
 use Rattle.osdp_link_laws.proofs.Advancing.{HoldsAtSomeStage}
 use Rattle.osdp_link_laws.proofs.Deliveries.{all_said}
 use Rattle.osdp_link_laws.proofs.Devices.{IsDevice, move_there}
@@ -57,7 +57,7 @@ left_more all more (t ∷ earlier) gone (before, left, again, prior, stands, is,
 module _ {H : Type 0} where
   -- every command and event so far has its place
   pub record Placed (cs : List Command) (es : List Event) (l : Link H) : Type 0 where
-    pub commands : cs ≡ told_in l.earlier ++ l.account.issued
+    pub commands : cs ≡ ended_commands l.earlier ++ l.account.issued
     pub events : (gone : List Event) × HaveLeft es l.earlier gone × (es ≡ gone ++ l.account.queued)
 
 module _ {H : Type 0} (answer_of : H → Command → Answer) (after : H → Command → H) where
@@ -89,7 +89,7 @@ module _ {H : Type 0} (answer_of : H → Command → Answer) (after : H → Comm
   AllStands l = Stands answer_of after settings first l
 
   -- a move within the session
-  keeps_on : Assumed → (move : Move) (l : Link H) → GoesOn move → IsMove answer_of after move l → AllStands l
+  keeps_on : Assumed → (move : Move) (l : Link H) → GoesOn move → MoveFits answer_of after move l → AllStands l
       → AllStands (after_move answer_of after move l)
   keeps_on given move l on fits h =
       let handler = handler_after answer_of after settings first l.earlier in
@@ -145,7 +145,7 @@ module _ {H : Type 0} (answer_of : H → Command → Answer) (after : H → Comm
         );
       }
 
-  pub standing : Assumed → (move : Move) (l : Link H) → IsMove answer_of after move l → AllStands l → AllStands (after_move answer_of after move l)
+  pub standing : Assumed → (move : Move) (l : Link H) → MoveFits answer_of after move l → AllStands l → AllStands (after_move answer_of after move l)
   standing given (Submit c) l fits h = keeps_on given (Submit c) l tt fits h
   standing given (QueueEvent e) l fits h = keeps_on given (QueueEvent e) l tt fits h
   standing given (SetBusy busy) l fits h = keeps_on given (SetBusy busy) l tt fits h
@@ -167,9 +167,9 @@ module _ {H : Type 0} (answer_of : H → Command → Answer) (after : H → Comm
           let gone = placed.events.0 in
           record {
             commands = ap (λ all. all ++ submitted move l) placed.commands
-                ∙ append_assoc (told_in l.earlier) l.account.issued (submitted move l)
-                ∙ ap (λ all. told_in l.earlier ++ all) (sym g.0.issued)
-                ∙ ap (λ earlier. told_in earlier ++ new.account.issued) (sym g.1);
+                ∙ append_assoc (ended_commands l.earlier) l.account.issued (submitted move l)
+                ∙ ap (λ all. ended_commands l.earlier ++ all) (sym g.0.issued)
+                ∙ ap (λ earlier. ended_commands earlier ++ new.account.issued) (sym g.1);
             events = (
               gone,
               subst (λ earlier. HaveLeft (es ++ queued move l) earlier gone) (sym g.1)
@@ -190,8 +190,8 @@ module _ {H : Type 0} (answer_of : H → Command → Answer) (after : H → Comm
           (was_closed l.controller.session.state may) in
           record {
             commands = placed.commands
-                ∙ ap (λ all. told_in l.earlier ++ all) (left.commands ∙ sym (append_assoc (settled_commands l.account) l.account.unsettled l.controller.waiting))
-                ∙ sym (append_assoc (told_in l.earlier) (settled_commands l.account ++ l.account.unsettled) l.controller.waiting);
+                ∙ ap (λ all. ended_commands l.earlier ++ all) (left.commands ∙ sym (append_assoc (settled_commands l.account) l.account.unsettled l.controller.waiting))
+                ∙ sym (append_assoc (ended_commands l.earlier) (settled_commands l.account ++ l.account.unsettled) l.controller.waiting);
             events = (
               placed.events.0 ++ left.reported.0,
               (
@@ -223,7 +223,7 @@ module _ {H : Type 0} (answer_of : H → Command → Answer) (after : H → Comm
           (subst (λ all. Placed cs all new) (sym (append-nil es))
           (again (controllers.begin_refusal l.controller) l.to_reader l.to_controller now refl))
 
-  all_placed : Assumed → (moves : List Move) (l : Link H) (cs : List Command) (es : List Event) → AreMoves answer_of after moves l → AllStands l
+  all_placed : Assumed → (moves : List Move) (l : Link H) (cs : List Command) (es : List Event) → MovesFit answer_of after moves l → AllStands l
       → Placed cs es l
       → Placed (cs ++ all_submitted answer_of after moves l) (es ++ all_queued answer_of after moves l) (run answer_of after moves l)
   all_placed given [] l cs es fits h placed =
@@ -238,7 +238,7 @@ module _ {H : Type 0} (answer_of : H → Command → Answer) (after : H → Comm
       (append_assoc es (queued move l) (all_queued answer_of after moves new))
       (all_placed given moves new (cs ++ submitted move l) (es ++ queued move l) fits.1 (standing given move l fits.0 h) (placing move l cs es h placed)))
 
-  pub running : Assumed → (moves : List Move) (l : Link H) → AreMoves answer_of after moves l → AllStands l → AllStands (run answer_of after moves l)
+  pub running : Assumed → (moves : List Move) (l : Link H) → MovesFit answer_of after moves l → AllStands l → AllStands (run answer_of after moves l)
   running given [] l fits h = h
   running given (move ∷ moves) l fits h = running given moves (after_move answer_of after move l) fits.1 (standing given move l fits.0 h)
 
@@ -266,17 +266,17 @@ module _ {H : Type 0} (answer_of : H → Command → Answer) (after : H → Comm
         row = tt;
       })
 
-  pub all_once : (l : Link H) (moves : List Move) → Assumed answer_of after l.reader.config l.reader.handler → Begins l → AreMoves answer_of after moves l
+  pub all_once : (l : Link H) (moves : List Move) → Assumed answer_of after l.reader.config l.reader.handler → Begins l → MovesFit answer_of after moves l
       → let later = run answer_of after moves l in AreOnce answer_of after l.reader.config l.reader.handler (later.account ∷ later.earlier)
   all_once l moves given b fits =
       let s = running answer_of after l.reader.config l.reader.handler given moves l fits (begins l b) in
       (is_once s.fixed answer_of after l.reader.config _ (run answer_of after moves l) s.holds, s.once)
 
-  pub all_in_a_row : (l : Link H) (moves : List Move) → Assumed answer_of after l.reader.config l.reader.handler → Begins l → AreMoves answer_of after moves l
+  pub all_in_a_row : (l : Link H) (moves : List Move) → Assumed answer_of after l.reader.config l.reader.handler → Begins l → MovesFit answer_of after moves l
       → let later = run answer_of after moves l in AreInARow later.account later.earlier
   all_in_a_row l moves given b fits = (running answer_of after l.reader.config l.reader.handler given moves l fits (begins l b)).row
 
-  pub all_plainly : (l : Link H) (moves : List Move) → Assumed answer_of after l.reader.config l.reader.handler → Begins l → AreMoves answer_of after moves l
+  pub all_plainly : (l : Link H) (moves : List Move) → Assumed answer_of after l.reader.config l.reader.handler → Begins l → MovesFit answer_of after moves l
       → All IsPlainlySaid (run answer_of after moves l).to_controller
   all_plainly l moves given b fits =
       let later = run answer_of after moves l in
@@ -285,27 +285,27 @@ module _ {H : Type 0} (answer_of : H → Command → Answer) (after : H → Comm
       each_all IsPlainlySaid later.to_controller
       (all_said s.fixed answer_of after l.reader.config handler (given s.fixed handler s.device) s.holds.0 later s.holds.1)
 
-  have_places : (l : Link H) (moves : List Move) → Assumed answer_of after l.reader.config l.reader.handler → Begins l → AreMoves answer_of after moves l
+  have_places : (l : Link H) (moves : List Move) → Assumed answer_of after l.reader.config l.reader.handler → Begins l → MovesFit answer_of after moves l
       → Placed (l.controller.waiting ++ all_submitted answer_of after moves l) (l.reader.queue.events ++ all_queued answer_of after moves l)
       (run answer_of after moves l)
   have_places l moves given b fits =
       all_placed answer_of after l.reader.config l.reader.handler given moves l l.controller.waiting l.reader.queue.events fits (begins l b) (record {
-        commands = sym (ap (λ t. t.issued) b.account) ∙ sym (ap (λ earlier. told_in earlier ++ l.account.issued) b.earlier);
+        commands = sym (ap (λ t. t.issued) b.account) ∙ sym (ap (λ earlier. ended_commands earlier ++ l.account.issued) b.earlier);
         events = ([], subst (λ earlier. HaveLeft l.reader.queue.events earlier []) (sym b.earlier) refl, sym (ap (λ t. t.queued) b.account));
       })
 
-  pub commands_have_places : (l : Link H) (moves : List Move) → Assumed answer_of after l.reader.config l.reader.handler → Begins l → AreMoves answer_of after moves l
+  pub commands_have_places : (l : Link H) (moves : List Move) → Assumed answer_of after l.reader.config l.reader.handler → Begins l → MovesFit answer_of after moves l
       → let later = run answer_of after moves l in
-      l.controller.waiting ++ all_submitted answer_of after moves l ≡ told_in later.earlier ++ later.account.issued
+      l.controller.waiting ++ all_submitted answer_of after moves l ≡ ended_commands later.earlier ++ later.account.issued
   commands_have_places l moves given b fits = (have_places l moves given b fits).commands
 
-  pub events_have_places : (l : Link H) (moves : List Move) → Assumed answer_of after l.reader.config l.reader.handler → Begins l → AreMoves answer_of after moves l
+  pub events_have_places : (l : Link H) (moves : List Move) → Assumed answer_of after l.reader.config l.reader.handler → Begins l → MovesFit answer_of after moves l
       → let later = run answer_of after moves l in
       let all = l.reader.queue.events ++ all_queued answer_of after moves l in
       (gone : List Event) × HaveLeft all later.earlier gone × (all ≡ gone ++ later.account.queued)
   events_have_places l moves given b fits = (have_places l moves given b fits).events
 
-  pub last_one_lasts : (l : Link H) (moves : List Move) → Assumed answer_of after l.reader.config l.reader.handler → Begins l → AreMoves answer_of after moves l
+  pub last_one_lasts : (l : Link H) (moves : List Move) → Assumed answer_of after l.reader.config l.reader.handler → Begins l → MovesFit answer_of after moves l
       → let later = run answer_of after moves l in LastsOrLeaves later.controller.session.state later
   last_one_lasts l moves given b fits =
       let later = run answer_of after moves l in

@@ -10,7 +10,7 @@ use Rattle.osdp_controller.specs.declared.state.State.TheVariants.{Closed, Quiet
 use Rattle.osdp_controller_laws.specs.Calls.{ComesDue, IsInRange, StaysInRange}
 use Rattle.osdp_controller_laws.specs.Runs.{Begin, Hear, Tick as TickCall}
 use Rattle.osdp_reader.specs.declared.handler.Answer.{Answer}
-use Rattle.osdp_link_laws.specs.Headline.{AreMoves, Begins}
+use Rattle.osdp_link_laws.specs.Headline.{MovesFit, Begins}
 use Rattle.osdp_link_laws.specs.Link.{Delivered, Link, Move, Tick, ToReader, after_move, run}
 use Rattle.osdp_link_laws.specs.Progress.{AreDue, AreLate, ComeOn, IsClear, round, rounds}
 use Rattle.osdp_link_laws.proofs.Controllers.{IsKept, IsKeptByBeginning, moves_keep}
@@ -72,9 +72,9 @@ module _ {H : Type 0} (answer_of : H → Command → Answer) (after : H → Comm
       ]
 
   pub in_time : ComesDue → (l : Link H) (moves : List Move) (moments : List ℕ) → Assumed answer_of after l.reader.config l.reader.handler
-      → Begins l → IsInRange l.controller.session → AreMoves answer_of after moves l
+      → Begins l → IsInRange l.controller.session → MovesFit answer_of after moves l
       → let later = run answer_of after moves l in
-      IsClear later → AreLate answer_of after moments later → AreMoves answer_of after (rounds moments) later
+      IsClear later → AreLate answer_of after moments later → MovesFit answer_of after (rounds moments) later
       → let last = run answer_of after (rounds moments) later in
       (last.controller.session.state ≡ Closed) ⊎ ComeOn moments later.account last.account
   in_time comes l moves moments given b is fits clear late more =

@@ -9,11 +9,11 @@ use Rattle.osdp_msg.specs.declared.command.Command.{Command}
 use Rattle.osdp_msg.specs.declared.event.Event.{Event}
 use Rattle.osdp_msg.specs.declared.reply.Reply.{Reply}
 use Rattle.osdp_controller.specs.Answers as packets
-use Rattle.osdp_controller.specs.Answers.{answer_by_reply}
+use Rattle.osdp_controller.specs.Answers.{meaning_by_reply}
 use Rattle.osdp_controller.specs.Exchanges.{exchange_command}
 use Rattle.osdp_controller.specs.Hearing.{event_in}
 use Rattle.osdp_controller.specs.Ticking.{Ticked, ticks}
-use Rattle.osdp_controller.specs.declared.answer.Answer.TheVariants.{Plain}
+use Rattle.osdp_controller.specs.declared.meaning.ReplyMeaning.TheVariants.{Plain}
 use Rattle.osdp_controller.specs.declared.config.ControllerConfig.{ControllerConfig}
 use Rattle.osdp_controller.specs.declared.exchange.Exchange.{Exchange}
 use Rattle.osdp_controller.specs.declared.exchange.Exchange.TheVariants.{Opening, Polling, Asking}
@@ -80,8 +80,8 @@ module _ (fixed : ControllerConfig) {H : Type 0} (answer_of : H → Command → 
   pub record Premises : Type 0 where
     pub device : fixed.address < 127
     pub reads : (x : Exchange) (n : ℕ) → CommandFits (exchange_command x) → command_in (frame fixed x n) ≡ Ok (exchange_command x)
-    pub hears : (n : ℕ) (r : Reply) → ReplyFits r → packets.answer_of (answer fixed n r) ≡ answer_by_reply r
-    pub plain : (r : Reply) → IsPlain r → answer_by_reply r ≡ Plain r
+    pub hears : (n : ℕ) (r : Reply) → ReplyFits r → packets.answer_of (answer fixed n r) ≡ meaning_by_reply r
+    pub plain : (r : Reply) → IsPlain r → meaning_by_reply r ≡ Plain r
     pub tells : TellsItsEvent
     pub plainly : AnswersPlainly answer_of after
 

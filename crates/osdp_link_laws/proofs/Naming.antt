@@ -9,7 +9,7 @@ use Rattle.osdp_msg.specs.ReplyTable.{ReplyFits}
 use Rattle.osdp_msg.specs.declared.command.Command.{Command}
 use Rattle.osdp_msg.specs.declared.command_fields.Communication.{Communication}
 use Rattle.osdp_msg.specs.declared.event.Event.{Event}
-use Rattle.osdp_controller.specs.Answers.{answer_of as said_by}
+use Rattle.osdp_controller.specs.Answers.{meaning_of as said_by}
 use Rattle.osdp_controller.specs.Hearing.{comset_of, hears}
 use Rattle.osdp_controller.specs.Machine as controllers
 use Rattle.osdp_controller.specs.Sessions.{seen}
@@ -19,7 +19,7 @@ use Rattle.osdp_controller.specs.declared.state.State.{State}
 use Rattle.osdp_controller.specs.declared.state.State.TheVariants.{Closed, Quiet, Idle, Waiting, Pausing}
 use Rattle.osdp_reader.specs.Table as reader
 use Rattle.osdp_reader.specs.declared.handler.Answer.{Answer}
-use Rattle.osdp_link_laws.specs.Headline.{AreMoves, IsMove, MaySubmit, SaysWhatFitsIf}
+use Rattle.osdp_link_laws.specs.Headline.{MovesFit, MoveFits, MaySubmit, SaysWhatFitsIf}
 use Rattle.osdp_link_laws.specs.Link as link
 use Rattle.osdp_link_laws.specs.Link.{Delivered, Delivery, Link, Lost, Move, Queue as QueueEvent, Reopen, Repeated, SetBusy, Submit, Tick, ToController, ToReader, after_move, run}
 use Rattle.osdp_link_laws.specs.Names.{BeginsTogether, IsCommandTo, IsName, IsReplyFrom, KeepsToNames, MayAsk, MayMove, MayMoves, MovesController, MovesReader, NamesOne, accepted_for, asked_for, freed_by, reserved_after, reserved_after_moves}
@@ -391,7 +391,7 @@ module _ {H : Type 0} (answer_of : H → Command → Answer) (after : H → Comm
 
   -- ---- a move, and a list of them
 
-  said_of : (how : Delivery) (l : Link H) → IsMove answer_of after (ToReader how) l → Said how l.to_reader l
+  said_of : (how : Delivery) (l : Link H) → MoveFits answer_of after (ToReader how) l → Said how l.to_reader l
   said_of how l fits = by_line how l.to_reader fits
     where
       by_line : (how : Delivery) (ps : List Packet) → SaysWhatFitsIf answer_of after how ps l.reader → Said how ps l
@@ -402,7 +402,7 @@ module _ {H : Type 0} (answer_of : H → Command → Answer) (after : H → Comm
       by_line Repeated (p ∷ ps) fits = fits
 
   pub keeps_move : ReadsWhatIsAsked → ReadsWhatIsAnswered → (move : Move) (r : Option ℕ) (l : Link H) (device : ℕ) → NamesOne device l.to_reader l.to_controller
-      → IsMove answer_of after move l → ToldAsAsked (told_by move l) → MayMove move r → Keeps r l → Keeps (reserved_after move l r) (after_move answer_of after move l)
+      → MoveFits answer_of after move l → ToldAsAsked (told_by move l) → MayMove move r → Keeps r l → Keeps (reserved_after move l r) (after_move answer_of after move l)
   keeps_move asked answered (Submit c) r l device one fits told may h = submitting (controllers.submit_refusal c l.controller) c r l may fits h
   keeps_move asked answered (QueueEvent e) r l device one fits told may h =
       queueing (length l.reader.queue.events == l.reader.queue.capacity) e r l h
@@ -431,7 +431,7 @@ module _ {H : Type 0} (answer_of : H → Command → Answer) (after : H → Comm
       reopening (controllers.begin_refusal l.controller) l.to_reader l.to_controller now r l refl h
 
   pub keeps_all : ReadsWhatIsAsked → ReadsWhatIsAnswered → (first : Link H) → Assumed answer_of after first.reader.config first.reader.handler
-      → (moves : List Move) (r : Option ℕ) (l : Link H) → AreMoves answer_of after moves l → MayMoves answer_of after moves l r
+      → (moves : List Move) (r : Option ℕ) (l : Link H) → MovesFit answer_of after moves l → MayMoves answer_of after moves l r
       → Stands answer_of after first.reader.config first.reader.handler l → Keeps r l
       → Keeps (reserved_after_moves answer_of after moves l r) (run answer_of after moves l)
   keeps_all asked answered first given [] r l fits may stands h = h
@@ -465,7 +465,7 @@ module _ {H : Type 0} (answer_of : H → Command → Answer) (after : H → Comm
       }
 
   pub keep_to_names : ReadsWhatIsAsked → ReadsWhatIsAnswered → (l : Link H) (moves : List Move) → Assumed answer_of after l.reader.config l.reader.handler
-      → BeginsTogether l → AreMoves answer_of after moves l → MayMoves answer_of after moves l None
+      → BeginsTogether l → MovesFit answer_of after moves l → MayMoves answer_of after moves l None
       → KeepsToNames (reserved_after_moves answer_of after moves l None) (run answer_of after moves l)
   keep_to_names asked answered l moves given b fits may =
       let r = reserved_after_moves answer_of after moves l None in

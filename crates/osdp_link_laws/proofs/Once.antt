@@ -14,7 +14,7 @@ use Rattle.osdp_reader.specs.declared.config.ReaderConfig.{ReaderConfig}
 use Rattle.osdp_reader.specs.declared.handler.Answer.{Answer}
 use Rattle.osdp_reader.specs.Queue.{Queue}
 use Rattle.osdp_reader.specs.State.{ReaderState}
-use Rattle.osdp_link_laws.specs.Headline.{IsMove, MaySubmit, Once}
+use Rattle.osdp_link_laws.specs.Headline.{MoveFits, MaySubmit, Once}
 use Rattle.osdp_link_laws.specs.Link.{Link, Move, Queue as QueueEvent, Reopen, SetBusy, Submit, Tick, ToController, ToReader, after_move, new_account}
 use Rattle.osdp_link_laws.proofs.Advancing.{HoldsAtSomeStage}
 use Rattle.osdp_link_laws.proofs.Deliveries.{coming_to_controller, coming_to_reader}
@@ -69,7 +69,7 @@ GoesOn (ToController how now) = Unit {0}
 GoesOn (Reopen now) = ⊥
 
 module _ (fixed : ControllerConfig) {H : Type 0} (answer_of : H → Command → Answer) (after : H → Command → H) (settings : ReaderConfig) (first : H) where
-  pub moving : Premises fixed answer_of after settings first → (move : Move) (l : Link H) → GoesOn move → IsMove answer_of after move l
+  pub moving : Premises fixed answer_of after settings first → (move : Move) (l : Link H) → GoesOn move → MoveFits answer_of after move l
       → HoldsAtSomeStage fixed answer_of after settings first l → HoldsAtSomeStage fixed answer_of after settings first (after_move answer_of after move l)
   moving given (Submit c) l on fits h =
       submitting fixed answer_of after settings first (submit_refusal c l.controller) c l

@@ -6,7 +6,7 @@ use Rattle.osdp_msg.specs.declared.reply.Reply.{Reply}
 use Rattle.osdp_controller.specs.declared.config.ControllerConfig.{ControllerConfig}
 use Rattle.osdp_controller.specs.declared.exchange.Exchange.{Exchange}
 use Rattle.osdp_reader.specs.declared.handler.Answer.{Answer}
-use Rattle.osdp_link_laws.specs.Headline.{AreMoves, Begins}
+use Rattle.osdp_link_laws.specs.Headline.{MovesFit, Begins}
 use Rattle.osdp_link_laws.specs.Link.{Link, Move, run}
 use Rattle.osdp_link_laws.specs.Names.{IsCommandTo, IsReplyFrom, NamesOne}
 use Rattle.osdp_link_laws.proofs.InARow.{Assumed, Stands, begins, running}
@@ -57,7 +57,7 @@ module _ {H : Type 0} (answer_of : H → Command → Answer) (after : H → Comm
     },
   )
 
-  pub name_one : (l : Link H) (moves : List Move) → Assumed answer_of after l.reader.config l.reader.handler → Begins l → AreMoves answer_of after moves l
+  pub name_one : (l : Link H) (moves : List Move) → Assumed answer_of after l.reader.config l.reader.handler → Begins l → MovesFit answer_of after moves l
       → let last = run answer_of after moves l in
       (device : ℕ) × NamesOne device last.to_reader last.to_controller
   name_one l moves given b fits =

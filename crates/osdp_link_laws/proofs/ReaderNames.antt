@@ -15,8 +15,8 @@ use Rattle.osdp_msg.specs.declared.nak.NakReason.TheVariants as reason
 use Rattle.osdp_msg.specs.declared.reply.Reply.{Reply}
 use Rattle.osdp_msg.specs.declared.reply.Reply.TheVariants as reply
 use Rattle.osdp_msg.specs.declared.reply_fields.Nak.{Nak as NakData}
-use Rattle.osdp_controller.specs.Answers.{answer_by_reason, answer_by_reply}
-use Rattle.osdp_controller.specs.declared.answer.Answer.TheVariants.{Plain}
+use Rattle.osdp_controller.specs.Answers.{meaning_by_reason, meaning_by_reply}
+use Rattle.osdp_controller.specs.declared.meaning.ReplyMeaning.TheVariants.{Plain}
 use Rattle.osdp_reader.specs.Queue.{event_for, offering, released, withdrawn}
 use Rattle.osdp_reader.specs.Replies.{done_reply, list_reply, local_reply, maker_reply, not_processed, refusal_reply, refused, reply_for, reply_packet, unread_reason}
 use Rattle.osdp_reader.specs.State.{ReaderState}
@@ -31,12 +31,12 @@ use Rattle.osdp_link_laws.specs.Peers.{ReadsWhatIsAnswered}
 
 -- ---- which answers are COM
 
-by_reason : (n : NakReason) (k : NakData) (d : Communication) → answer_by_reason n k ≡ Plain (reply.Com d) → ⊥
+by_reason : (n : NakReason) (k : NakData) (d : Communication) → meaning_by_reason n k ≡ Plain (reply.Com d) → ⊥
 by_reason reason.CheckCharacters k d is = cc
 by_reason reason.UnexpectedSequence k d is = cc
 by_reason _ k d is = cc
 
-com_said : (r : Reply) (d : Communication) → answer_by_reply r ≡ Plain (reply.Com d) → r ≡ reply.Com d
+com_said : (r : Reply) (d : Communication) → meaning_by_reply r ≡ Plain (reply.Com d) → r ≡ reply.Com d
 com_said reply.Busy d is = absurd cc
 com_said (reply.Nak k) d is = absurd (by_reason k.reason k d is)
 com_said _ d is = cc

@@ -6,7 +6,7 @@ use Rattle.osdp_controller.specs.Sessions.{seen}
 use Rattle.osdp_controller.specs.declared.report.Report.{Report}
 use Rattle.osdp_reader.specs.declared.config.ReaderConfig.{ReaderConfig}
 use Rattle.osdp_reader.specs.declared.handler.Answer.{Answer}
-use Rattle.osdp_link_laws.specs.Headline.{AreMoves, Begins, handler_after}
+use Rattle.osdp_link_laws.specs.Headline.{MovesFit, Begins, handler_after}
 use Rattle.osdp_link_laws.specs.Link.{Link, Move, Queue as QueueEvent, Reopen, SetBusy, Submit, Tick, ToController, ToReader}
 use Rattle.osdp_link_laws.specs.Refusals.{IsNoRefusal, reports, told_by}
 use Rattle.osdp_link_laws.proofs.Deliveries.{all_said}
@@ -42,7 +42,7 @@ module _ {H : Type 0} (answer_of : H → Command → Answer) (after : H → Comm
   told_so given (Reopen now) l h = tt
 
 module _ {H : Type 0} (answer_of : H → Command → Answer) (after : H → Command → H) where
-  pub no_refusal : (l : Link H) (moves : List Move) → Assumed answer_of after l.reader.config l.reader.handler → Begins l → AreMoves answer_of after moves l
+  pub no_refusal : (l : Link H) (moves : List Move) → Assumed answer_of after l.reader.config l.reader.handler → Begins l → MovesFit answer_of after moves l
       → All IsNoRefusal (reports answer_of after moves l)
   no_refusal l moves given b fits =
       all_reports IsNoRefusal answer_of after l moves given (λ move m may h. told_so answer_of after l.reader.config l.reader.handler given move m h) b fits

@@ -8,10 +8,10 @@ use Rattle.osdp_msg.specs.declared.command.Command.TheVariants as command
 use Rattle.osdp_msg.specs.declared.command_fields.Communication.{Communication}
 use Rattle.osdp_msg.specs.declared.reply.Reply.{Reply}
 use Rattle.osdp_msg.specs.declared.reply_fields.PdId.{PdId}
-use Rattle.osdp_controller.specs.Answers.{answer_of}
+use Rattle.osdp_controller.specs.Answers.{meaning_of}
 use Rattle.osdp_controller.specs.Hearing.{answered, com_of, command_answered, comset_of, event_in, hears, hears_in, ignores, is_from_reader, is_numbered, moved_by, opening_answered, pd_id_of, poll_told, rests, waiting_hears}
 use Rattle.osdp_controller.specs.Sessions.{seen}
-use Rattle.osdp_controller.specs.declared.answer.Answer.TheVariants.{Plain}
+use Rattle.osdp_controller.specs.declared.meaning.ReplyMeaning.TheVariants.{Plain}
 use Rattle.osdp_controller.specs.declared.config.ControllerConfig.{ControllerConfig}
 use Rattle.osdp_controller.specs.declared.exchange.Exchange.{Exchange}
 use Rattle.osdp_controller.specs.declared.exchange.Exchange.TheVariants.{Opening, Polling, Asking}
@@ -69,7 +69,7 @@ module _ (fixed : ControllerConfig) (pd : PdId) where
   rests_after (Asking c) n a s stays is = ap (λ o. command_answered o c a s) (stays_put c a stays)
 
   pub settles_now : (x : Exchange) (n : ℕ) (a : Reply) (now : ℕ) (s : Session) → Awaits x s.state → IsOpen fixed n s → MovesNone x
-      → IsAnswerTo pd x n a → answer_of (answer fixed n a) ≡ Plain a → hears (answer fixed n a) now s ≡ rests (report_of x a) (seen now s)
+      → IsAnswerTo pd x n a → meaning_of (answer fixed n a) ≡ Plain a → hears (answer fixed n a) now s ≡ rests (report_of x a) (seen now s)
   settles_now x n a now s (until, k, o, state, is) (config, number) stays answers says =
       let q = answer fixed n a in
       let t = seen now s in
@@ -77,8 +77,8 @@ module _ (fixed : ControllerConfig) (pd : PdId) where
       ap (λ b. b && true) (is_true fixed.address s.config.address (sym (ap (λ c. c.address) config))) in
       let numbered : is_numbered n (Plain a) t ≡ true =
       ap (λ b. b || (eqb n 0 && false)) (is_true n s.number (sym number)) in
-      ap (λ b. cond b (hears_in s.state n (answer_of q) t) (ignores t)) from
-      ∙ ap (λ st. hears_in st n (answer_of q) t) state
+      ap (λ b. cond b (hears_in s.state n (meaning_of q) t) (ignores t)) from
+      ∙ ap (λ st. hears_in st n (meaning_of q) t) state
       ∙ ap (λ w. hears_in (Waiting until k o) n w t) says
       ∙ ap (λ b. cond b (waiting_hears (Plain a) k o t) (ignores t)) numbered
       ∙ ap (λ y. answered y a t) is

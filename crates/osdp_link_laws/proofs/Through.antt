@@ -5,7 +5,7 @@ use Rattle.std.proofs.lemmas.List.{append-nil, length-append}
 use Rattle.osdp_frame.specs.Packet.{Packet}
 use Rattle.osdp_msg.specs.declared.command.Command.{Command}
 use Rattle.osdp_msg.specs.declared.reply.Reply.TheVariants as reply
-use Rattle.osdp_controller.specs.Answers.{answer_of as said_by}
+use Rattle.osdp_controller.specs.Answers.{meaning_of as said_by}
 use Rattle.osdp_controller.specs.Hearing as controller
 use Rattle.osdp_controller.specs.Hearing.{hears_in, ignores, is_from_reader}
 use Rattle.osdp_controller.specs.Sessions.{seen}
@@ -20,7 +20,7 @@ use Rattle.osdp_controller.specs.declared.state.State.TheVariants.{Closed, Quiet
 use Rattle.osdp_reader.specs.declared.config.ReaderConfig.{ReaderConfig}
 use Rattle.osdp_reader.specs.declared.handler.Answer.{Answer}
 use Rattle.osdp_reader.specs.Table.{hears, kind_of}
-use Rattle.osdp_link_laws.specs.Headline.{AreMoves, Begins, SaysWhatFits, handler_after}
+use Rattle.osdp_link_laws.specs.Headline.{MovesFit, Begins, SaysWhatFits, handler_after}
 use Rattle.osdp_link_laws.specs.Link as link
 use Rattle.osdp_link_laws.specs.Link.{Account, Delivered, Link, Move, Tick, ToController, ToReader, after_move, run, told}
 use Rattle.osdp_link_laws.specs.Progress.{AreDue, ComeOn, IsClear, SetsNoAddress, round, rounds}
@@ -157,7 +157,7 @@ module _ (fixed : ControllerConfig) {H : Type 0} (answer_of : H → Command → 
       ((counted l.account + length moments ≤ counted m.account) ⊎ (all_of l.account ≤ counted m.account)) × (all_of m.account ≡ all_of l.account)
 
   through : Given → (moments : List ℕ) (l : Link H) → Holds l → IsIdle fixed answer_of after settings first l → AreDue answer_of after moments l
-      → AreMoves answer_of after (rounds moments) l → Through moments l (run answer_of after (rounds moments) l)
+      → MovesFit answer_of after (rounds moments) l → Through moments l (run answer_of after (rounds moments) l)
   through given [] l held idle due fits = (inl (omega arith), refl)
   through given (now ∷ later) l held idle due fits =
       let afterwards = held_after given now l fits.1.0 held in
@@ -198,9 +198,9 @@ module _ {H : Type 0} (answer_of : H → Command → Answer) (after : H → Comm
       absurd (closed_rests m.controller.session.state (seen next m.controller.session) m.controller.waiting closed due.0)
 
   pub comes_through : (l : Link H) (moves : List Move) (moments : List ℕ) → Assumed answer_of after l.reader.config l.reader.handler
-      → Begins l → AreMoves answer_of after moves l
+      → Begins l → MovesFit answer_of after moves l
       → let afterwards = run answer_of after moves l in
-      IsClear afterwards → AreDue answer_of after moments afterwards → AreMoves answer_of after (rounds moments) afterwards
+      IsClear afterwards → AreDue answer_of after moments afterwards → MovesFit answer_of after (rounds moments) afterwards
       → ComeOn moments afterwards.account (run answer_of after (rounds moments) afterwards).account
   comes_through l moves [] given b fits clear due more =
       let t = (run answer_of after moves l).account in

@@ -16,7 +16,7 @@ use Rattle.osdp_reader.specs.declared.config.ReaderConfig.{ReaderConfig}
 use Rattle.osdp_reader.specs.declared.handler.Answer.{Answer}
 use Rattle.osdp_reader.specs.Replies.{not_processed}
 use Rattle.osdp_reader.specs.Table.{answer_to}
-use Rattle.osdp_link_laws.specs.Headline.{AreMoves, Begins, IsMove, Once, handler_after, with_answers}
+use Rattle.osdp_link_laws.specs.Headline.{MovesFit, Begins, MoveFits, Once, handler_after, with_answers}
 use Rattle.osdp_link_laws.specs.Link.{Account, Delivered, Delivery, Link, Lost, Move, Queue as QueueEvent, Reopen, Repeated, SetBusy, Submit, Tick, ToController, ToReader, after_move, told}
 use Rattle.osdp_link_laws.specs.Link as link
 use Rattle.osdp_link_laws.specs.Names.{IsNoDevice, IsToldAsAsked}
@@ -109,7 +109,7 @@ module _ {H : Type 0} (answer_of : H → Command → Answer) (after : H → Comm
   front_told Repeated (p ∷ ps) now l plain once =
       told_so answer_of after settings once.0 (hears p now l.controller.session).report l.account (heard_so Unmoved unmoved p now l.controller.session plain.0) once.1
 
-  pub move_told : Assumed answer_of after settings first → (move : Move) (l : Link H) → IsMove answer_of after move l
+  pub move_told : Assumed answer_of after settings first → (move : Move) (l : Link H) → MoveFits answer_of after move l
       → Stands answer_of after settings first l → ToldAsAsked (told_by move l)
   move_told given (Submit c) l fits h = tt
   move_told given (QueueEvent e) l fits h = tt
@@ -128,7 +128,7 @@ module _ {H : Type 0} (answer_of : H → Command → Answer) (after : H → Comm
   move_told given (Reopen now) l fits h = tt
 
 module _ {H : Type 0} (answer_of : H → Command → Answer) (after : H → Command → H) where
-  pub tell_as_asked : (l : Link H) (moves : List Move) → Assumed answer_of after l.reader.config l.reader.handler → Begins l → AreMoves answer_of after moves l
+  pub tell_as_asked : (l : Link H) (moves : List Move) → Assumed answer_of after l.reader.config l.reader.handler → Begins l → MovesFit answer_of after moves l
       → All IsToldAsAsked (reports answer_of after moves l)
   tell_as_asked l moves given b fits =
       all_reports IsToldAsAsked answer_of after l moves given (move_told answer_of after l.reader.config l.reader.handler given) b fits

@@ -29,7 +29,7 @@ use Rattle.osdp_reader.specs.declared.config.ReaderConfig.{ReaderConfig}
 use Rattle.osdp_reader.specs.declared.handler.Answer.{Answer}
 use Rattle.osdp_reader.specs.declared.kind.Kind.{Kind}
 use Rattle.osdp_reader.specs.declared.kind.Kind.TheVariants as kind
-use Rattle.osdp_link_laws.specs.Headline.{AreMoves, Begins, IsBeginning, IsMove, handler_after, with_answers}
+use Rattle.osdp_link_laws.specs.Headline.{MovesFit, Begins, IsBeginning, MoveFits, handler_after, with_answers}
 use Rattle.osdp_link_laws.specs.Link as link
 use Rattle.osdp_link_laws.specs.Link.{Account, Delivered, Delivery, Link, Lost, Move, Queue as QueueEvent, Reopen, Repeated, SetBusy, Submit, Tick, ToController, ToReader, after_move, run, told}
 use Rattle.osdp_link_laws.specs.TwoLists.{IsInStep, IsOneOrNone, IsRead, IsStepOf, Issue, KeepsInStep, May, Offer, Offers, Queue, Report as Tell, Settle, Step, Take, TwoLists, after_step, beginning, two_lists}
@@ -322,7 +322,7 @@ module _ {H : Type 0} (answer_of : H → Command → Answer) (after : H → Comm
 
   -- ---- all moves
 
-  pub offers_once : (l : Link H) (moves : List Move) → Assumed answer_of after l.reader.config l.reader.handler → Begins l → AreMoves answer_of after moves l
+  pub offers_once : (l : Link H) (moves : List Move) → Assumed answer_of after l.reader.config l.reader.handler → Begins l → MovesFit answer_of after moves l
       → let later = run answer_of after moves l in
       Offers answer_of after l.reader.config (handler_after answer_of after l.reader.config l.reader.handler later.earlier) later.account
   offers_once l moves given b fits =
@@ -330,7 +330,7 @@ module _ {H : Type 0} (answer_of : H → Command → Answer) (after : H → Comm
       let s = running answer_of after l.reader.config l.reader.handler given moves l fits (begun answer_of after l b) in
       offers_at s.fixed answer_of after l.reader.config (handler_after answer_of after l.reader.config l.reader.handler later.earlier) s.holds.0 later s.holds.1
 
-  pub read_off : (l : Link H) (moves : List Move) → Assumed answer_of after l.reader.config l.reader.handler → Begins l → AreMoves answer_of after moves l
+  pub read_off : (l : Link H) (moves : List Move) → Assumed answer_of after l.reader.config l.reader.handler → Begins l → MovesFit answer_of after moves l
       → let later = run answer_of after moves l in
       let handler = handler_after answer_of after l.reader.config l.reader.handler later.earlier in
       IsInStep (two_lists later.account) × IsRead answer_of after l.reader.config handler later.account (two_lists later.account)
@@ -344,16 +344,16 @@ module _ {H : Type 0} (answer_of : H → Command → Answer) (after : H → Comm
         is_read answer_of after l.reader.config handler later.account once.taken once.reported offers,
       )
 
-  moves_on : (moves : List Move) (move : Move) (l : Link H) → AreMoves answer_of after moves l → IsMove answer_of after move (run answer_of after moves l)
-      → AreMoves answer_of after (moves ++ move ∷ []) l × (run answer_of after (moves ++ move ∷ []) l ≡ after_move answer_of after move (run answer_of after moves l))
+  moves_on : (moves : List Move) (move : Move) (l : Link H) → MovesFit answer_of after moves l → MoveFits answer_of after move (run answer_of after moves l)
+      → MovesFit answer_of after (moves ++ move ∷ []) l × (run answer_of after (moves ++ move ∷ []) l ≡ after_move answer_of after move (run answer_of after moves l))
   moves_on [] move l fits last = ((last, tt), refl)
   moves_on (m ∷ moves) move l fits last =
       let rest = moves_on moves move (after_move answer_of after m l) fits.1 last in ((fits.0, rest.0), rest.1)
 
   pub moves_in_step : (l : Link H) (moves : List Move) (move : Move) → Assumed answer_of after l.reader.config l.reader.handler → Begins l
-      → AreMoves answer_of after moves l
+      → MovesFit answer_of after moves l
       → let later = run answer_of after moves l in
-      IsMove answer_of after move later
+      MoveFits answer_of after move later
       → IsOneOrNone move (two_lists later.account) (two_lists (after_move answer_of after move later).account)
   moves_in_step l moves move given b fits last =
       let later = run answer_of after moves l in

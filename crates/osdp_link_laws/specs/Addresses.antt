@@ -2,13 +2,13 @@
 use Rattle.std.specs.Prelude.{◌≡◌, ◌++◌, All, List}
 use Rattle.osdp_msg.specs.declared.command.Command.{Command}
 use Rattle.osdp_reader.specs.declared.handler.Answer.{Answer}
-use Rattle.osdp_link_laws.specs.Headline.{AreMoves, Begins}
+use Rattle.osdp_link_laws.specs.Headline.{MovesFit, Begins}
 use Rattle.osdp_link_laws.specs.Link.{Link, Move, run}
 use Rattle.osdp_link_laws.specs.Progress.{SetsNoAddress}
 use Rattle.osdp_link_laws.specs.Sessions.{all_submitted}
 
 abbrev pub StayWhereTheyAre : {H : Type 0} → (H → Command → Answer) → (H → Command → H) → Type 0
-StayWhereTheyAre {H} answer_of after = (l : Link H) (moves : List Move) → Begins l → AreMoves answer_of after moves l
+StayWhereTheyAre {H} answer_of after = (l : Link H) (moves : List Move) → Begins l → MovesFit answer_of after moves l
     → All SetsNoAddress (l.controller.waiting ++ all_submitted answer_of after moves l)
     → let later = run answer_of after moves l in
     (later.reader.config.address ≡ l.reader.config.address)

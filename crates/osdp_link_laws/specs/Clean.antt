@@ -5,7 +5,7 @@ use Rattle.osdp_controller.specs.Sessions.{later as later_by}
 use Rattle.osdp_controller.specs.States.{is_closed, moment_of}
 use Rattle.osdp_reader.specs.declared.config.ReaderConfig.{ReaderConfig}
 use Rattle.osdp_reader.specs.declared.handler.Answer.{Answer}
-use Rattle.osdp_link_laws.specs.Headline.{AreMoves, Begins, with_answers}
+use Rattle.osdp_link_laws.specs.Headline.{MovesFit, Begins, with_answers}
 use Rattle.osdp_link_laws.specs.Link.{Account, Link, Move, Queue, Reopen, SetBusy, Submit, Tick, ToController, ToReader, run}
 use Rattle.osdp_link_laws.specs.Progress.{SetsNoAddress, round, rounds}
 
@@ -37,11 +37,11 @@ module _ {H : Type 0} (answer_of : H → Command → Answer) (after : H → Comm
   -- more, each as late as the poll's interval asks, settle and report in turn, and the session lasts
   abbrev pub GoesInTurn : Type 0
   GoesInTurn = (l : Link H) (orders : List Move) (opening wait : ℕ) (moments : List ℕ) → Begins l → All IsOrder orders
-      → AreMoves answer_of after orders l
+      → MovesFit answer_of after orders l
       → l.reader.config.address ≡ l.controller.session.config.address → l.reader.busy ≡ false
       → IfSome (moment_of l.controller.session.state) (λ quiet. quiet ≤ opening) → l.controller.session.config.poll_interval ≤ wait
       → let before = run answer_of after orders l in
       All SetsNoAddress before.account.issued
-      → AreSpaced wait moments (run answer_of after (round opening) before) → AreMoves answer_of after (rounds (opening ∷ moments)) before
+      → AreSpaced wait moments (run answer_of after (round opening) before) → MovesFit answer_of after (rounds (opening ∷ moments)) before
       → let last = run answer_of after (rounds (opening ∷ moments)) before in
       IsInTurn l.reader.config l.reader.handler (length moments) last.account × (is_closed last.controller.session.state ≡ false)

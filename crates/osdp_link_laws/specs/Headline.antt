@@ -55,18 +55,18 @@ module _ {H : Type 0} where
     SaysWhatFitsIf Repeated ps r = SaysWhatFits ps r
 
     -- what both ends make sure of: commands that are submitted, and replies that are sent, have their fields in their ranges
-    abbrev pub IsMove : Move → Link H → Type 0
-    IsMove (Submit command) l = CommandFits command
-    IsMove (Queue event) l = Unit {0}
-    IsMove (SetBusy busy) l = Unit {0}
-    IsMove (Tick now) l = Unit {0}
-    IsMove (ToReader how) l = SaysWhatFitsIf how l.to_reader l.reader
-    IsMove (ToController how now) l = Unit {0}
-    IsMove (Reopen now) l = Unit {0}
+    abbrev pub MoveFits : Move → Link H → Type 0
+    MoveFits (Submit command) l = CommandFits command
+    MoveFits (Queue event) l = Unit {0}
+    MoveFits (SetBusy busy) l = Unit {0}
+    MoveFits (Tick now) l = Unit {0}
+    MoveFits (ToReader how) l = SaysWhatFitsIf how l.to_reader l.reader
+    MoveFits (ToController how now) l = Unit {0}
+    MoveFits (Reopen now) l = Unit {0}
 
-    abbrev pub AreMoves : List Move → Link H → Type 0
-    AreMoves [] l = Unit {0}
-    AreMoves (move ∷ moves) l = IsMove move l × AreMoves moves (after_move answer_of after move l)
+    abbrev pub MovesFit : List Move → Link H → Type 0
+    MovesFit [] l = Unit {0}
+    MovesFit (move ∷ moves) l = MoveFits move l × MovesFit moves (after_move answer_of after move l)
 
     -- the commands that the reader has taken are a beginning of those issued, and hold each settled one, with the answer that the
     -- reader gave, and one more at most; the events reported are a beginning of those queued
@@ -86,9 +86,9 @@ module _ {H : Type 0} where
     AreOnce config handler (t ∷ earlier) = Once config (handler_after config handler earlier) t × AreOnce config handler earlier
 
     abbrev pub HoldsOnce : Type 0
-    HoldsOnce = (l : Link H) (moves : List Move) → Begins l → AreMoves moves l
+    HoldsOnce = (l : Link H) (moves : List Move) → Begins l → MovesFit moves l
         → let later = run answer_of after moves l in AreOnce l.reader.config l.reader.handler (later.account ∷ later.earlier)
 
     -- whatever is on its way to the controller says BUSY, or a reply that settles: no number is refused
     abbrev pub SaysAllPlainly : Type 0
-    SaysAllPlainly = (l : Link H) (moves : List Move) → Begins l → AreMoves moves l → All IsPlainlySaid (run answer_of after moves l).to_controller
+    SaysAllPlainly = (l : Link H) (moves : List Move) → Begins l → MovesFit moves l → All IsPlainlySaid (run answer_of after moves l).to_controller

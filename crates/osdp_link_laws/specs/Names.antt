@@ -4,16 +4,16 @@ use Rattle.osdp_frame.specs.Packet.{Packet}
 use Rattle.osdp_msg.specs.declared.command.Command.{Command}
 use Rattle.osdp_msg.specs.declared.command_fields.Communication.{Communication}
 use Rattle.osdp_msg.specs.declared.reply.Reply.TheVariants as reply
-use Rattle.osdp_controller.specs.Answers.{answer_of as said_by}
+use Rattle.osdp_controller.specs.Answers.{meaning_of as said_by}
 use Rattle.osdp_controller.specs.Hearing.{comset_of}
 use Rattle.osdp_controller.specs.Machine.{submit_refusal}
-use Rattle.osdp_controller.specs.declared.answer.Answer.TheVariants.{Plain}
+use Rattle.osdp_controller.specs.declared.meaning.ReplyMeaning.TheVariants.{Plain}
 use Rattle.osdp_controller.specs.declared.fault.ControllerFault.{ControllerFault}
 use Rattle.osdp_controller.specs.declared.report.Report.{Report}
 use Rattle.osdp_controller.specs.declared.report.Report.TheVariants as report
 use Rattle.osdp_reader.specs.Table.{command_in, new_address}
 use Rattle.osdp_reader.specs.declared.handler.Answer.{Answer}
-use Rattle.osdp_link_laws.specs.Headline.{AreMoves, Begins}
+use Rattle.osdp_link_laws.specs.Headline.{MovesFit, Begins}
 use Rattle.osdp_link_laws.specs.Link.{Link, Move, Submit, after_move, run}
 use Rattle.osdp_link_laws.specs.Progress.{NoComset}
 use Rattle.osdp_link_laws.specs.Refusals.{reports, told_by}
@@ -123,13 +123,13 @@ module _ {H : Type 0} where
     MayMoves (move ∷ moves) l reserved = MayMove move reserved × MayMoves moves (after_move answer_of after move l) (reserved_after move l reserved)
 
     abbrev pub NameOneDevice : Type 0
-    NameOneDevice = (l : Link H) (moves : List Move) → Begins l → AreMoves answer_of after moves l
+    NameOneDevice = (l : Link H) (moves : List Move) → Begins l → MovesFit answer_of after moves l
         → let last = run answer_of after moves l in
         (device : ℕ) × NamesOne device last.to_reader last.to_controller
 
     abbrev pub TellAsAsked : Type 0
-    TellAsAsked = (l : Link H) (moves : List Move) → Begins l → AreMoves answer_of after moves l → All IsToldAsAsked (reports answer_of after moves l)
+    TellAsAsked = (l : Link H) (moves : List Move) → Begins l → MovesFit answer_of after moves l → All IsToldAsAsked (reports answer_of after moves l)
 
     abbrev pub KeepToNames : Type 0
-    KeepToNames = (l : Link H) (moves : List Move) → BeginsTogether l → AreMoves answer_of after moves l → MayMoves moves l None
+    KeepToNames = (l : Link H) (moves : List Move) → BeginsTogether l → MovesFit answer_of after moves l → MayMoves moves l None
         → KeepsToNames (reserved_after_moves moves l None) (run answer_of after moves l)

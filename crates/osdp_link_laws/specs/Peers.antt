@@ -7,11 +7,11 @@ use Rattle.osdp_msg.specs.ReplyTable.{ReplyFits}
 use Rattle.osdp_msg.specs.declared.command.Command.{Command}
 use Rattle.osdp_msg.specs.declared.event.Event.{Event}
 use Rattle.osdp_msg.specs.declared.reply.Reply.{Reply}
-use Rattle.osdp_controller.specs.Answers.{answer_by_reply, answer_of}
+use Rattle.osdp_controller.specs.Answers.{meaning_by_reply, meaning_of}
 use Rattle.osdp_controller.specs.Exchanges.{exchange_command}
 use Rattle.osdp_controller.specs.Hearing.{event_in}
 use Rattle.osdp_controller.specs.Sessions.{frame_of}
-use Rattle.osdp_controller.specs.declared.answer.Answer.TheVariants.{NotTaken, Plain}
+use Rattle.osdp_controller.specs.declared.meaning.ReplyMeaning.TheVariants.{NotTaken, Plain}
 use Rattle.osdp_controller.specs.declared.exchange.Exchange.{Exchange}
 use Rattle.osdp_controller.specs.declared.session.Session.{Session}
 use Rattle.osdp_reader.specs.Replies.{reply_packet}
@@ -27,15 +27,15 @@ ReadsWhatIsAsked = (x : Exchange) (s : Session) → CommandFits (exchange_comman
 -- the controller reads the reply
 abbrev pub ReadsWhatIsAnswered : Type 0
 ReadsWhatIsAnswered = (p : Packet) (number : ℕ) (r : Reply) → ReplyFits r
-    → answer_of (reply_packet p number r) ≡ answer_by_reply r
+    → meaning_of (reply_packet p number r) ≡ meaning_by_reply r
 
 -- a plain reply is the answer
 abbrev pub TakesPlainReplies : Type 0
-TakesPlainReplies = (r : Reply) → IsPlain r → answer_by_reply r ≡ Plain r
+TakesPlainReplies = (r : Reply) → IsPlain r → meaning_by_reply r ≡ Plain r
 
 -- a packet that says BUSY, or a reply that settles: none refuses a number or a check, and all can be read
 abbrev pub IsPlainlySaid : Packet → Type 0
-IsPlainlySaid p = (answer_of p ≡ NotTaken) ⊎ ((r : Reply) × (answer_of p ≡ Plain r))
+IsPlainlySaid p = (meaning_of p ≡ NotTaken) ⊎ ((r : Reply) × (meaning_of p ≡ Plain r))
 
 -- the reply that tells an event tells this event
 abbrev pub TellsItsEvent : Type 0

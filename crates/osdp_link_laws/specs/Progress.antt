@@ -8,7 +8,7 @@ use Rattle.osdp_controller.specs.declared.state.State.TheVariants.{Closed}
 use Rattle.osdp_controller_laws.specs.Calls.{IsInRange, longest_wait}
 use Rattle.osdp_reader.specs.declared.handler.Answer.{Answer}
 use Rattle.osdp_reader.specs.Table.{new_address}
-use Rattle.osdp_link_laws.specs.Headline.{AreMoves, Begins}
+use Rattle.osdp_link_laws.specs.Headline.{MovesFit, Begins}
 use Rattle.osdp_link_laws.specs.Link.{Account, Delivered, Link, Move, Tick, ToController, ToReader, run}
 
 -- a round that loses nothing: a tick, then the packet to the reader, then the one to the controller
@@ -49,9 +49,9 @@ module _ {H : Type 0} where
     AreDue (now ∷ later) l = (is_due now l.controller ≡ true) × AreDue later (run answer_of after (round now) l)
 
     abbrev pub ComesThrough : Type 0
-    ComesThrough = (l : Link H) (moves : List Move) (moments : List ℕ) → Begins l → AreMoves answer_of after moves l
+    ComesThrough = (l : Link H) (moves : List Move) (moments : List ℕ) → Begins l → MovesFit answer_of after moves l
         → let later = run answer_of after moves l in
-        IsClear later → AreDue moments later → AreMoves answer_of after (rounds moments) later
+        IsClear later → AreDue moments later → MovesFit answer_of after (rounds moments) later
         → ComeOn moments later.account (run answer_of after (rounds moments) later).account
 
     -- each tick comes so much later than the greatest moment seen as the longest of the controller's waits
@@ -63,8 +63,8 @@ module _ {H : Type 0} where
     -- then the session has ended, or the same comes through
     abbrev pub ComesThroughInTime : Type 0
     ComesThroughInTime = (l : Link H) (moves : List Move) (moments : List ℕ) → Begins l → IsInRange l.controller.session
-        → AreMoves answer_of after moves l
+        → MovesFit answer_of after moves l
         → let later = run answer_of after moves l in
-        IsClear later → AreLate moments later → AreMoves answer_of after (rounds moments) later
+        IsClear later → AreLate moments later → MovesFit answer_of after (rounds moments) later
         → let last = run answer_of after (rounds moments) later in
         (last.controller.session.state ≡ Closed) ⊎ ComeOn moments later.account last.account

@@ -10,7 +10,7 @@ use Rattle.osdp_controller.specs.declared.report.Report.{Report}
 use Rattle.osdp_controller.specs.declared.report.Report.TheVariants as report
 use Rattle.osdp_controller.specs.declared.session.Session.{Session}
 use Rattle.osdp_reader.specs.declared.handler.Answer.{Answer}
-use Rattle.osdp_link_laws.specs.Headline.{AreMoves, Begins}
+use Rattle.osdp_link_laws.specs.Headline.{MovesFit, Begins}
 use Rattle.osdp_link_laws.specs.Link.{Delivered, Delivery, Link, Move, Repeated, Tick, ToController, after_move}
 
 -- what is told where the packet in front comes through
@@ -40,4 +40,4 @@ module _ {H : Type 0} where
     reports (move ∷ moves) l = option_to_list (told_by move l) ++ reports moves (after_move answer_of after move l)
 
     abbrev pub RefusesNoNumber : Type 0
-    RefusesNoNumber = (l : Link H) (moves : List Move) → Begins l → AreMoves answer_of after moves l → All IsNoRefusal (reports moves l)
+    RefusesNoNumber = (l : Link H) (moves : List Move) → Begins l → MovesFit answer_of after moves l → All IsNoRefusal (reports moves l)

@@ -9,7 +9,7 @@ use Rattle.osdp_controller.specs.declared.fault.ControllerFault.{ControllerFault
 use Rattle.osdp_controller.specs.declared.state.State.{State}
 use Rattle.osdp_controller.specs.declared.state.State.TheVariants.{Closed}
 use Rattle.osdp_reader.specs.declared.handler.Answer.{Answer}
-use Rattle.osdp_link_laws.specs.Headline.{AreMoves, Begins, IsBeginning}
+use Rattle.osdp_link_laws.specs.Headline.{MovesFit, Begins, IsBeginning}
 use Rattle.osdp_link_laws.specs.Link.{Account, Link, Move, Queue, Submit, after_move, run}
 
 abbrev pub settled_commands : Account → List Command
@@ -36,9 +36,9 @@ AreInARow t [] = Unit {0}
 AreInARow t (before ∷ earlier) = Follows before t × AreInARow before earlier
 
 -- the commands that these sessions settled or told unsettled, session after session
-abbrev pub told_in : List Account → List Command
-told_in [] = []
-told_in (t ∷ earlier) = told_in earlier ++ (settled_commands t ++ t.unsettled)
+abbrev pub ended_commands : List Account → List Command
+ended_commands [] = []
+ended_commands (t ∷ earlier) = ended_commands earlier ++ (settled_commands t ++ t.unsettled)
 
 -- of all events, those that have left the queue: what these sessions reported, of each the last or none left out, session after session.
 -- The events of a session are those after what had left before it.
@@ -55,9 +55,9 @@ accepted None command = command ∷ []
 accepted (Some fault) command = []
 
 -- the event that a move queues, unless the queue is full
-abbrev pub queued_unless : Bool → Event → List Event
-queued_unless true event = []
-queued_unless false event = event ∷ []
+abbrev pub unless_full : Bool → Event → List Event
+unless_full true event = []
+unless_full false event = event ∷ []
 
 module _ {H : Type 0} where
   abbrev pub submitted : Move → Link H → List Command
@@ -65,7 +65,7 @@ module _ {H : Type 0} where
   submitted _ l = []
 
   abbrev pub queued : Move → Link H → List Event
-  queued (Queue event) l = queued_unless (length l.reader.queue.events == l.reader.queue.capacity) event
+  queued (Queue event) l = unless_full (length l.reader.queue.events == l.reader.queue.capacity) event
   queued _ l = []
 
   -- while the last session lasts it has told no command unsettled; where it has ended it leaves what a next one would begin with
@@ -83,23 +83,23 @@ module _ {H : Type 0} where
     all_queued (move ∷ moves) l = queued move l ++ all_queued moves (after_move answer_of after move l)
 
     abbrev pub StayInARow : Type 0
-    StayInARow = (l : Link H) (moves : List Move) → Begins l → AreMoves answer_of after moves l
+    StayInARow = (l : Link H) (moves : List Move) → Begins l → MovesFit answer_of after moves l
         → let later = run answer_of after moves l in AreInARow later.account later.earlier
 
     abbrev pub LastOneLasts : Type 0
-    LastOneLasts = (l : Link H) (moves : List Move) → Begins l → AreMoves answer_of after moves l
+    LastOneLasts = (l : Link H) (moves : List Move) → Begins l → MovesFit answer_of after moves l
         → let later = run answer_of after moves l in LastsOrLeaves later.controller.session.state later
 
     -- each command that waited at first or was accepted since has one place: with a session that settled it or told it unsettled, or
     -- after all of these among the commands of the last one
     abbrev pub CommandsHavePlaces : Type 0
-    CommandsHavePlaces = (l : Link H) (moves : List Move) → Begins l → AreMoves answer_of after moves l
+    CommandsHavePlaces = (l : Link H) (moves : List Move) → Begins l → MovesFit answer_of after moves l
         → let later = run answer_of after moves l in
-        l.controller.waiting ++ all_submitted moves l ≡ told_in later.earlier ++ later.account.issued
+        l.controller.waiting ++ all_submitted moves l ≡ ended_commands later.earlier ++ later.account.issued
 
     -- .. and each event: the events of the last session are those that have not left the queue before it
     abbrev pub EventsHavePlaces : Type 0
-    EventsHavePlaces = (l : Link H) (moves : List Move) → Begins l → AreMoves answer_of after moves l
+    EventsHavePlaces = (l : Link H) (moves : List Move) → Begins l → MovesFit answer_of after moves l
         → let later = run answer_of after moves l in
         let all = l.reader.queue.events ++ all_queued moves l in
         (gone : List Event) × HaveLeft all later.earlier gone × (all ≡ gone ++ later.account.queued)

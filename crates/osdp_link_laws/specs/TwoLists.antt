@@ -6,7 +6,7 @@ use Rattle.osdp_msg.specs.declared.event.Event.{Event}
 use Rattle.osdp_msg.specs.declared.reply.Reply.{Reply}
 use Rattle.osdp_reader.specs.declared.config.ReaderConfig.{ReaderConfig}
 use Rattle.osdp_reader.specs.declared.handler.Answer.{Answer}
-use Rattle.osdp_link_laws.specs.Headline.{AreMoves, Begins, IsBeginning, IsMove, handler_after, with_answers}
+use Rattle.osdp_link_laws.specs.Headline.{MovesFit, Begins, IsBeginning, MoveFits, handler_after, with_answers}
 use Rattle.osdp_link_laws.specs.Link as link
 use Rattle.osdp_link_laws.specs.Link.{Account, Link, Move, after_move, run}
 
@@ -111,18 +111,18 @@ module _ {H : Type 0} (answer_of : H → Command → Answer) (after : H → Comm
     pub reported : t.reported ≡ take m.reported m.queued
 
   abbrev pub OffersOnce : Type 0
-  OffersOnce = (l : Link H) (moves : List Move) → Begins l → AreMoves answer_of after moves l
+  OffersOnce = (l : Link H) (moves : List Move) → Begins l → MovesFit answer_of after moves l
       → let later = run answer_of after moves l in
       Offers l.reader.config (handler_after answer_of after l.reader.config l.reader.handler later.earlier) later.account
 
   abbrev pub IsReadOff : Type 0
-  IsReadOff = (l : Link H) (moves : List Move) → Begins l → AreMoves answer_of after moves l
+  IsReadOff = (l : Link H) (moves : List Move) → Begins l → MovesFit answer_of after moves l
       → let later = run answer_of after moves l in
       IsInStep (two_lists later.account)
       × IsRead l.reader.config (handler_after answer_of after l.reader.config l.reader.handler later.earlier) later.account (two_lists later.account)
 
   abbrev pub MovesInStep : Type 0
-  MovesInStep = (l : Link H) (moves : List Move) (move : Move) → Begins l → AreMoves answer_of after moves l
+  MovesInStep = (l : Link H) (moves : List Move) (move : Move) → Begins l → MovesFit answer_of after moves l
       → let later = run answer_of after moves l in
-      IsMove answer_of after move later
+      MoveFits answer_of after move later
       → IsOneOrNone move (two_lists later.account) (two_lists (after_move answer_of after move later).account)

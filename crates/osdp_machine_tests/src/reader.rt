@@ -383,7 +383,7 @@ fn laws_hold_of_any_handler(_rt: HostRuntime) {
     osdp_reader_laws::answers_plainly::<Bench>();
     osdp_reader_laws::sends_what_it_says::<Bench>();
     osdp_reader_laws::answers_taken::<Bench>();
-    osdp_reader_laws::stays_well::<Bench>();
+    osdp_reader_laws::reader_stays_well::<Bench>();
     osdp_reader_laws::answers_in_order::<Bench>();
     osdp_reader_laws::replies_to_its_command();
     osdp_reader_laws::takes_the_next_number::<Bench>();

@@ -9,14 +9,14 @@ use Rattle.osdp_controller.specs.Hearing.{comset_of}
 use Rattle.osdp_controller.specs.Machine as controllers
 use Rattle.osdp_controller.specs.declared.fault.ControllerFault.{ControllerFault}
 use Rattle.osdp_reader.specs.declared.handler.Answer.{Answer}
-use Rattle.osdp_link_laws.specs.Headline.{AreMoves, IsMove, SaysWhatFitsIf}
+use Rattle.osdp_link_laws.specs.Headline.{MovesFit, MoveFits, SaysWhatFitsIf}
 use Rattle.osdp_link_laws.specs.Link as link
 use Rattle.osdp_link_laws.specs.Link.{Delivered, Delivery, Lost, Move, Repeated}
 use Rattle.osdp_link_laws.specs.Names.{MayAsk, MayMove, MayMoves}
 use Rattle.osdp_link_laws.proofs.Lines.{both}
 use Rattle.osdp_multidrop.specs.Line as line
 use Rattle.osdp_multidrop.specs.Line.{Net, NetMove, Queue, Reopen, SetBusy, Site, Submit, Tick, ToControllers, ToReaders, address_of, after_net, changed, is_comset_refused, site_at, submits}
-use Rattle.osdp_multidrop.specs.Runs.{IsNetMove, in_front}
+use Rattle.osdp_multidrop.specs.Runs.{NetMoveFits, in_front}
 use Rattle.osdp_multidrop.specs.Views as views
 use Rattle.osdp_multidrop.specs.Views.{front_to_controller, front_to_reader, move_of, one_if, own, view}
 use Rattle.osdp_multidrop.proofs.Apart.{IsSited}
@@ -32,9 +32,9 @@ module _ {H : Type 0} (answer_of : H → Command → Answer) (after : H → Comm
 
   -- so they may be moves of this site's link
   abbrev pub Fit : ℕ → Site H → Net H → List Move → Type 0
-  Fit k s n ms = AreMoves answer_of after ms (view k s n) × MayMoves answer_of after ms (view k s n) s.reserved
+  Fit k s n ms = MovesFit answer_of after ms (view k s n) × MayMoves answer_of after ms (view k s n) s.reserved
 
-  one_fits : (i k : ℕ) (s : Site H) (n : Net H) (m : Move) → IsMove answer_of after m (view k s n) → MayMove m s.reserved → Fit k s n (one_if i k m)
+  one_fits : (i k : ℕ) (s : Site H) (n : Net H) (m : Move) → MoveFits answer_of after m (view k s n) → MayMove m s.reserved → Fit k s n (one_if i k m)
   one_fits i k s n m fits may = both (Fit k s n) (eqb i k) (m ∷ []) [] ((fits, tt), (may, tt)) (tt, tt)
 
   may_ask : (o : Option Communication) (i : ℕ) (s : Site H) (ss : List (Site H)) → is_comset_refused i o s ss ≡ false → MayAsk o s.reserved
@@ -76,7 +76,7 @@ module _ {H : Type 0} (answer_of : H → Command → Answer) (after : H → Comm
   reopening_fits i now [] (q ∷ qs) k s n = (tt, tt)
   reopening_fits i now [] [] k s n = one_fits i k s n (link.Reopen now) tt tt
 
-  pub move_fits : (move : NetMove) (k : ℕ) (s : Site H) (n : Net H) → site_at k n.sites ≡ Some s → IsNetMove answer_of after move n
+  pub move_fits : (move : NetMove) (k : ℕ) (s : Site H) (n : Net H) → site_at k n.sites ≡ Some s → NetMoveFits answer_of after move n
       → Fit k s n (move_of k s move n)
   move_fits (Submit i c) k s n is fits = by_test (is_comset_refused i (comset_of c) s n.sites) refl
     where

@@ -8,7 +8,7 @@ use Rattle.osdp_controller.specs.declared.session.Session.{Session}
 use Rattle.osdp_controller.specs.declared.state.State.{State}
 use Rattle.osdp_controller.specs.declared.state.State.TheVariants.{Closed, Quiet, Idle, Waiting, Pausing}
 use Rattle.osdp_reader.specs.declared.handler.Answer.{Answer}
-use Rattle.osdp_link_laws.specs.Headline.{AreMoves}
+use Rattle.osdp_link_laws.specs.Headline.{MovesFit}
 use Rattle.osdp_link_laws.specs.Link.{Link, Move, run}
 use Rattle.osdp_link_laws.specs.Names.{IsCommandTo, MayMoves, MovesController, MovesReader}
 use Rattle.osdp_link_laws.specs.Peers.{ReadEachOther}
@@ -61,7 +61,7 @@ module _ {H : Type 0} (answer_of : H → Command → Answer) (after : H → Comm
     pub keeps : Keeps s.reserved (view k s n)
 
   pub linked_after : (ReadEachOther answer_of after) → (k : ℕ) (s : Site H) (moves : List Move) (n next : Net H) → IsLinked k s n
-      → AreMoves answer_of after moves (view k s n) → MayMoves answer_of after moves (view k s n) s.reserved
+      → MovesFit answer_of after moves (view k s n) → MayMoves answer_of after moves (view k s n) s.reserved
       → (m : IsMoved answer_of after k s moves n next) → IsLinked k m.site next
   linked_after peers k s moves n next h fits may m =
       let given = assumed answer_of after h.first.reader.config h.first.reader.handler peers in

@@ -3,15 +3,15 @@ use Rattle.std.proofs.Common.{◌≡◌, ℕ, List, [], ◌∷◌, ◌++◌, Opt
 use Rattle.osdp_msg.specs.declared.command.Command.{Command}
 use Rattle.osdp_msg.specs.declared.event.Event.{Event}
 use Rattle.osdp_reader.specs.declared.handler.Answer.{Answer}
-use Rattle.osdp_link_laws.specs.Headline.{AreMoves, AreOnce, HoldsOnce}
+use Rattle.osdp_link_laws.specs.Headline.{MovesFit, AreOnce, HoldsOnce}
 use Rattle.osdp_link_laws.specs.Link as link
 use Rattle.osdp_link_laws.specs.Link.{Link, Move}
 use Rattle.osdp_link_laws.specs.Names.{reserved_after, reserved_after_moves}
 use Rattle.osdp_link_laws.specs.Peers.{ReadEachOther}
 use Rattle.osdp_link_laws.specs.Refusals.{RefusesNoNumber}
-use Rattle.osdp_link_laws.specs.Sessions.{AreInARow, CommandsHavePlaces, EventsHavePlaces, HaveLeft, LastOneLasts, LastsOrLeaves, StayInARow, all_queued, all_submitted, told_in}
+use Rattle.osdp_link_laws.specs.Sessions.{AreInARow, CommandsHavePlaces, EventsHavePlaces, HaveLeft, LastOneLasts, LastsOrLeaves, StayInARow, all_queued, all_submitted, ended_commands}
 use Rattle.osdp_multidrop.specs.Line.{Net, NetMove, Site, after_net, run, site_at}
-use Rattle.osdp_multidrop.specs.Runs.{AreNetMoves, EachHoldsOnce, EachIsALink, EachRefusesNoNumber, EachStaysInARow, IsItsLink, moves_at, moves_of}
+use Rattle.osdp_multidrop.specs.Runs.{NetMovesFit, EachHoldsOnce, EachIsALink, EachRefusesNoNumber, EachStaysInARow, IsItsLink, moves_at, moves_of}
 use Rattle.osdp_multidrop.specs.Views.{IsMoved, move_of, view}
 use Rattle.osdp_multidrop.proofs.Changing.{some_same}
 use Rattle.osdp_multidrop.proofs.Fitting.{move_fits}
@@ -31,8 +31,8 @@ module _ {H : Type 0} (answer_of : H → Command → Answer) (after : H → Comm
   reserved_more [] more l r = refl
   reserved_more (m ∷ ms) more l r = reserved_more ms more (link.after_move answer_of after m l) (reserved_after m l r)
 
-  moves_more : (ms more : List Move) (l : Link H) → AreMoves answer_of after ms l → AreMoves answer_of after more (link.run answer_of after ms l)
-      → AreMoves answer_of after (ms ++ more) l
+  moves_more : (ms more : List Move) (l : Link H) → MovesFit answer_of after ms l → MovesFit answer_of after more (link.run answer_of after ms l)
+      → MovesFit answer_of after (ms ++ more) l
   moves_more [] more l first last = last
   moves_more (m ∷ ms) more l first last = (first.0, moves_more ms more (link.after_move answer_of after m l) first.1 last)
 
@@ -50,7 +50,7 @@ module _ {H : Type 0} (answer_of : H → Command → Answer) (after : H → Comm
   }
 
   module _ (peers : ReadEachOther answer_of after) where
-    is_its_link : (moves : List NetMove) (n : Net H) → AreNetMoves answer_of after moves n → Holds answer_of after peers n
+    is_its_link : (moves : List NetMove) (n : Net H) → NetMovesFit answer_of after moves n → Holds answer_of after peers n
         → (k : ℕ) (s : Site H) → site_at k n.sites ≡ Some s → IsItsLink answer_of after k s moves n
     is_its_link [] n fits h k s is = record { moved = record { site = s; there = is; moved = refl; reserved = refl }; fits = tt }
     is_its_link (move ∷ moves) n fits h k s is =
@@ -65,8 +65,8 @@ module _ {H : Type 0} (answer_of : H → Command → Answer) (after : H → Comm
         record {
           moved = subst (λ l. IsMoved answer_of after k s l n (run answer_of after moves next)) (sym same)
               (joined k s ms more n next (run answer_of after moves next) m rest.moved);
-          fits = subst (λ l. AreMoves answer_of after l (view k s n)) (sym same)
-              (moves_more ms more (view k s n) fit.0 (subst (AreMoves answer_of after more) m.moved rest.fits));
+          fits = subst (λ l. MovesFit answer_of after l (view k s n)) (sym same)
+              (moves_more ms more (view k s n) fit.0 (subst (MovesFit answer_of after more) m.moved rest.fits));
         }
 
     pub each_is_a_link : EachIsALink answer_of after
@@ -104,7 +104,7 @@ module _ {H : Type 0} (answer_of : H → Command → Answer) (after : H → Comm
       record {
         row = subst (λ v. AreInARow v.account v.earlier) same (row l ms begins h.fits);
         lasts = subst (λ v. LastsOrLeaves v.controller.session.state v) same (lasts l ms begins h.fits);
-        commands = subst (λ v. s.controller.waiting ++ all_submitted answer_of after ms l ≡ told_in v.earlier ++ v.account.issued) same (commands l ms begins h.fits);
+        commands = subst (λ v. s.controller.waiting ++ all_submitted answer_of after ms l ≡ ended_commands v.earlier ++ v.account.issued) same (commands l ms begins h.fits);
         events = subst (λ v. let all = s.reader.queue.events ++ all_queued answer_of after ms l in
             (gone : List Event) × HaveLeft all v.earlier gone × (all ≡ gone ++ v.account.queued)) same (events l ms begins h.fits);
       }

@@ -16,7 +16,7 @@ use Rattle.osdp_link_laws.proofs.Stages.{Each}
 use Rattle.osdp_multidrop.specs.Apart.{IsHeardByNobodyElse, IsInOrder}
 use Rattle.osdp_multidrop.specs.Line as line
 use Rattle.osdp_multidrop.specs.Line.{Net, NetMove, Queue, Reopen, SetBusy, Site, Submit, Tick, ToControllers, ToReaders, address_of, after_net, queues, run, site_at}
-use Rattle.osdp_multidrop.specs.Runs.{AreNetMoves, IsNetMove, IsSetUp, in_front}
+use Rattle.osdp_multidrop.specs.Runs.{NetMovesFit, NetMoveFits, IsSetUp, in_front}
 use Rattle.osdp_multidrop.specs.Views.{HeardByOwn, move_of, view}
 use Rattle.osdp_multidrop.proofs.Apart.{Apart, IsAway, IsClear, IsLine, Only, front_clears, line_rest, reader_address}
 use Rattle.osdp_multidrop.proofs.Calling.{beginning, changing, queue_keeps, submitting, ticking}
@@ -106,7 +106,7 @@ module _ {H : Type 0} (answer_of : H → Command → Answer) (after : H → Comm
 
   -- ---- a move
 
-  apart_after : (move : NetMove) (n : Net H) → IsNetMove answer_of after move n → Holds n → Apart (after_net answer_of after move n)
+  apart_after : (move : NetMove) (n : Net H) → NetMoveFits answer_of after move n → Holds n → Apart (after_net answer_of after move n)
   apart_after (Submit i c) n fits h = submitting i c (site_at i n.sites) n refl h.apart
   apart_after (Queue i e) n fits h =
       changing i (site_at i n.sites) (λ s. queues (length s.reader.queue.events == s.reader.queue.capacity) e s) n refl
@@ -119,7 +119,7 @@ module _ {H : Type 0} (answer_of : H → Command → Answer) (after : H → Comm
   apart_after (ToControllers how now) n fits h = to_controllers how now n.to_controllers n refl h
   apart_after (Reopen i now) n fits h = beginning i now (site_at i n.sites) n.to_readers n.to_controllers n refl h.apart
 
-  pub holds_after : (move : NetMove) (n : Net H) → IsNetMove answer_of after move n → Holds n → Holds (after_net answer_of after move n)
+  pub holds_after : (move : NetMove) (n : Net H) → NetMoveFits answer_of after move n → Holds n → Holds (after_net answer_of after move n)
   holds_after move n fits h = record { linked = linked; apart = apart_after move n fits h }
     where
       next : Net H
@@ -133,7 +133,7 @@ module _ {H : Type 0} (answer_of : H → Command → Answer) (after : H → Comm
           subst (λ s. IsLinked answer_of after k s next) (some_same moved.site t (sym moved.there ∙ is))
           (linked_after answer_of after peers k old.0 (move_of k old.0 move n) n next (h.linked k old.0 old.1) fit.0 fit.1 moved)
 
-  pub holds_all : (moves : List NetMove) (n : Net H) → AreNetMoves answer_of after moves n → Holds n → Holds (run answer_of after moves n)
+  pub holds_all : (moves : List NetMove) (n : Net H) → NetMovesFit answer_of after moves n → Holds n → Holds (run answer_of after moves n)
   holds_all [] n fits h = h
   holds_all (move ∷ moves) n fits h = holds_all moves (after_net answer_of after move n) fits.1 (holds_after move n fits.0 h)
 
@@ -160,7 +160,7 @@ module _ {H : Type 0} (answer_of : H → Command → Answer) (after : H → Comm
       its_own none (inl is) = is
       its_own none (inr is) = absurd cc
 
-  pub nobody_else : (n : Net H) (moves : List NetMove) → IsSetUp n → AreNetMoves answer_of after moves n
+  pub nobody_else : (n : Net H) (moves : List NetMove) → IsSetUp n → NetMovesFit answer_of after moves n
       → IsHeardByNobodyElse (run answer_of after moves n)
   nobody_else n moves up fits =
       let last = run answer_of after moves n in

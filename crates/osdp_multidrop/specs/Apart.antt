@@ -5,7 +5,7 @@ use Rattle.osdp_msg.specs.declared.command.Command.{Command}
 use Rattle.osdp_reader.specs.declared.handler.Answer.{Answer}
 use Rattle.osdp_link_laws.specs.Names.{IsName, MovesController, MovesReader}
 use Rattle.osdp_multidrop.specs.Line.{Net, NetMove, Site, address_of, run, site_at}
-use Rattle.osdp_multidrop.specs.Runs.{AreNetMoves, IsSetUp}
+use Rattle.osdp_multidrop.specs.Runs.{NetMovesFit, IsSetUp}
 use Rattle.osdp_multidrop.specs.Views.{HeardByOwn}
 
 -- what sends an end to another address stands after all packets of other sites that name it: none of them is left once it comes through
@@ -33,5 +33,5 @@ module _ {H : Type 0} where
 
   module _ (answer_of : H → Command → Answer) (after : H → Command → H) where
     abbrev pub NobodyElseHears : Type 0
-    NobodyElseHears = (n : Net H) (moves : List NetMove) → IsSetUp n → AreNetMoves answer_of after moves n
+    NobodyElseHears = (n : Net H) (moves : List NetMove) → IsSetUp n → NetMovesFit answer_of after moves n
         → IsHeardByNobodyElse (run answer_of after moves n)

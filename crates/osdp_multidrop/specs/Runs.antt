@@ -5,11 +5,11 @@ use Rattle.osdp_msg.specs.CommandTable.{CommandFits}
 use Rattle.osdp_msg.specs.declared.command.Command.{Command}
 use Rattle.osdp_msg.specs.declared.event.Event.{Event}
 use Rattle.osdp_reader.specs.declared.handler.Answer.{Answer}
-use Rattle.osdp_link_laws.specs.Headline.{AreMoves, AreOnce, SaysWhatFitsIf}
+use Rattle.osdp_link_laws.specs.Headline.{MovesFit, AreOnce, SaysWhatFitsIf}
 use Rattle.osdp_link_laws.specs.Link.{Move}
 use Rattle.osdp_link_laws.specs.Names.{BeginsTogether}
 use Rattle.osdp_link_laws.specs.Refusals.{IsNoRefusal, reports}
-use Rattle.osdp_link_laws.specs.Sessions.{AreInARow, HaveLeft, LastsOrLeaves, all_queued, all_submitted, told_in}
+use Rattle.osdp_link_laws.specs.Sessions.{AreInARow, HaveLeft, LastsOrLeaves, all_queued, all_submitted, ended_commands}
 use Rattle.osdp_multidrop.specs.Line.{Net, NetMove, Queue, Reopen, SetBusy, Site, Submit, Tick, ToControllers, ToReaders, address_of, after_net, run, site_at}
 use Rattle.osdp_multidrop.specs.Views.{IsMoved, move_of, view}
 
@@ -30,19 +30,19 @@ module _ {H : Type 0} where
   module _ (answer_of : H → Command → Answer) (after : H → Command → H) where
     -- what the controllers and the readers make sure of: commands that are submitted, and replies that are sent, have their fields in
     -- their ranges
-    abbrev pub IsNetMove : NetMove → Net H → Type 0
-    IsNetMove (Submit k command) n = CommandFits command
-    IsNetMove (Queue k event) n = Unit {0}
-    IsNetMove (SetBusy k busy) n = Unit {0}
-    IsNetMove (Tick k now) n = Unit {0}
-    IsNetMove (ToReaders how) n =
+    abbrev pub NetMoveFits : NetMove → Net H → Type 0
+    NetMoveFits (Submit k command) n = CommandFits command
+    NetMoveFits (Queue k event) n = Unit {0}
+    NetMoveFits (SetBusy k busy) n = Unit {0}
+    NetMoveFits (Tick k now) n = Unit {0}
+    NetMoveFits (ToReaders how) n =
         (k : ℕ) (s : Site H) → site_at k n.sites ≡ Some s → SaysWhatFitsIf answer_of after how (in_front n.to_readers) s.reader
-    IsNetMove (ToControllers how now) n = Unit {0}
-    IsNetMove (Reopen k now) n = Unit {0}
+    NetMoveFits (ToControllers how now) n = Unit {0}
+    NetMoveFits (Reopen k now) n = Unit {0}
 
-    abbrev pub AreNetMoves : List NetMove → Net H → Type 0
-    AreNetMoves [] n = Unit {0}
-    AreNetMoves (move ∷ moves) n = IsNetMove move n × AreNetMoves moves (after_net answer_of after move n)
+    abbrev pub NetMovesFit : List NetMove → Net H → Type 0
+    NetMovesFit [] n = Unit {0}
+    NetMovesFit (move ∷ moves) n = NetMoveFits move n × NetMovesFit moves (after_net answer_of after move n)
 
     -- ---- the moves that a run comes to for the site at this place
 
@@ -57,10 +57,10 @@ module _ {H : Type 0} where
     -- its view is its link after these moves, which are moves as a link has them
     pub record IsItsLink (k : ℕ) (s : Site H) (moves : List NetMove) (n : Net H) : Type 0 where
       pub moved : IsMoved answer_of after k s (moves_of k moves n) n (run answer_of after moves n)
-      pub fits : AreMoves answer_of after (moves_of k moves n) (view k s n)
+      pub fits : MovesFit answer_of after (moves_of k moves n) (view k s n)
 
     abbrev pub EachIsALink : Type 0
-    EachIsALink = (n : Net H) (moves : List NetMove) → IsSetUp n → AreNetMoves moves n
+    EachIsALink = (n : Net H) (moves : List NetMove) → IsSetUp n → NetMovesFit moves n
         → (k : ℕ) (s : Site H) → site_at k n.sites ≡ Some s → IsItsLink k s moves n
 
     -- ---- so what holds of a link holds of each site
@@ -68,13 +68,13 @@ module _ {H : Type 0} where
     -- within each session of each site commands are taken once and in order, settled with their own answers, and events are reported once
     -- and in order
     abbrev pub EachHoldsOnce : Type 0
-    EachHoldsOnce = (n : Net H) (moves : List NetMove) → IsSetUp n → AreNetMoves moves n
+    EachHoldsOnce = (n : Net H) (moves : List NetMove) → IsSetUp n → NetMovesFit moves n
         → (k : ℕ) (first last : Site H) → site_at k n.sites ≡ Some first → site_at k (run answer_of after moves n).sites ≡ Some last
         → AreOnce answer_of after first.reader.config first.reader.handler (last.account ∷ last.earlier)
 
     -- no session of any site ends because a reader refused a number
     abbrev pub EachRefusesNoNumber : Type 0
-    EachRefusesNoNumber = (n : Net H) (moves : List NetMove) → IsSetUp n → AreNetMoves moves n
+    EachRefusesNoNumber = (n : Net H) (moves : List NetMove) → IsSetUp n → NetMovesFit moves n
         → (k : ℕ) (s : Site H) → site_at k n.sites ≡ Some s → All IsNoRefusal (reports answer_of after (moves_of k moves n) (view k s n))
 
     -- the sessions of each site are in a row; its commands and events have their places in them
@@ -82,11 +82,11 @@ module _ {H : Type 0} where
       pub row : AreInARow last.account last.earlier
       pub lasts : LastsOrLeaves last.controller.session.state (view k last (run answer_of after moves n))
       pub commands : first.controller.waiting ++ all_submitted answer_of after (moves_of k moves n) (view k first n)
-          ≡ told_in last.earlier ++ last.account.issued
+          ≡ ended_commands last.earlier ++ last.account.issued
       pub events : let all = first.reader.queue.events ++ all_queued answer_of after (moves_of k moves n) (view k first n) in
           (gone : List Event) × HaveLeft all last.earlier gone × (all ≡ gone ++ last.account.queued)
 
     abbrev pub EachStaysInARow : Type 0
-    EachStaysInARow = (n : Net H) (moves : List NetMove) → IsSetUp n → AreNetMoves moves n
+    EachStaysInARow = (n : Net H) (moves : List NetMove) → IsSetUp n → NetMovesFit moves n
         → (k : ℕ) (first last : Site H) → site_at k n.sites ≡ Some first → site_at k (run answer_of after moves n).sites ≡ Some last
         → IsInARow k first last moves n

@@ -2,7 +2,7 @@
 use Rattle.std.specs.Prelude.{◌≡◌, ℕ, true, List, [], Option, Some, None}
 use Rattle.osdp_frame.specs.Held.{decided}
 use Rattle.osdp_frame.specs.Packet.{Packet}
-use Rattle.osdp_frame.specs.Reading.{Part, Whole, Passed, Bad}
+use Rattle.osdp_frame.specs.Reading.{RunItem, PacketItem, SkippedItem, RefusedItem}
 use Rattle.osdp_frame.specs.Spelling.{Spells}
 
 -- the bytes spell the packet; where there is none there are no bytes
@@ -10,12 +10,12 @@ abbrev pub IsSpelled : Option Packet → List ℕ → Type 0
 IsSpelled None bytes = bytes ≡ []
 IsSpelled (Some p) bytes = Spells p bytes
 
-abbrev pub packet_in : Part → Option Packet
-packet_in (Whole p) = Some p
-packet_in (Passed b) = None
-packet_in (Bad f) = None
+abbrev pub packet_in : RunItem → Option Packet
+packet_in (PacketItem p) = Some p
+packet_in (SkippedItem b) = None
+packet_in (RefusedItem f) = None
 
-abbrev pub packet_if : Option Part → Option Packet
+abbrev pub packet_if : Option RunItem → Option Packet
 packet_if None = None
 packet_if (Some part) = packet_in part
 

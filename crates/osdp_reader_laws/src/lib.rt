@@ -99,7 +99,7 @@ pub fn answers_taken<H: Handler>()
 
 /// Whatever is called: a reply is stored wherever the last number is 1 to 3, what counts as offered is the front, told by that
 /// reply, no more events wait than there is room for, and the address is that of a device.
-pub fn stays_well<H: Handler>()
+pub fn reader_stays_well<H: Handler>()
     ensures reply { IsKept H.answer_of H.after KeepsReply }
     ensures offer { IsKept H.answer_of H.after TellsItsOffer }
     ensures room { IsKept H.answer_of H.after HasRoom }

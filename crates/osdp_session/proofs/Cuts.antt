@@ -10,7 +10,7 @@ use Rattle.osdp_reader.specs.Table.{answer_to}
 use Rattle.osdp_reader_laws.specs.Answering.{handler_after_commands}
 use Rattle.osdp_link_laws.specs.Headline.{IsBeginning, handler_after}
 use Rattle.osdp_link_laws.specs.Link as link
-use Rattle.osdp_link_laws.specs.Sessions.{settled_commands, told_in}
+use Rattle.osdp_link_laws.specs.Sessions.{settled_commands, ended_commands}
 use Rattle.osdp_sim_laws.specs.Accounts.{all_in}
 use Rattle.osdp_session.specs.Sessions.{between}
 
@@ -37,13 +37,13 @@ shorter xs ys zs (rest, is) = (ys ++ rest, is ∙ append_assoc xs ys rest)
 
 -- as many were settled or told unsettled as were settled, and told unsettled
 pub told_length : (earlier : List link.Account)
-    → length (told_in earlier) ≡ length (all_in (λ t. t.settled) earlier) + length (all_in (λ t. t.unsettled) earlier)
+    → length (ended_commands earlier) ≡ length (all_in (λ t. t.settled) earlier) + length (all_in (λ t. t.unsettled) earlier)
 told_length [] = refl
 told_length (t ∷ earlier) =
     omega (
       arith,
       told_length earlier,
-      length-append (told_in earlier) (settled_commands t ++ t.unsettled),
+      length-append (ended_commands earlier) (settled_commands t ++ t.unsettled),
       length-append (settled_commands t) t.unsettled,
       length-map t.settled (λ (p : Command × Reply). p.0),
       length-append (all_in (λ u. u.settled) earlier) t.settled,

@@ -10,7 +10,7 @@ use Rattle.osdp_reader.specs.declared.handler.Answer.{Answer}
 use Rattle.osdp_reader_laws.specs.Answering.{handler_after_commands}
 use Rattle.osdp_link_laws.specs.Headline.{AreOnce, IsBeginning, Once, handler_after, with_answers}
 use Rattle.osdp_link_laws.specs.Link as link
-use Rattle.osdp_link_laws.specs.Sessions.{AreInARow, Leaves, settled_commands, told_in}
+use Rattle.osdp_link_laws.specs.Sessions.{AreInARow, Leaves, settled_commands, ended_commands}
 use Rattle.osdp_link_laws.proofs.Lines.{each_of}
 use Rattle.osdp_sim.specs.Account.{Account, lengths_of}
 use Rattle.osdp_sim.specs.declared.account.Lengths.{Lengths}
@@ -22,7 +22,7 @@ use Rattle.osdp_session.proofs.Cuts.{front, handler_all, part, shorter, told_len
 
 -- the account's lists begin with those of this session and the ones before it
 record IsIn (a : Account) (t : link.Account) (earlier : List link.Account) (past : List Event) : Type 0 where
-  pub issued : IsBeginning (told_in earlier ++ t.issued) a.issued
+  pub issued : IsBeginning (ended_commands earlier ++ t.issued) a.issued
   pub queued : IsBeginning (past ++ t.queued) a.queued
   pub taken : IsBeginning (all_in (λ u. u.taken) (t ∷ earlier)) a.taken
   pub settled : IsBeginning (all_in (λ u. u.settled) (t ∷ earlier)) a.settled
@@ -31,8 +31,8 @@ record IsIn (a : Account) (t : link.Account) (earlier : List link.Account) (past
 
 -- where the session begins ..
 record IsFrom (from : Lengths) (place : ℕ) (t : link.Account) (earlier : List link.Account) (past : List Event) : Type 0 where
-  pub least_issued : length (told_in earlier) ≤ from.issued
-  pub most_issued : from.issued ≤ length (told_in earlier ++ t.issued)
+  pub least_issued : length (ended_commands earlier) ≤ from.issued
+  pub most_issued : from.issued ≤ length (ended_commands earlier ++ t.issued)
   pub least_queued : length past ≤ from.queued
   pub most_queued : from.queued ≤ length (past ++ t.queued)
   pub taken : from.taken ≡ length (all_in (λ u. u.taken) earlier)
@@ -44,7 +44,7 @@ record IsFrom (from : Lengths) (place : ℕ) (t : link.Account) (earlier : List 
 
 -- .. and where it ends
 record IsTo (to : Lengths) (t : link.Account) (earlier : List link.Account) (past : List Event) : Type 0 where
-  pub issued : to.issued ≡ length (told_in earlier ++ t.issued)
+  pub issued : to.issued ≡ length (ended_commands earlier ++ t.issued)
   pub queued : to.queued ≡ length (past ++ t.queued)
   pub taken : to.taken ≡ length (all_in (λ u. u.taken) (t ∷ earlier))
   pub settled : to.settled ≡ length (all_in (λ u. u.settled) (t ∷ earlier))
@@ -63,7 +63,7 @@ record IsPart (a : Account) (from to : Lengths) (first : ℕ) (t : link.Account)
 is_part : (a : Account) (from to : Lengths) (first : ℕ) (t : link.Account) (earlier : List link.Account) (past : List Event)
     → IsIn a t earlier past → IsFrom from first t earlier past → IsTo to t earlier past → IsPart a from to first t
 is_part a from to first t earlier past in_ is_from is_to = record {
-  issued = part (told_in earlier) t.issued a.issued in_.issued.0 (first_command from) to.issued
+  issued = part (ended_commands earlier) t.issued a.issued in_.issued.0 (first_command from) to.issued
       (omega (arith, is_from.settled, is_from.unsettled, told_length earlier)) is_to.issued in_.issued.1;
   queued = part past t.queued a.queued in_.queued.0 first to.queued is_from.first is_to.queued in_.queued.1;
   taken = part (all_in (λ u. u.taken) earlier) t.taken a.taken in_.taken.0 from.taken to.taken is_from.taken is_to.taken in_.taken.1;
@@ -183,11 +183,11 @@ module _ {H : Type 0} (answer_of : H → Command → Answer) (after : H → Comm
   down a t (u ∷ earlier) cuts past later in_ (before, gone, over, is) (once, onces) ((waiting, events, leaves, (more, follow), waits), row) rest =
       let at = is.at in
       let left : u.issued ≡ settled_commands u ++ (u.unsettled ++ waiting) = leaves.commands in
-      let go_on : (told_in earlier ++ u.issued) ++ more ≡ told_in (u ∷ earlier) ++ t.issued =
-      ap (λ cs. (told_in earlier ++ cs) ++ more) (left ∙ sym (append_assoc (settled_commands u) u.unsettled waiting))
-      ∙ ap (λ cs. cs ++ more) (sym (append_assoc (told_in earlier) (settled_commands u ++ u.unsettled) waiting))
-      ∙ append_assoc (told_in (u ∷ earlier)) waiting more
-      ∙ ap (λ cs. told_in (u ∷ earlier) ++ cs) (sym follow) in
+      let go_on : (ended_commands earlier ++ u.issued) ++ more ≡ ended_commands (u ∷ earlier) ++ t.issued =
+      ap (λ cs. (ended_commands earlier ++ cs) ++ more) (left ∙ sym (append_assoc (settled_commands u) u.unsettled waiting))
+      ∙ ap (λ cs. cs ++ more) (sym (append_assoc (ended_commands earlier) (settled_commands u ++ u.unsettled) waiting))
+      ∙ append_assoc (ended_commands (u ∷ earlier)) waiting more
+      ∙ ap (λ cs. ended_commands (u ∷ earlier) ++ cs) (sym follow) in
       let events_on : (gone ++ u.queued) ++ is.first.0 ≡ past ++ t.queued =
       ap (λ es. (gone ++ es) ++ is.first.0) is.queued
       ∙ ap (λ es. es ++ is.first.0) (sym (append_assoc gone is.left is.waits))
@@ -195,7 +195,7 @@ module _ {H : Type 0} (answer_of : H → Command → Answer) (after : H → Comm
       ∙ ap (λ es. es ++ (is.waits ++ is.first.0)) (sym is.goes)
       ∙ ap (λ es. past ++ es) (sym is.first.1) in
       let within : IsIn a u earlier gone = record {
-        issued = shorter (told_in earlier ++ u.issued) more a.issued (subst (λ cs. IsBeginning cs a.issued) (sym go_on) in_.issued);
+        issued = shorter (ended_commands earlier ++ u.issued) more a.issued (subst (λ cs. IsBeginning cs a.issued) (sym go_on) in_.issued);
         queued = shorter (gone ++ u.queued) is.first.0 a.queued (subst (λ es. IsBeginning es a.queued) (sym events_on) in_.queued);
         taken = shorter (all_in (λ v. v.taken) (u ∷ earlier)) t.taken a.taken in_.taken;
         settled = shorter (all_in (λ v. v.settled) (u ∷ earlier)) t.settled a.settled in_.settled;
@@ -209,14 +209,14 @@ module _ {H : Type 0} (answer_of : H → Command → Answer) (after : H → Comm
         least_issued = omega (
           arith,
           cut.issued,
-          length-append (told_in earlier) u.issued,
+          length-append (ended_commands earlier) u.issued,
           ap length left,
           length-append (settled_commands u) (u.unsettled ++ waiting),
           length-append u.unsettled waiting,
-          length-append (told_in earlier) (settled_commands u ++ u.unsettled),
+          length-append (ended_commands earlier) (settled_commands u ++ u.unsettled),
           length-append (settled_commands u) u.unsettled,
         );
-        most_issued = omega (arith, cut.issued, ap length go_on, length-append (told_in earlier ++ u.issued) more);
+        most_issued = omega (arith, cut.issued, ap length go_on, length-append (ended_commands earlier ++ u.issued) more);
         least_queued = omega (
           arith,
           cut.queued,
@@ -268,13 +268,13 @@ module _ {H : Type 0} (answer_of : H → Command → Answer) (after : H → Comm
   last_one a from first t earlier past parts is_from all some (inr (ended, (waiting, events, leaves))) =
       inr (has_ended a from (lengths_of a) first t waiting events parts leaves (omega (arith, ended, some, is_from.ends)))
 
-  told_last : (t : link.Account) (earlier : List link.Account) (a : Account) → a.issued ≡ told_in earlier ++ t.issued
-      → IsBeginning (told_in (t ∷ earlier)) a.issued → IsBeginning (settled_commands t ++ t.unsettled) t.issued
+  told_last : (t : link.Account) (earlier : List link.Account) (a : Account) → a.issued ≡ ended_commands earlier ++ t.issued
+      → IsBeginning (ended_commands (t ∷ earlier)) a.issued → IsBeginning (settled_commands t ++ t.unsettled) t.issued
   told_last t earlier a issued (rest, is) = (
     rest,
-    sym (drop-append_seam (told_in earlier) t.issued)
-        ∙ ap (drop (length (told_in earlier))) (sym issued ∙ is ∙ append_assoc (told_in earlier) (settled_commands t ++ t.unsettled) rest)
-        ∙ drop-append_seam (told_in earlier) ((settled_commands t ++ t.unsettled) ++ rest),
+    sym (drop-append_seam (ended_commands earlier) t.issued)
+        ∙ ap (drop (length (ended_commands earlier))) (sym issued ∙ is ∙ append_assoc (ended_commands earlier) (settled_commands t ++ t.unsettled) rest)
+        ∙ drop-append_seam (ended_commands earlier) ((settled_commands t ++ t.unsettled) ++ rest),
   )
 
   pub in_sessions : (a : Account) → IsInARow answer_of after config handler a → HoldsInSessions answer_of after config handler a
@@ -284,7 +284,7 @@ module _ {H : Type 0} (answer_of : H → Command → Answer) (after : H → Comm
       let lists = row.lists in
       let past = lists.queued.0 in
       let in_ : IsIn a t earlier past = record {
-        issued = all_of (told_in earlier ++ t.issued) a.issued lists.issued;
+        issued = all_of (ended_commands earlier ++ t.issued) a.issued lists.issued;
         queued = all_of (past ++ t.queued) a.queued lists.queued.2;
         taken = all_of (all_in (λ u. u.taken) (t ∷ earlier)) a.taken lists.taken;
         settled = all_of (all_in (λ u. u.settled) (t ∷ earlier)) a.settled lists.settled;

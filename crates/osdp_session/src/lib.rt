@@ -38,8 +38,8 @@ pub fn run_session<H: Handler>(
         → IsOnce H.answer_of H.after config.now.reader handler (account_in result) }
     ensures sessions { WasSetUp result → HoldsInSessions H.answer_of H.after config.now.reader handler (account_in result) }
 {
-    osdp_sim_laws::holds_once::<H>();
-    osdp_sim_laws::stays_in_a_row::<H>();
+    osdp_sim_laws::schedule_holds_once::<H>();
+    osdp_sim_laws::schedule_stays_in_a_row::<H>();
     holds_in_sessions::<H>();
     osdp_sim::run_session(alloc, config, handler, steps)
 }
@@ -58,8 +58,8 @@ pub fn run_schedule<H: Handler, S: Schedule>(
         → IsOnce H.answer_of H.after config.now.reader handler (account_in result) }
     ensures sessions { WasSetUp result → HoldsInSessions H.answer_of H.after config.now.reader handler (account_in result) }
 {
-    osdp_sim_laws::holds_once::<H>();
-    osdp_sim_laws::stays_in_a_row::<H>();
+    osdp_sim_laws::schedule_holds_once::<H>();
+    osdp_sim_laws::schedule_stays_in_a_row::<H>();
     holds_in_sessions::<H>();
     osdp_sim::run_schedule(alloc, config, handler, schedule)
 }

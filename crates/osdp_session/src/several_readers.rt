@@ -34,8 +34,8 @@ pub fn run_bus<H: Handler>(
         → EachMeets (IsOnce H.answer_of H.after) readers.items (accounts_in result) }
     ensures sessions { WasSetUp result → EachMeets (HoldsInSessions H.answer_of H.after) readers.items (accounts_in result) }
 {
-    osdp_sim_bus_laws::holds_once::<H>();
-    osdp_sim_bus_laws::stays_in_a_row::<H>();
+    osdp_sim_bus_laws::each_account_holds_once::<H>();
+    osdp_sim_bus_laws::each_account_stays_in_a_row::<H>();
     each_holds_in_sessions::<H>();
     osdp_sim_bus::run_bus(alloc, config, readers, steps)
 }
@@ -54,8 +54,8 @@ pub fn run_bus_schedule<H: Handler, S: Schedule>(
         → EachMeets (IsOnce H.answer_of H.after) readers.items (accounts_in result) }
     ensures sessions { WasSetUp result → EachMeets (HoldsInSessions H.answer_of H.after) readers.items (accounts_in result) }
 {
-    osdp_sim_bus_laws::holds_once::<H>();
-    osdp_sim_bus_laws::stays_in_a_row::<H>();
+    osdp_sim_bus_laws::each_account_holds_once::<H>();
+    osdp_sim_bus_laws::each_account_stays_in_a_row::<H>();
     each_holds_in_sessions::<H>();
     osdp_sim_bus::run_bus_schedule(alloc, config, readers, schedule)
 }

@@ -7,8 +7,8 @@ use Rattle.arrayvec.specs.ArrayVec.{ArrayVec}
 use Rattle.osdp_frame.specs.Held.{after_gap, after_push, by_itself, decided, new_run}
 use Rattle.osdp_frame.specs.Items.{items, reading}
 use Rattle.osdp_frame.specs.Packet.{Packet, largest}
-use Rattle.osdp_frame.specs.Reading.{Part, Whole, Passed, Bad, IsFirst}
-use Rattle.osdp_frame.specs.Shown.{part_of}
+use Rattle.osdp_frame.specs.Reading.{RunItem, PacketItem, SkippedItem, RefusedItem, IsFirst}
+use Rattle.osdp_frame.specs.Shown.{item_of}
 use Rattle.osdp_frame.specs.Spelling.{Spells, spelling}
 use Rattle.osdp_frame.specs.declared.fault.FrameFault.{FrameFault}
 use Rattle.osdp_frame.specs.declared.item.Item.{Item}
@@ -22,9 +22,9 @@ use Rattle.osdp_sim.specs.declared.step.Move.TheVariants.{Drop, Damage}
 
 -- what spells a packet has it first
 pub spelled_first : (p : Packet) (bytes : List ℕ) → Spells p bytes
-    → ((part : Part) → (decided false bytes ≡ Some part) ↔ IsFirst false bytes part) → decided false bytes ≡ Some (Whole p)
+    → ((part : RunItem) → (decided false bytes ≡ Some part) ↔ IsFirst false bytes part) → decided false bytes ≡ Some (PacketItem p)
 spelled_first p bytes spelled decides =
-    (decides (Whole p)).1 (λ more ends. record { bytes = bytes; after = more; spelled = spelled; parts = refl })
+    (decides (PacketItem p)).1 (λ more ends. record { bytes = bytes; after = more; spelled = spelled; parts = refl })
 
 -- a framer that was given a run, which has ended
 pub framed_run : (bytes : List ℕ) → length bytes ≤ largest → after_gap (after_push new_run bytes) ≡ record { bytes = bytes; ended = not (length bytes == 0) }
@@ -38,21 +38,21 @@ unfolding items
 no_bytes = refl
 
 -- damage that is not refused holds no packet
-pub no_packets : (parts : List Part) → (if has_packet parts then Some HoldsPacket else None) ≡ None → whole_packets parts ≡ []
+pub no_packets : (parts : List RunItem) → (if has_packet parts then Some HoldsPacket else None) ≡ None → whole_packets parts ≡ []
 no_packets [] e = refl
-no_packets (Whole p ∷ parts) e = absurd cc
-no_packets (Passed b ∷ parts) e = no_packets parts e
-no_packets (Bad fault ∷ parts) e = no_packets parts e
+no_packets (PacketItem p ∷ parts) e = absurd cc
+no_packets (SkippedItem b ∷ parts) e = no_packets parts e
+no_packets (RefusedItem fault ∷ parts) e = no_packets parts e
 
 -- the item that stands first in a burst is its packet
-pub whole_packet : (p : Packet) (o : Option Item) → option_map part_of o ≡ Some (Whole p) → o ≡ Some (shown.Packet p)
+pub whole_packet : (p : Packet) (o : Option Item) → option_map item_of o ≡ Some (PacketItem p) → o ≡ Some (shown.Packet p)
 whole_packet p None is = absurd cc
 whole_packet p (Some (shown.Packet q)) is = cc
 whole_packet p (Some (shown.Skipped b)) is = absurd cc
 whole_packet p (Some (shown.Refused fault)) is = absurd cc
 
-pub burst_packet : (p : Packet) (bytes : List ℕ) (o : Option Item) → option_map part_of o ≡ by_itself (decided false bytes)
-    → decided false bytes ≡ Some (Whole p) → o ≡ Some (shown.Packet p)
+pub burst_packet : (p : Packet) (bytes : List ℕ) (o : Option Item) → option_map item_of o ≡ by_itself (decided false bytes)
+    → decided false bytes ≡ Some (PacketItem p) → o ≡ Some (shown.Packet p)
 burst_packet p bytes o shows is = whole_packet p o (shows ∙ ap by_itself is)
 
 pub no_item : (p : Packet) → None ≡ Some (shown.Packet p) → ⊥

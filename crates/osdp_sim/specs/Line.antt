@@ -3,28 +3,28 @@ use Rattle.std.specs.Prelude.{ℕ, Bool, true, false, List, [], ◌∷◌, map, 
 use Rattle.arrayvec.specs.ArrayVec.{ArrayVec}
 use Rattle.osdp_frame.specs.Items.{reading}
 use Rattle.osdp_frame.specs.Packet.{Packet}
-use Rattle.osdp_frame.specs.Reading.{Part, Whole, Passed, Bad}
+use Rattle.osdp_frame.specs.Reading.{RunItem, PacketItem, SkippedItem, RefusedItem}
 use Rattle.osdp_frame.specs.Spelling.{Spells, spelling}
 use Rattle.osdp_sim.specs.declared.step.Move.{Move}
 use Rattle.osdp_sim.specs.declared.step.Move.TheVariants.{Deliver, Drop, Repeat, Damage}
 
 -- the packets among the items of a reading, in their order
-abbrev pub whole_packets : List Part → List Packet
+abbrev pub whole_packets : List RunItem → List Packet
 whole_packets [] = []
-whole_packets (Whole p ∷ parts) = p ∷ whole_packets parts
-whole_packets (Passed b ∷ parts) = whole_packets parts
-whole_packets (Bad fault ∷ parts) = whole_packets parts
+whole_packets (PacketItem p ∷ parts) = p ∷ whole_packets parts
+whole_packets (SkippedItem b ∷ parts) = whole_packets parts
+whole_packets (RefusedItem fault ∷ parts) = whole_packets parts
 
 -- the packets in a run of bytes
 abbrev pub packets_in : List ℕ → List Packet
 packets_in run = whole_packets (reading run)
 
 -- whether a packet is among the items
-abbrev pub has_packet : List Part → Bool
+abbrev pub has_packet : List RunItem → Bool
 has_packet [] = false
-has_packet (Whole p ∷ parts) = true
-has_packet (Passed b ∷ parts) = has_packet parts
-has_packet (Bad fault ∷ parts) = has_packet parts
+has_packet (PacketItem p ∷ parts) = true
+has_packet (SkippedItem b ∷ parts) = has_packet parts
+has_packet (RefusedItem fault ∷ parts) = has_packet parts
 
 -- whether one stands in a run of bytes
 abbrev pub holds_packet : List ℕ → Bool

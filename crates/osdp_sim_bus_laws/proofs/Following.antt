@@ -15,7 +15,7 @@ use Rattle.osdp_bus.specs.declared.fault.BusFault.{BusFault}
 use Rattle.osdp_link_laws.proofs.Stages.{Each}
 use Rattle.osdp_multidrop.specs.Line as line
 use Rattle.osdp_multidrop.specs.Line.{Net, NetMove, Queue, Reopen, SetBusy, Submit, Tick, ToControllers, ToReaders, changed, run, site_at, submits}
-use Rattle.osdp_multidrop.specs.Runs.{AreNetMoves}
+use Rattle.osdp_multidrop.specs.Runs.{NetMovesFit}
 use Rattle.osdp_bus_links.specs.Links.{IsBusOf, IsNoRefusalOf, IsSubmitted, IsTickAt, SubmitsAsAMove, TellsEach, TicksAsAMove, device_of, packets_on}
 use Rattle.osdp_sim.specs.Line.{sent}
 use Rattle.osdp_sim_bus.specs.State.{LineState, Site}
@@ -95,7 +95,7 @@ module _ {H : Type 0} (answer_of : H → Command → Answer) (after : H → Comm
   -- ---- what changes one reader
 
   one_reader : (place : ℕ) (m : NetMove) (change : Site H → Site H) (does : line.Site H → line.Site H) (s : LineState H) (n : Net H)
-      → AreNetMoves answer_of after (m ∷ []) n
+      → NetMovesFit answer_of after (m ∷ []) n
       → line.after_net answer_of after m n ≡ line.change_at place (site_at place n.sites) does n
       → ((t : line.Site H) → device_of (does t) ≡ device_of t)
       → ((u : Site H) (t : line.Site H) → IsSiteOf u t → IsSiteOf (change u) (does t))
@@ -151,7 +151,7 @@ module _ {H : Type 0} (answer_of : H → Command → Answer) (after : H → Comm
 
   -- ---- a moment
 
-  ticks_fit : (now : ℕ) (ms : List NetMove) (n : Net H) → IsTickAt now ms → AreNetMoves answer_of after ms n
+  ticks_fit : (now : ℕ) (ms : List NetMove) (n : Net H) → IsTickAt now ms → NetMovesFit answer_of after ms n
   ticks_fit now [] n is = tt
   ticks_fit now (Tick k at ∷ []) n is = (tt, tt)
   ticks_fit now (Tick k at ∷ m ∷ ms) n is = absurd is

@@ -9,7 +9,7 @@ use Rattle.osdp_reader.specs.declared.handler.Answer.{Answer}
 use Rattle.osdp_bus.specs.declared.config.BusConfig.{BusConfig}
 use Rattle.osdp_link_laws.specs.Headline.{AreOnce}
 use Rattle.osdp_link_laws.specs.Link as link
-use Rattle.osdp_link_laws.specs.Sessions.{AreInARow, LastsOrLeaves, settled_commands, told_in}
+use Rattle.osdp_link_laws.specs.Sessions.{AreInARow, LastsOrLeaves, settled_commands, ended_commands}
 use Rattle.osdp_link_laws.proofs.Lines.{each_all}
 use Rattle.osdp_multidrop.specs.Line as line
 use Rattle.osdp_multidrop.specs.Line.{Net, run}
@@ -54,8 +54,8 @@ module _ {H : Type 0} where
           row = row;
           told = (
             first.0,
-            is.tells.issued ∙ ap (λ cs. told_in t.earlier ++ cs) first.1
-                ∙ sym (append_assoc (told_in t.earlier) (settled_commands t.account ++ t.account.unsettled) first.0),
+            is.tells.issued ∙ ap (λ cs. ended_commands t.earlier ++ cs) first.1
+                ∙ sym (append_assoc (ended_commands t.earlier) (settled_commands t.account ++ t.account.unsettled) first.0),
           );
           unsettled = each_all (λ (v : link.Account). length v.unsettled ≤ 1) (t.account ∷ t.earlier)
               (each_one answer_of after t.account t.earlier (one_unsettled answer_of after a t.account last) row);

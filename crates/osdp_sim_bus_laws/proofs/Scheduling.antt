@@ -9,7 +9,7 @@ use Rattle.osdp_link_laws.specs.Peers.{IsPlainlySaid, ReadEachOther}
 use Rattle.osdp_link_laws.proofs.Lines.{each_all, each_of}
 use Rattle.osdp_link_laws.proofs.Stages.{Each}
 use Rattle.osdp_multidrop.specs.Line.{Net, NetMove, after_net, run}
-use Rattle.osdp_multidrop.specs.Runs.{AreNetMoves, EachIsALink, EachStaysInARow, IsSetUp, moves_of}
+use Rattle.osdp_multidrop.specs.Runs.{NetMovesFit, EachIsALink, EachStaysInARow, IsSetUp, moves_of}
 use Rattle.osdp_multidrop.specs.Views.{own, view}
 use Rattle.osdp_multidrop.proofs.Apart.{IsSited, each_by_owner}
 use Rattle.osdp_multidrop.proofs.Fitting.{was_there}
@@ -29,8 +29,8 @@ module _ {H : Type 0} (answer_of : H → Command → Answer) (after : H → Comm
   run_more [] more n = refl
   run_more (m ∷ ms) more n = run_more ms more (after_net answer_of after m n)
 
-  fits_more : (ms more : List NetMove) (n : Net H) → AreNetMoves answer_of after ms n → AreNetMoves answer_of after more (run answer_of after ms n)
-      → AreNetMoves answer_of after (ms ++ more) n
+  fits_more : (ms more : List NetMove) (n : Net H) → NetMovesFit answer_of after ms n → NetMovesFit answer_of after more (run answer_of after ms n)
+      → NetMovesFit answer_of after (ms ++ more) n
   fits_more [] more n first last = last
   fits_more (m ∷ ms) more n first last = (first.0, fits_more ms more (after_net answer_of after m n) first.1 last)
 
@@ -40,7 +40,7 @@ module _ {H : Type 0} (answer_of : H → Command → Answer) (after : H → Comm
 
   module _ (steps_move : StepsAreMoves answer_of after) (peers : ReadEachOther answer_of after) (links : EachIsALink answer_of after)
       (plainly : SaysAllPlainly answer_of after) (rows : EachStaysInARow answer_of after) where
-    known : (first : Net H) (ms : List NetMove) → IsSetUp first → AreNetMoves answer_of after ms first → IsKnown (run answer_of after ms first)
+    known : (first : Net H) (ms : List NetMove) → IsSetUp first → NetMovesFit answer_of after ms first → IsKnown (run answer_of after ms first)
     known first ms up fits = record {
       plain = each_all (λ (q : ℕ × Packet). IsPlainlySaid q.1) n.to_controllers
           (each_by_owner (IsSited n.sites) (λ k p. IsPlainlySaid p) n.to_controllers own_are
@@ -58,7 +58,7 @@ module _ {H : Type 0} (answer_of : H → Command → Answer) (after : H → Comm
             each_of IsPlainlySaid (own k n.to_controllers) (subst (λ (l : link.Link H). All IsPlainlySaid l.to_controller) (sym its.moved.moved)
             (plainly (view k old.0 first) (moves_of answer_of after k ms first) (up.begins k old.0 old.1).begins its.fits))
 
-    scheduled : (steps : List SimStep) (s : LineState H) (first : Net H) (ms : List NetMove) → IsSetUp first → AreNetMoves answer_of after ms first
+    scheduled : (steps : List SimStep) (s : LineState H) (first : Net H) (ms : List NetMove) → IsSetUp first → NetMovesFit answer_of after ms first
         → Follows s (run answer_of after ms first) → simulation.is_well answer_of after steps s ≡ true → FitAlong answer_of after steps s
         → Done answer_of after (simulation.run answer_of after steps s) first
     scheduled [] s first ms up fits h well along = (ms, fits, h)

@@ -4,7 +4,7 @@ use Rattle.std.specs.Prelude.{not, slice_get, slice_set}
 use Rattle.std.specs.Option.{option_map_or}
 use Rattle.osdp_frame.specs.Items.{items}
 use Rattle.osdp_frame.specs.Packet.{Packet}
-use Rattle.osdp_frame.specs.Reading.{Part, Whole, Passed, Bad}
+use Rattle.osdp_frame.specs.Reading.{RunItem, PacketItem, SkippedItem, RefusedItem}
 use Rattle.osdp_msg.specs.declared.command.Command.{Command}
 use Rattle.osdp_controller.proofs.Choices.{either_way}
 use Rattle.osdp_bus.specs.declared.device.Device.{Device}
@@ -53,12 +53,12 @@ keeps_at : (k : ℕ) (p : Packet) (now : ℕ) (o : Option ℕ) (ds : Devices) �
 keeps_at k p now None ds = keeps_all k ds.entries
 keeps_at k p now (Some i) ds = keeps_with k p now i (slice_get ds.entries i) ds refl
 
-keeps_item : (k now : ℕ) (part : Part) (ds : Devices) → Keeps k ds.entries (hears_item now part ds).entries
-keeps_item k now (Whole p) ds = keeps_at k p now (first_from 0 (is_at p.address) ds.entries) ds
-keeps_item k now (Passed byte) ds = keeps_all k ds.entries
-keeps_item k now (Bad fault) ds = keeps_all k ds.entries
+keeps_item : (k now : ℕ) (part : RunItem) (ds : Devices) → Keeps k ds.entries (hears_item now part ds).entries
+keeps_item k now (PacketItem p) ds = keeps_at k p now (first_from 0 (is_at p.address) ds.entries) ds
+keeps_item k now (SkippedItem byte) ds = keeps_all k ds.entries
+keeps_item k now (RefusedItem fault) ds = keeps_all k ds.entries
 
-keeps_items : (k now : ℕ) (parts : List Part) (ds : Devices) → Keeps k ds.entries (hears_items now parts ds).entries
+keeps_items : (k now : ℕ) (parts : List RunItem) (ds : Devices) → Keeps k ds.entries (hears_items now parts ds).entries
 keeps_items k now [] ds = keeps_all k ds.entries
 keeps_items k now (part ∷ parts) ds =
     let next = hears_item now part ds in

@@ -11,7 +11,7 @@ use Rattle.osdp_link_laws.specs.Sessions.{LastsOrLeaves}
 use Rattle.osdp_link_laws.proofs.Stages.{Each}
 use Rattle.osdp_multidrop.specs.Line as line
 use Rattle.osdp_multidrop.specs.Line.{Net, NetMove, run, site_at}
-use Rattle.osdp_multidrop.specs.Runs.{AreNetMoves, IsSetUp}
+use Rattle.osdp_multidrop.specs.Runs.{NetMovesFit, IsSetUp}
 use Rattle.osdp_multidrop.specs.Views.{view}
 use Rattle.osdp_bus_links.specs.Links.{BeginsAsAMove, HearsAsAMove, IsBusOf, SubmitsAsAMove, TicksAsAMove, packets_on}
 use Rattle.osdp_sim.specs.declared.step.SimStep.{SimStep}
@@ -59,7 +59,7 @@ module _ {H : Type 0} where
 
   module _ (answer_of : H → Command → Answer) (after : H → Command → H) where
     abbrev pub Done : LineState H → Net H → Type 0
-    Done s n = (moves : List NetMove) × AreNetMoves answer_of after moves n × Follows s (run answer_of after moves n)
+    Done s n = (moves : List NetMove) × NetMovesFit answer_of after moves n × Follows s (run answer_of after moves n)
 
     -- what this stands on: the calls of a bus, and what its bytes are
     pub record OneBus : Type 0 where

@@ -43,7 +43,7 @@ pub fn schedules_are_moves<H: Handler>()
 /// Whatever a schedule over a bus says, for each reader: its account is that of sessions in a row, with the last session's unsettled commands
 /// and the lengths of all lists where each session began. Each session is once and in order, and the next begins with what it leaves. None
 /// ends because a number was refused. That holds of the accounts with a fault too, once the line was set up.
-pub fn stays_in_a_row<H: Handler>()
+pub fn each_account_stays_in_a_row<H: Handler>()
     ensures { StaysInARow H.answer_of H.after }
 {
     schedules_are_moves::<H>();
@@ -56,10 +56,10 @@ pub fn stays_in_a_row<H: Handler>()
 /// Whatever a schedule over a bus says that begins no session again, for each reader: the commands that it has taken are a beginning of
 /// those issued to it, and hold each settled one, with the answer that this reader gave, and one more at most; the events reported are a
 /// beginning of those queued at it; its session ends at most once, and not by a refused number.
-pub fn holds_once<H: Handler>()
+pub fn each_account_holds_once<H: Handler>()
     ensures { HoldsOnce H.answer_of H.after }
 {
-    stays_in_a_row::<H>();
+    each_account_stays_in_a_row::<H>();
 }
 
 /// Whatever a schedule over a bus says, for each reader: of the commands for it, POLL left out, some are accepted, each once and in their order.

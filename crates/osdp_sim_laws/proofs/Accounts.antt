@@ -12,7 +12,7 @@ use Rattle.osdp_reader.specs.declared.kind.Kind.{Kind}
 use Rattle.osdp_reader.specs.declared.kind.Kind.TheVariants as kind
 use Rattle.osdp_link_laws.specs.Link as link
 use Rattle.osdp_link_laws.specs.Refusals as refusals
-use Rattle.osdp_link_laws.specs.Sessions.{Leaves, settled_commands, told_in}
+use Rattle.osdp_link_laws.specs.Sessions.{Leaves, settled_commands, ended_commands}
 use Rattle.osdp_link_laws.proofs.Lines.{each_append}
 use Rattle.osdp_link_laws.proofs.Stages.{Each}
 use Rattle.osdp_sim.specs.Account.{Account, lengths_of, taken_by, taken_command, with_report, with_session, with_taken}
@@ -159,7 +159,7 @@ some_begun cuts next earlier gone over = omega (arith, begun cuts next earlier g
 pub tells_issued : (command : Command) (a : Account) (t : link.Account) (earlier : List link.Account) → IsOf a t earlier
     → IsOf (record a { issued = a.issued ++ command ∷ [] }) (record t { issued = t.issued ++ command ∷ [] }) earlier
 tells_issued command a t earlier h = record {
-  issued = later a.issued (told_in earlier) t.issued (command ∷ []) h.issued;
+  issued = later a.issued (ended_commands earlier) t.issued (command ∷ []) h.issued;
   queued = h.queued;
   taken = h.taken;
   settled = h.settled;
@@ -191,8 +191,8 @@ tells_session a t waiting events earlier leaves ended h =
     let left = leaves.reported in
     record {
       issued = h.issued
-          ∙ ap (λ all. told_in earlier ++ all) (leaves.commands ∙ sym (append_assoc (settled_commands t) t.unsettled waiting))
-          ∙ sym (append_assoc (told_in earlier) (settled_commands t ++ t.unsettled) waiting);
+          ∙ ap (λ all. ended_commands earlier ++ all) (leaves.commands ∙ sym (append_assoc (settled_commands t) t.unsettled waiting))
+          ∙ sym (append_assoc (ended_commands earlier) (settled_commands t ++ t.unsettled) waiting);
       queued = (
         gone ++ left.0,
         (

@@ -103,7 +103,7 @@ module _ {H : Type 0} where
   }
 
   pub queueing : (full : Bool) (event : Event) (l : Link H) (clock : ℕ) (a : Account) → ArePackets l → IsOf a l.account l.earlier
-      → IsCarried (steps.queued full event (in_bytes l clock a)) (link.queues full event l) clock a [] (sessions.queued_unless full event ++ []) []
+      → IsCarried (steps.queued full event (in_bytes l clock a)) (link.queues full event l) clock a [] (sessions.unless_full full event ++ []) []
   queueing true event l clock a packets tells = nothing l clock a packets tells
   queueing false event l clock a packets tells = record {
     state = refl;

@@ -17,7 +17,7 @@ use Rattle.osdp_link_laws.specs.Link as link
 use Rattle.osdp_link_laws.specs.Link.{Delivered, Link}
 use Rattle.osdp_link_laws.specs.Progress as progress
 use Rattle.osdp_link_laws.specs.Progress.{SetsNoAddress}
-use Rattle.osdp_link_laws.specs.Sessions.{all_submitted, told_in}
+use Rattle.osdp_link_laws.specs.Sessions.{all_submitted, ended_commands}
 use Rattle.osdp_link_laws.specs.Headline as headline
 use Rattle.osdp_link_laws.specs.Headline.{with_answers}
 use Rattle.osdp_link_laws.proofs.Lines.{each_all, each_append, each_front, each_of}
@@ -290,7 +290,7 @@ module _ {H : Type 0} (answer_of : H → Command → Answer) (after : H → Comm
       let tells = follows.carried.tells in
       let over = subst (λ e. AreOver s.account.sessions t.queued e tells.queued.0) none tells.queued.1 in
       record {
-        issued = tells.issued ∙ ap (λ e. told_in e ++ t.issued) none;
+        issued = tells.issued ∙ ap (λ e. ended_commands e ++ t.issued) none;
         queued = tells.queued.2 ∙ ap (λ e. e ++ t.queued) over.1;
         taken = tells.taken ∙ ap (λ e. all_in (λ t. t.taken) (t ∷ e)) none;
         settled = tells.settled ∙ ap (λ e. all_in (λ t. t.settled) (t ∷ e)) none;
@@ -359,7 +359,7 @@ module _ {H : Type 0} (answer_of : H → Command → Answer) (after : H → Comm
       let in_time = subst (λ c. LinkInTime c longest later) are_moves.1 timely.1 in
       let on = clock_on 400 0 (omega arith) in
       let spaced = are_spaced n 50 opening longest (link.run answer_of after (progress.round opening) later) on.1 (round_in_time answer_of after 0 opening longest later on.0 in_time) in
-      let moves = subst (λ list. headline.AreMoves answer_of after list later) (clean_are n) then_.moves in
+      let moves = subst (λ list. headline.MovesFit answer_of after list later) (clean_are n) then_.moves in
       let found = law l ms opening 50 moments begun (each_all clean.IsOrder ms are_moves.0) first.moves same refl (omega (arith, quiet)) poll
       (each_all SetsNoAddress later.account.issued none_before) spaced moves in
       let joined : link.run answer_of after (progress.rounds (opening ∷ moments)) later ≡ link.run answer_of after (ms ++ ns) l =

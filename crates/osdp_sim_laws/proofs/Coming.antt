@@ -16,7 +16,7 @@ use Rattle.osdp_link_laws.specs.Link.{Delivered, Link}
 use Rattle.osdp_link_laws.specs.Progress as progress
 use Rattle.osdp_link_laws.specs.Progress.{SetsNoAddress}
 use Rattle.osdp_link_laws.specs.Addresses.{StayWhereTheyAre}
-use Rattle.osdp_link_laws.specs.Sessions.{HaveLeft, all_queued, all_submitted, told_in}
+use Rattle.osdp_link_laws.specs.Sessions.{HaveLeft, all_queued, all_submitted, ended_commands}
 use Rattle.osdp_link_laws.proofs.Lines.{each_all, each_append, each_front, each_of}
 use Rattle.osdp_link_laws.proofs.Stages.{Each}
 use Rattle.osdp_link_laws.specs.Ends.{count}
@@ -146,7 +146,7 @@ module _ {H : Type 0} (answer_of : H → Command → Answer) (after : H → Comm
       record {
         settled = ap length (tells.settled ∙ ap (λ e. all_in (λ t. t.settled) (later.account ∷ e)) none);
         reported = ap length (tells.reported ∙ ap (λ e. all_in (λ t. t.reported) (later.account ∷ e)) none);
-        issued = carried.issued ∙ given.commands l ms begun follows.moves ∙ ap (λ e. told_in e ++ later.account.issued) none;
+        issued = carried.issued ∙ given.commands l ms begun follows.moves ∙ ap (λ e. ended_commands e ++ later.account.issued) none;
         queued = ap length (carried.queued ∙ events.2 ∙ ap (λ e. e ++ later.account.queued) gone);
       }
 
@@ -222,7 +222,7 @@ module _ {H : Type 0} (answer_of : H → Command → Answer) (after : H → Comm
         ready = sym (ap (λ (s : SimState H). s.reader.busy) there) ∙ clear.ready;
         issued = subst (All SetsNoAddress) first_lists.issued clear.issued;
       } in
-      let moves = subst (λ list. headline.AreMoves answer_of after list later) (rounds_are m wait clock) two.next.moves in
+      let moves = subst (λ list. headline.MovesFit answer_of after list later) (rounds_are m wait clock) two.next.moves in
       let found = in_time l ms (moments_of m wait clock) begun range first.moves quiet (are_late m wait clock later timely.0 timely.1) moves in
       let same : link.run answer_of after (progress.rounds (moments_of m wait clock)) later ≡ last =
       ap (λ list. link.run answer_of after list later) (sym (rounds_are m wait clock)) in

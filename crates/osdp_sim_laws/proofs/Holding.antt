@@ -15,7 +15,7 @@ use Rattle.osdp_reader.specs.declared.handler.Answer.{Answer}
 use Rattle.osdp_link_laws.specs.Headline.{AreOnce, Begins, IsBeginning, Once, with_answers}
 use Rattle.osdp_link_laws.specs.Link as link
 use Rattle.osdp_link_laws.specs.Refusals as refusals
-use Rattle.osdp_link_laws.specs.Sessions.{AreInARow, LastsOrLeaves, settled_commands, told_in}
+use Rattle.osdp_link_laws.specs.Sessions.{AreInARow, LastsOrLeaves, settled_commands, ended_commands}
 use Rattle.osdp_link_laws.proofs.Lines.{each_all, each_append, each_of}
 use Rattle.osdp_link_laws.proofs.Sessions.{taken_commands}
 use Rattle.osdp_link_laws.proofs.Stages.{Each}
@@ -133,8 +133,8 @@ module _ {H : Type 0} (answer_of : H → Command → Answer) (after : H → Comm
         row = row;
         told = (
           first.0,
-          tells.issued ∙ ap (λ cs. told_in later.earlier ++ cs) first.1
-              ∙ sym (append_assoc (told_in later.earlier) (settled_commands later.account ++ later.account.unsettled) first.0),
+          tells.issued ∙ ap (λ cs. ended_commands later.earlier ++ cs) first.1
+              ∙ sym (append_assoc (ended_commands later.earlier) (settled_commands later.account ++ later.account.unsettled) first.0),
         );
         unsettled = each_all (λ t. length t.unsettled ≤ 1) (later.account ∷ later.earlier)
             (each_one later.account later.earlier (one_unsettled a later.account last) row);

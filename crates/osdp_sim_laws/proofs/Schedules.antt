@@ -8,7 +8,7 @@ use Rattle.osdp_controller.specs.Ticking.{ticks}
 use Rattle.osdp_controller.specs.declared.state.State.{State}
 use Rattle.osdp_controller.specs.declared.state.State.TheVariants.{Closed, Quiet, Idle, Waiting, Pausing}
 use Rattle.osdp_reader.specs.declared.handler.Answer.{Answer}
-use Rattle.osdp_link_laws.specs.Headline.{AreMoves}
+use Rattle.osdp_link_laws.specs.Headline.{MovesFit}
 use Rattle.osdp_link_laws.specs.Link as link
 use Rattle.osdp_link_laws.specs.Link.{Link, after_move}
 use Rattle.osdp_link_laws.specs.Refusals as refusals
@@ -38,24 +38,24 @@ module _ {H : Type 0} (answer_of : H → Command → Answer) (after : H → Comm
   -- the simulation is carried on by these moves
   pub record Follows (s : SimState H) (ms : List link.Move) (l : Link H) (clock : ℕ) (a : Account) : Type 0 where
     pub carried : IsCarried s (link.run answer_of after ms l) clock a (all_submitted answer_of after ms l) (all_queued answer_of after ms l) (reports answer_of after ms l)
-    pub moves : AreMoves answer_of after ms l
+    pub moves : MovesFit answer_of after ms l
 
   -- lists of moves, one after the other
   pub run_both : (ms ns : List link.Move) (l : Link H) → link.run answer_of after (ms ++ ns) l ≡ link.run answer_of after ns (link.run answer_of after ms l)
   run_both [] ns l = refl
   run_both (m ∷ ms) ns l = run_both ms ns (after_move answer_of after m l)
 
-  moves_both : (ms ns : List link.Move) (l : Link H) → AreMoves answer_of after ms l → AreMoves answer_of after ns (link.run answer_of after ms l)
-      → AreMoves answer_of after (ms ++ ns) l
+  moves_both : (ms ns : List link.Move) (l : Link H) → MovesFit answer_of after ms l → MovesFit answer_of after ns (link.run answer_of after ms l)
+      → MovesFit answer_of after (ms ++ ns) l
   moves_both [] ns l first next = next
   moves_both (m ∷ ms) ns l first next = (first.0, moves_both ms ns (after_move answer_of after m l) first.1 next)
 
   -- wherever moves lead, the last session lasts, or leaves what a next one would begin with
   abbrev pub AllLeave : Link H → Type 0
-  AllLeave l = (ms : List link.Move) → AreMoves answer_of after ms l
+  AllLeave l = (ms : List link.Move) → MovesFit answer_of after ms l
       → let later = link.run answer_of after ms l in LastsOrLeaves later.controller.session.state later
 
-  leave_after : (ms : List link.Move) (l : Link H) → AreMoves answer_of after ms l → AllLeave l → AllLeave (link.run answer_of after ms l)
+  leave_after : (ms : List link.Move) (l : Link H) → MovesFit answer_of after ms l → AllLeave l → AllLeave (link.run answer_of after ms l)
   leave_after ms l moves all ns more =
       subst (λ m. LastsOrLeaves m.controller.session.state m) (run_both ms ns l) (all (ms ++ ns) (moves_both ms ns l moves more))
 

@@ -8,7 +8,7 @@ use Rattle.osdp_reader.specs.declared.handler.Answer.{Answer}
 use Rattle.osdp_link_laws.specs.Headline.{AreOnce, IsBeginning, with_answers}
 use Rattle.osdp_link_laws.specs.Link as link
 use Rattle.osdp_link_laws.specs.Refusals.{IsOtherCause}
-use Rattle.osdp_link_laws.specs.Sessions.{AreInARow, Leaves, told_in}
+use Rattle.osdp_link_laws.specs.Sessions.{AreInARow, Leaves, ended_commands}
 use Rattle.osdp_sim.specs.Account.{Account, lists_of}
 use Rattle.osdp_sim.specs.Runs.{FitAlong, RunEnds, steps_done}
 use Rattle.osdp_sim.specs.State.{set_up}
@@ -34,7 +34,7 @@ no_lengths = record { issued = 0; taken = 0; settled = 0; unsettled = 0; queued 
 -- unsettled before `t`, and all commands of `t`; what left the queue before `t`, and all events of `t`; what all of them took,
 -- settled, told unsettled and reported; and one end for each
 pub record IsCut (at : Lengths) (t : link.Account) (earlier : List link.Account) (past : List Event) : Type 0 where
-  pub issued : at.issued ≡ length (told_in earlier ++ t.issued)
+  pub issued : at.issued ≡ length (ended_commands earlier ++ t.issued)
   pub taken : at.taken ≡ length (all_in (λ t. t.taken) (t ∷ earlier))
   pub settled : at.settled ≡ length (all_in (λ t. t.settled) (t ∷ earlier))
   pub unsettled : at.unsettled ≡ length (all_in (λ t. t.unsettled) (t ∷ earlier))
@@ -68,7 +68,7 @@ AreOver cuts next (t ∷ earlier) gone =
 -- the account holds what these sessions came to, the last of them first: the commands of a session are those after the ones that
 -- the sessions before it settled or told unsettled, and its events those that have not left the queue before it
 pub record IsOf (a : Account) (t : link.Account) (earlier : List link.Account) : Type 0 where
-  pub issued : a.issued ≡ told_in earlier ++ t.issued
+  pub issued : a.issued ≡ ended_commands earlier ++ t.issued
   pub queued : (gone : List Event) × AreOver a.sessions t.queued earlier gone × (a.queued ≡ gone ++ t.queued)
   pub taken : a.taken ≡ all_in (λ t. t.taken) (t ∷ earlier)
   pub settled : a.settled ≡ all_in (λ t. t.settled) (t ∷ earlier)
@@ -120,7 +120,7 @@ module _ {H : Type 0} (answer_of : H → Command → Answer) (after : H → Comm
     pub lists : IsOf a last earlier
     pub once : AreOnce answer_of after config handler (last ∷ earlier)
     pub row : AreInARow last earlier
-    pub told : IsBeginning (told_in (last ∷ earlier)) a.issued
+    pub told : IsBeginning (ended_commands (last ∷ earlier)) a.issued
     pub unsettled : All (λ t. length t.unsettled ≤ 1) (last ∷ earlier)
     pub ends : LastsOrHasEnded a last
     pub causes : All IsNoRefusal a.ends

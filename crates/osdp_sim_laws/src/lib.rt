@@ -22,7 +22,7 @@ pub fn stands_on_one_link<H: Handler>()
 }
 
 /// Whatever a schedule says, in sessions in a row: each is once and in order, and the next begins with what it leaves.
-pub fn stays_in_a_row<H: Handler>()
+pub fn schedule_stays_in_a_row<H: Handler>()
     ensures { StaysInARow H.answer_of H.after }
 {
     stands_on_one_link::<H>();
@@ -31,7 +31,7 @@ pub fn stays_in_a_row<H: Handler>()
 /// Whatever a schedule says that begins no session again: the commands that the reader has taken are a beginning of those issued, and
 /// hold each settled one, with the answer that the reader gave, and one more at most; the events that the controller reported are a
 /// beginning of those queued; it ends at most once, and not by a refused number.
-pub fn holds_once<H: Handler>()
+pub fn schedule_holds_once<H: Handler>()
     ensures { HoldsOnce H.answer_of H.after }
 {
     stands_on_one_link::<H>();
@@ -40,7 +40,7 @@ pub fn holds_once<H: Handler>()
 /// After steps of one session that leave nothing on the line, both ends at one address, the reader not busy and no COMSET to a device's
 /// address issued: over m rounds that lose nothing, each as long as the longest of the controller's waits or longer, m - 1 more commands
 /// and events, or all of them, are settled and reported, where the session hasn't ended.
-pub fn comes_through<H: Handler>()
+pub fn schedule_comes_through<H: Handler>()
     ensures { ComesThrough H.answer_of H.after }
 {
     stands_on_one_link::<H>();
@@ -71,7 +71,7 @@ pub fn accepts_by_room<H: Handler>()
 /// command settled, the oldest first, with its own answer, and once all are settled an event reported, the oldest first. Premises:
 /// settings in their ranges, both ends at one address, `quiet_wait` at most 400, `poll_interval` at most 50, and no COMSET to a device's
 /// address issued.
-pub fn goes_in_turn<H: Handler>()
+pub fn schedule_goes_in_turn<H: Handler>()
     ensures { GoesInTurn H.answer_of H.after }
 {
     stands_on_one_link::<H>();

@@ -100,5 +100,5 @@ reported KEYPAD 0 33
 #[test]
 fn laws_hold_with_a_door(_rt: HostRuntime) {
     osdp_sim_laws::accepts_by_room::<Door>();
-    osdp_sim_laws::goes_in_turn::<Door>();
+    osdp_sim_laws::schedule_goes_in_turn::<Door>();
 }

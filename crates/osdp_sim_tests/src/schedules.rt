@@ -309,9 +309,9 @@ to-reader damage 00";
 #[test]
 fn accounts_hold_with_a_door(_rt: HostRuntime) {
     osdp_sim::laws::reads_packets();
-    osdp_sim_laws::stays_in_a_row::<Door>();
-    osdp_sim_laws::holds_once::<Door>();
-    osdp_sim_laws::comes_through::<Door>();
+    osdp_sim_laws::schedule_stays_in_a_row::<Door>();
+    osdp_sim_laws::schedule_holds_once::<Door>();
+    osdp_sim_laws::schedule_comes_through::<Door>();
     osdp_sim_laws::recovers::<Door>();
     osdp_session::holds_in_sessions::<Door>();
 }

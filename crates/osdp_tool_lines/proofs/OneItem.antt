@@ -10,7 +10,7 @@ use Rattle.osdp_frame.specs.declared.check_kind.CheckKind.TheVariants.{Sum, Crc}
 use Rattle.osdp_frame.specs.declared.fault.FrameFault.{FrameFault}
 use Rattle.osdp_frame.specs.declared.fault.FrameFault.TheVariants.{TooShort, TooLong, BadCheck, Ended}
 use Rattle.osdp_frame.specs.Packet.{IsPacket, Packet}
-use Rattle.osdp_frame.specs.Reading.{Part, Whole, Passed, Bad}
+use Rattle.osdp_frame.specs.Reading.{RunItem, PacketItem, SkippedItem, RefusedItem}
 use Rattle.osdp_msg.proofs.RowTexts.{differ}
 use Rattle.osdp_msg_laws.proofs.TextWords.{name_word}
 use Rattle.osdp_frame.specs.Check.{check_name}
@@ -96,7 +96,7 @@ after_direction p =
     decimal p.address ++ (codes " seq "
     ++ (decimal p.sequence ++ (codes " " ++ (check_name p.check ++ (bits_text p.reserved ++ (codes " " ++ body_text p))))))
 
-packet_pieces : (p : Packet) → item_text (Whole p) ≡ direction_name p.reply ++ (codes " " ++ after_direction p)
+packet_pieces : (p : Packet) → item_text (PacketItem p) ≡ direction_name p.reply ++ (codes " " ++ after_direction p)
 packet_pieces p = pieces (direction_name p.reply) (decimal p.address) (decimal p.sequence) (check_name p.check)
     (bits_text p.reserved) (codes " " ++ body_text p)
   where
@@ -104,7 +104,7 @@ packet_pieces p = pieces (direction_name p.reply) (decimal p.address) (decimal p
         ≡ d ++ (codes " " ++ (a ++ (codes " seq " ++ (s ++ (codes " " ++ (c ++ (b ++ t)))))))
     pieces d a s c b t = simp append_assoc
 
-one_packet : (p q : Packet) → IsPacket p → IsPacket q → item_text (Whole p) ≡ item_text (Whole q) → p ≡ q
+one_packet : (p q : Packet) → IsPacket p → IsPacket q → item_text (PacketItem p) ≡ item_text (PacketItem q) → p ≡ q
 one_packet p q h k e =
     let address : p.address < 128 = h.address in
     let other_address : q.address < 128 = k.address in
@@ -150,29 +150,29 @@ not_refused : (reply : Bool) (front back : List ℕ) → direction_name reply ++
 not_refused true front back e = differ_at 2 (codes "reply" ++ front) (codes "refused " ++ back) refl e
 not_refused false front back e = differ_at 0 (codes "cmd" ++ front) (codes "refused " ++ back) refl e
 
-one_text : (a b : Part) → IsItem a → IsItem b → item_text a ≡ item_text b → a ≡ b
-one_text (Whole p) (Whole q) h k e = ap Whole (one_packet p q h k e)
-one_text (Whole p) (Passed b) h k e = absurd
+one_text : (a b : RunItem) → IsItem a → IsItem b → item_text a ≡ item_text b → a ≡ b
+one_text (PacketItem p) (PacketItem q) h k e = ap PacketItem (one_packet p q h k e)
+one_text (PacketItem p) (SkippedItem b) h k e = absurd
     (not_skipped p.reply (codes " " ++ after_direction p) (encode_upper (b ∷ [])) (sym (packet_pieces p) ∙ e))
-one_text (Whole p) (Bad f) h k e = absurd
+one_text (PacketItem p) (RefusedItem f) h k e = absurd
     (not_refused p.reply (codes " " ++ after_direction p) (fault_name f) (sym (packet_pieces p) ∙ e))
-one_text (Passed a) (Whole q) h k e = absurd
+one_text (SkippedItem a) (PacketItem q) h k e = absurd
     (not_skipped q.reply (codes " " ++ after_direction q) (encode_upper (a ∷ [])) (sym (packet_pieces q) ∙ sym e))
-one_text (Passed a) (Passed b) h k e =
-    ap (λ (list : List ℕ). Passed (get_or list 0 0))
+one_text (SkippedItem a) (SkippedItem b) h k e =
+    ap (λ (list : List ℕ). SkippedItem (get_or list 0 0))
     (one_list (a ∷ []) (b ∷ []) (one_byte a h) (one_byte b k)
     (append_cancel_left (codes "skip ") (encode_upper (a ∷ [])) (encode_upper (b ∷ [])) e))
-one_text (Passed a) (Bad f) h k e = absurd
+one_text (SkippedItem a) (RefusedItem f) h k e = absurd
     (differ_at 0 (codes "skip " ++ encode_upper (a ∷ [])) (codes "refused " ++ fault_name f) refl e)
-one_text (Bad f) (Whole q) h k e = absurd
+one_text (RefusedItem f) (PacketItem q) h k e = absurd
     (not_refused q.reply (codes " " ++ after_direction q) (fault_name f) (sym (packet_pieces q) ∙ sym e))
-one_text (Bad f) (Passed b) h k e = absurd
+one_text (RefusedItem f) (SkippedItem b) h k e = absurd
     (differ_at 0 (codes "refused " ++ fault_name f) (codes "skip " ++ encode_upper (b ∷ [])) refl e)
-one_text (Bad f) (Bad g) h k e = ap Bad (one_fault f g (append_cancel_left (codes "refused ") (fault_name f) (fault_name g) e))
+one_text (RefusedItem f) (RefusedItem g) h k e = ap RefusedItem (one_fault f g (append_cancel_left (codes "refused ") (fault_name f) (fault_name g) e))
 
 -- ---- lines
 
-line_pieces : (run place : ℕ) (item : Part)
+line_pieces : (run place : ℕ) (item : RunItem)
     → item_line run place item ≡ decimal run ++ (codes ":" ++ (decimal place ++ (codes " " ++ (item_text item ++ codes "\n"))))
 line_pieces run place item = pieces (decimal run) (decimal place) (item_text item ++ codes "\n")
   where

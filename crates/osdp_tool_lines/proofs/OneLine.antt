@@ -7,7 +7,7 @@ use Rattle.osdp_frame.specs.declared.check_kind.CheckKind.TheVariants.{Sum, Crc}
 use Rattle.osdp_frame.specs.declared.fault.FrameFault.{FrameFault}
 use Rattle.osdp_frame.specs.declared.fault.FrameFault.TheVariants.{TooShort}
 use Rattle.osdp_frame.specs.Packet.{IsPacket, Packet}
-use Rattle.osdp_frame.specs.Reading.{Part, Whole, Passed, Bad}
+use Rattle.osdp_frame.specs.Reading.{RunItem, PacketItem, SkippedItem, RefusedItem}
 use Rattle.osdp_frame.specs.Check.{check_name}
 use Rattle.osdp_tool_lines.specs.ItemText.{direction_name, fault_name, item_line, item_text, message_text}
 use Rattle.osdp_tool_lines.specs.Laws.{HasOneLine, IsCount, IsItem}
@@ -38,7 +38,7 @@ body_no_feed : (reply block : Bool) (body : List ℕ) → IsBytes body → 0 < l
 body_no_feed reply true body h some = both {xs = codes "block "} (literal (codes "block ") refl) (digits_no_feed body h)
 body_no_feed reply false body h some = unblocked_no_feed reply body h some
 
-packet_no_feed : (p : Packet) → IsPacket p → HasNoFeed (item_text (Whole p))
+packet_no_feed : (p : Packet) → IsPacket p → HasNoFeed (item_text (PacketItem p))
 packet_no_feed p h =
     let address : p.address < 128 = h.address in
     let number : p.sequence < 4 = h.sequence in
@@ -56,10 +56,10 @@ fault_named : (fault : FrameFault) → lacks_feed (fault_name fault) ≡ true
 fault_named TooShort = refl
 fault_named fault = refl
 
-item_no_feed : (item : Part) → IsItem item → HasNoFeed (item_text item)
-item_no_feed (Whole p) h = packet_no_feed p h
-item_no_feed (Passed b) h = both {xs = codes "skip "} (literal (codes "skip ") refl) (digits_no_feed (b ∷ []) (one_byte b h))
-item_no_feed (Bad fault) h = both {xs = codes "refused "} (literal (codes "refused ") refl)
+item_no_feed : (item : RunItem) → IsItem item → HasNoFeed (item_text item)
+item_no_feed (PacketItem p) h = packet_no_feed p h
+item_no_feed (SkippedItem b) h = both {xs = codes "skip "} (literal (codes "skip ") refl) (digits_no_feed (b ∷ []) (one_byte b h))
+item_no_feed (RefusedItem fault) h = both {xs = codes "refused "} (literal (codes "refused ") refl)
     (literal (fault_name fault) (fault_named fault))
 
 -- ---- lines
@@ -73,13 +73,13 @@ one_line run place item small low h =
     (front ++ item_text item, sym (append_assoc front (item_text item) (codes "\n")), text.lacks)
 
 -- no line is empty
-pub some_line : (run place : ℕ) (item : Part) → 0 < length (item_line run place item)
+pub some_line : (run place : ℕ) (item : RunItem) → 0 < length (item_line run place item)
 some_line run place item =
     let front = decimal run ++ (codes ":" ++ (decimal place ++ codes " ")) in
     omega (arith, length-append front (item_text item ++ codes "\n"), length-append (item_text item) (codes "\n"))
 
 -- what stands after one line stands after the other, where all of it is the same
-pub next_line : (run place other_run other_place : ℕ) (item other : Part) (front back : List ℕ)
+pub next_line : (run place other_run other_place : ℕ) (item other : RunItem) (front back : List ℕ)
     → IsCount run → IsCount place → IsCount other_run → IsCount other_place → IsItem item → IsItem other
     → item_line run place item ++ front ≡ item_line other_run other_place other ++ back
     → (run ≡ other_run) × (place ≡ other_place) × (item ≡ other) × (front ≡ back)

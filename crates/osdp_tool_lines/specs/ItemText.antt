@@ -6,7 +6,7 @@ use Rattle.osdp_frame.specs.Check.{check_name}
 use Rattle.osdp_frame.specs.declared.fault.FrameFault.{FrameFault}
 use Rattle.osdp_frame.specs.declared.fault.FrameFault.TheVariants.{TooShort, TooLong, BadCheck, Ended}
 use Rattle.osdp_frame.specs.Packet.{Packet}
-use Rattle.osdp_frame.specs.Reading.{Part, Whole, Passed, Bad}
+use Rattle.osdp_frame.specs.Reading.{RunItem, PacketItem, SkippedItem, RefusedItem}
 use Rattle.osdp_msg.specs.declared.fault.MsgFault.{MsgFault}
 use Rattle.osdp_msg.specs.declared.fault.MsgFault.TheVariants.{UnknownCode, Length, Count}
 use Rattle.osdp_msg.specs.CommandTable.{command_of}
@@ -81,20 +81,20 @@ fault_name TooLong = codes "F2"
 fault_name BadCheck = codes "F3"
 fault_name Ended = codes "F4"
 
-abbrev pub item_text : Part → List ℕ
-item_text (Whole p) = head_text p ++ (codes " " ++ body_text p)
-item_text (Passed b) = codes "skip " ++ encode_upper (b ∷ [])
-item_text (Bad fault) = codes "refused " ++ fault_name fault
+abbrev pub item_text : RunItem → List ℕ
+item_text (PacketItem p) = head_text p ++ (codes " " ++ body_text p)
+item_text (SkippedItem b) = codes "skip " ++ encode_upper (b ∷ [])
+item_text (RefusedItem fault) = codes "refused " ++ fault_name fault
 
 -- a refused byte, or a packet whose message is refused
-abbrev pub is_refusal : Part → Bool
-is_refusal (Whole p) =
+abbrev pub is_refusal : RunItem → Bool
+is_refusal (PacketItem p) =
     if p.block then false else is_refused_message p.reply (slice_index p.body 0) (drop 1 p.body)
-is_refusal (Passed b) = false
-is_refusal (Bad fault) = true
+is_refusal (SkippedItem b) = false
+is_refusal (RefusedItem fault) = true
 
 -- the line of an item: the number of its run, from 1, its place in the run, its text
-abbrev pub item_line : ℕ → ℕ → Part → List ℕ
+abbrev pub item_line : ℕ → ℕ → RunItem → List ℕ
 item_line run place part =
     (decimal run ++ (codes ":" ++ (decimal place ++ codes " "))) ++ (item_text part ++ codes "\n")
 

@@ -3,14 +3,14 @@ use Rattle.std.specs.Prelude.{◌≡◌, ℕ, ◌<◌, ◌^◌, List, [], ◌∷
 use Rattle.std.specs.List.{AllByRecursion}
 use Rattle.std.specs.Str.Iter.{LacksByte}
 use Rattle.osdp_frame.specs.Packet.{IsPacket}
-use Rattle.osdp_frame.specs.Reading.{Part, Whole, Passed, Bad}
+use Rattle.osdp_frame.specs.Reading.{RunItem, PacketItem, SkippedItem, RefusedItem}
 use Rattle.osdp_tool_lines.specs.ItemText.{item_line, counts_line}
 
 -- an item that a run of bytes can have
-abbrev pub IsItem : Part → Type 0
-IsItem (Whole p) = IsPacket p
-IsItem (Passed b) = b < 256
-IsItem (Bad fault) = Unit {0}
+abbrev pub IsItem : RunItem → Type 0
+IsItem (PacketItem p) = IsPacket p
+IsItem (SkippedItem b) = b < 256
+IsItem (RefusedItem fault) = Unit {0}
 
 -- numbers of 64 bits
 abbrev pub IsCount : ℕ → Type 0
@@ -19,7 +19,7 @@ IsCount n = n < 2 ^ 64
 -- two items with one line are the same item, of the same run and at the same place in it
 abbrev pub HasOneItem : Type 0
 HasOneItem =
-    (run place other_run other_place : ℕ) (item other : Part)
+    (run place other_run other_place : ℕ) (item other : RunItem)
     → IsCount run → IsCount place → IsCount other_run → IsCount other_place → IsItem item → IsItem other
     → item_line run place item ≡ item_line other_run other_place other
     → (run ≡ other_run) × (place ≡ other_place) × (item ≡ other)
@@ -27,7 +27,7 @@ HasOneItem =
 -- an item has one line: a line feed ends it, and none stands in it
 abbrev pub HasOneLine : Type 0
 HasOneLine =
-    (run place : ℕ) (item : Part) → IsCount run → IsCount place → IsItem item
+    (run place : ℕ) (item : RunItem) → IsCount run → IsCount place → IsItem item
     → (text : List ℕ) × (item_line run place item ≡ text ++ codes "\n") × LacksByte 10 text
 
 -- counts with one line are the same counts

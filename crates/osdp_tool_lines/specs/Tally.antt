@@ -1,7 +1,7 @@
 -- Where the text stands, and what has been counted.
 use Rattle.std.specs.Prelude.{ℕ, ◌+◌, ◌==◌, Bool, if◌then◌else◌, List, [], ◌∷◌}
 use Rattle.osdp_frame.specs.Packet.{packet_length}
-use Rattle.osdp_frame.specs.Reading.{Part, Whole, Passed, Bad}
+use Rattle.osdp_frame.specs.Reading.{RunItem, PacketItem, SkippedItem, RefusedItem}
 use Rattle.osdp_tool_lines.specs.declared.tally.Tally.{Tally}
 use Rattle.osdp_tool_lines.specs.ItemText.{is_refusal}
 
@@ -14,19 +14,19 @@ abbrev pub one_if : Bool → ℕ
 one_if test = if test then 1 else 0
 
 -- after an item
-abbrev pub after_part : Tally → Part → Tally
-after_part tally (Whole p) = record tally {
+abbrev pub tally_after : Tally → RunItem → Tally
+tally_after tally (PacketItem p) = record tally {
   place = tally.place + packet_length p;
   packets = tally.packets + 1;
-  refused = tally.refused + one_if (is_refusal (Whole p));
+  refused = tally.refused + one_if (is_refusal (PacketItem p));
 }
-after_part tally (Passed b) = record tally { place = tally.place + 1; skipped = tally.skipped + 1 }
-after_part tally (Bad fault) = record tally { place = tally.place + 1; refused = tally.refused + 1 }
+tally_after tally (SkippedItem b) = record tally { place = tally.place + 1; skipped = tally.skipped + 1 }
+tally_after tally (RefusedItem fault) = record tally { place = tally.place + 1; refused = tally.refused + 1 }
 
 -- after items, one after the other
-unfoldable pub after_parts : Tally → List Part → Tally
-after_parts tally [] = tally
-after_parts tally (part ∷ parts) = after_parts (after_part tally part) parts
+unfoldable pub tally_after_all : Tally → List RunItem → Tally
+tally_after_all tally [] = tally
+tally_after_all tally (part ∷ parts) = tally_after_all (tally_after tally part) parts
 
 -- after the end of a run; a run without bytes isn't counted
 abbrev pub after_run : Tally → Tally

@@ -2,9 +2,9 @@
 
 ghost use Rattle.std.specs.Prelude.{◌≡◌, ◌++◌, ◌+◌, ◌<◌, ◌^◌, ℕ, true, false, length, OnOk, IfOk, string_bytes, codes};
 ghost use Rattle.std.specs.Fmt.{decimal};
-ghost use Rattle.osdp_frame.specs.Reading.{Whole, Passed, Bad};
+ghost use Rattle.osdp_frame.specs.Reading.{PacketItem, SkippedItem, RefusedItem};
 ghost use Rattle.osdp_tool_lines.specs.ItemText.{body_text, fault_name, head_text, is_refusal, item_line, counts_line};
-ghost use Rattle.osdp_tool_lines.specs.Told.{part_line, end_line};
+ghost use Rattle.osdp_tool_lines.specs.Told.{shown_line, end_line};
 
 use crate::hex_text::push_bytes;
 use crate::message_text::{Told, is_refused, push_message};
@@ -62,8 +62,8 @@ fn push_unread_packet(
 ) -> Result<bool, AllocError>
     requires room { tally.now.runs + 1 < 2 ^ 64 }
     requires block { view.now.block ≡ true }
-    ensures refused { IfOk result (λ refused. refused ≡ is_refusal (Whole view.now)) }
-    ensures line { OnOk result (string_bytes text.new ≡ string_bytes text.old ++ part_line full tally.now (Whole view.now)) }
+    ensures refused { IfOk result (λ refused. refused ≡ is_refusal (PacketItem view.now)) }
+    ensures line { OnOk result (string_bytes text.new ≡ string_bytes text.old ++ shown_line full tally.now (PacketItem view.now)) }
 {
     if !full {
         return Ok(false);
@@ -87,8 +87,8 @@ fn push_named_packet(
     requires room { tally.now.runs + 1 < 2 ^ 64 }
     requires block { view.now.block ≡ false }
     requires name { body_text view.now ≡ name.now }
-    requires refused { is_refusal (Whole view.now) ≡ false }
-    ensures { OnOk result (string_bytes text.new ≡ string_bytes text.old ++ part_line full tally.now (Whole view.now)) }
+    requires refused { is_refusal (PacketItem view.now) ≡ false }
+    ensures { OnOk result (string_bytes text.new ≡ string_bytes text.old ++ shown_line full tally.now (PacketItem view.now)) }
 {
     if !full {
         return Ok(());
@@ -109,8 +109,8 @@ fn push_read_packet<M: Told>(
     requires room { tally.now.runs + 1 < 2 ^ 64 }
     requires block { view.now.block ≡ false }
     requires reply { view.now.reply ≡ M.reply }
-    ensures refused { IfOk result (λ refused. refused ≡ is_refusal (Whole view.now)) }
-    ensures line { OnOk result (string_bytes text.new ≡ string_bytes text.old ++ part_line full tally.now (Whole view.now)) }
+    ensures refused { IfOk result (λ refused. refused ≡ is_refusal (PacketItem view.now)) }
+    ensures line { OnOk result (string_bytes text.new ≡ string_bytes text.old ++ shown_line full tally.now (PacketItem view.now)) }
 {
     let code = view.code();
     let bytes = view.payload();
@@ -136,8 +136,8 @@ fn push_message_packet<M: Told>(
     requires room { tally.now.runs + 1 < 2 ^ 64 }
     requires block { view.now.block ≡ false }
     requires reply { view.now.reply ≡ M.reply }
-    ensures refused { IfOk result (λ refused. refused ≡ is_refusal (Whole view.now)) }
-    ensures line { OnOk result (string_bytes text.new ≡ string_bytes text.old ++ part_line full tally.now (Whole view.now)) }
+    ensures refused { IfOk result (λ refused. refused ≡ is_refusal (PacketItem view.now)) }
+    ensures line { OnOk result (string_bytes text.new ≡ string_bytes text.old ++ shown_line full tally.now (PacketItem view.now)) }
 {
     if let Some(name) = M::bare(view.code(), view.payload()) {
         push_named_packet(text, full, tally, view, name)?;
@@ -155,8 +155,8 @@ pub(crate) fn push_packet(
     view: &FrameView<'_>,
 ) -> Result<bool, AllocError>
     requires { tally.now.runs + 1 < 2 ^ 64 }
-    ensures refused { IfOk result (λ refused. refused ≡ is_refusal (Whole view.now)) }
-    ensures line { OnOk result (string_bytes text.new ≡ string_bytes text.old ++ part_line full tally.now (Whole view.now)) }
+    ensures refused { IfOk result (λ refused. refused ≡ is_refusal (PacketItem view.now)) }
+    ensures line { OnOk result (string_bytes text.new ≡ string_bytes text.old ++ shown_line full tally.now (PacketItem view.now)) }
 {
     if view.has_block() {
         return push_unread_packet(text, full, tally, view);
@@ -175,7 +175,7 @@ pub(crate) fn push_skipped(
     byte: u8,
 ) -> Result<(), AllocError>
     requires { tally.now.runs + 1 < 2 ^ 64 }
-    ensures { OnOk result (string_bytes text.new ≡ string_bytes text.old ++ part_line full tally.now (Passed byte)) }
+    ensures { OnOk result (string_bytes text.new ≡ string_bytes text.old ++ shown_line full tally.now (SkippedItem byte)) }
 {
     if !full {
         return Ok(());
@@ -209,7 +209,7 @@ pub(crate) fn push_fault(
     fault: FrameFault,
 ) -> Result<(), AllocError>
     requires { tally.now.runs + 1 < 2 ^ 64 }
-    ensures { OnOk result (string_bytes text.new ≡ string_bytes text.old ++ part_line full tally.now (Bad fault)) }
+    ensures { OnOk result (string_bytes text.new ≡ string_bytes text.old ++ shown_line full tally.now (RefusedItem fault)) }
 {
     push_place(text, tally)?;
     push_refused(text, fault)

@@ -1,7 +1,7 @@
 //! Where the text stands, and what has been counted.
 
 ghost use Rattle.std.specs.Prelude.{◌≡◌, ◌+◌, ◌*◌, ◌<◌, ◌^◌, length, map};
-ghost use Rattle.osdp_frame.specs.Reading.{Passed};
+ghost use Rattle.osdp_frame.specs.Reading.{SkippedItem};
 
 /// What the lines so far have told of the runs.
 #[derive(Clone, Copy, Debug, PartialEq, Eq)]
@@ -19,7 +19,7 @@ pub struct Tally {
 }
 
 impl Tally {
-    ghost use Rattle.osdp_tool_lines.specs.Tally.{no_tally, after_parts, after_run, counted};
+    ghost use Rattle.osdp_tool_lines.specs.Tally.{no_tally, tally_after_all, after_run, counted};
 
     /// Nothing has come.
     pub fn new() -> Tally
@@ -38,7 +38,7 @@ impl Tally {
     #[tactic(auto, using(crate::proofs::Passed::after_passed))]
     pub fn pass(&mut self, bytes: &[u8])
         requires { counted self.old + 2 * length bytes.now < 2 ^ 63 }
-        ensures { self.new ≡ after_parts self.old (map Passed bytes.now) }
+        ensures { self.new ≡ tally_after_all self.old (map SkippedItem bytes.now) }
     {
         let count = bytes.len() as u64;
         self.place += count;

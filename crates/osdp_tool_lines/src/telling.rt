@@ -1,10 +1,10 @@
 //! Telling of items, one after the other.
 
 ghost use Rattle.std.specs.Prelude.{◌≡◌, ◌++◌, ◌+◌, ◌<◌, ◌^◌, OnOk, string_bytes};
-ghost use Rattle.osdp_frame.specs.Shown.{part_of};
-ghost use Rattle.osdp_frame.specs.Reading.{part_size};
-ghost use Rattle.osdp_tool_lines.specs.Tally.{after_part, counted};
-ghost use Rattle.osdp_tool_lines.specs.Told.{part_line};
+ghost use Rattle.osdp_frame.specs.Shown.{item_of};
+ghost use Rattle.osdp_frame.specs.Reading.{item_size};
+ghost use Rattle.osdp_tool_lines.specs.Tally.{tally_after, counted};
+ghost use Rattle.osdp_tool_lines.specs.Told.{shown_line};
 
 use crate::item_text::{push_fault, push_packet, push_skipped};
 use crate::tally::Tally;
@@ -19,9 +19,9 @@ pub fn tell(
     tally: &mut Tally,
     item: &Item<'_>,
 ) -> Result<(), AllocError>
-    requires { counted tally.old + part_size (part_of item.now) < 2 ^ 63 }
-    ensures line { OnOk result (string_bytes text.new ≡ string_bytes text.old ++ part_line full tally.old (part_of item.now)) }
-    ensures tally { OnOk result (tally.new ≡ after_part tally.old (part_of item.now)) }
+    requires { counted tally.old + item_size (item_of item.now) < 2 ^ 63 }
+    ensures line { OnOk result (string_bytes text.new ≡ string_bytes text.old ++ shown_line full tally.old (item_of item.now)) }
+    ensures tally { OnOk result (tally.new ≡ tally_after tally.old (item_of item.now)) }
 {
     match item {
         Item::Packet(view) => {

@@ -7,7 +7,7 @@ use Rattle.osdp_frame.specs.declared.check_kind.CheckKind.{CheckKind}
 use Rattle.osdp_frame.specs.declared.check_kind.CheckKind.TheVariants.{Sum, Crc}
 use Rattle.hex.specs.Hex.{IsBytes}
 use Rattle.osdp_frame.specs.Packet.{IsPacket, Packet}
-use Rattle.osdp_frame.specs.Reading.{IsReading, Whole}
+use Rattle.osdp_frame.specs.Reading.{IsReading, PacketItem}
 use Rattle.osdp_frame.specs.Spelling.{Spells, spelling}
 use Rattle.osdp_words.specs.Word.{AllStandFor}
 use Rattle.osdp_words.proofs.WordLaws.{is_decimal}
@@ -89,7 +89,7 @@ read_message o (Reply r) e h =
 
 -- with the law of spellings, and that of a run which is one
 pub read_back : ((p : Packet) (bytes : List ℕ) → Spells p bytes ↔ (IsPacket p × (bytes ≡ spelling p)))
-    → ((p : Packet) (bytes : List ℕ) → Spells p bytes → IsReading bytes (Whole p ∷ [])) → ReadsBack
+    → ((p : Packet) (bytes : List ℕ) → Spells p bytes → IsReading bytes (PacketItem p ∷ [])) → ReadsBack
 read_back spells reads o fits =
     let body = body_bytes o.message fits.message in
     let packet = is_packet (message_is_reply o.message) o.address o.seq o.check false 0 o.message (message_body o.message) fits.address fits.sequence (omega arith) refl (λ place. body.0 place) body.1 in

@@ -1,7 +1,7 @@
 -- What holds of the words of make and of what it prints.
 use Rattle.std.specs.Prelude.{◌≡◌, ℕ, true, false, List, [], ◌∷◌, drop, slice_index, Ok}
 use Rattle.osdp_frame.specs.Packet.{Packet}
-use Rattle.osdp_frame.specs.Reading.{Whole, IsReading}
+use Rattle.osdp_frame.specs.Reading.{PacketItem, IsReading}
 use Rattle.osdp_frame.specs.Spelling.{spelling}
 use Rattle.osdp_msg.specs.CommandTable.{command_of}
 use Rattle.osdp_msg.specs.ReplyTable.{reply_of}
@@ -23,7 +23,7 @@ IsReadAs p (Reply m) = (p.reply ≡ true) × (reply_of (slice_index p.body 0) (d
 -- The bytes of a packet that is ordered are read as that packet alone. It has the address, number and check that were
 -- ordered, neither a security block nor reserved bits, and its body is read as the message.
 pub record IsReadBack (o : PacketOrder) : Type 0 where
-  pub packet : IsReading (spelling (order_packet o)) (Whole (order_packet o) ∷ [])
+  pub packet : IsReading (spelling (order_packet o)) (PacketItem (order_packet o) ∷ [])
   pub fields : ((order_packet o).address ≡ o.address) × ((order_packet o).sequence ≡ o.seq) × ((order_packet o).check ≡ o.check)
   pub plain : ((order_packet o).block ≡ false) × ((order_packet o).reserved ≡ 0)
   pub message : IsReadAs (order_packet o) o.message

@@ -3,15 +3,15 @@ use Rattle.std.proofs.Common.{◌≡◌, ℕ, ◌+◌, ◌*◌, ◌<◌, ◌≤�
 use Rattle.std.proofs.Math.Seq.{drop-drop}
 use Rattle.std.proofs.lemmas.Bool.{ne_eqb}
 use Rattle.osdp_frame.specs.Bytes.{AreBytes}
-use Rattle.osdp_frame.specs.Reading.{Part, part_size, total_size}
+use Rattle.osdp_frame.specs.Reading.{RunItem, item_size, total_size}
 use Rattle.osdp_frame.specs.Held.{Held, decided, after_advance, after_first, later}
 use Rattle.osdp_frame.specs.Items.{items}
 use Rattle.osdp_frame.proofs.Head.{AreBytes-drop}
 use Rattle.osdp_frame.proofs.Decided.{undecided_none, undecided_ended}
-use Rattle.osdp_frame_laws.proofs.Readings.{part_size-positive, part_size-decided, decided_nothing, items_undecided, items_decided}
-use Rattle.osdp_tool_lines.specs.Tally.{after_part, after_parts, counted}
-use Rattle.osdp_tool_lines.specs.Told.{parts_lines}
-use Rattle.osdp_tool_lines.proofs.Lines.{after_parts-nil, after_parts-cons, parts_lines-append, counted-later}
+use Rattle.osdp_frame_laws.proofs.Readings.{item_size-positive, item_size-decided, decided_nothing, items_undecided, items_decided}
+use Rattle.osdp_tool_lines.specs.Tally.{tally_after, tally_after_all, counted}
+use Rattle.osdp_tool_lines.specs.Told.{shown_lines}
+use Rattle.osdp_tool_lines.proofs.Lines.{tally_after_all-nil, tally_after_all-cons, shown_lines-append, counted-later}
 use Rattle.osdp_tool_show.specs.Written.{StopsWithin}
 use Rattle.osdp_tool_show.proofs.Beginnings.{stops_after}
 use Rattle.osdp_tool_show.specs.declared.report.Report.{Report}
@@ -20,7 +20,7 @@ use Rattle.osdp_tool_show.proofs.Reports.{tells_none, tells_more}
 
 -- some of the items that the held bytes decide have been told and taken off
 pub record Draining (start now : Held) (old new : Report) (before after : Option (List ℕ)) : Type 0 where
-  pub parts : List Part
+  pub parts : List RunItem
   pub tells : Tells old new before after parts
   pub whole : items start.ended start.bytes ≡ parts ++ items now.ended now.bytes
   pub rest : drop (total_size (items now.ended now.bytes)) now.bytes ≡ drop (total_size (items start.ended start.bytes)) start.bytes
@@ -51,22 +51,22 @@ draining_start start old before fits some = record {
   counts = omega arith;
 }
 
-pub draining_step : (start now next : Held) (old mid new : Report) (before middle after : Option (List ℕ)) (part : Part)
+pub draining_step : (start now next : Held) (old mid new : Report) (before middle after : Option (List ℕ)) (part : RunItem)
     → Draining start now old mid before middle → decided now.ended now.bytes ≡ Some part → next ≡ after_advance now
     → Tells mid new middle after (part ∷ []) → Draining start next old new before after
 draining_step start now next old mid new before middle after part d is advanced tells =
-    let n = part_size part in
-    let some : 0 < n = part_size-positive part in
-    let short : n ≤ length now.bytes = part_size-decided now.ended now.bytes part d.bytes is in
+    let n = item_size part in
+    let some : 0 < n = item_size-positive part in
+    let short : n ≤ length now.bytes = item_size-decided now.ended now.bytes part d.bytes is in
     let left = drop n now.bytes in
     let here : next ≡ later now part = advanced ∙ ap (after_first now) is in
     let first : items now.ended now.bytes ≡ part ∷ items now.ended left = items_decided now.ended now.bytes part d.bytes is in
     let same : items next.ended next.bytes ≡ items now.ended left =
     ap (λ (h : Held). items h.ended h.bytes) here ∙ still_ended now.ended left in
-    let tally : new.tally ≡ after_part mid.tally part = tells.tally ∙ after_parts-cons mid.tally part [] ∙ after_parts-nil (after_part mid.tally part) in
+    let tally : new.tally ≡ tally_after mid.tally part = tells.tally ∙ tally_after_all-cons mid.tally part [] ∙ tally_after_all-nil (tally_after mid.tally part) in
     let bytes_are : next.bytes ≡ left = ap (λ (h : Held). h.bytes) here in
-    let grows : counted (after_part mid.tally part) + 5 * length left ≤ counted mid.tally + 5 * length now.bytes = counted-later mid.tally part now.bytes some short in
-    let tally_counts : counted new.tally ≡ counted (after_part mid.tally part) = ap counted tally in
+    let grows : counted (tally_after mid.tally part) + 5 * length left ≤ counted mid.tally + 5 * length now.bytes = counted-later mid.tally part now.bytes some short in
+    let tally_counts : counted new.tally ≡ counted (tally_after mid.tally part) = ap counted tally in
     let lengths : length next.bytes ≡ length left = ap length bytes_are in
     let last = d.counts in
     record {
@@ -105,24 +105,24 @@ draining_end start now old new before after d is =
         absurd (omega arith)
 
 -- a call stopped at the next item
-pub draining_stops : (start now : Held) (old mid : Report) (before middle written : Option (List ℕ)) (part : Part)
+pub draining_stops : (start now : Held) (old mid : Report) (before middle written : Option (List ℕ)) (part : RunItem)
     → Draining start now old mid before middle → decided now.ended now.bytes ≡ Some part
-    → StopsWithin middle written (parts_lines mid.full mid.tally (part ∷ []))
-    → StopsWithin before written (parts_lines old.full old.tally (items start.ended start.bytes))
+    → StopsWithin middle written (shown_lines mid.full mid.tally (part ∷ []))
+    → StopsWithin before written (shown_lines old.full old.tally (items start.ended start.bytes))
 draining_stops start now old mid before middle written part d is stops =
-    let rest = items now.ended (drop (part_size part) now.bytes) in
+    let rest = items now.ended (drop (item_size part) now.bytes) in
     let f = old.full in
     let t = old.tally in
-    let u = after_parts t d.parts in
-    let front = parts_lines f t d.parts in
-    let one = parts_lines f u (part ∷ []) in
-    let more = parts_lines f (after_parts u (part ∷ [])) rest in
+    let u = tally_after_all t d.parts in
+    let front = shown_lines f t d.parts in
+    let one = shown_lines f u (part ∷ []) in
+    let more = shown_lines f (tally_after_all u (part ∷ [])) rest in
     let all_parts : items start.ended start.bytes ≡ d.parts ++ ((part ∷ []) ++ rest) =
     d.whole ∙ ap (λ l. d.parts ++ l) (items_decided now.ended now.bytes part d.bytes is) in
-    let text : parts_lines f t (items start.ended start.bytes) ≡ (front ++ one) ++ more =
-    ap (parts_lines f t) all_parts ∙ parts_lines-append f t d.parts ((part ∷ []) ++ rest)
-    ∙ ap (λ l. front ++ l) (parts_lines-append f u (part ∷ []) rest) ∙ sym (append_assoc front one more) in
-    let here : parts_lines mid.full mid.tally (part ∷ []) ≡ one =
-    ap (λ g. parts_lines g mid.tally (part ∷ [])) d.tells.full ∙ ap (λ v. parts_lines f v (part ∷ [])) d.tells.tally in
-    stops_after before middle written front one (parts_lines f t (items start.ended start.bytes)) more d.tells.lines
+    let text : shown_lines f t (items start.ended start.bytes) ≡ (front ++ one) ++ more =
+    ap (shown_lines f t) all_parts ∙ shown_lines-append f t d.parts ((part ∷ []) ++ rest)
+    ∙ ap (λ l. front ++ l) (shown_lines-append f u (part ∷ []) rest) ∙ sym (append_assoc front one more) in
+    let here : shown_lines mid.full mid.tally (part ∷ []) ≡ one =
+    ap (λ g. shown_lines g mid.tally (part ∷ [])) d.tells.full ∙ ap (λ v. shown_lines f v (part ∷ [])) d.tells.tally in
+    stops_after before middle written front one (shown_lines f t (items start.ended start.bytes)) more d.tells.lines
     (subst (StopsWithin middle written) here stops) text

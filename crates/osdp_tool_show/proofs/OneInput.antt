@@ -7,7 +7,7 @@ use Rattle.std.specs.List.{AllByRecursion, concat}
 use Rattle.osdp_frame.specs.Bytes.{AreBytes}
 use Rattle.osdp_frame.specs.Packet.{Packet, packet_length}
 use Rattle.osdp_frame.specs.Spelling.{spelling, start_of_message}
-use Rattle.osdp_frame.specs.Reading.{Part, Whole, Passed, Bad, Begins, Stands, IsReading, part_size, total_size}
+use Rattle.osdp_frame.specs.Reading.{RunItem, PacketItem, SkippedItem, RefusedItem, Begins, Stands, IsReading, item_size, total_size}
 use Rattle.osdp_frame.proofs.Head.{AreBytes-drop}
 use Rattle.osdp_frame_laws.proofs.Readings.{sizes_reading}
 use Rattle.osdp_frame.proofs.Spelled.{length-spelled, spelled_is}
@@ -32,23 +32,23 @@ spelled_front p rest b =
     ap (λ (n : ℕ). take n rest) (sym (length-spelled p b.bytes b.spelled)) ∙ ap (take (length b.bytes)) b.parts
     ∙ take-append_seam b.bytes b.after ∙ spelled_is p b.bytes b.spelled
 
-one_rest : (part : Part) (rest other : List ℕ) → Stands rest part → Stands other part
-    → drop (part_size part) rest ≡ drop (part_size part) other → rest ≡ other
-one_rest (Whole p) rest other s t e =
+one_rest : (part : RunItem) (rest other : List ℕ) → Stands rest part → Stands other part
+    → drop (item_size part) rest ≡ drop (item_size part) other → rest ≡ other
+one_rest (PacketItem p) rest other s t e =
     sym (take-append-drop (packet_length p) rest)
     ∙ ap (λ l. l ++ drop (packet_length p) rest) (spelled_front p rest s ∙ sym (spelled_front p other t))
     ∙ ap (λ l. take (packet_length p) other ++ l) e ∙ take-append-drop (packet_length p) other
-one_rest (Passed b) rest other s t e =
+one_rest (SkippedItem b) rest other s t e =
     s.1 ∙ ap (λ l. b ∷ l) (sym (ap (drop 1) s.1) ∙ e ∙ ap (drop 1) t.1) ∙ sym t.1
-one_rest (Bad fault) rest other s t e =
+one_rest (RefusedItem fault) rest other s t e =
     s.1 ∙ ap (λ l. start_of_message ∷ l) (sym (ap (drop 1) s.1) ∙ e ∙ ap (drop 1) t.1) ∙ sym t.1
 
-one_run : (parts : List Part) (rest other : List ℕ) → IsReading rest parts → IsReading other parts → rest ≡ other
+one_run : (parts : List RunItem) (rest other : List ℕ) → IsReading rest parts → IsReading other parts → rest ≡ other
 one_run [] rest other r s = r ∙ sym s
 one_run (part ∷ parts) rest other r s =
-    one_rest part rest other r.0 s.0 (one_run parts (drop (part_size part) rest) (drop (part_size part) other) r.1 s.1)
+    one_rest part rest other r.0 s.0 (one_run parts (drop (item_size part) rest) (drop (item_size part) other) r.1 s.1)
 
-one_runs : (readings : List (List Part)) (runs others : List (List ℕ)) → AreReadings runs readings
+one_runs : (readings : List (List RunItem)) (runs others : List (List ℕ)) → AreReadings runs readings
     → AreReadings others readings → runs ≡ others
 one_runs [] [] [] r s = refl
 one_runs [] [] (other ∷ others) r s = absurd s
@@ -62,29 +62,29 @@ one_runs (parts ∷ readings) (run ∷ runs) (other ∷ others) r s =
 
 -- ---- items of a reading
 
-item_fits : (part : Part) (rest : List ℕ) → AreBytes rest → Stands rest part → IsItem part
-item_fits (Whole p) rest fits s = s.spelled.fits
-item_fits (Passed b) rest fits s = let first = ap (λ l. get_or l 0 0) s.1 in omega (arith, fits 0)
-item_fits (Bad fault) rest fits s = tt
+item_fits : (part : RunItem) (rest : List ℕ) → AreBytes rest → Stands rest part → IsItem part
+item_fits (PacketItem p) rest fits s = s.spelled.fits
+item_fits (SkippedItem b) rest fits s = let first = ap (λ l. get_or l 0 0) s.1 in omega (arith, fits 0)
+item_fits (RefusedItem fault) rest fits s = tt
 
-items_fit : (parts : List Part) (rest : List ℕ) → AreBytes rest → IsReading rest parts → AllByRecursion IsItem parts
+items_fit : (parts : List RunItem) (rest : List ℕ) → AreBytes rest → IsReading rest parts → AllByRecursion IsItem parts
 items_fit [] rest fits r = tt
 items_fit (part ∷ parts) rest fits r =
-    (item_fits part rest fits r.0, items_fit parts (drop (part_size part) rest) (AreBytes-drop (part_size part) rest fits) r.1)
+    (item_fits part rest fits r.0, items_fit parts (drop (item_size part) rest) (AreBytes-drop (item_size part) rest fits) r.1)
 
 -- a reading whose places are numbers of 64 bits
-record Fits (parts : List Part) : Type 0 where
+record Fits (parts : List RunItem) : Type 0 where
   items : AllByRecursion IsItem parts
   some : 0 < length parts
   size : total_size parts < 2 ^ 64
 
-reading_fits : (run : List ℕ) (parts : List Part) → HasBytes run → length run < 2 ^ 64 → IsReading run parts → Fits parts
+reading_fits : (run : List ℕ) (parts : List RunItem) → HasBytes run → length run < 2 ^ 64 → IsReading run parts → Fits parts
 reading_fits run [] has short r = let none = ap length r in let some = has.0 in absurd (omega arith)
 reading_fits run (part ∷ parts) has short r =
     let sizes = sizes_reading run (part ∷ parts) r in
     record { items = items_fit (part ∷ parts) run has.1 r; some = omega arith; size = omega arith }
 
-readings_fit : (runs : List (List ℕ)) (readings : List (List Part)) → AllByRecursion HasBytes runs
+readings_fit : (runs : List (List ℕ)) (readings : List (List RunItem)) → AllByRecursion HasBytes runs
     → length (concat runs) < 2 ^ 64 → AreReadings runs readings
     → AllByRecursion Fits readings × (length readings ≤ length (concat runs))
 readings_fit [] [] has short r = (tt, omega arith)
@@ -99,20 +99,20 @@ readings_fit (run ∷ runs) (parts ∷ readings) has short r =
 -- ---- texts of readings
 
 -- no line where another run begins
-other_run : (run place : ℕ) (item : Part) (readings : List (List Part)) (back : List ℕ) → run + length readings < 2 ^ 64
+other_run : (run place : ℕ) (item : RunItem) (readings : List (List RunItem)) (back : List ℕ) → run + length readings < 2 ^ 64
     → place < 2 ^ 64 → IsItem item → AllByRecursion Fits readings
     → readings_text true (run + 1) readings ≡ item_line run place item ++ back → ⊥
 other_run run place item [] back room low h k e =
     let none = ap length e in omega (arith, some_line run place item, length-append (item_line run place item) back)
 other_run run place item ([] ∷ readings) back room low h k e = let some = k.0.some in omega arith
 other_run run place item ((part ∷ parts) ∷ readings) back room low h k e =
-    let first = append_assoc (item_line (run + 1) 0 part) (items_text true (run + 1) (0 + part_size part) parts)
+    let first = append_assoc (item_line (run + 1) 0 part) (items_text true (run + 1) (0 + item_size part) parts)
     (readings_text true (run + 1 + 1) readings) in
     let same = next_line (run + 1) 0 run place part item _ back (omega arith) (omega arith) (omega arith) low k.0.items.0 h
     (sym first ∙ e) in
     omega (arith, same.0)
 
-same_items : (run place : ℕ) (xs ys : List Part) (rs ss : List (List Part)) → run + length rs < 2 ^ 64 → run + length ss < 2 ^ 64
+same_items : (run place : ℕ) (xs ys : List RunItem) (rs ss : List (List RunItem)) → run + length rs < 2 ^ 64 → run + length ss < 2 ^ 64
     → place + total_size xs < 2 ^ 64 → place + total_size ys < 2 ^ 64 → AllByRecursion IsItem xs → AllByRecursion IsItem ys
     → AllByRecursion Fits rs → AllByRecursion Fits ss
     → (readings_text true (run + 1) rs ≡ readings_text true (run + 1) ss → rs ≡ ss)
@@ -121,26 +121,26 @@ same_items : (run place : ℕ) (xs ys : List Part) (rs ss : List (List Part)) �
 same_items run place [] [] rs ss room more low short hx hy hr hs rest e = (refl, rest e)
 same_items run place [] (y ∷ ys) rs ss room more low short hx hy hr hs rest e =
     absurd (other_run run place y rs _ room (omega arith) hy.0 hr
-    (e ∙ append_assoc (item_line run place y) (items_text true run (place + part_size y) ys)
+    (e ∙ append_assoc (item_line run place y) (items_text true run (place + item_size y) ys)
     (readings_text true (run + 1) ss)))
 same_items run place (x ∷ xs) [] rs ss room more low short hx hy hr hs rest e =
     absurd (other_run run place x ss _ more (omega arith) hx.0 hs
-    (sym e ∙ append_assoc (item_line run place x) (items_text true run (place + part_size x) xs)
+    (sym e ∙ append_assoc (item_line run place x) (items_text true run (place + item_size x) xs)
     (readings_text true (run + 1) rs)))
 same_items run place (x ∷ xs) (y ∷ ys) rs ss room more low short hx hy hr hs rest e =
-    let first = append_assoc (item_line run place x) (items_text true run (place + part_size x) xs)
+    let first = append_assoc (item_line run place x) (items_text true run (place + item_size x) xs)
     (readings_text true (run + 1) rs) in
-    let second = append_assoc (item_line run place y) (items_text true run (place + part_size y) ys)
+    let second = append_assoc (item_line run place y) (items_text true run (place + item_size y) ys)
     (readings_text true (run + 1) ss) in
     let line = next_line run place run place x y _ _ (omega arith) (omega arith) (omega arith) (omega arith) hx.0 hy.0
     (sym first ∙ e ∙ second) in
-    let size = ap part_size line.2 in
+    let size = ap item_size line.2 in
     let later = line.3 ∙ ap (λ (n : ℕ). items_text true run (place + n) ys ++ readings_text true (run + 1) ss) (sym size) in
-    let more_items = same_items run (place + part_size x) xs ys rs ss room more (omega arith) (omega arith) hx.1 hy.1 hr hs
+    let more_items = same_items run (place + item_size x) xs ys rs ss room more (omega arith) (omega arith) hx.1 hy.1 hr hs
     rest later in
     ((λ i. line.2 i ∷ more_items.0 i), more_items.1)
 
-same_readings : (run : ℕ) (rs ss : List (List Part)) → run + length rs ≤ 2 ^ 64 → run + length ss ≤ 2 ^ 64
+same_readings : (run : ℕ) (rs ss : List (List RunItem)) → run + length rs ≤ 2 ^ 64 → run + length ss ≤ 2 ^ 64
     → AllByRecursion Fits rs → AllByRecursion Fits ss
     → readings_text true run rs ≡ readings_text true run ss → rs ≡ ss
 same_readings run [] [] room more hr hs e = refl
@@ -151,7 +151,7 @@ same_readings run [] ((y ∷ ys) ∷ ss) room more hr hs e =
     absurd (omega (
       arith,
       some_line run 0 y,
-      length-append (item_line run 0 y) (items_text true run (0 + part_size y) ys),
+      length-append (item_line run 0 y) (items_text true run (0 + item_size y) ys),
       length-append (items_text true run 0 (y ∷ ys)) (readings_text true (run + 1) ss),
     ))
 same_readings run ((x ∷ xs) ∷ rs) [] room more hr hs e =
@@ -159,7 +159,7 @@ same_readings run ((x ∷ xs) ∷ rs) [] room more hr hs e =
     absurd (omega (
       arith,
       some_line run 0 x,
-      length-append (item_line run 0 x) (items_text true run (0 + part_size x) xs),
+      length-append (item_line run 0 x) (items_text true run (0 + item_size x) xs),
       length-append (items_text true run 0 (x ∷ xs)) (readings_text true (run + 1) rs),
     ))
 same_readings run (xs ∷ rs) (ys ∷ ss) room more hr hs e =

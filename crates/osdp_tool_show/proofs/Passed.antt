@@ -6,14 +6,14 @@ use Rattle.std.proofs.KnownBytes.{Appends-nil}
 use Rattle.std.specs.Io.KnownBytes.{Appends}
 use Rattle.std.specs.List.{AllByRecursion}
 use Rattle.osdp_frame.specs.Bytes.{AreBytes}
-use Rattle.osdp_frame.specs.Reading.{Passed, total_size}
+use Rattle.osdp_frame.specs.Reading.{SkippedItem, total_size}
 use Rattle.osdp_frame.specs.Held.{begun, decided, new_run}
 use Rattle.osdp_frame.specs.Items.{items}
 use Rattle.osdp_frame.specs.Spelling.{start_of_message}
 use Rattle.osdp_frame.proofs.Head.{AreBytes-drop}
 use Rattle.osdp_frame_laws.proofs.Readings.{decided_nothing, items_undecided, items_decided}
-use Rattle.osdp_tool_lines.specs.Tally.{after_parts, counted}
-use Rattle.osdp_tool_lines.specs.Told.{parts_lines}
+use Rattle.osdp_tool_lines.specs.Tally.{tally_after_all, counted}
+use Rattle.osdp_tool_lines.specs.Told.{shown_lines}
 use Rattle.osdp_tool_lines.proofs.Passed.{after_passed, lines_passed}
 use Rattle.osdp_tool_show.specs.declared.report.Report.{Report}
 use Rattle.osdp_tool_show.specs.Machine.{Tells, Drained, Took}
@@ -23,30 +23,30 @@ use Rattle.osdp_tool_show.proofs.WholeItems.{settled_new, took_after, took_drain
 abbrev pub AreSkipped : List ℕ → Type 0
 AreSkipped bytes = AllByRecursion (λ b. b ≢ start_of_message) bytes
 
-decided_passed : (b : ℕ) (bytes : List ℕ) → b ≢ start_of_message → decided false (b ∷ bytes) ≡ Some (Passed b)
+decided_passed : (b : ℕ) (bytes : List ℕ) → b ≢ start_of_message → decided false (b ∷ bytes) ≡ Some (SkippedItem b)
 unfolding decided
-decided_passed b bytes other = ap (λ t. cond t (begun false (b ∷ bytes)) (Some (Passed b))) (ne_eqb b start_of_message other)
+decided_passed b bytes other = ap (λ t. cond t (begun false (b ∷ bytes)) (Some (SkippedItem b))) (ne_eqb b start_of_message other)
 
-items_passed : (bytes : List ℕ) → AreBytes bytes → AreSkipped bytes → items false bytes ≡ map Passed bytes
+items_passed : (bytes : List ℕ) → AreBytes bytes → AreSkipped bytes → items false bytes ≡ map SkippedItem bytes
 items_passed [] fits h = items_undecided false [] (decided_nothing false)
 items_passed (b ∷ bytes) fits h =
-    items_decided false (b ∷ bytes) (Passed b) fits (decided_passed b bytes h.0)
-    ∙ ap (λ l. Passed b ∷ l) (items_passed bytes (AreBytes-drop 1 (b ∷ bytes) fits) h.1)
+    items_decided false (b ∷ bytes) (SkippedItem b) fits (decided_passed b bytes h.0)
+    ∙ ap (λ l. SkippedItem b ∷ l) (items_passed bytes (AreBytes-drop 1 (b ∷ bytes) fits) h.1)
 
-size_passed : (bytes : List ℕ) → total_size (map Passed bytes) ≡ length bytes
+size_passed : (bytes : List ℕ) → total_size (map SkippedItem bytes) ≡ length bytes
 size_passed [] = refl
 size_passed (b ∷ bytes) = let rest = size_passed bytes in omega arith
 
 tells_passed : (old new : Report) (now : Option (List ℕ)) (bytes : List ℕ) → old.full ≡ false → new.full ≡ old.full
-    → new.tally ≡ after_parts old.tally (map Passed bytes) → Tells old new now now (map Passed bytes)
+    → new.tally ≡ tally_after_all old.tally (map SkippedItem bytes) → Tells old new now now (map SkippedItem bytes)
 tells_passed old new now bytes refusals full tally = record {
   full = full;
   tally = tally;
-  lines = subst (Appends now now) (sym (ap (λ f. parts_lines f old.tally (map Passed bytes)) refusals ∙ lines_passed old.tally bytes)) (Appends-nil now);
+  lines = subst (Appends now now) (sym (ap (λ f. shown_lines f old.tally (map SkippedItem bytes)) refusals ∙ lines_passed old.tally bytes)) (Appends-nil now);
 }
 
 drained_passed : (old new : Report) (now : Option (List ℕ)) (bytes : List ℕ) → AreBytes bytes → AreSkipped bytes
-    → new.tally ≡ after_parts old.tally (map Passed bytes) → Tells old new now now (map Passed bytes)
+    → new.tally ≡ tally_after_all old.tally (map SkippedItem bytes) → Tells old new now now (map SkippedItem bytes)
     → Drained (record { bytes = bytes; ended = false }) new_run old new now now
 drained_passed old new now bytes fits skipped tally tells =
     let parts = items_passed bytes fits skipped in
@@ -62,7 +62,7 @@ drained_passed old new now bytes fits skipped tally tells =
     }
 
 pub took_passed : (bytes : List ℕ) (count : ℕ) (old new : Report) (now : Option (List ℕ)) → AreBytes bytes → AreSkipped (take count bytes)
-    → old.full ≡ false → new.full ≡ old.full → new.tally ≡ after_parts old.tally (map Passed (take count bytes))
+    → old.full ≡ false → new.full ≡ old.full → new.tally ≡ tally_after_all old.tally (map SkippedItem (take count bytes))
     → Took (take count bytes) new_run new_run old new now now
 took_passed bytes count old new now fits skipped refusals full tally =
     let front = take count bytes in

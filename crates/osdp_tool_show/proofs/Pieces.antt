@@ -18,9 +18,9 @@ use Rattle.osdp_tool_input.specs.Cut.{ended_after, unended_after, line_feed, end
 use Rattle.osdp_tool_input.specs.Line.{is_blank, kept, said}
 use Rattle.osdp_tool_input.specs.Runs.{good_front, bad_line, ended_runs, open_run, first_bad_ended}
 use Rattle.osdp_tool_input.proofs.FormLemmas.{ended_lines-hold, unended_line-hold, ended_lines-feed, unended_line-feed, kept-append, hold_runs, feed_joined, feed_apart, feed_bad}
-use Rattle.osdp_tool_lines.specs.Tally.{no_tally, counted, after_parts}
-use Rattle.osdp_tool_lines.specs.Told.{parts_lines, after_runs, runs_lines, tally_so_far, lines_so_far}
-use Rattle.osdp_tool_lines.proofs.Lines.{after_parts-nil, parts_lines-nil}
+use Rattle.osdp_tool_lines.specs.Tally.{no_tally, counted, tally_after_all}
+use Rattle.osdp_tool_lines.specs.Told.{shown_lines, after_runs, runs_lines, tally_so_far, lines_so_far}
+use Rattle.osdp_tool_lines.proofs.Lines.{tally_after_all-nil, shown_lines-nil}
 use Rattle.osdp_tool_show.specs.declared.capture.Capture.{Capture}
 use Rattle.osdp_tool_show.specs.declared.report.Report.{Report}
 use Rattle.osdp_tool_show.specs.Machine.{told, IsSettled, Stands, Took, EndedRun}
@@ -238,15 +238,15 @@ left_none = ap (λ l. drop (total_size l) []) (items_undecided false [] (decided
 
 nothing_counted : (form : Form) → tally_so_far (ended_runs form []) (open_run form []) ≡ no_tally
 unfolding good_front ended_after after_runs
-nothing_counted Raw = ap (after_parts no_tally) (items_undecided false [] (decided_nothing false)) ∙ after_parts-nil no_tally
-nothing_counted Joined = ap (after_parts no_tally) (items_undecided false [] (decided_nothing false)) ∙ after_parts-nil no_tally
-nothing_counted Apart = ap (after_parts no_tally) (items_undecided false [] (decided_nothing false)) ∙ after_parts-nil no_tally
+nothing_counted Raw = ap (tally_after_all no_tally) (items_undecided false [] (decided_nothing false)) ∙ tally_after_all-nil no_tally
+nothing_counted Joined = ap (tally_after_all no_tally) (items_undecided false [] (decided_nothing false)) ∙ tally_after_all-nil no_tally
+nothing_counted Apart = ap (tally_after_all no_tally) (items_undecided false [] (decided_nothing false)) ∙ tally_after_all-nil no_tally
 
 nothing_shown : (full : Bool) (form : Form) → lines_so_far full (ended_runs form []) (open_run form []) ≡ []
 unfolding good_front ended_after after_runs runs_lines
-nothing_shown full Raw = ap (parts_lines full no_tally) (items_undecided false [] (decided_nothing false)) ∙ parts_lines-nil full no_tally
-nothing_shown full Joined = ap (parts_lines full no_tally) (items_undecided false [] (decided_nothing false)) ∙ parts_lines-nil full no_tally
-nothing_shown full Apart = ap (parts_lines full no_tally) (items_undecided false [] (decided_nothing false)) ∙ parts_lines-nil full no_tally
+nothing_shown full Raw = ap (shown_lines full no_tally) (items_undecided false [] (decided_nothing false)) ∙ shown_lines-nil full no_tally
+nothing_shown full Joined = ap (shown_lines full no_tally) (items_undecided false [] (decided_nothing false)) ∙ shown_lines-nil full no_tally
+nothing_shown full Apart = ap (shown_lines full no_tally) (items_undecided false [] (decided_nothing false)) ∙ shown_lines-nil full no_tally
 
 nothing_open : (form : Form) → open_run form [] ≡ []
 unfolding good_front ended_after

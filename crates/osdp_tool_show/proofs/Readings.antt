@@ -7,12 +7,12 @@ use Rattle.std.proofs.lemmas.List.Sums.{sum_by-append, sum_by-cons}
 use Rattle.std.specs.List.{AllByRecursion, concat}
 use Rattle.std.specs.Option.{option_map_or}
 use Rattle.osdp_frame.specs.Bytes.{AreBytes}
-use Rattle.osdp_frame.specs.Reading.{Part, Whole, Passed, Bad, part_size, total_size, IsReading}
+use Rattle.osdp_frame.specs.Reading.{RunItem, PacketItem, SkippedItem, RefusedItem, item_size, total_size, IsReading}
 use Rattle.osdp_frame.specs.Items.{items, reading, Drains}
 use Rattle.osdp_frame.specs.Held.{decided}
 use Rattle.osdp_frame.proofs.Head.{AreBytes-drop}
 use Rattle.osdp_frame.proofs.Decided.{first_decided, undecided_none}
-use Rattle.osdp_frame_laws.proofs.Readings.{is_reading, reading_is, sizes_reading, drained_items, decided_nothing, items_undecided, items_decided, part_size-positive, part_size-decided}
+use Rattle.osdp_frame_laws.proofs.Readings.{is_reading, reading_is, sizes_reading, drained_items, decided_nothing, items_undecided, items_decided, item_size-positive, item_size-decided}
 use Rattle.osdp_tool_input.specs.declared.form.Form.{Form}
 use Rattle.osdp_tool_input.specs.declared.form.Form.TheVariants.{Raw, Joined, Apart}
 use Rattle.osdp_tool_input.specs.Cut.{ended_lines, unended_line, last_line, lines_of}
@@ -22,8 +22,8 @@ use Rattle.osdp_tool_input.proofs.CutLemmas.{ended_lines-cut}
 use Rattle.osdp_tool_input.proofs.Bytes.{is_cut, good_front-bytes}
 use Rattle.osdp_tool_lines.specs.declared.tally.Tally.{Tally}
 use Rattle.osdp_tool_lines.specs.ItemText.{is_refusal, counts_line}
-use Rattle.osdp_tool_lines.specs.Tally.{no_tally, one_if, after_part, after_parts, after_run}
-use Rattle.osdp_tool_lines.specs.Told.{part_line, parts_lines, after_runs, runs_lines, end_line}
+use Rattle.osdp_tool_lines.specs.Tally.{no_tally, one_if, tally_after, tally_after_all, after_run}
+use Rattle.osdp_tool_lines.specs.Told.{shown_line, shown_lines, after_runs, runs_lines, end_line}
 use Rattle.osdp_tool_lines.proofs.Lines.{after_runs-place}
 use Rattle.osdp_tool_show.specs.Shown.{shown, shown_so_far, is_refused_input, tally_of}
 use Rattle.osdp_tool_show.specs.Told.{Say, Says, SaysSoFar, HasRuns, HasRunsSoFar, AreReadings, items_text, readings_text, is_packet, is_skipped, count_items, counts_text}
@@ -31,67 +31,67 @@ use Rattle.osdp_tool_show.proofs.Standing.{AreBytes-append}
 
 -- ---- the lines of a run's items
 
-after_part-runs : (tally : Tally) (part : Part) → (after_part tally part).runs ≡ tally.runs
-after_part-runs tally (Whole p) = refl
-after_part-runs tally (Passed b) = refl
-after_part-runs tally (Bad fault) = refl
+tally_after-runs : (tally : Tally) (part : RunItem) → (tally_after tally part).runs ≡ tally.runs
+tally_after-runs tally (PacketItem p) = refl
+tally_after-runs tally (SkippedItem b) = refl
+tally_after-runs tally (RefusedItem fault) = refl
 
-after_part-place : (tally : Tally) (part : Part) → (after_part tally part).place ≡ tally.place + part_size part
-after_part-place tally (Whole p) = refl
-after_part-place tally (Passed b) = refl
-after_part-place tally (Bad fault) = refl
+tally_after-place : (tally : Tally) (part : RunItem) → (tally_after tally part).place ≡ tally.place + item_size part
+tally_after-place tally (PacketItem p) = refl
+tally_after-place tally (SkippedItem b) = refl
+tally_after-place tally (RefusedItem fault) = refl
 
-after_part-packets : (tally : Tally) (part : Part) → (after_part tally part).packets ≡ tally.packets + one_if (is_packet part)
-after_part-packets tally (Whole p) = refl
-after_part-packets tally (Passed b) = omega arith
-after_part-packets tally (Bad fault) = omega arith
+tally_after-packets : (tally : Tally) (part : RunItem) → (tally_after tally part).packets ≡ tally.packets + one_if (is_packet part)
+tally_after-packets tally (PacketItem p) = refl
+tally_after-packets tally (SkippedItem b) = omega arith
+tally_after-packets tally (RefusedItem fault) = omega arith
 
-after_part-skipped : (tally : Tally) (part : Part) → (after_part tally part).skipped ≡ tally.skipped + one_if (is_skipped part)
-after_part-skipped tally (Whole p) = omega arith
-after_part-skipped tally (Passed b) = refl
-after_part-skipped tally (Bad fault) = omega arith
+tally_after-skipped : (tally : Tally) (part : RunItem) → (tally_after tally part).skipped ≡ tally.skipped + one_if (is_skipped part)
+tally_after-skipped tally (PacketItem p) = omega arith
+tally_after-skipped tally (SkippedItem b) = refl
+tally_after-skipped tally (RefusedItem fault) = omega arith
 
-after_part-refused : (tally : Tally) (part : Part) → (after_part tally part).refused ≡ tally.refused + one_if (is_refusal part)
-after_part-refused tally (Whole p) = refl
-after_part-refused tally (Passed b) = omega arith
-after_part-refused tally (Bad fault) = refl
+tally_after-refused : (tally : Tally) (part : RunItem) → (tally_after tally part).refused ≡ tally.refused + one_if (is_refusal part)
+tally_after-refused tally (PacketItem p) = refl
+tally_after-refused tally (SkippedItem b) = omega arith
+tally_after-refused tally (RefusedItem fault) = refl
 
-parts_text : (full : Bool) (tally : Tally) (parts : List Part) → parts_lines full tally parts ≡ items_text full (tally.runs + 1) tally.place parts
-unfolding parts_lines
+parts_text : (full : Bool) (tally : Tally) (parts : List RunItem) → shown_lines full tally parts ≡ items_text full (tally.runs + 1) tally.place parts
+unfolding shown_lines
 parts_text full tally [] = refl
 parts_text full tally (part ∷ parts) =
-    ap (λ l. part_line full tally part ++ l)
-    (parts_text full (after_part tally part) parts
-    ∙ ap (λ n. items_text full (n + 1) (after_part tally part).place parts) (after_part-runs tally part)
-    ∙ ap (λ n. items_text full (tally.runs + 1) n parts) (after_part-place tally part))
+    ap (λ l. shown_line full tally part ++ l)
+    (parts_text full (tally_after tally part) parts
+    ∙ ap (λ n. items_text full (n + 1) (tally_after tally part).place parts) (tally_after-runs tally part)
+    ∙ ap (λ n. items_text full (tally.runs + 1) n parts) (tally_after-place tally part))
 
 -- what is counted of them
-pub record Counted (old new : Tally) (parts : List Part) : Type 0 where
+pub record Counted (old new : Tally) (parts : List RunItem) : Type 0 where
   pub runs : new.runs ≡ old.runs
   pub place : new.place ≡ old.place + total_size parts
   pub packets : new.packets ≡ old.packets + count_by is_packet parts
   pub skipped : new.skipped ≡ old.skipped + count_by is_skipped parts
   pub refused : new.refused ≡ old.refused + count_by is_refusal parts
 
-count_one : (fits : Part → Bool) (part : Part) (parts : List Part) → count_by fits (part ∷ parts) ≡ one_if (fits part) + count_by fits parts
+count_one : (fits : RunItem → Bool) (part : RunItem) (parts : List RunItem) → count_by fits (part ∷ parts) ≡ one_if (fits part) + count_by fits parts
 count_one fits part parts = sum_by-cons (λ p. cond (fits p) 1 0) part parts
 
-parts_counted : (tally : Tally) (parts : List Part) → Counted tally (after_parts tally parts) parts
-unfolding after_parts
+parts_counted : (tally : Tally) (parts : List RunItem) → Counted tally (tally_after_all tally parts) parts
+unfolding tally_after_all
 parts_counted tally [] = record { runs = refl; place = omega arith; packets = omega arith; skipped = omega arith; refused = omega arith }
 parts_counted tally (part ∷ parts) =
-    let rest = parts_counted (after_part tally part) parts in
+    let rest = parts_counted (tally_after tally part) parts in
     let runs = rest.runs in
     let place = rest.place in
     let packets = rest.packets in
     let skipped = rest.skipped in
     let refused = rest.refused in
     record {
-      runs = omega (arith, after_part-runs tally part);
-      place = omega (arith, after_part-place tally part);
-      packets = omega (arith, after_part-packets tally part, count_one is_packet part parts);
-      skipped = omega (arith, after_part-skipped tally part, count_one is_skipped part parts);
-      refused = omega (arith, after_part-refused tally part, count_one is_refusal part parts);
+      runs = omega (arith, tally_after-runs tally part);
+      place = omega (arith, tally_after-place tally part);
+      packets = omega (arith, tally_after-packets tally part, count_one is_packet part parts);
+      skipped = omega (arith, tally_after-skipped tally part, count_one is_skipped part parts);
+      refused = omega (arith, tally_after-refused tally part, count_one is_refusal part parts);
     }
 
 -- ---- run after run
@@ -99,34 +99,34 @@ parts_counted tally (part ∷ parts) =
 abbrev pub HasBytes : List ℕ → Type 0
 HasBytes run = (0 < length run) × AreBytes run
 
-count_readings : (fits : Part → Bool) (parts : List Part) (readings : List (List Part)) → count_items fits (parts ∷ readings) ≡ count_by fits parts + count_items fits readings
+count_readings : (fits : RunItem → Bool) (parts : List RunItem) (readings : List (List RunItem)) → count_items fits (parts ∷ readings) ≡ count_by fits parts + count_items fits readings
 count_readings fits parts readings = sum_by-append (λ p. cond (fits p) 1 0) parts (flat_map (λ p. p) readings)
 
 after_run_place : (tally : Tally) → (tally.place ≡ 0 → ⊥) → after_run tally ≡ record tally { runs = tally.runs + 1; place = 0 }
 after_run_place tally some = ap (λ t. cond t tally (record tally { runs = tally.runs + 1; place = 0 })) (ne_eqb tally.place 0 some)
 
 -- a whole run is counted
-record CountedRun (old new : Tally) (parts : List Part) : Type 0 where
+record CountedRun (old new : Tally) (parts : List RunItem) : Type 0 where
   runs : new.runs ≡ old.runs + 1
   place : new.place ≡ 0
   packets : new.packets ≡ old.packets + count_by is_packet parts
   skipped : new.skipped ≡ old.skipped + count_by is_skipped parts
   refused : new.refused ≡ old.refused + count_by is_refusal parts
 
-run_counted : (tally : Tally) (run : List ℕ) (parts : List Part) → HasBytes run → IsReading run parts
-    → CountedRun tally (after_run (after_parts tally (reading run))) parts
+run_counted : (tally : Tally) (run : List ℕ) (parts : List RunItem) → HasBytes run → IsReading run parts
+    → CountedRun tally (after_run (tally_after_all tally (reading run))) parts
 run_counted tally run parts has r =
     let is : parts ≡ reading run = reading_is run parts has.1 r in
     let sizes = sizes_reading run parts r in
     let c = parts_counted tally parts in
     let some = has.0 in
     let placed = c.place in
-    let step = after_run_place (after_parts tally parts) (λ none. omega arith) in
-    subst (λ ps. CountedRun tally (after_run (after_parts tally ps)) parts) is
+    let step = after_run_place (tally_after_all tally parts) (λ none. omega arith) in
+    subst (λ ps. CountedRun tally (after_run (tally_after_all tally ps)) parts) is
     (subst (λ t. CountedRun tally t parts) (sym step)
     (record { runs = ap (λ n. n + 1) c.runs; place = refl; packets = c.packets; skipped = c.skipped; refused = c.refused }))
 
-runs_text : (full : Bool) (tally : Tally) (runs : List (List ℕ)) (readings : List (List Part)) → tally.place ≡ 0 → AllByRecursion HasBytes runs → AreReadings runs readings
+runs_text : (full : Bool) (tally : Tally) (runs : List (List ℕ)) (readings : List (List RunItem)) → tally.place ≡ 0 → AllByRecursion HasBytes runs → AreReadings runs readings
     → runs_lines full tally runs ≡ readings_text full (tally.runs + 1) readings
 unfolding runs_lines
 runs_text full tally [] [] none has r = refl
@@ -134,21 +134,21 @@ runs_text full tally [] (parts ∷ readings) none has r = absurd r
 runs_text full tally (run ∷ runs) [] none has r = absurd r
 runs_text full tally (run ∷ runs) (parts ∷ readings) none has r =
     let is : parts ≡ reading run = reading_is run parts has.0.1 r.0 in
-    let next = after_run (after_parts tally (reading run)) in
+    let next = after_run (tally_after_all tally (reading run)) in
     let c = run_counted tally run parts has.0 r.0 in
-    let here : parts_lines full tally (reading run) ≡ items_text full (tally.runs + 1) 0 parts =
+    let here : shown_lines full tally (reading run) ≡ items_text full (tally.runs + 1) 0 parts =
     parts_text full tally (reading run) ∙ ap (λ n. items_text full (tally.runs + 1) n (reading run)) none ∙ ap (items_text full (tally.runs + 1) 0) (sym is) in
     ap (λ l. l ++ runs_lines full next runs) here
     ∙ ap (λ l. items_text full (tally.runs + 1) 0 parts ++ l)
     (runs_text full next runs readings c.place has.1 r.1 ∙ ap (λ n. readings_text full (n + 1) readings) c.runs)
 
-record CountedRuns (old new : Tally) (readings : List (List Part)) : Type 0 where
+record CountedRuns (old new : Tally) (readings : List (List RunItem)) : Type 0 where
   runs : new.runs ≡ old.runs + length readings
   packets : new.packets ≡ old.packets + count_items is_packet readings
   skipped : new.skipped ≡ old.skipped + count_items is_skipped readings
   refused : new.refused ≡ old.refused + count_items is_refusal readings
 
-runs_counted : (tally : Tally) (runs : List (List ℕ)) (readings : List (List Part)) → AllByRecursion HasBytes runs → AreReadings runs readings
+runs_counted : (tally : Tally) (runs : List (List ℕ)) (readings : List (List RunItem)) → AllByRecursion HasBytes runs → AreReadings runs readings
     → CountedRuns tally (after_runs tally runs) readings
 unfolding after_runs
 runs_counted tally [] [] has r = record { runs = omega arith; packets = omega arith; skipped = omega arith; refused = omega arith }
@@ -156,7 +156,7 @@ runs_counted tally [] (parts ∷ readings) has r = absurd r
 runs_counted tally (run ∷ runs) [] has r = absurd r
 runs_counted tally (run ∷ runs) (parts ∷ readings) has r =
     let c = run_counted tally run parts has.0 r.0 in
-    let rest = runs_counted (after_run (after_parts tally (reading run))) runs readings has.1 r.1 in
+    let rest = runs_counted (after_run (tally_after_all tally (reading run))) runs readings has.1 r.1 in
     let a = rest.runs in
     let b = rest.packets in
     let d = rest.skipped in
@@ -233,7 +233,7 @@ runs_have_bytes Raw bytes fits = some_bytes (bytes ∷ []) (fits, tt)
 runs_have_bytes Joined bytes fits = some_bytes (concat (good_front (lines_of bytes)) ∷ []) (concat_bytes (good_front (lines_of bytes)) (good_front-bytes (lines_of bytes)), tt)
 runs_have_bytes Apart bytes fits = some_bytes (good_front (lines_of bytes)) (good_front-bytes (lines_of bytes))
 
-have_readings : (runs : List (List ℕ)) → AllByRecursion HasBytes runs → (readings : List (List Part)) × AreReadings runs readings
+have_readings : (runs : List (List ℕ)) → AllByRecursion HasBytes runs → (readings : List (List RunItem)) × AreReadings runs readings
 have_readings [] h = ([], tt)
 have_readings (run ∷ runs) h =
     let rest = have_readings runs h.1 in
@@ -241,7 +241,7 @@ have_readings (run ∷ runs) h =
 
 -- ---- the laws
 
-end_text : (full : Bool) (readings : List (List Part)) (tally : Tally) → CountedRuns no_tally tally readings → end_line full tally ≡ cond full [] (counts_text readings)
+end_text : (full : Bool) (readings : List (List RunItem)) (tally : Tally) → CountedRuns no_tally tally readings → end_line full tally ≡ cond full [] (counts_text readings)
 end_text true readings tally c = refl
 end_text false readings tally c =
     ap (λ n. counts_line n tally.packets tally.skipped tally.refused) (c.runs ∙ zero-add (length readings))
@@ -249,7 +249,7 @@ end_text false readings tally c =
     ∙ ap (λ n. counts_line (length readings) (count_items is_packet readings) n tally.refused) (c.skipped ∙ zero-add (count_items is_skipped readings))
     ∙ ap (counts_line (length readings) (count_items is_packet readings) (count_items is_skipped readings)) (c.refused ∙ zero-add (count_items is_refusal readings))
 
-pub shown_is : (full : Bool) (form : Form) (bytes : List ℕ) (runs : List (List ℕ)) (readings : List (List Part)) → AreBytes bytes → HasRuns form bytes runs → AreReadings runs readings
+pub shown_is : (full : Bool) (form : Form) (bytes : List ℕ) (runs : List (List ℕ)) (readings : List (List RunItem)) → AreBytes bytes → HasRuns form bytes runs → AreReadings runs readings
     → shown full form bytes ≡ readings_text full 1 readings ++ (cond full [] (counts_text readings))
 shown_is full form bytes runs readings fits has r =
     let is = runs_are form bytes runs has in
@@ -258,7 +258,7 @@ shown_is full form bytes runs readings fits has r =
     ap (λ l. l ++ end_line full (tally_of form bytes)) (runs_text full no_tally (runs_of form bytes) readings refl have r')
     ∙ ap (λ l. readings_text full 1 readings ++ l) (end_text full readings (tally_of form bytes) (runs_counted no_tally (runs_of form bytes) readings have r'))
 
-pub refused_is : (form : Form) (bytes : List ℕ) (runs : List (List ℕ)) (readings : List (List Part)) → AreBytes bytes → HasRuns form bytes runs → AreReadings runs readings
+pub refused_is : (form : Form) (bytes : List ℕ) (runs : List (List ℕ)) (readings : List (List RunItem)) → AreBytes bytes → HasRuns form bytes runs → AreReadings runs readings
     → is_refused_input form bytes ≡ nat_lt 0 (count_items is_refusal readings)
 refused_is form bytes runs readings fits has r =
     let is = runs_are form bytes runs has in
@@ -266,7 +266,7 @@ refused_is form bytes runs readings fits has r =
     ap (nat_lt 0) (c.refused ∙ zero-add (count_items is_refusal readings))
 
 pub some_readings : (form : Form) (bytes : List ℕ) → AreBytes bytes
-    → (runs : List (List ℕ)) × (readings : List (List Part)) × HasRuns form bytes runs × AreReadings runs readings
+    → (runs : List (List ℕ)) × (readings : List (List RunItem)) × HasRuns form bytes runs × AreReadings runs readings
 some_readings form bytes fits =
     let r = have_readings (runs_of form bytes) (runs_have_bytes form bytes fits) in
     (runs_of form bytes, r.0, are_runs form bytes, r.1)
@@ -302,7 +302,7 @@ lines_have_bytes Raw is bytes = elim is [ inl j ↦ cc | inr a ↦ cc ]
 lines_have_bytes Joined is bytes = concat_bytes (good_front (ended_lines bytes)) (good_front-bytes (ended_lines bytes))
 lines_have_bytes Apart is bytes = none_are_bytes
 
-pub shown_so_far_is : (full : Bool) (form : Form) (bytes : List ℕ) (runs : List (List ℕ)) (open_bytes : List ℕ) (readings : List (List Part)) (parts : List Part)
+pub shown_so_far_is : (full : Bool) (form : Form) (bytes : List ℕ) (runs : List (List ℕ)) (open_bytes : List ℕ) (readings : List (List RunItem)) (parts : List RunItem)
     → AreBytes bytes → HasRunsSoFar form bytes runs open_bytes → AreReadings runs readings → Drains false open_bytes parts
     → shown_so_far full form bytes ≡ readings_text full 1 readings ++ items_text full (length readings + 1) 0 parts
 shown_so_far_is full form bytes runs open_bytes readings parts fits has r d =
@@ -313,12 +313,12 @@ shown_so_far_is full form bytes runs open_bytes readings parts fits has r d =
     let c = runs_counted no_tally (ended_runs form bytes) readings have r' in
     let shown_items : parts ≡ items false (open_run form bytes) =
     drained_items false (open_run form bytes) parts (open_has_bytes form bytes fits) (subst (λ l. Drains false l parts) is.1 d) in
-    let last : parts_lines full t (items false (open_run form bytes)) ≡ items_text full (length readings + 1) 0 parts =
+    let last : shown_lines full t (items false (open_run form bytes)) ≡ items_text full (length readings + 1) 0 parts =
     parts_text full t (items false (open_run form bytes))
     ∙ ap (λ n. items_text full (n + 1) t.place (items false (open_run form bytes))) (c.runs ∙ zero-add (length readings))
     ∙ ap (λ n. items_text full (length readings + 1) n (items false (open_run form bytes))) (after_runs-place no_tally (ended_runs form bytes) refl)
     ∙ ap (items_text full (length readings + 1) 0) (sym shown_items) in
-    ap (λ l. l ++ parts_lines full t (items false (open_run form bytes))) (runs_text full no_tally (ended_runs form bytes) readings refl have r')
+    ap (λ l. l ++ shown_lines full t (items false (open_run form bytes))) (runs_text full no_tally (ended_runs form bytes) readings refl have r')
     ∙ ap (λ l. readings_text full 1 readings ++ l) last
 
 drain_within : (most : ℕ) (bytes : List ℕ) → AreBytes bytes → length bytes ≤ most → Drains false bytes (items false bytes)
@@ -331,11 +331,11 @@ drain_within zero bytes fits short =
     empty [] h = refl
     empty (b ∷ l) h = absurd (omega arith)
 drain_within (suc most) bytes fits short = by_first (decided false bytes) refl
-    (λ part is. drain_within most (drop (part_size part) bytes) (AreBytes-drop (part_size part) bytes fits)
-    (omega (arith, length-drop (part_size part) bytes, part_size-positive part, part_size-decided false bytes part fits is)))
+    (λ part is. drain_within most (drop (item_size part) bytes) (AreBytes-drop (item_size part) bytes fits)
+    (omega (arith, length-drop (item_size part) bytes, item_size-positive part, item_size-decided false bytes part fits is)))
   where
-    by_first : (o : Option Part) → decided false bytes ≡ o
-        → ((part : Part) → decided false bytes ≡ Some part → Drains false (drop (part_size part) bytes) (items false (drop (part_size part) bytes)))
+    by_first : (o : Option RunItem) → decided false bytes ≡ o
+        → ((part : RunItem) → decided false bytes ≡ Some part → Drains false (drop (item_size part) bytes) (items false (drop (item_size part) bytes)))
         → Drains false bytes (items false bytes)
     by_first None is tails = subst (Drains false bytes) (sym (items_undecided false bytes is)) (undecided_none false bytes is)
     by_first (Some part) is tails = subst (Drains false bytes) (sym (items_decided false bytes part fits is)) (first_decided false bytes part fits is, tails part is)
@@ -344,7 +344,7 @@ items_drain : (bytes : List ℕ) → AreBytes bytes → Drains false bytes (item
 items_drain bytes fits = drain_within (length bytes) bytes fits (omega arith)
 
 pub some_so_far : (form : Form) (bytes : List ℕ) → AreBytes bytes
-    → (runs : List (List ℕ)) × (open_bytes : List ℕ) × (readings : List (List Part)) × (parts : List Part)
+    → (runs : List (List ℕ)) × (open_bytes : List ℕ) × (readings : List (List RunItem)) × (parts : List RunItem)
     × HasRunsSoFar form bytes runs open_bytes × AreReadings runs readings × Drains false open_bytes parts
 some_so_far form bytes fits =
     let r = have_readings (ended_runs form bytes) (ended_have_bytes form bytes) in (

@@ -6,16 +6,16 @@ use Rattle.std.proofs.lemmas.Bool.{ne_eqb, cases_lt}
 use Rattle.std.specs.Io.KnownBytes.{Appends}
 use Rattle.std.proofs.KnownBytes.{Appends-trans}
 use Rattle.osdp_frame.specs.Bytes.{AreBytes}
-use Rattle.osdp_frame.specs.Reading.{Part, total_size}
+use Rattle.osdp_frame.specs.Reading.{RunItem, total_size}
 use Rattle.osdp_frame.specs.Held.{Held, decided, after_gap, after_push, taken_count}
 use Rattle.osdp_frame.specs.Items.{items, reading, left_over}
 use Rattle.osdp_frame.proofs.Decided.{undecided_none, AreBytes-front}
 use Rattle.osdp_frame.proofs.Head.{AreBytes-drop}
 use Rattle.osdp_frame_laws.proofs.Readings.{decided_nothing, items_undecided, items-append, left_undecided, sizes_reading, is_reading}
 use Rattle.osdp_tool_input.specs.Runs.{closed_runs, with_bytes}
-use Rattle.osdp_tool_lines.specs.Tally.{no_tally, after_parts, after_run, counted}
-use Rattle.osdp_tool_lines.specs.Told.{parts_lines, after_runs, runs_lines, tally_so_far, lines_so_far}
-use Rattle.osdp_tool_lines.proofs.Lines.{after_parts-nil, after_parts-append, parts_lines-nil, parts_lines-append, after_runs-append, after_runs-one, runs_lines-append, runs_lines-one, after_run-none, after_runs-place, counted-after_run}
+use Rattle.osdp_tool_lines.specs.Tally.{no_tally, tally_after_all, after_run, counted}
+use Rattle.osdp_tool_lines.specs.Told.{shown_lines, after_runs, runs_lines, tally_so_far, lines_so_far}
+use Rattle.osdp_tool_lines.proofs.Lines.{tally_after_all-nil, tally_after_all-append, shown_lines-nil, shown_lines-append, after_runs-append, after_runs-one, runs_lines-append, runs_lines-one, after_run-none, after_runs-place, counted-after_run}
 use Rattle.osdp_tool_show.specs.declared.report.Report.{Report}
 use Rattle.osdp_tool_show.specs.Machine.{Drained, IsSettled, Stands, Took, EndedRun, StopsIn, StopsAtRunEnd}
 use Rattle.osdp_tool_show.specs.Written.{StopsWithin}
@@ -44,7 +44,7 @@ reading_split bytes fits =
     ap (items true) (sym (append-nil bytes)) ∙ items-append true bytes [] (subst AreBytes (sym (append-nil bytes)) fits)
     ∙ ap (λ l. items false bytes ++ items true l) (append-nil (left_over bytes))
 
-total_size-append : (xs ys : List Part) → total_size (xs ++ ys) ≡ total_size xs + total_size ys
+total_size-append : (xs ys : List RunItem) → total_size (xs ++ ys) ≡ total_size xs + total_size ys
 total_size-append [] ys = omega arith
 total_size-append (x ∷ xs) ys = omega (arith, total_size-append xs ys)
 
@@ -84,12 +84,12 @@ stands_settled full start now ended bytes held report s = record {
 
 -- the lines of a run that goes on by more bytes
 pub lines_more : (full : Bool) (ended : List (List ℕ)) (bytes xs : List ℕ) → AreBytes (bytes ++ xs)
-    → lines_so_far full ended (bytes ++ xs) ≡ lines_so_far full ended bytes ++ parts_lines full (tally_so_far ended bytes) (items false (left_over bytes ++ xs))
+    → lines_so_far full ended (bytes ++ xs) ≡ lines_so_far full ended bytes ++ shown_lines full (tally_so_far ended bytes) (items false (left_over bytes ++ xs))
 lines_more full ended bytes xs all =
     let whole = items-append false bytes xs all in
-    ap (λ l. runs_lines full no_tally ended ++ parts_lines full (after_runs no_tally ended) l) whole
-    ∙ ap (λ l. runs_lines full no_tally ended ++ l) (parts_lines-append full (after_runs no_tally ended) (items false bytes) (items false (left_over bytes ++ xs)))
-    ∙ sym (append_assoc (runs_lines full no_tally ended) (parts_lines full (after_runs no_tally ended) (items false bytes)) (parts_lines full (tally_so_far ended bytes) (items false (left_over bytes ++ xs))))
+    ap (λ l. runs_lines full no_tally ended ++ shown_lines full (after_runs no_tally ended) l) whole
+    ∙ ap (λ l. runs_lines full no_tally ended ++ l) (shown_lines-append full (after_runs no_tally ended) (items false bytes) (items false (left_over bytes ++ xs)))
+    ∙ sym (append_assoc (runs_lines full no_tally ended) (shown_lines full (after_runs no_tally ended) (items false bytes)) (shown_lines full (tally_so_far ended bytes) (items false (left_over bytes ++ xs))))
 
 pub stands_more : (full : Bool) (start before after : Option (List ℕ)) (ended : List (List ℕ)) (bytes xs : List ℕ) (held next : Held) (old new : Report)
     → AreBytes xs → Stands full start ended bytes held old before
@@ -100,16 +100,16 @@ stands_more full start before after ended bytes xs held next old new fits s d =
     let held_bytes : held.bytes ≡ left_over bytes = ap (λ (h : Held). h.bytes) s.held_is in
     let parts : items false (held.bytes ++ xs) ≡ items false (left_over bytes ++ xs) = ap (λ l. items false (l ++ xs)) held_bytes in
     let whole = items-append false bytes xs all in
-    let tally_is : new.tally ≡ after_parts (tally_so_far ended bytes) (items false (left_over bytes ++ xs)) =
-    d.tells.tally ∙ ap (λ t. after_parts t (items false (held.bytes ++ xs))) s.tally ∙ ap (after_parts (tally_so_far ended bytes)) parts in
-    let lines_are : parts_lines old.full old.tally (items false (held.bytes ++ xs)) ≡ parts_lines full (tally_so_far ended bytes) (items false (left_over bytes ++ xs)) =
-    ap (λ f. parts_lines f old.tally (items false (held.bytes ++ xs))) s.full_is
-    ∙ ap (λ t. parts_lines full t (items false (held.bytes ++ xs))) s.tally
-    ∙ ap (parts_lines full (tally_so_far ended bytes)) parts in
+    let tally_is : new.tally ≡ tally_after_all (tally_so_far ended bytes) (items false (left_over bytes ++ xs)) =
+    d.tells.tally ∙ ap (λ t. tally_after_all t (items false (held.bytes ++ xs))) s.tally ∙ ap (tally_after_all (tally_so_far ended bytes)) parts in
+    let lines_are : shown_lines old.full old.tally (items false (held.bytes ++ xs)) ≡ shown_lines full (tally_so_far ended bytes) (items false (left_over bytes ++ xs)) =
+    ap (λ f. shown_lines f old.tally (items false (held.bytes ++ xs))) s.full_is
+    ∙ ap (λ t. shown_lines full t (items false (held.bytes ++ xs))) s.tally
+    ∙ ap (shown_lines full (tally_so_far ended bytes)) parts in
     let grown = lines_more full ended bytes xs all in
     record {
       full_is = d.tells.full ∙ s.full_is;
-      tally = tally_is ∙ sym (ap (after_parts (after_runs no_tally ended)) whole ∙ after_parts-append (after_runs no_tally ended) (items false bytes) (items false (left_over bytes ++ xs)));
+      tally = tally_is ∙ sym (ap (tally_after_all (after_runs no_tally ended)) whole ∙ tally_after_all-append (after_runs no_tally ended) (items false bytes) (items false (left_over bytes ++ xs)));
       held_is = d.held ∙ ap (λ (l : List ℕ). record { bytes = l; ended = false })
           (left_is (held.bytes ++ xs) ∙ ap (λ l. left_over (l ++ xs)) held_bytes ∙ sym (left_over-append bytes xs all));
       bytes = all;
@@ -123,40 +123,40 @@ with_bytes-some : (b : ℕ) (bytes : List ℕ) → with_bytes ((b ∷ bytes) ∷
 with_bytes-some b bytes = ap (λ t. cond (not t) ((b ∷ bytes) ∷ []) []) (ne_eqb (length (b ∷ bytes)) 0 (λ h. omega arith))
 
 closed_tally : (ended : List (List ℕ)) (bytes : List ℕ) → AreBytes bytes
-    → tally_so_far (closed_runs ended bytes) [] ≡ after_run (after_parts (tally_so_far ended bytes) (items true (left_over bytes)))
+    → tally_so_far (closed_runs ended bytes) [] ≡ after_run (tally_after_all (tally_so_far ended bytes) (items true (left_over bytes)))
 closed_tally ended [] fits =
     let none = items_nothing false in
     let t = after_runs no_tally ended in
-    let same : tally_so_far ended [] ≡ t = ap (after_parts t) none ∙ after_parts-nil t in
+    let same : tally_so_far ended [] ≡ t = ap (tally_after_all t) none ∙ tally_after_all-nil t in
     let left : items true (left_over []) ≡ [] = ap (items true) left_nothing ∙ items_nothing true in
     ap (λ r. tally_so_far r []) (append-nil ended) ∙ same
-    ∙ sym (ap (λ l. after_run (after_parts (tally_so_far ended []) l)) left ∙ ap after_run (after_parts-nil (tally_so_far ended []) ∙ same)
+    ∙ sym (ap (λ l. after_run (tally_after_all (tally_so_far ended []) l)) left ∙ ap after_run (tally_after_all-nil (tally_so_far ended []) ∙ same)
     ∙ after_run-none t (after_runs-place no_tally ended refl))
 closed_tally ended (b ∷ bytes) fits =
     let t = after_runs no_tally ended in
     let run = b ∷ bytes in
-    ap (after_parts (after_runs no_tally (closed_runs ended run))) (items_nothing false) ∙ after_parts-nil (after_runs no_tally (closed_runs ended run))
+    ap (tally_after_all (after_runs no_tally (closed_runs ended run))) (items_nothing false) ∙ tally_after_all-nil (after_runs no_tally (closed_runs ended run))
     ∙ ap (λ l. after_runs no_tally (ended ++ l)) (with_bytes-some b bytes)
-    ∙ after_runs-append no_tally ended (run ∷ []) ∙ after_runs-one t run ∙ ap (λ l. after_run (after_parts t l)) (reading_split run fits)
-    ∙ ap after_run (after_parts-append t (items false run) (items true (left_over run)))
+    ∙ after_runs-append no_tally ended (run ∷ []) ∙ after_runs-one t run ∙ ap (λ l. after_run (tally_after_all t l)) (reading_split run fits)
+    ∙ ap after_run (tally_after_all-append t (items false run) (items true (left_over run)))
 
 pub closed_lines : (full : Bool) (ended : List (List ℕ)) (bytes : List ℕ) → AreBytes bytes
-    → lines_so_far full (closed_runs ended bytes) [] ≡ lines_so_far full ended bytes ++ parts_lines full (tally_so_far ended bytes) (items true (left_over bytes))
+    → lines_so_far full (closed_runs ended bytes) [] ≡ lines_so_far full ended bytes ++ shown_lines full (tally_so_far ended bytes) (items true (left_over bytes))
 closed_lines full ended [] fits =
     let left : items true (left_over []) ≡ [] = ap (items true) left_nothing ∙ items_nothing true in
     ap (λ r. lines_so_far full r []) (append-nil ended) ∙ sym (append-nil (lines_so_far full ended []))
-    ∙ ap (λ l. lines_so_far full ended [] ++ l) (sym (ap (parts_lines full (tally_so_far ended [])) left ∙ parts_lines-nil full (tally_so_far ended [])))
+    ∙ ap (λ l. lines_so_far full ended [] ++ l) (sym (ap (shown_lines full (tally_so_far ended [])) left ∙ shown_lines-nil full (tally_so_far ended [])))
 closed_lines full ended (b ∷ bytes) fits =
     let t = after_runs no_tally ended in
     let run = b ∷ bytes in
     let closed = closed_runs ended run in
-    ap (λ l. runs_lines full no_tally closed ++ l) (ap (parts_lines full (after_runs no_tally closed)) (items_nothing false) ∙ parts_lines-nil full (after_runs no_tally closed))
+    ap (λ l. runs_lines full no_tally closed ++ l) (ap (shown_lines full (after_runs no_tally closed)) (items_nothing false) ∙ shown_lines-nil full (after_runs no_tally closed))
     ∙ append-nil (runs_lines full no_tally closed)
     ∙ ap (λ l. runs_lines full no_tally (ended ++ l)) (with_bytes-some b bytes)
     ∙ runs_lines-append full no_tally ended (run ∷ [])
     ∙ ap (λ l. runs_lines full no_tally ended ++ l)
-    (runs_lines-one full t run ∙ ap (parts_lines full t) (reading_split run fits) ∙ parts_lines-append full t (items false run) (items true (left_over run)))
-    ∙ sym (append_assoc (runs_lines full no_tally ended) (parts_lines full t (items false run)) (parts_lines full (tally_so_far ended run) (items true (left_over run))))
+    (runs_lines-one full t run ∙ ap (shown_lines full t) (reading_split run fits) ∙ shown_lines-append full t (items false run) (items true (left_over run)))
+    ∙ sym (append_assoc (runs_lines full no_tally ended) (shown_lines full t (items false run)) (shown_lines full (tally_so_far ended run) (items true (left_over run))))
 
 -- a run of which bytes are held has ended, else nothing is left of it
 gap_items : (bytes : List ℕ) → items (not (length bytes == 0)) bytes ≡ items true bytes
@@ -182,12 +182,12 @@ stands_end full start before after ended bytes held next old mid new s d same ta
     let held_bytes : held.bytes ≡ left_over bytes = ap (λ (h : Held). h.bytes) s.held_is in
     let parts : items (not (length held.bytes == 0)) held.bytes ≡ items true (left_over bytes) = gap_items held.bytes ∙ ap (items true) held_bytes in
     let so_far = tally_so_far ended bytes in
-    let mid_is : mid.tally ≡ after_parts so_far (items true (left_over bytes)) =
-    d.tells.tally ∙ ap (λ t. after_parts t (items (not (length held.bytes == 0)) held.bytes)) s.tally ∙ ap (after_parts so_far) parts in
-    let lines_are : parts_lines old.full old.tally (items (not (length held.bytes == 0)) held.bytes) ≡ parts_lines full so_far (items true (left_over bytes)) =
-    ap (λ f. parts_lines f old.tally (items (not (length held.bytes == 0)) held.bytes)) s.full_is
-    ∙ ap (λ t. parts_lines full t (items (not (length held.bytes == 0)) held.bytes)) s.tally
-    ∙ ap (parts_lines full so_far) parts in
+    let mid_is : mid.tally ≡ tally_after_all so_far (items true (left_over bytes)) =
+    d.tells.tally ∙ ap (λ t. tally_after_all t (items (not (length held.bytes == 0)) held.bytes)) s.tally ∙ ap (tally_after_all so_far) parts in
+    let lines_are : shown_lines old.full old.tally (items (not (length held.bytes == 0)) held.bytes) ≡ shown_lines full so_far (items true (left_over bytes)) =
+    ap (λ f. shown_lines f old.tally (items (not (length held.bytes == 0)) held.bytes)) s.full_is
+    ∙ ap (λ t. shown_lines full t (items (not (length held.bytes == 0)) held.bytes)) s.tally
+    ∙ ap (shown_lines full so_far) parts in
     record {
       full_is = same ∙ d.tells.full ∙ s.full_is;
       tally = tally ∙ ap after_run mid_is ∙ sym (closed_tally ended bytes s.bytes);
@@ -292,7 +292,7 @@ stops_longer_run bytes more held old before written fits fits_too h = λ full st
     let text = lines_more full ended there more all in
     let regrouped : open_bytes ++ (bytes ++ more) ≡ there ++ more = sym (append_assoc open_bytes bytes more) in
     stops_longer start written (lines_so_far full ended there) (lines_so_far full ended (open_bytes ++ (bytes ++ more)))
-    (parts_lines full (tally_so_far ended there) (items false (left_over there ++ more))) (h full start ended open_bytes s)
+    (shown_lines full (tally_so_far ended there) (items false (left_over there ++ more))) (h full start ended open_bytes s)
     (ap (lines_so_far full ended) regrouped ∙ text)
 
 -- after a front that was told
@@ -304,22 +304,22 @@ stops_after_both xs ys start held first old a b written t h = λ full begin ende
 
 -- within the items that held bytes decide, once these were given
 pub held_stops : (given : List ℕ) (held : Held) (old : Report) (before written : Option (List ℕ)) → AreBytes given → IsSettled held
-    → StopsWithin before written (parts_lines old.full old.tally (items false (held.bytes ++ given))) → StopsIn given held old before written
+    → StopsWithin before written (shown_lines old.full old.tally (items false (held.bytes ++ given))) → StopsIn given held old before written
 held_stops given held old before written fits settled h = λ full start ended open_bytes s.
     let all = AreBytes-append open_bytes given s.bytes fits in
     let held_bytes : held.bytes ≡ left_over open_bytes = ap (λ (x : Held). x.bytes) s.held_is in
     let parts : items false (held.bytes ++ given) ≡ items false (left_over open_bytes ++ given) = ap (λ l. items false (l ++ given)) held_bytes in
-    let here : parts_lines old.full old.tally (items false (held.bytes ++ given)) ≡ parts_lines full (tally_so_far ended open_bytes) (items false (left_over open_bytes ++ given)) =
-    ap (λ f. parts_lines f old.tally (items false (held.bytes ++ given))) s.full_is
-    ∙ ap (λ t. parts_lines full t (items false (held.bytes ++ given))) s.tally
-    ∙ ap (parts_lines full (tally_so_far ended open_bytes)) parts in
-    stops_after start before written (lines_so_far full ended open_bytes) (parts_lines full (tally_so_far ended open_bytes) (items false (left_over open_bytes ++ given)))
+    let here : shown_lines old.full old.tally (items false (held.bytes ++ given)) ≡ shown_lines full (tally_so_far ended open_bytes) (items false (left_over open_bytes ++ given)) =
+    ap (λ f. shown_lines f old.tally (items false (held.bytes ++ given))) s.full_is
+    ∙ ap (λ t. shown_lines full t (items false (held.bytes ++ given))) s.tally
+    ∙ ap (shown_lines full (tally_so_far ended open_bytes)) parts in
+    stops_after start before written (lines_so_far full ended open_bytes) (shown_lines full (tally_so_far ended open_bytes) (items false (left_over open_bytes ++ given)))
     (lines_so_far full ended (open_bytes ++ given)) [] s.lines (subst (StopsWithin before written) here h)
     (lines_more full ended open_bytes given all ∙ sym (append-nil _))
 
 -- .. of the bytes that a framer took
 pub pushed_stops : (given : List ℕ) (held pushed : Held) (old : Report) (before written : Option (List ℕ)) → AreBytes given → IsSettled held
-    → pushed ≡ after_push held given → StopsWithin before written (parts_lines old.full old.tally (items pushed.ended pushed.bytes))
+    → pushed ≡ after_push held given → StopsWithin before written (shown_lines old.full old.tally (items pushed.ended pushed.bytes))
     → StopsIn given held old before written
 pushed_stops given held pushed old before written fits settled pushes h =
     let n = taken_count held given in
@@ -331,20 +331,20 @@ pushed_stops given held pushed old before written fits settled pushes h =
     subst (λ l. StopsIn l held old before written) (take-append-drop n given)
     (stops_longer_run front (drop n given) held old before written front_fits back_fits
     (held_stops front held old before written front_fits settled
-    (subst (λ (x : Held). StopsWithin before written (parts_lines old.full old.tally (items x.ended x.bytes))) pushed_is h)))
+    (subst (λ (x : Held). StopsWithin before written (shown_lines old.full old.tally (items x.ended x.bytes))) pushed_is h)))
 
 -- at the end of a run
 pub run_end_stops : (held : Held) (old : Report) (before written : Option (List ℕ))
-    → StopsWithin before written (parts_lines old.full old.tally (items (after_gap held).ended (after_gap held).bytes)) → StopsAtRunEnd held old before written
+    → StopsWithin before written (shown_lines old.full old.tally (items (after_gap held).ended (after_gap held).bytes)) → StopsAtRunEnd held old before written
 run_end_stops held old before written h = λ full start ended bytes s.
     let held_bytes : held.bytes ≡ left_over bytes = ap (λ (x : Held). x.bytes) s.held_is in
     let parts : items (not (length held.bytes == 0)) held.bytes ≡ items true (left_over bytes) = gap_items held.bytes ∙ ap (items true) held_bytes in
     let so_far = tally_so_far ended bytes in
-    let here : parts_lines old.full old.tally (items (not (length held.bytes == 0)) held.bytes) ≡ parts_lines full so_far (items true (left_over bytes)) =
-    ap (λ f. parts_lines f old.tally (items (not (length held.bytes == 0)) held.bytes)) s.full_is
-    ∙ ap (λ t. parts_lines full t (items (not (length held.bytes == 0)) held.bytes)) s.tally
-    ∙ ap (parts_lines full so_far) parts in
-    stops_after start before written (lines_so_far full ended bytes) (parts_lines full so_far (items true (left_over bytes)))
+    let here : shown_lines old.full old.tally (items (not (length held.bytes == 0)) held.bytes) ≡ shown_lines full so_far (items true (left_over bytes)) =
+    ap (λ f. shown_lines f old.tally (items (not (length held.bytes == 0)) held.bytes)) s.full_is
+    ∙ ap (λ t. shown_lines full t (items (not (length held.bytes == 0)) held.bytes)) s.tally
+    ∙ ap (shown_lines full so_far) parts in
+    stops_after start before written (lines_so_far full ended bytes) (shown_lines full so_far (items true (left_over bytes)))
     (lines_so_far full (closed_runs ended bytes) []) [] s.lines (subst (StopsWithin before written) here h)
     (closed_lines full ended bytes s.bytes ∙ sym (append-nil _))
 

@@ -14,7 +14,7 @@ use Rattle.osdp_tool_input.proofs.Bytes.{good_front-bytes}
 use Rattle.std.specs.List.{AllByRecursion}
 use Rattle.std.specs.Option.{option_map_or}
 use Rattle.osdp_tool_lines.specs.Tally.{no_tally}
-use Rattle.osdp_tool_lines.specs.Told.{parts_lines, after_runs, runs_lines, end_line, tally_so_far, lines_so_far}
+use Rattle.osdp_tool_lines.specs.Told.{shown_lines, after_runs, runs_lines, end_line, tally_so_far, lines_so_far}
 use Rattle.osdp_tool_show.specs.declared.capture.Capture.{Capture}
 use Rattle.osdp_tool_show.specs.declared.report.Report.{Report}
 use Rattle.osdp_tool_show.specs.Machine.{told, IsSettled, Took, EndedRun, StopsIn, StopsAtRunEnd}
@@ -105,7 +105,7 @@ stops_line bytes old before now lines says h = λ full form start read f.
         let fits = line_are_bytes (unended_line read) bytes line_says in
         subst (λ r. StopsWithin start now (lines_so_far full r [])) (sym fed.0)
         (stops_longer start now (lines_so_far full ended bytes) (lines_so_far full (closed_runs ended bytes) [])
-        (parts_lines full (tally_so_far ended bytes) (items true (left_over bytes))) (h full start ended [] f.stands) (closed_lines full ended bytes fits))
+        (shown_lines full (tally_so_far ended bytes) (items true (left_over bytes))) (h full start ended [] f.stands) (closed_lines full ended bytes fits))
 
 -- at the end of the run that a line is
 pub stops_line_end : (bytes : List ℕ) (old : Capture) (held : Held) (mid : Report) (before middle now : Option (List ℕ)) → old.form ≡ Apart
@@ -136,7 +136,7 @@ ended_text full form read lines good =
     let ended = ended_runs form here in
     let open_bytes = open_run form here in
     let runs = closed_runs ended open_bytes in
-    let more = parts_lines full (tally_so_far ended open_bytes) (items true (left_over open_bytes)) in
+    let more = shown_lines full (tally_so_far ended open_bytes) (items true (left_over open_bytes)) in
     let last = end_line full (after_runs no_tally runs) in (
       more ++ last,
       ap (closed_text full) (fed_end form read lines good).0

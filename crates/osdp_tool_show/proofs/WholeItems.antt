@@ -3,15 +3,15 @@ use Rattle.std.proofs.Common.{◌≡◌, ℕ, ◌+◌, ◌≤◌, ◌==◌, not,
 use Rattle.std.proofs.Math.Seq.{take-add}
 use Rattle.std.proofs.lemmas.List.{drop_all, length-take, take-take}
 use Rattle.osdp_frame.specs.Bytes.{AreBytes}
-use Rattle.osdp_frame.specs.Reading.{Part, part_size}
+use Rattle.osdp_frame.specs.Reading.{RunItem, item_size}
 use Rattle.osdp_frame.specs.Held.{Held, decided, by_itself, new_run, after_push, after_gap, after_advance, after_first, taken_count}
 use Rattle.osdp_frame.proofs.Head.{AreBytes-drop}
 use Rattle.osdp_frame.proofs.FirstItems.{decided_by_itself}
-use Rattle.osdp_frame_laws.proofs.Readings.{decided_nothing, part_size-decided, part_size-positive}
+use Rattle.osdp_frame_laws.proofs.Readings.{decided_nothing, item_size-decided, item_size-positive}
 use Rattle.osdp_tool_show.specs.declared.report.Report.{Report}
-use Rattle.osdp_tool_lines.specs.Tally.{after_part}
-use Rattle.osdp_tool_lines.specs.Told.{parts_lines}
-use Rattle.osdp_tool_lines.proofs.Lines.{after_parts-nil, after_parts-cons}
+use Rattle.osdp_tool_lines.specs.Tally.{tally_after}
+use Rattle.osdp_tool_lines.specs.Told.{shown_lines}
+use Rattle.osdp_tool_lines.proofs.Lines.{tally_after_all-nil, tally_after_all-cons}
 use Rattle.std.specs.Io.KnownBytes.{append_known}
 use Rattle.osdp_tool_show.specs.Machine.{Tells, Drained, IsSettled, Stands, Took, StopsIn}
 use Rattle.osdp_tool_show.specs.Written.{StopsWithin}
@@ -72,39 +72,39 @@ took_pushed given held pushed next old new b c fits settled is d =
     (took_step given 0 held held pushed next old old new b b c fits (omega arith) (took_start held old b settled) is d)
 
 -- an item that its own bytes decide, where nothing is held
-one_drained : (given : List ℕ) (part : Part) (old new : Report) (b c : Option (List ℕ)) → AreBytes given → length given ≡ part_size part
+one_drained : (given : List ℕ) (part : RunItem) (old new : Report) (b c : Option (List ℕ)) → AreBytes given → length given ≡ item_size part
     → decided false given ≡ Some part → Tells old new b c (part ∷ []) → Drained (record { bytes = given; ended = false }) new_run old new b c
 one_drained given part old new b c fits size is tells =
     let whole : Held = record { bytes = given; ended = false } in
-    let none : drop (part_size part) given ≡ [] = drop_all (part_size part) given (omega arith) in
+    let none : drop (item_size part) given ≡ [] = drop_all (item_size part) given (omega arith) in
     let next : new_run ≡ after_advance whole =
     sym (ap (after_first whole) is ∙ ap (λ (l : List ℕ). record { bytes = l; ended = false }) none) in
     draining_end whole new_run old new b c
     (draining_step whole whole new_run old old new b b c part (draining_start whole old b fits (λ e. absurd cc)) is next tells)
     (decided_nothing false)
 
-pub took_item : (bytes : List ℕ) (at : ℕ) (first old new : Report) (a b c : Option (List ℕ)) (part : Part) → AreBytes bytes → at ≤ length bytes
+pub took_item : (bytes : List ℕ) (at : ℕ) (first old new : Report) (a b c : Option (List ℕ)) (part : RunItem) → AreBytes bytes → at ≤ length bytes
     → Took (take at bytes) new_run new_run first old a b → by_itself (decided false (drop at bytes)) ≡ Some part → Tells old new b c (part ∷ [])
-    → Took (take (at + part_size part) bytes) new_run new_run first new a c
+    → Took (take (at + item_size part) bytes) new_run new_run first new a c
 took_item bytes at first old new a b c part fits within t is tells =
-    let n = part_size part in
+    let n = item_size part in
     let rest = drop at bytes in
     let given = take n rest in
     let rest_fits = AreBytes-drop at bytes fits in
     let given_fits = AreBytes-take n rest rest_fits in
     let own : decided false given ≡ Some part = decided_by_itself rest part rest_fits is in
-    let size : length given ≡ n = omega (arith, part_size-decided false given part given_fits own, length-take n rest) in
-    let some = part_size-positive part in
+    let size : length given ≡ n = omega (arith, item_size-decided false given part given_fits own, length-take n rest) in
+    let some = item_size-positive part in
     let step = took_drained given new_run new_run old new b c given_fits settled_new (one_drained given part old new b c given_fits size own tells) in
     subst (λ l. Took l new_run new_run first new a c) (sym (take-add at n bytes))
     (took_more (take at bytes) given new_run new_run new_run first old new a b c t step)
 
 -- it lies within the bytes
-pub item_within : (bytes : List ℕ) (at : ℕ) (part : Part) → AreBytes bytes → by_itself (decided false (drop at bytes)) ≡ Some part → part_size part ≤ length (drop at bytes)
+pub item_within : (bytes : List ℕ) (at : ℕ) (part : RunItem) → AreBytes bytes → by_itself (decided false (drop at bytes)) ≡ Some part → item_size part ≤ length (drop at bytes)
 item_within bytes at part fits is =
     let rest = drop at bytes in
     let rest_fits = AreBytes-drop at bytes fits in
-    omega (arith, part_size-decided false (take (part_size part) rest) part (AreBytes-take (part_size part) rest rest_fits) (decided_by_itself rest part rest_fits is), length-take (part_size part) rest)
+    omega (arith, item_size-decided false (take (item_size part) rest) part (AreBytes-take (item_size part) rest rest_fits) (decided_by_itself rest part rest_fits is), length-take (item_size part) rest)
 
 -- ---- the end of a run of which nothing is held
 
@@ -126,19 +126,19 @@ drained_none held old before settled none =
 -- ---- where a call stopped
 
 -- at an item that its own bytes decide
-pub item_stops : (bytes : List ℕ) (at : ℕ) (first old : Report) (a b written : Option (List ℕ)) (part : Part) → AreBytes bytes → at ≤ length bytes
+pub item_stops : (bytes : List ℕ) (at : ℕ) (first old : Report) (a b written : Option (List ℕ)) (part : RunItem) → AreBytes bytes → at ≤ length bytes
     → Took (take at bytes) new_run new_run first old a b → by_itself (decided false (drop at bytes)) ≡ Some part
-    → StopsWithin b written (parts_lines old.full old.tally (part ∷ [])) → StopsIn bytes new_run first a written
+    → StopsWithin b written (shown_lines old.full old.tally (part ∷ [])) → StopsIn bytes new_run first a written
 item_stops bytes at first old a b written part fits within t is h =
-    let text = parts_lines old.full old.tally (part ∷ []) in
+    let text = shown_lines old.full old.tally (part ∷ []) in
     let whole = append_known b text in
-    let told : Report = record { full = old.full; tally = after_part old.tally part; text = old.text } in
+    let told : Report = record { full = old.full; tally = tally_after old.tally part; text = old.text } in
     let tells : Tells old told b whole (part ∷ []) = record {
       full = refl;
-      tally = sym (after_parts-cons old.tally part [] ∙ after_parts-nil (after_part old.tally part));
+      tally = sym (tally_after_all-cons old.tally part [] ∙ tally_after_all-nil (tally_after old.tally part));
       lines = known_appends b text;
     } in
-    let n = at + part_size part in
+    let n = at + item_size part in
     let next = took_item bytes at first old told a b whole part fits within t is tells in
     subst (λ l. StopsIn l new_run first a written) (take-append-drop n bytes)
     (stops_longer_run (take n bytes) (drop n bytes) new_run first a written (AreBytes-take n bytes fits) (AreBytes-drop n bytes fits)

@@ -12,9 +12,9 @@ use Rattle.osdp_tool_input.specs.Cut.{line_feed, unended_line}
 use Rattle.osdp_tool_input.specs.Line.{line_bytes}
 use Rattle.osdp_tool_input.specs.Runs.{ended_runs, open_run, runs_of, first_bad, first_bad_ended, closed_runs}
 use Rattle.osdp_tool_input.proofs.FormLemmas.{feed_joined, feed_apart, feed_bad, end_joined, end_apart, end_bad, bad_stays}
-use Rattle.osdp_tool_lines.specs.Tally.{no_tally, after_parts}
-use Rattle.osdp_tool_lines.specs.Told.{parts_lines, after_runs, runs_lines, end_line, tally_so_far, lines_so_far}
-use Rattle.osdp_tool_lines.proofs.Lines.{after_parts-nil, parts_lines-nil}
+use Rattle.osdp_tool_lines.specs.Tally.{no_tally, tally_after_all}
+use Rattle.osdp_tool_lines.specs.Told.{shown_lines, after_runs, runs_lines, end_line, tally_so_far, lines_so_far}
+use Rattle.osdp_tool_lines.proofs.Lines.{tally_after_all-nil, shown_lines-nil}
 use Rattle.osdp_tool_show.specs.declared.capture.Capture.{Capture}
 use Rattle.osdp_tool_show.specs.declared.report.Report.{Report}
 use Rattle.osdp_tool_streams.specs.declared.fault.ToolFault.{ToolFault}
@@ -121,11 +121,11 @@ read_failure limit left old new a b c x y h kept =
 
 pub lines_closed : (full : Bool) (runs : List (List ℕ)) → lines_so_far full runs [] ≡ runs_lines full no_tally runs
 lines_closed full runs =
-    ap (λ l. runs_lines full no_tally runs ++ l) (ap (parts_lines full (after_runs no_tally runs)) (items_undecided false [] (decided_nothing false)) ∙ parts_lines-nil full (after_runs no_tally runs))
+    ap (λ l. runs_lines full no_tally runs ++ l) (ap (shown_lines full (after_runs no_tally runs)) (items_undecided false [] (decided_nothing false)) ∙ shown_lines-nil full (after_runs no_tally runs))
     ∙ append-nil (runs_lines full no_tally runs)
 
 pub tally_closed : (runs : List (List ℕ)) → tally_so_far runs [] ≡ after_runs no_tally runs
-tally_closed runs = ap (after_parts (after_runs no_tally runs)) (items_undecided false [] (decided_nothing false)) ∙ after_parts-nil (after_runs no_tally runs)
+tally_closed runs = ap (tally_after_all (after_runs no_tally runs)) (items_undecided false [] (decided_nothing false)) ∙ tally_after_all-nil (after_runs no_tally runs)
 
 pub closed_by : (old new : Capture) (next : Held) (mid : Report) (before middle written : Option (List ℕ))
     → EndedRun old.framer next old.report mid before middle → new.report.tally ≡ mid.tally → new.ended ≡ old.ended

@@ -1,13 +1,13 @@
 -- The state of a capture that is read, step by step.
 use Rattle.std.specs.Prelude.{◌≡◌, ℕ, ◌+◌, ◌*◌, ◌≤◌, Bool, true, false, List, [], ◌++◌, length, drop, string_bytes, Option, None, Result, Ok, Err}
 use Rattle.std.specs.Io.KnownBytes.{Appends, append_known}
-use Rattle.osdp_frame.specs.Reading.{Part, total_size}
+use Rattle.osdp_frame.specs.Reading.{RunItem, total_size}
 use Rattle.osdp_frame.specs.Held.{Held, decided}
 use Rattle.osdp_frame.specs.Bytes.{AreBytes}
 use Rattle.osdp_frame.specs.Items.{items, left_over}
 use Rattle.osdp_tool_input.specs.Runs.{closed_runs}
-use Rattle.osdp_tool_lines.specs.Tally.{after_parts, counted}
-use Rattle.osdp_tool_lines.specs.Told.{parts_lines, tally_so_far, lines_so_far}
+use Rattle.osdp_tool_lines.specs.Tally.{tally_after_all, counted}
+use Rattle.osdp_tool_lines.specs.Told.{shown_lines, tally_so_far, lines_so_far}
 use Rattle.osdp_tool_streams.specs.declared.fault.ToolFault.{ToolFault}
 use Rattle.osdp_tool_streams.specs.declared.fault.ToolFault.TheVariants.{NotHex, TooLong, BadWords, BadStep}
 use Rattle.osdp_tool_streams.specs.declared.fault.ToolFault.TheVariants.{HoldsPacket, NotQuiet, ReadFailed}
@@ -33,10 +33,10 @@ IsStep (Err (HoldsPacket step)) before after = ⊥
 IsStep (Err (NotQuiet step)) before after = ⊥
 
 -- the report went on by these items
-pub record Tells (old new : Report) (before after : Option (List ℕ)) (parts : List Part) : Type 0 where
+pub record Tells (old new : Report) (before after : Option (List ℕ)) (parts : List RunItem) : Type 0 where
   pub full : new.full ≡ old.full
-  pub tally : new.tally ≡ after_parts old.tally parts
-  pub lines : Appends before after (parts_lines old.full old.tally parts)
+  pub tally : new.tally ≡ tally_after_all old.tally parts
+  pub lines : Appends before after (shown_lines old.full old.tally parts)
 
 -- what was written changed, and what was told did not
 pub record KeepsReport (old new : Report) : Type 0 where

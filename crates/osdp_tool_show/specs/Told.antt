@@ -2,7 +2,7 @@
 use Rattle.std.specs.Prelude.{◌≡◌, ◌↔◌, ℕ, ◌+◌, ◌<◌, ◌^◌, ◌||◌, Bool, true, false, nat_lt, if◌then◌else◌, List, [], ◌∷◌, ◌++◌, length, flat_map, count_by, Some, None}
 use Rattle.std.specs.List.{concat}
 use Rattle.osdp_frame.specs.Bytes.{AreBytes}
-use Rattle.osdp_frame.specs.Reading.{Part, Whole, Passed, Bad, part_size, IsReading}
+use Rattle.osdp_frame.specs.Reading.{RunItem, PacketItem, SkippedItem, RefusedItem, item_size, IsReading}
 use Rattle.osdp_frame.specs.Items.{Drains}
 use Rattle.osdp_tool_input.specs.declared.form.Form.{Form}
 use Rattle.osdp_tool_input.specs.declared.form.Form.TheVariants.{Raw, Joined, Apart}
@@ -48,7 +48,7 @@ HasRunsSoFar Joined bytes runs open_bytes = (good : List (List ℕ)) × SaysSoFa
 HasRunsSoFar Apart bytes runs open_bytes = (good : List (List ℕ)) × SaysSoFar bytes good × (runs ≡ with_bytes good) × (open_bytes ≡ [])
 
 -- each run with its reading
-abbrev pub AreReadings : List (List ℕ) → List (List Part) → Type 0
+abbrev pub AreReadings : List (List ℕ) → List (List RunItem) → Type 0
 AreReadings [] [] = Unit {0}
 AreReadings [] (parts ∷ readings) = ⊥
 AreReadings (run ∷ runs) [] = ⊥
@@ -57,31 +57,31 @@ AreReadings (run ∷ runs) (parts ∷ readings) = IsReading run parts × AreRead
 -- ---- their text
 
 -- the items of a run from a place on: a line for each in full, else for each refusal
-abbrev pub items_text : Bool → ℕ → ℕ → List Part → List ℕ
+abbrev pub items_text : Bool → ℕ → ℕ → List RunItem → List ℕ
 items_text full run place [] = []
 items_text full run place (part ∷ parts) =
-    (if full || is_refusal part then item_line run place part else []) ++ items_text full run (place + part_size part) parts
+    (if full || is_refusal part then item_line run place part else []) ++ items_text full run (place + item_size part) parts
 
 -- the items of run after run, of which the first has this number
-abbrev pub readings_text : Bool → ℕ → List (List Part) → List ℕ
+abbrev pub readings_text : Bool → ℕ → List (List RunItem) → List ℕ
 readings_text full number [] = []
 readings_text full number (parts ∷ readings) = items_text full number 0 parts ++ readings_text full (number + 1) readings
 
-abbrev pub is_packet : Part → Bool
-is_packet (Whole p) = true
-is_packet (Passed b) = false
-is_packet (Bad fault) = false
+abbrev pub is_packet : RunItem → Bool
+is_packet (PacketItem p) = true
+is_packet (SkippedItem b) = false
+is_packet (RefusedItem fault) = false
 
-abbrev pub is_skipped : Part → Bool
-is_skipped (Whole p) = false
-is_skipped (Passed b) = true
-is_skipped (Bad fault) = false
+abbrev pub is_skipped : RunItem → Bool
+is_skipped (PacketItem p) = false
+is_skipped (SkippedItem b) = true
+is_skipped (RefusedItem fault) = false
 
 -- all items that fit, of all runs
-abbrev pub count_items : (Part → Bool) → List (List Part) → ℕ
+abbrev pub count_items : (RunItem → Bool) → List (List RunItem) → ℕ
 count_items fits readings = count_by fits (flat_map (λ parts. parts) readings)
 
-abbrev pub counts_text : List (List Part) → List ℕ
+abbrev pub counts_text : List (List RunItem) → List ℕ
 counts_text readings =
     counts_line (length readings) (count_items is_packet readings) (count_items is_skipped readings) (count_items is_refusal readings)
 
@@ -89,11 +89,11 @@ counts_text readings =
 -- full, else the refusals and the counts. It is refused where one of them is.
 pub record ShowsReadings : Type 0 where
   pub some : (form : Form) (bytes : List ℕ) → AreBytes bytes
-      → (runs : List (List ℕ)) × (readings : List (List Part)) × HasRuns form bytes runs × AreReadings runs readings
-  pub text : (full : Bool) (form : Form) (bytes : List ℕ) (runs : List (List ℕ)) (readings : List (List Part)) → AreBytes bytes
+      → (runs : List (List ℕ)) × (readings : List (List RunItem)) × HasRuns form bytes runs × AreReadings runs readings
+  pub text : (full : Bool) (form : Form) (bytes : List ℕ) (runs : List (List ℕ)) (readings : List (List RunItem)) → AreBytes bytes
       → HasRuns form bytes runs → AreReadings runs readings
       → shown full form bytes ≡ readings_text full 1 readings ++ (if full then [] else counts_text readings)
-  pub refused : (form : Form) (bytes : List ℕ) (runs : List (List ℕ)) (readings : List (List Part)) → AreBytes bytes
+  pub refused : (form : Form) (bytes : List ℕ) (runs : List (List ℕ)) (readings : List (List RunItem)) → AreBytes bytes
       → HasRuns form bytes runs → AreReadings runs readings
       → is_refused_input form bytes ≡ nat_lt 0 (count_items is_refusal readings)
 
@@ -101,9 +101,9 @@ pub record ShowsReadings : Type 0 where
 -- the last that its bytes decide.
 pub record ShowsDecided : Type 0 where
   pub some : (form : Form) (bytes : List ℕ) → AreBytes bytes
-      → (runs : List (List ℕ)) × (open_bytes : List ℕ) × (readings : List (List Part)) × (parts : List Part)
+      → (runs : List (List ℕ)) × (open_bytes : List ℕ) × (readings : List (List RunItem)) × (parts : List RunItem)
       × HasRunsSoFar form bytes runs open_bytes × AreReadings runs readings × Drains false open_bytes parts
-  pub text : (full : Bool) (form : Form) (bytes : List ℕ) (runs : List (List ℕ)) (open_bytes : List ℕ) (readings : List (List Part)) (parts : List Part)
+  pub text : (full : Bool) (form : Form) (bytes : List ℕ) (runs : List (List ℕ)) (open_bytes : List ℕ) (readings : List (List RunItem)) (parts : List RunItem)
       → AreBytes bytes → HasRunsSoFar form bytes runs open_bytes → AreReadings runs readings → Drains false open_bytes parts
       → shown_so_far full form bytes ≡ readings_text full 1 readings ++ items_text full (length readings + 1) 0 parts
 

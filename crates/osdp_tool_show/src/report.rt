@@ -2,10 +2,10 @@
 
 ghost use Rattle.std.specs.Prelude.{◌≡◌, ◌+◌, ◌<◌, ◌^◌, [], ◌∷◌, OnOk, OnErr, IfErr, string_bytes};
 ghost use Rattle.std.specs.Io.KnownBytes.{Appends, Keeps};
-ghost use Rattle.osdp_frame.specs.Reading.{part_size};
-ghost use Rattle.osdp_frame.specs.Shown.{part_of};
+ghost use Rattle.osdp_frame.specs.Reading.{item_size};
+ghost use Rattle.osdp_frame.specs.Shown.{item_of};
 ghost use Rattle.osdp_tool_lines.specs.Tally.{counted};
-ghost use Rattle.osdp_tool_lines.specs.Told.{end_line, parts_lines};
+ghost use Rattle.osdp_tool_lines.specs.Told.{end_line, shown_lines};
 ghost use Rattle.osdp_tool_show.specs.Written.{IsBeginning, StopsWithin};
 ghost use Rattle.osdp_tool_streams.specs.Watched.{inner_of, has_failed};
 
@@ -52,12 +52,12 @@ impl Report {
         item: &Item<'_>,
         output: &mut Watched<W>,
     ) -> Result<(), ToolFault>
-        requires { counted self.old.tally + part_size (part_of item.now) < 2 ^ 63 }
+        requires { counted self.old.tally + item_size (item_of item.now) < 2 ^ 63 }
         ensures step { IsStep result (has_failed output.old) (has_failed output.new) }
         ensures tells { OnOk result (Tells self.old self.new (told (W.contents (inner_of output.old)) self.old)
-            (told (W.contents (inner_of output.new)) self.new) (part_of item.now ∷ [])) }
+            (told (W.contents (inner_of output.new)) self.new) (item_of item.now ∷ [])) }
         ensures stops { OnErr result (StopsWithin (told (W.contents (inner_of output.old)) self.old) (W.contents (inner_of output.new))
-            (parts_lines self.old.full self.old.tally (part_of item.now ∷ []))) }
+            (shown_lines self.old.full self.old.tally (item_of item.now ∷ []))) }
     {
         match tell(&mut self.text, self.full, &mut self.tally, item) {
             Ok(()) => {}

@@ -4,12 +4,12 @@ ghost use Rattle.std.specs.Prelude.{◌≡◌, ◌≢◌, ◌+◌, ◌*◌, ◌<
 ghost use Rattle.std.specs.List.{AllByRecursion};
 ghost use Rattle.osdp_frame.specs.Bytes.{AreBytes};
 ghost use Rattle.osdp_frame.specs.Held.{after_gap, by_itself, decided, new_run};
-ghost use Rattle.osdp_frame.specs.Shown.{part_of};
+ghost use Rattle.osdp_frame.specs.Shown.{item_of};
 ghost use Rattle.osdp_frame.specs.Spelling.{start_of_message};
 ghost use Rattle.osdp_tool_lines.specs.Tally.{counted};
 ghost use Rattle.osdp_tool_streams.specs.Watched.{inner_of, has_failed};
 ghost use Rattle.osdp_frame.specs.Items.{items};
-ghost use Rattle.osdp_tool_lines.specs.Told.{parts_lines};
+ghost use Rattle.osdp_tool_lines.specs.Told.{shown_lines};
 ghost use Rattle.osdp_tool_show.specs.Machine.{told, IsStep, Drained, IsSettled, Took, EndedRun, StopsIn, StopsAtRunEnd};
 ghost use Rattle.osdp_tool_show.specs.Written.{StopsWithin};
 
@@ -42,7 +42,7 @@ fn drain<W: Write>(
     ensures drained { OnOk result (Drained framer.old framer.new report.old report.new
         (told (W.contents (inner_of output.old)) report.old) (told (W.contents (inner_of output.new)) report.new)) }
     ensures stops { OnErr result (StopsWithin (told (W.contents (inner_of output.old)) report.old) (W.contents (inner_of output.new))
-        (parts_lines report.old.full report.old.tally (items framer.old.ended framer.old.bytes))) }
+        (shown_lines report.old.full report.old.tally (items framer.old.ended framer.old.bytes))) }
 {
     'items: while let Some(item) = framer.next() {
         report.tell(&item, output)?;
@@ -85,7 +85,7 @@ fn pass_skipped(report: &mut Report, bytes: &[u8]) -> usize
 /// What is told by itself at the head of the bytes: a packet, or a skipped byte where it has a line.
 #[inline(always)]
 fn own_item(full: bool, bytes: &[u8]) -> Option<Item<'_>>
-    ensures { IfSome result (λ item. by_itself (decided false bytes.now) ≡ Some (part_of item)) }
+    ensures { IfSome result (λ item. by_itself (decided false bytes.now) ≡ Some (item_of item)) }
 {
     match whole_item(bytes) {
         Some(Item::Skipped(_)) if !full => None,
@@ -241,7 +241,7 @@ fn end_held<W: Write>(
     ensures drained { OnOk result (Drained (after_gap framer.old) framer.new report.old report.new
         (told (W.contents (inner_of output.old)) report.old) (told (W.contents (inner_of output.new)) report.new)) }
     ensures stops { OnErr result (StopsWithin (told (W.contents (inner_of output.old)) report.old) (W.contents (inner_of output.new))
-        (parts_lines report.old.full report.old.tally (items (after_gap framer.old).ended (after_gap framer.old).bytes))) }
+        (shown_lines report.old.full report.old.tally (items (after_gap framer.old).ended (after_gap framer.old).bytes))) }
 {
     if framer.is_empty() {
         return Ok(());

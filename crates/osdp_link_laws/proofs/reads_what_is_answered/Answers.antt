@@ -1,10 +1,10 @@
 use Rattle.std.proofs.Common.{ap}
-use Rattle.osdp_controller.specs.Answers.{answer_by_reading}
+use Rattle.osdp_controller.specs.Answers.{meaning_by_reading}
 use Rattle.osdp_msg.specs.ReplyTable.{reply_code}
 use Rattle.osdp_link_laws.proofs.Tables.{reply_read}
 use Rattle.osdp_link_laws.proofs.reads_what_is_answered.Goals as goal
 
 pub returns : goal.returns
 returns c p number r fits =
-    ap (answer_by_reading (reply_code r))
+    ap (meaning_by_reading (reply_code r))
     (reply_read c.reply_of_reads_the_table.ensures.values c.replies_fit_a_packet.ensures r fits)

@@ -1,5 +1,5 @@
 use Rattle.std.proofs.Common.{sym, ap, ◌∙◌}
-use Rattle.osdp_frame.specs.Shown.{part_of}
+use Rattle.osdp_frame.specs.Shown.{item_of}
 use Rattle.osdp_bus.specs.Hearing.{hears_items}
 use Rattle.osdp_bus.specs.Private.{devices_of}
 use Rattle.osdp_bus.proofs.Runs.{all_read, read_on}
@@ -7,7 +7,7 @@ use Rattle.osdp_bus.proofs.line.read_items.Goals as goal
 
 pub items-preserved : goal.items-preserved
 items-preserved c =
-    let on = read_on c.args.now c.items.framer c.advance.new.self (part_of c.in-Some.item) (devices_of c.items.devices) (devices_of c.hear_item.new.self)
+    let on = read_on c.args.now c.items.framer c.advance.new.self (item_of c.in-Some.item) (devices_of c.items.devices) (devices_of c.hear_item.new.self)
     c.items.invariant.held (sym c.in-Some.ensures.shown) c.advance.ensures c.hear_item.ensures.devices in
     record {
       held = on.run;

@@ -1,16 +1,16 @@
 use Rattle.std.proofs.Common.{◌≡◌, subst, take, false}
-use Rattle.osdp_frame.specs.First.{part_if, FirstFits}
+use Rattle.osdp_frame.specs.First.{item_if, FirstFits}
 use Rattle.osdp_frame.specs.Held.{decided}
-use Rattle.osdp_frame.proofs.FirstItems.{part_if-more, FirstFits-more}
+use Rattle.osdp_frame.proofs.FirstItems.{item_if-more, FirstFits-more}
 use Rattle.osdp_frame.proofs.framer.decided_again.Goals as goal
 
 pub returns-in-Some-clause-part : goal.returns-in-Some-clause-part
 returns-in-Some-clause-part c =
     let held = c.args.held.now.bytes in
     let count = c.args.count in
-    part_if-more c.in-Some.first count held c.args.ended c.bytes.ensures.bytes
+    item_if-more c.in-Some.first count held c.args.ended c.bytes.ensures.bytes
     (subst (λ f. FirstFits (take count held) f) c.in-Some.is c.requires.fits)
-    (subst (λ f. part_if f (take count held) ≡ decided false (take count held)) c.in-Some.is c.requires.first)
+    (subst (λ f. item_if f (take count held) ≡ decided false (take count held)) c.in-Some.is c.requires.first)
 
 pub returns-in-Some-clause-fits : goal.returns-in-Some-clause-fits
 returns-in-Some-clause-fits c =

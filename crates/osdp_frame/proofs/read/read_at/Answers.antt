@@ -1,8 +1,8 @@
 use Rattle.std.proofs.Common.{◌≡◌, ◌-◌, ◌∙◌, List, [], ℕ, Some, drop, length, take, ap, sym, subst, true, arith}
 use Rattle.std.proofs.lemmas.List.{take_rest, length-drop}
-use Rattle.osdp_frame.specs.First.{part_in}
+use Rattle.osdp_frame.specs.First.{item_in}
 use Rattle.osdp_frame.specs.Reading.{Stands}
-use Rattle.osdp_frame.specs.Shown.{part_read}
+use Rattle.osdp_frame.specs.Shown.{item_read}
 use Rattle.osdp_frame.proofs.Decided.{first_decided, stands_first, undecided_none, undecided_ended}
 use Rattle.osdp_frame.proofs.read.read_at.Goals as goal
 
@@ -18,7 +18,7 @@ pub returns : goal.returns
 returns c =
     let run = c.args.run.now in
     let rest = take (length run - c.args.place) (drop c.args.place run) in
-    let part = part_read c.into_owned.result in
-    let is : Some part ≡ Some (part_in c.in-Some.first rest) = ap Some (c.into_owned.ensures ∙ c.shown.ensures) in
+    let part = item_read c.into_owned.result in
+    let is : Some part ≡ Some (item_in c.in-Some.first rest) = ap Some (c.into_owned.ensures ∙ c.shown.ensures) in
     let stands : Stands rest part = stands_first true rest part (first_decided true rest part c.are_bytes.ensures (sym (is ∙ c.in-Some.ensures.part))) in
     subst (λ (l : List ℕ). Stands l part) (take_rest run c.args.place) stands

@@ -1,6 +1,6 @@
 use Rattle.std.proofs.Common.{[], ◌∷◌, ap}
 use Rattle.osdp_frame.specs.Items.{reading}
-use Rattle.osdp_frame.specs.Reading.{Whole}
+use Rattle.osdp_frame.specs.Reading.{PacketItem}
 use Rattle.osdp_sim.specs.Line.{whole_packets}
 use Rattle.osdp_sim.proofs.Bursts.{no_bytes}
 use Rattle.osdp_sim.proofs.laws.reads_packets.Goals as goal
@@ -11,5 +11,5 @@ returns-clause-none c = no_bytes
 pub returns-clause-one : goal.returns-clause-one
 returns-clause-one c p bytes spells =
     ap whole_packets
-    (c.one_reading.ensures.one bytes (reading bytes) (Whole p ∷ []) (c.one_reading.ensures.some bytes (c.spelling_of_bytes.ensures p bytes spells))
+    (c.one_reading.ensures.one bytes (reading bytes) (PacketItem p ∷ []) (c.one_reading.ensures.some bytes (c.spelling_of_bytes.ensures p bytes spells))
     (c.reading_of_spelling.ensures p bytes spells))

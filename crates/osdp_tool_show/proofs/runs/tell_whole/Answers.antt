@@ -2,8 +2,8 @@ use Rattle.std.proofs.Common.{refl, ◌≡◌, ◌+◌, ◌≤◌, ◌∙◌, So
 use Rattle.std.proofs.lemmas.List.{take_rest}
 use Rattle.osdp_tool_streams.specs.Watched.{inner_of}
 use Rattle.osdp_frame.specs.Held.{new_run, by_itself, decided}
-use Rattle.osdp_frame.specs.Reading.{part_size}
-use Rattle.osdp_frame.specs.Shown.{part_of}
+use Rattle.osdp_frame.specs.Reading.{item_size}
+use Rattle.osdp_frame.specs.Shown.{item_of}
 use Rattle.osdp_tool_show.specs.Machine.{told, Took}
 use Rattle.osdp_tool_show.proofs.WholeItems.{took_item, item_within}
 use Rattle.osdp_tool_show.proofs.WholeItems.{item_stops}
@@ -21,11 +21,11 @@ pub tell-requires : goal.tell-requires
 tell-requires g c =
     let bytes = c.args.bytes.now in
     let at = c.items.at in
-    let part = part_of c.in-Some.item in
+    let part = item_of c.in-Some.item in
     let counts = c.items.invariant.took.counts in
     let own : by_itself (decided false (drop at bytes)) ≡ Some part =
     sym (ap (λ l. by_itself (decided false l)) (take_rest bytes at)) ∙ c.in-Some.ensures in
-    let there : part_size part ≤ length (drop at bytes) = item_within bytes at part (λ k. omega (arith, c.type_inv.bytes k)) own in
+    let there : item_size part ≤ length (drop at bytes) = item_within bytes at part (λ k. omega (arith, c.type_inv.bytes k)) own in
     omega (arith, length-take at bytes, length-drop at bytes)
 
 pub items-preserved : goal.items-preserved
@@ -33,13 +33,13 @@ items-preserved g c =
     let bytes = c.args.bytes.now in
     let contents = g.W.Write.contents (inner_of c.items.output) in
     let at = c.items.at in
-    let part = part_of c.in-Some.item in
+    let part = item_of c.in-Some.item in
     let before = told (g.W.Write.contents (inner_of c.args.output.now)) c.args.report.now in
     let after = told (g.W.Write.contents (inner_of c.tell.new.output)) c.tell.new.self in
     let own : by_itself (decided false (drop at bytes)) ≡ Some part =
     sym (ap (λ l. by_itself (decided false l)) (take_rest bytes at)) ∙ c.in-Some.ensures in
-    let there : part_size part ≤ length (drop at bytes) = item_within bytes at part (λ k. omega (arith, c.type_inv.bytes k)) own in
-    let size : c.size-at.result ≡ part_size part = c.size-at.ensures in
+    let there : item_size part ≤ length (drop at bytes) = item_within bytes at part (λ k. omega (arith, c.type_inv.bytes k)) own in
+    let size : c.size-at.result ≡ item_size part = c.size-at.ensures in
     record {
       within = omega (arith, length-drop at bytes);
       took = subst (λ n. Took (take (at + n) bytes) new_run new_run c.args.report.now c.tell.new.self before after)
@@ -54,7 +54,7 @@ returns-in_err-tell-clause-stops g c =
     let bytes = c.args.bytes.now in
     let contents = g.W.Write.contents (inner_of c.items.output) in
     let at = c.items.at in
-    let part = part_of c.in-Some.item in
+    let part = item_of c.in-Some.item in
     let before = told (g.W.Write.contents (inner_of c.args.output.now)) c.args.report.now in
     let own : by_itself (decided false (drop at bytes)) ≡ Some part =
     sym (ap (λ l. by_itself (decided false l)) (take_rest bytes at)) ∙ c.in-Some.ensures in

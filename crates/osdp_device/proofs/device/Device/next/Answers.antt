@@ -1,7 +1,7 @@
 use Rattle.std.proofs.Common.{◌≡◌, refl, sym, ap, Some, ◌∙◌}
 use Rattle.osdp_frame.specs.Held.{Held, after_advance, decided}
-use Rattle.osdp_frame.specs.Reading.{Whole}
-use Rattle.osdp_frame.specs.Shown.{part_of}
+use Rattle.osdp_frame.specs.Reading.{PacketItem}
+use Rattle.osdp_frame.specs.Shown.{item_of}
 use Rattle.osdp_device.specs.Saying.{said_in}
 use Rattle.osdp_device.specs.Receiving.{Received}
 use Rattle.osdp_device.proofs.Taking.{told_here}
@@ -9,28 +9,28 @@ use Rattle.osdp_device.proofs.device.Device.next.Goals as goal
 
 pub returns-clause-said : goal.returns-clause-said
 returns-clause-said g c =
-    let here : decided c.pass_over.new.self.line.held.ended c.pass_over.new.self.line.held.bytes ≡ Some (Whole c.in-Some-Packet.packet) =
-    sym c.in-Some-Packet.ensures ∙ ap (λ i. Some (part_of i)) c.in-Some-Packet.field-0-is in
+    let here : decided c.pass_over.new.self.line.held.ended c.pass_over.new.self.line.held.bytes ≡ Some (PacketItem c.in-Some-Packet.packet) =
+    sym c.in-Some-Packet.ensures ∙ ap (λ i. Some (item_of i)) c.in-Some-Packet.field-0-is in
     let told = told_here g.H.Handler.answer_of g.H.Handler.after c.pass_over.new.self.reader c.answer-response.new.reader c.pass_over.new.self.line.held
-    c.advance.new.self.held (Whole c.in-Some-Packet.packet) (Some (said_in c.answer-response.result)) here
+    c.advance.new.self.held (PacketItem c.in-Some-Packet.packet) (Some (said_in c.answer-response.result)) here
     (ap (λ l. l.held) c.advance.ensures) c.answer-response.ensures.said c.answer-response.ensures.reader refl in
     sym (ap (λ t. t.said) told) ∙ ap (λ t. t.said) c.pass_over.ensures.told
 
 pub returns-clause-reader : goal.returns-clause-reader
 returns-clause-reader g c =
-    let here : decided c.pass_over.new.self.line.held.ended c.pass_over.new.self.line.held.bytes ≡ Some (Whole c.in-Some-Packet.packet) =
-    sym c.in-Some-Packet.ensures ∙ ap (λ i. Some (part_of i)) c.in-Some-Packet.field-0-is in
+    let here : decided c.pass_over.new.self.line.held.ended c.pass_over.new.self.line.held.bytes ≡ Some (PacketItem c.in-Some-Packet.packet) =
+    sym c.in-Some-Packet.ensures ∙ ap (λ i. Some (item_of i)) c.in-Some-Packet.field-0-is in
     let told = told_here g.H.Handler.answer_of g.H.Handler.after c.pass_over.new.self.reader c.answer-response.new.reader c.pass_over.new.self.line.held
-    c.advance.new.self.held (Whole c.in-Some-Packet.packet) (Some (said_in c.answer-response.result)) here
+    c.advance.new.self.held (PacketItem c.in-Some-Packet.packet) (Some (said_in c.answer-response.result)) here
     (ap (λ l. l.held) c.advance.ensures) c.answer-response.ensures.said c.answer-response.ensures.reader refl in
     sym (ap (λ t. t.reader) told) ∙ ap (λ t. t.reader) c.pass_over.ensures.told
 
 pub returns-clause-line : goal.returns-clause-line
 returns-clause-line g c =
-    let here : decided c.pass_over.new.self.line.held.ended c.pass_over.new.self.line.held.bytes ≡ Some (Whole c.in-Some-Packet.packet) =
-    sym c.in-Some-Packet.ensures ∙ ap (λ i. Some (part_of i)) c.in-Some-Packet.field-0-is in
+    let here : decided c.pass_over.new.self.line.held.ended c.pass_over.new.self.line.held.bytes ≡ Some (PacketItem c.in-Some-Packet.packet) =
+    sym c.in-Some-Packet.ensures ∙ ap (λ i. Some (item_of i)) c.in-Some-Packet.field-0-is in
     let told = told_here g.H.Handler.answer_of g.H.Handler.after c.pass_over.new.self.reader c.answer-response.new.reader c.pass_over.new.self.line.held
-    (after_advance c.pass_over.new.self.line.held) (Whole c.in-Some-Packet.packet) (Some (said_in c.answer-response.result)) here
+    (after_advance c.pass_over.new.self.line.held) (PacketItem c.in-Some-Packet.packet) (Some (said_in c.answer-response.result)) here
     refl c.answer-response.ensures.said c.answer-response.ensures.reader refl in
     let left = sym (ap (λ t. t.held) told) ∙ ap (λ t. t.held) c.pass_over.ensures.told in
     c.advance.ensures ∙ ap (λ (l : Received). record l { held = after_advance c.pass_over.new.self.line.held }) c.pass_over.ensures.line

@@ -1,7 +1,7 @@
 use Rattle.std.proofs.Common.{sym, refl, subst, ap, ◌∙◌}
 use Rattle.std.specs.Prelude.{IsNone}
-use Rattle.osdp_frame.specs.First.{part_in}
-use Rattle.osdp_frame.specs.Shown.{part_of}
+use Rattle.osdp_frame.specs.First.{item_in}
+use Rattle.osdp_frame.specs.Shown.{item_of}
 use Rattle.osdp_frame.proofs.Framing.{shown_first, shown_none, shown_some}
 use Rattle.osdp_frame.proofs.framer.Framer.next.Goals as goal
 
@@ -11,8 +11,8 @@ returns-in_err-first-clause-none c =
 
 pub returns-clause-first : goal.returns-clause-first
 returns-clause-first c =
-    shown_first c.self.inside c.args.self.now c.in_ok-first.first (part_of c.shown.result) c.self.view_is c.self.invariant c.bytes-held.ensures.bytes c.in_ok-first.was (c.shown.ensures ∙ ap (part_in c.in_ok-first.first) c.bytes-held.ensures.value)
+    shown_first c.self.inside c.args.self.now c.in_ok-first.first (item_of c.shown.result) c.self.view_is c.self.invariant c.bytes-held.ensures.bytes c.in_ok-first.was (c.shown.ensures ∙ ap (item_in c.in_ok-first.first) c.bytes-held.ensures.value)
 
 pub returns-clause-none : goal.returns-clause-none
 returns-clause-none c =
-    (λ e. absurd cc, λ wants. absurd (shown_some c.self.inside c.args.self.now c.in_ok-first.first (part_of c.shown.result) c.self.view_is c.self.invariant c.bytes-held.ensures.bytes c.in_ok-first.was (c.shown.ensures ∙ ap (part_in c.in_ok-first.first) c.bytes-held.ensures.value) wants))
+    (λ e. absurd cc, λ wants. absurd (shown_some c.self.inside c.args.self.now c.in_ok-first.first (item_of c.shown.result) c.self.view_is c.self.invariant c.bytes-held.ensures.bytes c.in_ok-first.was (c.shown.ensures ∙ ap (item_in c.in_ok-first.first) c.bytes-held.ensures.value) wants))

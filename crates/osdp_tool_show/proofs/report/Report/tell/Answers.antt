@@ -1,10 +1,10 @@
 use Rattle.std.proofs.Common.{refl}
-use Rattle.osdp_frame.specs.Shown.{part_of}
+use Rattle.osdp_frame.specs.Shown.{item_of}
 use Rattle.osdp_tool_show.specs.declared.report.Report.{Report}
 use Rattle.osdp_tool_streams.specs.Watched.{inner_of}
 use Rattle.osdp_tool_show.proofs.Reports.{tells_one, tells_kept, on_ok_both}
 use Rattle.std.proofs.Common.{[], ◌∷◌}
-use Rattle.osdp_tool_lines.specs.Told.{parts_lines}
+use Rattle.osdp_tool_lines.specs.Told.{shown_lines}
 use Rattle.osdp_tool_show.specs.Machine.{told}
 use Rattle.osdp_tool_show.proofs.Beginnings.{on_err_map, stops_all, stops_at_once}
 use Rattle.osdp_tool_show.proofs.report.Report.tell.Goals as goal
@@ -12,7 +12,7 @@ use Rattle.osdp_tool_show.proofs.report.Report.tell.Goals as goal
 pub returns-then-len-lt-GATHERED-clause-tells : goal.returns-then-len-lt-GATHERED-clause-tells
 returns-then-len-lt-GATHERED-clause-tells g c =
     tells_one (g.W.Write.contents (inner_of c.args.output.now)) c.args.self.now
-    (record { full = c.args.self.now.full; tally = c.tell.new.tally; text = c.tell.new.text }) (part_of c.args.item.now) refl
+    (record { full = c.args.self.now.full; tally = c.tell.new.tally; text = c.tell.new.text }) (item_of c.args.item.now) refl
     c.in-Ok.ensures.tally c.in-Ok.ensures.line
 
 pub returns-clause-tells : goal.returns-clause-tells
@@ -20,18 +20,18 @@ returns-clause-tells g c =
     let mid : Report = record { full = c.args.self.now.full; tally = c.tell.new.tally; text = c.tell.new.text } in
     on_ok_both c.write_out.result
     (λ kept same. tells_kept c.args.self.now mid c.write_out.new.self _ _ _ _
-    (tells_one (g.W.Write.contents (inner_of c.args.output.now)) c.args.self.now mid (part_of c.args.item.now) refl c.in-Ok.ensures.tally c.in-Ok.ensures.line)
+    (tells_one (g.W.Write.contents (inner_of c.args.output.now)) c.args.self.now mid (item_of c.args.item.now) refl c.in-Ok.ensures.tally c.in-Ok.ensures.line)
     kept same)
     c.write_out.ensures.same c.write_out.ensures.told
 
 pub returns-in-Err-clause-stops : goal.returns-in-Err-clause-stops
 returns-in-Err-clause-stops g c =
-    stops_at_once (g.W.Write.contents (inner_of c.args.output.now)) c.args.self.now (parts_lines c.args.self.now.full c.args.self.now.tally (part_of c.args.item.now ∷ []))
+    stops_at_once (g.W.Write.contents (inner_of c.args.output.now)) c.args.self.now (shown_lines c.args.self.now.full c.args.self.now.tally (item_of c.args.item.now ∷ []))
 
 pub returns-clause-stops : goal.returns-clause-stops
 returns-clause-stops g c =
     let contents = g.W.Write.contents (inner_of c.args.output.now) in
     let mid : Report = record { full = c.args.self.now.full; tally = c.tell.new.tally; text = c.tell.new.text } in
-    let tells = tells_one contents c.args.self.now mid (part_of c.args.item.now) refl c.in-Ok.ensures.tally c.in-Ok.ensures.line in
+    let tells = tells_one contents c.args.self.now mid (item_of c.args.item.now) refl c.in-Ok.ensures.tally c.in-Ok.ensures.line in
     on_err_map c.write_out.result (stops_all (told contents c.args.self.now) (told contents mid) (g.W.Write.contents (inner_of c.write_out.new.output)) _ tells.lines)
     c.write_out.ensures.stops

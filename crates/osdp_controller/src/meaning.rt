@@ -1,14 +1,14 @@
 //! What a reply says to a controller that waits for one.
 
 ghost use Rattle.std.specs.Prelude.{◌≡◌};
-ghost use Rattle.osdp_controller.specs.Answers.{answer_by_reading, answer_by_reason, answer_by_reply, answer_of, is_not_taken};
+ghost use Rattle.osdp_controller.specs.Answers.{meaning_by_reading, meaning_by_reason, meaning_by_reply, meaning_of, is_not_taken};
 
 use osdp_frame::FrameView;
 use osdp_msg::{MsgFault, Nak, NakReason, Reply};
 
 /// What a reply says to a controller that waits for one.
 #[derive(Drop)]
-pub enum Answer {
+pub enum ReplyMeaning {
     /// BUSY: this delivery wasn't taken.
     NotTaken,
     /// NAK 1: this delivery came with wrong check characters.
@@ -21,11 +21,11 @@ pub enum Answer {
     Unreadable(u8),
 }
 
-impl Answer {
+impl ReplyMeaning {
     /// What a packet from a reader says.
     #[inline(never)]
-    pub(crate) fn of(frame: &FrameView<'_>) -> Answer
-        ensures { result ≡ answer_of frame.now }
+    pub(crate) fn of(frame: &FrameView<'_>) -> ReplyMeaning
+        ensures { result ≡ meaning_of frame.now }
     {
         let code = frame.code();
         by_reading(code, Reply::read(code, frame.payload()))
@@ -36,29 +36,30 @@ impl Answer {
         ensures { result ≡ is_not_taken self.now }
     {
         match self {
-            Answer::NotTaken => true,
-            Answer::Damaged | Answer::NumberRefused | Answer::Plain(_) | Answer::Unreadable(_) => {
-                false
-            }
+            ReplyMeaning::NotTaken => true,
+            ReplyMeaning::Damaged
+            | ReplyMeaning::NumberRefused
+            | ReplyMeaning::Plain(_)
+            | ReplyMeaning::Unreadable(_) => { false }
         }
     }
 }
 
 /// The answer that is read from a code, or that nothing is.
-fn by_reading(code: u8, reading: Result<Reply, MsgFault>) -> Answer
-    ensures { result ≡ answer_by_reading code reading }
+fn by_reading(code: u8, reading: Result<Reply, MsgFault>) -> ReplyMeaning
+    ensures { result ≡ meaning_by_reading code reading }
 {
     match reading {
         Ok(reply) => by_reply(reply),
-        Err(_) => Answer::Unreadable(code),
+        Err(_) => ReplyMeaning::Unreadable(code),
     }
 }
 
-fn by_reply(reply: Reply) -> Answer
-    ensures { result ≡ answer_by_reply reply }
+fn by_reply(reply: Reply) -> ReplyMeaning
+    ensures { result ≡ meaning_by_reply reply }
 {
     match reply {
-        Reply::Busy => Answer::NotTaken,
+        Reply::Busy => ReplyMeaning::NotTaken,
         Reply::Nak(nak) => by_reason(nak),
         Reply::Ack
         | Reply::PdId(_)
@@ -71,17 +72,17 @@ fn by_reply(reply: Reply) -> Answer
         | Reply::Formatted(_)
         | Reply::Keypad(_)
         | Reply::Com(_)
-        | Reply::MakerReply(_) => Answer::Plain(reply),
+        | Reply::MakerReply(_) => ReplyMeaning::Plain(reply),
     }
 }
 
 /// The reason alone decides, whatever detail follows.
-fn by_reason(nak: Nak) -> Answer
-    ensures { result ≡ answer_by_reason nak.reason nak }
+fn by_reason(nak: Nak) -> ReplyMeaning
+    ensures { result ≡ meaning_by_reason nak.reason nak }
 {
     match nak.reason {
-        NakReason::CheckCharacters => Answer::Damaged,
-        NakReason::UnexpectedSequence => Answer::NumberRefused,
+        NakReason::CheckCharacters => ReplyMeaning::Damaged,
+        NakReason::UnexpectedSequence => ReplyMeaning::NumberRefused,
         NakReason::CommandLength
         | NakReason::UnknownCommand
         | NakReason::SecurityBlock
@@ -89,6 +90,6 @@ fn by_reason(nak: Nak) -> Answer
         | NakReason::BiometricType
         | NakReason::BiometricFormat
         | NakReason::RecordNotProcessed
-        | NakReason::Other(_) => Answer::Plain(Reply::Nak(nak)),
+        | NakReason::Other(_) => ReplyMeaning::Plain(Reply::Nak(nak)),
     }
 }

@@ -6,7 +6,7 @@ use Rattle.osdp_reader_laws.proofs.Keeping.{keeps_reply, none_is_some}
 use Rattle.osdp_reader_laws.proofs.Offering.{none_offered, offer_stays, outcome_offer, submit_offer}
 use Rattle.osdp_reader_laws.proofs.Outcomes.{outcome_keeps}
 use Rattle.osdp_reader_laws.proofs.Room.{keeps_room, submit_room}
-use Rattle.osdp_reader_laws.proofs.stays_well.Goals as goal
+use Rattle.osdp_reader_laws.proofs.reader_stays_well.Goals as goal
 
 pub returns-clause-reply : goal.returns-clause-reply
 returns-clause-reply g c = (

@@ -1,5 +1,5 @@
 use Rattle.osdp_sim_bus_laws.proofs.Rows.{all_in_a_row}
-use Rattle.osdp_sim_bus_laws.proofs.stays_in_a_row.Goals as goal
+use Rattle.osdp_sim_bus_laws.proofs.each_account_stays_in_a_row.Goals as goal
 
 pub returns : goal.returns
 returns g c =

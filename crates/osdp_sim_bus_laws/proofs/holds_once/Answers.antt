@@ -1,5 +1,0 @@
-use Rattle.osdp_sim_bus_laws.proofs.OneSession.{all_once}
-use Rattle.osdp_sim_bus_laws.proofs.holds_once.Goals as goal
-
-pub returns : goal.returns
-returns g c = all_once g.H.Handler.answer_of g.H.Handler.after c.stays_in_a_row.ensures
