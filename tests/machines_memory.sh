@@ -11,6 +11,17 @@ fail() {
   exit 1
 }
 
+# Runs the tests of the crate with allocation $2 refused; $3 is the test that then tells out of memory, $1 whose it is.
+refuse() {
+  tried=$(rt try --test --fail-alloc "$2" 2>&1)
+  grep -q "test $3 ... ok" <<<"$tried" || fail "$1: out of memory was not told"
+}
+
+# Whether the test $3 of what was tried last ended as $4 says.
+ended() {
+  grep -q "test $3 ... $4" <<<"$tried" || fail "$1: allocation $2 is not as it should be"
+}
+
 # These make one machine and need it.
 tests=(
   reader::an_event_is_told_until_the_next_number
@@ -23,7 +34,7 @@ tests=(
 first=$(rt try --test --fail-alloc 1 2>&1)
 second=$(rt try --test --fail-alloc 2 2>&1)
 for machine in reader controller; do
-  grep -q "test $machine::want_of_memory_is_told ... ok" <<<"$first" || fail "$machine: out of memory was not told"
+  grep -q "test $machine::out_of_memory_is_told ... ok" <<<"$first" || fail "$machine: out of memory was not told"
 done
 for name in "${tests[@]}"; do
   grep -q "test $name ... FAILED" <<<"$first" || fail "$name: no allocation was refused"
@@ -33,25 +44,23 @@ done
 cd ../osdp_sim_tests || exit 1
 # Ten to set up; three that ask beforehand for the room that the commands of the schedule may take, without which it goes on; four by the steps.
 for number in 1 13 17 18; do
-  tried=$(rt try --test --fail-alloc "$number" 2>&1)
-  grep -q "test refusals::want_of_memory_is_told ... ok" <<<"$tried" || fail "simulated line: out of memory was not told"
+  refuse 'simulated line' "$number" refusals::out_of_memory_is_told
   case "$number" in
-    13 | 18) needed="ok" ;;
-    *) needed="FAILED" ;;
+    13 | 18) needed=ok ;;
+    *) needed=FAILED ;;
   esac
-  grep -q "test refusals::memory_is_needed ... $needed" <<<"$tried" || fail "simulated line: allocation $number is not as it should be"
+  ended 'simulated line' "$number" refusals::memory_is_needed "$needed"
 done
 
 cd ../osdp_bus_tests || exit 1
 for number in 1 2 3 4; do
-  tried=$(rt try --test --fail-alloc "$number" 2>&1)
-  grep -q "test reservations::out_of_memory_is_told ... ok" <<<"$tried" || fail "bus: out of memory was not told, or the bus has changed"
-  one="ok"
-  [ "$number" -le 2 ] && one="FAILED"
-  two="ok"
-  [ "$number" -le 3 ] && two="FAILED"
-  grep -q "test turns::runs_end ... $one" <<<"$tried" || fail "bus of one device: allocation $number is not as it should be"
+  refuse bus "$number" reservations::out_of_memory_is_told
+  one=ok
+  [ "$number" -le 2 ] && one=FAILED
+  two=ok
+  [ "$number" -le 3 ] && two=FAILED
+  ended 'bus of one device' "$number" turns::runs_end "$one"
   for name in two_devices_take_turns a_pause_holds_the_line; do
-    grep -q "test turns::$name ... $two" <<<"$tried" || fail "bus of two devices: allocation $number is not as it should be"
+    ended 'bus of two devices' "$number" "turns::$name" "$two"
   done
 done

@@ -33,44 +33,36 @@ wants() {
   cmp -s "$out" "$work/out" || fault "$name: other text on standard output"
 }
 
-# Each read fails in turn: $1 is what is tried, $2 the error's number, $3 the status and $4 the text without a failure.
-fail_each_read() {
-  local name=$1 with=$2 right=$3 error=$4 number got
-  for ((number = 1; ; number++)); do
-    sim_with FAILED_READ=$number FAILED_WITH="$with"
-    got=$?
-    [ -e "$work/mark" ] || break
-    wants "$name: read $number fails by $with" "$got" 3 $'osdp: read failed\n' /dev/null
-  done
-  wants "$name: no read fails" "$got" "$right" "$error" "$work/right"
+# Each read or each write fails in turn: $1 is what is tried, $2 which of the two, $3 the error's number, $4 the status and $5 the text
+# without a failure.
+fail_each_call() {
+  local name=$1 call=$2 with=$3 right=$4 error=$5 number got least
   # The end of the input is a read of its own.
-  [ "$number" -ge $(($(stat -c %s "$work/in") / most + 2)) ] || fault "$name: only $((number - 1)) reads failed"
-  echo "$name: $((number - 1)) reads failed in turn by $with"
-}
-
-# .. and each write.
-fail_each_write() {
-  local name=$1 with=$2 right=$3 error=$4 number got
+  least=$(($(stat -c %s "$work/in") / most + 2))
+  [ "$call" = read ] || least=$(($(stat -c %s "$work/right") / most + 1))
   for ((number = 1; ; number++)); do
-    sim_with FAILED_WRITE=$number FAILED_WITH="$with"
+    sim_with "FAILED_${call^^}=$number" FAILED_WITH="$with"
     got=$?
     [ -e "$work/mark" ] || break
-    head -c $(((number - 1) * most)) "$work/right" >"$work/part"
-    wants "$name: write $number fails by $with" "$got" 3 $'osdp: write failed\n' "$work/part"
+    # What was written before the write that failed; `sim` writes once it has read all.
+    : >"$work/part"
+    [ "$call" = read ] || head -c $(((number - 1) * most)) "$work/right" >"$work/part"
+    wants "$name: $call $number fails by $with" "$got" 3 "osdp: $call failed"$'\n' "$work/part"
   done
-  wants "$name: no write fails" "$got" "$right" "$error" "$work/right"
-  [ "$number" -gt $(($(stat -c %s "$work/right") / most)) ] || fault "$name: only $((number - 1)) writes failed"
-  echo "$name: $((number - 1)) writes failed in turn by $with"
+  wants "$name: no $call fails" "$got" "$right" "$error" "$work/right"
+  [ "$number" -ge "$least" ] || fault "$name: only $((number - 1)) calls of $call failed"
+  echo "$name: $((number - 1)) calls of $call failed in turn by $with"
 }
 
 # $1: what is tried; $2 and $3: the status and the text on standard error without a failure. The script is $work/in.
 fail_each() {
-  local name=$1 right=$2 error=$3 with
+  local name=$1 right=$2 error=$3 with call
   "$program" sim <"$work/in" >"$work/right" 2>/dev/null
   # EIO and EINTR
   for with in 5 4; do
-    fail_each_read "$name" "$with" "$right" "$error"
-    fail_each_write "$name" "$with" "$right" "$error"
+    for call in read write; do
+      fail_each_call "$name" "$call" "$with" "$right" "$error"
+    done
   done
 }
 

@@ -1,6 +1,7 @@
 //! Commands: views over a packet's bytes, or a few fields.
 
 use crate::bytes::Sink;
+use std::marker::PhantomData;
 
 /// The most data bytes that a message has.
 pub const MOST_DATA: usize = 1432;
@@ -23,12 +24,14 @@ pub struct OutputRecord {
 }
 
 impl OutputRecord {
-    pub const SIZE: usize = 4;
-
     pub fn bytes(&self) -> [u8; 4] {
         let timer = self.timer.to_le_bytes();
         [self.output, self.control, timer[0], timer[1]]
     }
+}
+
+impl Record for OutputRecord {
+    const SIZE: usize = 4;
 
     fn of(bytes: &[u8]) -> OutputRecord {
         OutputRecord { output: bytes[0], control: bytes[1], timer: u16::from_le_bytes([bytes[2], bytes[3]]) }
@@ -63,8 +66,8 @@ pub struct LedRecord {
     pub permanent: Light,
 }
 
-impl LedRecord {
-    pub const SIZE: usize = 14;
+impl Record for LedRecord {
+    const SIZE: usize = 14;
 
     fn of(bytes: &[u8]) -> LedRecord {
         LedRecord {
@@ -77,47 +80,39 @@ impl LedRecord {
     }
 }
 
-/// The records of an OUT, one or more.
-#[derive(Clone, Copy, Debug, PartialEq, Eq)]
-pub struct Outputs<'a>(&'a [u8]);
+/// What an OUT or an LED has one or more of.
+pub trait Record {
+    /// In bytes.
+    const SIZE: usize;
 
-impl<'a> Outputs<'a> {
-    /// None where the bytes aren't 1 to 358 records.
-    pub fn new(bytes: &'a [u8]) -> Option<Outputs<'a>> {
-        is_table(bytes, OutputRecord::SIZE).then_some(Outputs(bytes))
-    }
-
-    pub fn records(&self) -> impl Iterator<Item = OutputRecord> + 'a {
-        self.0.chunks_exact(OutputRecord::SIZE).map(OutputRecord::of)
-    }
+    fn of(bytes: &[u8]) -> Self;
 }
 
-/// The records of an LED, one or more.
+/// The records of an OUT or of an LED: one or more, as many as a message holds.
 #[derive(Clone, Copy, Debug, PartialEq, Eq)]
-pub struct Leds<'a>(&'a [u8]);
+pub struct Records<'a, R>(&'a [u8], PhantomData<R>);
 
-impl<'a> Leds<'a> {
-    /// None where the bytes aren't 1 to 102 records.
-    pub fn new(bytes: &'a [u8]) -> Option<Leds<'a>> {
-        is_table(bytes, LedRecord::SIZE).then_some(Leds(bytes))
+pub type Outputs<'a> = Records<'a, OutputRecord>;
+pub type Leds<'a> = Records<'a, LedRecord>;
+
+impl<'a, R: Record> Records<'a, R> {
+    /// None where the bytes are no such records.
+    pub fn new(bytes: &'a [u8]) -> Option<Records<'a, R>> {
+        let is_whole = !bytes.is_empty() && bytes.len() <= MOST_DATA && bytes.len().is_multiple_of(R::SIZE);
+        is_whole.then_some(Records(bytes, PhantomData))
     }
 
-    pub fn records(&self) -> impl Iterator<Item = LedRecord> + 'a {
-        self.0.chunks_exact(LedRecord::SIZE).map(LedRecord::of)
+    pub fn records(&self) -> impl Iterator<Item = R> + use<'a, R> {
+        self.0.chunks_exact(R::SIZE).map(R::of)
     }
-}
-
-fn is_table(bytes: &[u8], size: usize) -> bool {
-    !bytes.is_empty() && bytes.len() <= MOST_DATA && bytes.len().is_multiple_of(size)
 }
 
 #[derive(Clone, Copy, Debug, PartialEq, Eq)]
 pub struct Buzzer {
     pub reader: u8,
     pub tone: u8,
-    /// Times are in 100 ms.
-    pub on_time: u8,
-    pub off_time: u8,
+    /// How long it is on and then off, in 100 ms.
+    pub times: [u8; 2],
     /// 0 is until another command.
     pub count: u8,
 }
@@ -206,7 +201,7 @@ impl<'a> Command<'a> {
     fn read_fields(code: u8, data: &'a [u8]) -> Result<Command<'a>, Fault> {
         let fits = data.len() <= MOST_DATA;
         match (code, data) {
-            (0x6a, &[reader, tone, on_time, off_time, count]) => Ok(Command::Buzzer(Buzzer { reader, tone, on_time, off_time, count })),
+            (0x6a, &[reader, tone, on, off, count]) => Ok(Command::Buzzer(Buzzer { reader, tone, times: [on, off], count })),
             (0x6b, &[reader, command, time, row, column, length, ref characters @ ..]) if fits => {
                 if usize::from(length) != characters.len() {
                     return Err(Fault::Count);
@@ -244,7 +239,7 @@ impl<'a> Command<'a> {
                 to.put(&[0x69]);
                 to.put(records.0);
             }
-            Command::Buzzer(b) => to.put(&[0x6a, b.reader, b.tone, b.on_time, b.off_time, b.count]),
+            Command::Buzzer(b) => to.put(&[0x6a, b.reader, b.tone, b.times[0], b.times[1], b.count]),
             Command::Text(text) => {
                 to.put(&[0x6b, text.reader, text.command, text.time, text.row, text.column, text.characters.len() as u8]);
                 to.put(text.characters);

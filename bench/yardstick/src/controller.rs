@@ -11,23 +11,31 @@ pub struct Settings {
     /// 0 to 126.
     pub address: u8,
     pub crc: bool,
-    pub reply_wait: u32,
-    pub poll_interval: u32,
+    pub waits: Waits,
     /// How often a frame is sent while no answer comes, 1 to 255.
     pub sends: u8,
-    pub busy_wait: u32,
     /// How many BUSY answers an exchange may have.
     pub busy_limit: u8,
-    pub quiet_wait: u32,
+}
+
+/// How long it waits: for a reply, from an answer to the next POLL, after a BUSY, and before it opens a session.
+#[derive(Clone, Copy, Debug, PartialEq, Eq)]
+pub struct Waits {
+    pub reply: u32,
+    pub poll: u32,
+    pub busy: u32,
+    pub quiet: u32,
 }
 
 impl Settings {
     pub const fn new(address: u8, crc: bool) -> Settings {
-        Settings { address, crc, reply_wait: 200, poll_interval: 50, sends: 3, busy_wait: 50, busy_limit: 20, quiet_wait: 400 }
+        let waits = Waits { reply: 200, poll: 50, busy: 50, quiet: 400 };
+        Settings { address, crc, waits, sends: 3, busy_limit: 20 }
     }
 
     fn are_in_range(&self) -> bool {
-        let times = [self.reply_wait, self.poll_interval, self.busy_wait, self.quiet_wait];
+        let Waits { reply, poll, busy, quiet } = self.waits;
+        let times = [reply, poll, busy, quiet];
         self.address < CONFIGURATION && self.sends > 0 && times.iter().all(|time| (1..=3_600_000).contains(time))
     }
 }
@@ -160,7 +168,7 @@ impl Controller {
             return Err(Refusal::NotClosed);
         }
         self.greatest = self.greatest.max(now);
-        self.state = State::Quiet { until: self.after(self.settings.quiet_wait) };
+        self.state = State::Quiet { until: self.after(self.settings.waits.quiet) };
         Ok(())
     }
 
@@ -253,7 +261,7 @@ impl Controller {
     }
 
     fn send(&mut self, sends: u8, busies: u8) -> Step<'_> {
-        self.state = State::Waiting { until: self.after(self.settings.reply_wait), sends, busies };
+        self.state = State::Waiting { until: self.after(self.settings.waits.reply), sends, busies };
         self.sent += 1;
         let head = Head::plain(false, self.settings.address, self.number, self.settings.crc);
         Step::Send(View { head, body: self.asked.as_slice() })
@@ -314,7 +322,7 @@ impl Controller {
         if busies == self.settings.busy_limit {
             return Some(self.lose(Cause::TooBusy));
         }
-        self.state = State::Pausing { until: self.after(self.settings.busy_wait), busies: busies + 1 };
+        self.state = State::Pausing { until: self.after(self.settings.waits.busy), busies: busies + 1 };
         None
     }
 
@@ -360,6 +368,6 @@ impl Controller {
 
     /// The exchange has ended, and a POLL is due after the interval.
     fn rest(&mut self) {
-        self.state = State::Idle { due: self.after(self.settings.poll_interval) };
+        self.state = State::Idle { due: self.after(self.settings.waits.poll) };
     }
 }

@@ -19,32 +19,9 @@ impl NakReason {
     pub const RECORD: NakReason = NakReason(9);
 }
 
-/// What a device is.
+/// What a device is, as it goes over the line: vendor (3 bytes), model, version, serial number (4), firmware (3).
 #[derive(Clone, Copy, Debug, PartialEq, Eq)]
-pub struct PdId {
-    pub vendor: [u8; 3],
-    pub model: u8,
-    pub version: u8,
-    pub serial: u32,
-    pub firmware: [u8; 3],
-}
-
-impl PdId {
-    fn of(b: &[u8; 12]) -> PdId {
-        PdId {
-            vendor: [b[0], b[1], b[2]],
-            model: b[3],
-            version: b[4],
-            serial: u32::from_le_bytes([b[5], b[6], b[7], b[8]]),
-            firmware: [b[9], b[10], b[11]],
-        }
-    }
-
-    fn write(&self, to: &mut impl Sink) {
-        let (v, s, f) = (self.vendor, self.serial.to_le_bytes(), self.firmware);
-        to.put(&[0x45, v[0], v[1], v[2], self.model, self.version, s[0], s[1], s[2], s[3], f[0], f[1], f[2]]);
-    }
-}
+pub struct PdId(pub [u8; 12]);
 
 /// What a device can do.
 #[derive(Clone, Copy, Debug, PartialEq, Eq)]
@@ -192,7 +169,7 @@ impl<'a> Reply<'a> {
         let fits = data.len() <= MOST_DATA;
         match (code, data) {
             (0x41, &[reason, ref detail @ ..]) if fits => Ok(Reply::Nak(NakReason(reason), detail)),
-            (0x45, data) => data.try_into().map(|data| Reply::PdId(PdId::of(data))).map_err(|_| Fault::Length),
+            (0x45, data) => data.try_into().map(|data| Reply::PdId(PdId(data))).map_err(|_| Fault::Length),
             (0x46, data) => PdCap::new(data).map(Reply::PdCap).ok_or(Fault::Length),
             (0x54, &[address, a, b, c, d]) => Ok(Reply::Com(Communication::of(address, [a, b, c, d]))),
             (0x79, []) => Ok(Reply::Busy),
@@ -217,7 +194,10 @@ impl<'a> Reply<'a> {
                 to.put(&[0x41, reason.0]);
                 to.put(detail);
             }
-            Reply::PdId(id) => id.write(to),
+            Reply::PdId(id) => {
+                to.put(&[0x45]);
+                to.put(&id.0);
+            }
             Reply::PdCap(caps) => write_list(0x46, caps.0, to),
             Reply::Event(event) => event.write(to),
             Reply::Com(communication) => communication.write(0x54, to),

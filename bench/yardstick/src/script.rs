@@ -95,7 +95,8 @@ fn settings(lines: &[Line<'_>]) -> Option<SimConfig> {
     let [check, reader] = lines else { return None };
     let (["check", check], ["reader", address, events]) = (&check.words[..], &reader.words[..]) else { return None };
     let address = address.parse().ok()?;
-    let id = PdId { vendor: VENDOR, model: 1, version: 1, serial: 1, firmware: [1, 0, 0] };
+    let [a, b, c] = VENDOR;
+    let id = PdId([a, b, c, 1, 1, 1, 0, 0, 0, 1, 0, 0]);
     Some(SimConfig {
         reader: reader::Settings { address, id, caps: vec![2, 1, 8, 8, 1, 0] },
         events: events.parse().ok()?,

@@ -66,18 +66,6 @@ impl Messages {
     }
 }
 
-/// How long the lists of an account were when a session began.
-#[derive(Clone, Copy, Debug, PartialEq, Eq)]
-pub struct Lengths {
-    pub issued: usize,
-    pub taken: usize,
-    pub settled: usize,
-    pub unsettled: usize,
-    pub queued: usize,
-    pub reported: usize,
-    pub ends: usize,
-}
-
 /// What a schedule came to.
 #[derive(Clone, Debug, Default, PartialEq, Eq)]
 pub struct Account {
@@ -91,20 +79,15 @@ pub struct Account {
     pub queued: Messages,
     pub reported: Messages,
     pub ends: Vec<End>,
-    pub sessions: Vec<Lengths>,
+    /// How long the lists above were, that of answers left out, when each session began.
+    pub sessions: Vec<[usize; 7]>,
 }
 
 impl Account {
     fn begin(&mut self) {
-        self.sessions.push(Lengths {
-            issued: self.issued.len(),
-            taken: self.taken.len(),
-            settled: self.settled.len(),
-            unsettled: self.unsettled.len(),
-            queued: self.queued.len(),
-            reported: self.reported.len(),
-            ends: self.ends.len(),
-        });
+        let [issued, taken, settled] = [&self.issued, &self.taken, &self.settled].map(Messages::len);
+        let [unsettled, queued, reported] = [&self.unsettled, &self.queued, &self.reported].map(Messages::len);
+        self.sessions.push([issued, taken, settled, unsettled, queued, reported, self.ends.len()]);
     }
 
     fn settle(&mut self, command: Command<'_>, write: impl FnOnce(&mut Vec<u8>)) {

@@ -2,7 +2,7 @@
 
 use crate::bytes::Burst;
 use crate::commands::{Command, OutputRecord, Outputs};
-use crate::controller::{self, Controller, Step};
+use crate::controller::{self, Controller, Step, Waits};
 use crate::packets::{crc, Framer, Head, Item, View};
 use crate::reader::{self, Answer, Handler, Reader, Response};
 use crate::replies::PdId;
@@ -28,12 +28,14 @@ const fn asked(number: u8, body: &[u8]) -> View<'_> {
 }
 
 fn reader_settings() -> reader::Settings {
-    let id = PdId { vendor: [1, 2, 3], model: 1, version: 1, serial: 1, firmware: [1, 0, 0] };
+    let id = PdId([1, 2, 3, 1, 1, 1, 0, 0, 0, 1, 0, 0]);
     reader::Settings { address: ADDRESS, id, caps: Vec::new() }
 }
 
 fn controller_settings(poll_interval: u32) -> controller::Settings {
-    controller::Settings { poll_interval, quiet_wait: 1, ..controller::Settings::new(ADDRESS, true) }
+    let settings = controller::Settings::new(ADDRESS, true);
+    let waits = Waits { poll: poll_interval, quiet: 1, ..settings.waits };
+    controller::Settings { waits, ..settings }
 }
 
 /// Both ends of a link, with the session open.

@@ -2,12 +2,12 @@
 
 use yardstick::bytes::Burst;
 use yardstick::commands::{Command, Communication, Outputs};
-use yardstick::controller::{self, Cause, Controller, Refusal, Report, Step};
+use yardstick::controller::{self, Cause, Controller, Refusal, Report, Step, Waits};
 use yardstick::packets::{Head, View};
 use yardstick::reader::{self, Answer, Full, Handler, OutOfRange, Reader, Response};
 use yardstick::replies::{Event, Keypad, NakReason, PdId, Reply};
 
-const ID: PdId = PdId { vendor: [0x53, 0x49, 0x4d], model: 1, version: 1, serial: 1, firmware: [1, 0, 0] };
+const ID: PdId = PdId([0x53, 0x49, 0x4d, 1, 1, 1, 0, 0, 0, 1, 0, 0]);
 
 /// Counts what it is told, and knows one output.
 struct Door {
@@ -186,8 +186,8 @@ fn refusals_of_a_controller() {
     let wrong = [
         controller::Settings { address: 127, ..settings },
         controller::Settings { sends: 0, ..settings },
-        controller::Settings { reply_wait: 0, ..settings },
-        controller::Settings { quiet_wait: 3_600_001, ..settings },
+        controller::Settings { waits: Waits { reply: 0, ..settings.waits }, ..settings },
+        controller::Settings { waits: Waits { quiet: 3_600_001, ..settings.waits }, ..settings },
     ];
     for settings in wrong {
         assert_eq!(Controller::new(settings, 1).err(), Some(Refusal::OutOfRange));

@@ -15,7 +15,7 @@ const OUT: [u8; 4] = [0, 2, 0, 0];
 const PRESSED: Event<'_> = Event::Keypad(Keypad { reader: 0, digits: b"1" });
 
 fn run(steps: &[SimStep<'_>]) -> Result<Account, Box<Fault>> {
-    let id = PdId { vendor: [0x53, 0x49, 0x4d], model: 1, version: 1, serial: 1, firmware: [1, 0, 0] };
+    let id = PdId([0x53, 0x49, 0x4d, 1, 1, 1, 0, 0, 0, 1, 0, 0]);
     let reader = reader::Settings { address: 5, id, caps: Vec::new() };
     let controller = controller::Settings::new(5, true);
     run_session(&SimConfig { reader, events: 4, controller, commands: 4 }, Device, steps)
@@ -73,7 +73,7 @@ fn a_session_that_ends() {
     let account = run(&steps).unwrap();
     assert_eq!((account.taken.len(), account.unsettled.len(), account.reported.len()), (0, 1, 1));
     assert_eq!(account.ends, [End::Lost(Cause::NoReply)]);
-    assert_eq!(account.sessions[1].unsettled, 1);
+    assert_eq!(account.sessions[1][3], 1, "unsettled");
 }
 
 /// Busy, a repeated burst and damage change nothing but the time.

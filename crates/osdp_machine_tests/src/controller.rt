@@ -387,7 +387,7 @@ fn another_address(rt: HostRuntime) {
 
 /// The settings are judged first, and no call but the first asks for memory. A script refuses each allocation in turn.
 #[test]
-fn want_of_memory_is_told(rt: HostRuntime) {
+fn out_of_memory_is_told(rt: HostRuntime) {
     is_out_of_range(&rt, rt.alloc(), 0);
     is_out_of_range(&rt, rt.alloc(), 1025);
     match Controller::new(rt.alloc(), config(&rt), 4) {

@@ -357,7 +357,7 @@ fn readers_within_their_ranges(rt: HostRuntime) {
 
 /// Settings are judged before memory is asked for. Where it is refused, as `tests/machines_memory.sh` has it, that is the answer.
 #[test]
-fn want_of_memory_is_told(rt: HostRuntime) {
+fn out_of_memory_is_told(rt: HostRuntime) {
     is_out_of_range(&rt, rt.alloc(), 127, 1);
     is_out_of_range(&rt, rt.alloc(), 5, 1025);
     match made(&rt, rt.alloc(), 5, 4) {

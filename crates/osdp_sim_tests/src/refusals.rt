@@ -112,7 +112,7 @@ fn opens() -> [SimStep; 7] {
 
 /// Where memory is refused, as `tests/machines_memory.sh` has it, that is the answer, with the account of the steps before.
 #[test]
-fn want_of_memory_is_told(rt: HostRuntime) {
+fn out_of_memory_is_told(rt: HostRuntime) {
     match run_session(rt.alloc(), &config(&rt), Door::new(), &opens()) {
         Ok(account) => assert_eq!(rt; account.settled.len(), 1),
         Err(fault) => {
