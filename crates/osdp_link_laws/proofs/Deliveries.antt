@@ -142,15 +142,15 @@ module _ (fixed : ControllerConfig) {H : Type 0} (answer_of : H → Command → 
   FrontToController (Rest n x a) p l = Says fixed n a p
 
   -- what an answer of the exchange before, or BUSY, is to the current one
-  busy_is : Assumed → (p : Packet) → p ≡ answer fixed 0 reply.Busy → packets.answer_of p ≡ NotTaken
-  busy_is given p is = ap packets.answer_of is ∙ given.hears 0 reply.Busy tt
+  busy_is : Assumed → (p : Packet) → p ≡ answer fixed 0 reply.Busy → packets.meaning_of p ≡ NotTaken
+  busy_is given p is = ap packets.meaning_of is ∙ given.hears 0 reply.Busy tt
 
   plain_is : Assumed → (n : ℕ) (x : Exchange) (a : Reply) (p : Packet) → Acted settings.id n x a → p ≡ answer fixed n a
-      → packets.answer_of p ≡ Plain a
-  plain_is given n x a p acted is = ap packets.answer_of is ∙ given.hears n a acted.0.fits ∙ given.plain a acted.0.plain
+      → packets.meaning_of p ≡ Plain a
+  plain_is given n x a p acted is = ap packets.meaning_of is ∙ given.hears n a acted.0.fits ∙ given.plain a acted.0.plain
 
   old_is : Assumed → (past : Past) (p : Packet) → IsPast settings.id past → SaysOld fixed past p
-      → (packets.answer_of p ≡ NotTaken) ⊎ ((p.sequence ≢ number_after past) × ((r : Reply) × (packets.answer_of p ≡ Plain r)))
+      → (packets.meaning_of p ≡ NotTaken) ⊎ ((p.sequence ≢ number_after past) × ((r : Reply) × (packets.meaning_of p ≡ Plain r)))
   old_is given Start p acted is = inl (busy_is given p is)
   old_is given (After n y b) p acted (inl busy) = inl (busy_is given p busy)
   old_is given (After n y b) p acted (inr is) =

@@ -80,7 +80,7 @@ module _ (fixed : ControllerConfig) {H : Type 0} (answer_of : H → Command → 
   pub record Premises : Type 0 where
     pub device : fixed.address < 127
     pub reads : (x : Exchange) (n : ℕ) → CommandFits (exchange_command x) → command_in (frame fixed x n) ≡ Ok (exchange_command x)
-    pub hears : (n : ℕ) (r : Reply) → ReplyFits r → packets.answer_of (answer fixed n r) ≡ meaning_by_reply r
+    pub hears : (n : ℕ) (r : Reply) → ReplyFits r → packets.meaning_of (answer fixed n r) ≡ meaning_by_reply r
     pub plain : (r : Reply) → IsPlain r → meaning_by_reply r ≡ Plain r
     pub tells : TellsItsEvent
     pub plainly : AnswersPlainly answer_of after

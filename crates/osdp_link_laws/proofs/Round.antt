@@ -130,7 +130,7 @@ module _ (fixed : ControllerConfig) {H : Type 0} (answer_of : H → Command → 
       (λ fit line stays waits.
       let n = number_at at in
       let r = replies_at fixed answer_of after settings first given at l h is.out ready fit in
-      let says : packets.answer_of (answer fixed n r.0) ≡ Plain r.0 = given.hears n r.0 r.1.acted.0.fits ∙ given.plain r.0 r.1.acted.0.plain in
+      let says : packets.meaning_of (answer fixed n r.0) ≡ Plain r.0 = given.hears n r.0 r.1.acted.0.fits ∙ given.plain r.0 r.1.acted.0.plain in
       let settles = settles_now fixed settings.id (exchange_at at) n r.0 now l.controller.session waits is.session stays r.1.acted.1 says in
       record { a = r.0; replies = r.1; is = come_through now (exchange_at at) n r.0 l line quiet r.1.sent settles })
       fits asks none awaits
