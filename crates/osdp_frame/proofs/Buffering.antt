@@ -6,9 +6,9 @@ use Rattle.std.proofs.lemmas.List.{drop-take, drop-drop, take-take, take-append-
 use Rattle.osdp_check.specs.Checksum.{sum_from}
 use Rattle.osdp_check.specs.Crc.{crc_from}
 use Rattle.osdp_frame.specs.declared.buffer.Buffer.TheInside.{Inside}
-use Rattle.osdp_frame.specs.Buffered.{IsBuffer, buffered, bytes_of}
+use Rattle.osdp_frame.specs.Buffered.{Buffered, IsBuffer, buffered, bytes_of}
 use Rattle.osdp_frame.specs.Bytes.{AreBytes}
-use Rattle.osdp_frame.specs.Running.{Buffered, IsRunning}
+use Rattle.osdp_frame.specs.Running.{IsRunning}
 use Rattle.osdp_frame.proofs.Running.{crc_at, sum_at, slice-same, length-slice, running_append, running_drop, running_none}
 
 -- what is after the first items of a piece

@@ -2,10 +2,9 @@ use Rattle.std.proofs.Common.{◌≡◌, ℕ, ◌<◌, List, length, get_or, tak
 use Rattle.std.proofs.lemmas.Grind.{get_or_default_zero}
 use Rattle.osdp_check.specs.Checksum.{sum_from}
 use Rattle.osdp_check.specs.Crc.{crc_from}
-use Rattle.osdp_frame.specs.Buffered.{bytes_of}
+use Rattle.osdp_frame.specs.Buffered.{Buffered, bytes_of}
 use Rattle.osdp_frame.specs.Check.{check_of}
 use Rattle.osdp_frame.specs.declared.check_kind.CheckKind.TheVariants.{Sum, Crc}
-use Rattle.osdp_frame.specs.Running.{Buffered}
 use Rattle.osdp_frame.proofs.Buffering.{front_of}
 use Rattle.osdp_frame.proofs.buffer.Buffer.check.Goals as goal
 
