@@ -1,10 +1,15 @@
 -- What a buffer's fields say of what it holds.
-use Rattle.std.proofs.Common.{◌≡◌, ℕ, ◌+◌, ◌-◌, ◌≤◌, List, ◌++◌, length, take, drop, slice_range, max, sym, ap, subst, ◌∙◌, arith, inl, inr}
+use Rattle.std.proofs.Common.{◌≡◌, ℕ, ◌+◌, ◌-◌, ◌<◌, ◌≤◌, List, ◌++◌, length, take, drop, get_or, slice_range, max, sym, ap, subst, ◌∙◌, arith, inl, inr}
 use Rattle.std.proofs.lemmas.Bool.{cases_lt}
 use Rattle.std.proofs.Math.Seq.{take-add}
 use Rattle.std.proofs.lemmas.List.{drop-take, drop-drop, take-take, take-append-le, length-take}
+use Rattle.osdp_check.specs.Checksum.{sum_from}
+use Rattle.osdp_check.specs.Crc.{crc_from}
+use Rattle.osdp_frame.specs.declared.buffer.Buffer.TheInside.{Inside}
+use Rattle.osdp_frame.specs.Buffered.{Buffered, IsBuffer, buffered, bytes_of}
+use Rattle.osdp_frame.specs.Bytes.{AreBytes}
 use Rattle.osdp_frame.specs.Running.{IsRunning}
-use Rattle.osdp_frame.proofs.Running.{slice-same, length-slice, running_append, running_drop, running_none}
+use Rattle.osdp_frame.proofs.Running.{crc_at, sum_at, slice-same, length-slice, running_append, running_drop, running_none}
 
 -- what is after the first items of a piece
 pub slice_after : (b : List ℕ) (from to size : ℕ) → from + size ≤ to → slice_range b (from + size) to ≡ drop size (slice_range b from to)
@@ -76,3 +81,24 @@ run_further go old new bytes from ran end to order ahead within there same run o
     let all : take n held ++ more ≡ take (end - from) held =
     ap (λ l. take n held ++ l) next ∙ sym (take-add n m held) ∙ ap (λ k. take k held) (let e : n + m ≡ end - from = omega arith in e) in
     subst (λ l. IsRunning go (slice_range new from (end + 1)) l) all (subst (λ k. IsRunning go (slice_range new from k) (take n held ++ more)) whole joined)
+
+-- how long the front of what is held is, and how the running checks have gone on over it
+pub record IsFront (b : Inside) (count : ℕ) : Type 0 where
+  pub size : length (take count (bytes_of b)) ≡ count
+  pub sum : get_or b.sums (b.from + count) 0 ≡ sum_from (get_or b.sums b.from 0) (take count (bytes_of b))
+  pub crc : get_or b.crcs (b.from + count) 0 ≡ crc_from (get_or b.crcs b.from 0) (take count (bytes_of b))
+
+pub front_of : (b : Inside) (v : Buffered) (count : ℕ) → buffered b ≡ v → IsBuffer b → AreBytes v.bytes → v.run ≤ length v.bytes → 0 < count → count ≤ v.run
+    → IsFront b count
+front_of b v count view is fits order some run =
+    let held = bytes_of b in
+    let size = ap (λ (w : Buffered). length w.bytes) view in
+    let ran = ap (λ (w : Buffered). w.run) view in
+    let there : count ≤ length held = omega (arith, order, run) in
+    let within : b.from + count ≤ b.ran = omega (arith, run) in
+    let bytes : AreBytes held = subst AreBytes (sym (ap (λ (w : Buffered). w.bytes) view)) fits in
+    record {
+      size = omega (arith, length-take count held);
+      sum = sum_at b.sums held b.from b.ran count bytes is.sums some (omega arith) there;
+      crc = crc_at b.crcs held b.from b.ran count bytes is.crcs some (omega arith) there;
+    }

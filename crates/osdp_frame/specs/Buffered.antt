@@ -4,7 +4,12 @@ use Rattle.osdp_check.specs.Checksum.{sum_from}
 use Rattle.osdp_check.specs.Crc.{crc_from}
 use Rattle.osdp_frame.specs.declared.buffer.Buffer.TheInside.{Inside}
 use Rattle.osdp_frame.specs.Packet.{largest}
-use Rattle.osdp_frame.specs.Running.{Buffered, IsRunning}
+use Rattle.osdp_frame.specs.Running.{IsRunning}
+
+-- what a buffer holds: its bytes, and how many of them the running checks have gone over
+pub record Buffered : Type 0 where
+  pub bytes : List ℕ
+  pub run : ℕ
 
 abbrev pub bytes_of : Inside → List ℕ
 bytes_of b = slice_range b.bytes b.from b.to

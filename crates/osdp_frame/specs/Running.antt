@@ -5,8 +5,3 @@ use Rattle.std.specs.Prelude.{◌≡◌, ℕ, ◌+◌, ◌<◌, List, [], ◌∷
 abbrev pub IsRunning : (ℕ → List ℕ → ℕ) → List ℕ → List ℕ → Type 0
 IsRunning go_on states bytes =
     (k : ℕ) → k < length bytes → get_or states (k + 1) 0 ≡ go_on (get_or states k 0) (get_or bytes k 0 ∷ [])
-
--- what a buffer holds: its bytes, and how many of them the running checks have gone over
-pub record Buffered : Type 0 where
-  pub bytes : List ℕ
-  pub run : ℕ

@@ -33,11 +33,9 @@ pub struct Buffer {
 }
 
 impl Model for Buffer {
-    ghost use Rattle.osdp_frame.specs.Running.{Buffered};
+    ghost use Rattle.osdp_frame.specs.Buffered.{Buffered, buffered, IsBuffer};
 
     ghost Value = { Buffered };
-
-    ghost use Rattle.osdp_frame.specs.Buffered.{buffered, IsBuffer};
 
     ghost view = { buffered };
 

@@ -10,6 +10,7 @@ ghost use Rattle.osdp_frame.specs.First.{item_if, FirstFits, PacketFits};
 
 use crate::buffer::Buffer;
 use crate::bytes::{HEAD, LARGEST, START_OF_MESSAGE, check_bytes};
+use crate::view::Head;
 use crate::{Address, CheckKind, FrameFault, FrameView, Seq};
 use byteorder::{ByteOrder, LittleEndian};
 
@@ -89,17 +90,16 @@ pub fn packet_at(rest: &[u8], length: usize) -> FrameView<'_>
 {
     let check = check_kind(rest);
     let control = rest[4];
-    let block = control / 8 % 2 == 1;
     let body = &rest[HEAD..length - check.size()];
-    FrameView::of(
-        rest[1] > 127,
-        Address::of(rest[1]),
-        Seq::of(control),
+    let head = Head {
+        reply: rest[1] > 127,
+        address: Address::of(rest[1]),
+        seq: Seq::of(control),
         check,
-        block,
-        control / 16,
-        body,
-    )
+        block: control / 8 % 2 == 1,
+        reserved: control / 16,
+    };
+    FrameView::of(head, body)
 }
 
 /// What a start of message begins. A packet's check is computed only where its bytes are there.

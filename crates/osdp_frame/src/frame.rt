@@ -1,11 +1,12 @@
 //! A packet that holds its own bytes.
 
-ghost use Rattle.std.specs.Prelude.{◌≡◌, ◌≤◌, length};
+ghost use Rattle.std.specs.Prelude.{◌≡◌};
 ghost use Rattle.std.specs.Option.{SomeIff};
 ghost use Rattle.osdp_frame.specs.Packet.{IsPacket};
 ghost use Rattle.osdp_frame.specs.Packed.{packed};
 ghost use Rattle.osdp_frame.specs.Spelling.{Spells};
 
+use crate::view::Head;
 use crate::{Address, CheckKind, FrameView, Seq};
 use arrayvec::ArrayVec;
 use std::marker::Model;
@@ -16,33 +17,29 @@ pub type Burst = ArrayVec<u8, 1440>;
 /// A packet with a body of its own: at least one byte, and at most 1440 bytes in the whole packet.
 #[derive(Debug, Drop, PartialEq, Eq)]
 pub struct Frame {
-    reply: bool,
-    address: Address,
-    seq: Seq,
-    check: CheckKind,
-    block: bool,
-    reserved: u8,
+    head: Head,
     body: ArrayVec<u8, 1434>,
 }
 
 impl Model for Frame {
     ghost use Rattle.osdp_frame.specs.Packet.{Packet, IsPacket};
-    ghost use Rattle.osdp_frame.specs.Packed.{packed};
+    ghost use Rattle.osdp_frame.specs.Packed.{headed};
 
     ghost Value = { Packet };
 
-    ghost view = { λ f. packed f.reply f.address f.seq f.check f.block f.reserved f.body.items };
+    ghost view = { λ f. headed f.head f.body.items };
 
-    ghost invariant = { λ f.
-        IsPacket (packed f.reply f.address f.seq f.check f.block f.reserved f.body.items) };
+    ghost invariant = { λ f. IsPacket (headed f.head f.body.items) };
 
     ghost inverse = { λ p. record {
-      reply = p.reply;
-      address = p.address;
-      seq = p.sequence;
-      check = p.check;
-      block = p.block;
-      reserved = p.reserved;
+      head = record {
+        reply = p.reply;
+        address = p.address;
+        seq = p.sequence;
+        check = p.check;
+        block = p.block;
+        reserved = p.reserved;
+      };
       body = record { items = p.body };
     } };
 }
@@ -65,31 +62,15 @@ impl Frame {
             SomeIff result (IsPacket packet) packet }
     {
         let bytes = body.as_slice();
-        FrameView::new(reply, address, seq, check, block, reserved, bytes)?;
-        Some(Frame {
-            reply,
-            address,
-            seq,
-            check,
-            block,
-            reserved,
-            body,
-        })
+        let head = FrameView::new(reply, address, seq, check, block, reserved, bytes)?.head();
+        Some(Frame { head, body })
     }
 
     /// The packet, lent.
     pub fn view(&self) -> FrameView<'_>
         ensures { result ≡ self.now }
     {
-        FrameView::of(
-            self.reply,
-            self.address,
-            self.seq,
-            self.check,
-            self.block,
-            self.reserved,
-            self.body.as_slice(),
-        )
+        FrameView::of(self.head, self.body.as_slice())
     }
 
     /// The bytes of the packet, as they are sent.
@@ -114,30 +95,14 @@ impl Frame {
     }
 }
 
-/// The same bytes in a body of their own.
-fn body_of(bytes: &[u8]) -> ArrayVec<u8, 1434>
-    requires { length bytes.now ≤ 1434 }
-    ensures { result.items ≡ bytes.now }
-{
-    let mut body = ArrayVec::new();
-    let _ = body.try_extend_from_slice(bytes);
-    body
-}
-
 impl FrameView<'_> {
     /// An equal packet with a body of its own.
     pub fn to_frame(&self) -> Frame
         ensures { result ≡ self.now }
     {
-        let body = body_of(self.body());
         Frame {
-            reply: self.is_reply(),
-            address: self.address(),
-            seq: self.seq(),
-            check: self.check(),
-            block: self.has_block(),
-            reserved: self.reserved(),
-            body,
+            head: self.head(),
+            body: ArrayVec::try_from(self.body()).unwrap(),
         }
     }
 }

@@ -3,7 +3,7 @@
 ghost use Rattle.std.specs.Prelude.{◌≡◌, drop, slice_index};
 ghost use Rattle.std.specs.Option.{SomeIff};
 ghost use Rattle.osdp_frame.specs.Packet.{IsPacket};
-ghost use Rattle.osdp_frame.specs.Packed.{packed};
+ghost use Rattle.osdp_frame.specs.Packed.{headed, packed};
 ghost use Rattle.osdp_frame.specs.Spelling.{Spells, address_byte, control_byte};
 
 use crate::bytes::{HEAD, LARGEST, START_OF_MESSAGE, are_bytes, count_bytes, resize, write_packet};
@@ -14,25 +14,30 @@ use std::marker::Model;
 /// A packet whose body lies in somebody else's bytes.
 #[derive(Debug, Drop)]
 pub struct FrameView<'a> {
-    reply: bool,
-    address: Address,
-    seq: Seq,
-    check: CheckKind,
-    block: bool,
-    reserved: u8,
+    head: Head,
     body: &'a [u8],
+}
+
+/// What a packet says beside its body.
+#[derive(Clone, Copy, Debug, PartialEq, Eq)]
+pub struct Head {
+    pub reply: bool,
+    pub address: Address,
+    pub seq: Seq,
+    pub check: CheckKind,
+    pub block: bool,
+    pub reserved: u8,
 }
 
 impl<'a> Model for FrameView<'a> {
     ghost use Rattle.osdp_frame.specs.Packet.{Packet, IsPacket};
-    ghost use Rattle.osdp_frame.specs.Packed.{packed};
+    ghost use Rattle.osdp_frame.specs.Packed.{headed};
 
     ghost Value = { Packet };
 
-    ghost view = { λ v. packed v.reply v.address v.seq v.check v.block v.reserved v.body.now };
+    ghost view = { λ v. headed v.head v.body.now };
 
-    ghost invariant = { λ v.
-        IsPacket (packed v.reply v.address v.seq v.check v.block v.reserved v.body.now) };
+    ghost invariant = { λ v. IsPacket (headed v.head v.body.now) };
 }
 
 impl<'a> FrameView<'a> {
@@ -60,31 +65,30 @@ impl<'a> FrameView<'a> {
         }
         are_bytes(body);
         let _ranges = (address.get(), seq.get());
-        Some(FrameView::of(reply, address, seq, check, block, reserved, body))
-    }
-
-    /// The packet with these fields, which make one.
-    pub(crate) fn of(
-        reply: bool,
-        address: Address,
-        seq: Seq,
-        check: CheckKind,
-        block: bool,
-        reserved: u8,
-        body: &'a [u8],
-    ) -> FrameView<'a>
-        requires { IsPacket (packed reply address seq check block reserved body.now) }
-        ensures { result ≡ packed reply address seq check block reserved body.now }
-    {
-        FrameView {
+        let head = Head {
             reply,
             address,
             seq,
             check,
             block,
             reserved,
-            body,
-        }
+        };
+        Some(FrameView::of(head, body))
+    }
+
+    /// The packet with this head and this body, which make one.
+    pub(crate) fn of(head: Head, body: &'a [u8]) -> FrameView<'a>
+        requires { IsPacket (headed head body.now) }
+        ensures { result ≡ headed head body.now }
+    {
+        FrameView { head, body }
+    }
+
+    /// What it says beside its body.
+    pub(crate) fn head(&self) -> Head
+        ensures { headed result self.now.body ≡ self.now }
+    {
+        self.head
     }
 
     /// The bytes of the packet, as they are sent.
@@ -100,67 +104,67 @@ impl<'a> FrameView<'a> {
     pub fn encode_to(&self, out: &mut Burst)
         ensures { Spells self.now out.new.items }
     {
-        let length = HEAD + self.body.len() + self.check.size();
+        let length = HEAD + self.body.len() + self.head.check.size();
         let count = count_bytes(length as u16);
         let address = self.address_byte();
         let control = self.control_byte();
         let head = [START_OF_MESSAGE, address, count[0], count[1], control];
         resize(out, length);
-        write_packet(out.as_mut_slice(), head, self.body, self.check);
+        write_packet(out.as_mut_slice(), head, self.body, self.head.check);
     }
 
     /// The address, with its highest bit set in a reply.
     fn address_byte(&self) -> u8
         ensures { result ≡ address_byte self.now }
     {
-        self.address.get() + if self.reply { 128 } else { 0 }
+        self.head.address.get() + if self.head.reply { 128 } else { 0 }
     }
 
     /// The sequence number, the kind of the check, the mark of a security block and the reserved bits.
     fn control_byte(&self) -> u8
         ensures { result ≡ control_byte self.now }
     {
-        let check = match self.check {
+        let check = match self.head.check {
             CheckKind::Sum => 0,
             CheckKind::Crc => 4,
         };
-        let block = if self.block { 8 } else { 0 };
-        self.seq.get() + check + block + 16 * self.reserved
+        let block = if self.head.block { 8 } else { 0 };
+        self.head.seq.get() + check + block + 16 * self.head.reserved
     }
 
     /// Whether it comes from a device.
     pub fn is_reply(&self) -> bool
         ensures { result ≡ self.now.reply }
     {
-        self.reply
+        self.head.reply
     }
 
     /// The device that it comes from or goes to.
     pub fn address(&self) -> Address
         ensures { result ≡ self.now.address }
     {
-        self.address
+        self.head.address
     }
 
     /// Its sequence number.
     pub fn seq(&self) -> Seq
         ensures { result ≡ self.now.sequence }
     {
-        self.seq
+        self.head.seq
     }
 
     /// Which check it ends with.
     pub fn check(&self) -> CheckKind
         ensures { result ≡ self.now.check }
     {
-        self.check
+        self.head.check
     }
 
     /// Whether the body begins with a security block, which is left unread.
     pub fn has_block(&self) -> bool
         ensures { result ≡ self.now.block }
     {
-        self.block
+        self.head.block
     }
 
     /// The four high bits of the control byte, 0 to 15.
@@ -168,7 +172,7 @@ impl<'a> FrameView<'a> {
         ensures value { result ≡ self.now.reserved }
         ensures packet { IsPacket self.now }
     {
-        self.reserved
+        self.head.reserved
     }
 
     /// The code byte and the data.

@@ -278,39 +278,33 @@ parts_of_runs of by by_calls empty step none some (call ∷ calls) held run =
 
 taken_in : Call → Held → List ℕ
 taken_in (Push given) held = take (taken_count held given) given
-taken_in Gap held = []
-taken_in Advance held = []
+taken_in _ held = []
 
 taken_in-run : (call : Call) (held : Held) (run : Run) → (run_after call held run).bytes ≡ run.bytes ++ taken_in call held
 unfolding taken_in
 taken_in-run (Push given) held run = refl
-taken_in-run Gap held run = sym (append-nil run.bytes)
-taken_in-run Advance held run = sym (append-nil run.bytes)
+taken_in-run _ held run = sym (append-nil run.bytes)
 
 taken_in-calls : (call : Call) (calls : List Call) (held : Held)
     → bytes_taken (call ∷ calls) held ≡ taken_in call held ++ bytes_taken calls (after_call call held)
 unfolding taken_in
 taken_in-calls (Push given) calls held = refl
-taken_in-calls Gap calls held = refl
-taken_in-calls Advance calls held = refl
+taken_in-calls _ calls held = refl
 
 taken_off : Call → Held → List RunItem
-taken_off (Push given) held = []
-taken_off Gap held = []
 taken_off Advance held = option_to_list (decided held.ended held.bytes)
+taken_off _ held = []
 
 taken_off-run : (call : Call) (held : Held) (run : Run) → (run_after call held run).parts ≡ run.parts ++ taken_off call held
 unfolding taken_off
-taken_off-run (Push given) held run = sym (append-nil run.parts)
-taken_off-run Gap held run = sym (append-nil run.parts)
 taken_off-run Advance held run = refl
+taken_off-run _ held run = sym (append-nil run.parts)
 
 taken_off-calls : (call : Call) (calls : List Call) (held : Held)
     → items_taken (call ∷ calls) held ≡ taken_off call held ++ items_taken calls (after_call call held)
 unfolding taken_off
-taken_off-calls (Push given) calls held = refl
-taken_off-calls Gap calls held = refl
 taken_off-calls Advance calls held = refl
+taken_off-calls _ calls held = refl
 
 pub reads_each_run : (calls : List Call) → All IsOfBytes calls → ReadsEachRun calls
 reads_each_run calls of_bytes =

@@ -55,11 +55,18 @@ fn body_of(rt: &impl Abort, bytes: &[u8]) -> ArrayVec<u8, 1434> {
     body
 }
 
-fn made(rt: &impl Abort, fields: &Fields<'_>) -> Option<Frame> {
+/// What a call that takes these fields one by one, and a body, makes of them.
+fn built<B, P, New: Fn(bool, Address, Seq, CheckKind, bool, u8, B) -> Option<P>>(
+    rt: &impl Abort,
+    fields: &Fields<'_>,
+    body: B,
+    new: New,
+) -> Option<P>
+    requires { New.IsAlwaysCallable new }
+{
     let address = Address::new(fields.address).expect(rt, "an address");
     let seq = Seq::new(fields.seq).expect(rt, "a sequence number");
-    let body = body_of(rt, fields.body);
-    Frame::new(
+    new(
         fields.reply,
         address,
         seq,
@@ -70,19 +77,13 @@ fn made(rt: &impl Abort, fields: &Fields<'_>) -> Option<Frame> {
     )
 }
 
+fn made(rt: &impl Abort, fields: &Fields<'_>) -> Option<Frame> {
+    built(rt, fields, body_of(rt, fields.body), Frame::new)
+}
+
 /// The packet of these fields, with the body lent.
 fn lent<'a>(rt: &impl Abort, fields: &Fields<'a>) -> Option<FrameView<'a>> {
-    let address = Address::new(fields.address).expect(rt, "an address");
-    let seq = Seq::new(fields.seq).expect(rt, "a sequence number");
-    FrameView::new(
-        fields.reply,
-        address,
-        seq,
-        fields.check,
-        fields.block,
-        fields.reserved,
-        fields.body,
-    )
+    built(rt, fields, fields.body, FrameView::new)
 }
 
 /// The packet's parts are these fields.

@@ -8,25 +8,29 @@ use Rattle.osdp_reader.specs.declared.kind.Kind.TheVariants as kind
 use Rattle.osdp_reader.specs.declared.response.Response.{Response}
 use Rattle.osdp_reader.specs.declared.response.Response.TheVariants.{Silent, Secured, Zero, Repeat, Taken, Busy, Wrong}
 
--- which line of the table answered
-abbrev pub response_kind : Response → Kind
-response_kind Silent = kind.Silent
-response_kind (Secured burst) = kind.Secured
-response_kind (Zero command burst) = kind.Zero
-response_kind (Repeat burst) = kind.Repeat
-response_kind (Taken command burst) = kind.Taken
-response_kind (Busy burst) = kind.Busy
-response_kind (Wrong burst) = kind.Wrong
+-- the line of the table that answered, the command that was acted on and could be read, and the bytes that are sent back
+pub record Said : Type 0 where
+  pub kind : Kind
+  pub command : Option Command
+  pub bytes : List ℕ
 
--- the command that was acted on, where it could be read
+abbrev pub said_in : Response → Said
+said_in Silent = record { kind = kind.Silent; command = None; bytes = [] }
+said_in (Secured burst) = record { kind = kind.Secured; command = None; bytes = burst.items }
+said_in (Zero command burst) = record { kind = kind.Zero; command = command; bytes = burst.items }
+said_in (Repeat burst) = record { kind = kind.Repeat; command = None; bytes = burst.items }
+said_in (Taken command burst) = record { kind = kind.Taken; command = command; bytes = burst.items }
+said_in (Busy burst) = record { kind = kind.Busy; command = None; bytes = burst.items }
+said_in (Wrong burst) = record { kind = kind.Wrong; command = None; bytes = burst.items }
+
+abbrev pub response_kind : Response → Kind
+response_kind response = (said_in response).kind
+
 abbrev pub response_command : Response → Option Command
-response_command Silent = None
-response_command (Secured burst) = None
-response_command (Zero command burst) = command
-response_command (Repeat burst) = None
-response_command (Taken command burst) = command
-response_command (Busy burst) = None
-response_command (Wrong burst) = None
+response_command response = (said_in response).command
+
+abbrev pub response_bytes : Response → List ℕ
+response_bytes response = (said_in response).bytes
 
 -- a COMSET to a device's address, which is accepted: the address and the rate that it sets
 abbrev pub accepted_comset : Option Command → Option Communication
@@ -36,13 +40,3 @@ accepted_comset _ = None
 -- .. where one was acted on
 abbrev pub response_comset : Response → Option Communication
 response_comset response = accepted_comset (response_command response)
-
--- the bytes to send
-abbrev pub response_bytes : Response → List ℕ
-response_bytes Silent = []
-response_bytes (Secured burst) = burst.items
-response_bytes (Zero command burst) = burst.items
-response_bytes (Repeat burst) = burst.items
-response_bytes (Taken command burst) = burst.items
-response_bytes (Busy burst) = burst.items
-response_bytes (Wrong burst) = burst.items

@@ -78,20 +78,10 @@ impl EventQueue {
     pub fn told(&self, command: &Command) -> Option<&Event>
         ensures { option_map event_reply (option_copied result) ≡ event_for command.now self.now.events }
     {
-        match command {
-            Command::Poll => self.events.front(),
-            Command::Id(_)
-            | Command::Cap(_)
-            | Command::LocalStatus
-            | Command::InputStatus
-            | Command::OutputStatus
-            | Command::ReaderStatus
-            | Command::Output(_)
-            | Command::Led(_)
-            | Command::Buzzer(_)
-            | Command::Text(_)
-            | Command::Comset(_)
-            | Command::Maker(_) => None,
+        if let Command::Poll = command {
+            self.events.front()
+        } else {
+            None
         }
     }
 

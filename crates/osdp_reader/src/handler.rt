@@ -1,6 +1,6 @@
 //! What a device does.
 
-ghost use Rattle.std.specs.Prelude.{◌≡◌};
+ghost use Rattle.std.specs.Prelude.{◌≡◌, ◌≤◌, length};
 
 use arrayvec::ArrayVec;
 use osdp_msg::{Command, NakReason};
@@ -18,6 +18,18 @@ pub enum Answer {
     Refuse(NakReason),
     /// The maker's own reply, vendor and bytes: of MFG.
     Maker([u8; 3], ArrayVec<u8, 1429>),
+}
+
+impl Answer {
+    ghost use Rattle.osdp_reader.specs.declared.handler.Answer.TheVariants as answer;
+
+    /// A byte for each input, output or reader, of a slice of them.
+    pub fn list(states: &[u8]) -> Answer
+        requires { length states.now ≤ 1432 }
+        ensures { result ≡ answer.List (record { items = states.now }) }
+    {
+        Answer::List(ArrayVec::try_from(states).unwrap())
+    }
 }
 
 /// What a device does with the commands that aren't the reader's own: LSTAT, ISTAT, OSTAT, RSTAT, OUT, LED, BUZ, TEXT and MFG.

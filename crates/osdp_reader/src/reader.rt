@@ -394,18 +394,6 @@ fn new_address(command: &Command) -> Option<Address>
         Command::Comset(communication) if communication.address <= 126 => {
             Address::new(communication.address)
         }
-        Command::Comset(_)
-        | Command::Poll
-        | Command::Id(_)
-        | Command::Cap(_)
-        | Command::LocalStatus
-        | Command::InputStatus
-        | Command::OutputStatus
-        | Command::ReaderStatus
-        | Command::Output(_)
-        | Command::Led(_)
-        | Command::Buzzer(_)
-        | Command::Text(_)
-        | Command::Maker(_) => None,
+        _ => None,
     }
 }

@@ -57,14 +57,7 @@ fn spell_done(packet: &FrameView, seq: Seq, command: &Command, out: &mut Burst)
         | Command::Buzzer(_)
         | Command::Text(_)
         | Command::Maker(_) => spell_ack(packet, seq, out),
-        Command::Poll
-        | Command::Id(_)
-        | Command::Cap(_)
-        | Command::LocalStatus
-        | Command::InputStatus
-        | Command::OutputStatus
-        | Command::ReaderStatus
-        | Command::Comset(_) => spell_nak(packet, seq, NakReason::RecordNotProcessed, out),
+        _ => spell_nak(packet, seq, NakReason::RecordNotProcessed, out),
     }
 }
 
@@ -81,23 +74,11 @@ fn spell_local(
     ensures spelled { Spells (reply_packet packet.now seq (local_reply command.now tamper power)) out.new.items }
     ensures fits { ReplyFits (local_reply command.now tamper power) }
 {
-    match command {
-        Command::LocalStatus => {
-            let state = LocalState { tamper, power };
-            spell(packet, seq, &Reply::LocalState(state), out);
-        }
-        Command::Poll
-        | Command::Id(_)
-        | Command::Cap(_)
-        | Command::InputStatus
-        | Command::OutputStatus
-        | Command::ReaderStatus
-        | Command::Output(_)
-        | Command::Led(_)
-        | Command::Buzzer(_)
-        | Command::Text(_)
-        | Command::Comset(_)
-        | Command::Maker(_) => spell_nak(packet, seq, NakReason::RecordNotProcessed, out),
+    if let Command::LocalStatus = command {
+        let state = LocalState { tamper, power };
+        spell(packet, seq, &Reply::LocalState(state), out);
+    } else {
+        spell_nak(packet, seq, NakReason::RecordNotProcessed, out);
     }
 }
 
@@ -110,16 +91,7 @@ fn list(command: &Command, states: ArrayVec<u8, 1432>) -> Reply
         Command::InputStatus => Reply::Inputs(states),
         Command::OutputStatus => Reply::Outputs(states),
         Command::ReaderStatus => Reply::Readers(states),
-        Command::Poll
-        | Command::Id(_)
-        | Command::Cap(_)
-        | Command::LocalStatus
-        | Command::Output(_)
-        | Command::Led(_)
-        | Command::Buzzer(_)
-        | Command::Text(_)
-        | Command::Comset(_)
-        | Command::Maker(_) => nak_9(),
+        _ => nak_9(),
     }
 }
 
@@ -128,20 +100,10 @@ fn list(command: &Command, states: ArrayVec<u8, 1432>) -> Reply
 fn maker(command: &Command, vendor: [u8; 3], bytes: ArrayVec<u8, 1429>) -> Reply
     ensures { result ≡ maker_reply command.now vendor bytes.items }
 {
-    match command {
-        Command::Maker(_) => Reply::MakerReply(MakerMessage { vendor, bytes }),
-        Command::Poll
-        | Command::Id(_)
-        | Command::Cap(_)
-        | Command::LocalStatus
-        | Command::InputStatus
-        | Command::OutputStatus
-        | Command::ReaderStatus
-        | Command::Output(_)
-        | Command::Led(_)
-        | Command::Buzzer(_)
-        | Command::Text(_)
-        | Command::Comset(_) => nak_9(),
+    if let Command::Maker(_) = command {
+        Reply::MakerReply(MakerMessage { vendor, bytes })
+    } else {
+        nak_9()
     }
 }
 

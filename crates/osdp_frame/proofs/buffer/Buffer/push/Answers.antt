@@ -1,7 +1,7 @@
 use Rattle.std.proofs.Common.{◌≡◌, ◌+◌, ◌-◌, ◌++◌, length, slice_range, ap, ◌∙◌, arith}
 use Rattle.osdp_check.specs.Checksum.{sum_from}
 use Rattle.osdp_check.specs.Crc.{crc_from}
-use Rattle.osdp_frame.specs.Running.{Buffered}
+use Rattle.osdp_frame.specs.Buffered.{Buffered}
 use Rattle.osdp_frame.proofs.Buffering.{written_after, run_kept}
 use Rattle.osdp_frame.proofs.Running.{length-slice}
 use Rattle.osdp_frame.proofs.buffer.Buffer.push.Goals as goal

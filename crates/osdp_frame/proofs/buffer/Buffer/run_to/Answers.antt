@@ -1,7 +1,7 @@
 use Rattle.std.proofs.Common.{◌+◌, ◌≤◌, length, ap, arith}
 use Rattle.osdp_check.specs.Checksum.{sum_from}
 use Rattle.osdp_check.specs.Crc.{crc_from}
-use Rattle.osdp_frame.specs.Running.{Buffered}
+use Rattle.osdp_frame.specs.Buffered.{Buffered}
 use Rattle.osdp_frame.proofs.Buffering.{run_further}
 use Rattle.osdp_frame.proofs.Running.{length-slice}
 use Rattle.osdp_frame.proofs.buffer.Buffer.run_to.Goals as goal
