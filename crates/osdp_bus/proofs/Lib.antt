@@ -1,4 +1,3 @@
 pub mod Runs
-pub mod Searches
 pub mod Sent
 pub mod Waiting

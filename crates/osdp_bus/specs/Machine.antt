@@ -8,6 +8,8 @@ use Rattle.osdp_controller.specs.declared.fault.ControllerFault.TheVariants as c
 use Rattle.osdp_controller.specs.Comsets.{has_comset}
 use Rattle.osdp_controller.specs.Hearing.{comset_of}
 use Rattle.osdp_controller.specs.Machine.{after_begin, after_retarget, after_submit, after_withdraw, begin_refusal, new_machine, retarget_refusal, submit_refusal, withdrawn_in}
+-- what a call answers, and what it leaves, is as with a controller's
+pub use Rattle.osdp_controller.specs.Machine.{changed_unless, unless_refused}
 use Rattle.osdp_bus.specs.declared.config.BusConfig.{BusConfig}
 use Rattle.osdp_bus.specs.declared.device.Device.{Device}
 use Rattle.osdp_bus.specs.declared.fault.BusFault.{BusFault}
@@ -19,16 +21,6 @@ use Rattle.osdp_bus.specs.Settings.{IsBusConfig, controller_config}
 -- how many devices there may be
 abbrev pub most_devices : ℕ
 most_devices = 16
-
--- the answer of a call that has nothing to give
-abbrev pub unless_refused : Option BusFault → Result (Unit {0}) BusFault
-unless_refused None = Ok tt
-unless_refused (Some fault) = Err fault
-
--- the bus after a call: as before where it was refused
-abbrev pub changed_unless : Option BusFault → BusState → BusState → BusState
-changed_unless None old new = new
-changed_unless (Some fault) old new = old
 
 -- a controller's refusal, told by the bus
 abbrev pub bus_fault : ControllerFault → BusFault

@@ -14,7 +14,8 @@ use Rattle.osdp_controller.specs.declared.session.Session.{Session}
 use Rattle.osdp_controller.specs.declared.state.State.{State}
 use Rattle.osdp_controller.specs.declared.state.State.TheVariants.{Closed, Quiet, Idle, Waiting, Pausing}
 use Rattle.osdp_controller.specs.Answers.{meaning_of}
-use Rattle.osdp_controller.specs.Held.{is_held, outstanding_in}
+use Rattle.osdp_controller.specs.Held.{outstanding_in}
+use Rattle.osdp_controller.specs.Machine.{is_outstanding}
 use Rattle.osdp_controller.specs.Hearing.{answered, comset_of, hears_in, moved_by, rests}
 use Rattle.osdp_controller.specs.Private.{acknowledged, takes_ack}
 
@@ -39,7 +40,7 @@ ack_settles Opening s h = cc
 ack_settles Polling s h = refl
 ack_settles (Asking command) s h = rw (stays_without (comset_of command)) refl
 
-pub acked : (state : State) (p : Packet) (s : Session) → p.sequence ≡ s.number → p.body ≡ 0x40 ∷ [] → is_held state ≡ true
+pub acked : (state : State) (p : Packet) (s : Session) → p.sequence ≡ s.number → p.body ≡ 0x40 ∷ [] → is_outstanding state ≡ true
     → takes_ack (outstanding_in state).exchange ≡ true → hears_in state p.sequence (meaning_of p) s ≡ rests (acknowledged (outstanding_in state).exchange) s
 acked Closed p s n e h asks = cc
 acked (Quiet until) p s n e h asks = cc

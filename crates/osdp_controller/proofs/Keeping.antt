@@ -1,5 +1,5 @@
 -- What holds of a session at all times is kept by the rows of both tables.
-use Rattle.std.proofs.Common.{◌≡◌, ℕ, ◌+◌, ◌*◌, ◌<◌, ◌≤◌, ◌&&◌, [], Option, Some, None, refl, arith}
+use Rattle.std.proofs.Common.{◌≡◌, ℕ, ◌+◌, ◌*◌, ◌<◌, ◌≤◌, ◌&&◌, [], Option, Some, None, refl, arith, rules}
 use Rattle.std.specs.Prelude.{IfSome, nat_lt, nat_le, ◌==◌}
 use Rattle.std.proofs.lemmas.Bool.{ltb-true, ltb-false}
 use Rattle.std.proofs.lemmas.Nat.{mul-le}
@@ -117,19 +117,7 @@ keeps_opening (Some id) s is = record { config = is.config; state = tt; opening 
 keeps_command : (moved : Option Communication) (command : Command) (reply : Reply) (s : Session) → IfSome moved (λ d. d.address < 127) → IsConfig s.config
     → IsSession (command_answered moved command reply s).session
 keeps_command None command reply s device config = record { config = config; state = tt; opening = tt }
-keeps_command (Some d) command reply s device config = record {
-  config = record {
-    address = device;
-    reply_wait = config.reply_wait;
-    poll_interval = config.poll_interval;
-    busy_wait = config.busy_wait;
-    quiet_wait = config.quiet_wait;
-    sends = config.sends;
-    busy_limit = config.busy_limit;
-  };
-  state = tt;
-  opening = tt;
-}
+keeps_command (Some d) command reply s device config = record { config = search rules; state = tt; opening = tt }
 
 keeps_answered : (x : Exchange) (reply : Reply) (s : Session) → IsSession s → IsSession (answered x reply s).session
 keeps_answered Opening reply s is = keeps_opening (pd_id_of reply) s is

@@ -1,5 +1,5 @@
 -- The event of a reply.
-use Rattle.std.proofs.Common.{◌≡◌, Some, None, Result, Ok, Err, refl}
+use Rattle.std.proofs.Common.{◌≡◌, Some, None, Result, Ok, Err, refl, arith}
 use Rattle.std.specs.Prelude.{IfOk, IfErr, MatchResult}
 use Rattle.osdp_msg.specs.declared.event.Event.{Event}
 use Rattle.osdp_msg.specs.declared.event.Event.TheVariants as events
@@ -10,19 +10,9 @@ use Rattle.osdp_controller.specs.Hearing.{event_in}
 
 -- the event of a reply that tells one
 event_in_event : (e : Event) → event_in (event_reply e) ≡ Some e
-event_in_event (events.LocalState s) = refl
-event_in_event (events.Inputs states) = refl
-event_in_event (events.Outputs states) = refl
-event_in_event (events.Readers states) = refl
-event_in_event (events.Raw r) = refl
-event_in_event (events.Formatted f) = refl
-event_in_event (events.Keypad k) = refl
+event_in_event e = grind arith
 
 no_event : (r : Reply) → ((e : Event) → r ≡ event_reply e → ⊥) → event_in r ≡ None
-no_event replies.Ack h = refl
-no_event (replies.Nak n) h = refl
-no_event (replies.PdId p) h = refl
-no_event (replies.PdCap p) h = refl
 no_event (replies.LocalState s) h = absurd (h (events.LocalState s) refl)
 no_event (replies.Inputs states) h = absurd (h (events.Inputs states) refl)
 no_event (replies.Outputs states) h = absurd (h (events.Outputs states) refl)
@@ -30,9 +20,7 @@ no_event (replies.Readers states) h = absurd (h (events.Readers states) refl)
 no_event (replies.Raw r) h = absurd (h (events.Raw r) refl)
 no_event (replies.Formatted f) h = absurd (h (events.Formatted f) refl)
 no_event (replies.Keypad k) h = absurd (h (events.Keypad k) refl)
-no_event (replies.Com c) h = refl
-no_event replies.Busy h = refl
-no_event (replies.MakerReply m) h = refl
+no_event _ h = refl
 
 pub event_answer : (r : Reply) (q : Result Event Reply) → IfOk q (λ e. r ≡ event_reply e) → ((e : Event) → r ≡ event_reply e → q ≡ Ok e) → IfErr q (λ x. x ≡ r)
     → MatchResult q (λ e. event_in r ≡ Some e) (λ x. (x ≡ r) × (event_in r ≡ None))

@@ -1,5 +1,5 @@
 -- How the state of a session is held: its parts, of which a submitted command is one that stays where it is.
-use Rattle.std.specs.Prelude.{ℕ, Bool, true, false, Option, Some, None}
+use Rattle.std.specs.Prelude.{ℕ, Option, Some, None}
 use Rattle.osdp_msg.specs.declared.command.Command.{Command}
 use Rattle.osdp_controller.specs.declared.exchange.Asked.{Asked}
 use Rattle.osdp_controller.specs.declared.exchange.Asked.TheVariants as asked
@@ -33,12 +33,6 @@ stage_of (Quiet until) = stages.Quiet
 stage_of (Idle due) = stages.Idle
 stage_of (Waiting until sends o) = stages.Waiting
 stage_of (Pausing until o) = stages.Pausing
-
--- an exchange is outstanding
-abbrev pub is_held : State → Bool
-is_held (Waiting until sends o) = true
-is_held (Pausing until o) = true
-is_held _ = false
 
 -- the outstanding exchange; where none is, a POLL that was never sent
 abbrev pub outstanding_in : State → Outstanding

@@ -44,17 +44,15 @@ abbrev pub NewEnds : ControllerConfig → ℕ → Result Machine ControllerFault
 NewEnds config capacity (Ok m) = AreSettings config capacity × (m ≡ new_machine config capacity)
 NewEnds config capacity (Err OutOfRange) = AreSettings config capacity → ⊥
 NewEnds config capacity (Err NoMemory) = AreSettings config capacity
-NewEnds config capacity (Err Full) = ⊥
-NewEnds config capacity (Err PollSubmitted) = ⊥
-NewEnds config capacity (Err NotClosed) = ⊥
+NewEnds config capacity (Err _) = ⊥
 
 -- the answer of a call that has nothing to give
-abbrev pub unless_refused : Option ControllerFault → Result (Unit {0}) ControllerFault
+abbrev pub unless_refused : {Fault : Type 0} → Option Fault → Result (Unit {0}) Fault
 unless_refused None = Ok tt
 unless_refused (Some fault) = Err fault
 
--- the machine after a call: as before where it was refused
-abbrev pub changed_unless : Option ControllerFault → Machine → Machine → Machine
+-- a machine after a call: as before where it was refused
+abbrev pub changed_unless : {Fault Changed : Type 0} → Option Fault → Changed → Changed → Changed
 changed_unless None old new = new
 changed_unless (Some fault) old new = old
 

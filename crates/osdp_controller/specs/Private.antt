@@ -1,5 +1,5 @@
 -- What functions inside the crate say of themselves. No row of a table and no law speaks of these.
-use Rattle.std.specs.Prelude.{Bool, true, false, not, ◌&&◌, nat_le, nat_lt, if◌then◌else◌, List, drop, slice_get, Option, Some, None, is_none}
+use Rattle.std.specs.Prelude.{Bool, true, false, not, ◌&&◌, nat_le, nat_lt, if◌then◌else◌, List, slice_get, Option, Some, None, is_none}
 use Rattle.std.specs.Option.{option_map_or}
 use Rattle.osdp_frame.specs.Packet.{Packet}
 use Rattle.osdp_msg.specs.declared.command.Command.{Command}
@@ -15,7 +15,7 @@ use Rattle.osdp_controller.specs.declared.state.State.{State}
 use Rattle.osdp_controller.specs.declared.state.State.TheVariants.{Closed, Quiet, Idle, Waiting, Pausing}
 use Rattle.osdp_controller.specs.Held.{outstanding_in}
 use Rattle.osdp_controller.specs.Hearing.{Heard, ignores, pausing_hears, pd_id_of, waiting_hears}
-use Rattle.osdp_controller.specs.Machine.{Machine}
+use Rattle.osdp_controller.specs.Machine.{Machine, is_outstanding}
 use Rattle.osdp_controller.specs.Sessions.{frame_of}
 use Rattle.osdp_controller.specs.States.{is_idle, moment_of}
 use Rattle.osdp_controller.specs.Ticking.{ticks_in}
@@ -29,12 +29,9 @@ abbrev pub is_over : State → Session → Bool
 is_over (Waiting until sends o) s = nat_le until s.greatest && not (nat_lt sends s.config.sends)
 is_over _ s = false
 
--- the command that a tick in a state takes from the waiting ones, and those that stay
+-- the command that a tick in a state takes from the waiting ones
 abbrev pub next_in : State → List Command → Option Command
 next_in state waiting = if is_idle state then slice_get waiting 0 else None
-
-abbrev pub rest_in : State → List Command → List Command
-rest_in state waiting = if is_idle state then drop 1 waiting else waiting
 
 -- an answer is none to the exchange: the opening ID is answered by a PDID alone
 abbrev pub is_no_answer : Exchange → ReplyMeaning → Bool
@@ -44,9 +41,7 @@ is_no_answer _ _ = false
 
 -- nor to one that is outstanding in a state
 abbrev pub is_no_answer_in : State → ReplyMeaning → Bool
-is_no_answer_in (Waiting until sends o) answer = is_no_answer o.exchange answer
-is_no_answer_in (Pausing until o) answer = is_no_answer o.exchange answer
-is_no_answer_in _ answer = false
+is_no_answer_in state answer = is_outstanding state && is_no_answer (outstanding_in state).exchange answer
 
 -- an ACK answers the exchange
 abbrev pub takes_ack : Exchange → Bool

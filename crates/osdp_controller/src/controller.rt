@@ -2,7 +2,6 @@
 
 ghost use Rattle.circular_buffer.specs.Buffer.{buffer};
 ghost use Rattle.osdp_controller.specs.Comsets.{is_comset};
-ghost use Rattle.osdp_controller.specs.Held.{is_held};
 ghost use Rattle.osdp_controller.specs.Private.{after_act, frame_if, is_over, next_in};
 ghost use Rattle.osdp_controller.specs.Ticking.{stays, ticks_in};
 ghost use Rattle.std.specs.Prelude.{◌≡◌, ◌↔◌, ◌*◌, ◌+◌, ◌≤◌, IfErr, None, Some, OnOk, drop, is_some, length, option_copied, true, false};
@@ -11,7 +10,7 @@ use crate::config::{ControllerConfig, is_device};
 use crate::fault::ControllerFault;
 use crate::report::Report;
 use crate::session::Session;
-use crate::state::{Held, Stage};
+use crate::state::Held;
 use crate::step::Step;
 use circular_buffer::HeapCircularBuffer;
 use osdp_frame::{Address, Burst, FrameView};
@@ -92,10 +91,7 @@ impl Controller {
     pub fn outstanding(&self) -> bool
         ensures { result ≡ is_outstanding self.now.session.state }
     {
-        match self.session.state.stage {
-            Stage::Closed | Stage::Quiet | Stage::Idle => false,
-            Stage::Waiting | Stage::Pausing => true,
-        }
+        self.session.state.is_outstanding()
     }
 
     /// How many frames the outstanding exchange has sent; 0 where none is outstanding.
@@ -103,10 +99,10 @@ impl Controller {
         ensures count { result ≡ sent_in self.now.session.state }
         ensures most { result ≤ self.now.session.config.sends * (self.now.session.config.busy_limit + 1) }
     {
-        match self.session.state.stage {
-            Stage::Closed | Stage::Quiet | Stage::Idle => 0,
-            Stage::Waiting => self.session.state.sent,
-            Stage::Pausing => self.session.state.sent,
+        if self.outstanding() {
+            self.session.state.sent
+        } else {
+            0
         }
     }
 
@@ -257,7 +253,7 @@ impl Controller {
         requires { is_over self.old.session.state self.old.session ≡ false }
         ensures frame { (ticks_in self.old.session.state self.old.session self.old.waiting).step.frame ≡ frame_if result self.new.session }
         ensures machine { self.new ≡ after_act self.old }
-        ensures held { result ≡ true → is_held self.new.session.state ≡ true }
+        ensures held { result ≡ true → is_outstanding self.new.session.state ≡ true }
     {
         match next_command(&self.session.state, &self.waiting) {
             Some(command) => self.session.begin_command(command),

@@ -9,8 +9,8 @@ ghost use Rattle.osdp_controller.specs.declared.state.Stage.TheVariants as stage
 ghost use Rattle.osdp_controller.specs.Answers.{meaning_of};
 ghost use Rattle.osdp_controller.specs.Exchanges.{submitted_command};
 ghost use Rattle.osdp_controller.specs.Hearing.{answered, answered_unread, com_of, comset_of, event_in, hears, hears_busy, hears_in, is_ack, is_from_reader, is_numbered, loses, moved_by, opening_answered, pausing_hears, pd_id_of, poll_told, rests, waiting_hears};
-ghost use Rattle.osdp_controller.specs.Held.{exchange_of, is_held, outstanding_in, sends_in, stage_of};
-ghost use Rattle.osdp_controller.specs.Machine.{IsSession};
+ghost use Rattle.osdp_controller.specs.Held.{exchange_of, outstanding_in, sends_in, stage_of};
+ghost use Rattle.osdp_controller.specs.Machine.{IsSession, is_outstanding};
 ghost use Rattle.osdp_controller.specs.Private.{acknowledged, is_no_answer, is_no_answer_in, numbered_in};
 ghost use Rattle.osdp_controller.specs.Sessions.{at_rest, closed};
 
@@ -41,7 +41,7 @@ impl Session {
     /// The session ends without an answer.
     #[inline(never)]
     fn lose(&mut self, cause: LostCause, report: &mut Option<Report>)
-        requires { is_held self.old.state ≡ true }
+        requires { is_outstanding self.old.state ≡ true }
         ensures report { report.new ≡ (loses cause (outstanding_in self.old.state) self.old).report }
         ensures session { self.new ≡ (loses cause (outstanding_in self.old.state) self.old).session }
     {
@@ -51,7 +51,7 @@ impl Session {
 
     /// One more BUSY: the exchange pauses, or the session ends where there are more than are allowed.
     fn hear_busy(&mut self, report: &mut Option<Report>)
-        requires held { is_held self.old.state ≡ true }
+        requires held { is_outstanding self.old.state ≡ true }
         requires none { report.old ≡ None }
         ensures report { report.new ≡ (hears_busy (outstanding_in self.old.state) self.old).report }
         ensures session { self.new ≡ (hears_busy (outstanding_in self.old.state) self.old).session }
@@ -67,7 +67,7 @@ impl Session {
     /// A COMSET is answered by its COM: the session ends, and the reader is at its new address.
     #[inline(never)]
     fn move_to(&mut self, answered: Communication, report: &mut Option<Report>)
-        requires held { is_held self.old.state ≡ true }
+        requires held { is_outstanding self.old.state ≡ true }
         requires device { answered.address < 127 }
         ensures report { (command : Command) → submitted_command (outstanding_in self.old.state).exchange ≡ Some command → report.new ≡ Some (Moved command answered) }
         ensures session { self.new ≡ closed (record self.old { config = record self.old.config { address = answered.address } }) }
@@ -82,7 +82,7 @@ impl Session {
     /// The command that was submitted, where one is outstanding, is settled by an ACK.
     #[inline(never)]
     fn settle_acknowledged(&mut self, report: &mut Option<Report>)
-        requires held { is_held self.old.state ≡ true }
+        requires held { is_outstanding self.old.state ≡ true }
         requires none { report.old ≡ None }
         ensures report { report.new ≡ acknowledged (outstanding_in self.old.state).exchange }
         ensures session { self.new ≡ at_rest self.old }
@@ -96,7 +96,7 @@ impl Session {
 
     /// The command that was submitted is settled by a reply, which is taken out of its place.
     fn settle_command(&mut self, reply: &mut Reply, report: &mut Option<Report>)
-        requires held { is_held self.old.state ≡ true }
+        requires held { is_outstanding self.old.state ≡ true }
         requires none { report.old ≡ None }
         ensures report { (command : Command) → submitted_command (outstanding_in self.old.state).exchange ≡ Some command → report.new ≡ Some (Settled command reply.old) }
         ensures session { self.new ≡ at_rest self.old }
@@ -107,7 +107,7 @@ impl Session {
 
     /// The COM that moves the reader, where a COMSET is outstanding and the reply answers it so.
     fn moved_by(&self, reply: &Reply) -> Option<Communication>
-        requires held { is_held self.now.state ≡ true }
+        requires held { is_outstanding self.now.state ≡ true }
         ensures value { (command : Command) → submitted_command (outstanding_in self.now.state).exchange ≡ Some command → result ≡ moved_by (comset_of command) (com_of reply.now) }
         ensures device { IfSome result (λ answered. answered.address < 127) }
     {
@@ -121,7 +121,7 @@ impl Session {
     #[inline(never)]
     #[tactic(auto, using(crate::proofs::Asking::asking))]
     fn hear_answer(&mut self, reply: &mut Reply, report: &mut Option<Report>)
-        requires held { is_held self.old.state ≡ true }
+        requires held { is_outstanding self.old.state ≡ true }
         requires asked { is_some (submitted_command (outstanding_in self.old.state).exchange) ≡ true }
         requires none { report.old ≡ None }
         ensures report { report.new ≡ (answered (outstanding_in self.old.state).exchange reply.old self.old).report }
@@ -136,7 +136,7 @@ impl Session {
     /// A reply that is neither BUSY, NAK 1 nor NAK 4 answers the outstanding exchange. It is taken out of its place where it is told, and
     /// is not moved on the way.
     fn settle(&mut self, reply: &mut Reply, report: &mut Option<Report>)
-        requires held { is_held self.old.state ≡ true }
+        requires held { is_outstanding self.old.state ≡ true }
         requires answer { is_no_answer (outstanding_in self.old.state).exchange (Plain reply.old) ≡ false }
         requires none { report.old ≡ None }
         ensures report { report.new ≡ (answered (outstanding_in self.old.state).exchange reply.old self.old).report }
@@ -177,7 +177,7 @@ impl Session {
     /// A reply that cannot be read answers the outstanding exchange.
     #[inline(never)]
     fn settle_unread(&mut self, code: u8, report: &mut Option<Report>)
-        requires held { is_held self.old.state ≡ true }
+        requires held { is_outstanding self.old.state ≡ true }
         requires answer { is_no_answer (outstanding_in self.old.state).exchange (Unreadable code) ≡ false }
         ensures report { report.new ≡ (answered_unread (outstanding_in self.old.state).exchange code self.old).report }
         ensures session { self.new ≡ (answered_unread (outstanding_in self.old.state).exchange code self.old).session }
@@ -205,7 +205,7 @@ impl Session {
 
     /// An answer comes in a pause.
     fn hear_pausing(&mut self, answer: &mut ReplyMeaning, report: &mut Option<Report>)
-        requires held { is_held self.old.state ≡ true }
+        requires held { is_outstanding self.old.state ≡ true }
         requires answer { is_no_answer (outstanding_in self.old.state).exchange answer.old ≡ false }
         requires none { report.old ≡ None }
         ensures report { report.new ≡ (pausing_hears answer.old (outstanding_in self.old.state) self.old).report }
@@ -223,11 +223,7 @@ impl Session {
     fn is_no_answer(&self, answer: &ReplyMeaning) -> bool
         ensures { result ≡ is_no_answer_in self.now.state answer.now }
     {
-        match self.state.stage {
-            Stage::Closed | Stage::Quiet | Stage::Idle => false,
-            Stage::Waiting => is_no_answer(self.state.asked, answer),
-            Stage::Pausing => is_no_answer(self.state.asked, answer),
-        }
+        self.state.is_outstanding() && is_no_answer(self.state.asked, answer)
     }
 
     /// An answer with the number of the exchange comes, where one is outstanding.
@@ -280,7 +276,7 @@ impl Session {
     /// Whether a packet is the ACK that a POLL or a command that was submitted waits for.
     #[tactic(auto, using(crate::proofs::Acks::acked))]
     fn is_acknowledged_by(&self, frame: &FrameView<'_>) -> bool
-        ensures held { result ≡ true → is_held self.now.state ≡ true }
+        ensures held { result ≡ true → is_outstanding self.now.state ≡ true }
         ensures heard { result ≡ true → hears_in self.now.state frame.now.sequence (meaning_of frame.now) self.now ≡ rests (acknowledged (outstanding_in self.now.state).exchange) self.now }
     {
         frame.seq() == self.number && self.state.is_asking() && is_ack_alone(frame.body())
@@ -337,11 +333,7 @@ fn is_no_answer(asked: Asked, answer: &ReplyMeaning) -> bool
     match (asked, answer) {
         (Asked::Opening, ReplyMeaning::Plain(reply)) => pd_id_of(reply).is_none(),
         (Asked::Opening, ReplyMeaning::Unreadable(_)) => true,
-        (
-            Asked::Opening,
-            ReplyMeaning::NotTaken | ReplyMeaning::Damaged | ReplyMeaning::NumberRefused,
-        )
-        | (Asked::Polling | Asked::Submitted, _) => false,
+        _ => false,
     }
 }
 
@@ -351,19 +343,7 @@ fn pd_id_of(reply: &Reply) -> Option<PdId>
 {
     match reply {
         Reply::PdId(id) => Some(*id),
-        Reply::Ack
-        | Reply::Nak(_)
-        | Reply::PdCap(_)
-        | Reply::LocalState(_)
-        | Reply::Inputs(_)
-        | Reply::Outputs(_)
-        | Reply::Readers(_)
-        | Reply::Raw(_)
-        | Reply::Formatted(_)
-        | Reply::Keypad(_)
-        | Reply::Com(_)
-        | Reply::Busy
-        | Reply::MakerReply(_) => None,
+        _ => None,
     }
 }
 

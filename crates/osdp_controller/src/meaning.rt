@@ -35,13 +35,7 @@ impl ReplyMeaning {
     pub(crate) fn is_not_taken(&self) -> bool
         ensures { result ≡ is_not_taken self.now }
     {
-        match self {
-            ReplyMeaning::NotTaken => true,
-            ReplyMeaning::Damaged
-            | ReplyMeaning::NumberRefused
-            | ReplyMeaning::Plain(_)
-            | ReplyMeaning::Unreadable(_) => { false }
-        }
+        matches!(self, ReplyMeaning::NotTaken)
     }
 }
 
@@ -61,18 +55,7 @@ fn by_reply(reply: Reply) -> ReplyMeaning
     match reply {
         Reply::Busy => ReplyMeaning::NotTaken,
         Reply::Nak(nak) => by_reason(nak),
-        Reply::Ack
-        | Reply::PdId(_)
-        | Reply::PdCap(_)
-        | Reply::LocalState(_)
-        | Reply::Inputs(_)
-        | Reply::Outputs(_)
-        | Reply::Readers(_)
-        | Reply::Raw(_)
-        | Reply::Formatted(_)
-        | Reply::Keypad(_)
-        | Reply::Com(_)
-        | Reply::MakerReply(_) => ReplyMeaning::Plain(reply),
+        _ => ReplyMeaning::Plain(reply),
     }
 }
 
@@ -83,13 +66,6 @@ fn by_reason(nak: Nak) -> ReplyMeaning
     match nak.reason {
         NakReason::CheckCharacters => ReplyMeaning::Damaged,
         NakReason::UnexpectedSequence => ReplyMeaning::NumberRefused,
-        NakReason::CommandLength
-        | NakReason::UnknownCommand
-        | NakReason::SecurityBlock
-        | NakReason::SecurityConditions
-        | NakReason::BiometricType
-        | NakReason::BiometricFormat
-        | NakReason::RecordNotProcessed
-        | NakReason::Other(_) => ReplyMeaning::Plain(Reply::Nak(nak)),
+        _ => ReplyMeaning::Plain(Reply::Nak(nak)),
     }
 }

@@ -4,7 +4,8 @@ ghost use Rattle.std.specs.Prelude.{◌≡◌, ◌+◌, ◌<◌, ◌≤◌, ◌^
 ghost use Rattle.osdp_frame.specs.Packed.{packed};
 ghost use Rattle.osdp_frame.specs.Spelling.{Spells};
 ghost use Rattle.osdp_controller.specs.declared.exchange.Exchange.TheVariants.{Asking};
-ghost use Rattle.osdp_controller.specs.Held.{is_held, outstanding_in};
+ghost use Rattle.osdp_controller.specs.Held.{outstanding_in};
+ghost use Rattle.osdp_controller.specs.Machine.{is_outstanding};
 ghost use Rattle.osdp_controller.specs.Private.{frame_in};
 ghost use Rattle.osdp_controller.specs.Sessions.{after_send, at_rest, frame_of, later, new_session, seen};
 
@@ -81,7 +82,7 @@ impl Session {
     // written on the way of a POLL for a command that there might be.
     #[inline(never)]
     pub(crate) fn put_frame(&self, frame: &mut Option<Frame>)
-        requires { is_held self.now.state ≡ true }
+        requires { is_outstanding self.now.state ≡ true }
         ensures { frame.new ≡ Some (frame_in self.now) }
     {
         match (self.state.asked, &self.state.command) {
@@ -113,7 +114,7 @@ impl Session {
 
     /// Puts the bytes of the outstanding exchange's frame in place of what stands in `out`.
     pub(crate) fn spell(&self, out: &mut Burst)
-        requires { is_held self.now.state ≡ true }
+        requires { is_outstanding self.now.state ≡ true }
         ensures { Spells (frame_in self.now) out.new.items }
     {
         match (self.state.asked, &self.state.command) {
@@ -145,7 +146,7 @@ impl Session {
 
     /// The outstanding exchange is asked once more, as this send.
     pub(crate) fn send(&mut self, sends: u8)
-        requires held { is_held self.old.state ≡ true }
+        requires held { is_outstanding self.old.state ≡ true }
         requires few { (outstanding_in self.old.state).sent + 1 < 2 ^ 32 }
         ensures { self.new ≡ after_send sends (outstanding_in self.old.state) self.old }
     {

@@ -6,7 +6,8 @@ ghost use Rattle.osdp_controller.specs.declared.exchange.Exchange.TheVariants.{A
 ghost use Rattle.osdp_controller.specs.declared.state.Stage.TheVariants as stages;
 ghost use Rattle.osdp_controller.specs.declared.state.State.TheVariants.{Closed, Idle, Pausing, Quiet, Waiting};
 ghost use Rattle.osdp_controller.specs.Exchanges.{submitted_command};
-ghost use Rattle.osdp_controller.specs.Held.{exchange_of, is_held, outstanding_in, sends_in, stage_of};
+ghost use Rattle.osdp_controller.specs.Held.{exchange_of, outstanding_in, sends_in, stage_of};
+ghost use Rattle.osdp_controller.specs.Machine.{is_outstanding};
 ghost use Rattle.osdp_controller.specs.Private.{takes_ack};
 ghost use Rattle.osdp_controller.specs.States.{is_closed, is_idle, moment_of};
 
@@ -109,42 +110,35 @@ impl Held {
     pub(crate) fn is_closed(&self) -> bool
         ensures { result ≡ is_closed self.now }
     {
-        match self.stage {
-            Stage::Closed => true,
-            Stage::Quiet | Stage::Idle | Stage::Waiting | Stage::Pausing => false,
-        }
+        matches!(self.stage, Stage::Closed)
     }
 
     /// Whether the session is open and no exchange is outstanding.
     pub(crate) fn is_idle(&self) -> bool
         ensures { result ≡ is_idle self.now }
     {
-        match self.stage {
-            Stage::Idle => true,
-            Stage::Closed | Stage::Quiet | Stage::Waiting | Stage::Pausing => false,
-        }
+        matches!(self.stage, Stage::Idle)
+    }
+
+    /// Whether an exchange is outstanding, in a pause too.
+    pub(crate) fn is_outstanding(&self) -> bool
+        ensures { result ≡ is_outstanding self.now }
+    {
+        matches!(self.stage, Stage::Waiting | Stage::Pausing)
     }
 
     /// Whether a POLL is outstanding.
     pub(crate) fn is_polling(&self) -> bool
-        ensures { result ≡ true → (is_held self.now ≡ true) × ((outstanding_in self.now).exchange ≡ Polling) }
+        ensures { result ≡ true → (is_outstanding self.now ≡ true) × ((outstanding_in self.now).exchange ≡ Polling) }
     {
-        match (self.stage, self.asked) {
-            (Stage::Waiting | Stage::Pausing, Asked::Polling) => true,
-            (Stage::Closed | Stage::Quiet | Stage::Idle, _)
-            | (Stage::Waiting | Stage::Pausing, Asked::Opening | Asked::Submitted) => false,
-        }
+        self.is_outstanding() && matches!(self.asked, Asked::Polling)
     }
 
     /// Whether a POLL or a command that was submitted is outstanding.
     pub(crate) fn is_asking(&self) -> bool
-        ensures { result ≡ true → (is_held self.now ≡ true) × (takes_ack (outstanding_in self.now).exchange ≡ true) }
+        ensures { result ≡ true → (is_outstanding self.now ≡ true) × (takes_ack (outstanding_in self.now).exchange ≡ true) }
     {
-        match (self.stage, self.asked) {
-            (Stage::Waiting | Stage::Pausing, Asked::Polling | Asked::Submitted) => true,
-            (Stage::Closed | Stage::Quiet | Stage::Idle, _)
-            | (Stage::Waiting | Stage::Pausing, Asked::Opening) => false,
-        }
+        self.is_outstanding() && matches!(self.asked, Asked::Polling | Asked::Submitted)
     }
 
     /// The moment that it waits for.
@@ -208,7 +202,7 @@ impl Held {
 
     /// The exchange is asked once more, as this send.
     pub(crate) fn send(&mut self, sends: u8, until: u64)
-        requires held { is_held self.old ≡ true }
+        requires held { is_outstanding self.old ≡ true }
         requires few { (outstanding_in self.old).sent + 1 < 2 ^ 32 }
         ensures { self.new ≡ Waiting until sends (record (outstanding_in self.old) { sent = (outstanding_in self.old).sent + 1 }) }
     {
@@ -228,7 +222,7 @@ impl Held {
 
     /// One more BUSY: the exchange is asked again at this moment.
     pub(crate) fn pause(&mut self, until: u64)
-        requires held { is_held self.old ≡ true }
+        requires held { is_outstanding self.old ≡ true }
         requires few { (outstanding_in self.old).busies < 255 }
         ensures { self.new ≡ Pausing until (record (outstanding_in self.old) { busies = (outstanding_in self.old).busies + 1 }) }
     {
@@ -239,7 +233,7 @@ impl Held {
 
     /// The command that was submitted for the outstanding exchange, which is over.
     pub(crate) fn take_command(&mut self) -> Option<Command>
-        requires held { is_held self.old ≡ true }
+        requires held { is_outstanding self.old ≡ true }
         ensures { result ≡ submitted_command (outstanding_in self.old).exchange }
     {
         match self.asked {

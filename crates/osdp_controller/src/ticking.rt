@@ -6,8 +6,8 @@ ghost use Rattle.osdp_controller.specs.declared.exchange.Asked.TheVariants.{Subm
 ghost use Rattle.osdp_controller.specs.declared.exchange.Exchange.TheVariants.{Asking};
 ghost use Rattle.osdp_controller.specs.declared.report.LostCause.TheVariants.{NoReply};
 ghost use Rattle.osdp_controller.specs.declared.state.Stage.TheVariants as stages;
-ghost use Rattle.osdp_controller.specs.Held.{exchange_of, is_held, outstanding_in, sends_in, stage_of};
-ghost use Rattle.osdp_controller.specs.Machine.{IsSession, IsSubmitted};
+ghost use Rattle.osdp_controller.specs.Held.{exchange_of, outstanding_in, sends_in, stage_of};
+ghost use Rattle.osdp_controller.specs.Machine.{IsSession, IsSubmitted, is_outstanding};
 ghost use Rattle.osdp_controller.specs.Sessions.{after_send, closed, lost};
 ghost use Rattle.osdp_controller.specs.Settings.{IsConfig};
 ghost use Rattle.osdp_controller.specs.Private.{frame_if, is_over, is_reached};
@@ -106,7 +106,7 @@ impl Session {
         requires going { is_over self.old.state self.old ≡ false }
         ensures frame { (ticks_in self.old.state self.old []).step.frame ≡ frame_if result self.new }
         ensures session { self.new ≡ (ticks_in self.old.state self.old []).session }
-        ensures held { result ≡ true → is_held self.new.state ≡ true }
+        ensures held { result ≡ true → is_outstanding self.new.state ≡ true }
         ensures kept { IsSession self.new }
     {
         if !self.is_reached() {
