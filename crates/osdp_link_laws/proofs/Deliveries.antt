@@ -9,9 +9,8 @@ use Rattle.osdp_msg.specs.declared.event.Event.{Event}
 use Rattle.osdp_msg.specs.declared.reply.Reply.{Reply}
 use Rattle.osdp_msg.specs.declared.reply.Reply.TheVariants as reply
 use Rattle.osdp_controller.specs.Answers as packets
-use Rattle.osdp_controller.specs.Answers.{meaning_by_reply}
 use Rattle.osdp_controller.specs.Hearing as controller
-use Rattle.osdp_controller.specs.Hearing.{Heard, event_in}
+use Rattle.osdp_controller.specs.Hearing.{event_in}
 use Rattle.osdp_controller.specs.declared.meaning.ReplyMeaning.TheVariants.{NotTaken, Plain}
 use Rattle.osdp_controller.specs.declared.config.ControllerConfig.{ControllerConfig}
 use Rattle.osdp_controller.specs.declared.exchange.Exchange.{Exchange}
@@ -225,7 +224,7 @@ module _ (fixed : ControllerConfig) {H : Type 0} (answer_of : H → Command → 
         controller = rests;
         waiting = h.waiting;
         reader = h.reader;
-        answering = subst (λ cs. Answering fixed answer_of after settings first cs l.reader) (sym (settles_no_taking x a l.account)) h.answering;
+        answering = subst (λ cs. Answering fixed answer_of after settings first cs l.reader.config l.reader.handler) (sym (settles_no_taking x a l.account)) h.answering;
         to_reader = h.to_reader;
         to_controller = line;
         account = settled_account x a l.controller.waiting l.reader.queue.events l.account

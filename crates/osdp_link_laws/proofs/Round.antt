@@ -6,7 +6,7 @@ use Rattle.osdp_msg.specs.declared.command.Command.{Command}
 use Rattle.osdp_msg.specs.declared.reply.Reply.{Reply}
 use Rattle.osdp_controller.specs.Answers as packets
 use Rattle.osdp_controller.specs.Hearing as controller
-use Rattle.osdp_controller.specs.Hearing.{Heard, hears_in, ignores, is_from_reader}
+use Rattle.osdp_controller.specs.Hearing.{Heard}
 use Rattle.osdp_controller.specs.Sessions.{at_rest, later, seen}
 use Rattle.osdp_controller.specs.Ticking.{ticks}
 use Rattle.osdp_controller.specs.declared.meaning.ReplyMeaning.TheVariants.{Plain}
@@ -20,7 +20,7 @@ use Rattle.osdp_reader.specs.declared.handler.Answer.{Answer}
 use Rattle.osdp_reader.specs.Table.{hears, kind_of}
 use Rattle.osdp_link_laws.specs.Headline.{SaysWhatFits}
 use Rattle.osdp_link_laws.specs.Link as link
-use Rattle.osdp_link_laws.specs.Link.{Account, Delivered, Link, told}
+use Rattle.osdp_link_laws.specs.Link.{Delivered, Link, told}
 use Rattle.osdp_link_laws.specs.Progress.{SetsNoAddress}
 use Rattle.osdp_link_laws.specs.Sessions.{settled_commands}
 use Rattle.osdp_link_laws.proofs.Answering.{IsReady, Replies, SaysFit, replies_at}
