@@ -12,7 +12,7 @@ use Rattle.osdp_controller.specs.declared.report.LostCause.TheVariants.{NoReply}
 use Rattle.osdp_controller.specs.declared.report.Report.{Report}
 use Rattle.osdp_controller.specs.declared.report.Report.TheVariants.{Opened, Settled, Moved, Event, PollAnswered, Unread, Lost}
 use Rattle.osdp_controller.specs.declared.state.State.{State}
-use Rattle.osdp_controller.specs.declared.state.State.TheVariants.{Closed, Quiet, Idle, Waiting, Pausing}
+use Rattle.osdp_controller.specs.declared.state.State.TheVariants.{Waiting, Pausing}
 use Rattle.osdp_controller.specs.Exchanges.{submitted_command}
 use Rattle.osdp_controller.specs.Hearing.{Heard, comset_of, hears}
 use Rattle.osdp_controller.specs.Machine.{IsMachine, Machine, is_outstanding}
@@ -23,8 +23,9 @@ use Rattle.osdp_controller_laws.specs.Commands.{GoesOn, IsAnswered, IsGivenUp, a
 use Rattle.osdp_controller_laws.specs.Laws.{WhyTold, exchange_in}
 use Rattle.osdp_controller_laws.specs.Runs.{Tick, Hear, after_call}
 use Rattle.osdp_controller_laws.proofs.Causes.{tells_why}
+use Rattle.osdp_controller_laws.proofs.Closed.{closed_is}
 use Rattle.osdp_controller_laws.proofs.Endings.{tells_ends}
-use Rattle.osdp_controller_laws.proofs.InOrder.{commands_by_place}
+use Rattle.osdp_controller_laws.proofs.InOrder.{commands_by_place, none_outstanding}
 use Rattle.osdp_controller_laws.proofs.OneCall.{begins_with_frame, keeps_settings}
 use Rattle.osdp_controller_laws.proofs.Stepwise.{frames_in_steps}
 use Rattle.osdp_controller_laws.proofs.Ticks.{tells_lost}
@@ -204,25 +205,12 @@ names_ticked a now d named =
 -- ---- its exchange
 
 outstanding_exchange : (state : State) → is_outstanding state ≡ true → (x : Exchange) × (exchange_in state ≡ Some x)
-outstanding_exchange Closed h = absurd cc
-outstanding_exchange (Quiet until) h = absurd cc
-outstanding_exchange (Idle due) h = absurd cc
 outstanding_exchange (Waiting until sends o) h = (o.exchange, refl)
 outstanding_exchange (Pausing until o) h = (o.exchange, refl)
-
-no_exchange : (state : State) → exchange_in state ≡ None → is_outstanding state ≡ false
-no_exchange Closed h = refl
-no_exchange (Quiet until) h = refl
-no_exchange (Idle due) h = refl
-no_exchange (Waiting until sends o) h = cc
-no_exchange (Pausing until o) h = cc
+outstanding_exchange state h = absurd cc
 
 pub closed_exchange : (state : State) → is_closed state ≡ true → is_outstanding state ≡ false
-closed_exchange Closed h = refl
-closed_exchange (Quiet until) h = refl
-closed_exchange (Idle due) h = refl
-closed_exchange (Waiting until sends o) h = cc
-closed_exchange (Pausing until o) h = cc
+closed_exchange state h = ap is_outstanding (closed_is state h)
 
 pub heard_holds : (p : Packet) (now : ℕ) (d : Device) → holds (device_hears p now d) ≡ true → holds d ≡ true
 heard_holds p now d h = by_holds (holds d) refl
@@ -240,7 +228,7 @@ heard_ends : (p : Packet) (now : ℕ) (d : Device) (x : Exchange) → is_some (t
     ⊎ IsAnswered x (hears p now d.controller.session).session.state (hears p now d.controller.session).report)
     → holds (device_hears p now d) ≡ false
 heard_ends p now d x tells (inl on) = absurd (let nothing : told_of p now d ≡ None = on.nothing in let e = ap (λ (o : Option Report). is_some o) nothing in cc)
-heard_ends p now d x tells (inr ended) = no_exchange (hears p now d.controller.session).session.state ended.ended
+heard_ends p now d x tells (inr ended) = none_outstanding (hears p now d.controller.session).session.state ended.ended
 
 pub heard_told : (p : Packet) (now : ℕ) (d : Device) → is_some (told_of p now d) ≡ true → Ended d (device_hears p now d)
 heard_told p now d tells = by_holds (holds d) refl
@@ -262,11 +250,9 @@ ticked_ends now d x tells (inl on) = absurd (let nothing : (step_of now d).repor
 ticked_ends now d x tells (inr ended) = closed_exchange (ticks now d.controller.session d.controller.waiting).session.state ended.ended
 
 exchange_stands : (state : State) (x : Exchange) → exchange_in state ≡ Some x → is_outstanding state ≡ true
-exchange_stands Closed x h = absurd cc
-exchange_stands (Quiet until) x h = absurd cc
-exchange_stands (Idle due) x h = absurd cc
 exchange_stands (Waiting until sends o) x h = refl
 exchange_stands (Pausing until o) x h = refl
+exchange_stands state x h = absurd cc
 
 some_is : (report : Option Report) → is_some report ≡ true → (r : Report) × (report ≡ Some r)
 some_is None h = absurd cc

@@ -1,6 +1,6 @@
 -- While an exchange holds the line its frame is the one that went out last.
 use Rattle.std.proofs.Common.{◌≡◌, ◌∙◌, ap, sym, inl, inr, ℕ, ◌||◌, Bool, true, false, max, List, [], ◌∷◌, ◌++◌, length, Option, Some, None, refl}
-use Rattle.std.specs.Prelude.{is_some, not, option_map, slice_get, slice_set}
+use Rattle.std.specs.Prelude.{is_some, option_map, slice_get, slice_set}
 use Rattle.std.specs.Option.{option_map_or, option_or}
 use Rattle.osdp_frame.specs.Items.{items}
 use Rattle.osdp_frame.specs.Packet.{Packet}
@@ -23,10 +23,10 @@ use Rattle.osdp_controller_laws.proofs.Stepwise.{sends_its_frame}
 use Rattle.osdp_bus.specs.declared.device.Device.{Device}
 use Rattle.osdp_bus.specs.declared.fault.BusFault.{BusFault}
 use Rattle.osdp_bus.specs.Buses.{BusState, Devices, device_of, has_report, holder, is_silent, new_bus, seen}
-use Rattle.osdp_bus.specs.Devices.{device_hears, device_ticks, holds, is_device_due, is_taken_beside, step_of}
+use Rattle.osdp_bus.specs.Devices.{device_hears, device_ticks, holds, is_taken_beside, step_of}
 use Rattle.osdp_bus.specs.Hearing.{after_bytes, ends_run, ends_silent, hears_bytes, hears_items, hears_with}
 use Rattle.osdp_bus.specs.Machine.{add_refusal, after_add, after_begin_at, after_retarget_at, after_submit_at, begin_refusal_at, bus_fault, changed_unless, changes_device, device_begins, device_retargets, device_submits, device_withdraws, new_device, retarget_refusal_at, retarget_refusal_of, submit_refusal_at}
-use Rattle.osdp_bus.specs.Ticking.{BusTicked, bus_ticks, is_due_at, is_held_and_due, next_due, stays, ticks_at, ticks_by, ticks_free, ticks_held, ticks_on, ticks_with}
+use Rattle.osdp_bus.specs.Ticking.{BusTicked, bus_ticks, is_due_at, next_due, stays, ticks_at, ticks_by, ticks_free, ticks_held, ticks_on, ticks_with}
 use Rattle.osdp_controller.specs.Comsets.{has_comset}
 use Rattle.osdp_bus_laws.specs.Calls.{Call, Add, Begin, Submit, Withdraw, Retarget, OnBytes, OnSilence, Tick, NextReport, after_call, after_calls}
 use Rattle.osdp_bus_laws.specs.Resending.{HoldersSendTheSame, IsTheLastAgain, last_sent, sent_by}
@@ -38,7 +38,7 @@ use Rattle.osdp_bus_laws.proofs.Hearing.{items_keep}
 use Rattle.osdp_bus_laws.proofs.OneDevice.{heard_holds}
 use Rattle.osdp_bus_laws.proofs.Places.{IsAt, added, replaced}
 use Rattle.osdp_bus_laws.proofs.Sending.{holders_send_their_frame}
-use Rattle.osdp_bus_laws.proofs.Sound.{IsNobody, SoundBus, held_there, nobody, sound_run, sound_seen, sound_silent, still_nobody}
+use Rattle.osdp_bus_laws.proofs.Sound.{IsNobody, SoundBus, either_held, nobody, sound_run, sound_seen, sound_silent, still_nobody}
 
 -- ---- one controller
 
@@ -199,12 +199,8 @@ last_free last b nobody is =
 
 last_held : (last : Option Packet) (entry : ℕ) (b : BusState) → SoundBus b → LastIs last b.devices → TickLast last (ticks_held entry b)
 last_held last entry b sound is =
-    either_way (TickLast last) (has_report b || not (is_held_and_due entry b)) (stays b) (ticks_at (Some entry) b) (λ h. is)
-    (λ h. by_holder (held_there entry b h).1)
-  where
-    by_holder : ((d : Device) × (device_of entry b ≡ Some d) × (holds d ≡ true) × (is_device_due b.greatest d ≡ true)) → TickLast last (ticks_at (Some entry) b)
-    by_holder (d, at, stands, due) =
-        last_with last entry (device_of entry b) b refl (λ j f there h. sound.devices.one j entry f d there at h stands) is
+    either_held (TickLast last) entry b is (λ none d at stands.
+    last_with last entry (device_of entry b) b refl (λ j f there h. sound.devices.one j entry f d there at h stands) is)
 
 last_by : (last : Option Packet) (o : Option ℕ) (b : BusState) → holder b ≡ o → SoundBus b → LastIs last b.devices → TickLast last (ticks_by o b)
 last_by last None b none sound is =

@@ -1,6 +1,6 @@
 -- What goes out while an exchange holds the line, and what the beginning of a session leaves.
-use Rattle.std.proofs.Common.{◌≡◌, ◌∙◌, ap, sym, subst, ℕ, ◌+◌, ◌≤◌, ◌||◌, true, max, List, Some, refl}
-use Rattle.std.specs.Prelude.{IfSome, nat_le, nat_lt, not, option_map, slice_set}
+use Rattle.std.proofs.Common.{◌≡◌, ◌∙◌, ap, sym, subst, ℕ, ◌+◌, ◌≤◌, true, max, List, Some, refl}
+use Rattle.std.specs.Prelude.{IfSome, nat_le, nat_lt, option_map, slice_set}
 use Rattle.std.specs.Option.{option_map_or}
 use Rattle.std.proofs.lemmas.Bool.{leb-true}
 use Rattle.osdp_frame.specs.Packet.{Packet}
@@ -16,14 +16,14 @@ use Rattle.osdp_controller.proofs.Choices.{either_way}
 use Rattle.osdp_controller_laws.specs.Laws.{exchange_in}
 use Rattle.osdp_bus.specs.declared.device.Device.{Device}
 use Rattle.osdp_bus.specs.Buses.{BusState, device_of, has_report, holder, seen}
-use Rattle.osdp_bus.specs.Devices.{holds, is_device_due}
+use Rattle.osdp_bus.specs.Devices.{holds}
 use Rattle.osdp_bus.specs.Machine.{after_begin_at, changed_unless, device_begins}
-use Rattle.osdp_bus.specs.Ticking.{BusTicked, bus_ticks, is_due_at, is_held_and_due, stays, ticks_at, ticks_by, ticks_held, ticks_on, ticks_with}
+use Rattle.osdp_bus.specs.Ticking.{BusTicked, bus_ticks, is_due_at, stays, ticks_at, ticks_by, ticks_held, ticks_on, ticks_with}
 use Rattle.osdp_bus_laws.specs.Calls.{Begin, after_call}
 use Rattle.osdp_bus_laws.specs.Sending.{HoldersSendTheirFrame, IsReached, SessionsBeginAlone, own_frame}
 use Rattle.osdp_bus_laws.specs.Turns.{asking, judged}
 use Rattle.osdp_bus_laws.proofs.Incoming.{set_other}
-use Rattle.osdp_bus_laws.proofs.Sound.{held_there}
+use Rattle.osdp_bus_laws.proofs.Sound.{either_held}
 use Rattle.osdp_bus_laws.proofs.Turning.{set_here}
 
 -- ---- the frame of an exchange
@@ -56,14 +56,7 @@ module _ (now entry : ℕ) (b : BusState) (p : Packet) where
       (d, at, own.0, own.1))
 
   by_held : Sends (ticks_held entry (asking now b))
-  by_held =
-      let r = asking now b in
-      either_way Sends (has_report r || not (is_held_and_due entry r)) (stays r) (ticks_at (Some entry) r) (λ t h. absurd cc)
-      (λ t. by_holder (held_there entry r t).1)
-    where
-      by_holder : ((d : Device) × (device_of entry (asking now b) ≡ Some d) × (holds d ≡ true) × (is_device_due (asking now b).greatest d ≡ true))
-          → Sends (ticks_at (Some entry) (asking now b))
-      by_holder (d, at, stands, due) = by_device d at stands
+  by_held = either_held Sends entry (asking now b) (λ h. absurd cc) (λ none. by_device)
 
   by_tick : holder (judged now b) ≡ Some entry → Sends (bus_ticks now b)
   by_tick held =

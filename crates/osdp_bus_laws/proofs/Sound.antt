@@ -150,15 +150,17 @@ held_there entry b h = by_device (device_of entry b) (has_report b) h
         let both = by_tests (holds d) (is_device_due b.greatest d) e in
         (refl, (d, refl, both.0, both.1))
 
+-- what holds of a bus that stays, and of the tick of an entry that holds the line
+pub either_held : (P : BusTicked → Type 0) (entry : ℕ) (b : BusState) → P (stays b)
+    → (has_report b ≡ false → (d : Device) → device_of entry b ≡ Some d → holds d ≡ true → P (ticks_at (Some entry) b)) → P (ticks_held entry b)
+either_held P entry b rests ticks =
+    either_way P (has_report b || not (is_held_and_due entry b)) (stays b) (ticks_at (Some entry) b) (λ h. rests)
+    (λ h. let there = held_there entry b h in ticks there.0 there.1.0 there.1.1 there.1.2)
+
 sound_held : (entry : ℕ) (b : BusState) → SoundBus b → TickIsSound (ticks_held entry b)
 sound_held entry b is =
-    either_way TickIsSound (has_report b || not (is_held_and_due entry b)) (stays b) (ticks_at (Some entry) b) (λ h. is)
-    (λ h. by_holder (held_there entry b h))
-  where
-    by_holder : (has_report b ≡ false) × ((d : Device) × (device_of entry b ≡ Some d) × (holds d ≡ true) × (is_device_due b.greatest d ≡ true))
-        → TickIsSound (ticks_at (Some entry) b)
-    by_holder (none, (d, at, stands, due)) =
-        sound_ticks_with entry (device_of entry b) b refl none (λ j f there h. is.devices.one j entry f d there at h stands) is
+    either_held TickIsSound entry b is (λ none d at stands.
+    sound_ticks_with entry (device_of entry b) b refl none (λ j f there h. is.devices.one j entry f d there at h stands) is)
 
 sound_by : (o : Option ℕ) (b : BusState) → holder b ≡ o → SoundBus b → TickIsSound (ticks_by o b)
 sound_by None b none is =

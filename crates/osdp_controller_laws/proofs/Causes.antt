@@ -201,10 +201,7 @@ same_number a b c e = let yes = eq-eqb a b e in rw yes refl
 
 numbered_plain : (state : State) (x : Exchange) (reply : Reply) (t : Session) → exchange_in state ≡ Some x → numbered_in state (Plain reply) t ≡ answered x reply t
 numbered_plain Closed x reply t h = cc
-numbered_plain (Quiet until) x reply t h = cc
-numbered_plain (Idle due) x reply t h = cc
-numbered_plain (Waiting until sends o) x reply t h = cc
-numbered_plain (Pausing until o) x reply t h = cc
+numbered_plain state x reply t h = cc
 
 pub hears_answers : HearsAnswers
 hears_answers p now s x reply is =

@@ -11,16 +11,13 @@ use Rattle.osdp_controller.specs.States.{is_closed}
 use Rattle.osdp_controller.specs.Ticking.{ticks_in}
 use Rattle.osdp_controller.specs.declared.session.Session.{Session}
 use Rattle.osdp_controller.specs.declared.state.State.{State}
-use Rattle.osdp_controller.specs.declared.state.State.TheVariants.{Closed, Quiet, Idle, Waiting, Pausing}
+use Rattle.osdp_controller.specs.declared.state.State.TheVariants.{Closed}
 use Rattle.osdp_controller_laws.specs.Commands.{tells_end}
 use Rattle.osdp_controller_laws.proofs.Frames.{either_frame}
 
 pub closed_is : (state : State) → is_closed state ≡ true → state ≡ Closed
 closed_is Closed e = refl
-closed_is (Quiet until) e = absurd cc
-closed_is (Idle due) e = absurd cc
-closed_is (Waiting until sends o) e = absurd cc
-closed_is (Pausing until o) e = absurd cc
+closed_is state e = absurd cc
 
 pub may_begin : (state : State) → is_closed state ≡ true → refused_unless_closed state ≡ None
 may_begin state e = ap refused_unless_closed (closed_is state e)
@@ -28,10 +25,7 @@ may_begin state e = ap refused_unless_closed (closed_is state e)
 -- only such a session may begin
 pub was_closed : (state : State) → refused_unless_closed state ≡ None → state ≡ Closed
 was_closed Closed e = refl
-was_closed (Quiet until) e = absurd cc
-was_closed (Idle due) e = absurd cc
-was_closed (Waiting until sends o) e = absurd cc
-was_closed (Pausing until o) e = absurd cc
+was_closed state e = absurd cc
 
 pub silent_tick : (state : State) (s : Session) (waiting : List Command) → is_closed state ≡ true → tells_end (ticks_in state s waiting).step.report ≡ false
 silent_tick state s waiting e =

@@ -94,12 +94,9 @@ told_of x h (inr end) =
     ap (λ (t : Option Command). listed t ++ []) (sym end.told)
     ∙ ap (λ (e : Option Exchange). listed (told_command h.report) ++ listed (command_of e)) (sym end.ended)
 
-none_outstanding : (state : State) → exchange_in state ≡ None → is_outstanding state ≡ false
+pub none_outstanding : (state : State) → exchange_in state ≡ None → is_outstanding state ≡ false
 none_outstanding Closed h = refl
-none_outstanding (Quiet until) h = refl
-none_outstanding (Idle due) h = refl
-none_outstanding (Waiting until sends o) h = cc
-none_outstanding (Pausing until o) h = cc
+none_outstanding state h = cc
 
 abbrev FrameTells : Option Command → Heard → Type 0
 FrameTells before h = listed before ++ [] ≡ listed (told_command h.report) ++ listed (asked_in h.session.state)

@@ -171,10 +171,7 @@ busy_again p now s until o e is =
 
 unread_in : (state : State) (x : Exchange) (code : ℕ) (s : Session) → exchange_in state ≡ Some x → numbered_in state (Unreadable code) s ≡ answered_unread x code s
 unread_in Closed x code s h = cc
-unread_in (Quiet until) x code s h = cc
-unread_in (Idle due) x code s h = cc
-unread_in (Waiting until sends o) x code s h = cc
-unread_in (Pausing until o) x code s h = cc
+unread_in state x code s h = cc
 
 pub frames_in_steps : (p : Packet) (now : ℕ) (s : Session) → FramesInSteps p now s
 frames_in_steps p now s = record {

@@ -28,7 +28,7 @@ use Rattle.osdp_controller.specs.declared.state.State.TheVariants.{Closed, Quiet
 use Rattle.osdp_reader.specs.Table as reader
 use Rattle.osdp_reader.specs.Table.{Outcome, begun, command_in, moved, new_address, outcome, taken}
 use Rattle.osdp_reader.specs.State.{ReaderState}
-use Rattle.osdp_reader.specs.declared.handler.Answer.{ReplyMeaning as HandlerAnswer}
+use Rattle.osdp_reader.specs.declared.handler.Answer.{Answer}
 use Rattle.osdp_reader.specs.declared.kind.Kind.{Kind}
 use Rattle.osdp_reader.specs.declared.kind.Kind.TheVariants as kind
 use Rattle.osdp_link_laws.specs.Headline.{MovesFit, MoveFits, MaySubmit}
@@ -153,7 +153,7 @@ module _ (reads : ReadsWhatIsAsked) (address : ℕ) where
       both HeardWell (is_from_reader p s) (hears_in s.state p.sequence (said_by p) (seen now s)) (ignores (seen now s))
       (heard_well s.state p.sequence (said_by p) (seen now s) is.0 is) is
 
-module _ {H : Type 0} (answer_of : H → Command → HandlerAnswer) (after : H → Command → H) where
+module _ {H : Type 0} (answer_of : H → Command → Answer) (after : H → Command → H) where
   -- ---- the reader
 
   module _ (address : ℕ) where

@@ -191,7 +191,8 @@ module _ (fixed : ControllerConfig) {H : Type 0} (answer_of : H → Command → 
 
   asked_answering : (n : ℕ) (y : Exchange) (b : Reply) (m : ℕ) (c : Command) (l : Link H)
       → At fixed answer_of after settings first (Behind (After n y b) (Asking c)) l
-      → Answering fixed answer_of after settings first (l.account.taken ++ c ∷ []) (asked_link None c (frame fixed (Asking c) m) l).reader
+      → let reader = (asked_link None c (frame fixed (Asking c) m) l).reader in
+      Answering fixed answer_of after settings first (l.account.taken ++ c ∷ []) reader.config reader.handler
   asked_answering n y b m c l h =
       let a = answer_to answer_of after l.reader.config l.reader.handler c in
       let later = handler_after_commands answer_of after settings first (l.account.taken ++ c ∷ []) in

@@ -16,7 +16,7 @@ use Rattle.osdp_controller.specs.declared.session.Session.{Session}
 use Rattle.osdp_controller.specs.declared.state.State.TheVariants.{Quiet, Idle}
 use Rattle.osdp_frame.specs.Packet.{next_sequence}
 use Rattle.osdp_controller.specs.Exchanges.{exchange_command}
-use Rattle.osdp_reader.specs.Queue.{event_for, offering, released}
+use Rattle.osdp_reader.specs.Queue.{Queue, event_for, offering, queued, released}
 use Rattle.osdp_reader.specs.State.{ReaderState}
 use Rattle.osdp_reader.specs.Table.{answer_to}
 use Rattle.osdp_reader.specs.declared.config.ReaderConfig.{ReaderConfig}
@@ -24,7 +24,7 @@ use Rattle.osdp_reader.specs.declared.handler.Answer.{Answer}
 use Rattle.osdp_link_laws.specs.Clean.{AreSpaced, IsInTurn, IsOrder}
 use Rattle.osdp_link_laws.specs.Headline.{MovesFit, Begins, MaySubmit, with_answers}
 use Rattle.osdp_link_laws.specs.Link as link
-use Rattle.osdp_link_laws.specs.Link.{Account, Link, Move, Queue as QueueEvent, Reopen, SetBusy, Submit, Tick, ToController, ToReader, after_move, new_account, run}
+use Rattle.osdp_link_laws.specs.Link.{Account, Link, Move, Queue as QueueEvent, Reopen, SetBusy, Submit, Tick, ToController, ToReader, new_account, run}
 use Rattle.osdp_link_laws.specs.Progress.{SetsNoAddress, round, rounds}
 use Rattle.osdp_link_laws.proofs.Advancing.{HoldsAtSomeStage}
 use Rattle.osdp_link_laws.proofs.Acting.{no_event}
@@ -203,43 +203,48 @@ module _ (fixed : ControllerConfig) {H : Type 0} (answer_of : H → Command → 
 
   -- ---- before the opening
 
+  -- a reader as it is set at first, which isn't busy
+  pub record IsFree (set : ReaderConfig) (current : H) (busy : Bool) : Type 0 where
+    pub config : set ≡ settings
+    pub handler : current ≡ first
+    pub ready : busy ≡ false
+
   -- a session that has begun, of which nothing was sent yet
   pub record IsReadied (s : Session) (l : Link H) : Type 0 where
     pub session : l.controller.session ≡ s
     pub waiting : Each MaySubmit l.controller.waiting
-    pub config : l.reader.config ≡ settings
-    pub handler : l.reader.handler ≡ first
-    pub ready : l.reader.busy ≡ false
-    pub to_reader : l.to_reader ≡ []
-    pub to_controller : l.to_controller ≡ []
+    pub reader : IsFree l.reader.config l.reader.handler l.reader.busy
+    pub line : (l.to_reader ≡ []) × (l.to_controller ≡ [])
     pub account : l.account ≡ new_account l.controller.waiting l.reader.queue.events
+
+  -- another list of commands that wait, and another queue
+  waits_ready : (s : Session) (cs : List Command) (queue : Queue) (l : Link H) → Each MaySubmit cs → IsReadied s l
+      → IsReadied s (record l {
+        controller = record l.controller { waiting = cs };
+        reader = record l.reader { queue = queue };
+        account = new_account cs queue.events;
+      })
+  waits_ready s cs queue l may h = record {
+    session = h.session;
+    waiting = may;
+    reader = h.reader;
+    line = h.line;
+    account = refl;
+  }
 
   submits_ready : (s : Session) (refusal : Option ControllerFault) (c : Command) (l : Link H) → (refusal ≡ None → MaySubmit c) → IsReadied s l
       → IsReadied s (link.submits refusal c l)
   submits_ready s (Some fault) c l may h = h
-  submits_ready s None c l may h = record {
-    session = h.session;
-    waiting = each_append MaySubmit l.controller.waiting (c ∷ []) h.waiting (may refl, tt);
-    config = h.config;
-    handler = h.handler;
-    ready = h.ready;
-    to_reader = h.to_reader;
-    to_controller = h.to_controller;
-    account = ap (λ (t : Account). record t { issued = t.issued ++ c ∷ [] }) h.account;
-  }
+  submits_ready s None c l may h =
+      subst (λ (t : Account). IsReadied s (record (link.submits None c l) { account = record t { issued = t.issued ++ c ∷ [] } })) (sym h.account)
+      (waits_ready s (l.controller.waiting ++ c ∷ []) l.reader.queue l
+      (each_append MaySubmit l.controller.waiting (c ∷ []) h.waiting (may refl, tt)) h)
 
   queues_ready : (s : Session) (full : Bool) (e : Event) (l : Link H) → IsReadied s l → IsReadied s (link.queues full e l)
   queues_ready s true e l h = h
-  queues_ready s false e l h = record {
-    session = h.session;
-    waiting = h.waiting;
-    config = h.config;
-    handler = h.handler;
-    ready = h.ready;
-    to_reader = h.to_reader;
-    to_controller = h.to_controller;
-    account = ap (λ (t : Account). record t { queued = t.queued ++ e ∷ [] }) h.account;
-  }
+  queues_ready s false e l h =
+      subst (λ (t : Account). IsReadied s (record (link.queues false e l) { account = record t { queued = t.queued ++ e ∷ [] } })) (sym h.account)
+      (waits_ready s l.controller.waiting (queued e l.reader.queue) l h.waiting h)
 
   orders_ready : (s : Session) (orders : List Move) (l : Link H) → Each IsOrder orders → MovesFit answer_of after orders l → IsReadied s l
       → IsReadied s (run answer_of after orders l)
@@ -274,19 +279,19 @@ module _ (fixed : ControllerConfig) {H : Type 0} (answer_of : H → Command → 
         fresh fixed answer_of after settings first l (record {
           controller = subst (λ st. Waits fixed st l.controller.session) (sym state) config;
           waiting = h.waiting;
-          answering = record { id = ap (λ c. c.id) h.config; caps = ap (λ c. c.caps) h.config; handler = h.handler };
-          to_reader = h.to_reader;
-          to_controller = h.to_controller;
+          answering = record { id = ap (λ c. c.id) h.reader.config; caps = ap (λ c. c.caps) h.reader.config; handler = h.reader.handler };
+          to_reader = h.line.0;
+          to_controller = h.line.1;
           account = h.account;
         }),
       ) in
       let still : IsStill fixed answer_of after settings first l = record {
-        to_reader = h.to_reader;
-        to_controller = h.to_controller;
-        ready = record { here = ap (λ c. c.address) h.config ∙ here; ready = h.ready };
+        to_reader = h.line.0;
+        to_controller = h.line.1;
+        ready = record { here = ap (λ c. c.address) h.reader.config ∙ here; ready = h.reader.ready };
         issued = none;
       } in
-      let is = opening_exchange fixed answer_of after settings first given until opening l still config (ap (λ c. c.id) h.config) state (omega (arith, reached)) fits.1.0 in
+      let is = opening_exchange fixed answer_of after settings first given until opening l still config (ap (λ c. c.id) h.reader.config) state (omega (arith, reached)) fits.1.0 in
       let m = goes answer_of after opening l in
       let interval = s.config.poll_interval in
       let between : IsBetween interval m = record {
@@ -328,11 +333,8 @@ module _ {H : Type 0} (answer_of : H → Command → Answer) (after : H → Comm
       let readied = orders_ready s.config answer_of after config l.reader.handler s orders l (each_of IsOrder orders are) fits (record {
         session = refl;
         waiting = each_of MaySubmit l.controller.waiting b.waiting;
-        config = refl;
-        handler = refl;
-        ready = ready;
-        to_reader = b.to_reader;
-        to_controller = b.to_controller;
+        reader = record { config = refl; handler = refl; ready = ready };
+        line = (b.to_reader, b.to_controller);
         account = b.account;
       }) in
       let due : until ≤ opening = subst (λ state. IfSome (moment_of state) (λ quiet. quiet ≤ opening)) b.quiet.1 reached in

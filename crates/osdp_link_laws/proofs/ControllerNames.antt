@@ -1,5 +1,5 @@
 -- What a packet may make of the controller's address, and of the one that is kept for its COMSET.
-use Rattle.std.proofs.Common.{◌≡◌, ◌⊎◌, ◌<◌, ◌+◌, ℕ, Bool, true, false, cond, eqb, ltb, List, ◌∷◌, ◌++◌, Option, Some, None, refl, sym, subst, ap, ◌∙◌, inl, inr}
+use Rattle.std.proofs.Common.{◌≡◌, ◌⊎◌, ◌<◌, ◌+◌, ℕ, Bool, true, false, cond, eqb, ltb, List, [], ◌∷◌, ◌++◌, Option, Some, None, refl, sym, subst, ap, ◌∙◌, inl, inr}
 use Rattle.std.proofs.lemmas.Bool.{ltb-true}
 use Rattle.std.proofs.lemmas.Bool.Decides.{eqb_tells}
 use Rattle.std.specs.Prelude.{◌&&◌, not}
@@ -95,44 +95,40 @@ module _ (r : Option ℕ) (here : ℕ) (ws : List Command) where
   opened_well said None s is fits one left rest = stays_well said (ignores s) refl is fits one
   opened_well said (Some id) s is fits one left rest = stays_well said (opening_answered (Some id) s) refl is left rest
 
+  -- a COMSET is done with, and was the one that an address was kept for
+  front_well : (said : ReplyMeaning) (h : Heard) (c : Command) (d : Communication) → comset_of c ≡ Some d
+      → freed_by h.report r ≡ freed_for (comset_of c) r → asked_in h.session.state ≡ [] → Each CommandFits ws → One r (c ∷ ws)
+      → (freed_by h.report r ≡ None → r ≡ Some d.address → Frees h ⊎ Goes said h) → HeardWell said h
+  front_well said h c d is frees none fits one goes =
+      let front = front_is (comset_of c) d r ws is one.0 in
+      let freed : freed_by h.report r ≡ None = frees ∙ ap (λ o. freed_for o r) is in
+      record {
+        one = subst (λ cs. One (freed_by h.report r) (cs ++ ws)) (sym none) (subst (λ q. One q ws) (sym freed) (one_of_none None ws front.1));
+        fits = subst (λ cs. Each CommandFits (cs ++ ws)) (sym none) fits;
+        goes = inr (goes freed front.0);
+      }
+
   settled_well : (said : ReplyMeaning) (o : Option Communication) (c : Command) (a : Reply) (s : Session) → comset_of c ≡ o → s.config.address ≡ here
       → Each CommandFits ws → One r (c ∷ ws) → HeardWell said (command_answered None c a s)
   settled_well said None c a s is at fits one =
       stays_well said (command_answered None c a s) (ap (λ o. freed_for o r) is) at fits one.1
   settled_well said (Some d) c a s is at fits one =
-      let front = front_is (comset_of c) d r ws is one.0 in
-      let freed : freed_for (comset_of c) r ≡ None = ap (λ o. freed_for o r) is in
-      record {
-        one = subst (λ q. One q ws) (sym freed) (one_of_none None ws front.1);
-        fits = fits;
-        goes = inr (inl (record {
-          asked = d;
-          address = at;
-          freed = freed;
-          reserved = front.0;
-          far = λ told. subst IsNoDevice is told;
-        }));
-      }
+      front_well said (command_answered None c a s) c d is refl refl fits one
+      (λ freed reserved. inl (record { asked = d; address = at; freed = freed; reserved = reserved; far = λ told. subst IsNoDevice is told }))
 
   command_well : (to : Option Communication) (c : Command) (a : Reply) (s : Session) → moved_by (comset_of c) (com_of a) ≡ to → s.config.address ≡ here
       → Each CommandFits ws → One r (c ∷ ws) → HeardWell (Plain a) (command_answered to c a s)
   command_well None c a s is at fits one = settled_well (Plain a) (comset_of c) c a s refl at fits one
   command_well (Some d) c a s is at fits one =
       let moves = moves_by (comset_of c) (com_of a) d is in
-      let front = front_is (comset_of c) moves.0 r ws moves.1 one.0 in
-      let freed : freed_for (comset_of c) r ≡ None = ap (λ o. freed_for o r) moves.1 in
-      record {
-        one = subst (λ q. One q ws) (sym freed) (one_of_none None ws front.1);
-        fits = fits;
-        goes = inr (inr (record {
-          answered = d;
-          address = refl;
-          freed = freed;
-          reserved = front.0 ∙ ap Some (sym moves.3);
-          said_so = ap Plain (com_is a d moves.2);
-          device = moves.4;
-        }));
-      }
+      front_well (Plain a) (command_answered (Some d) c a s) c moves.0 moves.1 refl refl fits one (λ freed reserved. inr (record {
+        answered = d;
+        address = refl;
+        freed = freed;
+        reserved = reserved ∙ ap Some (sym moves.3);
+        said_so = ap Plain (com_is a d moves.2);
+        device = moves.4;
+      }))
 
   answered_well : (x : Exchange) (a : Reply) (s : Session) → s.config.address ≡ here → Each CommandFits (asked_in s.state ++ ws) → One r (asked_in s.state ++ ws)
       → Each CommandFits (pending x ++ ws) → One r (pending x ++ ws) → HeardWell (Plain a) (answered x a s)

@@ -9,9 +9,8 @@ use Rattle.osdp_msg.specs.declared.event.Event.{Event}
 use Rattle.osdp_msg.specs.declared.reply.Reply.{Reply}
 use Rattle.osdp_msg.specs.declared.reply.Reply.TheVariants as reply
 use Rattle.osdp_controller.specs.Answers as packets
-use Rattle.osdp_controller.specs.Answers.{meaning_by_reply}
 use Rattle.osdp_controller.specs.Hearing as controller
-use Rattle.osdp_controller.specs.Hearing.{Heard, event_in}
+use Rattle.osdp_controller.specs.Hearing.{event_in}
 use Rattle.osdp_controller.specs.declared.meaning.ReplyMeaning.TheVariants.{NotTaken, Plain}
 use Rattle.osdp_controller.specs.declared.config.ControllerConfig.{ControllerConfig}
 use Rattle.osdp_controller.specs.declared.exchange.Exchange.{Exchange}
@@ -142,15 +141,15 @@ module _ (fixed : ControllerConfig) {H : Type 0} (answer_of : H → Command → 
   FrontToController (Rest n x a) p l = Says fixed n a p
 
   -- what an answer of the exchange before, or BUSY, is to the current one
-  busy_is : Assumed → (p : Packet) → p ≡ answer fixed 0 reply.Busy → packets.answer_of p ≡ NotTaken
-  busy_is given p is = ap packets.answer_of is ∙ given.hears 0 reply.Busy tt
+  busy_is : Assumed → (p : Packet) → p ≡ answer fixed 0 reply.Busy → packets.meaning_of p ≡ NotTaken
+  busy_is given p is = ap packets.meaning_of is ∙ given.hears 0 reply.Busy tt
 
   plain_is : Assumed → (n : ℕ) (x : Exchange) (a : Reply) (p : Packet) → Acted settings.id n x a → p ≡ answer fixed n a
-      → packets.answer_of p ≡ Plain a
-  plain_is given n x a p acted is = ap packets.answer_of is ∙ given.hears n a acted.0.fits ∙ given.plain a acted.0.plain
+      → packets.meaning_of p ≡ Plain a
+  plain_is given n x a p acted is = ap packets.meaning_of is ∙ given.hears n a acted.0.fits ∙ given.plain a acted.0.plain
 
   old_is : Assumed → (past : Past) (p : Packet) → IsPast settings.id past → SaysOld fixed past p
-      → (packets.answer_of p ≡ NotTaken) ⊎ ((p.sequence ≢ number_after past) × ((r : Reply) × (packets.answer_of p ≡ Plain r)))
+      → (packets.meaning_of p ≡ NotTaken) ⊎ ((p.sequence ≢ number_after past) × ((r : Reply) × (packets.meaning_of p ≡ Plain r)))
   old_is given Start p acted is = inl (busy_is given p is)
   old_is given (After n y b) p acted (inl busy) = inl (busy_is given p busy)
   old_is given (After n y b) p acted (inr is) =
@@ -225,7 +224,7 @@ module _ (fixed : ControllerConfig) {H : Type 0} (answer_of : H → Command → 
         controller = rests;
         waiting = h.waiting;
         reader = h.reader;
-        answering = subst (λ cs. Answering fixed answer_of after settings first cs l.reader) (sym (settles_no_taking x a l.account)) h.answering;
+        answering = subst (λ cs. Answering fixed answer_of after settings first cs l.reader.config l.reader.handler) (sym (settles_no_taking x a l.account)) h.answering;
         to_reader = h.to_reader;
         to_controller = line;
         account = settled_account x a l.controller.waiting l.reader.queue.events l.account

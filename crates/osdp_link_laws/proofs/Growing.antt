@@ -17,7 +17,7 @@ use Rattle.osdp_reader.specs.declared.kind.Kind.{Kind}
 use Rattle.osdp_reader.specs.declared.kind.Kind.TheVariants as kind
 use Rattle.osdp_reader.specs.Table as reader
 use Rattle.osdp_link_laws.specs.Link as link
-use Rattle.osdp_link_laws.specs.Link.{Account, Delivered, Delivery, Link, Lost, Move, Queue as QueueEvent, Reopen, Repeated, SetBusy, Submit, Tick, ToController, ToReader, after_move, run, told}
+use Rattle.osdp_link_laws.specs.Link.{Account, Delivered, Delivery, Link, Lost, Move, Queue as QueueEvent, Reopen, Repeated, SetBusy, Submit, Tick, ToController, ToReader, after_move, told}
 use Rattle.osdp_link_laws.specs.Sessions.{accepted, queued, unless_full, submitted}
 use Rattle.osdp_link_laws.proofs.Once.{GoesOn}
 
@@ -30,14 +30,8 @@ as_before : (t u : Account) → u.issued ≡ t.issued → u.queued ≡ t.queued 
 as_before t u issued queued = record { issued = issued ∙ sym (append-nil t.issued); queued = queued ∙ sym (append-nil t.queued) }
 
 told_keeps : (r : Option Report) (t : Account) → Grows [] [] t (told r t)
-told_keeps None t = as_before t t refl refl
 told_keeps (Some (report.Opened id)) t = as_before t t refl refl
-told_keeps (Some (report.Settled c a)) t = as_before t (told (Some (report.Settled c a)) t) refl refl
-told_keeps (Some (report.Moved c a)) t = as_before t (told (Some (report.Moved c a)) t) refl refl
-told_keeps (Some (report.Event e)) t = as_before t (told (Some (report.Event e)) t) refl refl
-told_keeps (Some (report.PollAnswered a)) t = as_before t t refl refl
-told_keeps (Some (report.Unread c code)) t = as_before t t refl refl
-told_keeps (Some (report.Lost cause c)) t = as_before t (told (Some (report.Lost cause c)) t) refl refl
+told_keeps r t = as_before t (told r t) refl refl
 
 pub told_issues : (r : Option Report) (t : Account) → (told r t).issued ≡ t.issued
 told_issues r t = (told_keeps r t).issued ∙ append-nil t.issued
@@ -48,28 +42,11 @@ TakesMore t u = (all : List Command × List Event) × (u ≡ record t { taken = 
 
 command_takes : (c : Command) (front : List Event) (t : Account) → TakesMore t (link.taken_command c front t)
 command_takes command.Poll front t = ((t.taken, t.offered ++ front), refl)
-command_takes (command.Id a) front t = ((t.taken ++ (command.Id a) ∷ [], t.offered), refl)
-command_takes (command.Cap a) front t = ((t.taken ++ (command.Cap a) ∷ [], t.offered), refl)
-command_takes command.LocalStatus front t = ((t.taken ++ command.LocalStatus ∷ [], t.offered), refl)
-command_takes command.InputStatus front t = ((t.taken ++ command.InputStatus ∷ [], t.offered), refl)
-command_takes command.OutputStatus front t = ((t.taken ++ command.OutputStatus ∷ [], t.offered), refl)
-command_takes command.ReaderStatus front t = ((t.taken ++ command.ReaderStatus ∷ [], t.offered), refl)
-command_takes (command.Output a) front t = ((t.taken ++ (command.Output a) ∷ [], t.offered), refl)
-command_takes (command.Led a) front t = ((t.taken ++ (command.Led a) ∷ [], t.offered), refl)
-command_takes (command.Buzzer a) front t = ((t.taken ++ (command.Buzzer a) ∷ [], t.offered), refl)
-command_takes (command.Text a) front t = ((t.taken ++ (command.Text a) ∷ [], t.offered), refl)
-command_takes (command.Comset a) front t = ((t.taken ++ (command.Comset a) ∷ [], t.offered), refl)
-command_takes (command.Maker a) front t = ((t.taken ++ (command.Maker a) ∷ [], t.offered), refl)
+command_takes c front t = ((t.taken ++ c ∷ [], t.offered), refl)
 
 pub taken_takes : (k : Kind) (c : Option Command) (front : List Event) (t : Account) → TakesMore t (link.taken k c front t)
-taken_takes kind.Silent c front t = ((t.taken, t.offered), refl)
-taken_takes kind.Secured c front t = ((t.taken, t.offered), refl)
-taken_takes kind.Zero c front t = ((t.taken, t.offered), refl)
-taken_takes kind.Repeat c front t = ((t.taken, t.offered), refl)
-taken_takes kind.Taken None front t = ((t.taken, t.offered), refl)
 taken_takes kind.Taken (Some c) front t = command_takes c front t
-taken_takes kind.Busy c front t = ((t.taken, t.offered), refl)
-taken_takes kind.Wrong c front t = ((t.taken, t.offered), refl)
+taken_takes k c front t = ((t.taken, t.offered), refl)
 
 taken_keeps : (k : Kind) (c : Option Command) (front : List Event) (t : Account) → Grows [] [] t (link.taken k c front t)
 taken_keeps k c front t =

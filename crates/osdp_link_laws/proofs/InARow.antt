@@ -12,16 +12,17 @@ use Rattle.osdp_controller.specs.declared.state.State.TheVariants.{Closed}
 use Rattle.osdp_controller_laws.proofs.Closed.{was_closed}
 use Rattle.osdp_reader.specs.declared.config.ReaderConfig.{ReaderConfig}
 use Rattle.osdp_reader.specs.declared.handler.Answer.{Answer}
+use Rattle.osdp_reader_laws.specs.Answering.{handler_after_commands}
 use Rattle.osdp_link_laws.specs.Headline.{MovesFit, AreOnce, Begins, MoveFits, MaySubmit, handler_after, IsBeginning}
 use Rattle.osdp_link_laws.specs.Link as link
-use Rattle.osdp_link_laws.specs.Link.{Account, Delivered, Delivery, Link, Lost, Move, Queue as QueueEvent, Reopen, Repeated, SetBusy, Submit, Tick, ToController, ToReader, after_move, run, told}
+use Rattle.osdp_link_laws.specs.Link.{Account, Link, Move, Reopen, after_move, run}
 use Rattle.osdp_link_laws.specs.Peers.{IsPlainlySaid, ReadEachOther}
-use Rattle.osdp_link_laws.specs.Sessions.{AreInARow, HaveLeft, LastsOrLeaves, all_queued, all_submitted, ended_commands, queued, settled_commands, submitted}
+use Rattle.osdp_link_laws.specs.Sessions.{AreInARow, CommandsHavePlaces, EventsHavePlaces, HaveLeft, LastOneLasts, Leaves, StayInARow, all_queued, all_submitted, ended_commands, queued, settled_commands, submitted}
 use Rattle.osdp_link_laws.proofs.Advancing.{HoldsAtSomeStage}
 use Rattle.osdp_link_laws.proofs.Deliveries.{all_said}
 use Rattle.osdp_link_laws.proofs.Devices.{IsDevice, move_there}
 use Rattle.osdp_link_laws.proofs.Growing.{Grows, goes_on}
-use Rattle.osdp_link_laws.proofs.Lines.{each_all, each_of}
+use Rattle.osdp_link_laws.proofs.Lines.{each_all, each_of, each_rest}
 use Rattle.osdp_link_laws.proofs.Moves.{Premises}
 use Rattle.osdp_link_laws.proofs.Once.{GoesOn, fresh, is_once, moving}
 use Rattle.osdp_link_laws.proofs.Sessions.{lasts_or_leaves, leaves}
@@ -32,16 +33,25 @@ pub begins_more : {A : Type 0} (xs ys zs more : List A) → IsBeginning xs ys �
 begins_more xs ys zs more (rest, is) longer =
     (rest ++ more, longer ∙ ap (λ l. l ++ more) is ∙ append_assoc xs rest more)
 
+-- what begins with what was left goes on with it
+pub begins_on : (P : List Command → List Event → Type 0) (t u : Account) (cs : List Command) (es : List Event) → Grows cs es t u
+    → (waiting : List Command) × (events : List Event) × P waiting events × IsBeginning waiting t.issued × IsBeginning events t.queued
+    → (waiting : List Command) × (events : List Event) × P waiting events × IsBeginning waiting u.issued × IsBeginning events u.queued
+begins_on P t u cs es grows (waiting, events, left, commands, waits) = (
+  waiting,
+  events,
+  left,
+  begins_more waiting t.issued u.issued cs commands grows.issued,
+  begins_more events t.queued u.queued es waits grows.queued,
+)
+
 -- a session goes on after those before it
 row_goes_on : (t u : Account) (cs : List Command) (es : List Event) (earlier : List Account) → Grows cs es t u → AreInARow t earlier → AreInARow u earlier
 row_goes_on t u cs es [] grows row = tt
-row_goes_on t u cs es (before ∷ earlier) grows ((waiting, events, left, commands, waits), row) = (
-  (waiting, events, left, begins_more waiting t.issued u.issued cs commands grows.issued, begins_more events t.queued u.queued es waits grows.queued),
-  row,
-)
+row_goes_on t u cs es (before ∷ earlier) grows (follows, row) = (begins_on (Leaves before) t u cs es grows follows, row)
 
 -- more events come after all of them
-pub left_more : (all more : List Event) (earlier : List Account) (gone : List Event) → HaveLeft all earlier gone → HaveLeft (all ++ more) earlier gone
+left_more : (all more : List Event) (earlier : List Account) (gone : List Event) → HaveLeft all earlier gone → HaveLeft (all ++ more) earlier gone
 left_more all more [] gone none = none
 left_more all more (t ∷ earlier) gone (before, left, again, prior, stands, is, told_is, few) = (
   before,
@@ -54,13 +64,69 @@ left_more all more (t ∷ earlier) gone (before, left, again, prior, stands, is,
   few,
 )
 
+-- all events are those that have left and those that are queued
+abbrev pub AreQueuedOrLeft : List Event → List Account → List Event → Type 0
+AreQueuedOrLeft all earlier queued = (gone : List Event) × HaveLeft all earlier gone × (all ≡ gone ++ queued)
+
+pub queued_on : (all more : List Event) (earlier : List Account) (queued later : List Event) → later ≡ queued ++ more
+    → AreQueuedOrLeft all earlier queued → AreQueuedOrLeft (all ++ more) earlier later
+queued_on all more earlier queued later grows (gone, left, whole) = (
+  gone,
+  left_more all more earlier gone left,
+  ap (λ l. l ++ more) whole ∙ append_assoc gone queued more ∙ ap (λ l. gone ++ l) (sym grows),
+)
+
+-- .. and where a session ends, what it leaves is queued
+pub queued_again : (all : List Event) (earlier : List Account) (t : Account) (waiting : List Command) (events : List Event) → Leaves t waiting events
+    → AreQueuedOrLeft all earlier t.queued → AreQueuedOrLeft all (t ∷ earlier) events
+queued_again all earlier t waiting events left (gone, before, whole) = (
+  gone ++ left.reported.0,
+  (gone, left.reported.0, left.reported.1, before, ([], whole ∙ sym (append-nil (gone ++ t.queued))), refl, left.reported.3, left.reported.5),
+  whole ∙ ap (λ l. gone ++ l) left.reported.2 ∙ sym (append_assoc gone left.reported.0 events),
+)
+
 module _ {H : Type 0} where
   -- every command and event so far has its place
   pub record Placed (cs : List Command) (es : List Event) (l : Link H) : Type 0 where
     pub commands : cs ≡ ended_commands l.earlier ++ l.account.issued
-    pub events : (gone : List Event) × HaveLeft es l.earlier gone × (es ≡ gone ++ l.account.queued)
+    pub events : AreQueuedOrLeft es l.earlier l.account.queued
 
 module _ {H : Type 0} (answer_of : H → Command → Answer) (after : H → Command → H) where
+  -- a first session has begun
+  pub begun : (l : Link H) (earlier : List Account) → Begins l
+      → HoldsAtSomeStage l.controller.session.config answer_of after l.reader.config l.reader.handler (record l { earlier = earlier })
+  begun l earlier b =
+      let fixed = l.controller.session.config in (
+        Fresh,
+        fresh fixed answer_of after l.reader.config l.reader.handler (record l { earlier = earlier }) (record {
+          controller = subst (λ state. Waits fixed state l.controller.session) (sym b.quiet.1) refl;
+          waiting = each_of MaySubmit l.controller.waiting b.waiting;
+          answering = record { id = refl; caps = refl; handler = refl };
+          to_reader = b.to_reader;
+          to_controller = b.to_controller;
+          account = b.account;
+        }),
+      )
+
+  -- .. and one begins again, after one that these commands have left
+  pub begun_again : (fixed : ControllerConfig) (settings : ReaderConfig) (handler : H) (gone : List Command) (now : ℕ) (l : Link H)
+      → HoldsAtSomeStage fixed answer_of after settings handler (record l { controller = record l.controller { waiting = gone ++ l.controller.waiting } })
+      → l.to_reader ≡ [] → l.to_controller ≡ []
+      → HoldsAtSomeStage l.controller.session.config answer_of after settings
+      (handler_after_commands answer_of after settings handler l.account.taken) (link.reopens None [] [] now l)
+  begun_again fixed settings handler gone now l (at, held) here there = (
+    Fresh,
+    fresh l.controller.session.config answer_of after settings (handler_after_commands answer_of after settings handler l.account.taken)
+        (link.reopens None [] [] now l) (record {
+          controller = refl;
+          waiting = each_rest MaySubmit gone l.controller.waiting held.waiting;
+          answering = record { id = held.answering.id; caps = held.answering.caps; handler = held.answering.handler };
+          to_reader = here;
+          to_controller = there;
+          account = refl;
+        }),
+  )
+
   -- a session that holds, after sessions that were once and in a row
   pub record Stands (settings : ReaderConfig) (first : H) (l : Link H) : Type 0 where
     pub fixed : ControllerConfig
@@ -114,30 +180,17 @@ module _ {H : Type 0} (answer_of : H → Command → Answer) (after : H → Comm
   reopening None [] [] now l may here there h =
       let fixed = l.controller.session.config in
       let handler = handler_after answer_of after settings first l.earlier in
-      let new = link.reopens None [] [] now l in
-      let at = h.holds.0 in
-      let held = h.holds.1 in
       record {
         fixed = fixed;
         device = h.current;
         current = h.current;
-        holds = (
-          Fresh,
-          fresh fixed answer_of after settings (handler_after answer_of after settings first new.earlier) new (record {
-            controller = refl;
-            waiting = held.waiting;
-            answering = record { id = held.answering.id; caps = held.answering.caps; handler = held.answering.handler };
-            to_reader = here;
-            to_controller = there;
-            account = refl;
-          }),
-        );
+        holds = begun_again answer_of after h.fixed settings handler [] now l h.holds here there;
         once = (is_once h.fixed answer_of after settings handler l h.holds, h.once);
         row = (
           (
             l.controller.waiting,
             l.reader.queue.events,
-            leaves h.fixed answer_of after settings handler at l held (was_closed l.controller.session.state may),
+            leaves h.fixed answer_of after settings handler h.holds.0 l h.holds.1 (was_closed l.controller.session.state may),
             ([], sym (append-nil l.controller.waiting)),
             ([], sym (append-nil l.reader.queue.events)),
           ),
@@ -146,14 +199,9 @@ module _ {H : Type 0} (answer_of : H → Command → Answer) (after : H → Comm
       }
 
   pub standing : Assumed → (move : Move) (l : Link H) → MoveFits answer_of after move l → AllStands l → AllStands (after_move answer_of after move l)
-  standing given (Submit c) l fits h = keeps_on given (Submit c) l tt fits h
-  standing given (QueueEvent e) l fits h = keeps_on given (QueueEvent e) l tt fits h
-  standing given (SetBusy busy) l fits h = keeps_on given (SetBusy busy) l tt fits h
-  standing given (Tick now) l fits h = keeps_on given (Tick now) l tt fits h
-  standing given (ToReader how) l fits h = keeps_on given (ToReader how) l tt fits h
-  standing given (ToController how now) l fits h = keeps_on given (ToController how now) l tt fits h
   standing given (Reopen now) l fits h =
       reopening (controllers.begin_refusal l.controller) l.to_reader l.to_controller now l refl refl refl h
+  standing given move l fits h = keeps_on given move l tt fits h
 
   -- one move more: what it submits or queues comes last
   placing : (move : Move) (l : Link H) (cs : List Command) (es : List Event) → AllStands l → Placed cs es l
@@ -164,20 +212,13 @@ module _ {H : Type 0} (answer_of : H → Command → Answer) (after : H → Comm
       on move goes =
           let g = goes_on answer_of after move l goes in
           let new = after_move answer_of after move l in
-          let gone = placed.events.0 in
           record {
             commands = ap (λ all. all ++ submitted move l) placed.commands
                 ∙ append_assoc (ended_commands l.earlier) l.account.issued (submitted move l)
                 ∙ ap (λ all. ended_commands l.earlier ++ all) (sym g.0.issued)
                 ∙ ap (λ earlier. ended_commands earlier ++ new.account.issued) (sym g.1);
-            events = (
-              gone,
-              subst (λ earlier. HaveLeft (es ++ queued move l) earlier gone) (sym g.1)
-                  (left_more es (queued move l) l.earlier gone placed.events.1),
-              ap (λ all. all ++ queued move l) placed.events.2
-                  ∙ append_assoc gone l.account.queued (queued move l)
-                  ∙ ap (λ all. gone ++ all) (sym g.0.queued),
-            );
+            events = subst (λ earlier. AreQueuedOrLeft (es ++ queued move l) earlier new.account.queued) (sym g.1)
+                (queued_on es (queued move l) l.earlier l.account.queued new.account.queued g.0.queued placed.events);
           }
 
       again : (refusal : Option ControllerFault) (ps qs : List Packet) (now : ℕ) → controllers.begin_refusal l.controller ≡ refusal
@@ -192,36 +233,16 @@ module _ {H : Type 0} (answer_of : H → Command → Answer) (after : H → Comm
             commands = placed.commands
                 ∙ ap (λ all. ended_commands l.earlier ++ all) (left.commands ∙ sym (append_assoc (settled_commands l.account) l.account.unsettled l.controller.waiting))
                 ∙ sym (append_assoc (ended_commands l.earlier) (settled_commands l.account ++ l.account.unsettled) l.controller.waiting);
-            events = (
-              placed.events.0 ++ left.reported.0,
-              (
-                placed.events.0,
-                left.reported.0,
-                left.reported.1,
-                placed.events.1,
-                ([], placed.events.2 ∙ sym (append-nil (placed.events.0 ++ l.account.queued))),
-                refl,
-                left.reported.3,
-                left.reported.5,
-              ),
-              placed.events.2
-                  ∙ ap (λ all. placed.events.0 ++ all) left.reported.2
-                  ∙ sym (append_assoc placed.events.0 left.reported.0 l.reader.queue.events),
-            );
+            events = queued_again es l.earlier l.account l.controller.waiting l.reader.queue.events left placed.events;
           }
 
       by_move : (move : Move) → Placed (cs ++ submitted move l) (es ++ queued move l) (after_move answer_of after move l)
-      by_move (Submit c) = on (Submit c) tt
-      by_move (QueueEvent e) = on (QueueEvent e) tt
-      by_move (SetBusy busy) = on (SetBusy busy) tt
-      by_move (Tick now) = on (Tick now) tt
-      by_move (ToReader how) = on (ToReader how) tt
-      by_move (ToController how now) = on (ToController how now) tt
       by_move (Reopen now) =
           let new = link.reopens (controllers.begin_refusal l.controller) l.to_reader l.to_controller now l in
           subst (λ all. Placed all (es ++ []) new) (sym (append-nil cs))
           (subst (λ all. Placed cs all new) (sym (append-nil es))
           (again (controllers.begin_refusal l.controller) l.to_reader l.to_controller now refl))
+      by_move move = on move tt
 
   all_placed : Assumed → (moves : List Move) (l : Link H) (cs : List Command) (es : List Event) → MovesFit answer_of after moves l → AllStands l
       → Placed cs es l
@@ -251,20 +272,15 @@ module _ {H : Type 0} (answer_of : H → Command → Answer) (after : H → Comm
         fixed = fixed;
         device = b.address;
         current = b.address;
-        holds = (
-          Fresh,
-          fresh fixed answer_of after l.reader.config l.reader.handler (record l { earlier = [] }) (record {
-            controller = subst (λ state. Waits fixed state l.controller.session) (sym b.quiet.1) refl;
-            waiting = each_of MaySubmit l.controller.waiting b.waiting;
-            answering = record { id = refl; caps = refl; handler = refl };
-            to_reader = b.to_reader;
-            to_controller = b.to_controller;
-            account = b.account;
-          }),
-        );
+        holds = begun answer_of after l [] b;
         once = tt;
         row = tt;
       })
+
+  stands : ReadEachOther answer_of after → (l : Link H) (moves : List Move) → Begins l → MovesFit answer_of after moves l
+      → Stands answer_of after l.reader.config l.reader.handler (run answer_of after moves l)
+  stands peers l moves b fits =
+      running answer_of after l.reader.config l.reader.handler (assumed answer_of after l.reader.config l.reader.handler peers) moves l fits (begins l b)
 
   pub all_once : (l : Link H) (moves : List Move) → Assumed answer_of after l.reader.config l.reader.handler → Begins l → MovesFit answer_of after moves l
       → let later = run answer_of after moves l in AreOnce answer_of after l.reader.config l.reader.handler (later.account ∷ later.earlier)
@@ -272,9 +288,8 @@ module _ {H : Type 0} (answer_of : H → Command → Answer) (after : H → Comm
       let s = running answer_of after l.reader.config l.reader.handler given moves l fits (begins l b) in
       (is_once s.fixed answer_of after l.reader.config _ (run answer_of after moves l) s.holds, s.once)
 
-  pub all_in_a_row : (l : Link H) (moves : List Move) → Assumed answer_of after l.reader.config l.reader.handler → Begins l → MovesFit answer_of after moves l
-      → let later = run answer_of after moves l in AreInARow later.account later.earlier
-  all_in_a_row l moves given b fits = (running answer_of after l.reader.config l.reader.handler given moves l fits (begins l b)).row
+  pub all_in_a_row : ReadEachOther answer_of after → StayInARow answer_of after
+  all_in_a_row peers l moves b fits = (stands peers l moves b fits).row
 
   pub all_plainly : (l : Link H) (moves : List Move) → Assumed answer_of after l.reader.config l.reader.handler → Begins l → MovesFit answer_of after moves l
       → All IsPlainlySaid (run answer_of after moves l).to_controller
@@ -285,30 +300,25 @@ module _ {H : Type 0} (answer_of : H → Command → Answer) (after : H → Comm
       each_all IsPlainlySaid later.to_controller
       (all_said s.fixed answer_of after l.reader.config handler (given s.fixed handler s.device) s.holds.0 later s.holds.1)
 
-  have_places : (l : Link H) (moves : List Move) → Assumed answer_of after l.reader.config l.reader.handler → Begins l → MovesFit answer_of after moves l
+  have_places : ReadEachOther answer_of after → (l : Link H) (moves : List Move) → Begins l → MovesFit answer_of after moves l
       → Placed (l.controller.waiting ++ all_submitted answer_of after moves l) (l.reader.queue.events ++ all_queued answer_of after moves l)
       (run answer_of after moves l)
-  have_places l moves given b fits =
+  have_places peers l moves b fits =
+      let given = assumed answer_of after l.reader.config l.reader.handler peers in
       all_placed answer_of after l.reader.config l.reader.handler given moves l l.controller.waiting l.reader.queue.events fits (begins l b) (record {
         commands = sym (ap (λ t. t.issued) b.account) ∙ sym (ap (λ earlier. ended_commands earlier ++ l.account.issued) b.earlier);
         events = ([], subst (λ earlier. HaveLeft l.reader.queue.events earlier []) (sym b.earlier) refl, sym (ap (λ t. t.queued) b.account));
       })
 
-  pub commands_have_places : (l : Link H) (moves : List Move) → Assumed answer_of after l.reader.config l.reader.handler → Begins l → MovesFit answer_of after moves l
-      → let later = run answer_of after moves l in
-      l.controller.waiting ++ all_submitted answer_of after moves l ≡ ended_commands later.earlier ++ later.account.issued
-  commands_have_places l moves given b fits = (have_places l moves given b fits).commands
+  pub commands_have_places : ReadEachOther answer_of after → CommandsHavePlaces answer_of after
+  commands_have_places peers l moves b fits = (have_places peers l moves b fits).commands
 
-  pub events_have_places : (l : Link H) (moves : List Move) → Assumed answer_of after l.reader.config l.reader.handler → Begins l → MovesFit answer_of after moves l
-      → let later = run answer_of after moves l in
-      let all = l.reader.queue.events ++ all_queued answer_of after moves l in
-      (gone : List Event) × HaveLeft all later.earlier gone × (all ≡ gone ++ later.account.queued)
-  events_have_places l moves given b fits = (have_places l moves given b fits).events
+  pub events_have_places : ReadEachOther answer_of after → EventsHavePlaces answer_of after
+  events_have_places peers l moves b fits = (have_places peers l moves b fits).events
 
-  pub last_one_lasts : (l : Link H) (moves : List Move) → Assumed answer_of after l.reader.config l.reader.handler → Begins l → MovesFit answer_of after moves l
-      → let later = run answer_of after moves l in LastsOrLeaves later.controller.session.state later
-  last_one_lasts l moves given b fits =
+  pub last_one_lasts : ReadEachOther answer_of after → LastOneLasts answer_of after
+  last_one_lasts peers l moves b fits =
       let later = run answer_of after moves l in
-      let s = running answer_of after l.reader.config l.reader.handler given moves l fits (begins l b) in
+      let s = stands peers l moves b fits in
       lasts_or_leaves s.fixed answer_of after l.reader.config (handler_after answer_of after l.reader.config l.reader.handler later.earlier)
       later.controller.session.state s.holds.0 later refl s.holds.1

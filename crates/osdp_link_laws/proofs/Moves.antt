@@ -26,12 +26,12 @@ use Rattle.osdp_reader.specs.Table.{command_in}
 use Rattle.osdp_reader_laws.specs.Laws.{AnswersPlainly, IsPlain}
 use Rattle.osdp_link_laws.specs.Headline.{MaySubmit}
 use Rattle.osdp_link_laws.specs.Link as link
-use Rattle.osdp_link_laws.specs.Link.{Account, Delivered, Delivery, Link, Lost, Move, Queue as QueueEvent, Repeated, SetBusy, Submit, Tick, ToController, ToReader, told}
+use Rattle.osdp_link_laws.specs.Link.{Link, told}
 use Rattle.osdp_link_laws.specs.Peers.{TellsItsEvent}
 use Rattle.osdp_link_laws.proofs.Advancing.{HoldsAtSomeStage}
 use Rattle.osdp_link_laws.proofs.Lines.{each_append, each_rest, runs_append, runs_first}
 use Rattle.osdp_link_laws.proofs.Stages.{Accounts, After, Asks, Behind, ControllerAt, Each, Fresh, HasActed, IsAsked, IsFrame, IsOldFrame, Level, Offers, OffersEvent, Past, ReaderAt, Rest, Runs, SaysOld, Stage, Start, ToReaderAt, answer, frame, given_up, given_up_at, number_after, pending, pending_at, shown}
-use Rattle.osdp_link_laws.proofs.Parts.{At, with_session, with_to_reader}
+use Rattle.osdp_link_laws.proofs.Parts.{At, with_reader, with_session, with_to_reader}
 use Rattle.osdp_link_laws.proofs.Ticks.{Begun, RestsOn, Unchanged, ticks_asking, ticks_resting, ticks_waiting}
 
 pub runs_last : (P Q : Packet → Type 0) (ps : List Packet) → Each Q ps → Runs P Q ps
@@ -80,7 +80,7 @@ module _ (fixed : ControllerConfig) {H : Type 0} (answer_of : H → Command → 
   pub record Premises : Type 0 where
     pub device : fixed.address < 127
     pub reads : (x : Exchange) (n : ℕ) → CommandFits (exchange_command x) → command_in (frame fixed x n) ≡ Ok (exchange_command x)
-    pub hears : (n : ℕ) (r : Reply) → ReplyFits r → packets.answer_of (answer fixed n r) ≡ meaning_by_reply r
+    pub hears : (n : ℕ) (r : Reply) → ReplyFits r → packets.meaning_of (answer fixed n r) ≡ meaning_by_reply r
     pub plain : (r : Reply) → IsPlain r → meaning_by_reply r ≡ Plain r
     pub tells : TellsItsEvent
     pub plainly : AnswersPlainly answer_of after
@@ -120,41 +120,19 @@ module _ (fixed : ControllerConfig) {H : Type 0} (answer_of : H → Command → 
   queueing true e l h = h
   queueing false e l (at, h) = (
     at,
-    record {
-      stage = h.stage;
-      controller = h.controller;
-      waiting = h.waiting;
-      reader = reader_changes fixed l.reader (after_submit e l.reader) (λ n x a. acted_queues fixed n x a e l.reader) at h.reader;
-      answering = record { id = h.answering.id; caps = h.answering.caps; handler = h.answering.handler };
-      to_reader = h.to_reader;
-      to_controller = h.to_controller;
-      account = record {
-        issued = h.account.issued;
-        settled = h.account.settled;
-        unsettled = h.account.unsettled;
-        told = (
+    with_reader fixed answer_of after settings first at l (queued e l.reader.queue) l.reader.busy (l.account.queued ++ e ∷ []) h
+        (reader_changes fixed l.reader (after_submit e l.reader) (λ n x a. acted_queues fixed n x a e l.reader) at h.reader) (
           h.account.told.0,
           ap (λ all. all ++ e ∷ []) h.account.told.1 ∙ append_assoc h.account.told.0 l.reader.queue.events (e ∷ []),
           h.account.told.2,
-        );
-        offered = h.account.offered;
-      };
-    },
+        ),
   )
 
   pub being_busy : (busy : Bool) (l : Link H) → AtSomeStage l → AtSomeStage (record l { reader = after_set_busy busy l.reader })
   being_busy busy l (at, h) = (
     at,
-    record {
-      stage = h.stage;
-      controller = h.controller;
-      waiting = h.waiting;
-      reader = reader_changes fixed l.reader (after_set_busy busy l.reader) (λ n x a. acted_busy fixed n x a busy l.reader) at h.reader;
-      answering = record { id = h.answering.id; caps = h.answering.caps; handler = h.answering.handler };
-      to_reader = h.to_reader;
-      to_controller = h.to_controller;
-      account = h.account;
-    },
+    with_reader fixed answer_of after settings first at l l.reader.queue busy l.account.queued h
+        (reader_changes fixed l.reader (after_set_busy busy l.reader) (λ n x a. acted_busy fixed n x a busy l.reader) at h.reader) h.account.told,
   )
 
   -- a tick that begins no exchange

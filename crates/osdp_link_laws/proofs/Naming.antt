@@ -16,7 +16,7 @@ use Rattle.osdp_controller.specs.Sessions.{seen}
 use Rattle.osdp_controller.specs.Ticking.{ticks_in}
 use Rattle.osdp_controller.specs.declared.fault.ControllerFault.{ControllerFault}
 use Rattle.osdp_controller.specs.declared.state.State.{State}
-use Rattle.osdp_controller.specs.declared.state.State.TheVariants.{Closed, Quiet, Idle, Waiting, Pausing}
+use Rattle.osdp_controller_laws.proofs.Closed.{was_closed}
 use Rattle.osdp_reader.specs.Table as reader
 use Rattle.osdp_reader.specs.declared.handler.Answer.{Answer}
 use Rattle.osdp_link_laws.specs.Headline.{MovesFit, MoveFits, MaySubmit, SaysWhatFitsIf}
@@ -42,14 +42,17 @@ CommandNames here r p = (to : ℕ) → MovesReader to p → IsName here r to
 abbrev ReplyNames : ℕ → Option ℕ → ℕ → Packet → Type 0
 ReplyNames here r there p = (to : ℕ) → MovesController to p → IsName here r to × (there ≡ to)
 
+-- .. with the controller at the one address and the reader at the other
+pub record NamesAt (here : ℕ) (r : Option ℕ) (there : ℕ) (kept : Option Packet) (ps qs : List Packet) : Type 0 where
+  pub device : there < 127
+  pub reader : IsName here r there
+  pub commands : Each (CommandNames here r) ps
+  pub replies : Each (ReplyNames here r there) qs
+  pub stored : IfSome kept (λ q. IsFrom there q × IsStill q)
+
 module _ {H : Type 0} where
-  -- .. with the controller at this address
-  pub record Names (here : ℕ) (r : Option ℕ) (l : Link H) : Type 0 where
-    pub device : l.reader.config.address < 127
-    pub reader : IsName here r l.reader.config.address
-    pub commands : Each (CommandNames here r) l.to_reader
-    pub replies : Each (ReplyNames here r l.reader.config.address) l.to_controller
-    pub stored : KeepsStill l.reader
+  abbrev pub Names : ℕ → Option ℕ → Link H → Type 0
+  Names here r l = NamesAt here r l.reader.config.address l.reader.stored l.to_reader l.to_controller
 
   pub record Keeps (r : Option ℕ) (l : Link H) : Type 0 where
     pub one : One r (asked_in l.controller.session.state ++ l.controller.waiting)
@@ -58,13 +61,13 @@ module _ {H : Type 0} where
 
 -- ---- names
 
+same_name : (r : Option ℕ) (d y : ℕ) → r ≡ Some d → r ≡ Some y → y ≡ d
+same_name r d y is kept = cc
+
 -- a name that is no longer kept was none
 kept_name : (here : ℕ) (r : Option ℕ) (d y : ℕ) → r ≡ Some d → y ≢ d → IsName here r y → IsName here None y
 kept_name here r d y is other (inl same) = inl same
 kept_name here r d y is other (inr kept) = absurd (other (same_name r d y is kept))
-  where
-    same_name : (r : Option ℕ) (d y : ℕ) → r ≡ Some d → r ≡ Some y → y ≡ d
-    same_name r d y is kept = cc
 
 wider : (here y : ℕ) (r : Option ℕ) → IsName here None y → IsName here r y
 wider here y r (inl same) = inl same
@@ -111,24 +114,10 @@ module _ {H : Type 0} (answer_of : H → Command → Answer) (after : H → Comm
 
   queueing : (full : Bool) (e : Event) (r : Option ℕ) (l : Link H) → Keeps r l → Keeps r (link.queues full e l)
   queueing true e r l h = h
-  queueing false e r l h = record {
-    one = h.one;
-    fits = h.fits;
-    names = record {
-      device = h.names.device;
-      reader = h.names.reader;
-      commands = h.names.commands;
-      replies = h.names.replies;
-      stored = h.names.stored;
-    };
-  }
+  queueing false e r l h = record { one = h.one; fits = h.fits; names = h.names }
 
   none_asked : (state : State) → controllers.refused_unless_closed state ≡ None → asked_in state ≡ []
-  none_asked Closed e = refl
-  none_asked (Quiet until) e = absurd cc
-  none_asked (Idle due) e = absurd cc
-  none_asked (Waiting until k o) e = absurd cc
-  none_asked (Pausing until o) e = absurd cc
+  none_asked state e = ap asked_in (was_closed state e)
 
   reopening : (refusal : Option ControllerFault) (ps qs : List Packet) (now : ℕ) (r : Option ℕ) (l : Link H) → controllers.begin_refusal l.controller ≡ refusal
       → Keeps r l → Keeps r (link.reopens refusal ps qs now l)
@@ -140,13 +129,7 @@ module _ {H : Type 0} (answer_of : H → Command → Answer) (after : H → Comm
       record {
         one = subst (λ cs. One r (cs ++ l.controller.waiting)) none h.one;
         fits = subst (λ cs. Each CommandFits (cs ++ l.controller.waiting)) none h.fits;
-        names = record {
-          device = h.names.device;
-          reader = h.names.reader;
-          commands = h.names.commands;
-          replies = h.names.replies;
-          stored = h.names.stored;
-        };
+        names = h.names;
       }
 
   ticking : ReadsWhatIsAsked → (now : ℕ) (r : Option ℕ) (l : Link H) → Keeps r l → Keeps r (after_move answer_of after (Tick now) l)
@@ -169,13 +152,6 @@ module _ {H : Type 0} (answer_of : H → Command → Answer) (after : H → Comm
       }
 
   -- ---- to the reader
-
-  abbrev Said : Delivery → List Packet → Link H → Type 0
-  Said Delivered [] l = Unit {0}
-  Said Delivered (p ∷ ps) l = IfSome (reader.hears answer_of after l.reader p).said ReplyFits
-  Said Lost ps l = Unit {0}
-  Said Repeated [] l = Unit {0}
-  Said Repeated (p ∷ ps) l = IfSome (reader.hears answer_of after l.reader p).said ReplyFits
 
   -- the reader goes where no reply on the line sends the controller: each of those comes from where the reader was
   left : (here : ℕ) (r : Option ℕ) (device there to : ℕ) (qs : List Packet) → there ≡ device → Each (IsReplyFrom device) qs → Each (ReplyNames here r there) qs
@@ -240,22 +216,24 @@ module _ {H : Type 0} (answer_of : H → Command → Answer) (after : H → Comm
         | inr goes ↦ goes_there r device p l to_device from_device names goes well.stored h
       ]
 
-  with_line : (r : Option ℕ) (l : Link H) (ps : List Packet) → Each (CommandNames l.controller.session.config.address r) ps → Keeps r l
-      → Keeps r (record l { to_reader = ps })
-  with_line r l ps all h = record {
+  with_lines : (r : Option ℕ) (l : Link H) (ps qs : List Packet) → Each (CommandNames l.controller.session.config.address r) ps
+      → Each (ReplyNames l.controller.session.config.address r l.reader.config.address) qs → Keeps r l
+      → Keeps r (record l { to_reader = ps; to_controller = qs })
+  with_lines r l ps qs commands replies h = record {
     one = h.one;
     fits = h.fits;
-    names = record { device = h.names.device; reader = h.names.reader; commands = all; replies = h.names.replies; stored = h.names.stored };
+    names = record { device = h.names.device; reader = h.names.reader; commands = commands; replies = replies; stored = h.names.stored };
   }
 
   to_reader_keeps : ReadsWhatIsAnswered → (how : Delivery) (ps : List Packet) (r : Option ℕ) (device : ℕ) (l : Link H) → l.to_reader ≡ ps → device < 127
-      → Each (IsCommandTo device) ps → Each (IsReplyFrom device) l.to_controller → Said how ps l → Keeps r l → Keeps r (link.to_reader answer_of after ps how l)
+      → Each (IsCommandTo device) ps → Each (IsReplyFrom device) l.to_controller → SaysWhatFitsIf answer_of after how ps l.reader → Keeps r l → Keeps r (link.to_reader answer_of after ps how l)
   to_reader_keeps reads how [] r device l is below to_device from_device fits h = h
   to_reader_keeps reads Delivered (p ∷ ps) r device l is below to_device from_device fits h =
       let all = subst (Each (CommandNames l.controller.session.config.address r)) is h.names.commands in
-      gets reads r device p (record l { to_reader = ps }) below to_device.0 from_device all.0 fits (with_line r l ps all.1 h)
+      gets reads r device p (record l { to_reader = ps }) below to_device.0 from_device all.0 fits (with_lines r l ps l.to_controller all.1 h.names.replies h)
   to_reader_keeps reads Lost (p ∷ ps) r device l is below to_device from_device fits h =
-      let all = subst (Each (CommandNames l.controller.session.config.address r)) is h.names.commands in with_line r l ps all.1 h
+      let all = subst (Each (CommandNames l.controller.session.config.address r)) is h.names.commands in
+      with_lines r l ps l.to_controller all.1 h.names.replies h
   to_reader_keeps reads Repeated (p ∷ ps) r device l is below to_device from_device fits h =
       let all = subst (Each (CommandNames l.controller.session.config.address r)) is h.names.commands in
       gets reads r device p l below to_device.0 from_device all.0 fits h
@@ -282,9 +260,6 @@ module _ {H : Type 0} (answer_of : H → Command → Answer) (after : H → Comm
   same_at : (here to y : ℕ) (r : Option ℕ) → r ≡ Some to → (y ≡ here → here ≡ to) → IsName here r y → IsName to None y
   same_at here to y r is at (inl same) = inl (same ∙ at same)
   same_at here to y r is at (inr kept) = inl (same_name r to y is kept)
-    where
-      same_name : (r : Option ℕ) (d y : ℕ) → r ≡ Some d → r ≡ Some y → y ≡ d
-      same_name r d y is kept = cc
 
   went_elsewhere : (here to device : ℕ) (r : Option ℕ) (l : Link H) → r ≡ Some to → l.reader.config.address ≡ to → device ≡ here
       → Each (IsCommandTo device) l.to_reader → Names here r l → Names to None l
@@ -360,19 +335,7 @@ module _ {H : Type 0} (answer_of : H → Command → Answer) (after : H → Comm
   hearing r device q now l to_device from names told h =
       let well = heard_well r l.controller.session.config.address l.controller.waiting q now l.controller.session refl h.fits h.one in
       let left = names_after r device q now l to_device from names told well.0 well.1 h.names in
-      record {
-        one = well.0.one;
-        fits = well.0.fits;
-        names = record { device = left.device; reader = left.reader; commands = left.commands; replies = left.replies; stored = left.stored };
-      }
-
-  without : (r : Option ℕ) (l : Link H) (qs : List Packet) → Each (ReplyNames l.controller.session.config.address r l.reader.config.address) qs → Keeps r l
-      → Keeps r (record l { to_controller = qs })
-  without r l qs all h = record {
-    one = h.one;
-    fits = h.fits;
-    names = record { device = h.names.device; reader = h.names.reader; commands = h.names.commands; replies = all; stored = h.names.stored };
-  }
+      record { one = well.0.one; fits = well.0.fits; names = left }
 
   to_controller_keeps : (how : Delivery) (qs : List Packet) (now : ℕ) (r : Option ℕ) (device : ℕ) (l : Link H) → l.to_controller ≡ qs
       → Each (IsCommandTo device) l.to_reader → Each (IsReplyFrom device) qs → ToldAsAsked (told_by_front how qs now l.controller.session) → Keeps r l
@@ -382,48 +345,30 @@ module _ {H : Type 0} (answer_of : H → Command → Answer) (after : H → Comm
   to_controller_keeps Repeated [] now r device l is to_device from told h = h
   to_controller_keeps Delivered (q ∷ qs) now r device l is to_device from told h =
       let all = subst (Each (ReplyNames l.controller.session.config.address r l.reader.config.address)) is h.names.replies in
-      hearing r device q now (record l { to_controller = qs }) to_device from.0 all.0 told (without r l qs all.1 h)
+      hearing r device q now (record l { to_controller = qs }) to_device from.0 all.0 told (with_lines r l l.to_reader qs h.names.commands all.1 h)
   to_controller_keeps Lost (q ∷ qs) now r device l is to_device from told h =
-      let all = subst (Each (ReplyNames l.controller.session.config.address r l.reader.config.address)) is h.names.replies in without r l qs all.1 h
+      let all = subst (Each (ReplyNames l.controller.session.config.address r l.reader.config.address)) is h.names.replies in
+      with_lines r l l.to_reader qs h.names.commands all.1 h
   to_controller_keeps Repeated (q ∷ qs) now r device l is to_device from told h =
       let all = subst (Each (ReplyNames l.controller.session.config.address r l.reader.config.address)) is h.names.replies in
       hearing r device q now l to_device from.0 all.0 told h
 
   -- ---- a move, and a list of them
 
-  said_of : (how : Delivery) (l : Link H) → MoveFits answer_of after (ToReader how) l → Said how l.to_reader l
-  said_of how l fits = by_line how l.to_reader fits
-    where
-      by_line : (how : Delivery) (ps : List Packet) → SaysWhatFitsIf answer_of after how ps l.reader → Said how ps l
-      by_line Delivered [] fits = tt
-      by_line Delivered (p ∷ ps) fits = fits
-      by_line Lost ps fits = tt
-      by_line Repeated [] fits = tt
-      by_line Repeated (p ∷ ps) fits = fits
-
   pub keeps_move : ReadsWhatIsAsked → ReadsWhatIsAnswered → (move : Move) (r : Option ℕ) (l : Link H) (device : ℕ) → NamesOne device l.to_reader l.to_controller
       → MoveFits answer_of after move l → ToldAsAsked (told_by move l) → MayMove move r → Keeps r l → Keeps (reserved_after move l r) (after_move answer_of after move l)
   keeps_move asked answered (Submit c) r l device one fits told may h = submitting (controllers.submit_refusal c l.controller) c r l may fits h
   keeps_move asked answered (QueueEvent e) r l device one fits told may h =
       queueing (length l.reader.queue.events == l.reader.queue.capacity) e r l h
-  keeps_move asked answered (SetBusy busy) r l device one fits told may h = record {
-    one = h.one;
-    fits = h.fits;
-    names = record {
-      device = h.names.device;
-      reader = h.names.reader;
-      commands = h.names.commands;
-      replies = h.names.replies;
-      stored = h.names.stored;
-    };
-  }
+  keeps_move asked answered (SetBusy busy) r l device one fits told may h =
+      record { one = h.one; fits = h.fits; names = h.names }
   keeps_move asked answered (Tick now) r l device one fits told may h =
       subst (λ k. Keeps k (after_move answer_of after (Tick now) l))
       (sym (tick_frees_none r l.controller.session.state (seen now l.controller.session) l.controller.waiting))
       (ticking asked now r l h)
   keeps_move asked answered (ToReader how) r l device one fits told may h =
       to_reader_keeps answered how l.to_reader r device l refl one.below (each_of (IsCommandTo device) l.to_reader one.commands)
-      (each_of (IsReplyFrom device) l.to_controller one.replies) (said_of how l fits) h
+      (each_of (IsReplyFrom device) l.to_controller one.replies) fits h
   keeps_move asked answered (ToController how now) r l device one fits told may h =
       to_controller_keeps how l.to_controller now r device l refl (each_of (IsCommandTo device) l.to_reader one.commands)
       (each_of (IsReplyFrom device) l.to_controller one.replies) told h

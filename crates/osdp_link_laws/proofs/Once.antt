@@ -103,7 +103,7 @@ module _ (fixed : ControllerConfig) {H : Type 0} (answer_of : H → Command → 
   pub record IsNew (l : Link H) : Type 0 where
     pub controller : Waits fixed l.controller.session.state l.controller.session
     pub waiting : Each MaySubmit l.controller.waiting
-    pub answering : Answering fixed answer_of after settings first [] l.reader
+    pub answering : Answering fixed answer_of after settings first [] l.reader.config l.reader.handler
     pub to_reader : l.to_reader ≡ []
     pub to_controller : l.to_controller ≡ []
     pub account : l.account ≡ new_account l.controller.waiting l.reader.queue.events
@@ -114,7 +114,7 @@ module _ (fixed : ControllerConfig) {H : Type 0} (answer_of : H → Command → 
     controller = new.controller;
     waiting = new.waiting;
     reader = tt;
-    answering = subst (λ t. Answering fixed answer_of after settings first t.taken l.reader) (sym new.account) new.answering;
+    answering = subst (λ t. Answering fixed answer_of after settings first t.taken l.reader.config l.reader.handler) (sym new.account) new.answering;
     to_reader = new.to_reader;
     to_controller = new.to_controller;
     account = subst (λ t. Accounts fixed answer_of after settings first [] [] [] [] [] l.controller.waiting l.reader.queue.events t)

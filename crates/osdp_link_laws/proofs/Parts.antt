@@ -1,50 +1,71 @@
 -- What holds of a session where one part of the link changes.
-use Rattle.std.proofs.Common.{List, refl}
+use Rattle.std.proofs.Common.{◌≡◌, ◌++◌, Bool, List, refl, sym, subst}
 use Rattle.osdp_frame.specs.Packet.{Packet}
 use Rattle.osdp_msg.specs.declared.command.Command.{Command}
+use Rattle.osdp_msg.specs.declared.event.Event.{Event}
 use Rattle.osdp_controller.specs.declared.config.ControllerConfig.{ControllerConfig}
 use Rattle.osdp_controller.specs.declared.session.Session.{Session}
 use Rattle.osdp_reader.specs.declared.config.ReaderConfig.{ReaderConfig}
 use Rattle.osdp_reader.specs.declared.handler.Answer.{Answer}
+use Rattle.osdp_reader.specs.Queue.{Queue}
 use Rattle.osdp_link_laws.specs.Link.{Link}
-use Rattle.osdp_link_laws.proofs.Stages.{ControllerAt, Holds, Stage, given_up_at, ToControllerAt, ToReaderAt}
+use Rattle.osdp_link_laws.proofs.Stages.{ControllerAt, Holds, ReaderAt, Stage, ToControllerAt, ToReaderAt, given_up_at, shown_at}
 
 module _ (fixed : ControllerConfig) {H : Type 0} (answer_of : H → Command → Answer) (after : H → Command → H) (settings : ReaderConfig) (first : H) where
   abbrev pub At : Stage → Link H → Type 0
   At at l = Holds fixed answer_of after settings first settings.id at l
 
   -- a session that ends leaves its outstanding command unsettled
-  pub with_session : (at : Stage) (l : Link H) (s : Session) → At at l → ControllerAt fixed at s
+  with_parts : (at : Stage) (l : Link H) (s : Session) (ps qs : List Packet) → At at l → ControllerAt fixed at s → ToReaderAt fixed at ps
+      → ToControllerAt fixed at qs
       → At at (record l {
         controller = record l.controller { session = s };
+        to_reader = ps;
+        to_controller = qs;
         account = record l.account { unsettled = given_up_at at s.state };
       })
-  with_session at l s h is = record {
+  with_parts at l s ps qs h is there here = record {
     stage = h.stage;
     controller = is;
-    waiting = h.waiting;
-    reader = h.reader;
-    answering = record { id = h.answering.id; caps = h.answering.caps; handler = h.answering.handler };
-    to_reader = h.to_reader;
-    to_controller = h.to_controller;
-    account = record { issued = h.account.issued; settled = h.account.settled; unsettled = refl; told = h.account.told; offered = h.account.offered };
-  }
-
-  with_lines : (at : Stage) (l : Link H) (ps qs : List Packet) → At at l → ToReaderAt fixed at ps → ToControllerAt fixed at qs
-      → At at (record l { to_reader = ps; to_controller = qs })
-  with_lines at l ps qs h there here = record {
-    stage = h.stage;
-    controller = h.controller;
     waiting = h.waiting;
     reader = h.reader;
     answering = h.answering;
     to_reader = there;
     to_controller = here;
-    account = h.account;
+    account = record { issued = h.account.issued; settled = h.account.settled; unsettled = refl; told = h.account.told; offered = h.account.offered };
   }
+
+  pub with_session : (at : Stage) (l : Link H) (s : Session) → At at l → ControllerAt fixed at s
+      → At at (record l {
+        controller = record l.controller { session = s };
+        account = record l.account { unsettled = given_up_at at s.state };
+      })
+  with_session at l s h is = with_parts at l s l.to_reader l.to_controller h is h.to_reader h.to_controller
+
+  with_lines : (at : Stage) (l : Link H) (ps qs : List Packet) → At at l → ToReaderAt fixed at ps → ToControllerAt fixed at qs
+      → At at (record l { to_reader = ps; to_controller = qs })
+  with_lines at l ps qs h there here =
+      subst (λ cs. At at (record l { to_reader = ps; to_controller = qs; account = record l.account { unsettled = cs } })) (sym h.account.unsettled)
+      (with_parts at l l.controller.session ps qs h h.controller there here)
 
   pub with_to_reader : (at : Stage) (l : Link H) (ps : List Packet) → At at l → ToReaderAt fixed at ps → At at (record l { to_reader = ps })
   with_to_reader at l ps h line = with_lines at l ps l.to_controller h line h.to_controller
 
   pub with_to_controller : (at : Stage) (l : Link H) (qs : List Packet) → At at l → ToControllerAt fixed at qs → At at (record l { to_controller = qs })
   with_to_controller at l qs h line = with_lines at l l.to_reader qs h h.to_reader line
+
+  -- another queue, or a reader that is busy, where it keeps the same of its last command
+  pub with_reader : (at : Stage) (l : Link H) (queue : Queue) (busy : Bool) (queued : List Event) → At at l
+      → ReaderAt fixed at (record l.reader { queue = queue; busy = busy })
+      → (past : List Event) × (queued ≡ past ++ queue.events) × (l.account.reported ≡ past ++ shown_at at)
+      → At at (record l { reader = record l.reader { queue = queue; busy = busy }; account = record l.account { queued = queued } })
+  with_reader at l queue busy queued h is told = record {
+    stage = h.stage;
+    controller = h.controller;
+    waiting = h.waiting;
+    reader = is;
+    answering = h.answering;
+    to_reader = h.to_reader;
+    to_controller = h.to_controller;
+    account = record { issued = h.account.issued; settled = h.account.settled; unsettled = h.account.unsettled; told = told; offered = h.account.offered };
+  }

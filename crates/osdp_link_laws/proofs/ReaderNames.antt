@@ -88,43 +88,19 @@ module _ {H : Type 0} (answer_of : H → Command → Answer) (after : H → Comm
   answered_com config h command.Poll d is = absurd cc
   answered_com config h (command.Id kept) d is = absurd cc
   answered_com config h (command.Cap kept) d is = absurd cc
-  answered_com config h command.LocalStatus d is = absurd (handled_com (answer_of h command.LocalStatus) command.LocalStatus d is)
-  answered_com config h command.InputStatus d is = absurd (handled_com (answer_of h command.InputStatus) command.InputStatus d is)
-  answered_com config h command.OutputStatus d is = absurd (handled_com (answer_of h command.OutputStatus) command.OutputStatus d is)
-  answered_com config h command.ReaderStatus d is = absurd (handled_com (answer_of h command.ReaderStatus) command.ReaderStatus d is)
-  answered_com config h (command.Output records) d is = absurd (handled_com (answer_of h (command.Output records)) (command.Output records) d is)
-  answered_com config h (command.Led records) d is = absurd (handled_com (answer_of h (command.Led records)) (command.Led records) d is)
-  answered_com config h (command.Buzzer b) d is = absurd (handled_com (answer_of h (command.Buzzer b)) (command.Buzzer b) d is)
-  answered_com config h (command.Text t) d is = absurd (handled_com (answer_of h (command.Text t)) (command.Text t) d is)
   answered_com config h (command.Comset e) d is = set_com e (nat_le e.address 126) d is
-  answered_com config h (command.Maker m) d is = absurd (handled_com (answer_of h (command.Maker m)) (command.Maker m) d is)
+  answered_com config h c d is = absurd (handled_com (answer_of h c) c d is)
 
   polled_com : (config : ReaderConfig) (h : H) (es : List Event)
       → AnswersCom command.Poll (event_or_answer answer_of after (event_for command.Poll es) config h command.Poll).reply
   polled_com config h [] d is = absurd cc
   polled_com config h (event.LocalState s ∷ es) d is = absurd cc
-  polled_com config h (event.Inputs s ∷ es) d is = absurd cc
-  polled_com config h (event.Outputs s ∷ es) d is = absurd cc
-  polled_com config h (event.Readers s ∷ es) d is = absurd cc
-  polled_com config h (event.Raw s ∷ es) d is = absurd cc
-  polled_com config h (event.Formatted s ∷ es) d is = absurd cc
-  polled_com config h (event.Keypad s ∷ es) d is = absurd cc
+  polled_com config h es d is = absurd cc
 
   taken_com : (config : ReaderConfig) (h : H) (c : Command) (es : List Event)
       → AnswersCom c (event_or_answer answer_of after (event_for c es) config h c).reply
   taken_com config h command.Poll es d is = polled_com config h es d is
-  taken_com config h (command.Id kept) es d is = answered_com config h (command.Id kept) d is
-  taken_com config h (command.Cap kept) es d is = answered_com config h (command.Cap kept) d is
-  taken_com config h command.LocalStatus es d is = answered_com config h command.LocalStatus d is
-  taken_com config h command.InputStatus es d is = answered_com config h command.InputStatus d is
-  taken_com config h command.OutputStatus es d is = answered_com config h command.OutputStatus d is
-  taken_com config h command.ReaderStatus es d is = answered_com config h command.ReaderStatus d is
-  taken_com config h (command.Output records) es d is = answered_com config h (command.Output records) d is
-  taken_com config h (command.Led records) es d is = answered_com config h (command.Led records) d is
-  taken_com config h (command.Buzzer b) es d is = answered_com config h (command.Buzzer b) d is
-  taken_com config h (command.Text t) es d is = answered_com config h (command.Text t) d is
-  taken_com config h (command.Comset e) es d is = answered_com config h (command.Comset e) d is
-  taken_com config h (command.Maker m) es d is = answered_com config h (command.Maker m) d is
+  taken_com config h c es d is = answered_com config h c d is
 
 -- ---- what the reader keeps, and what it says
 
@@ -214,26 +190,11 @@ module _ (reads : ReadsWhatIsAnswered) where
         elim (eqb_tells to new.config.address) [
           | inl equal ↦
               let quiet : IsStill (reply_packet p n said) = λ other moves.
-              let is = com_of_packet p n said other fits moves in
-              let set = answers is.0 is.1 in
-              let at : is.0.address ≡ to = cc in
-              is.3 (sym is.2 ∙ at ∙ equal.1 ∙ same ∙ sym here)
+              (com_of_packet p n said other fits moves).3 (sets_to other moves ∙ equal.1 ∙ same ∙ sym here)
               in
-              subst (λ b. ReaderWell r.config.address p (record {
-                command = Some c;
-                said = Some said;
-                reply = Some (reply_packet p n said);
-                reader = cond b new (record new { config = record new.config { address = to }; last = None; stored = None });
-              })) (sym equal.0)
-              (record { stored = kept quiet; named = here; goes = inl (same, quiet) })
+              subst Well (sym equal.0) (record { stored = kept quiet; named = here; goes = inl (same, quiet) })
           | inr differs ↦
-              subst (λ b. ReaderWell r.config.address p (record {
-                command = Some c;
-                said = Some said;
-                reply = Some (reply_packet p n said);
-                reader = cond b new (record new { config = record new.config { address = to }; last = None; stored = None });
-              })) (sym differs.0)
-              (record {
+              subst Well (sym differs.0) (record {
                 stored = tt;
                 named = here;
                 goes = inr (record {
@@ -241,14 +202,26 @@ module _ (reads : ReadsWhatIsAnswered) where
                   named = here;
                   moves = record { command = c; read = read; sets = sets; other = λ e. differs.1 (e ∙ here ∙ sym same) };
                   address = refl;
-                  says = λ other moves.
-                      let is = com_of_packet p n said other fits moves in
-                      let set = answers is.0 is.1 in
-                      let at : is.0.address ≡ to = cc in
-                      sym is.2 ∙ at;
+                  says = sets_to;
                 });
               })
         ]
+      where
+        -- .. by whether that is the address here
+        Well : Bool → Type 0
+        Well b = ReaderWell r.config.address p (record {
+          command = Some c;
+          said = Some said;
+          reply = Some (reply_packet p n said);
+          reader = cond b new (record new { config = record new.config { address = to }; last = None; stored = None });
+        })
+
+        sets_to : (other : ℕ) → MovesController other (reply_packet p n said) → other ≡ to
+        sets_to other moves =
+            let is = com_of_packet p n said other fits moves in
+            let set = answers is.0 is.1 in
+            let at : is.0.address ≡ to = cc in
+            sym is.2 ∙ at
 
     begun_well : (c : Result Command MsgFault) (r : ReaderState H) (p : Packet) → p.address ≡ r.config.address → command_in p ≡ c
         → IfSome (begun answer_of after c r p).said ReplyFits → KeepsStill r → ReaderWell r.config.address p (begun answer_of after c r p)

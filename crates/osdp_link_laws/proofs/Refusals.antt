@@ -1,32 +1,26 @@
 -- No session ends by a refused number.
-use Rattle.std.proofs.Common.{List, All, Option}
+use Rattle.std.proofs.Common.{List, All, Option, Some, sym, subst}
 use Rattle.std.specs.Prelude.{IfSome}
 use Rattle.osdp_msg.specs.declared.command.Command.{Command}
 use Rattle.osdp_controller.specs.Sessions.{seen}
 use Rattle.osdp_controller.specs.declared.report.Report.{Report}
+use Rattle.osdp_controller.specs.declared.report.Report.TheVariants as report
 use Rattle.osdp_reader.specs.declared.config.ReaderConfig.{ReaderConfig}
 use Rattle.osdp_reader.specs.declared.handler.Answer.{Answer}
 use Rattle.osdp_link_laws.specs.Headline.{MovesFit, Begins, handler_after}
 use Rattle.osdp_link_laws.specs.Link.{Link, Move, Queue as QueueEvent, Reopen, SetBusy, Submit, Tick, ToController, ToReader}
-use Rattle.osdp_link_laws.specs.Refusals.{IsNoRefusal, reports, told_by}
+use Rattle.osdp_link_laws.specs.Refusals.{IsNoRefusal, IsOtherCause, reports, told_by, told_by_front}
 use Rattle.osdp_link_laws.proofs.Deliveries.{all_said}
 use Rattle.osdp_link_laws.proofs.InARow.{Assumed, Stands}
-use Rattle.osdp_link_laws.proofs.Reports.{HoldsOfReports, front_so, tick_so}
+use Rattle.osdp_link_laws.proofs.Reports.{MayBring, front_so, tick_so}
 use Rattle.osdp_link_laws.proofs.ToldAlong.{all_reports}
 
 abbrev pub NoRefusal : Option Report → Type 0
 NoRefusal r = IfSome r IsNoRefusal
 
-pub refuses_none : HoldsOfReports NoRefusal
-refuses_none = record {
-  nothing = tt;
-  opened = λ id. tt;
-  settled = λ c a is. tt;
-  moved = λ c a d is. tt;
-  event = λ e. tt;
-  polled = λ a. tt;
-  busy = λ o. tt;
-}
+pub refuses_none : (r : Option Report) → MayBring r → NoRefusal r
+refuses_none (Some (report.Lost cause c)) busy = subst IsOtherCause (sym busy) tt
+refuses_none r may = tt
 
 module _ {H : Type 0} (answer_of : H → Command → Answer) (after : H → Command → H) (settings : ReaderConfig) (first : H) where
   told_so : Assumed answer_of after settings first → (move : Move) (l : Link H) → Stands answer_of after settings first l → NoRefusal (told_by move l)
@@ -37,8 +31,8 @@ module _ {H : Type 0} (answer_of : H → Command → Answer) (after : H → Comm
   told_so given (ToReader how) l h = tt
   told_so given (ToController how now) l h =
       let handler = handler_after answer_of after settings first l.earlier in
-      front_so NoRefusal refuses_none how l.to_controller now l.controller.session
-      (all_said h.fixed answer_of after settings handler (given h.fixed handler h.device) h.holds.0 l h.holds.1)
+      refuses_none (told_by_front how l.to_controller now l.controller.session) (front_so how l.to_controller now l.controller.session
+      (all_said h.fixed answer_of after settings handler (given h.fixed handler h.device) h.holds.0 l h.holds.1))
   told_so given (Reopen now) l h = tt
 
 module _ {H : Type 0} (answer_of : H → Command → Answer) (after : H → Command → H) where

@@ -1,4 +1,4 @@
--- What the controller's user is told by a tick, and by a packet that says BUSY or a reply that settles: one rule for all that holds of it.
+-- What the controller's user is told by a tick, and by a packet that says BUSY or a reply that settles.
 use Rattle.std.proofs.Common.{◌≡◌, ◌+◌, ℕ, leb, ltb, List, [], ◌∷◌, Option, Some, None, refl, sym, subst, inl, inr}
 use Rattle.osdp_frame.specs.Packet.{Packet, next_sequence}
 use Rattle.osdp_msg.specs.declared.command.Command.{Command}
@@ -41,82 +41,62 @@ module _ (P : Option Report → Type 0) (nothing : P None) (silent : (o : Outsta
       (both TickedSo (ltb k s.config.sends) (sends_frame (k + 1) o s waiting) (gives_up o s waiting) nothing (silent o)) nothing
   tick_so (Pausing until o) s waiting = both TickedSo (leb until s.greatest) (sends_frame 1 o s waiting) (stays s waiting) nothing nothing
 
-module _ (P : Option Report → Type 0) where
-  -- it holds of each report that such a packet may bring
-  pub record HoldsOfReports : Type 0 where
-    pub nothing : P None
-    pub opened : (id : PdId) → P (Some (report.Opened id))
-    pub settled : (c : Command) (a : Reply) → moved_by (comset_of c) (com_of a) ≡ None → P (Some (report.Settled c a))
-    pub moved : (c : Command) (a : Reply) (d : Communication) → moved_by (comset_of c) (com_of a) ≡ Some d → P (Some (report.Moved c d))
-    pub event : (e : Event) → P (Some (report.Event e))
-    pub polled : (a : Reply) → P (Some (report.PollAnswered a))
-    pub busy : (o : Outstanding) → P (Some (lost TooBusy o))
+-- what such a packet may bring: no COMSET is settled whose COM moves the reader, each reply is read, and a session ends as too busy alone
+abbrev pub MayBring : Option Report → Type 0
+MayBring (Some (report.Settled c a)) = moved_by (comset_of c) (com_of a) ≡ None
+MayBring (Some (report.Unread c code)) = ⊥
+MayBring (Some (report.Lost cause c)) = cause ≡ TooBusy
+MayBring _ = Unit {0}
 
-  module _ (all : HoldsOfReports) where
-    abbrev HeardSo : Heard → Type 0
-    HeardSo h = P h.report
+abbrev HeardSo : Heard → Type 0
+HeardSo h = MayBring h.report
 
-    opened_so : (id : Option PdId) (s : Session) → HeardSo (opening_answered id s)
-    opened_so None s = all.nothing
-    opened_so (Some id) s = all.opened id
+opened_so : (id : Option PdId) (s : Session) → HeardSo (opening_answered id s)
+opened_so None s = tt
+opened_so (Some id) s = tt
 
-    polled_so : (event : Option Event) (a : Reply) → P (poll_told a event)
-    polled_so (Some event) a = all.event event
-    polled_so None a = both P (is_ack a) None (Some (report.PollAnswered a)) all.nothing (all.polled a)
+polled_so : (event : Option Event) (a : Reply) → MayBring (poll_told a event)
+polled_so (Some event) a = tt
+polled_so None a = both MayBring (is_ack a) None (Some (report.PollAnswered a)) tt tt
 
-    command_so : (to : Option Communication) (c : Command) (a : Reply) (s : Session) → moved_by (comset_of c) (com_of a) ≡ to → HeardSo (command_answered to c a s)
-    command_so None c a s is = all.settled c a is
-    command_so (Some d) c a s is = all.moved c a d is
+command_so : (to : Option Communication) (c : Command) (a : Reply) (s : Session) → moved_by (comset_of c) (com_of a) ≡ to → HeardSo (command_answered to c a s)
+command_so None c a s is = is
+command_so (Some d) c a s is = tt
 
-    answered_so : (x : Exchange) (a : Reply) (s : Session) → HeardSo (answered x a s)
-    answered_so Opening a s = opened_so (pd_id_of a) s
-    answered_so Polling a s = polled_so (event_in a) a
-    answered_so (Asking c) a s = command_so (moved_by (comset_of c) (com_of a)) c a s refl
+answered_so : (x : Exchange) (a : Reply) (s : Session) → HeardSo (answered x a s)
+answered_so Opening a s = opened_so (pd_id_of a) s
+answered_so Polling a s = polled_so (event_in a) a
+answered_so (Asking c) a s = command_so (moved_by (comset_of c) (com_of a)) c a s refl
 
-    busy_so : (state : State) (number : ℕ) (s : Session) → HeardSo (hears_in state number NotTaken s)
-    busy_so Closed number s = all.nothing
-    busy_so (Quiet until) number s = all.nothing
-    busy_so (Idle due) number s = all.nothing
-    busy_so (Waiting until k o) number s =
-        both HeardSo (is_numbered number NotTaken s) (hears_busy o s) (ignores s)
-        (both HeardSo (ltb s.config.busy_limit (o.busies + 1)) (loses TooBusy o s)
-        (record { session = record s { state = Pausing (later s.config.busy_wait s) (record o { busies = o.busies + 1 }) }; report = None })
-        (all.busy o) all.nothing) all.nothing
-    busy_so (Pausing until o) number s = both HeardSo (is_numbered number NotTaken s) (ignores s) (ignores s) all.nothing all.nothing
+busy_so : (state : State) (number : ℕ) (s : Session) → HeardSo (hears_in state number NotTaken s)
+busy_so Closed number s = tt
+busy_so (Quiet until) number s = tt
+busy_so (Idle due) number s = tt
+busy_so (Waiting until k o) number s =
+    both HeardSo (is_numbered number NotTaken s) (hears_busy o s) (ignores s)
+    (both HeardSo (ltb s.config.busy_limit (o.busies + 1)) (loses TooBusy o s)
+    (record { session = record s { state = Pausing (later s.config.busy_wait s) (record o { busies = o.busies + 1 }) }; report = None })
+    refl tt) tt
+busy_so (Pausing until o) number s = both HeardSo (is_numbered number NotTaken s) (ignores s) (ignores s) tt tt
 
-    plain_so : (state : State) (number : ℕ) (a : Reply) (s : Session) → HeardSo (hears_in state number (Plain a) s)
-    plain_so Closed number a s = all.nothing
-    plain_so (Quiet until) number a s = all.nothing
-    plain_so (Idle due) number a s = all.nothing
-    plain_so (Waiting until k o) number a s =
-        both HeardSo (is_numbered number (Plain a) s) (waiting_hears (Plain a) k o s) (ignores s) (answered_so o.exchange a s) all.nothing
-    plain_so (Pausing until o) number a s =
-        both HeardSo (is_numbered number (Plain a) s) (pausing_hears (Plain a) o s) (ignores s) (answered_so o.exchange a s) all.nothing
+plain_so : (state : State) (number : ℕ) (a : Reply) (s : Session) → HeardSo (hears_in state number (Plain a) s)
+plain_so Closed number a s = tt
+plain_so (Quiet until) number a s = tt
+plain_so (Idle due) number a s = tt
+plain_so (Waiting until k o) number a s =
+    both HeardSo (is_numbered number (Plain a) s) (waiting_hears (Plain a) k o s) (ignores s) (answered_so o.exchange a s) tt
+plain_so (Pausing until o) number a s =
+    both HeardSo (is_numbered number (Plain a) s) (pausing_hears (Plain a) o s) (ignores s) (answered_so o.exchange a s) tt
 
-    pub heard_so : (p : Packet) (now : ℕ) (s : Session) → IsPlainlySaid p → P (hears p now s).report
-    heard_so p now s (inl busy) =
-        both HeardSo (is_from_reader p s) (hears_in s.state p.sequence (said_by p) (seen now s)) (ignores (seen now s))
-        (subst (λ a. HeardSo (hears_in s.state p.sequence a (seen now s))) (sym busy) (busy_so s.state p.sequence (seen now s))) all.nothing
-    heard_so p now s (inr (a, plain)) =
-        both HeardSo (is_from_reader p s) (hears_in s.state p.sequence (said_by p) (seen now s)) (ignores (seen now s))
-        (subst (λ b. HeardSo (hears_in s.state p.sequence b (seen now s))) (sym plain) (plain_so s.state p.sequence a (seen now s))) all.nothing
+pub heard_so : (p : Packet) (now : ℕ) (s : Session) → IsPlainlySaid p → MayBring (hears p now s).report
+heard_so p now s (inl busy) =
+    both HeardSo (is_from_reader p s) (hears_in s.state p.sequence (said_by p) (seen now s)) (ignores (seen now s))
+    (subst (λ a. HeardSo (hears_in s.state p.sequence a (seen now s))) (sym busy) (busy_so s.state p.sequence (seen now s))) tt
+heard_so p now s (inr (a, plain)) =
+    both HeardSo (is_from_reader p s) (hears_in s.state p.sequence (said_by p) (seen now s)) (ignores (seen now s))
+    (subst (λ b. HeardSo (hears_in s.state p.sequence b (seen now s))) (sym plain) (plain_so s.state p.sequence a (seen now s))) tt
 
-    pub front_so : (how : Delivery) (ps : List Packet) (now : ℕ) (s : Session) → Each IsPlainlySaid ps → P (told_by_front how ps now s)
-    front_so Delivered [] now s plain = all.nothing
-    front_so Delivered (p ∷ ps) now s plain = heard_so p now s plain.0
-    front_so Lost [] now s plain = all.nothing
-    front_so Lost (p ∷ ps) now s plain = all.nothing
-    front_so Repeated [] now s plain = all.nothing
-    front_so Repeated (p ∷ ps) now s plain = heard_so p now s plain.0
-
--- what follows from it holds of them too
-pub weaker : (P Q : Option Report → Type 0) → ((r : Option Report) → P r → Q r) → HoldsOfReports P → HoldsOfReports Q
-weaker P Q so all = record {
-  nothing = so None all.nothing;
-  opened = λ id. so (Some (report.Opened id)) (all.opened id);
-  settled = λ c a is. so (Some (report.Settled c a)) (all.settled c a is);
-  moved = λ c a d is. so (Some (report.Moved c d)) (all.moved c a d is);
-  event = λ e. so (Some (report.Event e)) (all.event e);
-  polled = λ a. so (Some (report.PollAnswered a)) (all.polled a);
-  busy = λ o. so (Some (lost TooBusy o)) (all.busy o);
-}
+pub front_so : (how : Delivery) (ps : List Packet) (now : ℕ) (s : Session) → Each IsPlainlySaid ps → MayBring (told_by_front how ps now s)
+front_so Delivered (p ∷ ps) now s plain = heard_so p now s plain.0
+front_so Repeated (p ∷ ps) now s plain = heard_so p now s plain.0
+front_so how ps now s plain = tt

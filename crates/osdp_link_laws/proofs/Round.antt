@@ -6,7 +6,7 @@ use Rattle.osdp_msg.specs.declared.command.Command.{Command}
 use Rattle.osdp_msg.specs.declared.reply.Reply.{Reply}
 use Rattle.osdp_controller.specs.Answers as packets
 use Rattle.osdp_controller.specs.Hearing as controller
-use Rattle.osdp_controller.specs.Hearing.{Heard, hears_in, ignores, is_from_reader}
+use Rattle.osdp_controller.specs.Hearing.{Heard}
 use Rattle.osdp_controller.specs.Sessions.{at_rest, later, seen}
 use Rattle.osdp_controller.specs.Ticking.{ticks}
 use Rattle.osdp_controller.specs.declared.meaning.ReplyMeaning.TheVariants.{Plain}
@@ -20,7 +20,7 @@ use Rattle.osdp_reader.specs.declared.handler.Answer.{Answer}
 use Rattle.osdp_reader.specs.Table.{hears, kind_of}
 use Rattle.osdp_link_laws.specs.Headline.{SaysWhatFits}
 use Rattle.osdp_link_laws.specs.Link as link
-use Rattle.osdp_link_laws.specs.Link.{Account, Delivered, Link, told}
+use Rattle.osdp_link_laws.specs.Link.{Delivered, Link, told}
 use Rattle.osdp_link_laws.specs.Progress.{SetsNoAddress}
 use Rattle.osdp_link_laws.specs.Sessions.{settled_commands}
 use Rattle.osdp_link_laws.proofs.Answering.{IsReady, Replies, SaysFit, replies_at}
@@ -130,7 +130,7 @@ module _ (fixed : ControllerConfig) {H : Type 0} (answer_of : H → Command → 
       (λ fit line stays waits.
       let n = number_at at in
       let r = replies_at fixed answer_of after settings first given at l h is.out ready fit in
-      let says : packets.answer_of (answer fixed n r.0) ≡ Plain r.0 = given.hears n r.0 r.1.acted.0.fits ∙ given.plain r.0 r.1.acted.0.plain in
+      let says : packets.meaning_of (answer fixed n r.0) ≡ Plain r.0 = given.hears n r.0 r.1.acted.0.fits ∙ given.plain r.0 r.1.acted.0.plain in
       let settles = settles_now fixed settings.id (exchange_at at) n r.0 now l.controller.session waits is.session stays r.1.acted.1 says in
       record { a = r.0; replies = r.1; is = come_through now (exchange_at at) n r.0 l line quiet r.1.sent settles })
       fits asks none awaits

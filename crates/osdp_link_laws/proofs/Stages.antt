@@ -84,23 +84,17 @@ IsOut (Rest n x r) = ⊥
 
 -- the command that is outstanding and that the reader has not acted on
 abbrev pub pending : Exchange → List Command
-pending Opening = []
-pending Polling = []
 pending (Asking command) = command ∷ []
+pending _ = []
 
 abbrev pub pending_at : Stage → List Command
-pending_at Fresh = []
 pending_at (Behind past x) = pending x
-pending_at (Level past x r) = []
-pending_at (Rest n x r) = []
+pending_at _ = []
 
 -- .. where the session has ended it is unsettled
 abbrev pub given_up : State → Exchange → List Command
 given_up Closed x = pending x
-given_up (Quiet until) x = []
-given_up (Idle due) x = []
-given_up (Waiting until sends o) x = []
-given_up (Pausing until o) x = []
+given_up _ x = []
 
 abbrev pub given_up_at : Stage → State → List Command
 given_up_at Fresh state = []
@@ -110,21 +104,17 @@ given_up_at (Rest n x r) state = []
 
 -- the answer that is on its way
 abbrev pub owed : Exchange → Reply → List (Command × Reply)
-owed Opening r = []
-owed Polling r = []
 owed (Asking command) r = (command, r) ∷ []
+owed _ r = []
 
 abbrev pub owed_at : Stage → List (Command × Reply)
-owed_at Fresh = []
-owed_at (Behind past x) = []
 owed_at (Level past x r) = owed x r
-owed_at (Rest n x r) = []
+owed_at _ = []
 
 -- the event that was reported and is still in front of the queue
 abbrev pub shown : Exchange → Reply → List Event
-shown Opening r = []
 shown Polling r = option_to_list (event_in r)
-shown (Asking command) r = []
+shown _ r = []
 
 abbrev pub shown_after : Past → List Event
 shown_after Start = []
@@ -138,10 +128,8 @@ shown_at (Rest n x r) = shown x r
 
 -- the event that was offered and isn't reported yet
 abbrev pub unreported_at : Stage → List Event
-unreported_at Fresh = []
-unreported_at (Behind past x) = []
 unreported_at (Level past x r) = shown x r
-unreported_at (Rest n x r) = []
+unreported_at _ = []
 
 -- the event that the last answer told is offered, and stands in front
 abbrev pub OffersEvent : Option Event → Queue → Type 0
@@ -193,26 +181,20 @@ module _ (fixed : ControllerConfig) where
   -- this exchange is outstanding, or the session has ended
   abbrev pub Asks : State → ℕ → Exchange → Session → Type 0
   Asks Closed n x s = Unit {0}
-  Asks (Quiet until) n x s = ⊥
-  Asks (Idle due) n x s = ⊥
   Asks (Waiting until sends o) n x s = IsOpen n s × (o.exchange ≡ x)
   Asks (Pausing until o) n x s = IsOpen n s × (o.exchange ≡ x)
+  Asks _ n x s = ⊥
 
   -- none is outstanding
   abbrev pub Rests : State → ℕ → Session → Type 0
   Rests Closed n s = Unit {0}
-  Rests (Quiet until) n s = ⊥
   Rests (Idle due) n s = IsOpen n s
-  Rests (Waiting until sends o) n s = ⊥
-  Rests (Pausing until o) n s = ⊥
+  Rests _ n s = ⊥
 
   -- none was sent yet
   abbrev pub Waits : State → Session → Type 0
-  Waits Closed s = ⊥
   Waits (Quiet until) s = s.config ≡ fixed
-  Waits (Idle due) s = ⊥
-  Waits (Waiting until sends o) s = ⊥
-  Waits (Pausing until o) s = ⊥
+  Waits _ s = ⊥
 
   abbrev pub ControllerAt : Stage → Session → Type 0
   ControllerAt Fresh s = Waits s.state s
@@ -271,10 +253,10 @@ module _ (fixed : ControllerConfig) where
 
     module _ (answer_of : H → Command → Answer) (after : H → Command → H) (settings : ReaderConfig) (first : H) where
       -- what the reader answers to ID and CAP, and its handler
-      pub record Answering (taken : List Command) (reader : ReaderState H) : Type 0 where
-        pub id : reader.config.id ≡ settings.id
-        pub caps : reader.config.caps ≡ settings.caps
-        pub handler : reader.handler ≡ handler_after_commands answer_of after settings first taken
+      pub record Answering (taken : List Command) (config : ReaderConfig) (current : H) : Type 0 where
+        pub id : config.id ≡ settings.id
+        pub caps : config.caps ≡ settings.caps
+        pub handler : current ≡ handler_after_commands answer_of after settings first taken
 
       pub record Accounts (pend : List Command) (owing : List (Command × Reply)) (lost : List Command) (front new : List Event) (waiting : List Command) (events : List Event) (t : Account) : Type 0 where
         pub issued : t.issued ≡ t.taken ++ (pend ++ waiting)
@@ -289,7 +271,7 @@ module _ (fixed : ControllerConfig) where
         pub controller : ControllerAt at l.controller.session
         pub waiting : Each MaySubmit l.controller.waiting
         pub reader : ReaderAt at l.reader
-        pub answering : Answering l.account.taken l.reader
+        pub answering : Answering l.account.taken l.reader.config l.reader.handler
         pub to_reader : ToReaderAt at l.to_reader
         pub to_controller : ToControllerAt at l.to_controller
         pub account : Accounts (pending_at at) (owed_at at) (given_up_at at l.controller.session.state) (shown_at at) (unreported_at at) l.controller.waiting l.reader.queue.events l.account

@@ -22,7 +22,7 @@ use Rattle.osdp_reader.specs.declared.handler.Answer.{Answer}
 use Rattle.osdp_reader.specs.Table.{hears, kind_of}
 use Rattle.osdp_link_laws.specs.Headline.{MovesFit, Begins, SaysWhatFits, handler_after}
 use Rattle.osdp_link_laws.specs.Link as link
-use Rattle.osdp_link_laws.specs.Link.{Account, Delivered, Link, Move, Tick, ToController, ToReader, after_move, run, told}
+use Rattle.osdp_link_laws.specs.Link.{Account, Delivered, Link, Move, Tick, ToController, ToReader, run, told}
 use Rattle.osdp_link_laws.specs.Progress.{AreDue, ComeOn, IsClear, SetsNoAddress, round, rounds}
 use Rattle.osdp_link_laws.proofs.Advancing.{HoldsAtSomeStage}
 use Rattle.osdp_link_laws.proofs.Due.{Acts, closed_rests, due_sends}
@@ -38,25 +38,19 @@ use Rattle.osdp_link_laws.proofs.Stages.{Asks, Behind, Fresh, Level, Rest, Rests
 
 module _ (fixed : ControllerConfig) where
   waits_config : (state : State) (s : Session) → Waits fixed state s → s.config ≡ fixed
-  waits_config Closed s waits = absurd waits
   waits_config (Quiet until) s waits = waits
-  waits_config (Idle due) s waits = absurd waits
-  waits_config (Waiting until k o) s waits = absurd waits
-  waits_config (Pausing until o) s waits = absurd waits
+  waits_config state s waits = absurd waits
 
   asks_config : (state : State) (n : ℕ) (x : Exchange) (s : Session) → (state ≡ Closed → ⊥) → Asks fixed state n x s → s.config ≡ fixed
   asks_config Closed n x s not asks = absurd (not refl)
-  asks_config (Quiet until) n x s not asks = absurd asks
-  asks_config (Idle due) n x s not asks = absurd asks
   asks_config (Waiting until k o) n x s not asks = asks.0.0
   asks_config (Pausing until o) n x s not asks = asks.0.0
+  asks_config state n x s not asks = absurd asks
 
   rests_config : (state : State) (n : ℕ) (s : Session) → (state ≡ Closed → ⊥) → Rests fixed state n s → s.config ≡ fixed
   rests_config Closed n s not rests = absurd (not refl)
-  rests_config (Quiet until) n s not rests = absurd rests
   rests_config (Idle due) n s not rests = rests.0
-  rests_config (Waiting until k o) n s not rests = absurd rests
-  rests_config (Pausing until o) n s not rests = absurd rests
+  rests_config state n s not rests = absurd rests
 
 module _ {H : Type 0} (answer_of : H → Command → Answer) (after : H → Command → H) where
   -- what has ended stays so
@@ -99,6 +93,15 @@ module _ (fixed : ControllerConfig) {H : Type 0} (answer_of : H → Command → 
       moving fixed answer_of after settings first given (ToController Delivered now) m tt tt
       (moving fixed answer_of after settings first given (ToReader Delivered) (at_tick now l) tt fits
       (moving fixed answer_of after settings first given (Tick now) l tt tt held))
+
+  -- a link that is clear
+  pub clear_still : (l : Link H) → IsClear l → l.controller.session.config ≡ fixed → IsStill fixed answer_of after settings first l
+  clear_still l clear same = record {
+    to_reader = clear.to_reader;
+    to_controller = clear.to_controller;
+    ready = record { here = clear.address ∙ ap (λ c. c.address) same; ready = clear.ready };
+    issued = each_of SetsNoAddress l.account.issued clear.issued;
+  }
 
   -- the first round: the controller comes to rest, or the session ends
   pub first_round : Given → (now : ℕ) (l : Link H) → Holds l → IsStill fixed answer_of after settings first l
@@ -214,12 +217,7 @@ module _ {H : Type 0} (answer_of : H → Command → Answer) (after : H → Comm
       let session = afterwards.controller.session in
       let same = config_is s.fixed answer_of after config handler s.holds.0 afterwards s.holds.1
       (λ closed. closed_rests session.state (seen now session) afterwards.controller.waiting closed due.0) in
-      let still : IsStill s.fixed answer_of after config handler afterwards = record {
-        to_reader = clear.to_reader;
-        to_controller = clear.to_controller;
-        ready = record { here = clear.address ∙ ap (λ c. c.address) same; ready = clear.ready };
-        issued = each_of SetsNoAddress afterwards.account.issued clear.issued;
-      } in
+      let still = clear_still s.fixed answer_of after config handler afterwards clear same in
       let all = given s.fixed handler s.device in
       let first = run answer_of after (round now) afterwards in
       let held = held_after s.fixed answer_of after config handler all now afterwards more.1.0 s.holds in

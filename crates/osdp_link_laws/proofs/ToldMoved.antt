@@ -17,7 +17,7 @@ use Rattle.osdp_reader.specs.declared.handler.Answer.{Answer}
 use Rattle.osdp_reader.specs.Replies.{not_processed}
 use Rattle.osdp_reader.specs.Table.{answer_to}
 use Rattle.osdp_link_laws.specs.Headline.{MovesFit, Begins, MoveFits, Once, handler_after, with_answers}
-use Rattle.osdp_link_laws.specs.Link.{Account, Delivered, Delivery, Link, Lost, Move, Queue as QueueEvent, Reopen, Repeated, SetBusy, Submit, Tick, ToController, ToReader, after_move, told}
+use Rattle.osdp_link_laws.specs.Link.{Account, Delivered, Delivery, Link, Move, Queue as QueueEvent, Reopen, Repeated, SetBusy, Submit, Tick, ToController, ToReader, after_move, told}
 use Rattle.osdp_link_laws.specs.Link as link
 use Rattle.osdp_link_laws.specs.Names.{IsNoDevice, IsToldAsAsked}
 use Rattle.osdp_link_laws.specs.Peers.{IsPlainlySaid}
@@ -26,31 +26,9 @@ use Rattle.osdp_link_laws.proofs.Deliveries.{all_said}
 use Rattle.osdp_link_laws.proofs.InARow.{Assumed, Stands, standing}
 use Rattle.osdp_link_laws.proofs.Numbers.{is_true}
 use Rattle.osdp_link_laws.proofs.Once.{is_once}
-use Rattle.osdp_link_laws.proofs.Reports.{HoldsOfReports, heard_so, tick_so}
+use Rattle.osdp_link_laws.proofs.Reports.{MayBring, heard_so, tick_so}
 use Rattle.osdp_link_laws.proofs.Stages.{Each}
 use Rattle.osdp_link_laws.proofs.ToldAlong.{all_reports}
-
--- a command that is settled didn't move the reader, and no reply is unread
-abbrev Unmoved : Option Report → Type 0
-Unmoved None = Unit {0}
-Unmoved (Some (report.Opened id)) = Unit {0}
-Unmoved (Some (report.Settled c a)) = moved_by (comset_of c) (com_of a) ≡ None
-Unmoved (Some (report.Moved c d)) = Unit {0}
-Unmoved (Some (report.Event e)) = Unit {0}
-Unmoved (Some (report.PollAnswered a)) = Unit {0}
-Unmoved (Some (report.Unread c code)) = ⊥
-Unmoved (Some (report.Lost cause c)) = Unit {0}
-
-unmoved : HoldsOfReports Unmoved
-unmoved = record {
-  nothing = tt;
-  opened = λ id. tt;
-  settled = λ c a is. is;
-  moved = λ c a d is. tt;
-  event = λ e. tt;
-  polled = λ a. tt;
-  busy = λ o. tt;
-}
 
 abbrev pub ToldAsAsked : Option Report → Type 0
 ToldAsAsked r = IfSome r IsToldAsAsked
@@ -83,31 +61,23 @@ module _ {H : Type 0} (answer_of : H → Command → Answer) (after : H → Comm
   answered_by config h (d ∷ ds) (x ∷ xs) ys c a is =
       answered_by config (answer_to answer_of after config h d).handler ds xs ys c a cc
 
-  told_so : (config : ReaderConfig) (h : H) (r : Option Report) (t : Account) → Unmoved r → Once answer_of after config h (told r t) → ToldAsAsked r
-  told_so config h None t is once = tt
-  told_so config h (Some (report.Opened id)) t is once = tt
+  told_so : (config : ReaderConfig) (h : H) (r : Option Report) (t : Account) → MayBring r → Once answer_of after config h (told r t) → ToldAsAsked r
   told_so config h (Some (report.Settled c a)) t is once =
       let whole = once.settled in
       let by = answered_by config h t.taken t.settled whole.0 c a (whole.1 ∙ append_assoc t.settled ((c, a) ∷ []) whole.0) in
       no_device config by.0 c a by.1 is
-  told_so config h (Some (report.Moved c d)) t is once = tt
-  told_so config h (Some (report.Event e)) t is once = tt
-  told_so config h (Some (report.PollAnswered a)) t is once = tt
   told_so config h (Some (report.Unread c code)) t is once = is
-  told_so config h (Some (report.Lost cause c)) t is once = tt
+  told_so config h r t is once = tt
 
 module _ {H : Type 0} (answer_of : H → Command → Answer) (after : H → Command → H) (settings : ReaderConfig) (first : H) where
   -- what is told last is in the account after it
   front_told : (how : Delivery) (ps : List Packet) (now : ℕ) (l : Link H) → Each IsPlainlySaid ps
       → ((k : H) × Once answer_of after settings k (link.to_controller ps how now l).account) → ToldAsAsked (told_by_front how ps now l.controller.session)
-  front_told Delivered [] now l plain once = tt
   front_told Delivered (p ∷ ps) now l plain once =
-      told_so answer_of after settings once.0 (hears p now l.controller.session).report l.account (heard_so Unmoved unmoved p now l.controller.session plain.0) once.1
-  front_told Lost [] now l plain once = tt
-  front_told Lost (p ∷ ps) now l plain once = tt
-  front_told Repeated [] now l plain once = tt
+      told_so answer_of after settings once.0 (hears p now l.controller.session).report l.account (heard_so p now l.controller.session plain.0) once.1
   front_told Repeated (p ∷ ps) now l plain once =
-      told_so answer_of after settings once.0 (hears p now l.controller.session).report l.account (heard_so Unmoved unmoved p now l.controller.session plain.0) once.1
+      told_so answer_of after settings once.0 (hears p now l.controller.session).report l.account (heard_so p now l.controller.session plain.0) once.1
+  front_told how ps now l plain once = tt
 
   pub move_told : Assumed answer_of after settings first → (move : Move) (l : Link H) → MoveFits answer_of after move l
       → Stands answer_of after settings first l → ToldAsAsked (told_by move l)

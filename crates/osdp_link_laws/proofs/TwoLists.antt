@@ -1,5 +1,5 @@
 -- A link is two lists and four counts: what each of its moves does to them.
-use Rattle.std.proofs.Common.{◌≡◌, ◌≤◌, ◌<◌, ◌+◌, ◌⊎◌, ◌==◌, ℕ, Bool, true, false, List, [], ◌∷◌, ◌++◌, length, take, Option, Some, None, refl, sym, subst, ap, ◌∙◌, inl, inr, arith, append_assoc}
+use Rattle.std.proofs.Common.{◌≡◌, ◌≤◌, ◌+◌, ◌⊎◌, ◌==◌, ℕ, Bool, true, false, List, [], ◌∷◌, ◌++◌, length, take, Option, Some, None, refl, sym, subst, ap, ◌∙◌, inl, inr, arith, append_assoc}
 use Rattle.std.proofs.lemmas.List.{append-nil, length-append, length-map}
 use Rattle.std.proofs.Math.Seq.{take-append_seam}
 use Rattle.std.specs.Prelude.{if◌then◌else◌, nat_le, nat_lt, option_to_list}
@@ -32,13 +32,13 @@ use Rattle.osdp_reader.specs.declared.kind.Kind.TheVariants as kind
 use Rattle.osdp_link_laws.specs.Headline.{MovesFit, Begins, IsBeginning, MoveFits, handler_after, with_answers}
 use Rattle.osdp_link_laws.specs.Link as link
 use Rattle.osdp_link_laws.specs.Link.{Account, Delivered, Delivery, Link, Lost, Move, Queue as QueueEvent, Reopen, Repeated, SetBusy, Submit, Tick, ToController, ToReader, after_move, run, told}
-use Rattle.osdp_link_laws.specs.TwoLists.{IsInStep, IsOneOrNone, IsRead, IsStepOf, Issue, KeepsInStep, May, Offer, Offers, Queue, Report as Tell, Settle, Step, Take, TwoLists, after_step, beginning, two_lists}
+use Rattle.osdp_link_laws.specs.TwoLists.{IsInStep, IsLevel, IsOneOrNone, IsRead, IsStepOf, Issue, KeepsInStep, May, Offer, Offers, Queue, Report as Tell, Settle, Step, Take, TwoLists, after_step, two_lists}
 use Rattle.osdp_link_laws.proofs.InARow.{Assumed, begins as begun, running}
 use Rattle.osdp_link_laws.proofs.Lines.{both}
-use Rattle.osdp_link_laws.proofs.Once.{front_shown, is_once, one_owed_at}
+use Rattle.osdp_link_laws.proofs.Once.{front_shown, is_once}
 use Rattle.osdp_link_laws.proofs.Parts.{At}
 use Rattle.osdp_link_laws.proofs.Sessions.{answered_commands, settled_command}
-use Rattle.osdp_link_laws.proofs.Stages.{Behind, Fresh, Level, Rest, Stage, owed, owed_at, shown, shown_at, unreported_at}
+use Rattle.osdp_link_laws.proofs.Stages.{Behind, Fresh, Level, Rest, Stage, owed, owed_at, shown, unreported_at}
 
 -- ---- the machine alone
 
@@ -185,25 +185,20 @@ module _ {H : Type 0} (answer_of : H → Command → Answer) (after : H → Comm
 abbrev Would : Move → Account → Account → Type 0
 Would move t u = (two_lists u ≡ two_lists t) ⊎ ((step : Step) × IsStepOf move step × (two_lists u ≡ after_step step (two_lists t)))
 
+-- where there is room for one that isn't told yet, all is told
+level : (m : TwoLists) → IsInStep m → m.taken + m.offered ≤ m.settled + m.reported → IsLevel m
+level m before room = record {
+  commands = omega (arith, before.settled, before.reported, room);
+  events = omega (arith, before.settled, before.reported, room);
+}
+
 -- a step that leads to counts in their order may be taken
 may : (step : Step) (m : TwoLists) → IsInStep m → IsInStep (after_step step m) → May step m
 may (Issue c) m before later = tt
 may (Queue e) m before later = tt
-may Take m before later = (
-  record {
-    commands = omega (arith, before.settled, before.reported, later.one);
-    events = omega (arith, before.settled, before.reported, later.one);
-  },
-  omega (arith, later.taken),
-)
+may Take m before later = (level m before (omega (arith, later.one)), omega (arith, later.taken))
 may Settle m before later = omega (arith, later.settled)
-may Offer m before later = (
-  record {
-    commands = omega (arith, before.settled, before.reported, later.one);
-    events = omega (arith, before.settled, before.reported, later.one);
-  },
-  omega (arith, later.offered),
-)
+may Offer m before later = (level m before (omega (arith, later.one)), omega (arith, later.offered))
 may Tell m before later = omega (arith, later.reported)
 
 one_longer : {A : Type 0} (xs : List A) (x : A) → length (xs ++ x ∷ []) ≡ length xs + 1
@@ -228,18 +223,7 @@ takes c how t u is =
 taken_would : (c : Command) (events : List Event) (how : Delivery) (t : Account) → Would (ToReader how) t (link.taken_command c (take 1 events) t)
 taken_would command.Poll [] how t = inl (ap (λ es. two_lists (record t { offered = es })) (append-nil t.offered))
 taken_would command.Poll (e ∷ rest) how t = inr (Offer, tt, ap (λ n. record (two_lists t) { offered = n }) (one_longer t.offered e))
-taken_would (command.Id a) events how t = takes (command.Id a) how t _ refl
-taken_would (command.Cap a) events how t = takes (command.Cap a) how t _ refl
-taken_would command.LocalStatus events how t = takes command.LocalStatus how t _ refl
-taken_would command.InputStatus events how t = takes command.InputStatus how t _ refl
-taken_would command.OutputStatus events how t = takes command.OutputStatus how t _ refl
-taken_would command.ReaderStatus events how t = takes command.ReaderStatus how t _ refl
-taken_would (command.Output a) events how t = takes (command.Output a) how t _ refl
-taken_would (command.Led a) events how t = takes (command.Led a) how t _ refl
-taken_would (command.Buzzer a) events how t = takes (command.Buzzer a) how t _ refl
-taken_would (command.Text a) events how t = takes (command.Text a) how t _ refl
-taken_would (command.Comset a) events how t = takes (command.Comset a) how t _ refl
-taken_would (command.Maker a) events how t = takes (command.Maker a) how t _ refl
+taken_would c events how t = takes c how t _ refl
 
 kind_would : (k : Kind) (c : Option Command) (events : List Event) (how : Delivery) (t : Account) → Would (ToReader how) t (link.taken k c (take 1 events) t)
 kind_would kind.Taken (Some c) events how t = taken_would c events how t

@@ -88,12 +88,7 @@ own_plain config c = tt
 
 event_plain : (e : Event) → IsPlain (event_reply e)
 event_plain (event.LocalState s) = tt
-event_plain (event.Inputs states) = tt
-event_plain (event.Outputs states) = tt
-event_plain (event.Readers states) = tt
-event_plain (event.Raw r) = tt
-event_plain (event.Formatted f) = tt
-event_plain (event.Keypad k) = tt
+event_plain e = tt
 
 told_plain : (o : Option Event) → IsPlainIf (option_map event_reply o)
 told_plain None = tt

@@ -5,7 +5,7 @@ use Rattle.osdp_msg.specs.declared.command.Command.{Command}
 use Rattle.osdp_reader.specs.declared.handler.Answer.{Answer}
 use Rattle.osdp_reader.specs.declared.kind.Kind.{Kind}
 use Rattle.osdp_reader.specs.declared.kind.Kind.TheVariants.{Repeat, Taken}
-use Rattle.osdp_reader_laws.specs.Laws.{AnswersTheSameAgain, ComesTo, KeepsWhatItTook}
+use Rattle.osdp_reader_laws.specs.Laws.{AnswersTheSameAgain, AnswersTheSameStill, ComesTo, KeepsWhatItTook}
 use Rattle.osdp_reader.specs.State.{ReaderState, after_set_handler}
 use Rattle.osdp_reader.specs.Table.{hears, kind_of, outcome}
 
@@ -33,13 +33,7 @@ module _ {H : Type 0} where
         × ((outcome answer_of after k r q).command ≡ None)) (sym is) (refl, refl, refl)
 
     -- a handler that was set in between changes no answer
-    pub the_same_still : KeepsWhatItTook answer_of after → (r : ReaderState H) (p q : Packet) (handler : H) → kind_of r p ≡ Taken
-        → (hears answer_of after r p).reader.config.address ≡ r.config.address
-        → ComesTo r q → q.block ≡ false → q.sequence ≡ p.sequence
-        → let first = hears answer_of after r p in
-        let changed = after_set_handler handler first.reader in
-        let again = hears answer_of after changed q in
-        (again.reply ≡ first.reply) × (again.reader ≡ changed) × (again.command ≡ None)
+    pub the_same_still : KeepsWhatItTook answer_of after → AnswersTheSameStill answer_of after
     the_same_still keeps r p q handler is stays comes unsecured same =
         let kept = keeps r p is stays in
         let later = (hears answer_of after r p).reader in
