@@ -3,7 +3,7 @@
 ghost use Rattle.osdp_reader.specs.declared.handler.Answer.TheVariants.{Done};
 
 use osdp_controller::{Controller, ControllerConfig};
-use osdp_frame::{Address, CheckKind};
+use osdp_frame::{Address, CheckKind, FrameView, Seq};
 use osdp_msg::Command;
 use osdp_reader::{Answer, Handler, Reader};
 use osdp_script_reader::script_config;
@@ -41,4 +41,36 @@ pub fn controller(alloc: Global, poll_interval: u32) -> Option<Controller> {
 pub fn reader(alloc: Global) -> Option<Reader<Device>> {
     let config = script_config(1, Address::new(5)?);
     Reader::new(alloc, config, Device { is_on: true }, 4).ok()
+}
+
+/// Both ends of a link.
+#[derive(Drop)]
+pub struct Link {
+    /// The controller, whose session has begun.
+    pub controller: Controller,
+    /// The reader.
+    pub reader: Reader<Device>,
+}
+
+impl Link {
+    /// A link whose controller has a POLL due this long after an answer.
+    pub fn new(alloc: Global, poll_interval: u32) -> Option<Link> {
+        let controller = controller(alloc, poll_interval)?;
+        let reader = reader(alloc)?;
+        Some(Link { controller, reader })
+    }
+}
+
+/// A packet with a CRC, to the reader at an address or from it, with this number and body.
+pub fn packet(is_reply: bool, address: u8, number: u8, body: &[u8]) -> Option<FrameView<'_>> {
+    let seq = Seq::new(number)?;
+    FrameView::new(
+        is_reply,
+        Address::new(address)?,
+        seq,
+        CheckKind::Crc,
+        false,
+        0,
+        body,
+    )
 }

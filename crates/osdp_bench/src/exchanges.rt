@@ -1,21 +1,16 @@
 //! Exchanges over both machines.
 
-use crate::device::{Device, controller, reader};
+use crate::device::{Link, packet};
 use osdp_controller::{Controller, Report};
-use osdp_frame::{Address, Burst, CheckKind, FrameView, Item, Seq, whole_item};
+use osdp_frame::{Burst, Item, whole_item};
 use osdp_msg::{Command, OutputRecord, Outputs};
-use osdp_reader::{Heard, Reader};
+use osdp_reader::Heard;
 use std::alloc::Global;
 
 /// How the machines are called.
 pub trait Way {
     /// What is due at a moment goes to the reader, and its answer, found in its bytes, to the controller. Whether nothing is outstanding then.
-    fn exchange(
-        &mut self,
-        controller: &mut Controller,
-        reader: &mut Reader<Device>,
-        now: u64,
-    ) -> bool;
+    fn exchange(&mut self, link: &mut Link, now: u64) -> bool;
 }
 
 /// By the calls that answer by values.
@@ -23,21 +18,16 @@ pub trait Way {
 pub struct ByValue;
 
 impl Way for ByValue {
-    fn exchange(
-        &mut self,
-        controller: &mut Controller,
-        reader: &mut Reader<Device>,
-        now: u64,
-    ) -> bool {
-        let Some(frame) = controller.tick(now).frame else {
+    fn exchange(&mut self, link: &mut Link, now: u64) -> bool {
+        let Some(frame) = link.controller.tick(now).frame else {
             return false;
         };
-        let response = reader.on_frame(&frame.view());
+        let response = link.reader.on_frame(&frame.view());
         let Some(Item::Packet(packet)) = whole_item(response.bytes()) else {
             return false;
         };
-        let _report = controller.on_frame(&packet, now);
-        !controller.outstanding()
+        let _report = link.controller.on_frame(&packet, now);
+        !link.controller.outstanding()
     }
 }
 
@@ -65,24 +55,22 @@ impl Lent {
 
 impl Way for Lent {
     /// The controller's packet is found in its bytes too.
-    fn exchange(
-        &mut self,
-        controller: &mut Controller,
-        reader: &mut Reader<Device>,
-        now: u64,
-    ) -> bool {
-        if !controller.tick_into(now, &mut self.burst, &mut self.report) {
+    fn exchange(&mut self, link: &mut Link, now: u64) -> bool {
+        if !link
+            .controller
+            .tick_into(now, &mut self.burst, &mut self.report)
+        {
             return false;
         }
         let Some(Item::Packet(asked)) = whole_item(self.burst.as_slice()) else {
             return false;
         };
-        reader.hear(&asked, &mut self.heard);
+        link.reader.hear(&asked, &mut self.heard);
         let Some(Item::Packet(packet)) = whole_item(self.heard.bytes()) else {
             return false;
         };
-        controller.hear(&packet, now, &mut self.report);
-        !controller.outstanding()
+        link.controller.hear(&packet, now, &mut self.report);
+        !link.controller.outstanding()
     }
 }
 
@@ -121,35 +109,34 @@ impl Asked {
 
 /// So many exchanges of what is asked and its ACK.
 pub fn exchanges<W: Way>(alloc: Global, asked: Asked, way: &mut W, count: u64) -> Option<u64> {
-    let mut controller = controller(alloc, asked.poll_interval())?;
-    let mut reader = reader(alloc)?;
+    let mut link = Link::new(alloc, asked.poll_interval())?;
     let mut done = 0u64;
     let mut now = 2u64;
-    let _ = way.exchange(&mut controller, &mut reader, now);
+    let _ = way.exchange(&mut link, now);
     for _ in 0..count {
         now = now.saturating_add(2);
-        asked.submit(&mut controller)?;
-        done = done.saturating_add(u64::from(way.exchange(&mut controller, &mut reader, now)));
+        asked.submit(&mut link.controller)?;
+        done = done.saturating_add(u64::from(way.exchange(&mut link, now)));
     }
     Some(done)
 }
 
 /// So many turns of a controller alone: a POLL goes out, and its ACK, a packet that is there, is heard.
 pub fn turns(alloc: Global, count: u64) -> Option<u64> {
-    let mut controller = controller(alloc, 1)?;
-    let mut reader = reader(alloc)?;
+    let mut link = Link::new(alloc, 1)?;
     let mut lent = Lent::new();
     let mut done = 0u64;
     let mut now = 2u64;
-    let _ = lent.exchange(&mut controller, &mut reader, now);
+    let _ = lent.exchange(&mut link, now);
     let body = [0x40];
     for place in 0..count {
         now = now.saturating_add(2);
-        let seq = Seq::new((place % 3) as u8 + 1)?;
-        let ack = FrameView::new(true, Address::new(5)?, seq, CheckKind::Crc, false, 0, &body)?;
-        let sent = controller.tick_into(now, &mut lent.burst, &mut lent.report);
-        controller.hear(&ack, now, &mut lent.report);
-        done = done.saturating_add(u64::from(sent && !controller.outstanding()));
+        let ack = packet(true, 5, (place % 3) as u8 + 1, &body)?;
+        let sent = link
+            .controller
+            .tick_into(now, &mut lent.burst, &mut lent.report);
+        link.controller.hear(&ack, now, &mut lent.report);
+        done = done.saturating_add(u64::from(sent && !link.controller.outstanding()));
     }
     Some(done)
 }

@@ -1,31 +1,17 @@
 //! What a reader hears, by the call that fills a place of the caller's.
 
-use crate::device::reader;
-use osdp_frame::{Address, CheckKind, FrameView, Seq};
+use crate::device::{packet, reader};
 use osdp_reader::{Heard, Kind};
 use std::alloc::Global;
-
-/// A packet for the reader with this number.
-fn packet(number: u8, body: &[u8]) -> Option<FrameView<'_>> {
-    FrameView::new(
-        false,
-        Address::new(5)?,
-        Seq::new(number)?,
-        CheckKind::Crc,
-        false,
-        0,
-        body,
-    )
-}
 
 /// So many packets with this body, each with the next number.
 pub fn heard(alloc: Global, body: &[u8], count: u64) -> Option<u64> {
     let mut reader = reader(alloc)?;
     let mut heard = Heard::new();
-    reader.hear(&packet(0, body)?, &mut heard);
+    reader.hear(&packet(false, 5, 0, body)?, &mut heard);
     let mut done = 0u64;
     for place in 0..count {
-        let packet = packet((place % 3) as u8 + 1, body)?;
+        let packet = packet(false, 5, (place % 3) as u8 + 1, body)?;
         reader.hear(&packet, &mut heard);
         done = done.saturating_add(u64::from(
             heard.kind == Kind::Taken && heard.bytes().len() == 8,
@@ -39,8 +25,8 @@ pub fn repeats_heard(alloc: Global, count: u64) -> Option<u64> {
     let mut reader = reader(alloc)?;
     let mut heard = Heard::new();
     let poll = [0x60];
-    reader.hear(&packet(0, &poll)?, &mut heard);
-    let packet = packet(1, &poll)?;
+    reader.hear(&packet(false, 5, 0, &poll)?, &mut heard);
+    let packet = packet(false, 5, 1, &poll)?;
     reader.hear(&packet, &mut heard);
     let mut done = 0u64;
     for _ in 0..count {

@@ -1,4 +1,4 @@
-//! Schedules from rows of text, one step a row.
+//! Schedules from text: steps, with a semicolon between any two.
 
 use osdp_msg::{Command, Event};
 use osdp_sim::{Move, SimStep};
@@ -55,10 +55,10 @@ fn step(rt: &impl Abort, alloc: Global, row: &str) -> SimStep {
     }
 }
 
-/// The steps of these rows; `reopen 1 .` begins a session of reader 1 again.
-pub fn steps(rt: &impl Abort, alloc: Global, rows: &str) -> Vec<SimStep> {
+/// The steps of this text; `reopen 1 .` begins a session of reader 1 again.
+pub fn steps(rt: &impl Abort, alloc: Global, text: &str) -> Vec<SimStep> {
     let mut steps = Vec::new(alloc);
-    for row in rows.lines() {
+    for row in text.split("; ") {
         steps.push(step(rt, alloc, row)).expect(rt, "memory");
     }
     steps

@@ -4,8 +4,6 @@
 #[cfg(test)]
 mod accounts;
 #[cfg(test)]
-mod clean;
-#[cfg(test)]
 mod refusals;
 #[cfg(test)]
 mod schedules;

@@ -5,7 +5,7 @@ use crate::schedules::{config, outcome};
 use osdp_door::Door;
 use osdp_frame::Address;
 use osdp_msg::Command;
-use osdp_sim::{Cause, Lengths, Move, SimConfig, SimStep, run_session};
+use osdp_sim::{Cause, Move, SimConfig, SimStep, run_session};
 use std::alloc::Global;
 use std::process::Abort;
 
@@ -24,7 +24,7 @@ fn stops(rt: &impl Abort, alloc: Global, rows: &str, step: usize, cause: Cause) 
 #[test]
 fn damage_holds_no_packet(rt: HostRuntime) {
     let opened =
-        "wait 400\nto-reader deliver\nto-controller deliver\nwait 50\nto-reader damage 53000700006046";
+        "wait 400; to-reader deliver; to-controller deliver; wait 50; to-reader damage 53000700006046";
     stops(&rt, rt.alloc(), opened, 5, Cause::HoldsPacket);
     let nothing = "to-controller damage FF53000700006046";
     stops(&rt, rt.alloc(), nothing, 1, Cause::HoldsPacket);
@@ -34,7 +34,7 @@ fn damage_holds_no_packet(rt: HostRuntime) {
 #[test]
 fn a_session_begins_on_a_quiet_line(rt: HostRuntime) {
     stops(&rt, rt.alloc(), "reopen 1", 1, Cause::NotQuiet);
-    let open = "wait 400\nto-reader deliver\nto-controller deliver\nreopen 1";
+    let open = "wait 400; to-reader deliver; to-controller deliver; reopen 1";
     stops(&rt, rt.alloc(), open, 4, Cause::NotQuiet);
 }
 
@@ -74,27 +74,6 @@ fn another_reader_is_not_there(rt: HostRuntime) {
     let ended = run_session(rt.alloc(), &config(&rt), Door::new(), &steps);
     let account = ended.ok().expect(&rt, "an account");
     assert_eq!(rt; account_text(&rt, rt.alloc(), &account).as_str(), NONE);
-}
-
-/// The lengths at each beginning of a session are those of the lists then.
-#[test]
-fn sessions_are_told_apart(rt: HostRuntime) {
-    let rows =
-        "issue OUT 0:2:0\nwait 400\nwait 200\nwait 200\nwait 200\nto-reader drop\nto-reader drop\nto-reader drop\nqueue KEYPAD 0 31\nreopen 1";
-    let account = outcome(&rt, rt.alloc(), rows)
-        .ok()
-        .expect(&rt, "an account");
-    let second = Lengths {
-        issued: 1,
-        taken: 0,
-        settled: 0,
-        unsettled: 0,
-        queued: 1,
-        reported: 0,
-        ends: 1,
-    };
-    assert_eq!(rt; account.sessions.len(), 2);
-    assert_eq!(rt; account.sessions[1], second);
 }
 
 /// A session that opens and settles a command.

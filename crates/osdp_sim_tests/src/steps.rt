@@ -1,4 +1,4 @@
-//! Schedules from rows of text, one step a row.
+//! Schedules from text: steps, with a semicolon between any two.
 
 use osdp_frame::Burst;
 use osdp_msg::{Command, Event};
@@ -72,10 +72,10 @@ fn push_clean(rt: &impl Abort, steps: &mut Vec<SimStep>, rounds: usize) {
     }
 }
 
-/// The steps of these rows.
-pub fn steps(rt: &impl Abort, alloc: Global, rows: &str) -> Vec<SimStep> {
+/// The steps of this text.
+pub fn steps(rt: &impl Abort, alloc: Global, text: &str) -> Vec<SimStep> {
     let mut steps = Vec::new(alloc);
-    for row in rows.lines() {
+    for row in text.split("; ") {
         let (name, rest) = row.split_once(' ').expect(rt, "a step");
         match name {
             "clean" => push_clean(rt, &mut steps, rest.parse().expect(rt, "a count")),
