@@ -1,17 +1,16 @@
 -- An input that is read piece by piece, to its end.
-use Rattle.std.proofs.Common.{◌≡◌, ◌≢◌, ℕ, ◌+◌, Bool, false, List, [], ◌∷◌, ◌++◌, length, take, Option, Result, Ok, Err, refl, sym, subst, ap, ◌∙◌, arith, append_assoc, append-nil}
+use Rattle.std.proofs.Common.{◌≡◌, ◌≢◌, ℕ, Bool, false, List, [], ◌∷◌, ◌++◌, length, Option, Result, Ok, Err, IsErrAnd, refl, sym, subst, ap, ◌∙◌, arith, append-nil}
 use Rattle.std.proofs.KnownBytes.{Appends-nil, Appends-trans, Consumes-nil, Consumes-kept, Consumes-trans}
-use Rattle.std.specs.Io.KnownBytes.{Appends, Consumes, Keeps}
+use Rattle.std.specs.Io.KnownBytes.{Consumes, Keeps}
 use Rattle.osdp_tool_input.specs.Cut.{ended_after, unended_after, ended_lines, last_line, lines_of, unended_line}
 use Rattle.osdp_tool_streams.specs.declared.fault.ToolFault.{ToolFault}
-use Rattle.osdp_tool_streams.specs.declared.fault.ToolFault.TheVariants.{NotHex, TooLong, BadWords, BadStep}
-use Rattle.osdp_tool_streams.specs.declared.fault.ToolFault.TheVariants.{HoldsPacket, NotQuiet, ReadFailed}
-use Rattle.osdp_tool_streams.specs.declared.fault.ToolFault.TheVariants.{WriteFailed, NoMemory}
+use Rattle.osdp_tool_streams.specs.declared.fault.ToolFault.TheVariants.{TooLong, ReadFailed, WriteFailed, NoMemory}
 use Rattle.osdp_line_streams.specs.Answers.{Answering, Speaks, heard}
 use Rattle.osdp_line_streams.specs.Ending.{AllAnswered, Ends, SomeAnswered}
 use Rattle.osdp_line_streams.specs.Steps.{EndsLine, Follows, Goes, ReadAll, ReadSome, Reads, Step, StopsIn}
+use Rattle.osdp_line_streams.proofs.Answered.{on_err}
 use Rattle.osdp_line_streams.proofs.Speaking.{spoke_more}
-use Rattle.osdp_line_streams.proofs.Stopping.{follows_none, goes_both, stops_further, stops_kept, take-beyond, not_memory}
+use Rattle.osdp_line_streams.proofs.Stopping.{all_written, follows_none, goes_both, more_lines, part_written, stops_further, stops_kept}
 
 -- ---- pieces
 
@@ -39,21 +38,18 @@ read_some answers old mid line middle piece ib i1 i2 before between after fault 
 }
 
 pub reads_stop : {M : Type 0} (answers : Answering M) (old mid new : M) (line middle next piece : List ℕ) (ib i1 i2 before between after : Option (List ℕ))
-    (was input_failed failed : Bool) (fault : ToolFault)
+    (was input_failed failed : Bool) (result : Result (Unit {0}) ToolFault) (fault : ToolFault) → IsErrAnd result (λ x. x ≡ fault)
     → ReadAll answers old line mid middle ib i1 before between → Consumes i1 i2 piece → StopsIn answers piece mid middle between after fault
     → Step was failed (Err fault) → was ≡ false → input_failed ≡ false
-    → Reads answers old line new next ib i2 input_failed before after failed (Err fault)
-reads_stop answers old mid new line middle next piece ib i1 i2 before between after was input_failed failed NoMemory so_far taken stops step well input =
-    (read_some answers old mid line middle piece ib i1 i2 before between after NoMemory so_far taken stops, input, step ∙ well)
-reads_stop answers old mid new line middle next piece ib i1 i2 before between after was input_failed failed WriteFailed so_far taken stops step well input =
-    (read_some answers old mid line middle piece ib i1 i2 before between after WriteFailed so_far taken stops, input, step)
-reads_stop answers old mid new line middle next piece ib i1 i2 before between after was input_failed failed ReadFailed so_far taken stops step well input = absurd step
-reads_stop answers old mid new line middle next piece ib i1 i2 before between after was input_failed failed TooLong so_far taken stops step well input = absurd step
-reads_stop answers old mid new line middle next piece ib i1 i2 before between after was input_failed failed BadWords so_far taken stops step well input = absurd step
-reads_stop answers old mid new line middle next piece ib i1 i2 before between after was input_failed failed (NotHex number) so_far taken stops step well input = absurd step
-reads_stop answers old mid new line middle next piece ib i1 i2 before between after was input_failed failed (BadStep number) so_far taken stops step well input = absurd step
-reads_stop answers old mid new line middle next piece ib i1 i2 before between after was input_failed failed (HoldsPacket number) so_far taken stops step well input = absurd step
-reads_stop answers old mid new line middle next piece ib i1 i2 before between after was input_failed failed (NotQuiet number) so_far taken stops step well input = absurd step
+    → Reads answers old line new next ib i2 input_failed before after failed result
+reads_stop answers old mid new line middle next piece ib i1 i2 before between after was input_failed failed result fault is so_far taken stops step well input =
+    on_err (λ r. Reads answers old line new next ib i2 input_failed before after failed r) result fault is (by_fault fault stops step)
+  where
+    by_fault : (x : ToolFault) → StopsIn answers piece mid middle between after x → Step was failed (Err x)
+        → Reads answers old line new next ib i2 input_failed before after failed (Err x)
+    by_fault NoMemory stops step = (read_some answers old mid line middle piece ib i1 i2 before between after NoMemory so_far taken stops, input, step ∙ well)
+    by_fault WriteFailed stops step = (read_some answers old mid line middle piece ib i1 i2 before between after WriteFailed so_far taken stops, input, step)
+    by_fault x stops step = absurd step
 
 -- ---- before any
 
@@ -66,17 +62,7 @@ unfolding ended_after unended_after
 some_none answers machine ib before fault = record {
   read = [];
   taken = Consumes-nil ib;
-  stops = record {
-    front = [];
-    others = [];
-    split = refl;
-    text = [];
-    last = machine;
-    speaks = (refl, refl);
-    count = 0;
-    written = Appends-nil before;
-    whole = λ memory. Appends-nil before;
-  };
+  stops = all_written answers machine machine [] [] before before fault (refl, refl) (Appends-nil before);
 }
 
 -- ---- after the last piece
@@ -90,21 +76,12 @@ ended answers old new next ib ia before after all =
 some : {M : Type 0} (answers : Answering M) (old : M) (ib ia before after : Option (List ℕ)) (fault : ToolFault)
     → ReadSome answers old [] ib ia before after fault → SomeAnswered answers old ib ia before after fault
 some answers old ib ia before after fault r =
-    let s = r.stops old before [] (follows_none answers old before) in
+    let lines = ended_lines r.read in
+    let rest = last_line (unended_line r.read) in
     record {
       read = r.read;
       taken = r.taken;
-      stops = record {
-        front = s.front;
-        others = s.others ++ last_line (unended_line r.read);
-        split = ap (λ l. l ++ last_line (unended_line r.read)) s.split ∙ append_assoc s.front s.others (last_line (unended_line r.read));
-        text = s.text;
-        last = s.last;
-        speaks = s.speaks;
-        count = s.count;
-        written = s.written;
-        whole = s.whole;
-      };
+      stops = more_lines answers old lines rest (lines ++ rest) before after fault refl (r.stops old before [] (follows_none answers old before));
     }
 
 pub ends_stopped : {M : Type 0} (answers : Answering M) (old new : M) (next : List ℕ) (ib ia before after : Option (List ℕ)) (input_failed failed : Bool) (fault : ToolFault)
@@ -113,11 +90,7 @@ ends_stopped answers old new next ib ia before after input_failed failed ReadFai
 ends_stopped answers old new next ib ia before after input_failed failed TooLong r = (ended answers old new next ib ia before after r.0, r.1, r.2)
 ends_stopped answers old new next ib ia before after input_failed failed NoMemory r = (some answers old ib ia before after NoMemory r.0, r.1, r.2)
 ends_stopped answers old new next ib ia before after input_failed failed WriteFailed r = (some answers old ib ia before after WriteFailed r.0, r.1, r.2)
-ends_stopped answers old new next ib ia before after input_failed failed BadWords r = absurd r
-ends_stopped answers old new next ib ia before after input_failed failed (NotHex number) r = absurd r
-ends_stopped answers old new next ib ia before after input_failed failed (BadStep number) r = absurd r
-ends_stopped answers old new next ib ia before after input_failed failed (HoldsPacket number) r = absurd r
-ends_stopped answers old new next ib ia before after input_failed failed (NotQuiet number) r = absurd r
+ends_stopped answers old new next ib ia before after input_failed failed fault r = absurd r
 
 -- nothing stands after the last line feed
 heard_none : (line : List ℕ) → [] ≡ heard line → last_line line ≡ []
@@ -197,26 +170,9 @@ ends_last {M} answers old mid new next ib ia before between after input_failed w
       record {
         read = r.0.read;
         taken = r.0.taken;
-        stops = record {
-          front = lines_of r.0.read;
-          others = [];
-          split = sym (append-nil (lines_of r.0.read));
-          text = f.text ++ p.answer;
-          last = p.next;
-          speaks = spoken p.answer p.next p.is;
-          count = length f.text + p.count;
-          written = subst (Appends before after) (sym (take-beyond f.text p.answer p.count))
-              (Appends-trans before between after f.text (take p.count p.answer) f.written p.written);
-          whole = λ memory. absurd (not_memory memory);
-        };
+        stops = part_written answers old p.next (lines_of r.0.read) f.text p.answer p.count before between after (spoken p.answer p.next p.is) f.written p.written;
       },
       r.2,
       ill,
     )
-    by_result (Err ReadFailed) e = absurd e
-    by_result (Err TooLong) e = absurd e
-    by_result (Err BadWords) e = absurd e
-    by_result (Err (NotHex number)) e = absurd e
-    by_result (Err (BadStep number)) e = absurd e
-    by_result (Err (HoldsPacket number)) e = absurd e
-    by_result (Err (NotQuiet number)) e = absurd e
+    by_result (Err fault) e = absurd e

@@ -7,8 +7,6 @@ use Rattle.osdp_tool_input.specs.Cut.{line_feed, ended_after, unended_after, end
 use Rattle.osdp_tool_input.proofs.CutLemmas.{ended_after-append}
 use Rattle.osdp_tool_input.proofs.FormLemmas.{ended_lines-feed, ended_lines-hold, unended_line-feed, unended_line-hold}
 use Rattle.osdp_tool_streams.specs.declared.fault.ToolFault.{ToolFault}
-use Rattle.osdp_tool_streams.specs.declared.fault.ToolFault.TheVariants.{NotHex, TooLong, BadWords, BadStep}
-use Rattle.osdp_tool_streams.specs.declared.fault.ToolFault.TheVariants.{HoldsPacket, NotQuiet, ReadFailed}
 use Rattle.osdp_tool_streams.specs.declared.fault.ToolFault.TheVariants.{WriteFailed, NoMemory}
 use Rattle.osdp_line_streams.specs.Answers.{Answering, Speaks, heard}
 use Rattle.osdp_line_streams.specs.Steps.{EndsLine, Follows, FrontAnswered, Goes, StopsIn, WroteAnswer, WrotePart}
@@ -63,66 +61,85 @@ ends answers old new line before after w = λ first start read f. record {
   written = Appends-trans start before after f.text w.answer f.written w.written;
 }
 
--- nothing was written since
-pub stops_before : {M : Type 0} (answers : Answering M) (piece : List ℕ) (machine : M) (line : List ℕ) (now after : Option (List ℕ)) (fault : ToolFault)
-    → Keeps now after → StopsIn answers piece machine line now after fault
-stops_before answers piece machine line now after fault kept = λ first start read f.
-    let all = Appends-kept start now after f.text f.written kept in
-    record {
-      front = ended_lines read;
-      others = ended_after (unended_line read) piece;
-      split = ended_after-append [] read piece;
-      text = f.text;
-      last = machine;
-      speaks = f.speaks;
-      count = length f.text;
-      written = subst (Appends start after) (sym (take_all (length f.text) f.text (omega arith))) all;
-      whole = λ memory. all;
-    }
-
 IsWrite : ToolFault → Type 0
 IsWrite WriteFailed = Unit {0}
-IsWrite NoMemory = ⊥
-IsWrite ReadFailed = ⊥
-IsWrite TooLong = ⊥
-IsWrite BadWords = ⊥
-IsWrite (NotHex number) = ⊥
-IsWrite (BadStep number) = ⊥
-IsWrite (HoldsPacket number) = ⊥
-IsWrite (NotQuiet number) = ⊥
+IsWrite fault = ⊥
 
 pub not_memory : WriteFailed ≡ NoMemory → ⊥
 unfolding IsWrite
 not_memory same = subst IsWrite same tt
 
+-- ---- the answers to some lines
+
+-- all that these lines were answered was written
+pub all_written : {M : Type 0} (answers : Answering M) (first last : M) (lines : List (List ℕ)) (text : List ℕ) (before after : Option (List ℕ)) (fault : ToolFault)
+    → Speaks answers first lines text last → Appends before after text → FrontAnswered answers first lines before after fault
+all_written answers first last lines text before after fault speaks all = record {
+  front = lines;
+  others = [];
+  split = sym (append-nil lines);
+  text = text;
+  last = last;
+  speaks = speaks;
+  count = length text;
+  written = subst (Appends before after) (sym (take_all (length text) text (omega arith))) all;
+  whole = λ memory. all;
+}
+
+-- of the last answer a part was
+pub part_written : {M : Type 0} (answers : Answering M) (first last : M) (lines : List (List ℕ)) (text answer : List ℕ) (count : ℕ) (start before after : Option (List ℕ))
+    → Speaks answers first lines (text ++ answer) last → Appends start before text → Appends before after (take count answer)
+    → FrontAnswered answers first lines start after WriteFailed
+part_written answers first last lines text answer count start before after speaks written part = record {
+  front = lines;
+  others = [];
+  split = sym (append-nil lines);
+  text = text ++ answer;
+  last = last;
+  speaks = speaks;
+  count = length text + count;
+  written = subst (Appends start after) (sym (take-beyond text answer count)) (Appends-trans start before after text (take count answer) written part);
+  whole = λ memory. absurd (not_memory memory);
+}
+
+-- they are the first of more lines
+pub more_lines : {M : Type 0} (answers : Answering M) (first : M) (lines more all : List (List ℕ)) (before after : Option (List ℕ)) (fault : ToolFault)
+    → all ≡ lines ++ more → FrontAnswered answers first lines before after fault → FrontAnswered answers first all before after fault
+more_lines answers first lines more all before after fault same s = record {
+  front = s.front;
+  others = s.others ++ more;
+  split = same ∙ ap (λ l. l ++ more) s.split ∙ append_assoc s.front s.others more;
+  text = s.text;
+  last = s.last;
+  speaks = s.speaks;
+  count = s.count;
+  written = s.written;
+  whole = s.whole;
+}
+
+-- ---- a line that ends
+
+-- nothing was written since
+pub stops_before : {M : Type 0} (answers : Answering M) (piece : List ℕ) (machine : M) (line : List ℕ) (now after : Option (List ℕ)) (fault : ToolFault)
+    → Keeps now after → StopsIn answers piece machine line now after fault
+stops_before answers piece machine line now after fault kept = λ first start read f.
+    more_lines answers first (ended_lines read) (ended_after (unended_line read) piece) (ended_lines (read ++ piece)) start after fault (ended_after-append [] read piece)
+    (all_written answers first machine (ended_lines read) f.text start after fault f.speaks (Appends-kept start now after f.text f.written kept))
+
 -- a write failed in the answer to a line
 pub stops_writing : {M : Type 0} (answers : Answering M) (old : M) (line : List ℕ) (before after : Option (List ℕ))
     → WrotePart answers old line before after → StopsIn answers (line_feed ∷ []) old line before after WriteFailed
-stops_writing answers old line before after p = λ first start read f. record {
-  front = ended_lines read ++ unended_line read ∷ [];
-  others = [];
-  split = ended_lines-feed read ∙ sym (append-nil (ended_lines read ++ unended_line read ∷ []));
-  text = f.text ++ p.answer;
-  last = p.next;
-  speaks = spoke_more answers first old p.next (ended_lines read) (unended_line read) f.text p.answer f.speaks
-      (subst (λ l. answers old l p.answer p.next) f.held p.is);
-  count = length f.text + p.count;
-  written = subst (Appends start after) (sym (take-beyond f.text p.answer p.count))
-      (Appends-trans start before after f.text (take p.count p.answer) f.written p.written);
-  whole = λ memory. absurd (not_memory memory);
-}
+stops_writing answers old line before after p = λ first start read f.
+    subst (λ l. FrontAnswered answers first l start after WriteFailed) (sym (ended_lines-feed read))
+    (part_written answers first p.next (ended_lines read ++ unended_line read ∷ []) f.text p.answer p.count start before after
+    (spoke_more answers first old p.next (ended_lines read) (unended_line read) f.text p.answer f.speaks (subst (λ l. answers old l p.answer p.next) f.held p.is))
+    f.written p.written)
 
 pub stops_ending : {M : Type 0} (answers : Answering M) (old new : M) (line : List ℕ) (before after : Option (List ℕ)) (was failed : Bool) (fault : ToolFault)
     → EndsLine answers old line new before after was failed (Err fault) → StopsIn answers (line_feed ∷ []) old line before after fault
 stops_ending answers old new line before after was failed NoMemory e = stops_before answers (line_feed ∷ []) old line before after NoMemory e.0
 stops_ending answers old new line before after was failed WriteFailed e = stops_writing answers old line before after e.0
-stops_ending answers old new line before after was failed ReadFailed e = absurd e
-stops_ending answers old new line before after was failed TooLong e = absurd e
-stops_ending answers old new line before after was failed BadWords e = absurd e
-stops_ending answers old new line before after was failed (NotHex number) e = absurd e
-stops_ending answers old new line before after was failed (BadStep number) e = absurd e
-stops_ending answers old new line before after was failed (HoldsPacket number) e = absurd e
-stops_ending answers old new line before after was failed (NotQuiet number) e = absurd e
+stops_ending answers old new line before after was failed fault e = absurd e
 
 -- ---- one piece after the other
 
@@ -140,37 +157,15 @@ stops_further answers a b old mid line middle before between after fault one two
 pub stops_early : {M : Type 0} (answers : Answering M) (a b : List ℕ) (old : M) (line : List ℕ) (before after : Option (List ℕ)) (fault : ToolFault)
     → StopsIn answers a old line before after fault → StopsIn answers (a ++ b) old line before after fault
 stops_early answers a b old line before after fault one = λ first start read f.
-    let s = one first start read f in
-    record {
-      front = s.front;
-      others = s.others ++ ended_after (unended_line (read ++ a)) b;
-      split = ap ended_lines (sym (append_assoc read a b)) ∙ ended_after-append [] (read ++ a) b
-          ∙ ap (λ l. l ++ ended_after (unended_line (read ++ a)) b) s.split ∙ append_assoc s.front s.others (ended_after (unended_line (read ++ a)) b);
-      text = s.text;
-      last = s.last;
-      speaks = s.speaks;
-      count = s.count;
-      written = s.written;
-      whole = s.whole;
-    }
+    more_lines answers first (ended_lines (read ++ a)) (ended_after (unended_line (read ++ a)) b) (ended_lines (read ++ (a ++ b))) start after fault
+    (ap ended_lines (sym (append_assoc read a b)) ∙ ended_after-append [] (read ++ a) b) (one first start read f)
 
 -- nothing was written after these bytes
 pub stops_kept : {M : Type 0} (answers : Answering M) (piece : List ℕ) (old mid : M) (line middle : List ℕ) (before between after : Option (List ℕ)) (fault : ToolFault)
     → Goes answers piece old line before mid middle between → Keeps between after → StopsIn answers piece old line before after fault
 stops_kept answers piece old mid line middle before between after fault goes kept = λ first start read f.
     let g = goes first start read f in
-    let all = Appends-kept start between after g.text g.written kept in
-    record {
-      front = ended_lines (read ++ piece);
-      others = [];
-      split = sym (append-nil (ended_lines (read ++ piece)));
-      text = g.text;
-      last = mid;
-      speaks = g.speaks;
-      count = length g.text;
-      written = subst (Appends start after) (sym (take_all (length g.text) g.text (omega arith))) all;
-      whole = λ memory. all;
-    }
+    all_written answers first mid (ended_lines (read ++ piece)) g.text start after fault g.speaks (Appends-kept start between after g.text g.written kept)
 
 -- no bytes bring nothing
 pub goes_nowhere : {M : Type 0} (answers : Answering M) (machine : M) (line : List ℕ) (now : Option (List ℕ)) → Goes answers [] machine line now machine line now

@@ -63,14 +63,6 @@ pub shown_lines-cons : (full : Bool) (tally : Tally) (part : RunItem) (parts : L
 unfolding shown_lines
 shown_lines-cons full tally part parts = refl
 
-pub after_runs-nil : (tally : Tally) → after_runs tally [] ≡ tally
-unfolding after_runs
-after_runs-nil tally = refl
-
-pub runs_lines-nil : (full : Bool) (tally : Tally) → runs_lines full tally [] ≡ []
-unfolding runs_lines
-runs_lines-nil full tally = refl
-
 -- ---- places
 
 -- a run begins at place 0

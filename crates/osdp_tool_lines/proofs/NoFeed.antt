@@ -12,9 +12,9 @@ use Rattle.osdp_words.proofs.HexDigits.{upper_digit}
 use Rattle.osdp_words.proofs.RecordWords.{decimal_lacks}
 use Rattle.osdp_words.proofs.WordLaws.{lacks-append, lacks-cons}
 use Rattle.osdp_msg.specs.declared.command.Command.{Command}
-use Rattle.osdp_msg.specs.declared.command.Command.TheVariants.{Poll, Id, Cap, LocalStatus, InputStatus, OutputStatus, ReaderStatus, Output, Led, Buzzer, Text, Comset, Maker}
+use Rattle.osdp_msg.specs.declared.command.Command.TheVariants.{Poll, Id, Cap, Output, Led, Buzzer, Text, Comset, Maker}
 use Rattle.osdp_msg.specs.declared.reply.Reply.{Reply}
-use Rattle.osdp_msg.specs.declared.reply.Reply.TheVariants.{Ack, Nak, PdId, PdCap, LocalState, Inputs, Outputs, Readers, Raw, Formatted, Keypad, Com, Busy, MakerReply}
+use Rattle.osdp_msg.specs.declared.reply.Reply.TheVariants.{Ack, Nak, PdId, PdCap, LocalState, Inputs, Outputs, Readers, Raw, Formatted, Keypad, Com, MakerReply}
 use Rattle.osdp_msg.specs.declared.fault.MsgFault.{MsgFault}
 use Rattle.osdp_msg.specs.declared.fault.MsgFault.TheVariants.{UnknownCode}
 use Rattle.osdp_msg.specs.CommandFields.{LedFits, OutputFits, led_word, output_word}
@@ -123,13 +123,8 @@ records_fit word Fits each (r ∷ rs) h = (each r (All-head Fits r rs h), record
 -- ---- messages
 
 command_fits : (m : Command) → CommandFits m → WordsFit (command_fields m)
-command_fits Poll h = tt
 command_fits (Id a) h = numbers_fit (a ∷ []) [] (byte a h, tt) tt
 command_fits (Cap a) h = numbers_fit (a ∷ []) [] (byte a h, tt) tt
-command_fits LocalStatus h = tt
-command_fits InputStatus h = tt
-command_fits OutputStatus h = tt
-command_fits ReaderStatus h = tt
 command_fits (Output a) h = records_fit output_word OutputFits
     (λ r f. record_fits r.output (r.control ∷ r.timer ∷ []) (output_small r f)) a h.2
 command_fits (Led a) h = records_fit led_word LedFits
@@ -140,22 +135,13 @@ command_fits (Text a) h = numbers_fit (a.reader ∷ a.command ∷ a.time ∷ a.r
     (byte a.reader h.reader, (byte a.command h.command, (byte a.time h.time, (byte a.row h.row, (byte a.column h.column, tt))))) (h.characters, tt)
 command_fits (Comset a) h = numbers_fit (a.address ∷ a.baud_rate ∷ []) [] (byte a.address h.0, (word_4 a.baud_rate h.1, tt)) tt
 command_fits (Maker a) h = (h.vendor, (h.bytes, tt))
-
-command_named : (m : Command) → lacks_feed (command_name m) ≡ true
-command_named Poll = refl
-command_named m = refl
-
-command_no_feed : (m : Command) → CommandFits m → HasNoFeed (command_text m)
-unfolding command_text
-command_no_feed m h = text_no_feed (command_name m) (command_fields m) (literal (command_name m) (command_named m))
-    (command_fits m h)
+command_fits m h = tt
 
 details_fit : (d : List ℕ) → IsBytes d → WordsFit (detail_words d)
 details_fit [] h = tt
 details_fit (b ∷ bs) h = (h, tt)
 
 reply_fits : (m : Reply) → ReplyFits m → WordsFit (reply_fields m)
-reply_fits Ack h = tt
 reply_fits (Nak a) h = numbers_fit (reason_number a.reason ∷ []) (detail_words a.detail.items)
     (byte (reason_number a.reason) (reason_byte a.reason h.reason), tt) (details_fit a.detail.items h.detail)
 reply_fits (PdId a) h = (h.vendor, numbers_fit (a.model ∷ a.version ∷ a.serial ∷ a.firmware_major ∷ a.firmware_minor ∷ a.firmware_build ∷ []) [] (byte a.model h.model, (byte a.version h.version, (word_4 a.serial h.serial, (byte a.firmware_major h.firmware_major, (byte a.firmware_minor h.firmware_minor, (byte a.firmware_build h.firmware_build, tt)))))) tt)
@@ -172,16 +158,8 @@ reply_fits (Formatted a) h = numbers_fit (a.reader ∷ a.direction ∷ []) (byte
     (byte a.reader h.reader, (byte a.direction h.direction, tt)) (h.digits, tt)
 reply_fits (Keypad a) h = numbers_fit (a.reader ∷ []) (bytes a.digits.items ∷ []) (byte a.reader h.reader, tt) (h.digits, tt)
 reply_fits (Com a) h = numbers_fit (a.address ∷ a.baud_rate ∷ []) [] (byte a.address h.0, (word_4 a.baud_rate h.1, tt)) tt
-reply_fits Busy h = tt
 reply_fits (MakerReply a) h = (h.vendor, (h.bytes, tt))
-
-reply_named : (m : Reply) → lacks_feed (reply_name m) ≡ true
-reply_named Ack = refl
-reply_named m = refl
-
-reply_no_feed : (m : Reply) → ReplyFits m → HasNoFeed (reply_text m)
-unfolding reply_text
-reply_no_feed m h = text_no_feed (reply_name m) (reply_fields m) (literal (reply_name m) (reply_named m)) (reply_fits m h)
+reply_fits m h = tt
 
 data_no_feed : (bs : List ℕ) → IsBytes bs → HasNoFeed (data_text bs)
 data_no_feed [] h = nothing
@@ -198,15 +176,25 @@ unread_no_feed fault code bs h k =
     (both {xs = codes "code "} (literal (codes "code ") refl)
     (both {xs = encode_upper (code ∷ [])} (digits_no_feed (code ∷ []) h) (data_no_feed bs k)))
 
-module _ {M : Type 0} (Is : ℕ → List ℕ → M → Type 0) (Fits : M → Type 0) (read : ℕ → List ℕ → Result M MsgFault) (text : M → List ℕ) (reads : ReadsTheTable Is read) (fits : (code : ℕ) (bs : List ℕ) (m : M) → Is code bs m → Fits m) (lacks : (m : M) → Fits m → HasNoFeed (text m)) where
+module _ {M : Type 0} (Is : ℕ → List ℕ → M → Type 0) (Fits : M → Type 0) (read : ℕ → List ℕ → Result M MsgFault) (name : M → List ℕ) (fields : M → List Word) (reads : ReadsTheTable Is read) (fits : (code : ℕ) (bs : List ℕ) (m : M) → Is code bs m → Fits m) (named : (m : M) → lacks_feed (name m) ≡ true) (fit : (m : M) → Fits m → WordsFit (fields m)) where
   told_no_feed : (code : ℕ) (bs : List ℕ) (r : Result M MsgFault) → IsBytes (code ∷ []) → IsBytes bs → read code bs ≡ r
-      → HasNoFeed (told_text text r code bs)
-  told_no_feed code bs (Ok m) h k e = lacks m (fits code bs m ((reads code bs m k).0 e))
+      → HasNoFeed (told_text (λ m. text_of (plain (name m) ∷ fields m)) r code bs)
+  told_no_feed code bs (Ok m) h k e =
+      text_no_feed (name m) (fields m) (literal (name m) (named m)) (fit m (fits code bs m ((reads code bs m k).0 e)))
   told_no_feed code bs (Err fault) h k e = unread_no_feed fault code bs h k
 
 pub message_no_feed : (reply : Bool) (code : ℕ) (bs : List ℕ) → IsBytes (code ∷ []) → IsBytes bs
     → HasNoFeed (message_text reply code bs)
-message_no_feed true code bs h k = told_no_feed IsReply ReplyFits reply_of reply_text reply_reads (λ c b m is. is.fits)
-    reply_no_feed code bs (reply_of code bs) h k refl
-message_no_feed false code bs h k = told_no_feed IsCommand CommandFits command_of command_text command_reads
-    (λ c b m is. is.fits) command_no_feed code bs (command_of code bs) h k refl
+unfolding command_text reply_text
+message_no_feed true code bs h k = told_no_feed IsReply ReplyFits reply_of reply_name reply_fields reply_reads (λ c b m is. is.fits)
+    named reply_fits code bs (reply_of code bs) h k refl
+  where
+    named : (m : Reply) → lacks_feed (reply_name m) ≡ true
+    named Ack = refl
+    named m = refl
+message_no_feed false code bs h k = told_no_feed IsCommand CommandFits command_of command_name command_fields command_reads
+    (λ c b m is. is.fits) named command_fits code bs (command_of code bs) h k refl
+  where
+    named : (m : Command) → lacks_feed (command_name m) ≡ true
+    named Poll = refl
+    named m = refl

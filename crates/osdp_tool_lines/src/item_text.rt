@@ -1,6 +1,6 @@
 //! The lines of items.
 
-ghost use Rattle.std.specs.Prelude.{◌≡◌, ◌++◌, ◌+◌, ◌<◌, ◌^◌, ℕ, true, false, length, OnOk, IfOk, string_bytes, codes};
+ghost use Rattle.std.specs.Prelude.{◌≡◌, ◌++◌, ◌+◌, ◌<◌, ◌^◌, ℕ, true, false, length, OnOk, IfOk, IfSome, string_bytes, codes};
 ghost use Rattle.std.specs.Fmt.{decimal};
 ghost use Rattle.osdp_frame.specs.Reading.{PacketItem, SkippedItem, RefusedItem};
 ghost use Rattle.osdp_tool_lines.specs.ItemText.{body_text, fault_name, head_text, is_refusal, item_line, counts_line};
@@ -56,46 +56,46 @@ fn push_front(text: &mut String, tally: &Tally, view: &FrameView<'_>) -> Result<
 #[inline(never)]
 fn push_unread_packet(
     text: &mut String,
-    full: bool,
     tally: &Tally,
     view: &FrameView<'_>,
-) -> Result<bool, AllocError>
+) -> Result<(), AllocError>
     requires room { tally.now.runs + 1 < 2 ^ 64 }
     requires block { view.now.block ≡ true }
-    ensures refused { IfOk result (λ refused. refused ≡ is_refusal (PacketItem view.now)) }
-    ensures line { OnOk result (string_bytes text.new ≡ string_bytes text.old ++ shown_line full tally.now (PacketItem view.now)) }
+    ensures { OnOk result (string_bytes text.new ≡ string_bytes text.old ++ item_line (tally.now.runs + 1) tally.now.place (PacketItem view.now)) }
 {
-    if !full {
-        return Ok(false);
-    }
     push_front(text, tally, view)?;
     text.push_str("block ")?;
     push_bytes(text, view.body())?;
-    text.push_str("\n")?;
-    Ok(false)
+    text.push_str("\n")
 }
 
-/// Writes the line of a packet of which this is told, in full.
+/// Writes the line of a packet of which this is told.
 #[inline(always)]
 fn push_named_packet(
     text: &mut String,
-    full: bool,
     tally: &Tally,
     view: &FrameView<'_>,
     name: &str,
 ) -> Result<(), AllocError>
     requires room { tally.now.runs + 1 < 2 ^ 64 }
-    requires block { view.now.block ≡ false }
     requires name { body_text view.now ≡ name.now }
-    requires refused { is_refusal (PacketItem view.now) ≡ false }
-    ensures { OnOk result (string_bytes text.new ≡ string_bytes text.old ++ shown_line full tally.now (PacketItem view.now)) }
+    ensures { OnOk result (string_bytes text.new ≡ string_bytes text.old ++ item_line (tally.now.runs + 1) tally.now.place (PacketItem view.now)) }
 {
-    if !full {
-        return Ok(());
-    }
     push_front(text, tally, view)?;
     text.push_str(name)?;
     text.push_str("\n")
+}
+
+/// What is told of the message of a packet, where that is its name alone.
+#[inline(always)]
+fn bare_name(view: &FrameView<'_>) -> Option<&'static str>
+    requires { view.now.block ≡ false }
+    ensures { IfSome result (λ name. (body_text view.now ≡ name.now) × (is_refusal (PacketItem view.now) ≡ false)) }
+{
+    if view.is_reply() {
+        return Reply::bare(view.code(), view.payload());
+    }
+    Command::bare(view.code(), view.payload())
 }
 
 /// Writes the line of a packet whose message is read to be told, and says whether it is refused.
@@ -125,27 +125,6 @@ fn push_read_packet<M: Told>(
     Ok(refused)
 }
 
-/// Writes the line of a packet with a message, and says whether that is refused.
-#[inline(always)]
-fn push_message_packet<M: Told>(
-    text: &mut String,
-    full: bool,
-    tally: &Tally,
-    view: &FrameView<'_>,
-) -> Result<bool, AllocError>
-    requires room { tally.now.runs + 1 < 2 ^ 64 }
-    requires block { view.now.block ≡ false }
-    requires reply { view.now.reply ≡ M.reply }
-    ensures refused { IfOk result (λ refused. refused ≡ is_refusal (PacketItem view.now)) }
-    ensures line { OnOk result (string_bytes text.new ≡ string_bytes text.old ++ shown_line full tally.now (PacketItem view.now)) }
-{
-    if let Some(name) = M::bare(view.code(), view.payload()) {
-        push_named_packet(text, full, tally, view, name)?;
-        return Ok(false);
-    }
-    push_read_packet::<M>(text, full, tally, view)
-}
-
 /// Writes the line of a packet, in full or where its message is refused, and says whether it is.
 #[inline(always)]
 pub(crate) fn push_packet(
@@ -159,12 +138,21 @@ pub(crate) fn push_packet(
     ensures line { OnOk result (string_bytes text.new ≡ string_bytes text.old ++ shown_line full tally.now (PacketItem view.now)) }
 {
     if view.has_block() {
-        return push_unread_packet(text, full, tally, view);
+        if full {
+            push_unread_packet(text, tally, view)?;
+        }
+        return Ok(false);
+    }
+    if let Some(name) = bare_name(view) {
+        if full {
+            push_named_packet(text, tally, view, name)?;
+        }
+        return Ok(false);
     }
     if view.is_reply() {
-        return push_message_packet::<Reply>(text, full, tally, view);
+        return push_read_packet::<Reply>(text, full, tally, view);
     }
-    push_message_packet::<Command>(text, full, tally, view)
+    push_read_packet::<Command>(text, full, tally, view)
 }
 
 /// Writes the line of a skipped byte, in full.
@@ -204,12 +192,11 @@ fn push_refused(text: &mut String, fault: FrameFault) -> Result<(), AllocError>
 #[inline(never)]
 pub(crate) fn push_fault(
     text: &mut String,
-    full: bool,
     tally: &Tally,
     fault: FrameFault,
 ) -> Result<(), AllocError>
     requires { tally.now.runs + 1 < 2 ^ 64 }
-    ensures { OnOk result (string_bytes text.new ≡ string_bytes text.old ++ shown_line full tally.now (RefusedItem fault)) }
+    ensures { OnOk result (string_bytes text.new ≡ string_bytes text.old ++ item_line (tally.now.runs + 1) tally.now.place (RefusedItem fault)) }
 {
     push_place(text, tally)?;
     push_refused(text, fault)

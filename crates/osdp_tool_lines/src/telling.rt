@@ -36,7 +36,7 @@ pub fn tell(
             tally.skipped += 1;
         }
         Item::Refused(fault) => {
-            push_fault(text, full, tally, *fault)?;
+            push_fault(text, tally, *fault)?;
             tally.refused += 1;
         }
     }

@@ -21,35 +21,12 @@ is_command_name name = list_any (bytes_eq name) command_names
 command_name-is : (m : Command) → is_command_name (command_name m) ≡ true
 unfolding is_command_name command_names
 command_name-is command.Poll = refl
-command_name-is (command.Id kept) = refl
-command_name-is (command.Cap kept) = refl
-command_name-is command.LocalStatus = refl
-command_name-is command.InputStatus = refl
-command_name-is command.OutputStatus = refl
-command_name-is command.ReaderStatus = refl
-command_name-is (command.Output records) = refl
-command_name-is (command.Led records) = refl
-command_name-is (command.Buzzer b) = refl
-command_name-is (command.Text t) = refl
-command_name-is (command.Comset c) = refl
-command_name-is (command.Maker m) = refl
+command_name-is m = refl
 
 reply_name-is : (m : Reply) → is_command_name (reply_name m) ≡ false
 unfolding is_command_name command_names
 reply_name-is reply.Ack = refl
-reply_name-is (reply.Nak n) = refl
-reply_name-is (reply.PdId p) = refl
-reply_name-is (reply.PdCap p) = refl
-reply_name-is (reply.LocalState s) = refl
-reply_name-is (reply.Inputs states) = refl
-reply_name-is (reply.Outputs states) = refl
-reply_name-is (reply.Readers states) = refl
-reply_name-is (reply.Raw r) = refl
-reply_name-is (reply.Formatted f) = refl
-reply_name-is (reply.Keypad k) = refl
-reply_name-is (reply.Com c) = refl
-reply_name-is reply.Busy = refl
-reply_name-is (reply.MakerReply m) = refl
+reply_name-is m = refl
 
 -- words are of a command or of a reply, not of both
 pub not_both : (c : Command) (r : Reply) (given : List (List ℕ)) → AllStandFor (command_words c) given → AllStandFor (reply_words r) given → ⊥

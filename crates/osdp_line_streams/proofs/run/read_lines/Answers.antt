@@ -36,16 +36,7 @@ returns-in_err-count-clause-reads g c =
 
 pub returns-in_err-take_piece-clause-reads : goal.returns-in_err-take_piece-clause-reads
 returns-in_err-take_piece-clause-reads g c =
-    let answers = g.M.LineMachine.answers in
-    let ib = g.R.Read.remaining (inner_of c.args.input.now) in
-    let ia = g.R.Read.remaining (inner_of c.read_some.new.input) in
-    let before = g.W.Write.contents (inner_of c.args.output.now) in
-    let after = g.W.Write.contents (inner_of c.take_piece.new.output) in
-    on_err (λ r. Reads answers c.args.machine.now c.args.line.now.items c.take_piece.new.machine c.take_piece.new.line.items ib ia
-    (has_failed c.read_some.new.input) before after (has_failed c.take_piece.new.output) r)
-    c.from_residual-in_err-take_piece.result c.in_err-take_piece.field-0.0 c.from_residual-in_err-take_piece.ensures.1
-    (reads_stop answers c.args.machine.now c.reads.machine c.take_piece.new.machine c.args.line.now.items c.reads.line.items c.take_piece.new.line.items _
-    ib (g.R.Read.remaining (inner_of c.reads.input)) ia before (g.W.Write.contents (inner_of c.reads.output)) after
-    (has_failed c.reads.output) (has_failed c.read_some.new.input) (has_failed c.take_piece.new.output) c.in_err-take_piece.field-0.0
-    c.reads.invariant.read c.in_ok-count.ensures.bytes.0 c.in_err-take_piece.ensures.stops c.in_err-take_piece.ensures.step c.reads.invariant.output
-    (c.in_ok-count.ensures.failed ∙ ap (λ (b : Bool). b || false) c.reads.invariant.input))
+    reads_stop g.M.LineMachine.answers c.args.machine.now c.reads.machine c.take_piece.new.machine c.args.line.now.items c.reads.line.items c.take_piece.new.line.items
+    _ _ (g.R.Read.remaining (inner_of c.reads.input)) _ _ (g.W.Write.contents (inner_of c.reads.output)) _ (has_failed c.reads.output) _ _ _ c.in_err-take_piece.field-0.0
+    c.from_residual-in_err-take_piece.ensures.1 c.reads.invariant.read c.in_ok-count.ensures.bytes.0 c.in_err-take_piece.ensures.stops
+    c.in_err-take_piece.ensures.step c.reads.invariant.output (c.in_ok-count.ensures.failed ∙ ap (λ (b : Bool). b || false) c.reads.invariant.input)

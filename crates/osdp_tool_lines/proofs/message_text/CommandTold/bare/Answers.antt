@@ -1,28 +1,18 @@
-use Rattle.std.proofs.Common.{◌≡◌, length, rules}
-use Rattle.osdp_tool_lines.proofs.BareMessages.{bare_command, poll, local_status, input_status, output_status, reader_status}
+use Rattle.std.proofs.Common.{false, rules}
+use Rattle.osdp_tool_lines.proofs.BareMessages.{bare, bare_commands}
 use Rattle.osdp_tool_lines.proofs.message_text.CommandTold.bare.Goals as goal
 
 pub returns-in-96 : goal.returns-in-96
-returns-in-96 c =
-    let none : length c.args.bytes.now ≡ 0 = search rules in
-    bare_command _ c.args.code 96 c.args.bytes.now c.in-96.is none poll
+returns-in-96 c = bare false _ c.args.code 96 c.args.bytes.now c.in-96.is (search rules) bare_commands.0
 
 pub returns-in-100 : goal.returns-in-100
-returns-in-100 c =
-    let none : length c.args.bytes.now ≡ 0 = search rules in
-    bare_command _ c.args.code 100 c.args.bytes.now c.in-100.is none local_status
+returns-in-100 c = bare false _ c.args.code 100 c.args.bytes.now c.in-100.is (search rules) bare_commands.1
 
 pub returns-in-101 : goal.returns-in-101
-returns-in-101 c =
-    let none : length c.args.bytes.now ≡ 0 = search rules in
-    bare_command _ c.args.code 101 c.args.bytes.now c.in-101.is none input_status
+returns-in-101 c = bare false _ c.args.code 101 c.args.bytes.now c.in-101.is (search rules) bare_commands.2
 
 pub returns-in-102 : goal.returns-in-102
-returns-in-102 c =
-    let none : length c.args.bytes.now ≡ 0 = search rules in
-    bare_command _ c.args.code 102 c.args.bytes.now c.in-102.is none output_status
+returns-in-102 c = bare false _ c.args.code 102 c.args.bytes.now c.in-102.is (search rules) bare_commands.3
 
 pub returns-in-103 : goal.returns-in-103
-returns-in-103 c =
-    let none : length c.args.bytes.now ≡ 0 = search rules in
-    bare_command _ c.args.code 103 c.args.bytes.now c.in-103.is none reader_status
+returns-in-103 c = bare false _ c.args.code 103 c.args.bytes.now c.in-103.is (search rules) bare_commands.4
