@@ -54,6 +54,10 @@ pub IsBytes-append : (xs ys : List ℕ) → IsBytes xs → IsBytes ys → IsByte
 IsBytes-append [] ys h k = k
 IsBytes-append (x ∷ xs) ys h k = IsBytes-cons x (xs ++ ys) (h 0) (IsBytes-append xs ys (IsBytes-tail x xs h) k)
 
+pub IsBytes-cells : (n k : ℕ) (bs : List ℕ) → IsBytes bs → IsBytes (cells_from n k bs)
+IsBytes-cells n zero bs h = IsBytes-nil
+IsBytes-cells n (suc k) bs h = IsBytes-cons (get_or bs n 0) (cells_from (suc n) k bs) (h n) (IsBytes-cells (suc n) k bs h)
+
 -- low byte first
 
 pub number_2 : (a b : ℕ) → a < 256 → b < 256 → little_bytes 2 (a + 256 * (b + 0)) ≡ a ∷ b ∷ []
@@ -103,6 +107,11 @@ number_4_bound bs h = omega (arith, h 0, h 1, h 2, h 3)
 pub IsBytes-each : (bs : List ℕ) → AllByRecursion (λ b. b < 256) bs → IsBytes bs
 IsBytes-each [] h = IsBytes-nil
 IsBytes-each (b ∷ bs) h = IsBytes-cons b bs h.0 (IsBytes-each bs h.1)
+
+-- some bytes, the count of a list among them, and the list
+pub IsBytes-counted : (front list : List ℕ) → AllByRecursion (λ b. b < 256) front → length list ≤ 255 → IsBytes list → IsBytes (front ++ length list ∷ list)
+IsBytes-counted [] list h room each = IsBytes-cons (length list) list (omega arith) each
+IsBytes-counted (b ∷ front) list h room each = IsBytes-cons b (front ++ length list ∷ list) h.0 (IsBytes-counted front list h.1 room each)
 
 low_byte : (n : ℕ) → n % 256 < 256
 low_byte n = omega arith

@@ -1,5 +1,5 @@
 -- The data of commands, row by row: bytes that are read are spelled so, and what is spelled so is read.
-use Rattle.std.proofs.Common.{◌≡◌, ◌≤◌, ℕ, ◌+◌, ◌-◌, List, [], ◌∷◌, ◌++◌, length, drop, get_or, lit<, refl, sym, ap, ◌∙◌, arith}
+use Rattle.std.proofs.Common.{◌≡◌, ◌<◌, ◌≤◌, ◌^◌, ℕ, ◌+◌, ◌-◌, List, [], ◌∷◌, ◌++◌, length, drop, get_or, lit<, refl, sym, ap, ◌∙◌, arith}
 use Rattle.std.proofs.lemmas.List.{drop_at, length-append, length-drop, length-take, take-append-drop, take_at}
 use Rattle.byteorder.specs.Endian.{little_bytes}
 use Rattle.hex.specs.Hex.{IsBytes}
@@ -8,15 +8,11 @@ use Rattle.osdp_msg.specs.declared.command_fields.Communication.{Communication}
 use Rattle.osdp_msg.specs.declared.command_fields.MakerMessage.{MakerMessage}
 use Rattle.osdp_msg.specs.declared.command_fields.Text.{Text}
 use Rattle.osdp_msg.specs.declared.leds.LedRecord.{LedRecord}
-use Rattle.osdp_msg.specs.declared.outputs.OutputRecord.{OutputRecord}
 use Rattle.osdp_msg.specs.CommandFields.{OutputFits, output_data, output_at, LedFits, led_data, led_at, BuzzerFits, buzzer_data, buzzer_at, TextFits, text_data, text_at, CommunicationFits, communication_data, communication_at, MakerFits, maker_data, maker_at}
-use Rattle.osdp_msg.proofs.Bytes.{IsBytes-append, IsBytes-cons, IsBytes-drop, IsBytes-each, IsBytes-little_2, IsBytes-little_4, IsBytes-take, all_cells, bytes_2, bytes_4, cells, number_2_at, number_2_bound, number_4_at, number_4_bound}
+use Rattle.osdp_msg.proofs.Bytes.{IsBytes-append, IsBytes-cells, IsBytes-cons, IsBytes-counted, IsBytes-drop, IsBytes-each, IsBytes-little_2, IsBytes-little_4, IsBytes-take, all_cells, bytes_2, bytes_4, cells, number_2_at, number_2_bound, number_4_at, number_4_bound}
 use Rattle.osdp_msg.proofs.RecordLists.{IsRecord}
 
 -- outputs
-
-output_again : (r : OutputRecord) (rest : List ℕ) → OutputFits r → output_at (output_data r ++ rest) ≡ r
-output_again r rest fits = ap (λ (t : ℕ). record r { timer = t }) (bytes_2 r.timer rest fits.timer)
 
 output_takes : (bs : List ℕ) → 4 ≤ length bs → IsBytes bs → bs ≡ output_data (output_at bs) ++ drop 4 bs
 output_takes bs le h =
@@ -26,7 +22,7 @@ pub outputs : IsRecord 4 output_data OutputFits output_at
 outputs = record {
   some = lit< tt;
   len = λ r. refl;
-  again = output_again;
+  again = λ r rest fits. ap (λ (t : ℕ). record r { timer = t }) (bytes_2 r.timer rest fits.timer);
   takes = output_takes;
   fits = λ bs h. record { output = h 0; control = h 1; timer = number_2_bound (drop 2 bs) (IsBytes-drop 2 bs h) };
   spells = λ r fits. IsBytes-cons r.output (r.control ∷ little_bytes 2 r.timer) fits.output (IsBytes-cons r.control (little_bytes 2 r.timer) fits.control (IsBytes-little_2 r.timer));
@@ -44,6 +40,28 @@ led_takes bs le h =
     let later = get_or bs 9 0 ∷ get_or bs 10 0 ∷ get_or bs 11 0 ∷ get_or bs 12 0 ∷ get_or bs 13 0 ∷ [] in
     cells 14 0 bs le ∙ ap (λ (timer : List ℕ). ((front ++ timer) ++ later) ++ drop 14 bs) (sym (number_2_at 7 bs h))
 
+-- the numbers of an LED are in their ranges, where those before the timer and those after it are bytes
+pub led_fits : (r : LedRecord)
+    → IsBytes (r.reader ∷ r.led ∷ r.temporary_control ∷ r.temporary_on_time ∷ r.temporary_off_time ∷ r.temporary_on_color ∷ r.temporary_off_color ∷ [])
+    → r.timer < 2 ^ 16
+    → IsBytes (r.permanent_control ∷ r.permanent_on_time ∷ r.permanent_off_time ∷ r.permanent_on_color ∷ r.permanent_off_color ∷ [])
+    → LedFits r
+led_fits r front timer later = record {
+  reader = front 0;
+  led = front 1;
+  temporary_control = front 2;
+  temporary_on_time = front 3;
+  temporary_off_time = front 4;
+  temporary_on_color = front 5;
+  temporary_off_color = front 6;
+  timer = timer;
+  permanent_control = later 0;
+  permanent_on_time = later 1;
+  permanent_off_time = later 2;
+  permanent_on_color = later 3;
+  permanent_off_color = later 4;
+}
+
 led_spells : (r : LedRecord) → LedFits r → IsBytes (led_data r)
 led_spells r fits =
     let front = r.reader ∷ r.led ∷ r.temporary_control ∷ r.temporary_on_time ∷ r.temporary_off_time ∷ r.temporary_on_color ∷ r.temporary_off_color ∷ [] in
@@ -58,21 +76,7 @@ leds = record {
   len = λ r. refl;
   again = led_again;
   takes = led_takes;
-  fits = λ bs h. record {
-    reader = h 0;
-    led = h 1;
-    temporary_control = h 2;
-    temporary_on_time = h 3;
-    temporary_off_time = h 4;
-    temporary_on_color = h 5;
-    temporary_off_color = h 6;
-    timer = number_2_bound (drop 7 bs) (IsBytes-drop 7 bs h);
-    permanent_control = h 9;
-    permanent_on_time = h 10;
-    permanent_off_time = h 11;
-    permanent_on_color = h 12;
-    permanent_off_color = h 13;
-  };
+  fits = λ bs h. led_fits (led_at bs) (IsBytes-cells 0 7 bs h) (number_2_bound (drop 7 bs) (IsBytes-drop 7 bs h)) (IsBytes-cells 9 5 bs h);
   spells = led_spells;
 }
 
@@ -90,8 +94,8 @@ pub text_takes : (bs : List ℕ) → 6 ≤ length bs → get_or bs 5 0 ≡ lengt
 text_takes bs le count =
     cells 6 0 bs le ∙ ap (λ (n : ℕ). get_or bs 0 0 ∷ get_or bs 1 0 ∷ get_or bs 2 0 ∷ get_or bs 3 0 ∷ get_or bs 4 0 ∷ n ∷ drop 6 bs) (count ∙ sym (length-drop 6 bs))
 
-pub text_fits : (bs : List ℕ) → 6 ≤ length bs → get_or bs 5 0 ≡ length bs - 6 → IsBytes bs → TextFits (text_at bs)
-text_fits bs le count h = record {
+pub text_fits : (bs : List ℕ) → get_or bs 5 0 ≡ length bs - 6 → IsBytes bs → TextFits (text_at bs)
+text_fits bs count h = record {
   reader = h 0;
   command = h 1;
   time = h 2;
@@ -103,10 +107,7 @@ text_fits bs le count h = record {
 
 pub text_spells : (t : Text) → TextFits t → IsBytes (text_data t)
 text_spells t fits =
-    let room = fits.room in
-    let front = t.reader ∷ t.command ∷ t.time ∷ t.row ∷ t.column ∷ length t.characters.items ∷ [] in
-    let front_bytes : IsBytes front = IsBytes-each front (fits.reader, (fits.command, (fits.time, (fits.row, (fits.column, (omega arith, tt)))))) in
-    IsBytes-append front t.characters.items front_bytes fits.characters
+    IsBytes-counted (t.reader ∷ t.command ∷ t.time ∷ t.row ∷ t.column ∷ []) t.characters.items (fits.reader, (fits.command, (fits.time, (fits.row, (fits.column, tt))))) fits.room fits.characters
 
 -- communication
 

@@ -125,16 +125,7 @@ maker_made = record {
   same_words = λ p h. refl;
 }
 
--- a number and a list that stand alone
-
-pub byte_made : IsMadeOf number_words (IsBelow (2 ^ 8)) (λ (n : ℕ). number n ∷ []) (λ n. n < 2 ^ 8) (λ n. n) (λ n. n)
-byte_made = record {
-  back = λ n fits. refl;
-  parts_allowed = λ n fits. fits;
-  parts_words = λ n fits. refl;
-  fits = λ n h. h;
-  same_words = λ n h. refl;
-}
+-- a list that stands alone
 
 pub states_made : IsMadeOf list_words (IsList 1432) (λ (states : ArrayVec ℕ). bytes states.items ∷ []) (λ states. StatesFit states.items) (λ states. states) (λ states. states)
 states_made = record {

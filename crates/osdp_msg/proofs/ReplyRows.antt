@@ -1,11 +1,12 @@
 -- The data of replies, row by row: bytes that are read are spelled so, and what is spelled so is read.
 use Rattle.std.proofs.Common.{◌≡◌, ◌<◌, ◌≤◌, ℕ, ◌+◌, ◌-◌, ◌/◌, ◌≢◌, inl, inr, false, eqb, List, [], ◌∷◌, ◌++◌, length, drop, take, get_or, lit<, lit≤, refl, sym, ap, ◌∙◌, arith}
+use Rattle.std.specs.List.{AllByRecursion}
 use Rattle.std.proofs.lemmas.Bool.{cases_lt, eqb-false, ne_eqb}
 use Rattle.std.proofs.lemmas.List.{length-drop, length-take, take_at}
 use Rattle.byteorder.specs.Endian.{little_bytes, little_number}
 use Rattle.hex.specs.Hex.{IsBytes}
 use Rattle.osdp_msg.specs.declared.nak.NakReason.{NakReason}
-use Rattle.osdp_msg.specs.declared.nak.NakReason.TheVariants.{CheckCharacters, CommandLength, UnknownCommand, UnexpectedSequence, SecurityBlock, SecurityConditions, BiometricType, BiometricFormat, RecordNotProcessed, Other}
+use Rattle.osdp_msg.specs.declared.nak.NakReason.TheVariants.{Other}
 use Rattle.osdp_msg.specs.declared.reply_fields.Formatted.{Formatted}
 use Rattle.osdp_msg.specs.declared.reply_fields.Keypad.{Keypad}
 use Rattle.osdp_msg.specs.declared.reply_fields.LocalState.{LocalState}
@@ -15,9 +16,9 @@ use Rattle.osdp_msg.specs.NakReasons.{ReasonFits, reason_number, reason_of}
 use Rattle.osdp_msg.specs.OtherReasons.{IsOtherReason}
 use Rattle.osdp_msg.specs.Raw.{RawCard}
 use Rattle.osdp_msg.specs.ReplyFields.{NakFits, nak_data, nak_at, PdIdFits, pd_id_data, pd_id_at, CapabilityFits, capability_data, capability_at, LocalStateFits, local_state_data, local_state_at, RawFits, raw_data, raw_at, FormattedFits, formatted_data, formatted_at, KeypadFits, keypad_data, keypad_at}
-use Rattle.osdp_msg.proofs.Bytes.{IsBytes-append, IsBytes-cons, IsBytes-drop, IsBytes-each, IsBytes-little_2, IsBytes-little_4, IsBytes-take, all_cells, bytes_2, bytes_4, cells, number_2_at, number_2_bound, number_4_at, number_4_bound}
+use Rattle.osdp_msg.proofs.Bytes.{IsBytes-append, IsBytes-cons, IsBytes-counted, IsBytes-drop, IsBytes-each, IsBytes-little_2, IsBytes-little_4, IsBytes-take, all_cells, bytes_2, bytes_4, cells, number_2_at, number_2_bound, number_4_at, number_4_bound}
 use Rattle.osdp_msg.proofs.RecordLists.{IsRecord}
-use Rattle.osdp_msg.proofs.Table.{code_or}
+use Rattle.osdp_msg.proofs.Table.{by_codes}
 
 -- reasons
 
@@ -28,51 +29,27 @@ unnamed n o =
     rw (far 1 (lit< tt) (lit≤ tt), far 2 (lit< tt) (lit≤ tt), far 3 (lit< tt) (lit≤ tt), far 4 (lit< tt) (lit≤ tt), far 5 (lit< tt) (lit≤ tt), far 6 (lit< tt) (lit≤ tt), far 7 (lit< tt) (lit≤ tt), far 8 (lit< tt) (lit≤ tt), far 9 (lit< tt) (lit≤ tt)) refl
 
 pub reason_again : (r : NakReason) → ReasonFits r → reason_of (reason_number r) ≡ r
-reason_again CheckCharacters fits = refl
-reason_again CommandLength fits = refl
-reason_again UnknownCommand fits = refl
-reason_again UnexpectedSequence fits = refl
-reason_again SecurityBlock fits = refl
-reason_again SecurityConditions fits = refl
-reason_again BiometricType fits = refl
-reason_again BiometricFormat fits = refl
-reason_again RecordNotProcessed fits = refl
 reason_again (Other n) fits = unnamed n fits.1
+reason_again _ fits = refl
 
 -- each number up to 9, and those above
-by_number : (P : ℕ → Type 0) → P 1 → P 2 → P 3 → P 4 → P 5 → P 6 → P 7 → P 8 → P 9 → ((n : ℕ) → IsOtherReason n → P n) → (n : ℕ) → P n
-by_number P p1 p2 p3 p4 p5 p6 p7 p8 p9 other n =
-    code_or P 1 n p1 λ e1.
-    code_or P 2 n p2 λ e2.
-    code_or P 3 n p3 λ e3.
-    code_or P 4 n p4 λ e4.
-    code_or P 5 n p5 λ e5.
-    code_or P 6 n p6 λ e6.
-    code_or P 7 n p7 λ e7.
-    code_or P 8 n p8 λ e8.
-    code_or P 9 n p9 λ e9.
+by_number : (P : ℕ → Type 0) → AllByRecursion P (1 ∷ 2 ∷ 3 ∷ 4 ∷ 5 ∷ 6 ∷ 7 ∷ 8 ∷ 9 ∷ []) → ((n : ℕ) → IsOtherReason n → P n) → (n : ℕ) → P n
+by_number P named other n =
+    by_codes P n (1 ∷ 2 ∷ 3 ∷ 4 ∷ 5 ∷ 6 ∷ 7 ∷ 8 ∷ 9 ∷ []) named λ e1 e2 e3 e4 e5 e6 e7 e8 e9.
     other n (apart n (eqb-false n 1 e1) (eqb-false n 2 e2) (eqb-false n 3 e3) (eqb-false n 4 e4) (eqb-false n 5 e5) (eqb-false n 6 e6) (eqb-false n 7 e7) (eqb-false n 8 e8) (eqb-false n 9 e9))
   where
     apart : (n : ℕ) → (n ≢ 1) → (n ≢ 2) → (n ≢ 3) → (n ≢ 4) → (n ≢ 5) → (n ≢ 6) → (n ≢ 7) → (n ≢ 8) → (n ≢ 9) → IsOtherReason n
     apart n m1 m2 m3 m4 m5 m6 m7 m8 m9 = elim (cases_lt n 1) [ inl none ↦ inl (omega arith) | inr some ↦ inr (omega arith) ]
 
 pub reason_back : (n : ℕ) → reason_number (reason_of n) ≡ n
-reason_back = by_number (λ n. reason_number (reason_of n) ≡ n) refl refl refl refl refl refl refl refl refl λ n o. rw (unnamed n o) refl
+reason_back = by_number (λ n. reason_number (reason_of n) ≡ n) (refl, (refl, (refl, (refl, (refl, (refl, (refl, (refl, (refl, tt))))))))) λ n o. rw (unnamed n o) refl
 
 pub reason_fits : (n : ℕ) → n < 256 → ReasonFits (reason_of n)
-reason_fits = by_number (λ n. n < 256 → ReasonFits (reason_of n)) (λ _. tt) (λ _. tt) (λ _. tt) (λ _. tt) (λ _. tt) (λ _. tt) (λ _. tt) (λ _. tt) (λ _. tt) λ n o lt. rw (unnamed n o) (lt, o)
+reason_fits = by_number (λ n. n < 256 → ReasonFits (reason_of n)) (λ _. tt, (λ _. tt, (λ _. tt, (λ _. tt, (λ _. tt, (λ _. tt, (λ _. tt, (λ _. tt, (λ _. tt, tt))))))))) λ n o lt. rw (unnamed n o) (lt, o)
 
 pub reason_byte : (r : NakReason) → ReasonFits r → reason_number r < 256
-reason_byte CheckCharacters fits = lit< tt
-reason_byte CommandLength fits = lit< tt
-reason_byte UnknownCommand fits = lit< tt
-reason_byte UnexpectedSequence fits = lit< tt
-reason_byte SecurityBlock fits = lit< tt
-reason_byte SecurityConditions fits = lit< tt
-reason_byte BiometricType fits = lit< tt
-reason_byte BiometricFormat fits = lit< tt
-reason_byte RecordNotProcessed fits = lit< tt
 reason_byte (Other n) fits = fits.0
+reason_byte _ fits = lit< tt
 
 -- NAK
 
@@ -196,8 +173,8 @@ pub formatted_takes : (bs : List ℕ) → 3 ≤ length bs → get_or bs 2 0 ≡ 
 formatted_takes bs le count =
     cells 3 0 bs le ∙ ap (λ (n : ℕ). get_or bs 0 0 ∷ get_or bs 1 0 ∷ n ∷ drop 3 bs) (count ∙ sym (length-drop 3 bs))
 
-pub formatted_fits : (bs : List ℕ) → 3 ≤ length bs → get_or bs 2 0 ≡ length bs - 3 → IsBytes bs → FormattedFits (formatted_at bs)
-formatted_fits bs le count h = record {
+pub formatted_fits : (bs : List ℕ) → get_or bs 2 0 ≡ length bs - 3 → IsBytes bs → FormattedFits (formatted_at bs)
+formatted_fits bs count h = record {
   reader = h 0;
   direction = h 1;
   room = rw length-drop (omega (arith, h 2));
@@ -205,11 +182,7 @@ formatted_fits bs le count h = record {
 }
 
 pub formatted_spells : (f : Formatted) → FormattedFits f → IsBytes (formatted_data f)
-formatted_spells f fits =
-    let room = fits.room in
-    let front = f.reader ∷ f.direction ∷ length f.digits.items ∷ [] in
-    let front_bytes : IsBytes front = IsBytes-each front (fits.reader, (fits.direction, (omega arith, tt))) in
-    IsBytes-append front f.digits.items front_bytes fits.digits
+formatted_spells f fits = IsBytes-counted (f.reader ∷ f.direction ∷ []) f.digits.items (fits.reader, (fits.direction, tt)) fits.room fits.digits
 
 -- KEYPAD
 
@@ -217,16 +190,12 @@ pub keypad_takes : (bs : List ℕ) → 2 ≤ length bs → get_or bs 1 0 ≡ len
 keypad_takes bs le count =
     cells 2 0 bs le ∙ ap (λ (n : ℕ). get_or bs 0 0 ∷ n ∷ drop 2 bs) (count ∙ sym (length-drop 2 bs))
 
-pub keypad_fits : (bs : List ℕ) → 2 ≤ length bs → get_or bs 1 0 ≡ length bs - 2 → IsBytes bs → KeypadFits (keypad_at bs)
-keypad_fits bs le count h = record {
+pub keypad_fits : (bs : List ℕ) → get_or bs 1 0 ≡ length bs - 2 → IsBytes bs → KeypadFits (keypad_at bs)
+keypad_fits bs count h = record {
   reader = h 0;
   room = rw length-drop (omega (arith, h 1));
   digits = IsBytes-drop 2 bs h;
 }
 
 pub keypad_spells : (k : Keypad) → KeypadFits k → IsBytes (keypad_data k)
-keypad_spells k fits =
-    let room = fits.room in
-    let front = k.reader ∷ length k.digits.items ∷ [] in
-    let front_bytes : IsBytes front = IsBytes-each front (fits.reader, (omega arith, tt)) in
-    IsBytes-append front k.digits.items front_bytes fits.digits
+keypad_spells k fits = IsBytes-counted (k.reader ∷ []) k.digits.items (fits.reader, tt) fits.room fits.digits

@@ -1,7 +1,7 @@
 -- A row of texts: a name, and the words of the fields after it.
 use Rattle.std.proofs.Common.{◌≡◌, ℕ, Bool, true, false, ◌&&◌, eqb, List, [], ◌∷◌, length, Option, Some, None, refl, sym, ap, subst, ◌∙◌, arith}
 use Rattle.std.specs.Bool.{then_some}
-use Rattle.std.specs.Prelude.{IfSome, option_map}
+use Rattle.std.specs.Prelude.{IfSome, IsSomeAnd, MatchOption, option_map}
 use Rattle.std.proofs.lemmas.Bool.{eq-eqb, eqb-true, true≢false}
 use Rattle.osdp_words.specs.Reading.{ReadsWords}
 use Rattle.osdp_words.specs.Word.{AllStandFor, Word, plain}
@@ -51,6 +51,12 @@ module _ {M X : Type 0} (name_of : M → List ℕ) (fields_of : M → List Word)
     value = row_value given r reads.value;
     only = λ m fits stands. let x = row.only m (sym stands.0) in row_only given r reads m x.0 x.1 fits stands.1;
   }
+
+-- what maps a value that was read makes the row's value of it
+pub mapped : {X M : Type 0} (make : X → M) (o : Option X) (r : Option M) → MatchOption o (r ≡ None) (λ x. IsSomeAnd r (λ m. m ≡ make x)) → r ≡ option_map make o
+mapped make None r h = h
+mapped make (Some x) (Some m) h = ap Some h
+mapped make (Some x) None h = absurd h
 
 -- ---- a row with no fields
 

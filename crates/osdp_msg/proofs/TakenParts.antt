@@ -1,10 +1,11 @@
 -- Values read from words: what each part takes, put together.
-use Rattle.std.proofs.Common.{◌≡◌, ◌↔◌, ◌<◌, ◌≤◌, ℕ, Bool, true, false, IsTrue, List, [], ◌∷◌, length, map, Option, Some, None, refl}
+use Rattle.std.proofs.Common.{◌≡◌, ◌↔◌, ◌<◌, ◌≤◌, ℕ, Bool, true, false, IsTrue, List, [], ◌∷◌, length, map, Option, Some, None, refl, sym, ap, subst, ◌∙◌}
 use Rattle.std.specs.Bool.{then_some}
+use Rattle.std.specs.Prelude.{IfSome, option_map}
 use Rattle.arrayvec.specs.ArrayVec.{ArrayVec, array_vec_len}
 use Rattle.hex.specs.Hex.{IsBytes}
 use Rattle.osdp_words.specs.Reading.{ReadsWords, Takes}
-use Rattle.osdp_words.specs.Word.{Word, bytes, number}
+use Rattle.osdp_words.specs.Word.{AllStandFor, Word, bytes, number}
 use Rattle.osdp_words.proofs.Rows.{IsMadeOf, all_read, front_missing, made_taken, more_left, none_read, pair_taken, pair_words, PairAllowed}
 
 -- ---- the parts
@@ -36,9 +37,34 @@ IsVendor v = (length v ≡ 3) × IsBytes v
 pub not_true : IsTrue false → ⊥
 not_true h = cc
 
+-- what was taken is the value itself
+pub itself : {A : Type 0} (words : A → List Word) (Allowed : A → Type 0) → IsMadeOf words Allowed words Allowed (λ a. a) (λ a. a)
+itself words Allowed = record {
+  back = λ a fits. refl;
+  parts_allowed = λ a fits. fits;
+  parts_words = λ a fits. refl;
+  fits = λ a h. h;
+  same_words = λ a h. refl;
+}
+
 -- ---- a value of one part
 
 module _ {A B : Type 0} (words : A → List Word) (Allowed : A → Type 0) (made_words : B → List Word) (Fits : B → Type 0) (f : A → B) (g : B → A) (made : IsMadeOf words Allowed made_words Fits f g) where
+  made_value : (given : List (List ℕ)) (r : Option A) → IfSome r (λ a. AllStandFor (words a) given × Allowed a)
+      → IfSome (option_map f r) (λ b. AllStandFor (made_words b) given × Fits b)
+  made_value given (Some a) h = (subst (λ (ws : List Word). AllStandFor ws given) (sym (made.same_words a h.1)) h.0, made.fits a h.1)
+  made_value given None h = tt
+
+  -- a value made of what was read of all the words
+  pub made_read : (given : List (List ℕ)) (r : Option A) (made_of : Option B) → ReadsWords words Allowed given r → made_of ≡ option_map f r
+      → ReadsWords made_words Fits given made_of
+  made_read given r made_of h e = rw e record {
+    value = made_value given r h.value;
+    only = λ b fits stands.
+        let parts = subst (λ (ws : List Word). AllStandFor ws given) (made.parts_words b fits) stands in
+        ap (option_map f) (h.only (g b) (made.parts_allowed b fits) parts) ∙ ap Some (made.back b fits);
+  }
+
   by_end : (given left : List (List ℕ)) (a : A) (ended : Bool) → (IsTrue ended ↔ (left ≡ [])) → Takes made_words Fits given left (Some (f a))
       → ReadsWords made_words Fits given (then_some ended (f a))
   by_end given left a true end taken = all_read made_words Fits given left (f a) (end.0 refl) taken

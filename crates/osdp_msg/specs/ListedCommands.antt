@@ -1,23 +1,12 @@
 -- Commands that hold a list: outputs, LEDs, a text and a maker's message.
-use Rattle.std.specs.Prelude.{◌≡◌, ◌≤◌, ℕ, ◌%◌, Bool, true, false, List, length}
+use Rattle.std.specs.Prelude.{◌≡◌, ◌≤◌, ℕ, ◌%◌, ◌==◌, Bool, true, false, List, length}
 use Rattle.osdp_msg.specs.declared.command.Command.{Command}
 use Rattle.osdp_msg.specs.declared.command.Command.TheVariants.{Output, Led, Text, Maker}
+use Rattle.osdp_msg.specs.CommandTable.{command_code}
 
-abbrev pub is_output : Command → Bool
-is_output (Output records) = true
-is_output _ = false
-
-abbrev pub is_led : Command → Bool
-is_led (Led records) = true
-is_led _ = false
-
-abbrev pub is_text : Command → Bool
-is_text (Text t) = true
-is_text _ = false
-
-abbrev pub is_maker : Command → Bool
-is_maker (Maker m) = true
-is_maker _ = false
+-- the command is the one of this code
+abbrev pub has_code : ℕ → Command → Bool
+has_code code m = command_code m == code
 
 -- the command holds a list
 abbrev pub has_list : Command → Bool

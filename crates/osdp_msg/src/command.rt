@@ -131,18 +131,18 @@ fn parse_row(name: &str, words: &[&str]) -> Option<Command>
 {
     match name {
         "POLL" => words.is_empty().then_some(Command::Poll),
-        "ID" => Some(Command::Id(parse_byte(words)?)),
-        "CAP" => Some(Command::Cap(parse_byte(words)?)),
+        "ID" => parse_byte(words).map(Command::Id),
+        "CAP" => parse_byte(words).map(Command::Cap),
         "LSTAT" => words.is_empty().then_some(Command::LocalStatus),
         "ISTAT" => words.is_empty().then_some(Command::InputStatus),
         "OSTAT" => words.is_empty().then_some(Command::OutputStatus),
         "RSTAT" => words.is_empty().then_some(Command::ReaderStatus),
-        "OUT" => Some(Command::Output(Outputs::parse(words)?)),
-        "LED" => Some(Command::Led(Leds::parse(words)?)),
-        "BUZ" => Some(Command::Buzzer(Buzzer::parse(words)?)),
-        "TEXT" => Some(Command::Text(Text::parse(words)?)),
-        "COMSET" => Some(Command::Comset(Communication::parse(words)?)),
-        "MFG" => Some(Command::Maker(MakerMessage::parse(words)?)),
+        "OUT" => Outputs::parse(words).map(Command::Output),
+        "LED" => Leds::parse(words).map(Command::Led),
+        "BUZ" => Buzzer::parse(words).map(Command::Buzzer),
+        "TEXT" => Text::parse(words).map(Command::Text),
+        "COMSET" => Communication::parse(words).map(Command::Comset),
+        "MFG" => MakerMessage::parse(words).map(Command::Maker),
         _ => None,
     }
 }

@@ -5,7 +5,9 @@ ghost use Rattle.std.specs.Fmt.{WritesOnOk};
 ghost use Rattle.osdp_words.specs.Reading.{ReadsWords};
 ghost use Rattle.osdp_words.specs.Word.{plain, text_of, texts};
 ghost use Rattle.osdp_msg.specs.CommandFields.{BuzzerFits, buzzer_at, buzzer_data, buzzer_words, TextFits, text_at, text_data, text_words, CommunicationFits, communication_at, communication_data, communication_words, MakerFits, maker_at, maker_data, maker_words};
+ghost use Rattle.osdp_msg.specs.ListedCommands.{HasLength};
 
+use crate::parsing::{parse_numbers, parse_numbers_and_list};
 use crate::spelling::{
     Spelling, append, append_u32, copy_over, list_of, put_byte, put_bytes, rest,
 };
@@ -74,16 +76,14 @@ impl Buzzer {
     pub(crate) fn parse(words: &[&str]) -> Option<Buzzer>
         ensures { ReadsWords buzzer_words BuzzerFits (texts words.now) result }
     {
-        let mut fields = Fields::new(words);
-        let [reader, tone, on_time, off_time, count] = fields.numbers_u8::<5>()?;
-        let buzzer = Buzzer {
+        let [reader, tone, on_time, off_time, count] = parse_numbers::<5>(words)?;
+        Some(Buzzer {
             reader,
             tone,
             on_time,
             off_time,
             count,
-        };
-        fields.is_empty().then_some(buzzer)
+        })
     }
 }
 
@@ -119,8 +119,7 @@ impl Text {
 
     /// Puts the text that the bytes are in place of this.
     pub(crate) fn read_over(&mut self, bytes: &[u8])
-        requires some { 6 ≤ length bytes.now }
-        requires room { length bytes.now ≤ 261 }
+        requires { HasLength 6 261 bytes.now }
         ensures { self.new ≡ text_at bytes.now }
     {
         self.reader = bytes[0];
@@ -176,18 +175,17 @@ impl Text {
     pub(crate) fn parse(words: &[&str]) -> Option<Text>
         ensures { ReadsWords text_words TextFits (texts words.now) result }
     {
-        let mut fields = Fields::new(words);
-        let [reader, command, time, row, column] = fields.numbers_u8::<5>()?;
-        let characters = fields.byte_list()?;
-        let text = Text {
+        let ([reader, command, time, row, column], characters) = parse_numbers_and_list::<5, 255>(
+            words,
+        )?;
+        Some(Text {
             reader,
             command,
             time,
             row,
             column,
             characters,
-        };
-        fields.is_empty().then_some(text)
+        })
     }
 }
 
@@ -250,8 +248,7 @@ pub struct MakerMessage {
 
 impl MakerMessage {
     pub(crate) fn read(bytes: &[u8]) -> MakerMessage
-        requires some { 3 ≤ length bytes.now }
-        requires room { length bytes.now ≤ 1432 }
+        requires { HasLength 3 1432 bytes.now }
         ensures { result ≡ maker_at bytes.now }
     {
         MakerMessage {
@@ -270,8 +267,7 @@ impl MakerMessage {
 
     /// Puts the message that the bytes are in place of this.
     pub(crate) fn read_over(&mut self, bytes: &[u8])
-        requires some { 3 ≤ length bytes.now }
-        requires room { length bytes.now ≤ 1432 }
+        requires { HasLength 3 1432 bytes.now }
         ensures { self.new ≡ maker_at bytes.now }
     {
         self.vendor = [bytes[0], bytes[1], bytes[2]];

@@ -73,15 +73,7 @@ impl Event {
     pub fn copy(&self) -> Event
         ensures { result ≡ self.now }
     {
-        match self {
-            Event::LocalState(state) => Event::LocalState(*state),
-            Event::Inputs(states) => Event::Inputs(list_of(states.as_slice())),
-            Event::Outputs(states) => Event::Outputs(list_of(states.as_slice())),
-            Event::Readers(states) => Event::Readers(list_of(states.as_slice())),
-            Event::Raw(raw) => Event::Raw(raw.copy()),
-            Event::Formatted(formatted) => Event::Formatted(formatted.copy()),
-            Event::Keypad(keypad) => Event::Keypad(keypad.copy()),
-        }
+        self.to_reply().to_event().unwrap()
     }
 }
 

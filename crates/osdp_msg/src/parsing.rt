@@ -1,6 +1,6 @@
 //! Words that several messages share.
 
-ghost use Rattle.std.specs.Prelude.{◌≡◌, ◌<◌, ◌≤◌, ◌^◌, ◌∷◌, [], length, map};
+ghost use Rattle.std.specs.Prelude.{◌≡◌, ◌<◌, ◌≤◌, ◌^◌, ◌∷◌, ◌++◌, [], length, map};
 ghost use Rattle.std.specs.List.{All};
 ghost use Rattle.hex.specs.Hex.{IsBytes};
 ghost use Rattle.osdp_words.specs.Reading.{ReadsWords};
@@ -21,6 +21,27 @@ pub(crate) fn parse_byte(words: &[&str]) -> Option<u8>
     let mut fields = Fields::new(words);
     let number = fields.number_u8()?;
     fields.is_empty().then_some(number)
+}
+
+/// `N` numbers from 0 to 255.
+pub(crate) fn parse_numbers<const N: usize>(words: &[&str]) -> Option<[u8; N]>
+    ensures { ReadsWords (λ ns. map number ns) (λ ns. (length ns ≡ N) × IsBytes ns) (texts words.now) result }
+{
+    let mut fields = Fields::new(words);
+    let numbers = fields.numbers_u8::<N>()?;
+    fields.is_empty().then_some(numbers)
+}
+
+/// `N` numbers from 0 to 255, and a list of `ROOM` bytes at most.
+pub(crate) fn parse_numbers_and_list<const N: usize, const ROOM: usize>(
+    words: &[&str],
+) -> Option<([u8; N], ArrayVec<u8, ROOM>)>
+    ensures { ReadsWords (λ p. map number p.0 ++ bytes p.1.items ∷ []) (λ p. ((length p.0 ≡ N) × IsBytes p.0) × ((length p.1.items ≤ ROOM) × IsBytes p.1.items)) (texts words.now) result }
+{
+    let mut fields = Fields::new(words);
+    let numbers = fields.numbers_u8::<N>()?;
+    let list = fields.byte_list()?;
+    fields.is_empty().then_some((numbers, list))
 }
 
 /// A byte for each input, output or reader.

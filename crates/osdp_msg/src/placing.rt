@@ -5,7 +5,6 @@
 
 ghost use Rattle.std.specs.Prelude.{◌≡◌, ℕ, Bool, List, Some, true, false};
 ghost use Rattle.osdp_msg.specs.declared.command.Command.{Command};
-ghost use Rattle.osdp_msg.specs.ListedCommands.{has_list};
 
 use crate::command::Command;
 use crate::command_fields::{MakerMessage, Text};
@@ -87,12 +86,12 @@ fn place_least<L: Listed>(command: &mut Command)
 impl Listed for Outputs {
     ghost use Rattle.osdp_msg.specs.declared.command.Command.TheVariants.{Output};
     ghost use Rattle.osdp_msg.specs.CommandFields.{output_at};
-    ghost use Rattle.osdp_msg.specs.ListedCommands.{AreRecords, is_output};
+    ghost use Rattle.osdp_msg.specs.ListedCommands.{AreRecords, has_code};
     ghost use Rattle.osdp_msg.specs.Records.{records_at};
 
     ghost within = { Output };
 
-    ghost is_within = { is_output };
+    ghost is_within = { has_code 0x68 };
 
     ghost are_data = { AreRecords 4 };
 
@@ -122,12 +121,12 @@ impl Listed for Outputs {
 impl Listed for Leds {
     ghost use Rattle.osdp_msg.specs.declared.command.Command.TheVariants.{Led};
     ghost use Rattle.osdp_msg.specs.CommandFields.{led_at};
-    ghost use Rattle.osdp_msg.specs.ListedCommands.{AreRecords, is_led};
+    ghost use Rattle.osdp_msg.specs.ListedCommands.{AreRecords, has_code};
     ghost use Rattle.osdp_msg.specs.Records.{records_at};
 
     ghost within = { Led };
 
-    ghost is_within = { is_led };
+    ghost is_within = { has_code 0x69 };
 
     ghost are_data = { AreRecords 14 };
 
@@ -157,11 +156,11 @@ impl Listed for Leds {
 impl Listed for Text {
     ghost use Rattle.osdp_msg.specs.declared.command.Command.TheVariants.{Text as text};
     ghost use Rattle.osdp_msg.specs.CommandFields.{text_at};
-    ghost use Rattle.osdp_msg.specs.ListedCommands.{HasLength, is_text};
+    ghost use Rattle.osdp_msg.specs.ListedCommands.{HasLength, has_code};
 
     ghost within = { text };
 
-    ghost is_within = { is_text };
+    ghost is_within = { has_code 0x6B };
 
     ghost are_data = { HasLength 6 261 };
 
@@ -191,11 +190,11 @@ impl Listed for Text {
 impl Listed for MakerMessage {
     ghost use Rattle.osdp_msg.specs.declared.command.Command.TheVariants.{Maker};
     ghost use Rattle.osdp_msg.specs.CommandFields.{maker_at};
-    ghost use Rattle.osdp_msg.specs.ListedCommands.{HasLength, is_maker};
+    ghost use Rattle.osdp_msg.specs.ListedCommands.{HasLength, has_code};
 
     ghost within = { Maker };
 
-    ghost is_within = { is_maker };
+    ghost is_within = { has_code 0x80 };
 
     ghost are_data = { HasLength 3 1432 };
 

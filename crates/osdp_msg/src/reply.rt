@@ -140,21 +140,21 @@ fn parse_row(name: &str, words: &[&str]) -> Option<Reply>
 {
     match name {
         "ACK" => words.is_empty().then_some(Reply::Ack),
-        "NAK" => Some(Reply::Nak(Nak::parse(words)?)),
-        "PDID" => Some(Reply::PdId(PdId::parse(words)?)),
+        "NAK" => Nak::parse(words).map(Reply::Nak),
+        "PDID" => PdId::parse(words).map(Reply::PdId),
         "PDCAP" => Some(Reply::PdCap(PdCap {
             capabilities: parse_records(words)?,
         })),
-        "LSTATR" => Some(Reply::LocalState(LocalState::parse(words)?)),
-        "ISTATR" => Some(Reply::Inputs(parse_states(words)?)),
-        "OSTATR" => Some(Reply::Outputs(parse_states(words)?)),
-        "RSTATR" => Some(Reply::Readers(parse_states(words)?)),
-        "RAW" => Some(Reply::Raw(Raw::parse(words)?)),
-        "FMT" => Some(Reply::Formatted(Formatted::parse(words)?)),
-        "KEYPAD" => Some(Reply::Keypad(Keypad::parse(words)?)),
-        "COM" => Some(Reply::Com(Communication::parse(words)?)),
+        "LSTATR" => LocalState::parse(words).map(Reply::LocalState),
+        "ISTATR" => parse_states(words).map(Reply::Inputs),
+        "OSTATR" => parse_states(words).map(Reply::Outputs),
+        "RSTATR" => parse_states(words).map(Reply::Readers),
+        "RAW" => Raw::parse(words).map(Reply::Raw),
+        "FMT" => Formatted::parse(words).map(Reply::Formatted),
+        "KEYPAD" => Keypad::parse(words).map(Reply::Keypad),
+        "COM" => Communication::parse(words).map(Reply::Com),
         "BUSY" => words.is_empty().then_some(Reply::Busy),
-        "MFGREP" => Some(Reply::MakerReply(MakerMessage::parse(words)?)),
+        "MFGREP" => MakerMessage::parse(words).map(Reply::MakerReply),
         _ => None,
     }
 }

@@ -4,10 +4,12 @@ ghost use Rattle.std.specs.Prelude.{◌≡◌, ◌≤◌, ◌∷◌, [], codes, 
 ghost use Rattle.std.specs.Fmt.{WritesOnOk};
 ghost use Rattle.osdp_words.specs.Reading.{ReadsWords};
 ghost use Rattle.osdp_words.specs.Word.{plain, text_of, texts};
+ghost use Rattle.osdp_msg.specs.ListedCommands.{HasLength};
 ghost use Rattle.osdp_msg.specs.ReplyFields.{NakFits, nak_at, nak_data, nak_words, PdIdFits, pd_id_at, pd_id_data, pd_id_words, LocalStateFits, local_state_at, local_state_data, local_state_words, FormattedFits, formatted_at, formatted_data, formatted_words, KeypadFits, keypad_at, keypad_data, keypad_words};
 
 use crate::capability::Capability;
 use crate::nak::NakReason;
+use crate::parsing::{parse_numbers, parse_numbers_and_list};
 use crate::spelling::{Spelling, append, append_u32, list_of, put_byte, put_bytes, rest};
 use arrayvec::ArrayVec;
 use byteorder::{ByteOrder, LittleEndian};
@@ -25,8 +27,7 @@ pub struct Nak {
 
 impl Nak {
     pub(crate) fn read(bytes: &[u8]) -> Nak
-        requires some { 1 ≤ length bytes.now }
-        requires room { length bytes.now ≤ 1432 }
+        requires { HasLength 1 1432 bytes.now }
         ensures { result ≡ nak_at bytes.now }
     {
         Nak {
@@ -235,9 +236,8 @@ impl LocalState {
     pub(crate) fn parse(words: &[&str]) -> Option<LocalState>
         ensures { ReadsWords local_state_words LocalStateFits (texts words.now) result }
     {
-        let mut fields = Fields::new(words);
-        let [tamper, power] = fields.numbers_u8::<2>()?;
-        fields.is_empty().then_some(LocalState { tamper, power })
+        let [tamper, power] = parse_numbers::<2>(words)?;
+        Some(LocalState { tamper, power })
     }
 }
 
@@ -254,8 +254,7 @@ pub struct Formatted {
 
 impl Formatted {
     pub(crate) fn read(bytes: &[u8]) -> Formatted
-        requires some { 3 ≤ length bytes.now }
-        requires room { length bytes.now ≤ 258 }
+        requires { HasLength 3 258 bytes.now }
         ensures { result ≡ formatted_at bytes.now }
     {
         Formatted {
@@ -296,10 +295,8 @@ impl Formatted {
     pub(crate) fn parse(words: &[&str]) -> Option<Formatted>
         ensures { ReadsWords formatted_words FormattedFits (texts words.now) result }
     {
-        let mut fields = Fields::new(words);
-        let [reader, direction] = fields.numbers_u8::<2>()?;
-        let digits = fields.byte_list()?;
-        fields.is_empty().then_some(Formatted {
+        let ([reader, direction], digits) = parse_numbers_and_list::<2, 255>(words)?;
+        Some(Formatted {
             reader,
             direction,
             digits,
@@ -318,8 +315,7 @@ pub struct Keypad {
 
 impl Keypad {
     pub(crate) fn read(bytes: &[u8]) -> Keypad
-        requires some { 2 ≤ length bytes.now }
-        requires room { length bytes.now ≤ 257 }
+        requires { HasLength 2 257 bytes.now }
         ensures { result ≡ keypad_at bytes.now }
     {
         Keypad {

@@ -6,7 +6,6 @@ ghost use Rattle.byteorder.specs.Endian.{little_bytes};
 ghost use Rattle.hex.specs.Hex.{IsBytes};
 
 use arrayvec::ArrayVec;
-use byteorder::{ByteOrder, LittleEndian};
 
 /// A message's code and data.
 pub(crate) type Spelling = ArrayVec<u8, 1433>;
@@ -83,9 +82,7 @@ pub(crate) fn append_u16(spelling: &mut Spelling, number: u16)
     ensures appended { spelling.new.items ≡ spelling.old.items ++ little_bytes 2 number }
     ensures fits { number < 2 ^ 16 }
 {
-    let mut field = [0; 2];
-    LittleEndian::write_u16(&mut field, number);
-    append(spelling, &field);
+    append(spelling, &u16::to_le_bytes(number));
 }
 
 /// Appends a number as four bytes, low byte first.
@@ -94,7 +91,5 @@ pub(crate) fn append_u32(spelling: &mut Spelling, number: u32)
     ensures appended { spelling.new.items ≡ spelling.old.items ++ little_bytes 4 number }
     ensures fits { number < 2 ^ 32 }
 {
-    let mut field = [0; 4];
-    LittleEndian::write_u32(&mut field, number);
-    append(spelling, &field);
+    append(spelling, &u32::to_le_bytes(number));
 }
