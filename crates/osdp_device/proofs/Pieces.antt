@@ -224,33 +224,41 @@ module _ {H : Type 0} (answer_of : H → Command → Answer) (after : H → Comm
       ∙ ap (λ b. reads_on answer_of after b r l) parts
       ∙ sym (ap (then_reads answer_of after given) (reads_nothing r l all))
 
+  -- before a run that is over has been read no bytes come in, and all that is held is read to its end
+  abbrev read_out : (k : List ℕ) (r : ReaderState H) (l : Received) → Heard H
+  read_out k r l = record {
+    said = said_to_all answer_of after (items true k) r;
+    reader = after_items answer_of after (items true k) r;
+    line = record l { held = new_run; last = l.greatest };
+  }
+
+  reads_out : {A : Type 0} (f : List ℕ → Heard H → A) (k given : List ℕ) (r : ReaderState H) (l : Received) → l.held ≡ record { bytes = k; ended = true }
+      → AreBytes l.held.bytes → 0 < length k
+      → f (drop (taken_count l.held given) given) (reads_all answer_of after r (comes_in given l)) ≡ f given (read_out k r l)
+  reads_out f k given r l held bytes some =
+      let fits : AreBytes k = subst AreBytes (ap (λ (h : Held). h.bytes) held) bytes in
+      let here : Received = record l { held = record { bytes = k; ended = true } } in
+      let same : l ≡ here = ap (λ (h : Held). record l { held = h }) held in
+      let taken : comes_in given here ≡ record here { last = l.greatest } =
+      ap (λ (n : List ℕ). record l { held = record { bytes = n; ended = true }; last = l.greatest }) (append-nil k) in
+      ap (λ m. f (drop (taken_count m.held given) given) (reads_all answer_of after r (comes_in given m))) same
+      ∙ ap (λ m. f given (reads_all answer_of after r m)) taken
+      ∙ ap (f given) (reads_over r (record here { last = l.greatest }) fits refl some)
+
+  settled_out : (now : ℕ) (l : Received) → IsBefore now l → IsSettled now (record l { held = new_run; last = l.greatest })
+  settled_out now l is =
+      record { gap = is.gap; seen = is.seen; last = refl; read = record { goes_on = refl; undecided = decided_nothing false } }
+
   takes_over : (k given : List ℕ) (now : ℕ) (r : ReaderState H) (l : Received) → l.held ≡ record { bytes = k; ended = true }
       → IsBefore now l → 0 < length k
       → then_hears answer_of after (drop (taken_count l.held given) given) now (reads_all answer_of after r (comes_in given l))
       ≡ then_reads answer_of after given (reads_all answer_of after r l)
   takes_over k given now r l held is some =
-      let fits : AreBytes k = subst AreBytes (ap (λ (h : Held). h.bytes) held) is.bytes in
       let here : Received = record l { held = record { bytes = k; ended = true } } in
-      let same : l ≡ here = ap (λ (h : Held). record l { held = h }) held in
-      let taken : comes_in given here ≡ record here { last = l.greatest } =
-      ap (λ (n : List ℕ). record l { held = record { bytes = n; ended = true }; last = l.greatest }) (append-nil k) in
-      let h : Heard H = record {
-        said = said_to_all answer_of after (items true k) r;
-        reader = after_items answer_of after (items true k) r;
-        line = record l { held = new_run; last = l.greatest };
-      } in
-      let settled : IsSettled now h.line = record {
-        gap = is.gap;
-        seen = is.seen;
-        last = refl;
-        read = record { goes_on = refl; undecided = decided_nothing false };
-      } in
-      ap (λ m. then_hears answer_of after (drop (taken_count m.held given) given) now (reads_all answer_of after r (comes_in given m))) same
-      ∙ ap (λ m. then_hears answer_of after given now (reads_all answer_of after r m)) taken
-      ∙ ap (then_hears answer_of after given now) (reads_over r (record here { last = l.greatest }) fits refl some)
-      ∙ then_settled given now h settled
-      ∙ sym (ap (then_reads answer_of after given) (reads_over r here fits refl some))
-      ∙ sym (ap (λ m. then_reads answer_of after given (reads_all answer_of after r m)) same)
+      reads_out (λ left h. then_hears answer_of after left now h) k given r l held is.bytes some
+      ∙ then_settled given now (read_out k r l) (settled_out now l is)
+      ∙ sym (ap (then_reads answer_of after given) (reads_over r here (subst AreBytes (ap (λ (h : Held). h.bytes) held) is.bytes) refl some))
+      ∙ sym (ap (λ (h : Held). then_reads answer_of after given (reads_all answer_of after r (record l { held = h }))) held)
 
   takes_ended : (k given : List ℕ) (now : ℕ) (r : ReaderState H) (l : Received) → l.held ≡ record { bytes = k; ended = not (length k == 0) }
       → IsBefore now l → AreBytes given
@@ -371,24 +379,9 @@ module _ {H : Type 0} (answer_of : H → Command → Answer) (after : H → Comm
       → IsBefore now l → 0 < length k
       → turns_left (drop (taken_count l.held given) given) now (reads_all answer_of after r (comes_in given l)).line < turn_in given l
   fewer_over k given now r l held is some =
-      let fits : AreBytes k = subst AreBytes (ap (λ (h : Held). h.bytes) held) is.bytes in
-      let here : Received = record l { held = record { bytes = k; ended = true } } in
-      let same : l ≡ here = ap (λ (h : Held). record l { held = h }) held in
-      let taken : comes_in given here ≡ record here { last = l.greatest } =
-      ap (λ (n : List ℕ). record l { held = record { bytes = n; ended = true }; last = l.greatest }) (append-nil k) in
-      let next : Received = record l { held = new_run; last = l.greatest } in
-      let settled : IsSettled now next = record {
-        gap = is.gap;
-        seen = is.seen;
-        last = refl;
-        read = record { goes_on = refl; undecided = decided_nothing false };
-      } in
       let turns : turns_left (drop (taken_count l.held given) given) now (reads_all answer_of after r (comes_in given l)).line ≡ 2 * length given =
-      ap (λ m. turns_left (drop (taken_count m.held given) given) now (reads_all answer_of after r (comes_in given m)).line) same
-      ∙ ap (λ m. turns_left given now (reads_all answer_of after r m).line) taken
-      ∙ ap (λ (h : Heard H). turns_left given now h.line) (reads_over r (record here { last = l.greatest }) fits refl some)
-      ∙ settled_turns given now next settled in
-      let mine : turn_in given l ≡ 2 * length given + 1 = ap (λ m. turn_in given m) same in
+      reads_out (λ left h. turns_left left now h.line) k given r l held is.bytes some ∙ settled_turns given now _ (settled_out now l is) in
+      let mine : turn_in given l ≡ 2 * length given + 1 = ap (λ (h : Held). turn_in given (record l { held = h })) held in
       omega (arith, turns, mine)
 
   fewer_ended : (k given : List ℕ) (now : ℕ) (r : ReaderState H) (l : Received) → l.held ≡ record { bytes = k; ended = not (length k == 0) }

@@ -9,23 +9,10 @@ use Rattle.osdp_reader.specs.declared.handler.Answer.{Answer}
 use Rattle.osdp_reader.specs.declared.kind.Kind.{Kind}
 use Rattle.osdp_reader.specs.declared.kind.Kind.TheVariants.{Silent, Zero, Taken}
 use Rattle.osdp_reader.specs.declared.response.Response.{Response}
-use Rattle.osdp_reader.specs.Responses.{response_bytes, response_command, response_kind}
+pub use Rattle.osdp_reader.specs.Responses.{Said, said_in}
+use Rattle.osdp_reader.specs.Responses.{response_command, response_kind}
 use Rattle.osdp_reader.specs.State.{ReaderState}
 use Rattle.osdp_reader.specs.Table.{hears, kind_of}
-
--- the line of the reader's table, the command that was acted on and could be read, and the bytes that are sent back
-pub record Said : Type 0 where
-  pub kind : Kind
-  pub command : Option Command
-  pub bytes : List ℕ
-
--- the same of a response
-abbrev pub said_in : Response → Said
-said_in response = record {
-  kind = response_kind response;
-  command = response_command response;
-  bytes = response_bytes response;
-}
 
 abbrev pub bytes_of : Option Packet → List ℕ
 bytes_of None = []

@@ -142,33 +142,33 @@ fn but_poll(command: &Option<Command>) -> Option<&Command>
     }
 }
 
+/// The command that was taken, and the one that was acted on at number 0, but POLL.
+fn acted_on(response: &Response) -> (Option<&Command>, Option<&Command>)
+    ensures taken { option_copied result.0 ≡ taken_in response.now }
+    ensures again { option_copied result.1 ≡ again_in response.now }
+{
+    match response {
+        Response::Taken(command, _) => (but_poll(command), None),
+        Response::Zero(command, _) => (None, but_poll(command)),
+        Response::Silent
+        | Response::Secured(_)
+        | Response::Repeat(_)
+        | Response::Busy(_)
+        | Response::Wrong(_) => (None, None),
+    }
+}
+
 /// The command that was taken, but POLL: the device does it, once, unless the answer is a NAK, whose code 41 is the sixth byte. None
 /// where none was taken, or it couldn't be read.
 pub fn taken(response: &Response) -> Option<&Command>
     ensures { option_copied result ≡ taken_in response.now }
 {
-    match response {
-        Response::Taken(command, _) => but_poll(command),
-        Response::Zero(..)
-        | Response::Silent
-        | Response::Secured(_)
-        | Response::Repeat(_)
-        | Response::Busy(_)
-        | Response::Wrong(_) => None,
-    }
+    acted_on(response).0
 }
 
 /// The command that was acted on at number 0, but POLL. The same order may come once more.
 pub fn again(response: &Response) -> Option<&Command>
     ensures { option_copied result ≡ again_in response.now }
 {
-    match response {
-        Response::Zero(command, _) => but_poll(command),
-        Response::Taken(..)
-        | Response::Silent
-        | Response::Secured(_)
-        | Response::Repeat(_)
-        | Response::Busy(_)
-        | Response::Wrong(_) => None,
-    }
+    acted_on(response).1
 }

@@ -70,8 +70,10 @@ impl Receiver {
 
     /// Takes a moment; one that lies before the greatest seen counts as that one.
     fn see(&mut self, now: u64)
-        ensures { self.new ≡ seen now self.old }
+        ensures line { self.new ≡ seen now self.old }
+        ensures received { IsReceived self.old }
     {
+        let _gap = &self.gap;
         self.greatest = self.greatest.max(now);
     }
 
@@ -108,7 +110,6 @@ impl Receiver {
         ensures line { self.new ≡ after_take bytes.now now self.old }
         ensures received { IsReceived self.old }
     {
-        let _gap = &self.gap;
         self.see(now);
         if bytes.is_empty() {
             return 0;
@@ -122,7 +123,6 @@ impl Receiver {
         ensures line { self.new ≡ after_tick now self.old }
         ensures received { IsReceived self.old }
     {
-        let _gap = &self.gap;
         self.see(now);
         self.end_silent();
     }
@@ -132,7 +132,6 @@ impl Receiver {
         ensures line { self.new ≡ after_silence now self.old }
         ensures received { IsReceived self.old }
     {
-        let _gap = &self.gap;
         self.see(now);
         self.end_run();
     }

@@ -52,15 +52,6 @@ fn are_there(count: usize, records: &[OutputRecord]) -> bool
     true
 }
 
-/// A copy of a list.
-fn copy(list: &ArrayVec<u8, 1432>) -> ArrayVec<u8, 1432>
-    ensures { result ≡ list.now }
-{
-    let mut copy = ArrayVec::new();
-    let _ = copy.try_extend_from_slice(list.as_slice());
-    copy
-}
-
 impl Handler for DeviceStatus {
     ghost use Rattle.osdp_device.specs.Status.{status_after, status_answer};
 
@@ -71,9 +62,9 @@ impl Handler for DeviceStatus {
     fn answer(&mut self, command: &Command) -> Answer {
         match command {
             Command::LocalStatus => Answer::Local(self.tamper, self.power),
-            Command::InputStatus => Answer::List(copy(&self.inputs)),
-            Command::OutputStatus => Answer::List(copy(&self.outputs)),
-            Command::ReaderStatus => Answer::List(copy(&self.readers)),
+            Command::InputStatus => Answer::list(self.inputs.as_slice()),
+            Command::OutputStatus => Answer::list(self.outputs.as_slice()),
+            Command::ReaderStatus => Answer::list(self.readers.as_slice()),
             Command::Output(outputs) => {
                 if are_there(self.outputs.len(), outputs.records()) {
                     Answer::Done

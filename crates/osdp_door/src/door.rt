@@ -134,16 +134,6 @@ fn states(outputs: &[DoorOutput]) -> ArrayVec<u8, 1432>
     states
 }
 
-/// The bytes as a list.
-fn list(bytes: &[u8]) -> ArrayVec<u8, 1432>
-    requires { length bytes.now ≤ 1432 }
-    ensures { result.items ≡ bytes.now }
-{
-    let mut list = ArrayVec::new();
-    let _ = list.try_extend_from_slice(bytes);
-    list
-}
-
 impl Handler for Door {
     ghost use Rattle.osdp_door.specs.DoorRules.{door_after, door_answer};
 
@@ -154,9 +144,9 @@ impl Handler for Door {
     fn answer(&mut self, command: &Command) -> Answer {
         match command {
             Command::LocalStatus => Answer::Local(told(self.is_tampered), told(self.has_no_power)),
-            Command::InputStatus => Answer::List(list(&self.inputs)),
+            Command::InputStatus => Answer::list(&self.inputs),
             Command::OutputStatus => Answer::List(states(&self.outputs)),
-            Command::ReaderStatus => Answer::List(list(&[0])),
+            Command::ReaderStatus => Answer::list(&[0]),
             Command::Output(outputs) => {
                 if !are_known(outputs.records()) {
                     return Answer::Refuse(NakReason::RecordNotProcessed);

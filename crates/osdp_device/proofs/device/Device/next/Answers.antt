@@ -7,31 +7,18 @@ use Rattle.osdp_device.specs.Receiving.{Received}
 use Rattle.osdp_device.proofs.Taking.{told_here}
 use Rattle.osdp_device.proofs.device.Device.next.Goals as goal
 
-pub returns-clause-said : goal.returns-clause-said
-returns-clause-said g c =
-    let here : decided c.pass_over.new.self.line.held.ended c.pass_over.new.self.line.held.bytes ≡ Some (PacketItem c.in-Some-Packet.packet) =
-    sym c.in-Some-Packet.ensures ∙ ap (λ i. Some (item_of i)) c.in-Some-Packet.field-0-is in
-    let told = told_here g.H.Handler.answer_of g.H.Handler.after c.pass_over.new.self.reader c.answer-response.new.reader c.pass_over.new.self.line.held
-    c.advance.new.self.held (PacketItem c.in-Some-Packet.packet) (Some (said_in c.answer-response.result)) here
-    (ap (λ l. l.held) c.advance.ensures) c.answer-response.ensures.said c.answer-response.ensures.reader refl in
-    sym (ap (λ t. t.said) told) ∙ ap (λ t. t.said) c.pass_over.ensures.told
-
-pub returns-clause-reader : goal.returns-clause-reader
-returns-clause-reader g c =
-    let here : decided c.pass_over.new.self.line.held.ended c.pass_over.new.self.line.held.bytes ≡ Some (PacketItem c.in-Some-Packet.packet) =
-    sym c.in-Some-Packet.ensures ∙ ap (λ i. Some (item_of i)) c.in-Some-Packet.field-0-is in
-    let told = told_here g.H.Handler.answer_of g.H.Handler.after c.pass_over.new.self.reader c.answer-response.new.reader c.pass_over.new.self.line.held
-    c.advance.new.self.held (PacketItem c.in-Some-Packet.packet) (Some (said_in c.answer-response.result)) here
-    (ap (λ l. l.held) c.advance.ensures) c.answer-response.ensures.said c.answer-response.ensures.reader refl in
-    sym (ap (λ t. t.reader) told) ∙ ap (λ t. t.reader) c.pass_over.ensures.told
-
-pub returns-clause-line : goal.returns-clause-line
-returns-clause-line g c =
+pub returns : goal.returns
+returns g c =
     let here : decided c.pass_over.new.self.line.held.ended c.pass_over.new.self.line.held.bytes ≡ Some (PacketItem c.in-Some-Packet.packet) =
     sym c.in-Some-Packet.ensures ∙ ap (λ i. Some (item_of i)) c.in-Some-Packet.field-0-is in
     let told = told_here g.H.Handler.answer_of g.H.Handler.after c.pass_over.new.self.reader c.answer-response.new.reader c.pass_over.new.self.line.held
     (after_advance c.pass_over.new.self.line.held) (PacketItem c.in-Some-Packet.packet) (Some (said_in c.answer-response.result)) here
     refl c.answer-response.ensures.said c.answer-response.ensures.reader refl in
-    let left = sym (ap (λ t. t.held) told) ∙ ap (λ t. t.held) c.pass_over.ensures.told in
-    c.advance.ensures ∙ ap (λ (l : Received). record l { held = after_advance c.pass_over.new.self.line.held }) c.pass_over.ensures.line
-    ∙ ap (λ (h : Held). record c.args.self.now.line { held = h }) left
+    let whole = sym told ∙ c.pass_over.ensures.told in
+    record {
+      said = ap (λ t. t.said) whole;
+      reader = ap (λ t. t.reader) whole;
+      line =
+          c.advance.ensures ∙ ap (λ (l : Received). record l { held = after_advance c.pass_over.new.self.line.held }) c.pass_over.ensures.line
+          ∙ ap (λ (h : Held). record c.args.self.now.line { held = h }) (ap (λ t. t.held) whole);
+    }
