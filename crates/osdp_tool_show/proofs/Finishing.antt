@@ -5,9 +5,7 @@ use Rattle.std.proofs.KnownBytes.{Appends-kept}
 use Rattle.osdp_tool_input.specs.declared.form.Form.{Form}
 use Rattle.osdp_tool_streams.specs.FinalAnswer.{final_answer_of}
 use Rattle.osdp_tool_streams.specs.declared.fault.ToolFault.{ToolFault}
-use Rattle.osdp_tool_streams.specs.declared.fault.ToolFault.TheVariants.{NotHex, TooLong, BadWords, BadStep}
-use Rattle.osdp_tool_streams.specs.declared.fault.ToolFault.TheVariants.{HoldsPacket, NotQuiet, ReadFailed}
-use Rattle.osdp_tool_streams.specs.declared.fault.ToolFault.TheVariants.{WriteFailed, NoMemory}
+use Rattle.osdp_tool_streams.specs.declared.fault.ToolFault.TheVariants.{NotHex, TooLong, ReadFailed, WriteFailed, NoMemory}
 use Rattle.osdp_tool_show.specs.Shown.{shown, shown_so_far}
 use Rattle.osdp_tool_show.specs.Ending.{streamed, Ends, EndsPartWay}
 use Rattle.osdp_tool_show.specs.Works.{Works}
@@ -60,7 +58,7 @@ read_all ib ia read h = subst (Consumes ib ia) (sym (append-nil read)) h
 within_one : (limit : ℕ) (read : List ℕ) → length read ≤ limit → length (read ++ []) ≤ limit + 1
 within_one limit read h = subst (λ (l : List ℕ). length l ≤ limit + 1) (sym (append-nil read)) (omega arith)
 
-pub ends_final : (full : Bool) (form : Form) (limit : ℕ) (start middle written ib ia : Option (List ℕ)) (input_failed was failed : Bool) (answer : Result Bool ToolFault)
+ends_final : (full : Bool) (form : Form) (limit : ℕ) (start middle written ib ia : Option (List ℕ)) (input_failed was failed : Bool) (answer : Result Bool ToolFault)
     → Works full form limit (streamed ib ia input_failed) (streamed start middle was) answer → Keeps middle written → (was ≡ true → failed ≡ true)
     → Ends full form limit (streamed ib ia input_failed) (streamed start written failed) (final_answer_of input_failed failed answer)
 ends_final full form limit start middle written ib ia true was failed (Ok refused) e k stays = let well = e.input_well in cc
@@ -81,10 +79,6 @@ ends_final full form limit start middle written ib ia true was failed (Err ReadF
     still_well true well stays = let h = stays refl in cc
 ends_final full form limit start middle written ib ia true was failed (Err WriteFailed) e k stays = let well = e.0 in cc
 ends_final full form limit start middle written ib ia true was failed (Err NoMemory) e k stays = let well = e.0 in cc
-ends_final full form limit start middle written ib ia input_failed was failed (Err BadWords) e k stays = absurd e
-ends_final full form limit start middle written ib ia input_failed was failed (Err (BadStep line)) e k stays = absurd e
-ends_final full form limit start middle written ib ia input_failed was failed (Err (HoldsPacket step)) e k stays = absurd e
-ends_final full form limit start middle written ib ia input_failed was failed (Err (NotQuiet step)) e k stays = absurd e
 ends_final full form limit start middle written ib ia false was true (Ok refused) e k stays = (
   refl,
   refl,
@@ -148,3 +142,13 @@ ends_final full form limit start middle written ib ia false was false (Err ReadF
 ends_final full form limit start middle written ib ia false was false (Err WriteFailed) e k stays = let ill = stays e.1 in cc
 ends_final full form limit start middle written ib ia false was false (Err NoMemory) e k stays =
     (refl, refl, part_kept full form limit start middle written ib ia false was false e.1 k)
+ends_final full form limit start middle written ib ia input_failed was failed (Err fault) e k stays = absurd e
+
+-- the answer of the call is the one that was settled
+pub ends_finished : (full : Bool) (form : Form) (limit : ℕ) (start middle written ib ia : Option (List ℕ)) (input_failed was failed : Bool) (answer final : Result Bool ToolFault)
+    → final ≡ final_answer_of input_failed failed answer
+    → Works full form limit (streamed ib ia input_failed) (streamed start middle was) answer → Keeps middle written → (was ≡ true → failed ≡ true)
+    → Ends full form limit (streamed ib ia input_failed) (streamed start written failed) final
+ends_finished full form limit start middle written ib ia input_failed was failed answer final is e k stays =
+    subst (λ r. Ends full form limit (streamed ib ia input_failed) (streamed start written failed) r) (sym is)
+    (ends_final full form limit start middle written ib ia input_failed was failed answer e k stays)

@@ -140,28 +140,24 @@ same_items run place (x ∷ xs) (y ∷ ys) rs ss room more low short hx hy hr hs
     rest later in
     ((λ i. line.2 i ∷ more_items.0 i), more_items.1)
 
+-- an item has a line
+some_text : (run : ℕ) (x : RunItem) (xs : List RunItem) (rs : List (List RunItem)) → readings_text true run ((x ∷ xs) ∷ rs) ≡ [] → ⊥
+some_text run x xs rs e = omega (
+  arith,
+  ap length e,
+  some_line run 0 x,
+  length-append (item_line run 0 x) (items_text true run (0 + item_size x) xs),
+  length-append (items_text true run 0 (x ∷ xs)) (readings_text true (run + 1) rs),
+)
+
 same_readings : (run : ℕ) (rs ss : List (List RunItem)) → run + length rs ≤ 2 ^ 64 → run + length ss ≤ 2 ^ 64
     → AllByRecursion Fits rs → AllByRecursion Fits ss
     → readings_text true run rs ≡ readings_text true run ss → rs ≡ ss
 same_readings run [] [] room more hr hs e = refl
 same_readings run [] ([] ∷ ss) room more hr hs e = let some = hs.0.some in absurd (omega arith)
 same_readings run ([] ∷ rs) ss room more hr hs e = let some = hr.0.some in absurd (omega arith)
-same_readings run [] ((y ∷ ys) ∷ ss) room more hr hs e =
-    let none = ap length e in
-    absurd (omega (
-      arith,
-      some_line run 0 y,
-      length-append (item_line run 0 y) (items_text true run (0 + item_size y) ys),
-      length-append (items_text true run 0 (y ∷ ys)) (readings_text true (run + 1) ss),
-    ))
-same_readings run ((x ∷ xs) ∷ rs) [] room more hr hs e =
-    let none = ap length e in
-    absurd (omega (
-      arith,
-      some_line run 0 x,
-      length-append (item_line run 0 x) (items_text true run (0 + item_size x) xs),
-      length-append (items_text true run 0 (x ∷ xs)) (readings_text true (run + 1) rs),
-    ))
+same_readings run [] ((y ∷ ys) ∷ ss) room more hr hs e = absurd (some_text run y ys ss (sym e))
+same_readings run ((x ∷ xs) ∷ rs) [] room more hr hs e = absurd (some_text run x xs rs e)
 same_readings run (xs ∷ rs) (ys ∷ ss) room more hr hs e =
     let size = hr.0.size in
     let other = hs.0.size in

@@ -9,15 +9,17 @@ use Rattle.std.proofs.lemmas.List.Filters.{length-filter_both}
 use Rattle.osdp_tool_show.specs.Feeds.{HasLine}
 use Rattle.osdp_frame.specs.Bytes.{AreBytes}
 use Rattle.osdp_frame.specs.Reading.{total_size}
-use Rattle.osdp_frame_laws.proofs.Readings.{decided_nothing, items_undecided}
+use Rattle.osdp_frame_laws.proofs.LawsOfSpellings.{AreBytes-nil}
+use Rattle.osdp_frame_laws.proofs.LeftOver.{items_nothing, left_nothing}
 use Rattle.osdp_frame.specs.Held.{Held, new_run}
-use Rattle.osdp_frame.specs.Items.{left_over}
+use Rattle.osdp_frame.specs.Items.{items, left_over}
 use Rattle.osdp_tool_input.specs.declared.form.Form.{Form}
 use Rattle.osdp_tool_input.specs.declared.form.Form.TheVariants.{Raw, Joined, Apart}
 use Rattle.osdp_tool_input.specs.Cut.{ended_after, unended_after, line_feed, ended_lines, unended_line, IsLine}
 use Rattle.osdp_tool_input.specs.Line.{is_blank, kept, said}
 use Rattle.osdp_tool_input.specs.Runs.{good_front, bad_line, ended_runs, open_run, first_bad_ended}
 use Rattle.osdp_tool_input.proofs.FormLemmas.{ended_lines-hold, unended_line-hold, ended_lines-feed, unended_line-feed, kept-append, hold_runs, feed_joined, feed_apart, feed_bad}
+use Rattle.osdp_tool_input.proofs.Lengths.{said_short}
 use Rattle.osdp_tool_lines.specs.Tally.{no_tally, counted, tally_after_all}
 use Rattle.osdp_tool_lines.specs.Told.{shown_lines, after_runs, runs_lines, tally_so_far, lines_so_far}
 use Rattle.osdp_tool_lines.proofs.Lines.{tally_after_all-nil, shown_lines-nil}
@@ -29,17 +31,13 @@ use Rattle.osdp_tool_show.specs.Capture.{load, LineStands, OpenLine, Follows, St
 -- one piece after another
 pub took_both : (xs ys : List ℕ) (good : Bool) (a b c : Capture) (before middle after : Option (List ℕ))
     → TookPiece xs true a b before middle → TookPiece ys good b c middle after → TookPiece (xs ++ ys) good a c before after
-took_both xs ys good a b c before middle after first second =
-    let lengths = length-append xs ys in
-    let p = first.load_is in
-    let q = second.load_is in
-    record {
-      follows = λ full form start read f.
-          subst (λ l. FollowsIf good full form start l c after) (append_assoc read xs ys) (second.follows full form start (read ++ xs) (first.follows full form start read f));
-      settled = second.settled;
-      form_is = second.form_is ∙ first.form_is;
-      load_is = omega arith;
-    }
+took_both xs ys good a b c before middle after first second = record {
+  follows = λ full form start read f.
+      subst (λ l. FollowsIf good full form start l c after) (append_assoc read xs ys) (second.follows full form start (read ++ xs) (first.follows full form start read f));
+  settled = second.settled;
+  form_is = second.form_is ∙ first.form_is;
+  load_is = omega (arith, first.load_is, second.load_is, length-append xs ys);
+}
 
 pub took_nothing : (a : Capture) (before : Option (List ℕ)) → IsSettled a.framer → TookPiece [] true a a before before
 took_nothing a before settled = record {
@@ -47,6 +45,23 @@ took_nothing a before settled = record {
   settled = settled;
   form_is = refl;
   load_is = omega arith;
+}
+
+-- a capture of one form that goes on
+in_form : (kind : Form) (piece : List ℕ) (old new : Capture) (before after : Option (List ℕ)) → old.form ≡ kind → new.form ≡ old.form → IsSettled new.framer
+    → load new ≤ load old + 5 * length piece
+    → ((full : Bool) (start : Option (List ℕ)) (read : List ℕ) → Follows full kind start read old before
+    → Stands full start (ended_runs kind (read ++ piece)) (open_run kind (read ++ piece)) new.framer new.report after × OpenLine kind (read ++ piece) new
+    × (first_bad_ended kind (read ++ piece) ≡ None))
+    → TookPiece piece true old new before after
+in_form kind piece old new before after is form_is settled load_is goes_on = record {
+  follows = λ full form start read f.
+      let same : kind ≡ form = sym is ∙ f.form_is in
+      let here = goes_on full start read (subst (λ x. Follows full x start read old before) (sym same) f) in
+      subst (λ x. Follows full x start (read ++ piece) new after) same (record { form_is = form_is ∙ is; stands = here.0; open_line = here.1; good = here.2 });
+  settled = settled;
+  form_is = form_is;
+  load_is = load_is;
 }
 
 -- ---- bytes of one run
@@ -57,23 +72,7 @@ pub took_raw : (piece : List ℕ) (old new : Capture) (before after : Option (Li
 took_raw piece old new before after raw form_is line_is ended_is t =
     let counts = t.counts in
     let line_count : length new.line.items ≡ length old.line.items = ap (λ v. length v.items) line_is in
-    record {
-      follows = λ full form start read f. by_form full form start read f (sym f.form_is ∙ raw);
-      settled = t.settled;
-      form_is = form_is;
-      load_is = omega arith;
-    }
-  where
-    by_form : (full : Bool) (form : Form) (start : Option (List ℕ)) (read : List ℕ) → Follows full form start read old before → form ≡ Raw
-        → Follows full form start (read ++ piece) new after
-    by_form full Raw start read f is = record {
-      form_is = form_is ∙ f.form_is;
-      stands = t.stands full start [] read f.stands;
-      open_line = tt;
-      good = refl;
-    }
-    by_form full Joined start read f is = cc
-    by_form full Apart start read f is = cc
+    in_form Raw piece old new before after raw form_is t.settled (omega arith) (λ full start read f. (t.stands full start [] read f.stands, tt, refl))
 
 -- ---- part of a line
 
@@ -96,16 +95,16 @@ held_line piece old new before whole lines settled form_is ended_is framer_is re
       load_is = omega arith;
     }
   where
+    held : (read : List ℕ) → LineStands read old → LineStands (read ++ piece) new
+    held read o = record {
+      line = line_is ∙ ap (λ l. l ++ kept piece) o.line ∙ sym (ap kept (unended_line-hold read piece whole) ∙ kept-append (unended_line read) piece);
+      count = ended_is ∙ o.count ∙ ap length (sym (ended_lines-hold read piece whole));
+    }
+
     line_goes_on : (form : Form) (read : List ℕ) → OpenLine form read old → OpenLine form (read ++ piece) new
     line_goes_on Raw read o = tt
-    line_goes_on Joined read o = record {
-      line = line_is ∙ ap (λ l. l ++ kept piece) o.line ∙ sym (ap kept (unended_line-hold read piece whole) ∙ kept-append (unended_line read) piece);
-      count = ended_is ∙ o.count ∙ ap length (sym (ended_lines-hold read piece whole));
-    }
-    line_goes_on Apart read o = record {
-      line = line_is ∙ ap (λ l. l ++ kept piece) o.line ∙ sym (ap kept (unended_line-hold read piece whole) ∙ kept-append (unended_line read) piece);
-      count = ended_is ∙ o.count ∙ ap length (sym (ended_lines-hold read piece whole));
-    }
+    line_goes_on Joined read o = held read o
+    line_goes_on Apart read o = held read o
 
     goes_on : (full : Bool) (form : Form) (start : Option (List ℕ)) (read : List ℕ) → Follows full form start read old before
         → (ended_runs form (read ++ piece) ≡ ended_runs form read) × (open_run form (read ++ piece) ≡ open_run form read)
@@ -124,10 +123,10 @@ held_line piece old new before whole lines settled form_is ended_is framer_is re
 
 -- ---- the end of a line
 
-pub says_bytes : (o : Option (List ℕ)) (good : Bool) (bytes : List ℕ) → MatchOption o (good ≡ false) (λ read. (good ≡ true) × (bytes ≡ read))
-    → good ≡ true → o ≡ Some bytes
-says_bytes None good bytes h e = cc
-says_bytes (Some read) good bytes h e = ap Some (sym h.1)
+pub says_bytes : (o : Option (List ℕ)) (good : Bool) (bytes value : List ℕ) → MatchOption o (good ≡ false) (λ read. (good ≡ true) × (bytes ≡ read))
+    → good ≡ true → value ≡ bytes → o ≡ Some value
+says_bytes None good bytes value h e is = cc
+says_bytes (Some read) good bytes value h e is = ap Some (sym h.1 ∙ sym is)
 
 pub says_none : (o : Option (List ℕ)) (good : Bool) (bytes : List ℕ) → MatchOption o (good ≡ false) (λ read. (good ≡ true) × (bytes ≡ read))
     → good ≡ false → o ≡ None
@@ -142,59 +141,35 @@ fed_line read old new o line_is ended_is = record {
 }
 
 pub fed_joined : (bytes : List ℕ) (old new : Capture) (before after : Option (List ℕ)) → old.form ≡ Joined → new.form ≡ old.form
-    → said old.line.items ≡ Some bytes → length bytes ≤ length old.line.items → new.line.items ≡ [] → new.ended ≡ old.ended + 1
+    → said old.line.items ≡ Some bytes → new.line.items ≡ [] → new.ended ≡ old.ended + 1
     → Took bytes old.framer new.framer old.report new.report before after → TookPiece (line_feed ∷ []) true old new before after
-fed_joined bytes old new before after joined form_is says short line_is ended_is t =
+fed_joined bytes old new before after joined form_is says line_is ended_is t =
     let counts = t.counts in
+    let short = said_short old.line.items bytes says in
     let none : length new.line.items ≡ 0 = ap length line_is in
-    record {
-      follows = λ full form start read f. by_form full form start read f (sym f.form_is ∙ joined);
-      settled = t.settled;
-      form_is = form_is;
-      load_is = omega arith;
-    }
-  where
-    by_form : (full : Bool) (form : Form) (start : Option (List ℕ)) (read : List ℕ) → Follows full form start read old before → form ≡ Joined
-        → Follows full form start (read ++ line_feed ∷ []) new after
-    by_form full Raw start read f is = cc
-    by_form full Joined start read f is =
-        let fed = feed_joined read bytes f.good (ap said (sym f.open_line.line) ∙ says) in
-        record {
-          form_is = form_is ∙ f.form_is;
-          stands = subst (λ r. Stands full start [] r new.framer new.report after) (sym fed.0) (t.stands full start [] (open_run Joined read) f.stands);
-          open_line = fed_line read old new f.open_line line_is ended_is;
-          good = fed.1;
-        }
-    by_form full Apart start read f is = cc
+    in_form Joined (line_feed ∷ []) old new before after joined form_is t.settled (omega arith) (λ full start read f.
+    let fed = feed_joined read bytes f.good (ap said (sym f.open_line.line) ∙ says) in (
+      subst (λ r. Stands full start [] r new.framer new.report after) (sym fed.0) (t.stands full start [] (open_run Joined read) f.stands),
+      fed_line read old new f.open_line line_is ended_is,
+      fed.1,
+    ))
 
 pub fed_apart : (bytes : List ℕ) (old mid new : Capture) (before middle after : Option (List ℕ)) → old.form ≡ Apart → new.form ≡ old.form
-    → said old.line.items ≡ Some bytes → length bytes ≤ length old.line.items → new.line.items ≡ [] → new.ended ≡ old.ended + 1
+    → said old.line.items ≡ Some bytes → new.line.items ≡ [] → new.ended ≡ old.ended + 1
     → Took bytes old.framer mid.framer old.report mid.report before middle
     → EndedRun mid.framer new.framer mid.report new.report middle after → TookPiece (line_feed ∷ []) true old new before after
-fed_apart bytes old mid new before middle after apart form_is says short line_is ended_is t e =
+fed_apart bytes old mid new before middle after apart form_is says line_is ended_is t e =
     let counts = t.counts in
     let more = e.counts in
+    let short = said_short old.line.items bytes says in
     let none : length new.line.items ≡ 0 = ap length line_is in
-    record {
-      follows = λ full form start read f. by_form full form start read f (sym f.form_is ∙ apart);
-      settled = e.settled;
-      form_is = form_is;
-      load_is = omega arith;
-    }
-  where
-    by_form : (full : Bool) (form : Form) (start : Option (List ℕ)) (read : List ℕ) → Follows full form start read old before → form ≡ Apart
-        → Follows full form start (read ++ line_feed ∷ []) new after
-    by_form full Raw start read f is = cc
-    by_form full Joined start read f is = cc
-    by_form full Apart start read f is =
-        let fed = feed_apart read bytes f.good (ap said (sym f.open_line.line) ∙ says) in
-        record {
-          form_is = form_is ∙ f.form_is;
-          stands = subst (λ r. Stands full start r [] new.framer new.report after) (sym fed.0)
-              (e.stands full start (ended_runs Apart read) bytes (t.stands full start (ended_runs Apart read) [] f.stands));
-          open_line = fed_line read old new f.open_line line_is ended_is;
-          good = fed.1;
-        }
+    in_form Apart (line_feed ∷ []) old new before after apart form_is e.settled (omega arith) (λ full start read f.
+    let fed = feed_apart read bytes f.good (ap said (sym f.open_line.line) ∙ says) in (
+      subst (λ r. Stands full start r [] new.framer new.report after) (sym fed.0)
+          (e.stands full start (ended_runs Apart read) bytes (t.stands full start (ended_runs Apart read) [] f.stands)),
+      fed_line read old new f.open_line line_is ended_is,
+      fed.1,
+    ))
 
 pub fed_bad : (old new : Capture) (now : Option (List ℕ)) → (old.form ≡ Raw → ⊥) → IsSettled old.framer → new.form ≡ old.form
     → said old.line.items ≡ None → new.line.items ≡ [] → new.ended ≡ old.ended + 1 → new.framer ≡ old.framer → new.report ≡ old.report
@@ -232,33 +207,31 @@ fed_bad old new now lines settled form_is says line_is ended_is framer_is report
 
 -- ---- the beginning
 
-left_none : left_over [] ≡ []
-unfolding left_over
-left_none = ap (λ l. drop (total_size l) []) (items_undecided false [] (decided_nothing false))
+none_counted : tally_after_all no_tally (items false []) ≡ no_tally
+none_counted = ap (tally_after_all no_tally) (items_nothing false) ∙ tally_after_all-nil no_tally
+
+none_shown : (full : Bool) → shown_lines full no_tally (items false []) ≡ []
+none_shown full = ap (shown_lines full no_tally) (items_nothing false) ∙ shown_lines-nil full no_tally
 
 nothing_counted : (form : Form) → tally_so_far (ended_runs form []) (open_run form []) ≡ no_tally
 unfolding good_front ended_after after_runs
-nothing_counted Raw = ap (tally_after_all no_tally) (items_undecided false [] (decided_nothing false)) ∙ tally_after_all-nil no_tally
-nothing_counted Joined = ap (tally_after_all no_tally) (items_undecided false [] (decided_nothing false)) ∙ tally_after_all-nil no_tally
-nothing_counted Apart = ap (tally_after_all no_tally) (items_undecided false [] (decided_nothing false)) ∙ tally_after_all-nil no_tally
+nothing_counted Raw = none_counted
+nothing_counted form = none_counted
 
 nothing_shown : (full : Bool) (form : Form) → lines_so_far full (ended_runs form []) (open_run form []) ≡ []
 unfolding good_front ended_after after_runs runs_lines
-nothing_shown full Raw = ap (shown_lines full no_tally) (items_undecided false [] (decided_nothing false)) ∙ shown_lines-nil full no_tally
-nothing_shown full Joined = ap (shown_lines full no_tally) (items_undecided false [] (decided_nothing false)) ∙ shown_lines-nil full no_tally
-nothing_shown full Apart = ap (shown_lines full no_tally) (items_undecided false [] (decided_nothing false)) ∙ shown_lines-nil full no_tally
+nothing_shown full Raw = none_shown full
+nothing_shown full form = none_shown full
 
 nothing_open : (form : Form) → open_run form [] ≡ []
 unfolding good_front ended_after
 nothing_open Raw = refl
-nothing_open Joined = refl
-nothing_open Apart = refl
+nothing_open form = refl
 
 pub nothing_bad : (form : Form) → first_bad_ended form [] ≡ None
 unfolding bad_line ended_after
 nothing_bad Raw = refl
-nothing_bad Joined = refl
-nothing_bad Apart = refl
+nothing_bad form = refl
 
 pub told_nothing : (full : Bool) (form : Form) (start : Option (List ℕ)) → Appends start start (lines_so_far full (ended_runs form []) (open_run form []))
 told_nothing full form start = subst (Appends start start) (sym (nothing_shown full form)) (Appends-nil start)
@@ -266,9 +239,6 @@ told_nothing full form start = subst (Appends start start) (sym (nothing_shown f
 append_nothing : (start : Option (List ℕ)) → append_known start [] ≡ start
 append_nothing None = refl
 append_nothing (Some x) = ap Some (append-nil x)
-
-no_bytes : (place : ℕ) → get_or [] place 0 < 256
-no_bytes place = subst (λ (n : ℕ). n < 256) (sym (get_or_past [] place 0 (omega arith))) (omega arith)
 
 none_unended : unended_line [] ≡ []
 unfolding unended_after
@@ -286,8 +256,8 @@ begins full capture start line ended framer full_is tally text = record {
   stands = record {
     full_is = full_is;
     tally = tally ∙ sym (nothing_counted capture.form);
-    held_is = framer ∙ ap (λ (l : List ℕ). record { bytes = l; ended = false }) (sym (ap left_over (nothing_open capture.form) ∙ left_none));
-    bytes = subst AreBytes (sym (nothing_open capture.form)) no_bytes;
+    held_is = framer ∙ ap (λ (l : List ℕ). record { bytes = l; ended = false }) (sym (ap left_over (nothing_open capture.form) ∙ left_nothing));
+    bytes = subst AreBytes (sym (nothing_open capture.form)) AreBytes-nil;
     lines = subst (λ (now : Option (List ℕ)). Appends start now (lines_so_far full (ended_runs capture.form []) (open_run capture.form [])))
         (sym (ap (append_known start) text ∙ append_nothing start)) (told_nothing full capture.form start);
   };

@@ -1,7 +1,7 @@
 -- The text of readings, and the lines that are counted on the way.
 use Rattle.std.proofs.Common.{◌≡◌, ℕ, zero, suc, drop, length-drop, ◌+◌, ◌<◌, ◌≤◌, not, Bool, true, false, cond, nat_lt, List, [], ◌∷◌, ◌++◌, length, Option, Some, None, ◌⊎◌, inl, inr, refl, sym, subst, ap, ◌∙◌, arith, zero-add}
 use Rattle.std.proofs.lemmas.Bool.{ne_eqb}
-use Rattle.std.proofs.lemmas.List.{get_or_past}
+use Rattle.std.proofs.lemmas.List.{nil_from_length}
 use Rattle.std.specs.Prelude.{flat_map, count_by}
 use Rattle.std.proofs.lemmas.List.Sums.{sum_by-append, sum_by-cons}
 use Rattle.std.specs.List.{AllByRecursion, concat}
@@ -12,6 +12,7 @@ use Rattle.osdp_frame.specs.Items.{items, reading, Drains}
 use Rattle.osdp_frame.specs.Held.{decided}
 use Rattle.osdp_frame.proofs.Head.{AreBytes-drop}
 use Rattle.osdp_frame.proofs.Decided.{first_decided, undecided_none}
+use Rattle.osdp_frame_laws.proofs.LawsOfSpellings.{AreBytes-append, AreBytes-nil}
 use Rattle.osdp_frame_laws.proofs.Readings.{is_reading, reading_is, sizes_reading, drained_items, decided_nothing, items_undecided, items_decided, item_size-positive, item_size-decided}
 use Rattle.osdp_tool_input.specs.declared.form.Form.{Form}
 use Rattle.osdp_tool_input.specs.declared.form.Form.TheVariants.{Raw, Joined, Apart}
@@ -27,7 +28,6 @@ use Rattle.osdp_tool_lines.specs.Told.{shown_line, shown_lines, after_runs, runs
 use Rattle.osdp_tool_lines.proofs.Lines.{after_runs-place}
 use Rattle.osdp_tool_show.specs.Shown.{shown, shown_so_far, is_refused_input, tally_of}
 use Rattle.osdp_tool_show.specs.Told.{Say, Says, SaysSoFar, HasRuns, HasRunsSoFar, AreReadings, items_text, readings_text, is_packet, is_skipped, count_items, counts_text}
-use Rattle.osdp_tool_show.proofs.Standing.{AreBytes-append}
 
 -- ---- the lines of a run's items
 
@@ -81,17 +81,12 @@ unfolding tally_after_all
 parts_counted tally [] = record { runs = refl; place = omega arith; packets = omega arith; skipped = omega arith; refused = omega arith }
 parts_counted tally (part ∷ parts) =
     let rest = parts_counted (tally_after tally part) parts in
-    let runs = rest.runs in
-    let place = rest.place in
-    let packets = rest.packets in
-    let skipped = rest.skipped in
-    let refused = rest.refused in
     record {
-      runs = omega (arith, tally_after-runs tally part);
-      place = omega (arith, tally_after-place tally part);
-      packets = omega (arith, tally_after-packets tally part, count_one is_packet part parts);
-      skipped = omega (arith, tally_after-skipped tally part, count_one is_skipped part parts);
-      refused = omega (arith, tally_after-refused tally part, count_one is_refusal part parts);
+      runs = omega (arith, rest.runs, tally_after-runs tally part);
+      place = omega (arith, rest.place, tally_after-place tally part);
+      packets = omega (arith, rest.packets, tally_after-packets tally part, count_one is_packet part parts);
+      skipped = omega (arith, rest.skipped, tally_after-skipped tally part, count_one is_skipped part parts);
+      refused = omega (arith, rest.refused, tally_after-refused tally part, count_one is_refusal part parts);
     }
 
 -- ---- run after run
@@ -157,19 +152,11 @@ runs_counted tally (run ∷ runs) [] has r = absurd r
 runs_counted tally (run ∷ runs) (parts ∷ readings) has r =
     let c = run_counted tally run parts has.0 r.0 in
     let rest = runs_counted (after_run (tally_after_all tally (reading run))) runs readings has.1 r.1 in
-    let a = rest.runs in
-    let b = rest.packets in
-    let d = rest.skipped in
-    let e = rest.refused in
-    let f = c.runs in
-    let g = c.packets in
-    let h = c.skipped in
-    let i = c.refused in
     record {
-      runs = omega arith;
-      packets = omega (arith, count_readings is_packet parts readings);
-      skipped = omega (arith, count_readings is_skipped parts readings);
-      refused = omega (arith, count_readings is_refusal parts readings);
+      runs = omega (arith, rest.runs, c.runs);
+      packets = omega (arith, rest.packets, c.packets, count_readings is_packet parts readings);
+      skipped = omega (arith, rest.skipped, c.skipped, count_readings is_skipped parts readings);
+      refused = omega (arith, rest.refused, c.refused, count_readings is_refusal parts readings);
     }
 
 -- ---- the runs of an input
@@ -182,7 +169,7 @@ some_bytes ((b ∷ run) ∷ runs) h =
     ((omega arith, h.0), some_bytes runs h.1)
 
 concat_bytes : (runs : List (List ℕ)) → AllByRecursion AreBytes runs → AreBytes (concat runs)
-concat_bytes [] h = λ place. subst (λ (n : ℕ). n < 256) (sym (get_or_past [] place 0 (omega arith))) (omega arith)
+concat_bytes [] h = AreBytes-nil
 concat_bytes (run ∷ runs) h = AreBytes-append run (concat runs) h.0 (concat_bytes runs h.1)
 
 say_good : (lines good : List (List ℕ)) → Say lines good → good ≡ good_front lines
@@ -284,9 +271,6 @@ are_so_far Raw bytes = (refl, refl)
 are_so_far Joined bytes = (good_front (ended_lines bytes), good_says_so_far bytes, refl, refl)
 are_so_far Apart bytes = (good_front (ended_lines bytes), good_says_so_far bytes, refl, refl)
 
-none_are_bytes : AreBytes []
-none_are_bytes = λ place. subst (λ (n : ℕ). n < 256) (sym (get_or_past [] place 0 (omega arith))) (omega arith)
-
 ended_have_bytes : (form : Form) (bytes : List ℕ) → AllByRecursion HasBytes (ended_runs form bytes)
 ended_have_bytes Raw bytes = tt
 ended_have_bytes Joined bytes = tt
@@ -295,12 +279,12 @@ ended_have_bytes Apart bytes = some_bytes (good_front (ended_lines bytes)) (good
 open_has_bytes : (form : Form) (bytes : List ℕ) → AreBytes bytes → AreBytes (open_run form bytes)
 open_has_bytes Raw bytes fits = fits
 open_has_bytes Joined bytes fits = concat_bytes (good_front (ended_lines bytes)) (good_front-bytes (ended_lines bytes))
-open_has_bytes Apart bytes fits = none_are_bytes
+open_has_bytes Apart bytes fits = AreBytes-nil
 
 pub lines_have_bytes : (form : Form) → (form ≡ Joined) ⊎ (form ≡ Apart) → (bytes : List ℕ) → AreBytes (open_run form bytes)
 lines_have_bytes Raw is bytes = elim is [ inl j ↦ cc | inr a ↦ cc ]
 lines_have_bytes Joined is bytes = concat_bytes (good_front (ended_lines bytes)) (good_front-bytes (ended_lines bytes))
-lines_have_bytes Apart is bytes = none_are_bytes
+lines_have_bytes Apart is bytes = AreBytes-nil
 
 pub shown_so_far_is : (full : Bool) (form : Form) (bytes : List ℕ) (runs : List (List ℕ)) (open_bytes : List ℕ) (readings : List (List RunItem)) (parts : List RunItem)
     → AreBytes bytes → HasRunsSoFar form bytes runs open_bytes → AreReadings runs readings → Drains false open_bytes parts
@@ -323,13 +307,9 @@ shown_so_far_is full form bytes runs open_bytes readings parts fits has r d =
 
 drain_within : (most : ℕ) (bytes : List ℕ) → AreBytes bytes → length bytes ≤ most → Drains false bytes (items false bytes)
 drain_within zero bytes fits short =
-    let none : bytes ≡ [] = empty bytes (omega arith) in
+    let none : bytes ≡ [] = nil_from_length bytes (omega arith) in
     let is : decided false bytes ≡ None = ap (decided false) none ∙ decided_nothing false in
     subst (Drains false bytes) (sym (items_undecided false bytes is)) (undecided_none false bytes is)
-  where
-    empty : (l : List ℕ) → length l ≡ 0 → l ≡ []
-    empty [] h = refl
-    empty (b ∷ l) h = absurd (omega arith)
 drain_within (suc most) bytes fits short = by_first (decided false bytes) refl
     (λ part is. drain_within most (drop (item_size part) bytes) (AreBytes-drop (item_size part) bytes fits)
     (omega (arith, length-drop (item_size part) bytes, item_size-positive part, item_size-decided false bytes part fits is)))

@@ -19,15 +19,7 @@ use Rattle.osdp_tool_show.proofs.Beginnings.{stops_by}
 
 -- the capture with another report
 abbrev pub with_report : Capture → Report → Capture
-with_report capture report = record {
-  form = capture.form;
-  digits = capture.digits;
-  line = capture.line;
-  bytes = capture.bytes;
-  ended = capture.ended;
-  framer = capture.framer;
-  report = report;
-}
+with_report capture report = record capture { report = report }
 
 stands_kept : (full : Bool) (start before after : Option (List ℕ)) (ended : List (List ℕ)) (bytes : List ℕ) (held : Held) (old new : Report)
     → Stands full start ended bytes held old before → KeepsReport old new → Keeps before after → Stands full start ended bytes held new after

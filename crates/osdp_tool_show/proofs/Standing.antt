@@ -9,9 +9,11 @@ use Rattle.osdp_frame.specs.Bytes.{AreBytes}
 use Rattle.osdp_frame.specs.Reading.{RunItem, total_size}
 use Rattle.osdp_frame.specs.Held.{Held, decided, after_gap, after_push, taken_count}
 use Rattle.osdp_frame.specs.Items.{items, reading, left_over}
-use Rattle.osdp_frame.proofs.Decided.{undecided_none, AreBytes-front}
-use Rattle.osdp_frame.proofs.Head.{AreBytes-drop}
-use Rattle.osdp_frame_laws.proofs.Readings.{decided_nothing, items_undecided, items-append, left_undecided, sizes_reading, is_reading}
+use Rattle.osdp_frame.proofs.Decided.{AreBytes-front}
+use Rattle.osdp_frame.proofs.Head.{AreBytes-drop, AreBytes-take}
+use Rattle.osdp_frame_laws.proofs.LawsOfSpellings.{AreBytes-append, AreBytes-nil}
+use Rattle.osdp_frame_laws.proofs.LeftOver.{gap_items, items_nothing, left_bytes, left_is, left_nothing, left_over-append, reading_split}
+use Rattle.osdp_frame_laws.proofs.Readings.{items-append, left_undecided, sizes_reading, is_reading}
 use Rattle.osdp_tool_input.specs.Runs.{closed_runs, with_bytes}
 use Rattle.osdp_tool_lines.specs.Tally.{no_tally, tally_after_all, after_run, counted}
 use Rattle.osdp_tool_lines.specs.Told.{shown_lines, after_runs, runs_lines, tally_so_far, lines_so_far}
@@ -21,59 +23,9 @@ use Rattle.osdp_tool_show.specs.Machine.{Drained, IsSettled, Stands, Took, Ended
 use Rattle.osdp_tool_show.specs.Written.{StopsWithin}
 use Rattle.osdp_tool_show.proofs.Beginnings.{stops_after, stops_longer}
 
--- ---- bytes
-
-pub AreBytes-append : (xs ys : List ℕ) → AreBytes xs → AreBytes ys → AreBytes (xs ++ ys)
-AreBytes-append xs ys p q place =
-    elim (cases_lt place (length xs)) [
-      | inl lt ↦ subst (λ (b : ℕ). b < 256) (sym (get_or_append_left xs ys 0 place lt)) (p place)
-      | inr le ↦ subst (λ (b : ℕ). b < 256) (sym (get_or-append_right xs ys (length xs) place 0 refl le)) (q (place - length xs))
-    ]
-
 -- ---- a run that goes on
 
-items_nothing : (ended : Bool) → items ended [] ≡ []
-items_nothing ended = items_undecided ended [] (decided_nothing ended)
-
-left_nothing : left_over [] ≡ []
-unfolding left_over
-left_nothing = ap (λ l. drop (total_size l) []) (items_nothing false)
-
-reading_split : (bytes : List ℕ) → AreBytes bytes → reading bytes ≡ items false bytes ++ items true (left_over bytes)
-reading_split bytes fits =
-    ap (items true) (sym (append-nil bytes)) ∙ items-append true bytes [] (subst AreBytes (sym (append-nil bytes)) fits)
-    ∙ ap (λ l. items false bytes ++ items true l) (append-nil (left_over bytes))
-
-total_size-append : (xs ys : List RunItem) → total_size (xs ++ ys) ≡ total_size xs + total_size ys
-total_size-append [] ys = omega arith
-total_size-append (x ∷ xs) ys = omega (arith, total_size-append xs ys)
-
-decided_short : (bytes : List ℕ) → AreBytes bytes → total_size (items false bytes) ≤ length bytes
-decided_short bytes fits =
-    let all = sizes_reading bytes (reading bytes) (is_reading bytes fits) in
-    let parts = ap total_size (reading_split bytes fits) in
-    omega (arith, total_size-append (items false bytes) (items true (left_over bytes)))
-
-left_over-append : (xs ys : List ℕ) → AreBytes (xs ++ ys) → left_over (xs ++ ys) ≡ left_over (left_over xs ++ ys)
-unfolding left_over
-left_over-append xs ys fits =
-    let a = total_size (items false xs) in
-    let rest = drop a xs in
-    let b = total_size (items false (rest ++ ys)) in
-    let both : total_size (items false (xs ++ ys)) ≡ a + b =
-    ap total_size (items-append false xs ys fits) ∙ total_size-append (items false xs) (items false (rest ++ ys)) in
-    ap (λ n. drop n (xs ++ ys)) both ∙ sym (drop-drop b a (xs ++ ys))
-    ∙ ap (drop b) (drop-append-le a xs ys (decided_short xs (AreBytes-front xs ys fits)))
-
-left_bytes : (bytes : List ℕ) → AreBytes bytes → AreBytes (left_over bytes)
-unfolding left_over
-left_bytes bytes fits = AreBytes-drop (total_size (items false bytes)) bytes fits
-
-left_is : (bytes : List ℕ) → drop (total_size (items false bytes)) bytes ≡ left_over bytes
-unfolding left_over
-left_is bytes = refl
-
--- a run that goes on has stands at its items
+-- nothing that it holds is decided
 pub stands_settled : (full : Bool) (start now : Option (List ℕ)) (ended : List (List ℕ)) (bytes : List ℕ) (held : Held) (report : Report)
     → Stands full start ended bytes held report now → IsSettled held
 stands_settled full start now ended bytes held report s = record {
@@ -158,15 +110,6 @@ closed_lines full ended (b ∷ bytes) fits =
     (runs_lines-one full t run ∙ ap (shown_lines full t) (reading_split run fits) ∙ shown_lines-append full t (items false run) (items true (left_over run)))
     ∙ sym (append_assoc (runs_lines full no_tally ended) (shown_lines full t (items false run)) (shown_lines full (tally_so_far ended run) (items true (left_over run))))
 
--- a run of which bytes are held has ended, else nothing is left of it
-gap_items : (bytes : List ℕ) → items (not (length bytes == 0)) bytes ≡ items true bytes
-gap_items [] = items_nothing (not (length {A = ℕ} [] == 0)) ∙ sym (items_nothing true)
-gap_items (b ∷ bytes) = ap (λ t. items (not t) (b ∷ bytes)) (ne_eqb (length (b ∷ bytes)) 0 (λ h. omega arith))
-
-pub gap_some : (bytes : List ℕ) → not (length bytes == 0) ≡ true → 0 < length bytes
-gap_some [] h = cc
-gap_some (b ∷ bytes) h = omega arith
-
 nothing_left : (bytes : List ℕ) → AreBytes bytes → drop (total_size (items (not (length bytes == 0)) bytes)) bytes ≡ []
 nothing_left bytes fits =
     let sizes = sizes_reading bytes (items true bytes) (is_reading bytes fits) in
@@ -192,41 +135,12 @@ stands_end full start before after ended bytes held next old mid new s d same ta
       full_is = same ∙ d.tells.full ∙ s.full_is;
       tally = tally ∙ ap after_run mid_is ∙ sym (closed_tally ended bytes s.bytes);
       held_is = d.held ∙ ap (λ (l : List ℕ). record { bytes = l; ended = false }) (nothing_left held.bytes settled.bytes ∙ sym left_nothing);
-      bytes = λ place. get_or_none place;
+      bytes = AreBytes-nil;
       lines = subst (Appends start after) (sym (closed_lines full ended bytes s.bytes))
           (Appends-trans start before after (lines_so_far full ended bytes) _ s.lines (subst (Appends before after) lines_are d.tells.lines));
     }
-  where
-    get_or_none : (place : ℕ) → get_or [] place 0 < 256
-    get_or_none place = subst (λ (n : ℕ). n < 256) (sym (get_or_past [] place 0 (omega arith))) (omega arith)
 
 -- ---- piece by piece
-
-undecided_small : (bytes : List ℕ) → decided false bytes ≡ None → length bytes < 1440
-undecided_small bytes none = elim (undecided_none false bytes none) [
-  | inl nil ↦ omega (arith, ap length nil)
-  | inr u ↦ elim u.2 [ inl few ↦ omega arith | inr count ↦ omega arith ]
-]
-
-min_some : (m n : ℕ) → 0 < m → 0 < n → 0 < min m n
-min_some m n p q = omega arith
-
--- something is taken where nothing that is held is decided
-pub took_some : (held : Held) (given : List ℕ) → IsSettled held → 0 < length given → 0 < taken_count held given
-took_some held given s some =
-    let small = undecided_small held.bytes s.none in
-    subst (λ (e : Bool). 0 < cond e 0 (min (length given) (1440 - length held.bytes))) (sym s.goes_on)
-    (min_some (length given) (1440 - length held.bytes) some (omega arith))
-
-pub took_within : (held : Held) (given : List ℕ) → taken_count held given ≤ length given
-took_within held given = by_ended held.ended
-  where
-    by_ended : (e : Bool) → cond e 0 (min (length given) (1440 - length held.bytes)) ≤ length given
-    by_ended true = omega arith
-    by_ended false = omega arith
-
-pub AreBytes-take : (n : ℕ) (bytes : List ℕ) → AreBytes bytes → AreBytes (take n bytes)
-AreBytes-take n bytes fits = AreBytes-front (take n bytes) (drop n bytes) (subst AreBytes (sym (take-append-drop n bytes)) fits)
 
 pub took_start : (held : Held) (old : Report) (before : Option (List ℕ)) → IsSettled held → Took [] held held old old before before
 took_start held old before settled = record {

@@ -11,9 +11,7 @@ use Rattle.osdp_tool_input.proofs.FormLemmas.{bad_stays}
 use Rattle.osdp_tool_lines.specs.Tally.{no_tally}
 use Rattle.osdp_tool_lines.specs.Told.{after_runs, runs_lines, end_line}
 use Rattle.osdp_tool_streams.specs.declared.fault.ToolFault.{ToolFault}
-use Rattle.osdp_tool_streams.specs.declared.fault.ToolFault.TheVariants.{NotHex, TooLong, BadWords, BadStep}
-use Rattle.osdp_tool_streams.specs.declared.fault.ToolFault.TheVariants.{HoldsPacket, NotQuiet, ReadFailed}
-use Rattle.osdp_tool_streams.specs.declared.fault.ToolFault.TheVariants.{WriteFailed, NoMemory}
+use Rattle.osdp_tool_streams.specs.declared.fault.ToolFault.TheVariants.{NotHex, TooLong, ReadFailed, WriteFailed, NoMemory}
 use Rattle.osdp_tool_show.specs.Shown.{shown, shown_so_far, answer_to, is_refused_input, ends_within}
 use Rattle.osdp_tool_show.specs.Ending.{Stream, streamed, Ends, IsWhole, EndsWhole}
 
@@ -133,10 +131,7 @@ whole_by full form limit bytes after failed output (Err TooLong) e well well_too
 whole_by full form limit bytes after failed output (Err ReadFailed) e well well_too memory = let told = e.input_failed in cc
 whole_by full form limit bytes after failed output (Err WriteFailed) e well well_too memory = let told = e.1 in cc
 whole_by full form limit bytes after failed output (Err NoMemory) e well well_too memory = absurd (memory refl)
-whole_by full form limit bytes after failed output (Err BadWords) e well well_too memory = absurd e
-whole_by full form limit bytes after failed output (Err (BadStep line)) e well well_too memory = absurd e
-whole_by full form limit bytes after failed output (Err (HoldsPacket step)) e well well_too memory = absurd e
-whole_by full form limit bytes after failed output (Err (NotQuiet step)) e well well_too memory = absurd e
+whole_by full form limit bytes after failed output (Err fault) e well well_too memory = absurd e
 
 pub ends_whole : (full : Bool) (form : Form) (limit : ℕ) (before after : Option (List ℕ)) (failed : Bool) (output : Stream) (result : Result Bool ToolFault)
     → Ends full form limit (streamed before after failed) output result → EndsWhole full form limit (streamed before after failed) output result

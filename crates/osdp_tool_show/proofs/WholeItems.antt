@@ -1,12 +1,14 @@
 -- Items that need no framer, and pieces of a run one after the other.
 use Rattle.std.proofs.Common.{◌≡◌, ℕ, ◌+◌, ◌≤◌, ◌==◌, not, false, List, [], ◌∷◌, ◌++◌, length, take, drop, take-append-drop, Option, Some, None, refl, sym, subst, ap, ◌∙◌, arith, append_assoc, append-nil, length-append}
 use Rattle.std.proofs.Math.Seq.{take-add}
-use Rattle.std.proofs.lemmas.List.{drop_all, length-take, take-take}
+use Rattle.std.proofs.lemmas.List.{drop_all, length-take, nil_from_length, take-take}
 use Rattle.osdp_frame.specs.Bytes.{AreBytes}
 use Rattle.osdp_frame.specs.Reading.{RunItem, item_size}
 use Rattle.osdp_frame.specs.Held.{Held, decided, by_itself, new_run, after_push, after_gap, after_advance, after_first, taken_count}
-use Rattle.osdp_frame.proofs.Head.{AreBytes-drop}
+use Rattle.osdp_frame.proofs.Head.{AreBytes-drop, AreBytes-take}
 use Rattle.osdp_frame.proofs.FirstItems.{decided_by_itself}
+use Rattle.osdp_frame_laws.proofs.LawsOfSpellings.{AreBytes-append, AreBytes-nil}
+use Rattle.osdp_frame_laws.proofs.LeftOver.{gap_some}
 use Rattle.osdp_frame_laws.proofs.Readings.{decided_nothing, item_size-decided, item_size-positive}
 use Rattle.osdp_tool_show.specs.declared.report.Report.{Report}
 use Rattle.osdp_tool_lines.specs.Tally.{tally_after}
@@ -17,39 +19,33 @@ use Rattle.osdp_tool_show.specs.Machine.{Tells, Drained, IsSettled, Stands, Took
 use Rattle.osdp_tool_show.specs.Written.{StopsWithin}
 use Rattle.osdp_tool_show.proofs.Beginnings.{known_appends, stops_by}
 use Rattle.osdp_tool_show.proofs.Drains.{draining_start, draining_step, draining_end}
-use Rattle.osdp_tool_show.proofs.Standing.{AreBytes-append, AreBytes-take, drained_settled, gap_some, stands_more, stops_longer_run, took_start, took_step}
+use Rattle.osdp_tool_show.proofs.Standing.{drained_settled, stands_more, stops_longer_run, took_start, took_step}
 
 -- a new run is settled
 pub settled_new : IsSettled new_run
 settled_new = record {
-  bytes = λ place. none_at place;
+  bytes = AreBytes-nil;
   goes_on = refl;
   none = decided_nothing false;
 }
-  where
-    none_at : AreBytes []
-    none_at place = omega arith
 
 -- one piece after another
 pub took_more : (xs ys : List ℕ) (start held next : Held) (first old new : Report) (a b c : Option (List ℕ))
     → Took xs start held first old a b → Took ys held next old new b c → Took (xs ++ ys) start next first new a c
-took_more xs ys start held next first old new a b c s t =
-    let front = s.counts in
-    let back = t.counts in
-    record {
-      stands = λ full begin ended open_bytes h.
-          subst (λ l. Stands full begin ended l next new c) (append_assoc open_bytes xs ys) (t.stands full begin ended (open_bytes ++ xs) (s.stands full begin ended open_bytes h));
-      settled = t.settled;
-      counts = omega (arith, length-append xs ys);
-    }
+took_more xs ys start held next first old new a b c s t = record {
+  stands = λ full begin ended open_bytes h.
+      subst (λ l. Stands full begin ended l next new c) (append_assoc open_bytes xs ys) (t.stands full begin ended (open_bytes ++ xs) (s.stands full begin ended open_bytes h));
+  settled = t.settled;
+  counts = omega (arith, s.counts, t.counts, length-append xs ys);
+}
 
-pub took_after : (bytes : List ℕ) (at n m : ℕ) (start held next : Held) (first old new : Report) (a b c : Option (List ℕ)) → n ≤ m
+pub took_after : (bytes : List ℕ) (at n m : ℕ) (start held next : Held) (first old new : Report) (a b c : Option (List ℕ)) → n ≤ length (take m (drop at bytes))
     → Took (take at bytes) start held first old a b → Took (take n (take m (drop at bytes))) held next old new b c
     → Took (take (at + n) bytes) start next first new a c
 took_after bytes at n m start held next first old new a b c there s t =
     subst (λ l. Took l start next first new a c) (sym (take-add at n bytes))
     (took_more (take at bytes) (take n (drop at bytes)) start held next first old new a b c s
-    (subst (λ l. Took l held next old new b c) (take-take n m (drop at bytes) there) t))
+    (subst (λ l. Took l held next old new b c) (take-take n m (drop at bytes) (omega (arith, there, length-take m (drop at bytes)))) t))
 
 -- bytes after those held, of which the items that they decide are told
 pub took_drained : (given : List ℕ) (held next : Held) (old new : Report) (b c : Option (List ℕ)) → AreBytes given → IsSettled held
@@ -108,16 +104,12 @@ item_within bytes at part fits is =
 
 -- ---- the end of a run of which nothing is held
 
-no_bytes : (bytes : List ℕ) → length bytes ≡ 0 → bytes ≡ []
-no_bytes [] h = refl
-no_bytes (b ∷ bytes) h = absurd (omega arith)
-
 pub drained_none : (held : Held) (old : Report) (before : Option (List ℕ)) → IsSettled held → length held.bytes ≡ 0
     → Drained (after_gap held) held old old before before
 drained_none held old before settled none =
     let start = after_gap held in
     let nothing : decided start.ended start.bytes ≡ None =
-    ap (decided start.ended) (no_bytes held.bytes none) ∙ decided_nothing start.ended in
+    ap (decided start.ended) (nil_from_length held.bytes none) ∙ decided_nothing start.ended in
     let open_still : start.ended ≡ held.ended = ap (λ n. not (n == 0)) none ∙ sym settled.goes_on in
     let same : start ≡ held = λ i. record { bytes = held.bytes; ended = open_still i } in
     subst (λ (h : Held). Drained start h old old before before) same

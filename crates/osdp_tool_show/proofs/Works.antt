@@ -1,6 +1,6 @@
 -- A capture that is read to its end.
 use Rattle.std.proofs.Common.{◌≡◌, ℕ, ◌+◌, ◌-◌, ◌≤◌, Bool, true, false, List, [], ◌∷◌, ◌++◌, length, take, drop, take-append-drop, Option, Some, None, Result, Ok, Err, OnOk, OnErr, IfErr, ◌⊎◌, inl, inr, refl, sym, subst, ap, ◌∙◌, arith, append_assoc, append-nil, length-append, length-take}
-use Rattle.std.specs.Prelude.{IsErrAnd}
+use Rattle.std.specs.Prelude.{IsErrAnd, if◌then◌else◌}
 use Rattle.std.specs.Io.KnownBytes.{Appends, Consumes, IsAtEnd, Keeps}
 use Rattle.std.proofs.KnownBytes.{Consumes-kept, Consumes-nil, Consumes-trans}
 use Rattle.std.proofs.KnownBytes.{Appends-nil, Appends-trans, Appends-kept}
@@ -18,11 +18,9 @@ use Rattle.osdp_tool_lines.proofs.Lines.{tally_after_all-nil, shown_lines-nil}
 use Rattle.osdp_tool_show.specs.declared.capture.Capture.{Capture}
 use Rattle.osdp_tool_show.specs.declared.report.Report.{Report}
 use Rattle.osdp_tool_streams.specs.declared.fault.ToolFault.{ToolFault}
-use Rattle.osdp_tool_streams.specs.declared.fault.ToolFault.TheVariants.{NotHex, TooLong, BadWords, BadStep}
-use Rattle.osdp_tool_streams.specs.declared.fault.ToolFault.TheVariants.{HoldsPacket, NotQuiet, ReadFailed}
-use Rattle.osdp_tool_streams.specs.declared.fault.ToolFault.TheVariants.{WriteFailed, NoMemory}
+use Rattle.osdp_tool_streams.specs.declared.fault.ToolFault.TheVariants.{NotHex, WriteFailed, NoMemory}
 use Rattle.osdp_tool_streams.specs.Reading.{ReadsBytes}
-use Rattle.osdp_tool_show.specs.Machine.{IsSettled, IsStep, EndedRun}
+use Rattle.osdp_tool_show.specs.Machine.{IsSettled, IsStep, EndedRun, Stands}
 use Rattle.osdp_tool_show.specs.Written.{IsBeginning, StopsWithin}
 use Rattle.osdp_tool_show.proofs.Beginnings.{begun_all, stops_by}
 use Rattle.osdp_tool_show.specs.Shown.{shown, shown_so_far}
@@ -40,33 +38,34 @@ pub record HasRead (limit left : ℕ) (old new : Capture) (input_before input_af
   pub count : length read + left ≡ limit
   pub took : TookPiece read true old new before after
 
+-- a piece more
+further : (limit left count : ℕ) (buffer : List ℕ) (old mid : Capture) (a b c : Option (List ℕ)) (x y : Option (List ℕ))
+    → ReadsBytes left b c buffer count → (h : HasRead limit left old mid a b x y)
+    → Consumes a c (h.read ++ take count buffer) × (length (h.read ++ take count buffer) + (left - count) ≡ limit) × (length (take count buffer) ≤ length buffer)
+further limit left count buffer old mid a b c x y piece h = (
+  Consumes-trans a b c h.read (take count buffer) h.taken piece.taken,
+  omega (arith, h.count, piece.within, piece.room, length-append h.read (take count buffer), length-take count buffer),
+  omega (arith, piece.room, length-take count buffer),
+)
+
 pub read_more : (limit left count : ℕ) (buffer : List ℕ) (old mid new : Capture) (a b c : Option (List ℕ)) (x y z : Option (List ℕ))
     → ReadsBytes left b c buffer count → HasRead limit left old mid a b x y → TookPiece (take count buffer) true mid new y z
     → HasRead limit (left - count) old new a c x z
 read_more limit left count buffer old mid new a b c x y z piece h took =
-    let was = h.count in
-    let within = piece.within in
-    let room = piece.room in
-    record {
-      read = h.read ++ take count buffer;
-      taken = Consumes-trans a b c h.read (take count buffer) h.taken piece.taken;
-      count = omega (arith, length-append h.read (take count buffer), length-take count buffer);
-      took = took_both h.read (take count buffer) true old mid new x y z h.took took;
-    }
+    let more = further limit left count buffer old mid a b c x y piece h in
+    record { read = h.read ++ take count buffer; taken = more.0; count = more.1; took = took_both h.read (take count buffer) true old mid new x y z h.took took }
 
 pub read_bad : (limit left count : ℕ) (buffer : List ℕ) (old mid new : Capture) (a b c : Option (List ℕ)) (x y z : Option (List ℕ))
     → length buffer ≡ 65536 → ReadsBytes left b c buffer count → HasRead limit left old mid a b x y → TookPart (take count buffer) false mid new y z
     → ReadToBadLine limit old new a c x z
 read_bad limit left count buffer old mid new a b c x y z size piece h took =
-    let was = h.count in
-    let within = piece.within in
-    let room = piece.room in
+    let more = further limit left count buffer old mid a b c x y piece h in
     record {
       earlier = h.read;
       piece = take count buffer;
-      taken = Consumes-trans a b c h.read (take count buffer) h.taken piece.taken;
-      within = omega (arith, length-append h.read (take count buffer), length-take count buffer);
-      one_piece = omega (arith, length-take count buffer);
+      taken = more.0;
+      within = omega (arith, more.1);
+      one_piece = omega (arith, more.2);
       most = took.0;
       mid = mid;
       middle = y;
@@ -78,19 +77,8 @@ pub read_stops : (limit left count : ℕ) (buffer : List ℕ) (old mid : Capture
     → ReadsBytes left b c buffer count → HasRead limit left old mid a b x y → StopsInPiece (take count buffer) mid y now
     → ReadPart limit old a c x now
 read_stops limit left count buffer old mid a b c x y now piece h stops =
-    let was = h.count in
-    let within = piece.within in
-    let room = piece.room in
-    record {
-      read = h.read;
-      piece = take count buffer;
-      taken = Consumes-trans a b c h.read (take count buffer) h.taken piece.taken;
-      within = omega (arith, length-append h.read (take count buffer), length-take count buffer);
-      mid = mid;
-      middle = y;
-      took = h.took;
-      stops = stops;
-    }
+    let more = further limit left count buffer old mid a b c x y piece h in
+    record { read = h.read; piece = take count buffer; taken = more.0; within = omega (arith, more.1); mid = mid; middle = y; took = h.took; stops = stops }
 
 pub read_past : (limit left byte : ℕ) (old new : Capture) (a b c : Option (List ℕ)) (x y : Option (List ℕ))
     → HasRead limit left old new a b x y → (left ≡ 0) × Consumes b c (byte ∷ []) → ReadToLimit limit old new a c x y
@@ -143,33 +131,27 @@ closed_by old new next mid before middle written e tally ended w = record {
   same = ended;
 }
 
-pub fed_end : (form : Form) (read : List ℕ) → (form ≡ Joined) ⊎ (form ≡ Apart) → first_bad_ended form read ≡ None
-    → (runs_of form read ≡ closed_runs (ended_runs form (read ++ line_feed ∷ [])) (open_run form (read ++ line_feed ∷ [])))
+-- what a line feed ends, and what the end of the input does
+abbrev pub EndsAsFed : Form → List ℕ → Type 0
+EndsAsFed form read =
+    (runs_of form read ≡ closed_runs (ended_runs form (read ++ line_feed ∷ [])) (open_run form (read ++ line_feed ∷ [])))
     × (first_bad form read ≡ first_bad_ended form (read ++ line_feed ∷ []))
-fed_end Raw read is good = elim is [ inl j ↦ cc | inr a ↦ cc ]
-fed_end Joined read is good = go (line_bytes (unended_line read)) refl
+
+pub fed_end : (form : Form) (read : List ℕ) → (form ≡ Joined) ⊎ (form ≡ Apart) → first_bad_ended form read ≡ None → EndsAsFed form read
+fed_end form read is good = by_line form is good (line_bytes (unended_line read)) refl
   where
-    go : (o : Option (List ℕ)) → line_bytes (unended_line read) ≡ o
-        → (runs_of Joined read ≡ closed_runs (ended_runs Joined (read ++ line_feed ∷ [])) (open_run Joined (read ++ line_feed ∷ [])))
-        × (first_bad Joined read ≡ first_bad_ended Joined (read ++ line_feed ∷ []))
-    go None says =
-        let e = end_bad Joined read is good says in
-        let f = feed_bad Joined read is good says in
-        (e.1 ∙ sym (ap (λ r. closed_runs [] r) f.1), e.0 ∙ sym f.2)
-    go (Some bytes) says =
+    by_line : (form : Form) → (form ≡ Joined) ⊎ (form ≡ Apart) → first_bad_ended form read ≡ None → (o : Option (List ℕ)) → line_bytes (unended_line read) ≡ o
+        → EndsAsFed form read
+    by_line form is good None says =
+        let e = end_bad form read is good says in
+        let f = feed_bad form read is good says in
+        (e.1 ∙ sym (λ i. closed_runs (f.0 i) (f.1 i)), e.0 ∙ sym f.2)
+    by_line Raw is good (Some bytes) says = elim is [ inl j ↦ cc | inr a ↦ cc ]
+    by_line Joined is good (Some bytes) says =
         let e = end_joined read bytes good says in
         let f = feed_joined read bytes good says in
         (e.1 ∙ sym (ap (λ r. closed_runs [] r) f.0), e.0 ∙ sym f.1)
-fed_end Apart read is good = go (line_bytes (unended_line read)) refl
-  where
-    go : (o : Option (List ℕ)) → line_bytes (unended_line read) ≡ o
-        → (runs_of Apart read ≡ closed_runs (ended_runs Apart (read ++ line_feed ∷ [])) (open_run Apart (read ++ line_feed ∷ [])))
-        × (first_bad Apart read ≡ first_bad_ended Apart (read ++ line_feed ∷ []))
-    go None says =
-        let e = end_bad Apart read is good says in
-        let f = feed_bad Apart read is good says in
-        (e.1 ∙ sym (ap (λ r. closed_runs r []) f.0), e.0 ∙ sym f.2)
-    go (Some bytes) says =
+    by_line Apart is good (Some bytes) says =
         let e = end_apart read bytes good says in
         let f = feed_apart read bytes good says in
         (e.1 ∙ sym (append-nil (closed_runs (ended_runs Apart read) bytes)) ∙ sym (ap (λ r. closed_runs r []) f.0), e.0 ∙ sym f.1)
@@ -195,24 +177,22 @@ ends_line good old new before after is t = record {
   load_is = t.load_is;
 }
   where
-    by_good : (g : Bool) (full : Bool) (form : Form) (start : Option (List ℕ)) (read : List ℕ)
-        → (runs_of form read ≡ closed_runs (ended_runs form (read ++ line_feed ∷ [])) (open_run form (read ++ line_feed ∷ [])))
-        × (first_bad form read ≡ first_bad_ended form (read ++ line_feed ∷ []))
+    ended : (g : Bool) (full : Bool) (form : Form) (start : Option (List ℕ)) (read : List ℕ) → EndsAsFed form read
+        → first_bad_ended form (read ++ line_feed ∷ []) ≡ (if g then None else Some new.ended)
+        → Stands full start (ended_runs form (read ++ line_feed ∷ [])) (open_run form (read ++ line_feed ∷ [])) new.framer new.report after
+        → EndedInput full form start read g new after
+    ended g full form start read fed bad stands = record {
+      ended = ended_runs form (read ++ line_feed ∷ []);
+      open_bytes = open_run form (read ++ line_feed ∷ []);
+      runs = fed.0;
+      bad = fed.1 ∙ bad;
+      stands = stands;
+    }
+
+    by_good : (g : Bool) (full : Bool) (form : Form) (start : Option (List ℕ)) (read : List ℕ) → EndsAsFed form read
         → FollowsIf g full form start (read ++ line_feed ∷ []) new after → EndedInput full form start read g new after
-    by_good true full form start read fed f = record {
-      ended = ended_runs form (read ++ line_feed ∷ []);
-      open_bytes = open_run form (read ++ line_feed ∷ []);
-      runs = fed.0;
-      bad = fed.1 ∙ f.good;
-      stands = f.stands;
-    }
-    by_good false full form start read fed f = record {
-      ended = ended_runs form (read ++ line_feed ∷ []);
-      open_bytes = open_run form (read ++ line_feed ∷ []);
-      runs = fed.0;
-      bad = fed.1 ∙ f.bad;
-      stands = f.stands;
-    }
+    by_good true full form start read fed f = ended true full form start read fed f.good f.stands
+    by_good false full form start read fed f = ended false full form start read fed f.bad f.stands
 
 -- ---- the answers
 
@@ -246,27 +226,41 @@ part_in_piece full form limit start before written ib ia input_failed output_fai
       text = inl g.3;
     }
 
--- .. once a bad line had ended the input
-pub part_at_bad_line : (full : Bool) (form : Form) (limit : ℕ) (start before middle written input_before input_after : Option (List ℕ)) (input_failed output_failed : Bool)
-    (old mid : Capture) → ReadToBadLine limit old mid input_before input_after before middle → StopsClosing mid middle written → Follows full form start [] old before
-    → EndsPartWay full form limit (streamed input_before input_after input_failed) (streamed start written output_failed)
-part_at_bad_line full form limit start before middle written ib ia input_failed output_failed old mid r h f =
+-- what is known where a bad line ended the input
+at_bad_line : (full : Bool) (form : Form) (limit : ℕ) (start before middle input_before input_after : Option (List ℕ)) (old mid : Capture)
+    → (r : ReadToBadLine limit old mid input_before input_after before middle) → Follows full form start [] old before
+    → (first_bad_ended form r.earlier ≡ None)
+    × Stands full start (ended_runs form (r.earlier ++ take r.most r.piece)) (open_run form (r.earlier ++ take r.most r.piece)) mid.framer mid.report middle
+    × ((first_bad form (r.earlier ++ r.piece) ≡ Some mid.ended) × (first_bad_ended form (r.earlier ++ r.piece) ≡ Some mid.ended)
+    × (runs_of form (r.earlier ++ r.piece)
+    ≡ closed_runs (ended_runs form (r.earlier ++ take r.most r.piece)) (open_run form (r.earlier ++ take r.most r.piece))))
+at_bad_line full form limit start before middle ib ia old mid r f =
     let earlier = r.took_earlier.follows full form start [] f in
     let stops = r.took.follows full form start r.earlier earlier in
     let fed = r.earlier ++ take r.most r.piece in
     let more = drop r.most r.piece in
     let whole : fed ++ more ≡ r.earlier ++ r.piece =
-    append_assoc r.earlier (take r.most r.piece) more ∙ ap (λ l. r.earlier ++ l) (take-append-drop r.most r.piece) in
-    let stays = bad_stays form fed more mid.ended stops.bad in
-    let text = h full start (ended_runs form fed) (open_run form fed) stops.stands in
+    append_assoc r.earlier (take r.most r.piece) more ∙ ap (λ l. r.earlier ++ l) (take-append-drop r.most r.piece) in (
+      earlier.good,
+      stops.stands,
+      subst (λ l. (first_bad form l ≡ Some mid.ended) × (first_bad_ended form l ≡ Some mid.ended)
+          × (runs_of form l ≡ closed_runs (ended_runs form fed) (open_run form fed))) whole (bad_stays form fed more mid.ended stops.bad),
+    )
+
+-- .. once a bad line had ended the input
+pub part_at_bad_line : (full : Bool) (form : Form) (limit : ℕ) (start before middle written input_before input_after : Option (List ℕ)) (input_failed output_failed : Bool)
+    (old mid : Capture) → ReadToBadLine limit old mid input_before input_after before middle → StopsClosing mid middle written → Follows full form start [] old before
+    → EndsPartWay full form limit (streamed input_before input_after input_failed) (streamed start written output_failed)
+part_at_bad_line full form limit start before middle written ib ia input_failed output_failed old mid r h f =
+    let here = at_bad_line full form limit start before middle ib ia old mid r f in
     let within = r.within in
     record {
       read = r.earlier ++ r.piece;
       more = [];
       taken = subst (Consumes ib ia) (sym (append-nil (r.earlier ++ r.piece))) r.taken;
       within = subst (λ (l : List ℕ). length l ≤ limit + 1) (sym (append-nil (r.earlier ++ r.piece))) (omega arith);
-      text = inr (subst (λ l. StopsWithin start written (shown full form l)) whole
-          (subst (λ runs. StopsWithin start written (runs_lines full no_tally runs ++ end_line full (after_runs no_tally runs))) (sym stays.2) text));
+      text = inr (subst (λ runs. StopsWithin start written (runs_lines full no_tally runs ++ end_line full (after_runs no_tally runs))) (sym here.2.2)
+          (h full start _ _ here.1));
     }
 
 -- .. past the limit
@@ -306,37 +300,34 @@ handed_on (Ok x) fault h = absurd h
 handed_on (Err f) fault h = ap Err h
 
 -- the answer where a call stopped
-pub stopped_at_end : (fault : ToolFault) (old : Capture) (was failed : Bool) (before written : Option (List ℕ)) → IsStep {T = Unit {0}} (Err fault) was failed
-    → StopsAtEnd old before written → Answered old (Err fault) was failed before written
-stopped_at_end WriteFailed old was failed before written s h = (s, h)
-stopped_at_end NoMemory old was failed before written s h = (s, h)
-stopped_at_end (NotHex line) old was failed before written s h = absurd s
-stopped_at_end TooLong old was failed before written s h = absurd s
-stopped_at_end ReadFailed old was failed before written s h = absurd s
-stopped_at_end BadWords old was failed before written s h = absurd s
-stopped_at_end (BadStep line) old was failed before written s h = absurd s
-stopped_at_end (HoldsPacket step) old was failed before written s h = absurd s
-stopped_at_end (NotQuiet step) old was failed before written s h = absurd s
+pub stopped_at_end : (r : Result Bool ToolFault) (fault : ToolFault) (old : Capture) (was failed : Bool) (before written : Option (List ℕ))
+    → IsErrAnd r (λ f. f ≡ fault) → IsStep {T = Unit {0}} (Err fault) was failed → StopsAtEnd old before written → Answered old r was failed before written
+stopped_at_end r fault old was failed before written is s h =
+    subst (λ a. Answered old a was failed before written) (sym (handed_on r fault is)) (by_fault fault s)
+  where
+    by_fault : (f : ToolFault) → IsStep {T = Unit {0}} (Err f) was failed → Answered old (Err f) was failed before written
+    by_fault WriteFailed s = (s, h)
+    by_fault NoMemory s = (s, h)
+    by_fault f s = absurd s
 
-pub stopped : (full : Bool) (form : Form) (limit : ℕ) (start written input_before input_after : Option (List ℕ)) (input_failed was failed : Bool) (fault : ToolFault)
-    → IsStep {T = Unit {0}} (Err fault) was failed → input_failed ≡ false
+pub stopped : (full : Bool) (form : Form) (limit : ℕ) (start written input_before input_after : Option (List ℕ)) (input_failed was failed : Bool)
+    (r : Result Bool ToolFault) (fault : ToolFault)
+    → IsErrAnd r (λ f. f ≡ fault) → IsStep {T = Unit {0}} (Err fault) was failed → input_failed ≡ false
     → EndsPartWay full form limit (streamed input_before input_after input_failed) (streamed start written failed)
-    → Works full form limit (streamed input_before input_after input_failed) (streamed start written failed) (Err fault)
-stopped full form limit start written ib ia input_failed was failed WriteFailed s well part = (well, s, part)
-stopped full form limit start written ib ia input_failed was failed NoMemory s well part = (well, part)
-stopped full form limit start written ib ia input_failed was failed (NotHex line) s well part = absurd s
-stopped full form limit start written ib ia input_failed was failed TooLong s well part = absurd s
-stopped full form limit start written ib ia input_failed was failed ReadFailed s well part = absurd s
-stopped full form limit start written ib ia input_failed was failed BadWords s well part = absurd s
-stopped full form limit start written ib ia input_failed was failed (BadStep line) s well part = absurd s
-stopped full form limit start written ib ia input_failed was failed (HoldsPacket step) s well part = absurd s
-stopped full form limit start written ib ia input_failed was failed (NotQuiet step) s well part = absurd s
+    → Works full form limit (streamed input_before input_after input_failed) (streamed start written failed) r
+stopped full form limit start written ib ia input_failed was failed r fault is s well part =
+    subst (λ a. Works full form limit (streamed ib ia input_failed) (streamed start written failed) a) (sym (handed_on r fault is)) (by_fault fault s)
+  where
+    by_fault : (f : ToolFault) → IsStep {T = Unit {0}} (Err f) was failed → Works full form limit (streamed ib ia input_failed) (streamed start written failed) (Err f)
+    by_fault WriteFailed s = (well, s, part)
+    by_fault NoMemory s = (well, part)
+    by_fault f s = absurd s
 
-pub works_at_end : (full : Bool) (form : Form) (limit : ℕ) (start before middle written input_before input_after : Option (List ℕ)) (input_failed output_failed : Bool)
-    (old mid : Capture) (result : Result Bool ToolFault) → ReadToEnd limit old mid input_before input_after before middle → input_failed ≡ false
-    → Answered mid result false output_failed middle written → Follows full form start [] old before
+pub works_at_end : (full : Bool) (form : Form) (limit : ℕ) (start before middle written input_before input_after : Option (List ℕ)) (input_failed was output_failed : Bool)
+    (old mid : Capture) (result : Result Bool ToolFault) → ReadToEnd limit old mid input_before input_after before middle → input_failed ≡ false → was ≡ false
+    → Answered mid result was output_failed middle written → Follows full form start [] old before
     → Works full form limit (streamed input_before input_after input_failed) (streamed start written output_failed) result
-works_at_end full form limit start before middle written ib ia input_failed output_failed old mid (Ok refused) r well a f =
+works_at_end full form limit start before middle written ib ia input_failed was output_failed old mid (Ok refused) r well quiet a f =
     let here = a.1 full form start r.read (r.took.follows full form start [] f) in
     record {
       read = r.read;
@@ -347,9 +338,9 @@ works_at_end full form limit start before middle written ib ia input_failed outp
       answer = here.1;
       text = here.2;
       input_well = well;
-      output_well = a.0;
+      output_well = a.0 ∙ quiet;
     }
-works_at_end full form limit start before middle written ib ia input_failed output_failed old mid (Err (NotHex line)) r well a f =
+works_at_end full form limit start before middle written ib ia input_failed was output_failed old mid (Err (NotHex line)) r well quiet a f =
     let here = a.1 full form start r.read (r.took.follows full form start [] f) in
     record {
       earlier = r.read;
@@ -362,61 +353,44 @@ works_at_end full form limit start before middle written ib ia input_failed outp
       ended = inr r.at_end;
       text = subst (λ l. Appends start written (shown full form l)) (sym (append-nil r.read)) here.1;
       input_well = well;
-      output_well = a.0;
+      output_well = a.0 ∙ quiet;
     }
-works_at_end full form limit start before middle written ib ia input_failed output_failed old mid (Err TooLong) r well a f = absurd a
-works_at_end full form limit start before middle written ib ia input_failed output_failed old mid (Err ReadFailed) r well a f = absurd a
-works_at_end full form limit start before middle written ib ia input_failed output_failed old mid (Err WriteFailed) r well a f = (well, a.0, part_at_end full form limit start before middle written ib ia input_failed output_failed old mid r a.1 f)
-works_at_end full form limit start before middle written ib ia input_failed output_failed old mid (Err NoMemory) r well a f = (well, part_at_end full form limit start before middle written ib ia input_failed output_failed old mid r a.1 f)
-works_at_end full form limit start before middle written ib ia input_failed output_failed old mid (Err BadWords) r well a f = absurd a
-works_at_end full form limit start before middle written ib ia input_failed output_failed old mid (Err (BadStep line)) r well a f = absurd a
-works_at_end full form limit start before middle written ib ia input_failed output_failed old mid (Err (HoldsPacket step)) r well a f = absurd a
-works_at_end full form limit start before middle written ib ia input_failed output_failed old mid (Err (NotQuiet step)) r well a f = absurd a
+works_at_end full form limit start before middle written ib ia input_failed was output_failed old mid (Err WriteFailed) r well quiet a f =
+    (well, a.0, part_at_end full form limit start before middle written ib ia input_failed output_failed old mid r a.1 f)
+works_at_end full form limit start before middle written ib ia input_failed was output_failed old mid (Err NoMemory) r well quiet a f =
+    (well, part_at_end full form limit start before middle written ib ia input_failed output_failed old mid r a.1 f)
+works_at_end full form limit start before middle written ib ia input_failed was output_failed old mid (Err fault) r well quiet a f = absurd a
 
 pub works_at_bad_line : (full : Bool) (form : Form) (limit : ℕ) (start before middle written input_before input_after : Option (List ℕ)) (input_failed output_failed : Bool)
     (old mid new : Capture) → ReadToBadLine limit old mid input_before input_after before middle → input_failed ≡ false → output_failed ≡ false
     → Closed mid new middle written → Follows full form start [] old before
     → EndsAtBadLine full form limit (streamed input_before input_after input_failed) (streamed start written output_failed) new.ended
 works_at_bad_line full form limit start before middle written ib ia input_failed output_failed old mid new r well well_too c f =
-    let earlier = r.took_earlier.follows full form start [] f in
-    let stops = r.took.follows full form start r.earlier earlier in
-    let fed = r.earlier ++ take r.most r.piece in
-    let more = drop r.most r.piece in
-    let whole : fed ++ more ≡ r.earlier ++ r.piece =
-    append_assoc r.earlier (take r.most r.piece) more ∙ ap (λ l. r.earlier ++ l) (take-append-drop r.most r.piece) in
+    let here = at_bad_line full form limit start before middle ib ia old mid r f in
     let line : Some mid.ended ≡ Some new.ended = ap Some (sym c.same) in
-    let stays = bad_stays form fed more mid.ended stops.bad in
-    let text = c.text full start (ended_runs form fed) (open_run form fed) stops.stands in
     record {
       earlier = r.earlier;
       piece = r.piece;
       taken = r.taken;
       within = r.within;
       one_piece = r.one_piece;
-      good = earlier.good;
-      bad = subst (λ l. first_bad form l ≡ Some new.ended) whole (stays.0 ∙ line);
-      ended = inl (subst (λ l. first_bad_ended form l ≡ Some new.ended) whole (stays.1 ∙ line));
-      text = subst (λ l. Appends start written (shown full form l)) whole
-          (subst (λ runs. Appends start written (runs_lines full no_tally runs ++ end_line full (after_runs no_tally runs))) (sym stays.2) text);
+      good = here.0;
+      bad = here.2.0 ∙ line;
+      ended = inl (here.2.1 ∙ line);
+      text = subst (λ runs. Appends start written (runs_lines full no_tally runs ++ end_line full (after_runs no_tally runs))) (sym here.2.2)
+          (c.text full start _ _ here.1);
       input_well = well;
       output_well = well_too;
     }
 
 -- what a write that went well gave
-written_well : {P : Type 0} (r : Result (Unit {0}) ToolFault) (failed : Bool) → IsStep r false failed → IfErr r (λ fault. fault ≡ WriteFailed) → OnOk r P → failed ≡ false → P
-written_well (Ok x) failed s e p well = p
-written_well {P} (Err fault) failed s e p well = absurd (no_failure fault failed s e well)
+written_well : {P : Type 0} (r : Result (Unit {0}) ToolFault) (was failed : Bool) → IsStep r was failed → IfErr r (λ fault. fault ≡ WriteFailed) → OnOk r P → failed ≡ false → P
+written_well (Ok x) was failed s e p well = p
+written_well {P} (Err fault) was failed s e p well = absurd (no_failure fault s e)
   where
-    no_failure : (fault : ToolFault) (failed : Bool) → IsStep {T = Unit {0}} (Err fault) false failed → fault ≡ WriteFailed → failed ≡ false → ⊥
-    no_failure WriteFailed failed s e well = cc
-    no_failure (NotHex line) failed s e well = cc
-    no_failure TooLong failed s e well = cc
-    no_failure ReadFailed failed s e well = cc
-    no_failure NoMemory failed s e well = cc
-    no_failure BadWords failed s e well = cc
-    no_failure (BadStep line) failed s e well = cc
-    no_failure (HoldsPacket step) failed s e well = cc
-    no_failure (NotQuiet step) failed s e well = cc
+    no_failure : (fault : ToolFault) → IsStep {T = Unit {0}} (Err fault) was failed → fault ≡ WriteFailed → ⊥
+    no_failure WriteFailed s e = cc
+    no_failure fault s e = cc
 
 -- what was told is written, or a beginning of it
 begun_kept : (middle written : Option (List ℕ)) → Keeps middle written → IsBeginning written middle
@@ -429,18 +403,18 @@ written_or_part : (r : Result (Unit {0}) ToolFault) (middle written : Option (Li
 written_or_part (Ok x) middle written kept stops = begun_kept middle written kept
 written_or_part (Err e) middle written kept stops = stops
 
-pub works_at_failed_read : (full : Bool) (form : Form) (limit : ℕ) (start before middle written input_before input_after : Option (List ℕ)) (input_failed output_failed : Bool)
+pub works_at_failed_read : (full : Bool) (form : Form) (limit : ℕ) (start before middle written input_before input_after : Option (List ℕ)) (input_failed was output_failed : Bool)
     (old mid : Capture) (r : Result (Unit {0}) ToolFault) → ReadToFailure limit old mid input_before input_after before middle → input_failed ≡ true
-    → IsStep r false output_failed → IfErr r (λ fault. fault ≡ WriteFailed) → OnOk r (Keeps middle written) → OnErr r (IsBeginning written middle) → Follows full form start [] old before
+    → IsStep r was output_failed → IfErr r (λ fault. fault ≡ WriteFailed) → OnOk r (Keeps middle written) → OnErr r (IsBeginning written middle) → Follows full form start [] old before
     → EndsAtFailedRead full form limit (streamed input_before input_after input_failed) (streamed start written output_failed)
-works_at_failed_read full form limit start before middle written ib ia input_failed output_failed old mid r read failed step fault kept stops f =
+works_at_failed_read full form limit start before middle written ib ia input_failed was output_failed old mid r read failed step fault kept stops f =
     let here = read.took.follows full form start [] f in
     record {
       read = read.read;
       taken = read.taken;
       within = read.within;
       good = here.good;
-      text = λ well. Appends-kept start middle written (lines_so_far full (ended_runs form read.read) (open_run form read.read)) here.stands.lines (written_well r output_failed step fault kept well);
+      text = λ well. Appends-kept start middle written (lines_so_far full (ended_runs form read.read) (open_run form read.read)) here.stands.lines (written_well r was output_failed step fault kept well);
       part = stops_by start middle written (shown_so_far full form read.read) (shown_so_far full form read.read) [] here.stands.lines
           (written_or_part r middle written kept stops) (sym (append-nil _));
       input_failed = failed;

@@ -4,9 +4,7 @@ use Rattle.std.specs.Io.KnownBytes.{Appends, Consumes, IsAtEnd}
 use Rattle.osdp_tool_input.specs.declared.form.Form.{Form}
 use Rattle.osdp_tool_input.specs.Runs.{first_bad, first_bad_ended}
 use Rattle.osdp_tool_streams.specs.declared.fault.ToolFault.{ToolFault}
-use Rattle.osdp_tool_streams.specs.declared.fault.ToolFault.TheVariants.{NotHex, TooLong, BadWords, BadStep}
-use Rattle.osdp_tool_streams.specs.declared.fault.ToolFault.TheVariants.{HoldsPacket, NotQuiet, ReadFailed}
-use Rattle.osdp_tool_streams.specs.declared.fault.ToolFault.TheVariants.{WriteFailed, NoMemory}
+use Rattle.osdp_tool_streams.specs.declared.fault.ToolFault.TheVariants.{NotHex, TooLong, ReadFailed, WriteFailed, NoMemory}
 use Rattle.osdp_tool_show.specs.Shown.{shown, shown_so_far, is_refused_input, limited_text, limited_answer}
 use Rattle.osdp_tool_show.specs.Written.{StopsWithin}
 
@@ -89,10 +87,7 @@ Ends full form limit input output (Err TooLong) = EndsPastLimit full form limit 
 Ends full form limit input output (Err ReadFailed) = EndsAtFailedRead full form limit input output
 Ends full form limit input output (Err WriteFailed) = (input.failed ≡ false) × (output.failed ≡ true) × EndsPartWay full form limit input output
 Ends full form limit input output (Err NoMemory) = (input.failed ≡ false) × (output.failed ≡ false) × EndsPartWay full form limit input output
-Ends full form limit input output (Err BadWords) = ⊥
-Ends full form limit input output (Err (BadStep line)) = ⊥
-Ends full form limit input output (Err (HoldsPacket step)) = ⊥
-Ends full form limit input output (Err (NotQuiet step)) = ⊥
+Ends full form limit input output (Err fault) = ⊥
 
 -- where the bytes of the input are known, neither stream failed and memory did not run out, the answer and
 -- the text are those of these bytes, and nothing else is printed

@@ -9,8 +9,6 @@ use Rattle.osdp_tool_input.specs.Runs.{closed_runs}
 use Rattle.osdp_tool_lines.specs.Tally.{tally_after_all, counted}
 use Rattle.osdp_tool_lines.specs.Told.{shown_lines, tally_so_far, lines_so_far}
 use Rattle.osdp_tool_streams.specs.declared.fault.ToolFault.{ToolFault}
-use Rattle.osdp_tool_streams.specs.declared.fault.ToolFault.TheVariants.{NotHex, TooLong, BadWords, BadStep}
-use Rattle.osdp_tool_streams.specs.declared.fault.ToolFault.TheVariants.{HoldsPacket, NotQuiet, ReadFailed}
 use Rattle.osdp_tool_streams.specs.declared.fault.ToolFault.TheVariants.{WriteFailed, NoMemory}
 use Rattle.osdp_tool_show.specs.declared.report.Report.{Report}
 use Rattle.osdp_tool_show.specs.Written.{StopsWithin}
@@ -24,13 +22,7 @@ abbrev pub IsStep : {T : Type 0} → Result T ToolFault → Bool → Bool → Ty
 IsStep (Ok x) before after = after ≡ before
 IsStep (Err WriteFailed) before after = after ≡ true
 IsStep (Err NoMemory) before after = after ≡ before
-IsStep (Err (NotHex line)) before after = ⊥
-IsStep (Err TooLong) before after = ⊥
-IsStep (Err ReadFailed) before after = ⊥
-IsStep (Err BadWords) before after = ⊥
-IsStep (Err (BadStep line)) before after = ⊥
-IsStep (Err (HoldsPacket step)) before after = ⊥
-IsStep (Err (NotQuiet step)) before after = ⊥
+IsStep (Err fault) before after = ⊥
 
 -- the report went on by these items
 pub record Tells (old new : Report) (before after : Option (List ℕ)) (parts : List RunItem) : Type 0 where

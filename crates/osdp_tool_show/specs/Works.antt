@@ -6,9 +6,7 @@ use Rattle.osdp_tool_input.specs.Runs.{runs_of, first_bad, closed_runs}
 use Rattle.osdp_tool_lines.specs.Tally.{no_tally}
 use Rattle.osdp_tool_lines.specs.Told.{after_runs, runs_lines, end_line}
 use Rattle.osdp_tool_streams.specs.declared.fault.ToolFault.{ToolFault}
-use Rattle.osdp_tool_streams.specs.declared.fault.ToolFault.TheVariants.{NotHex, TooLong, BadWords, BadStep}
-use Rattle.osdp_tool_streams.specs.declared.fault.ToolFault.TheVariants.{HoldsPacket, NotQuiet, ReadFailed}
-use Rattle.osdp_tool_streams.specs.declared.fault.ToolFault.TheVariants.{WriteFailed, NoMemory}
+use Rattle.osdp_tool_streams.specs.declared.fault.ToolFault.TheVariants.{NotHex, WriteFailed, NoMemory}
 use Rattle.osdp_tool_show.specs.declared.capture.Capture.{Capture}
 use Rattle.osdp_tool_show.specs.declared.reading.Ending.{Ending}
 use Rattle.osdp_tool_show.specs.declared.reading.Ending.TheVariants.{AtEnd, AtBadLine, PastLimit, AtFailedRead}
@@ -16,7 +14,7 @@ use Rattle.osdp_tool_show.specs.Machine.{IsSettled, Stands}
 use Rattle.osdp_tool_show.specs.Shown.{shown, shown_so_far, is_refused_input}
 use Rattle.osdp_tool_show.specs.Written.{StopsWithin}
 use Rattle.osdp_tool_show.specs.Capture.{load, Follows, TookPiece, StopsInPiece}
-use Rattle.osdp_tool_show.specs.Ending.{Stream, piece_size, EndsAtEnd, EndsAtBadLine, EndsPastLimit, EndsAtFailedRead, EndsPartWay}
+use Rattle.osdp_tool_show.specs.Ending.{Stream, piece_size, Ends, EndsPartWay}
 
 -- the run has ended, and all that waited is written, with the counts where they are wanted
 pub record Closed (old new : Capture) (before written : Option (List ℕ)) : Type 0 where
@@ -122,22 +120,9 @@ Answered old (Err (NotHex line)) was_failed failed before written = (failed ≡ 
     → (first_bad form read ≡ Some line) × Appends start written (shown full form read))
 Answered old (Err WriteFailed) was_failed failed before written = (failed ≡ true) × StopsAtEnd old before written
 Answered old (Err NoMemory) was_failed failed before written = (failed ≡ was_failed) × StopsAtEnd old before written
-Answered old (Err TooLong) was_failed failed before written = ⊥
-Answered old (Err ReadFailed) was_failed failed before written = ⊥
-Answered old (Err BadWords) was_failed failed before written = ⊥
-Answered old (Err (BadStep line)) was_failed failed before written = ⊥
-Answered old (Err (HoldsPacket step)) was_failed failed before written = ⊥
-Answered old (Err (NotQuiet step)) was_failed failed before written = ⊥
+Answered old (Err fault) was_failed failed before written = ⊥
 
--- how the work ends, before the output is flushed and the answer is settled between the streams
+-- how the work ends, before the output is flushed and the answer is settled between the streams: without memory the output may have failed
 abbrev pub Works : Bool → Form → ℕ → Stream → Stream → Result Bool ToolFault → Type 0
-Works full form limit input output (Ok refused) = EndsAtEnd full form limit input output refused
-Works full form limit input output (Err (NotHex line)) = EndsAtBadLine full form limit input output line
-Works full form limit input output (Err TooLong) = EndsPastLimit full form limit input output
-Works full form limit input output (Err ReadFailed) = EndsAtFailedRead full form limit input output
-Works full form limit input output (Err WriteFailed) = (input.failed ≡ false) × (output.failed ≡ true) × EndsPartWay full form limit input output
 Works full form limit input output (Err NoMemory) = (input.failed ≡ false) × EndsPartWay full form limit input output
-Works full form limit input output (Err BadWords) = ⊥
-Works full form limit input output (Err (BadStep line)) = ⊥
-Works full form limit input output (Err (HoldsPacket step)) = ⊥
-Works full form limit input output (Err (NotQuiet step)) = ⊥
+Works full form limit input output result = Ends full form limit input output result

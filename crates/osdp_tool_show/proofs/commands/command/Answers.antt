@@ -1,9 +1,8 @@
-use Rattle.std.proofs.Common.{sym, subst, ap, ◌∙◌}
+use Rattle.std.proofs.Common.{sym, ap, ◌∙◌}
 use Rattle.osdp_tool_streams.specs.FinalAnswer.{final_answer_of}
-use Rattle.osdp_tool_show.specs.Ending.{streamed, Ends}
 use Rattle.osdp_tool_streams.specs.Watched.{inner_of, has_failed}
 use Rattle.osdp_tool_show.proofs.Whole.{ends_whole}
-use Rattle.osdp_tool_show.proofs.Finishing.{ends_final}
+use Rattle.osdp_tool_show.proofs.Finishing.{ends_finished}
 use Rattle.osdp_tool_show.proofs.Works.{ends_at_once, part_at_once}
 use Rattle.osdp_tool_show.proofs.commands.command.Goals as goal
 
@@ -14,16 +13,9 @@ returns-then-failed-clause-ends g c =
 
 pub returns-clause-ends : goal.returns-clause-ends
 returns-clause-ends g c =
-    let ib = g.R.Read.remaining (inner_of c.args.input.now) in
-    let ia = g.R.Read.remaining (inner_of c.work-answer.new.input) in
-    let start = g.W.Write.contents (inner_of c.args.output.now) in
-    let middle = g.W.Write.contents (inner_of c.work-answer.new.output) in
-    let written = g.W.Write.contents (inner_of c.finish.new.output) in
-    let failed = has_failed c.work-answer.new.input in
-    let ends = ends_final c.args.full c.args.form c.args.limit start middle written ib ia failed (has_failed c.work-answer.new.output) (has_failed c.finish.new.output) c.work-answer.result
-    c.work-answer.ensures c.finish.ensures.bytes (λ ill. ap has_failed (c.finish.ensures.kept ill) ∙ ill) in
-    subst (λ r. Ends c.args.full c.args.form c.args.limit (streamed ib ia failed) (streamed start written (has_failed c.finish.new.output)) r)
-    (sym (c.finish.ensures.answer ∙ ap (λ f. final_answer_of f (has_failed c.finish.new.output) c.work-answer.result) c.failed-3.ensures)) ends
+    ends_finished c.args.full c.args.form c.args.limit _ _ _ _ _ _ (has_failed c.work-answer.new.output) _ c.work-answer.result _
+    (c.finish.ensures.answer ∙ ap (λ f. final_answer_of f (has_failed c.finish.new.output) c.work-answer.result) c.failed-3.ensures)
+    c.work-answer.ensures c.finish.ensures.bytes (λ ill. ap has_failed (c.finish.ensures.kept ill) ∙ ill)
 
 pub returns-clause-whole : goal.returns-clause-whole
 returns-clause-whole g c = ends_whole _ _ _ _ _ _ _ _ (returns-clause-ends g c)

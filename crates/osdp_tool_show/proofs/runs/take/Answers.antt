@@ -1,4 +1,4 @@
-use Rattle.std.proofs.Common.{◌≤◌, ◌+◌, ◌-◌, ◌∙◌, length, length-drop, drop, arith}
+use Rattle.std.proofs.Common.{◌+◌, ◌-◌, ◌∙◌, length, length-drop, drop, arith}
 use Rattle.std.proofs.lemmas.List.{length-take}
 use Rattle.osdp_tool_show.proofs.WholeItems.{took_after}
 use Rattle.osdp_tool_show.proofs.Standing.{stops_in_rest}
@@ -11,18 +11,14 @@ pub pieces-preserved : goal.pieces-preserved
 pieces-preserved g c =
     let bytes = c.args.bytes.now in
     let at = c.pieces.at in
-    let whole = c.in_ok-whole.whole in
-    let later = at + whole in
+    let later = at + c.in_ok-whole.whole in
     let left = length bytes - at in
     let some = later + c.given_count-some.result - later in
-    let count = c.in_ok-at.field-0 in
     let was = c.pieces.invariant.within in
-    let first : whole ≤ left = omega (arith, c.in_ok-whole.ensures.within, length-take left (drop at bytes)) in
-    let second : count ≤ some = omega (arith, c.in_ok-at.ensures.within, length-take some (drop later bytes)) in
     record {
-      within = omega (arith, c.in_ok-at.ensures.within, length-take some (drop later bytes), length-drop later bytes, length-drop at bytes);
-      took = took_after bytes later count some _ _ _ _ _ _ _ _ _ second
-          (took_after bytes at whole left _ _ _ _ _ _ _ _ _ first c.pieces.invariant.took c.in_ok-whole.ensures.took) c.in_ok-at.ensures.took;
+      within = omega (arith, c.in_ok-whole.ensures.within, c.in_ok-at.ensures.within, length-take left (drop at bytes), length-take some (drop later bytes), length-drop later bytes, length-drop at bytes);
+      took = took_after bytes later _ _ _ _ _ _ _ _ _ _ _ c.in_ok-at.ensures.within
+          (took_after bytes at _ _ _ _ _ _ _ _ _ _ _ c.in_ok-whole.ensures.within c.pieces.invariant.took c.in_ok-whole.ensures.took) c.in_ok-at.ensures.took;
       unfailed = c.in_ok-at.ensures.step ∙ c.in_ok-whole.ensures.step ∙ c.pieces.invariant.unfailed;
     }
 
@@ -35,13 +31,7 @@ returns-in_err-whole-clause-stops g c =
 pub returns-in_err-at-clause-stops : goal.returns-in_err-at-clause-stops
 returns-in_err-at-clause-stops g c =
     let bytes = c.args.bytes.now in
-    let at = c.pieces.at in
-    let whole = c.in_ok-whole.whole in
-    let later = at + whole in
-    let left = length bytes - at in
-    let some = later + c.given_count-some.result - later in
-    let first : whole ≤ left = omega (arith, c.in_ok-whole.ensures.within, length-take left (drop at bytes)) in
-    on_err c.from_residual-in_err-at.result (stops_in_rest bytes later some c.args.framer.now c.pieces.framer c.args.report.now c.take_whole.new.report
+    on_err c.from_residual-in_err-at.result (stops_in_rest bytes (c.pieces.at + c.in_ok-whole.whole) _ c.args.framer.now c.pieces.framer c.args.report.now c.take_whole.new.report
     (told (g.W.Write.contents (inner_of c.args.output.now)) c.args.report.now) (told (g.W.Write.contents (inner_of c.take_whole.new.output)) c.take_whole.new.report)
     (g.W.Write.contents (inner_of c.take_held.new.output)) (λ k. omega (arith, c.type_inv.bytes k))
-    (took_after bytes at whole left _ _ _ _ _ _ _ _ _ first c.pieces.invariant.took c.in_ok-whole.ensures.took) c.in_err-at.ensures.stops)
+    (took_after bytes c.pieces.at _ _ _ _ _ _ _ _ _ _ _ c.in_ok-whole.ensures.within c.pieces.invariant.took c.in_ok-whole.ensures.took) c.in_err-at.ensures.stops)

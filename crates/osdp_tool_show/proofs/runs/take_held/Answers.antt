@@ -1,15 +1,15 @@
 use Rattle.std.proofs.Common.{◌<◌, take, subst, sym, arith}
+use Rattle.osdp_frame_laws.proofs.LeftOver.{takes_some}
 use Rattle.osdp_tool_streams.specs.Watched.{inner_of}
 use Rattle.osdp_tool_show.specs.Machine.{told, Took}
-use Rattle.osdp_tool_show.proofs.Standing.{took_some, took_start}
+use Rattle.osdp_tool_show.proofs.Standing.{pushed_stops, took_start}
 use Rattle.osdp_tool_show.proofs.WholeItems.{took_pushed}
-use Rattle.osdp_tool_show.proofs.Standing.{pushed_stops}
 use Rattle.osdp_tool_show.proofs.Beginnings.{on_err}
 use Rattle.osdp_tool_show.proofs.runs.take_held.Goals as goal
 
 pub returns-clause-some : goal.returns-clause-some
 returns-clause-some g c = λ some.
-    subst (λ n. 0 < n) (sym c.push-count.ensures.count) (took_some c.args.framer.now c.args.bytes.now c.requires.settled some)
+    subst (λ n. 0 < n) (sym c.push-count.ensures.count) (takes_some c.args.framer.now c.args.bytes.now c.requires.settled.goes_on c.requires.settled.none some)
 
 pub returns-clause-took : goal.returns-clause-took
 returns-clause-took g c =

@@ -10,19 +10,9 @@ use Rattle.osdp_tool_show.proofs.capture.Capture.close.Goals as goal
 
 pub returns-clause-closed : goal.returns-clause-closed
 returns-clause-closed g c =
-    let last : Capture = record {
-      form = c.args.self.now.form;
-      digits = c.args.self.now.digits;
-      line = c.args.self.now.line;
-      bytes = c.args.self.now.bytes;
-      ended = c.args.self.now.ended;
-      framer = c.end_run.new.framer;
-      report = c.end.new.self;
-    } in
+    let last : Capture = record c.args.self.now { framer = c.end_run.new.framer; report = c.end.new.self } in
     on_ok_both c.end.result
-    (λ kept written. closed_by c.args.self.now last c.end_run.new.framer c.end_run.new.report
-    (told (g.W.Write.contents (inner_of c.args.output.now)) c.args.self.now.report) (told (g.W.Write.contents (inner_of c.end_run.new.output)) c.end_run.new.report)
-    (g.W.Write.contents (inner_of c.end.new.output)) c.in_ok-end_run.ensures.ended kept.tally refl written)
+    (λ kept written. closed_by c.args.self.now last c.end_run.new.framer c.end_run.new.report _ _ _ c.in_ok-end_run.ensures.ended kept.tally refl written)
     c.end.ensures.same c.end.ensures.written
 
 pub returns-in_err-end_run-clause-stops : goal.returns-in_err-end_run-clause-stops

@@ -9,15 +9,7 @@ use Rattle.osdp_tool_show.proofs.capture.Capture.take.Goals as goal
 pub returns-in_ok-take-in-Raw-clause-took : goal.returns-in_ok-take-in-Raw-clause-took
 returns-in_ok-take-in-Raw-clause-took g c =
     took_raw c.args.piece.now c.args.self.now
-    (record {
-      form = c.args.self.now.form;
-      digits = c.args.self.now.digits;
-      line = c.args.self.now.line;
-      bytes = c.args.self.now.bytes;
-      ended = c.args.self.now.ended;
-      framer = c.take.new.framer;
-      report = c.take.new.report;
-    })
+    (record c.args.self.now { framer = c.take.new.framer; report = c.take.new.report })
     (told (g.W.Write.contents (inner_of c.args.output.now)) c.args.self.now.report)
     (told (g.W.Write.contents (inner_of c.take.new.output)) c.take.new.report)
     c.in-Raw.is refl refl refl c.in_ok-take-in-Raw.ensures.took
