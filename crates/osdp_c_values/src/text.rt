@@ -1,15 +1,13 @@
 //! Texts of messages.
 
-ghost use Rattle.std.specs.Prelude.{◌≡◌, length};
-ghost use Rattle.osdp_msg.specs.CommandText.{command_text};
-ghost use Rattle.osdp_msg.specs.ReplyText.{reply_text};
+ghost use Rattle.std.specs.Prelude.{IfSome};
 ghost use Rattle.osdp_c_values.specs.Texts.{CommandTextEnds, IsTextTold, IsTold, ReplyTextEnds};
 
 use crate::arrays::fill;
 use crate::status::Status;
 use arrayvec::ArrayString;
 use osdp_msg::{Command, Reply};
-use std::fmt::Write;
+use std::fmt::{Display, Write};
 
 /// How many bytes a text may have.
 const LONGEST: usize = 6144;
@@ -26,23 +24,12 @@ fn tell_text(text: &str, out: &mut [u8], count: &mut usize) -> Status
     Status::Done
 }
 
-/// Writes the text of a command, and its length.
-fn tell_command(command: &Command, out: &mut [u8], count: &mut usize) -> Status
-    ensures { IsTextTold (command_text command.now) result out.old out.new count.old count.new }
+/// Writes what a message prints, and its length.
+fn tell<M: Display>(message: &M, out: &mut [u8], count: &mut usize) -> Status
+    ensures { IfSome (M.output message.now) (λ text. IsTextTold text result out.old out.new count.old count.new) }
 {
     let mut text: ArrayString<LONGEST> = ArrayString::new();
-    match write!(text, "{command}") {
-        Ok(()) => tell_text(text.as_str(), out, count),
-        Err(_) => Status::NoText,
-    }
-}
-
-/// Writes the text of a reply, and its length.
-fn tell_reply(reply: &Reply, out: &mut [u8], count: &mut usize) -> Status
-    ensures { IsTextTold (reply_text reply.now) result out.old out.new count.old count.new }
-{
-    let mut text: ArrayString<LONGEST> = ArrayString::new();
-    match write!(text, "{reply}") {
+    match write!(text, "{message}") {
         Ok(()) => tell_text(text.as_str(), out, count),
         Err(_) => Status::NoText,
     }
@@ -53,7 +40,7 @@ pub fn write_command_text(code: u8, body: &[u8], out: &mut [u8], count: &mut usi
     ensures { CommandTextEnds code body.now result out.old out.new count.old count.new }
 {
     match Command::read(code, body) {
-        Ok(command) => tell_command(&command, out, count),
+        Ok(command) => tell(&command, out, count),
         Err(fault) => Status::Message(fault),
     }
 }
@@ -63,7 +50,7 @@ pub fn write_reply_text(code: u8, body: &[u8], out: &mut [u8], count: &mut usize
     ensures { ReplyTextEnds code body.now result out.old out.new count.old count.new }
 {
     match Reply::read(code, body) {
-        Ok(reply) => tell_reply(&reply, out, count),
+        Ok(reply) => tell(&reply, out, count),
         Err(fault) => Status::Message(fault),
     }
 }
