@@ -24,11 +24,6 @@ pub fn answers_are_heard()
     ensures { HearsAnswers }
 {}
 
-/// Each frame that a tick gives counts one more in its exchange.
-pub fn sends_are_counted()
-    ensures { (now : ℕ) (s : Session) (waiting : List Command) → CountsSends now s waiting }
-{}
-
 /// A new exchange takes the front of the waiting commands, or a POLL; else they stay as they are.
 pub fn exchanges_take_the_front()
     ensures { (now : ℕ) (s : Session) (waiting : List Command) → TakesFront now s waiting }
@@ -67,14 +62,18 @@ pub fn exchanges_have_their_numbers()
     ensures { (m : Machine) (calls : List Call) → is_closed m.session.state ≡ true → NumbersByPlace m calls }
 {}
 
-/// As long as an exchange lasts, each frame that goes out after one of its frames is the same packet.
+/// As long as an exchange lasts, each frame that goes out after one of its frames is the same packet. The frame that a tick gives is that of
+/// the exchange that is outstanding then.
 pub fn resends_the_same_frame()
-    ensures { ResendsTheSame }
+    ensures same { ResendsTheSame }
+    ensures outstanding { (now : ℕ) (s : Session) (waiting : List Command) → SendsItsFrame now s waiting }
 {}
 
-/// As long as an exchange lasts it sends at most `sends * (busy_limit + 1)` frames, whatever is called and comes.
+/// As long as an exchange lasts it sends at most `sends * (busy_limit + 1)` frames, whatever is called and comes. Each frame that a tick gives
+/// counts one more in its exchange.
 pub fn exchanges_send_few()
-    ensures { SendsFew }
+    ensures few { SendsFew }
+    ensures counted { (now : ℕ) (s : Session) (waiting : List Command) → CountsSends now s waiting }
 {}
 
 /// What a tick does from each state, as the deadline is ahead or reached.
@@ -90,11 +89,6 @@ pub fn frames_go_by_the_state()
 /// A whole exchange: a tick sends its frame, the reply is told, and nothing is outstanding after it.
 pub fn exchanges_in_steps()
     ensures { (m : Machine) (now answered_at : ℕ) (q : Packet) → ExchangesInSteps m now answered_at q }
-{}
-
-/// The frame that a tick gives is that of the exchange that is outstanding then.
-pub fn ticks_send_their_frame()
-    ensures { (now : ℕ) (s : Session) (waiting : List Command) → SendsItsFrame now s waiting }
 {}
 
 /// What holds of a new controller, its settings and counts in their ranges, holds whatever is called and comes.

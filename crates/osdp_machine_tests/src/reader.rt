@@ -378,16 +378,12 @@ fn laws_hold_of_any_handler(_rt: HostRuntime) {
     osdp_reader_laws::answers_polls::<Bench>();
     osdp_reader_laws::changes_by_acting::<Bench>();
     osdp_reader_laws::tells_its_command::<Bench>();
-    osdp_reader_laws::keeps_its_settings::<Bench>();
-    osdp_reader_laws::hears_its_address::<Bench>();
     osdp_reader_laws::answers_plainly::<Bench>();
     osdp_reader_laws::sends_what_it_says::<Bench>();
-    osdp_reader_laws::answers_taken::<Bench>();
     osdp_reader_laws::reader_stays_well::<Bench>();
     osdp_reader_laws::answers_in_order::<Bench>();
     osdp_reader_laws::replies_to_its_command();
     osdp_reader_laws::takes_the_next_number::<Bench>();
     osdp_reader_laws::refuses_and_keeps_all::<Bench>();
     osdp_reader_laws::moves_by_comset_alone::<Bench>();
-    osdp_reader_laws::forgets_where_it_moves::<Bench>();
 }

@@ -55,30 +55,19 @@ pub fn answers_polls<H: Handler>()
     ensures alone { OffersToPollsAlone H.answer_of H.after }
 {}
 
-/// Only number 0 and a taken number change anything, or reach the handler.
+/// What a packet may change: only number 0 and a taken number change anything, or reach the handler. No packet changes whether the reader is
+/// busy, how many events there may be, or what it answers to ID and CAP. One for another address, or from a device, changes nothing, and is
+/// not answered.
 pub fn changes_by_acting<H: Handler>()
-    ensures { ChangesByActing H.answer_of H.after }
+    ensures acting { ChangesByActing H.answer_of H.after }
+    ensures settings { KeepsItsSettings H.answer_of H.after }
+    ensures address { HearsItsAddress H.answer_of H.after }
 {}
 
 /// The command that was acted on is told; a packet that holds none is refused, and the handler stays.
 pub fn tells_its_command<H: Handler>()
     ensures read { TellsItsCommand H.answer_of H.after }
     ensures unread { RefusesUnread H.answer_of H.after }
-{}
-
-/// An address and a rate are told exactly where a COMSET to a device's address is acted on, and are its own.
-pub fn tells_its_comset<H: Handler>()
-    ensures { TellsItsComset H.answer_of H.after }
-{}
-
-/// No packet changes whether the reader is busy, how many events there may be, or what it answers to ID and CAP.
-pub fn keeps_its_settings<H: Handler>()
-    ensures { KeepsItsSettings H.answer_of H.after }
-{}
-
-/// A packet for another address, or from a device, changes nothing, and is not answered.
-pub fn hears_its_address<H: Handler>()
-    ensures { HearsItsAddress H.answer_of H.after }
 {}
 
 /// No command that is acted on is answered BUSY, NAK 1 or NAK 4: these say that nothing was taken.
@@ -92,11 +81,6 @@ pub fn sends_what_it_says<H: Handler>()
     ensures { SendsWhatItSays H.answer_of H.after }
 {}
 
-/// A taken command other than POLL has the answer that a list of commands has at its place.
-pub fn answers_taken<H: Handler>()
-    ensures { AnswersTaken H.answer_of H.after }
-{}
-
 /// Whatever is called: a reply is stored wherever the last number is 1 to 3, what counts as offered is the front, told by that
 /// reply, no more events wait than there is room for, and the address is that of a device.
 pub fn reader_stays_well<H: Handler>()
@@ -106,11 +90,13 @@ pub fn reader_stays_well<H: Handler>()
     ensures address { StaysADevice H.answer_of H.after }
 {}
 
-/// Each command of a list is answered after those before it. Whatever comes later changes no answer, nor does the address.
+/// Each command of a list is answered after those before it. Whatever comes later changes no answer, nor does the address. A taken command
+/// other than POLL has the answer that a list has at its place.
 pub fn answers_in_order<H: Handler>()
     ensures order { AnswersInOrder H.answer_of H.after }
     ensures before { AnswersByWhatCame H.answer_of H.after }
     ensures anywhere { AnswersWhereverItIs H.answer_of H.after }
+    ensures taken { AnswersTaken H.answer_of H.after }
 {}
 
 /// Each reply goes to the address and with the kind of check that its command used, without reserved bits.
@@ -131,12 +117,11 @@ pub fn refuses_and_keeps_all<H: Handler>()
     ensures busy { SaysBusy H.answer_of H.after }
 {}
 
-/// The address changes by an accepted COMSET alone, and is the one that it sets.
+/// The address changes by an accepted COMSET alone, and is the one that it sets. A reader that a COMSET moves has no last number and no stored
+/// reply at its new address, and its handler stays. An address and a rate are told exactly where a COMSET to a device's address is acted on,
+/// and are its own.
 pub fn moves_by_comset_alone<H: Handler>()
-    ensures { MovesByComsetAlone H.answer_of H.after }
-{}
-
-/// A reader that a COMSET moves has no last number and no stored reply at its new address. Its handler stays.
-pub fn forgets_where_it_moves<H: Handler>()
-    ensures { ForgetsWhereItMoves H.answer_of H.after }
+    ensures alone { MovesByComsetAlone H.answer_of H.after }
+    ensures forgets { ForgetsWhereItMoves H.answer_of H.after }
+    ensures told { TellsItsComset H.answer_of H.after }
 {}
