@@ -79,6 +79,12 @@ abbrev pub taken_by : Kind → Option Command → List Command
 taken_by kind.Taken command = taken_command command
 taken_by _ command = []
 
+-- what is left of it where it was heard: a POLL stays, which no account counts
+abbrev pub left_by : Kind → Option Command → Option Command
+left_by kind.Taken (Some Poll) = Some Poll
+left_by kind.Taken _ = None
+left_by _ command = command
+
 abbrev pub with_taken : List Command → Account → Account
 with_taken commands a = record a { taken = a.taken ++ commands }
 

@@ -1,7 +1,7 @@
 //! What a schedule comes to.
 
 ghost use Rattle.std.specs.Prelude.{◌≡◌, None, OnOk};
-ghost use Rattle.osdp_sim.specs.Account.{empty_account, lists_of, taken_by, taken_command, with_issued, with_queued, with_report, with_session, with_taken};
+ghost use Rattle.osdp_sim.specs.Account.{empty_account, left_by, lists_of, taken_by, taken_command, with_issued, with_queued, with_report, with_session, with_taken};
 ghost use Rattle.osdp_sim.specs.Room.{HasPlaces};
 
 use osdp_controller::{LostCause, Report};
@@ -157,6 +157,7 @@ impl Account {
     pub fn take_heard(&mut self, heard: &mut Heard)
         requires { HasPlaces self.old }
         ensures account { lists_of self.new ≡ with_taken (taken_by heard.old.kind heard.old.command) (lists_of self.old) }
+        ensures command { heard.new.command ≡ left_by heard.old.kind heard.old.command }
         ensures kind { heard.new.kind ≡ heard.old.kind }
         ensures burst { heard.new.burst ≡ heard.old.burst }
     {

@@ -37,13 +37,18 @@ use Rattle.osdp_sim.specs.declared.account.Account as declared
 use Rattle.osdp_sim.specs.declared.config.SimConfig.{SimConfig}
 use Rattle.osdp_sim.specs.declared.fault.Cause.{Cause}
 use Rattle.osdp_sim.specs.declared.fault.Fault.{Fault}
-use Rattle.osdp_sim.specs.declared.step.Move as way
 use Rattle.osdp_sim.specs.declared.step.SimStep.{SimStep}
 use Rattle.osdp_sim.specs.declared.step.SimStep.TheVariants.{Issue, Queue, Busy, Wait, ToReader, ToController, Reopen}
 use Rattle.osdp_sim_laws.specs.Accepted.{AcceptsByRoom, IsAccepted, IsAmong, but_poll, commands_of, events_of}
 use Rattle.osdp_sim_laws.specs.Accounts.{account_in}
 use Rattle.osdp_sim_laws.specs.Clean.{IsOrder}
 use Rattle.osdp_sim_laws.proofs.Accounts.{report_leaves}
+
+-- a step that brings neither a command nor an event
+abbrev pub IsNoOrder : SimStep → Type 0
+IsNoOrder (Issue number command) = ⊥
+IsNoOrder (Queue number event) = ⊥
+IsNoOrder _ = Unit {0}
 
 -- ---- lists that are accepted
 
@@ -222,29 +227,6 @@ module _ {H : Type 0} (answer_of : H → Command → Answer) (after : H → Comm
   where_none true s t is = is
   where_none false s t is = same s
 
-  waits_none : (wait : ℕ) (s : SimState H) → AcceptsNone s (after_step answer_of after (Wait wait) s)
-  waits_none wait s =
-      let now = moment_after wait s.clock in
-      let t = ticks now s.controller.session s.controller.waiting in
-      let leaves = report_leaves t.step.report s.account in
-      record {
-        waiting = tick_few s.controller.session.state _ s.controller.waiting;
-        commands = refl;
-        events = record { events = omega arith; capacity = refl };
-        issued = leaves.0;
-        queued = leaves.1;
-      }
-
-  busy_none : (number : ℕ) (busy : Bool) (s : SimState H) → AcceptsNone s (after_step answer_of after (Busy number busy) s)
-  busy_none number busy s =
-      where_none (number == 1) s (record s { reader = record s.reader { busy = busy } })
-      (record { waiting = omega arith; commands = refl; events = record { events = omega arith; capacity = refl }; issued = refl; queued = refl })
-
-  reopens_none : (number : ℕ) (s : SimState H) → AcceptsNone s (after_step answer_of after (Reopen number) s)
-  reopens_none number s =
-      where_none (number == 1) s (steps.reopened s)
-      (record { waiting = omega arith; commands = refl; events = record { events = omega arith; capacity = refl }; issued = refl; queued = refl })
-
   -- what is on the line is no part of it
   off_the_line : (s t u : SimState H) → t.controller ≡ s.controller → t.reader ≡ s.reader → t.account ≡ s.account → AcceptsNone t u → AcceptsNone s u
   off_the_line s t u controller reader account is =
@@ -261,15 +243,32 @@ module _ {H : Type 0} (answer_of : H → Command → Answer) (after : H → Comm
       })
       is
 
-  to_reader_none : (move : way.Move) (s : SimState H) → AcceptsNone s (after_step answer_of after (ToReader move) s)
-  to_reader_none move s =
+  idle_none : (step : SimStep) → IsNoOrder step → (s : SimState H) → AcceptsNone s (after_step answer_of after step s)
+  idle_none (Issue number command) idles s = absurd idles
+  idle_none (Queue number event) idles s = absurd idles
+  idle_none (Busy number busy) idles s =
+      where_none (number == 1) s (record s { reader = record s.reader { busy = busy } })
+      (record { waiting = omega arith; commands = refl; events = record { events = omega arith; capacity = refl }; issued = refl; queued = refl })
+  idle_none (Wait wait) idles s =
+      let now = moment_after wait s.clock in
+      let t = ticks now s.controller.session s.controller.waiting in
+      let leaves = report_leaves t.step.report s.account in
+      record {
+        waiting = tick_few s.controller.session.state _ s.controller.waiting;
+        commands = refl;
+        events = record { events = omega arith; capacity = refl };
+        issued = leaves.0;
+        queued = leaves.1;
+      }
+  idle_none (ToReader move) idles s =
       let t = record s { to_reader = left move s.to_reader } in
       off_the_line s t (after_step answer_of after (ToReader move) s) refl refl refl (reader_none (packets_in (handed move s.to_reader)) t)
-
-  to_controller_none : (move : way.Move) (s : SimState H) → AcceptsNone s (after_step answer_of after (ToController move) s)
-  to_controller_none move s =
+  idle_none (ToController move) idles s =
       let t = record s { to_controller = left move s.to_controller } in
       off_the_line s t (after_step answer_of after (ToController move) s) refl refl refl (controller_none (packets_in (handed move s.to_controller)) t)
+  idle_none (Reopen number) idles s =
+      where_none (number == 1) s (steps.reopened s)
+      (record { waiting = omega arith; commands = refl; events = record { events = omega arith; capacity = refl }; issued = refl; queued = refl })
 
   -- ---- commands
 
@@ -286,9 +285,11 @@ module _ {H : Type 0} (answer_of : H → Command → Answer) (after : H → Comm
   abbrev RestAccepts : List SimStep → Type 0
   RestAccepts list = (k : ℕ) (s : SimState H) → length s.controller.waiting ≤ k → AcceptsCommands k list s (run answer_of after list s)
 
-  quiet_commands : (list : List SimStep) → RestAccepts list → (k : ℕ) (s t : SimState H) → length s.controller.waiting ≤ k → AcceptsNone s t
-      → AcceptsCommands k list s (run answer_of after list t)
-  quiet_commands list rest k s t few is =
+  idle_commands : (list : List SimStep) → RestAccepts list → (step : SimStep) → IsNoOrder step → (k : ℕ) (s : SimState H) → length s.controller.waiting ≤ k
+      → AcceptsCommands k list s (run answer_of after (step ∷ list) s)
+  idle_commands list rest step idles k s few =
+      let t = after_step answer_of after step s in
+      let is = idle_none step idles s in
       carried_commands k list s t (run answer_of after list t) is.commands is.issued (rest k t (omega (arith, few, is.waiting)))
 
   issue_accepts : (number : ℕ) (c : Command) (list : List SimStep) → RestAccepts list → RestAccepts (Issue number c ∷ list)
@@ -338,16 +339,7 @@ module _ {H : Type 0} (answer_of : H → Command → Answer) (after : H → Comm
   accepts_commands (Issue number c ∷ list) k s few = issue_accepts number c list (accepts_commands list) k s few
   accepts_commands (Queue number e ∷ list) k s few =
       queue_issues_none e list (accepts_commands list) (number == 1) (length s.reader.queue.events == s.reader.queue.capacity) k s few
-  accepts_commands (Busy number busy ∷ list) k s few =
-      quiet_commands list (accepts_commands list) k s (after_step answer_of after (Busy number busy) s) few (busy_none number busy s)
-  accepts_commands (Wait wait ∷ list) k s few =
-      quiet_commands list (accepts_commands list) k s (after_step answer_of after (Wait wait) s) few (waits_none wait s)
-  accepts_commands (ToReader move ∷ list) k s few =
-      quiet_commands list (accepts_commands list) k s (after_step answer_of after (ToReader move) s) few (to_reader_none move s)
-  accepts_commands (ToController move ∷ list) k s few =
-      quiet_commands list (accepts_commands list) k s (after_step answer_of after (ToController move) s) few (to_controller_none move s)
-  accepts_commands (Reopen number ∷ list) k s few =
-      quiet_commands list (accepts_commands list) k s (after_step answer_of after (Reopen number) s) few (reopens_none number s)
+  accepts_commands (step ∷ list) k s few = idle_commands list (accepts_commands list) step tt k s few
 
   -- ---- events
 
@@ -363,9 +355,11 @@ module _ {H : Type 0} (answer_of : H → Command → Answer) (after : H → Comm
   abbrev RestQueues : List SimStep → Type 0
   RestQueues list = (k : ℕ) (s : SimState H) → length s.reader.queue.events ≤ k → AcceptsEvents k list s (run answer_of after list s)
 
-  quiet_events : (list : List SimStep) → RestQueues list → (k : ℕ) (s t : SimState H) → length s.reader.queue.events ≤ k → AcceptsNone s t
-      → AcceptsEvents k list s (run answer_of after list t)
-  quiet_events list rest k s t few is =
+  idle_events : (list : List SimStep) → RestQueues list → (step : SimStep) → IsNoOrder step → (k : ℕ) (s : SimState H) → length s.reader.queue.events ≤ k
+      → AcceptsEvents k list s (run answer_of after (step ∷ list) s)
+  idle_events list rest step idles k s few =
+      let t = after_step answer_of after step s in
+      let is = idle_none step idles s in
       carried_events k list s t (run answer_of after list t) is.events.capacity is.queued (rest k t (omega (arith, few, is.events.events)))
 
   queue_accepts : (number : ℕ) (e : Event) (list : List SimStep) → RestQueues list → RestQueues (Queue number e ∷ list)
@@ -402,16 +396,7 @@ module _ {H : Type 0} (answer_of : H → Command → Answer) (after : H → Comm
   accepts_events (Issue number c ∷ list) k s few =
       issue_queues_none c list (accepts_events list) (number == 1) (controllers.submit_refusal c s.controller) k s few
   accepts_events (Queue number e ∷ list) k s few = queue_accepts number e list (accepts_events list) k s few
-  accepts_events (Busy number busy ∷ list) k s few =
-      quiet_events list (accepts_events list) k s (after_step answer_of after (Busy number busy) s) few (busy_none number busy s)
-  accepts_events (Wait wait ∷ list) k s few =
-      quiet_events list (accepts_events list) k s (after_step answer_of after (Wait wait) s) few (waits_none wait s)
-  accepts_events (ToReader move ∷ list) k s few =
-      quiet_events list (accepts_events list) k s (after_step answer_of after (ToReader move) s) few (to_reader_none move s)
-  accepts_events (ToController move ∷ list) k s few =
-      quiet_events list (accepts_events list) k s (after_step answer_of after (ToController move) s) few (to_controller_none move s)
-  accepts_events (Reopen number ∷ list) k s few =
-      quiet_events list (accepts_events list) k s (after_step answer_of after (Reopen number) s) few (reopens_none number s)
+  accepts_events (step ∷ list) k s few = idle_events list (accepts_events list) step tt k s few
 
   -- ---- whatever is answered
 

@@ -5,6 +5,7 @@ use Rattle.std.specs.Prelude.{option_to_list}
 use Rattle.osdp_msg.specs.declared.command.Command.{Command}
 use Rattle.osdp_msg.specs.declared.command.Command.TheVariants as command
 use Rattle.osdp_msg.specs.declared.event.Event.{Event}
+use Rattle.osdp_msg.specs.declared.reply.Reply.{Reply}
 use Rattle.osdp_msg.specs.declared.reply.Reply.TheVariants as reply
 use Rattle.osdp_controller.specs.declared.report.Report.{Report}
 use Rattle.osdp_controller.specs.declared.report.Report.TheVariants as report
@@ -16,6 +17,7 @@ use Rattle.osdp_link_laws.specs.Sessions.{Leaves, settled_commands, ended_comman
 use Rattle.osdp_link_laws.proofs.Lines.{each_append}
 use Rattle.osdp_link_laws.proofs.Stages.{Each}
 use Rattle.osdp_sim.specs.Account.{Account, lengths_of, taken_by, taken_command, with_report, with_session, with_taken}
+use Rattle.osdp_sim.specs.declared.account.End.{End}
 use Rattle.osdp_sim.specs.declared.account.End.TheVariants as ending
 use Rattle.osdp_sim.specs.declared.account.Lengths.{Lengths}
 use Rattle.osdp_sim_laws.specs.Accounts.{AreOver, IsNoRefusal, IsOf, all_in}
@@ -35,27 +37,25 @@ after_taken more a t earlier h = record {
   queued = h.queued;
 }
 
+told_settled : (more : List (Command × Reply)) (ends : List End) (a : Account) (t : link.Account) (earlier : List link.Account) → IsOf a t earlier
+    → IsOf (record a { settled = a.settled ++ more; ends = ends }) (record t { settled = t.settled ++ more }) earlier
+told_settled more ends a t earlier h = record {
+  taken = h.taken;
+  settled = later a.settled (all_in (λ t. t.settled) earlier) t.settled more h.settled;
+  unsettled = h.unsettled;
+  reported = h.reported;
+  issued = h.issued;
+  queued = h.queued;
+}
+
 -- a report
 pub tells_report : (r : Option Report) (a : Account) (t : link.Account) (earlier : List link.Account) → IsOf a t earlier
     → IsOf (with_report r a) (link.told r t) earlier
 tells_report None a t earlier h = h
 tells_report (Some (report.Opened id)) a t earlier h = h
-tells_report (Some (report.Settled command answer)) a t earlier h = record {
-  taken = h.taken;
-  settled = later a.settled (all_in (λ t. t.settled) earlier) t.settled ((command, answer) ∷ []) h.settled;
-  unsettled = h.unsettled;
-  reported = h.reported;
-  issued = h.issued;
-  queued = h.queued;
-}
-tells_report (Some (report.Moved command answered)) a t earlier h = record {
-  taken = h.taken;
-  settled = later a.settled (all_in (λ t. t.settled) earlier) t.settled ((command, reply.Com answered) ∷ []) h.settled;
-  unsettled = h.unsettled;
-  reported = h.reported;
-  issued = h.issued;
-  queued = h.queued;
-}
+tells_report (Some (report.Settled command answer)) a t earlier h = told_settled ((command, answer) ∷ []) a.ends a t earlier h
+tells_report (Some (report.Moved command answered)) a t earlier h =
+    told_settled ((command, reply.Com answered) ∷ []) (a.ends ++ ending.Moved ∷ []) a t earlier h
 tells_report (Some (report.Event event)) a t earlier h = record {
   taken = h.taken;
   settled = h.settled;
@@ -75,51 +75,29 @@ tells_report (Some (report.Lost cause command)) a t earlier h = record {
   queued = h.queued;
 }
 
+-- nothing is taken
+none_taken : (offered : List Event) (a : Account) (t : link.Account) (earlier : List link.Account) → IsOf a t earlier
+    → IsOf (with_taken [] a) (record t { offered = offered }) earlier
+none_taken offered a t earlier h = record {
+  taken = append-nil a.taken ∙ h.taken;
+  settled = h.settled;
+  unsettled = h.unsettled;
+  reported = h.reported;
+  issued = h.issued;
+  queued = h.queued;
+}
+
 -- a command that is taken: POLL is none of them
 taken_alike : (c : Command) (front : List Event) (a : Account) (t : link.Account) (earlier : List link.Account) → IsOf a t earlier
     → IsOf (with_taken (taken_command (Some c)) a) (link.taken_command c front t) earlier
-taken_alike command.Poll front a t earlier h = record {
-  taken = append-nil a.taken ∙ h.taken;
-  settled = h.settled;
-  unsettled = h.unsettled;
-  reported = h.reported;
-  issued = h.issued;
-  queued = h.queued;
-}
-taken_alike (command.Id kept) front a t earlier h = after_taken (command.Id kept ∷ []) a t earlier h
-taken_alike (command.Cap kept) front a t earlier h = after_taken (command.Cap kept ∷ []) a t earlier h
-taken_alike command.LocalStatus front a t earlier h = after_taken (command.LocalStatus ∷ []) a t earlier h
-taken_alike command.InputStatus front a t earlier h = after_taken (command.InputStatus ∷ []) a t earlier h
-taken_alike command.OutputStatus front a t earlier h = after_taken (command.OutputStatus ∷ []) a t earlier h
-taken_alike command.ReaderStatus front a t earlier h = after_taken (command.ReaderStatus ∷ []) a t earlier h
-taken_alike (command.Output records) front a t earlier h = after_taken (command.Output records ∷ []) a t earlier h
-taken_alike (command.Led records) front a t earlier h = after_taken (command.Led records ∷ []) a t earlier h
-taken_alike (command.Buzzer b) front a t earlier h = after_taken (command.Buzzer b ∷ []) a t earlier h
-taken_alike (command.Text text) front a t earlier h = after_taken (command.Text text ∷ []) a t earlier h
-taken_alike (command.Comset c) front a t earlier h = after_taken (command.Comset c ∷ []) a t earlier h
-taken_alike (command.Maker m) front a t earlier h = after_taken (command.Maker m ∷ []) a t earlier h
-
--- nothing is taken
-none_taken : (a : Account) (t : link.Account) (earlier : List link.Account) → IsOf a t earlier → IsOf (with_taken [] a) t earlier
-none_taken a t earlier h = record {
-  taken = append-nil a.taken ∙ h.taken;
-  settled = h.settled;
-  unsettled = h.unsettled;
-  reported = h.reported;
-  issued = h.issued;
-  queued = h.queued;
-}
+taken_alike command.Poll front a t earlier h = none_taken (t.offered ++ front) a t earlier h
+taken_alike c front a t earlier h = after_taken (c ∷ []) a t earlier h
 
 pub tells_taken : (k : Kind) (c : Option Command) (front : List Event) (a : Account) (t : link.Account) (earlier : List link.Account) → IsOf a t earlier
     → IsOf (with_taken (taken_by k c) a) (link.taken k c front t) earlier
 tells_taken kind.Taken (Some c) front a t earlier h = taken_alike c front a t earlier h
-tells_taken kind.Taken None front a t earlier h = none_taken a t earlier h
-tells_taken kind.Silent c front a t earlier h = none_taken a t earlier h
-tells_taken kind.Secured c front a t earlier h = none_taken a t earlier h
-tells_taken kind.Zero c front a t earlier h = none_taken a t earlier h
-tells_taken kind.Repeat c front a t earlier h = none_taken a t earlier h
-tells_taken kind.Busy c front a t earlier h = none_taken a t earlier h
-tells_taken kind.Wrong c front a t earlier h = none_taken a t earlier h
+tells_taken kind.Taken None front a t earlier h = none_taken t.offered a t earlier h
+tells_taken k c front a t earlier h = none_taken t.offered a t earlier h
 
 -- more events come after all of them
 over_more : (cuts : List Lengths) (next more : List Event) (earlier : List link.Account) (gone : List Event) → AreOver cuts next earlier gone

@@ -344,7 +344,7 @@ module _ {H : Type 0} (answer_of : H → Command → Answer) (after : H → Comm
       let end = run answer_of after more before in
       let next = subst (λ s. Follows answer_of after (run answer_of after more s) ns later (clock_after more 0) before.account) (sym there) then_ in
       let whole = goes_on answer_of after before end ms ns l (clock_after orders 0) (clock_after more 0) no_account first next in
-      let begun = begins answer_of after config handler device in
+      let begun = begins config handler device in
       let kept = steps_within answer_of after orders 0 (orders_within orders are) in
       let both = each_append (IsWithin answer_of after) ms ns kept (steps_within answer_of after more 0 (clean_within n)) in
       let ended : run answer_of after (orders ++ more) start ≡ end = runs_on (after_step answer_of after) orders more start in

@@ -140,7 +140,7 @@ module _ {H : Type 0} (answer_of : H → Command → Answer) (after : H → Comm
       let none : later.earlier ≡ [] = run_within answer_of after ms l within in
       let carried = follows.carried in
       let tells = carried.tells in
-      let begun = begins answer_of after config handler device in
+      let begun = begins config handler device in
       let events = given.events l ms begun follows.moves in
       let gone : events.0 ≡ [] = subst (λ e. HaveLeft (all_queued answer_of after ms l) e events.0) none events.1 in
       record {
@@ -208,7 +208,7 @@ module _ {H : Type 0} (answer_of : H → Command → Answer) (after : H → Comm
       let next = subst (λ s. Follows answer_of after (run answer_of after more s) ns later (clock_after more clock) before.account) (sym there) two.next in
       let whole = goes_on answer_of after before end ms ns l clock (clock_after more clock) no_account first next in
       let device = is.settings.controller.config_in_range.address in
-      let begun = begins answer_of after config handler device in
+      let begun = begins config handler device in
       let kept = steps_within answer_of after steps 0 (each_of IsInSession steps within) in
       let both = each_append (IsWithin answer_of after) ms ns kept (steps_within answer_of after more clock (rounds_within m wait)) in
       let first_lists = as_long given config handler device before ms clock first kept in
@@ -272,7 +272,7 @@ module _ {H : Type 0} (answer_of : H → Command → Answer) (after : H → Comm
       each_front SetsNoAddress before.account.issued (all_submitted answer_of after (moves_of more clock) later)
       (subst (Each SetsNoAddress) issued (each_of SetsNoAddress (run answer_of after (all_steps ++ more) start).account.issued none)) in
       let device = is.settings.controller.config_in_range.address in
-      let begun = begins answer_of after config handler device in
+      let begun = begins config handler device in
       let kept = stays l ms begun first.moves (each_all SetsNoAddress (all_submitted answer_of after ms l) (subst (Each SetsNoAddress) first.carried.issued none_before)) in
       let middle = link.run answer_of after (moves_of steps 0) l in
       let at_most = steps_few answer_of after 0 steps 0 l (omega arith, omega arith) in

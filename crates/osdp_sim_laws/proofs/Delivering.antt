@@ -25,22 +25,14 @@ use Rattle.osdp_sim_laws.specs.OneLink.{ReadsPackets}
 use Rattle.osdp_sim_laws.specs.Accounts.{IsOf}
 use Rattle.osdp_sim_laws.specs.Moves.{delivery, in_bytes}
 use Rattle.osdp_sim_laws.proofs.Accounts.{causes_of, report_leaves, tells_report, tells_taken}
-use Rattle.osdp_sim_laws.proofs.Carrying.{ArePackets, IsCarried, packets_after, sent_after}
+use Rattle.osdp_sim_laws.proofs.Carrying.{ArePackets, IsCarried, nothing, packets_after, sent_after}
 
 module _ {H : Type 0} where
   -- nothing comes through
   lost : (l : Link H) (s : SimState H) (clock : ℕ) (a : Account) → s ≡ in_bytes l clock a → ArePackets l → IsOf a l.account l.earlier
       → IsCarried s l clock a [] [] []
   lost l s clock a is packets tells =
-      let same = ap (λ (t : SimState H). t.account) is in
-      subst (λ t. IsCarried t l clock a [] [] []) (sym is) (record {
-        state = refl;
-        packets = packets;
-        tells = tells;
-        issued = sym (append-nil a.issued);
-        queued = sym (append-nil a.queued);
-        causes = λ told well. well;
-      })
+      subst (λ t. IsCarried t l clock a [] [] []) (sym is) (nothing l clock a packets tells)
 
   -- ---- to the controller
 

@@ -50,18 +50,19 @@ tells_nothing = record {
   queued = ([], (refl, refl), refl);
 }
 
-module _ {H : Type 0} (answer_of : H → Command → Answer) (after : H → Command → H) where
-  pub begins : (config : SimConfig) (handler : H) → config.controller.address < 127 → Begins (first_link config handler)
-  begins config handler device = record {
-    quiet = (_, refl);
-    address = device;
-    waiting = λ k d lt. absurd (omega (arith, lt));
-    to_reader = refl;
-    to_controller = refl;
-    account = refl;
-    earlier = refl;
-  }
+-- so an only session begins, and that of each reader of several
+pub begins : {H : Type 0} (config : SimConfig) (handler : H) → config.controller.address < 127 → Begins (first_link config handler)
+begins config handler device = record {
+  quiet = (_, refl);
+  address = device;
+  waiting = λ k d lt. absurd (omega (arith, lt));
+  to_reader = refl;
+  to_controller = refl;
+  account = refl;
+  earlier = refl;
+}
 
+module _ {H : Type 0} (answer_of : H → Command → Answer) (after : H → Command → H) where
   -- a schedule goes on from where the first session has begun
   pub goes_from_first : OneLink answer_of after → (config : SimConfig) (handler : H) → config.controller.address < 127
       → GoesFrom answer_of after (first_link config handler) 0 no_account
