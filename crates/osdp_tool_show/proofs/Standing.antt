@@ -1,14 +1,14 @@
 -- Runs that go on and end, and what has been told of them.
-use Rattle.std.proofs.Common.{◌≡◌, ℕ, ◌+◌, ◌-◌, ◌<◌, ◌≤◌, ◌==◌, not, Bool, true, false, cond, min, List, [], ◌∷◌, ◌++◌, length, take, drop, get_or, Option, None, inl, inr, refl, sym, subst, ap, ◌∙◌, arith, append_assoc, append-nil, length-append, take-append-drop}
-use Rattle.std.proofs.Math.Seq.{drop-drop, take-add}
-use Rattle.std.proofs.lemmas.List.{drop-append-le, drop_all, get_or_append_left, get_or-append_right, get_or_past}
-use Rattle.std.proofs.lemmas.Bool.{ne_eqb, cases_lt}
+use Rattle.std.proofs.Common.{◌≡◌, ℕ, ◌+◌, ◌-◌, ◌≤◌, ◌==◌, not, Bool, true, false, cond, List, [], ◌∷◌, ◌++◌, length, take, drop, Option, None, refl, sym, subst, ap, ◌∙◌, arith, append_assoc, append-nil, length-append, take-append-drop}
+use Rattle.std.proofs.Math.Seq.{take-add}
+use Rattle.std.proofs.lemmas.List.{drop_all}
+use Rattle.std.proofs.lemmas.Bool.{ne_eqb}
 use Rattle.std.specs.Io.KnownBytes.{Appends}
 use Rattle.std.proofs.KnownBytes.{Appends-trans}
 use Rattle.osdp_frame.specs.Bytes.{AreBytes}
-use Rattle.osdp_frame.specs.Reading.{RunItem, total_size}
+use Rattle.osdp_frame.specs.Reading.{total_size}
 use Rattle.osdp_frame.specs.Held.{Held, decided, after_gap, after_push, taken_count}
-use Rattle.osdp_frame.specs.Items.{items, reading, left_over}
+use Rattle.osdp_frame.specs.Items.{items, left_over}
 use Rattle.osdp_frame.proofs.Decided.{AreBytes-front}
 use Rattle.osdp_frame.proofs.Head.{AreBytes-drop, AreBytes-take}
 use Rattle.osdp_frame_laws.proofs.LawsOfSpellings.{AreBytes-append, AreBytes-nil}
