@@ -1,14 +1,17 @@
 -- Lines to a panel as calls of its bus.
-use Rattle.std.proofs.Common.{◌≡◌, ◌∙◌, ◌⊎◌, ap, sym, subst, refl, ℕ, List, [], ◌∷◌, ◌++◌, Option, inl, inr, append-nil, append_assoc}
+use Rattle.std.proofs.Common.{◌≡◌, ◌∙◌, ◌⊎◌, ap, sym, subst, refl, ℕ, List, [], ◌∷◌, ◌++◌, inl, inr, append-nil}
 use Rattle.osdp_bus.specs.Buses.{BusState}
 use Rattle.osdp_bus_laws.specs.Calls.{Call, NextReport, after_call, after_calls}
-use Rattle.osdp_line_streams.specs.Answers.{Speaks, heard}
+use Rattle.osdp_line_streams.specs.Answers.{Speaks}
+use Rattle.osdp_line_streams.specs.Calls.{Says, SaysNothing}
 use Rattle.osdp_panel_calls.specs.declared.call.PanelCall.{PanelCall}
 use Rattle.osdp_panel_calls.specs.declared.call.PanelCall.TheVariants.{At, Add, Begin, Submit, Withdraw, Retarget, Bytes, Silence, Tick}
-use Rattle.osdp_panel_calls.specs.Lines.{Answers, Ends, IsAnswered, Says, SaysNothing, refuses}
-use Rattle.osdp_panel_calls.specs.Sessions.{Called, IsDue, Session, answered, does, ended, told}
+use Rattle.osdp_panel_calls.specs.Calls.{CallFits, call_words}
+use Rattle.osdp_panel_calls.specs.Lines.{Answers, IsAnswered, refuses}
+use Rattle.osdp_panel_calls.specs.Sessions.{Called, IsDue, Session, answered, ended, told}
 use Rattle.osdp_panel_calls.specs.Texts.{due_line, report_line}
-use Rattle.osdp_line_laws.specs.PanelLines.{Calls, Refused, calls_text, call_text, ordered}
+use Rattle.osdp_line_laws.proofs.Lines.{of_all}
+use Rattle.osdp_line_laws.specs.PanelLines.{Calls, Refused, calls_text, ordered}
 
 -- the calls of a line, and what they tell, without the moment at the end
 record Made (call : PanelCall) (s : Session) : Type 0 where
@@ -31,7 +34,7 @@ made Silence s = record { bus = refl; text = sym (append-nil _) }
 made Tick s = record { bus = refl; text = with_report _ _ }
 
 pub of_line : (s : Session) (given text : List ℕ) (next : Session) (c : Called) → IsAnswered given s c → text ≡ c.text → next ≡ c.session
-    → ((call : PanelCall) × Says given call × Calls s (ordered call s.now ++ NextReport ∷ []) text next) ⊎ (SaysNothing given × Refused s text next)
+    → ((call : PanelCall) × Says call_words CallFits given call × Calls s (ordered call s.now ++ NextReport ∷ []) text next) ⊎ (SaysNothing call_words CallFits given × Refused s text next)
 of_line s given text next c (inl (call, says, ends)) text_is next_is =
     let m = made call s in
     let due = ends.0 in
@@ -75,8 +78,4 @@ calls_of_line s given text next a = elim (of_line s given text next a.called a.i
 
 pub of_lines : (first : Session) (lines : List (List ℕ)) (text : List ℕ) (last : Session) → Speaks Answers first lines text last
     → (calls : List Call) × (last.bus ≡ after_calls calls first.bus)
-of_lines first [] text last spoken = ([], ap (λ (x : Session). x.bus) spoken.1)
-of_lines first (line ∷ lines) text last (answer, rest, next, is, speaks, joined) =
-    let one = calls_of_line first (heard line) answer next is in
-    let others = of_lines next lines rest last speaks in
-    (one.0 ++ others.0, others.1 ∙ ap (after_calls others.0) one.1 ∙ sym (after_more one.0 others.0 first.bus))
+of_lines = of_all Answers (λ s. s.bus) after_calls (λ b. refl) after_more calls_of_line

@@ -1,20 +1,23 @@
 -- Lines to a reader's device as steps of its reader.
-use Rattle.std.proofs.Common.{◌≡◌, ◌∙◌, ◌⊎◌, ap, sym, subst, refl, ℕ, List, [], ◌∷◌, ◌++◌, false, length, inl, inr, append-nil, append_assoc}
+use Rattle.std.proofs.Common.{◌≡◌, ◌∙◌, ◌⊎◌, ap, sym, refl, ℕ, List, [], ◌∷◌, ◌++◌, false, length, inl, inr, append-nil, append_assoc}
 use Rattle.osdp_device.specs.Hearing.{Heard, hears_bytes, reads_all, reads_on, then_reads}
 use Rattle.osdp_device.specs.Receiving.{Received, ends_silent, seen, after_tick, after_silence}
 use Rattle.osdp_device.specs.Saying.{Said}
 use Rattle.osdp_device.specs.Status.{status_after, status_answer}
-use Rattle.osdp_device.specs.Telling.{after_items, items_of, listed, said_to_all}
+use Rattle.osdp_device.specs.Telling.{after_items, items_of, said_to_all}
 use Rattle.osdp_device.specs.declared.status.DeviceStatus.{DeviceStatus}
 use Rattle.osdp_frame.specs.Items.{items}
 use Rattle.osdp_frame.specs.Reading.{RunItem, PacketItem, SkippedItem, RefusedItem}
-use Rattle.osdp_line_streams.specs.Answers.{Speaks, heard}
+use Rattle.osdp_line_streams.specs.Answers.{Speaks}
+use Rattle.osdp_line_streams.specs.Calls.{SaysNothing}
 use Rattle.osdp_reader.specs.State.{ReaderState}
 use Rattle.osdp_reader_calls.specs.declared.call.ReaderCall.{ReaderCall}
 use Rattle.osdp_reader_calls.specs.declared.call.ReaderCall.TheVariants.{At, Bytes, Silence, Tick, Event, Busy, Inputs, Outputs, Readers, Local}
-use Rattle.osdp_reader_calls.specs.Lines.{Answers, IsAnswered, Says, SaysNothing, refuses}
-use Rattle.osdp_reader_calls.specs.Sessions.{Called, Session, answered, does}
+use Rattle.osdp_reader_calls.specs.Calls.{CallFits, call_words}
+use Rattle.osdp_reader_calls.specs.Lines.{Answers, IsAnswered}
+use Rattle.osdp_reader_calls.specs.Sessions.{Called, Session, does}
 use Rattle.osdp_reader_calls.specs.Texts.{all_lines, said_lines, waiting_line}
+use Rattle.osdp_line_laws.proofs.Lines.{of_all}
 use Rattle.osdp_line_laws.specs.ReaderLines.{Hears, Refused, SetsBusy, SetsStatus, Step, Submits, TakesSteps, after_step, after_steps, step_text, steps_text}
 
 abbrev Reader : Type 0
@@ -114,7 +117,7 @@ call_steps (Readers list) s = record { steps = SetsStatus (record s.reader.handl
 call_steps (Local tamper power) s = record { steps = SetsStatus (record s.reader.handler { tamper = tamper; power = power }) ∷ []; reader = refl; text = refl }
 
 pub of_line : (s : Session) (given text : List ℕ) (next : Session) (c : Called) → IsAnswered given s c → text ≡ c.text → next ≡ c.session
-    → TakesSteps s text next ⊎ (SaysNothing given × Refused s text next)
+    → TakesSteps s text next ⊎ (SaysNothing call_words CallFits given × Refused s text next)
 of_line s given text next c (inl (call, says, is)) text_is next_is =
     let d = call_steps call s in
     let next_is_done : next ≡ (does call s).session = next_is ∙ ap (λ (x : Called). x.session) is in
@@ -138,8 +141,4 @@ steps_of_line s given text next a = elim (of_line s given text next a.called a.i
 
 pub of_lines : (first : Session) (lines : List (List ℕ)) (text : List ℕ) (last : Session) → Speaks Answers first lines text last
     → (steps : List Step) × (last.reader ≡ after_steps steps first.reader)
-of_lines first [] text last spoken = ([], ap (λ (x : Session). x.reader) spoken.1)
-of_lines first (line ∷ lines) text last (answer, rest, next, is, speaks, joined) =
-    let one = steps_of_line first (heard line) answer next is in
-    let others = of_lines next lines rest last speaks in
-    (one.0 ++ others.0, others.1 ∙ ap (after_steps others.0) one.1 ∙ sym (after_more one.0 others.0 first.reader))
+of_lines = of_all Answers (λ s. s.reader) after_steps (λ r. refl) after_more steps_of_line

@@ -6,9 +6,11 @@ use Rattle.osdp_bus.specs.Machine.{add_refusal, begin_refusal_at, retarget_refus
 use Rattle.osdp_bus.specs.Ticking.{bus_ticks}
 use Rattle.osdp_bus_laws.specs.Calls.{Call, Add, Begin, Submit, Withdraw, Retarget, OnBytes, OnSilence, Tick, NextReport, after_call, after_calls}
 use Rattle.osdp_line_streams.specs.Answers.{Speaks}
+use Rattle.osdp_line_streams.specs.Calls.{Says, SaysNothing}
 use Rattle.osdp_panel_calls.specs.declared.call.PanelCall.{PanelCall}
 use Rattle.osdp_panel_calls.specs.declared.call.PanelCall.TheVariants as line
-use Rattle.osdp_panel_calls.specs.Lines.{Answers, Says, SaysNothing}
+use Rattle.osdp_panel_calls.specs.Calls.{CallFits, call_words}
+use Rattle.osdp_panel_calls.specs.Lines.{Answers}
 use Rattle.osdp_panel_calls.specs.Sessions.{IsDue, Session, new_session}
 use Rattle.osdp_panel_calls.specs.Texts.{due_line, no_line, refusal_line, report_line, send_line, withdrawal_line}
 
@@ -58,8 +60,8 @@ pub record Refused (s : Session) (text : List ℕ) (next : Session) : Type 0 whe
 -- a line is the call of the bus that it orders, and the taking of the report that waits then; or it is none
 abbrev pub IsCallOrNone : Type 0
 IsCallOrNone = (s : Session) (given text : List ℕ) (next : Session) → Answers s given text next
-    → ((call : PanelCall) × Says given call × Calls s (ordered call s.now ++ NextReport ∷ []) text next)
-    ⊎ (SaysNothing given × Refused s text next)
+    → ((call : PanelCall) × Says call_words CallFits given call × Calls s (ordered call s.now ++ NextReport ∷ []) text next)
+    ⊎ (SaysNothing call_words CallFits given × Refused s text next)
 
 -- lines to a new panel come to a list of calls of a new bus, so what holds after every list of calls holds after any lines
 abbrev pub ComesOfCalls : Type 0

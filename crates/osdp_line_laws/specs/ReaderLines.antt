@@ -6,11 +6,13 @@ use Rattle.osdp_device.specs.Telling.{listed}
 use Rattle.osdp_device.specs.declared.status.DeviceStatus.{DeviceStatus}
 use Rattle.osdp_frame.specs.Packet.{Packet}
 use Rattle.osdp_line_streams.specs.Answers.{Speaks}
+use Rattle.osdp_line_streams.specs.Calls.{SaysNothing}
 use Rattle.osdp_msg.specs.declared.event.Event.{Event}
 use Rattle.osdp_reader.specs.State.{ReaderState, after_set_busy, after_set_handler, new_reader}
 use Rattle.osdp_reader.specs.Table.{hears, kind_of}
 use Rattle.osdp_reader.specs.declared.config.ReaderConfig.{ReaderConfig}
-use Rattle.osdp_reader_calls.specs.Lines.{Answers, SaysNothing}
+use Rattle.osdp_reader_calls.specs.Calls.{CallFits, call_words}
+use Rattle.osdp_reader_calls.specs.Lines.{Answers}
 use Rattle.osdp_reader_calls.specs.Sessions.{Session, after_event, new_session, submit_text}
 use Rattle.osdp_reader_calls.specs.Texts.{all_lines, no_line, waiting_line}
 
@@ -57,7 +59,7 @@ pub record Refused (s : Session) (text : List ℕ) (next : Session) : Type 0 whe
 -- a line is some steps of the reader, or it is none
 abbrev pub IsStepsOrNone : Type 0
 IsStepsOrNone = (s : Session) (given text : List ℕ) (next : Session) → Answers s given text next
-    → TakesSteps s text next ⊎ (SaysNothing given × Refused s text next)
+    → TakesSteps s text next ⊎ (SaysNothing call_words CallFits given × Refused s text next)
 
 -- lines to a new device come to a list of steps of a new reader, so what each of them keeps holds after any lines
 abbrev pub ComesOfSteps : Type 0

@@ -7,6 +7,7 @@ use Rattle.osdp_bus.specs.Deadlines.{IsDeadline}
 use Rattle.osdp_bus.specs.Hearing.{after_bytes, after_silence}
 use Rattle.osdp_bus.specs.Machine.{add_refusal, after_add, after_begin_at, after_next_report, after_retarget_at, after_submit_at, after_withdraw_at, begin_refusal_at, changed_unless, retarget_refusal_at, submit_refusal_at, withdrawal_at}
 use Rattle.osdp_bus.specs.Ticking.{BusTicked, bus_ticks}
+use Rattle.osdp_reader_calls.specs.LineAnswers.{CalledIn}
 use Rattle.osdp_panel_calls.specs.declared.call.PanelCall.{PanelCall}
 use Rattle.osdp_panel_calls.specs.declared.call.PanelCall.TheVariants as call
 use Rattle.osdp_panel_calls.specs.Texts.{due_line, refusal_line, report_line, send_line, withdrawal_line}
@@ -16,10 +17,8 @@ pub record Session : Type 0 where
   pub bus : BusState
   pub now : ℕ
 
--- what a call comes to: its lines, and the session after it
-pub record Called : Type 0 where
-  pub text : List ℕ
-  pub session : Session
+abbrev pub Called : Type 0
+Called = CalledIn Session
 
 -- a bus without devices, at moment 0
 abbrev pub new_session : BusConfig → Session

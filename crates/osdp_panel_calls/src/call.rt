@@ -12,7 +12,7 @@ use arrayvec::ArrayVec;
 use osdp_bus::Entry;
 use osdp_frame::Address;
 use osdp_msg::Command;
-use osdp_reader_calls::number_u64;
+use osdp_reader_calls::{number_u64, one_word};
 use osdp_words::{byte_list, number_u8, number_u32};
 
 /// What a line orders. An entry is that of the bus, which counts from 0; the line's word for it counts from 1.
@@ -59,40 +59,28 @@ fn parse_address(word: &str) -> Option<Address>
 fn one_moment(words: &[&str]) -> Option<u64>
     ensures { ReadsWords (λ n. number n ∷ []) (λ n. n < 2 ^ 64) (texts words.now) result }
 {
-    let [word] = words else {
-        return None;
-    };
-    number_u64(word)
+    number_u64(one_word(words)?)
 }
 
 /// One word, and no other: an address.
 fn one_address(words: &[&str]) -> Option<Address>
     ensures { ReadsWords (λ n. number n ∷ []) IsAddress (texts words.now) result }
 {
-    let [word] = words else {
-        return None;
-    };
-    parse_address(word)
+    parse_address(one_word(words)?)
 }
 
 /// One word, and no other: an entry.
 fn one_entry(words: &[&str]) -> Option<Entry>
     ensures { ReadsWords (λ n. entry_word n ∷ []) IsEntry (texts words.now) result }
 {
-    let [word] = words else {
-        return None;
-    };
-    parse_entry(word)
+    parse_entry(one_word(words)?)
 }
 
 /// One word, and no other: bytes of the line.
 fn one_list(words: &[&str]) -> Option<ArrayVec<u8, 4096>>
     ensures { ReadsWords (λ list. bytes list.items ∷ []) (λ list. IsLong list.items) (texts words.now) result }
 {
-    let [word] = words else {
-        return None;
-    };
-    byte_list(word)
+    byte_list(one_word(words)?)
 }
 
 /// An entry, and the words of a command.
@@ -120,7 +108,7 @@ fn entry_and_address(words: &[&str]) -> Option<(Entry, Address)>
 }
 
 /// The call whose words begin with a name and go on with these.
-fn parse_row(name: &str, words: &[&str]) -> Option<PanelCall>
+pub(crate) fn parse_row(name: &str, words: &[&str]) -> Option<PanelCall>
     ensures { ReadsWords call_words CallFits (name.now ∷ texts words.now) result }
 {
     match name {
@@ -140,17 +128,5 @@ fn parse_row(name: &str, words: &[&str]) -> Option<PanelCall>
         "silence" => words.is_empty().then_some(PanelCall::Silence),
         "tick" => words.is_empty().then_some(PanelCall::Tick),
         _ => None,
-    }
-}
-
-impl PanelCall {
-    /// The call that has these words.
-    pub fn parse(words: &[&str]) -> Option<PanelCall>
-        ensures { ReadsWords call_words CallFits (texts words.now) result }
-    {
-        let [name, rest @ ..] = words else {
-            return None;
-        };
-        parse_row(name, rest)
     }
 }

@@ -5,7 +5,7 @@ ghost use Rattle.osdp_panel_calls.specs.Calls.{CallFits, call_words};
 ghost use Rattle.osdp_panel_calls.specs.Lines.{Answers, Gives, refuses};
 ghost use Rattle.osdp_panel_calls.specs.Sessions.{answered};
 
-use crate::call::PanelCall;
+use crate::call::{PanelCall, parse_row};
 use crate::session::LinePanel;
 use osdp_line_streams::{LineCall, LineMachine};
 use std::alloc::AllocError;
@@ -16,7 +16,10 @@ impl LineCall for PanelCall {
     ghost fits = { CallFits };
 
     fn parse(words: &[&str]) -> Option<PanelCall> {
-        PanelCall::parse(words)
+        let [name, rest @ ..] = words else {
+            return None;
+        };
+        parse_row(name, rest)
     }
 }
 

@@ -1,9 +1,9 @@
 //! The lines that answer a call.
 
-ghost use Rattle.std.specs.Prelude.{◌≡◌, ◌<◌, ◌^◌, ◌++◌, IfSome, OnOk, Option, Some, codes, string_bytes};
+ghost use Rattle.std.specs.Prelude.{◌≡◌, ◌<◌, ◌^◌, ◌++◌, [], IfSome, OnOk, Option, Some, codes, string_bytes};
 ghost use Rattle.osdp_bus.specs.Sending.{IsSentAs};
 ghost use Rattle.osdp_frame.specs.Packet.{Packet};
-ghost use Rattle.osdp_panel_calls.specs.Texts.{cause_name, code_text, due_line, entry_line, fault_name, refusal_line, report_line, send_line, told_line, with_command, withdrawal_line};
+ghost use Rattle.osdp_panel_calls.specs.Texts.{cause_name, due_line, fault_name, refusal_line, report_line, send_line, told_line, with_command, withdrawal_line};
 
 use osdp_bus::{BusFault, Entry};
 use osdp_controller::{LostCause, Report};
@@ -33,37 +33,13 @@ fn cause_name(cause: LostCause) -> &'static str
     }
 }
 
-/// Writes that the answer to a command, or to a POLL, can't be read.
-fn push_unread(
-    text: &mut String,
-    entry: usize,
-    code: u8,
-    command: Option<Command>,
-) -> Result<(), AllocError>
-    ensures { OnOk result (string_bytes text.new ≡ string_bytes text.old ++ entry_line (codes "unread") entry (with_command (code_text code) command)) }
+/// Ends a line with the command that it tells of, where there is one.
+fn push_command(text: &mut String, command: Option<Command>) -> Result<(), AllocError>
+    ensures { OnOk result (string_bytes text.new ≡ string_bytes text.old ++ (with_command [] command ++ codes "\n")) }
 {
-    let number = entry as u128 + 1;
-    let bytes = [code];
     match command {
-        None => writeln!(text, "unread {number} code {}", ByteList(&bytes)),
-        Some(command) => writeln!(text, "unread {number} code {} {command}", ByteList(&bytes)),
-    }
-}
-
-/// Writes that a session was lost, with its command that is unsettled.
-fn push_lost(
-    text: &mut String,
-    entry: usize,
-    cause: LostCause,
-    command: Option<Command>,
-) -> Result<(), AllocError>
-    ensures { OnOk result (string_bytes text.new ≡ string_bytes text.old ++ entry_line (codes "lost") entry (with_command (cause_name cause) command)) }
-{
-    let number = entry as u128 + 1;
-    let cause = cause_name(cause);
-    match command {
-        None => writeln!(text, "lost {number} {cause}"),
-        Some(command) => writeln!(text, "lost {number} {cause} {command}"),
+        None => text.push_str("\n"),
+        Some(command) => writeln!(text, " {command}"),
     }
 }
 
@@ -84,8 +60,16 @@ fn push_told(text: &mut String, entry: Entry, report: Report) -> Result<(), Allo
         }
         Report::Event(event) => writeln!(text, "event {number} {event}"),
         Report::PollAnswered(reply) => writeln!(text, "answered {number} {reply}"),
-        Report::Unread(command, code) => push_unread(text, entry, code, command),
-        Report::Lost(cause, command) => push_lost(text, entry, cause, command),
+        Report::Unread(command, code) => {
+            let bytes = [code];
+            write!(text, "unread {number} code {}", ByteList(&bytes))?;
+            push_command(text, command)
+        }
+        Report::Lost(cause, command) => {
+            let cause = cause_name(cause);
+            write!(text, "lost {number} {cause}")?;
+            push_command(text, command)
+        }
     }
 }
 

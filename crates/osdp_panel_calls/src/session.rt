@@ -1,7 +1,7 @@
 //! A panel that is called by lines.
 
 ghost use Rattle.std.specs.Prelude.{◌≡◌, ◌++◌, ℕ, List, IfErr, IfOk, OnOk, Err, string_bytes};
-ghost use Rattle.osdp_bus.specs.Machine.{NewEnds, add_refusal, after_add, after_begin_at, after_retarget_at, after_submit_at, after_withdraw_at, begin_refusal_at, changed_unless, retarget_refusal_at, submit_refusal_at, withdrawal_at};
+ghost use Rattle.osdp_bus.specs.Machine.{NewEnds, add_refusal, after_add, after_withdraw_at, changed_unless, withdrawal_at};
 ghost use Rattle.osdp_bus.specs.Settings.{IsBusConfig};
 ghost use Rattle.osdp_bus.specs.Ticking.{bus_ticks};
 ghost use Rattle.osdp_panel_calls.specs.Lines.{Ends, refuses};
@@ -12,7 +12,6 @@ use crate::call::PanelCall;
 use crate::say::{push_due, push_refusal, push_report, push_sent, push_withdrawal};
 use osdp_bus::{Bus, BusConfig, BusFault, Entry};
 use osdp_frame::Address;
-use osdp_msg::Command;
 use std::alloc::{AllocError, Global};
 use std::marker::Model;
 
@@ -43,33 +42,6 @@ fn add(bus: &mut Bus, address: Address, text: &mut String) -> Result<(), AllocEr
     }
 }
 
-/// Begins a session, or writes why the call is refused.
-fn begin(bus: &mut Bus, entry: Entry, now: u64, text: &mut String) -> Result<(), AllocError>
-    ensures text { OnOk result (string_bytes text.new ≡ string_bytes text.old ++ refusal_line (begin_refusal_at entry bus.old)) }
-    ensures bus { OnOk result (bus.new ≡ changed_unless (begin_refusal_at entry bus.old) bus.old (after_begin_at entry now bus.old)) }
-{
-    match bus.begin(entry, now) {
-        Ok(()) => Ok(()),
-        Err(fault) => push_refusal(text, fault),
-    }
-}
-
-/// Puts a command after those that wait for a device, or writes why it is refused.
-fn submit(
-    bus: &mut Bus,
-    entry: Entry,
-    command: Command,
-    text: &mut String,
-) -> Result<(), AllocError>
-    ensures text { OnOk result (string_bytes text.new ≡ string_bytes text.old ++ refusal_line (submit_refusal_at entry command bus.old)) }
-    ensures bus { OnOk result (bus.new ≡ changed_unless (submit_refusal_at entry command bus.old) bus.old (after_submit_at entry command bus.old)) }
-{
-    match bus.submit(entry, command) {
-        Ok(()) => Ok(()),
-        Err((fault, _)) => push_refusal(text, fault),
-    }
-}
-
 /// Takes back a command, and writes which, or why the call is refused.
 fn withdraw(bus: &mut Bus, entry: Entry, text: &mut String) -> Result<(), AllocError>
     ensures text { OnOk result (string_bytes text.new ≡ string_bytes text.old ++ withdrawal_line entry (withdrawal_at entry bus.old)) }
@@ -77,22 +49,6 @@ fn withdraw(bus: &mut Bus, entry: Entry, text: &mut String) -> Result<(), AllocE
 {
     let taken = bus.withdraw(entry);
     push_withdrawal(text, entry, taken)
-}
-
-/// Sets the address of a device, or writes why the call is refused.
-fn retarget(
-    bus: &mut Bus,
-    entry: Entry,
-    address: Address,
-    text: &mut String,
-) -> Result<(), AllocError>
-    ensures text { OnOk result (string_bytes text.new ≡ string_bytes text.old ++ refusal_line (retarget_refusal_at entry address bus.old)) }
-    ensures bus { OnOk result (bus.new ≡ changed_unless (retarget_refusal_at entry address bus.old) bus.old (after_retarget_at entry address bus.old)) }
-{
-    match bus.retarget(entry, address) {
-        Ok(()) => Ok(()),
-        Err(fault) => push_refusal(text, fault),
-    }
 }
 
 /// Ticks at a moment, and writes what goes out.
@@ -126,13 +82,21 @@ impl LinePanel {
         match call {
             PanelCall::At(now) => self.now = now,
             PanelCall::Add(address) => return add(&mut self.bus, address, text),
-            PanelCall::Begin(entry) => return begin(&mut self.bus, entry, self.now, text),
+            PanelCall::Begin(entry) => {
+                if let Err(fault) = self.bus.begin(entry, self.now) {
+                    return push_refusal(text, fault);
+                }
+            }
             PanelCall::Submit(entry, command) => {
-                return submit(&mut self.bus, entry, command, text);
+                if let Err((fault, _)) = self.bus.submit(entry, command) {
+                    return push_refusal(text, fault);
+                }
             }
             PanelCall::Withdraw(entry) => return withdraw(&mut self.bus, entry, text),
             PanelCall::Retarget(entry, address) => {
-                return retarget(&mut self.bus, entry, address, text);
+                if let Err(fault) = self.bus.retarget(entry, address) {
+                    return push_refusal(text, fault);
+                }
             }
             PanelCall::Bytes(list) => self.bus.on_bytes(list.as_slice(), self.now),
             PanelCall::Silence => self.bus.on_silence(self.now),

@@ -1,4 +1,5 @@
 pub mod Calls
 pub mod Texts
+pub mod LineAnswers
 pub mod Sessions
 pub mod Lines

@@ -1,17 +1,9 @@
 -- What a line is answered.
-use Rattle.std.specs.Prelude.{◌≡◌, ◌⊎◌, ℕ, List}
-use Rattle.osdp_line_streams.specs.Calls.{Says as LineSays, SaysNothing as LineSaysNothing}
-use Rattle.osdp_reader_calls.specs.declared.call.ReaderCall.{ReaderCall}
+use Rattle.std.specs.Prelude.{◌≡◌, ℕ, List}
+use Rattle.osdp_reader_calls.specs.LineAnswers.{AnswersBy, IsAnsweredBy}
 use Rattle.osdp_reader_calls.specs.Calls.{CallFits, call_words}
 use Rattle.osdp_reader_calls.specs.Sessions.{Called, Session, answered, ended}
 use Rattle.osdp_reader_calls.specs.Texts.{no_line}
-
--- the characters of a line are the words of a call
-abbrev pub Says : List ℕ → ReaderCall → Type 0
-Says = LineSays call_words CallFits
-
-abbrev pub SaysNothing : List ℕ → Type 0
-SaysNothing = LineSaysNothing call_words CallFits
 
 -- a line that is none changes nothing
 abbrev pub refuses : Session → Called
@@ -21,14 +13,9 @@ refuses s = ended (record { text = no_line; session = s })
 abbrev pub Gives : Called → List ℕ → Session → Type 0
 Gives c text next = (text ≡ c.text) × (next ≡ c.session)
 
--- what a line comes to: what its call does, or else it is refused
+-- what a line comes to, and the same as what a machine answers it
 abbrev pub IsAnswered : List ℕ → Session → Called → Type 0
-IsAnswered line s c =
-    ((call : ReaderCall) × Says line call × (c ≡ answered call s)) ⊎ (SaysNothing line × (c ≡ refuses s))
+IsAnswered = IsAnsweredBy call_words CallFits (λ call s c. c ≡ answered call s) (λ s c. c ≡ refuses s)
 
--- the same, as what a machine answers a line: the text of the answer, and the session after it
-pub record Answers (s : Session) (line text : List ℕ) (next : Session) : Type 0 where
-  pub called : Called
-  pub is : IsAnswered line s called
-  pub text_is : text ≡ called.text
-  pub next_is : next ≡ called.session
+abbrev pub Answers : Session → List ℕ → List ℕ → Session → Type 0
+Answers = AnswersBy call_words CallFits (λ call s c. c ≡ answered call s) (λ s c. c ≡ refuses s)

@@ -7,6 +7,7 @@ use Rattle.osdp_device.specs.Status.{new_status, status_after, status_answer}
 use Rattle.osdp_device.specs.declared.status.DeviceStatus.{DeviceStatus}
 use Rattle.osdp_reader.specs.State.{ReaderState, after_set_busy, after_set_handler, after_submit, new_reader}
 use Rattle.osdp_reader.specs.declared.config.ReaderConfig.{ReaderConfig}
+use Rattle.osdp_reader_calls.specs.LineAnswers.{CalledIn}
 use Rattle.osdp_reader_calls.specs.declared.call.ReaderCall.{ReaderCall}
 use Rattle.osdp_reader_calls.specs.declared.call.ReaderCall.TheVariants as call
 use Rattle.osdp_reader_calls.specs.Texts.{all_lines, full_line, waiting_line}
@@ -17,10 +18,8 @@ pub record Session : Type 0 where
   pub line : Received
   pub now : ℕ
 
--- what a call comes to: its lines, and the session after it
-pub record Called : Type 0 where
-  pub text : List ℕ
-  pub session : Session
+abbrev pub Called : Type 0
+Called = CalledIn Session
 
 -- a device to whose line nothing has come, at moment 0
 abbrev pub new_session : ReaderConfig → ℕ → ℕ → Session

@@ -1,6 +1,6 @@
 //! What a line may order.
 
-ghost use Rattle.std.specs.Prelude.{◌≡◌, ◌<◌, ◌^◌, ◌∷◌, ◌⊎◌, ◌↔◌, ℕ, [], IsTrue, length, slice_index};
+ghost use Rattle.std.specs.Prelude.{◌≡◌, ◌<◌, ◌^◌, ◌∷◌, ◌⊎◌, ◌↔◌, ℕ, List, [], IsTrue, MatchOption, length, slice_index};
 ghost use Rattle.osdp_msg.specs.Events.{EventFits, event_words};
 ghost use Rattle.osdp_words.specs.Reading.{Reads, ReadsWords};
 ghost use Rattle.osdp_words.specs.Word.{bytes, number, texts};
@@ -52,34 +52,35 @@ pub fn number_u64(word: &str) -> Option<u64>
     word.parse().ok()
 }
 
+/// One word, and no other.
+pub fn one_word<'a>(words: &[&'a str]) -> Option<&'a str>
+    ensures { MatchOption result ((word : List ℕ) → texts words.now ≡ word ∷ [] → ⊥) (λ word. texts words.now ≡ word.now ∷ []) }
+{
+    match words {
+        [word] => Some(*word),
+        _ => None,
+    }
+}
+
 /// One word, and no other: a moment.
 fn parse_moment(words: &[&str]) -> Option<u64>
     ensures { ReadsWords (λ n. number n ∷ []) (λ n. n < 2 ^ 64) (texts words.now) result }
 {
-    let [word] = words else {
-        return None;
-    };
-    number_u64(word)
+    number_u64(one_word(words)?)
 }
 
 /// One word, and no other: bytes of the line.
 fn parse_bytes(words: &[&str]) -> Option<ArrayVec<u8, 4096>>
     ensures { ReadsWords (λ list. bytes list.items ∷ []) (λ list. IsLong list.items) (texts words.now) result }
 {
-    let [word] = words else {
-        return None;
-    };
-    byte_list(word)
+    byte_list(one_word(words)?)
 }
 
 /// One word, and no other: a byte for each input, output or reader.
 fn parse_states(words: &[&str]) -> Option<ArrayVec<u8, 1432>>
     ensures { ReadsWords (λ list. bytes list.items ∷ []) (λ list. AreStates list.items) (texts words.now) result }
 {
-    let [word] = words else {
-        return None;
-    };
-    byte_list(word)
+    byte_list(one_word(words)?)
 }
 
 /// The words of an event.
@@ -93,10 +94,7 @@ fn parse_event(words: &[&str]) -> Option<osdp_msg::Event>
 fn parse_switch(words: &[&str]) -> Option<bool>
     ensures { ReadsWords (λ busy. switch_word busy ∷ []) (λ busy. Unit {0}) (texts words.now) result }
 {
-    let [word] = words else {
-        return None;
-    };
-    match *word {
+    match one_word(words)? {
         "on" => Some(true),
         "off" => Some(false),
         _ => None,
@@ -114,7 +112,7 @@ fn parse_local(words: &[&str]) -> Option<(u8, u8)>
 }
 
 /// The call whose words begin with a name and go on with these.
-fn parse_row(name: &str, words: &[&str]) -> Option<ReaderCall>
+pub(crate) fn parse_row(name: &str, words: &[&str]) -> Option<ReaderCall>
     ensures { ReadsWords call_words CallFits (name.now ∷ texts words.now) result }
 {
     match name {
@@ -132,17 +130,5 @@ fn parse_row(name: &str, words: &[&str]) -> Option<ReaderCall>
             Some(ReaderCall::Local(tamper, power))
         }
         _ => None,
-    }
-}
-
-impl ReaderCall {
-    /// The call that has these words.
-    pub fn parse(words: &[&str]) -> Option<ReaderCall>
-        ensures { ReadsWords call_words CallFits (texts words.now) result }
-    {
-        let [name, rest @ ..] = words else {
-            return None;
-        };
-        parse_row(name, rest)
     }
 }

@@ -17,5 +17,5 @@ mod machine;
 mod say;
 mod session;
 
-pub use call::{ReaderCall, number_u64};
+pub use call::{ReaderCall, number_u64, one_word};
 pub use session::LineDevice;

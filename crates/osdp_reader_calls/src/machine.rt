@@ -6,7 +6,7 @@ ghost use Rattle.osdp_reader_calls.specs.Calls.{CallFits, call_words};
 ghost use Rattle.osdp_reader_calls.specs.Lines.{Answers, Gives, refuses};
 ghost use Rattle.osdp_reader_calls.specs.Sessions.{answered};
 
-use crate::call::ReaderCall;
+use crate::call::{ReaderCall, parse_row};
 use crate::session::LineDevice;
 use osdp_line_streams::{LineCall, LineMachine};
 use std::alloc::AllocError;
@@ -17,7 +17,10 @@ impl LineCall for ReaderCall {
     ghost fits = { CallFits };
 
     fn parse(words: &[&str]) -> Option<ReaderCall> {
-        ReaderCall::parse(words)
+        let [name, rest @ ..] = words else {
+            return None;
+        };
+        parse_row(name, rest)
     }
 }
 
