@@ -20,16 +20,13 @@ pub fn begun_bus(rt: &impl Abort, alloc: Global, addresses: &[u8]) -> Bus {
     bus
 }
 
-/// The kind of a report.
-fn kind(report: &Report) -> &'static str {
+/// Whether the report is of a kind that rows name so.
+fn is_kind(report: &Report, name: &str) -> bool {
     match report {
-        Report::Opened(_) => "opened",
-        Report::Settled(..) => "settled",
-        Report::Moved(..) => "moved",
-        Report::Event(_) => "event",
-        Report::PollAnswered(_) => "answered",
-        Report::Unread(..) => "unread",
-        Report::Lost(..) => "lost",
+        Report::Opened(_) => name == "opened",
+        Report::Event(_) => name == "event",
+        Report::Lost(..) => name == "lost",
+        _ => false,
     }
 }
 
@@ -40,7 +37,7 @@ fn is_told(rt: &impl Abort, told: &Option<(Entry, Report)>, word: &str) {
         Some((entry, report)) => {
             let (digit, expected) = word.split_once(':').expect(rt, word);
             assert_eq!(rt; digit.parse::<usize>().ok(), Some(*entry));
-            assert_eq!(rt; kind(report), expected);
+            assert!(rt; is_kind(report, expected), "{word}");
         }
     }
 }

@@ -19,12 +19,6 @@ const ONE: &str = "\
 1190 none none none 0:lost none
 ";
 
-#[test]
-fn a_read_of_nothing_ends_no_run(rt: HostRuntime) {
-    let mut bus = begun_bus(&rt, rt.alloc(), &[5]);
-    run(&rt, &mut bus, ONE);
-}
-
 /// A silence of the gap, seen by the moments of reads that gave nothing, ends what was begun: the rest is no packet. Its second byte, 53,
 /// begins a run of its own, as a packet of 333 bytes that never comes.
 const SILENT: &str = "\
@@ -36,12 +30,6 @@ const SILENT: &str = "\
 600 none 530508000061003F none none 800
 ";
 
-#[test]
-fn a_silence_ends_a_run(rt: HostRuntime) {
-    let mut bus = begun_bus(&rt, rt.alloc(), &[5]);
-    run(&rt, &mut bus, SILENT);
-}
-
 /// A read waited from 400 until an answer came at 590. The moment is that after it, so the next POLL is due an interval after the answer.
 const WAITED: &str = "\
 400 none 530508000061003F none none 600
@@ -49,12 +37,6 @@ const WAITED: &str = "\
 639 none none none none 640
 640 none 53050700016040 none none 840
 ";
-
-#[test]
-fn moments_are_after_the_read(rt: HostRuntime) {
-    let mut bus = begun_bus(&rt, rt.alloc(), &[5]);
-    run(&rt, &mut bus, WAITED);
-}
 
 /// Two devices: the turn that hears the first open sends the opening ID of the second.
 const TWO: &str = "\
@@ -68,12 +50,6 @@ const TWO: &str = "\
 480 none 5306070001603F none none 680
 ";
 
-#[test]
-fn two_devices_take_turns(rt: HostRuntime) {
-    let mut bus = begun_bus(&rt, rt.alloc(), &[5, 6]);
-    run(&rt, &mut bus, TWO);
-}
-
 /// The end of a session is told by the turn's tick; then the next turn is due at once, and the next device is asked.
 const LOST: &str = "\
 400 none 530508000061003F none none 600
@@ -83,8 +59,19 @@ const LOST: &str = "\
 1000 none 530608000061003E none none 1200
 ";
 
+/// Who is on the line in each of the tables, and the table.
+const SCENES: [(&[u8], &str); 5] = [
+    (&[5], ONE),
+    (&[5], SILENT),
+    (&[5], WAITED),
+    (&[5, 6], TWO),
+    (&[5, 6], LOST),
+];
+
 #[test]
-fn a_lost_session_lets_the_next_in(rt: HostRuntime) {
-    let mut bus = begun_bus(&rt, rt.alloc(), &[5, 6]);
-    run(&rt, &mut bus, LOST);
+fn panels_take_their_turns(rt: HostRuntime) {
+    for (addresses, rows) in SCENES {
+        let mut bus = begun_bus(&rt, rt.alloc(), addresses);
+        run(&rt, &mut bus, rows);
+    }
 }
