@@ -14,14 +14,14 @@ use Rattle.osdp_msg.proofs.Table.{bounded, one_value, reading, unless_err}
 
 pub command_reads : ReadsTheTable IsCommand command_of
 unfolding command_of
-command_reads code bytes m h = reading IsCommand command_fault command_at commands code bytes m h
+command_reads code bytes m h = reading commands code bytes m h
 
 pub command_faults : ReadsTheFaults command_fault command_of
 unfolding command_of
 command_faults code bytes e = unless_err (command_fault code bytes) (command_at code bytes) e
 
 pub commands_one_value : HasOneValue IsCommand
-commands_one_value = one_value IsCommand command_fault command_at commands
+commands_one_value = one_value commands
 
 pub commands_one_spelling : HasOneSpelling IsCommand
 commands_one_spelling code other bytes others m is also = (is.code_is ∙ sym also.code_is, is.data_is ∙ sym also.data_is)

@@ -22,9 +22,9 @@ use Rattle.osdp_msg.specs.declared.reply_fields.PdId.{PdId}
 use Rattle.osdp_msg.specs.CommandFields.{BuzzerFits, buzzer_at, buzzer_words, CommunicationFits, communication_words, LedFits, led_word, MakerFits, maker_words, OutputFits, output_word, TextFits, text_words}
 use Rattle.osdp_msg.specs.NakReasons.{reason_number, reason_of}
 use Rattle.osdp_msg.specs.Raw.{RawCard}
-use Rattle.osdp_msg.specs.ReplyFields.{CapabilityFits, capability_word, FormattedFits, formatted_words, KeypadFits, keypad_words, LocalStateFits, local_state_at, local_state_words, NakFits, detail_words, nak_words, PdIdFits, pd_id_words, RawFits, raw_words}
+use Rattle.osdp_msg.specs.ReplyFields.{CapabilityFits, capability_at, capability_word, FormattedFits, formatted_words, KeypadFits, keypad_words, LocalStateFits, local_state_at, local_state_words, NakFits, detail_words, nak_words, PdIdFits, pd_id_words, RawFits, raw_words}
 use Rattle.osdp_msg.proofs.ParsedRows.{communication_from, formatted_from, keypad_from, maker_from, text_from}
-use Rattle.osdp_msg.proofs.RecordWordRows.{capability_from, led_from, led_numbers, output_from, output_numbers}
+use Rattle.osdp_msg.proofs.RecordWordRows.{led_from, led_numbers, output_from, output_numbers}
 use Rattle.osdp_msg.proofs.ReplyRows.{reason_again, reason_byte}
 
 -- ---- words
@@ -171,7 +171,7 @@ maker_one given x y h k s t =
 
 pub capability_one : (g : List ℕ) (r o : Capability) → CapabilityFits r → CapabilityFits o → StandsFor (capability_word r) g → StandsFor (capability_word o) g → r ≡ o
 capability_one g r o h k s t =
-    ap capability_from (record_one g r.function o.function (r.level ∷ r.count ∷ []) (o.level ∷ o.count ∷ []) refl (byte r.function h.0, (byte r.level h.1, (byte r.count h.2, tt))) (byte o.function k.0, (byte o.level k.1, (byte o.count k.2, tt))) s t)
+    ap capability_at (record_one g r.function o.function (r.level ∷ r.count ∷ []) (o.level ∷ o.count ∷ []) refl (byte r.function h.0, (byte r.level h.1, (byte r.count h.2, tt))) (byte o.function k.0, (byte o.level k.1, (byte o.count k.2, tt))) s t)
 
 pub states_one : (given : List (List ℕ)) (a b : ArrayVec ℕ) → IsBytes a.items → IsBytes b.items → AllStandFor (bytes a.items ∷ []) given → AllStandFor (bytes b.items ∷ []) given → a ≡ b
 states_one given a b h k s t = ap (λ (xs : List ℕ). let made : ArrayVec ℕ = record { items = xs } in made) (bytes_then given a.items b.items [] [] h k s t).same

@@ -15,14 +15,14 @@ use Rattle.osdp_msg.proofs.Table.{bounded, one_value, reading, unless_err}
 
 pub reply_reads : ReadsTheTable IsReply reply_of
 unfolding reply_of
-reply_reads code bytes m h = reading IsReply reply_fault reply_at replies code bytes m h
+reply_reads code bytes m h = reading replies code bytes m h
 
 pub reply_faults : ReadsTheFaults reply_fault reply_of
 unfolding reply_of
 reply_faults code bytes e = unless_err (reply_fault code bytes) (reply_at code bytes) e
 
 pub replies_one_value : HasOneValue IsReply
-replies_one_value = one_value IsReply reply_fault reply_at replies
+replies_one_value = one_value replies
 
 pub replies_one_spelling : HasOneSpelling IsReply
 replies_one_spelling code other bytes others m is also = (is.code_is ∙ sym also.code_is, is.data_is ∙ sym also.data_is)
