@@ -26,14 +26,10 @@ pub fn changed_links_stay_in_a_row<H: Handler>()
 }
 
 /// Where the device never changes its state, the answers given are the configuration's to ID, CAP and COMSET, and the handler's to all
-/// others, in order from its first state.
-pub fn gives_its_answers<H: Handler>()
-    ensures { GivesItsAnswers H.answer_of H.after }
+/// others, in order from its first state. Where no command is withdrawn either, the link is the one of `osdp_link_laws`, whose laws hold of it.
+pub fn moves_as_before<H: Handler>()
+    ensures answers { GivesItsAnswers H.answer_of H.after }
+    ensures link { MovesAsBefore H.answer_of H.after }
 {
     osdp_link_laws::read_each_other::<H>();
 }
-
-/// Where it never does, and no command is withdrawn, the link is the one of `osdp_link_laws`, whose laws hold of it.
-pub fn moves_as_before<H: Handler>()
-    ensures { MovesAsBefore H.answer_of H.after }
-{}

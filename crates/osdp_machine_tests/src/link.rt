@@ -20,6 +20,5 @@ fn a_session_holds_with_a_door(_rt: HostRuntime) {
 fn a_session_holds_with_a_door_that_changes(_rt: HostRuntime) {
     osdp_link_changes::changed_links_hold_once::<Door>();
     osdp_link_changes::changed_links_stay_in_a_row::<Door>();
-    osdp_link_changes::gives_its_answers::<Door>();
     osdp_link_changes::moves_as_before::<Door>();
 }
