@@ -143,7 +143,7 @@ module _ {H : Type 0} (ends : EndsAreTold) where
                     once = silent_frame p now s.controller.session;
                   }));
               plain = λ said. subst (λ o. IsNoRefusalOf (waiting_after k (devices.told_of p now (device_of s)) o)) (sym report)
-                  (heard_so (λ r. IsNoRefusalOf (waiting_after k r None)) (refuses_none k) p now s.controller.session said);
+                  (refuses_none k (devices.told_of p now (device_of s)) (heard_so p now s.controller.session said));
             })))
       ]
 

@@ -6,8 +6,8 @@ use Rattle.osdp_controller.specs.declared.session.Session.{Session}
 use Rattle.osdp_controller_laws.specs.Commands.{TellsEnds}
 use Rattle.osdp_bus.specs.Buses.{waiting_after}
 use Rattle.osdp_link_laws.proofs.Numbers.{is_false, is_true}
-use Rattle.osdp_link_laws.proofs.Refusals.{NoRefusal, refuses_none as none_refused}
-use Rattle.osdp_link_laws.proofs.Reports.{HoldsOfReports, weaker}
+use Rattle.osdp_link_laws.proofs.Refusals.{refuses_none as none_refused}
+use Rattle.osdp_link_laws.proofs.Reports.{MayBring}
 use Rattle.osdp_multidrop.specs.Line.{Site, changed, site_at}
 use Rattle.osdp_multidrop.proofs.Changing.{some_same}
 use Rattle.osdp_bus_links.specs.Links.{IsNoRefusalOf, IsTold, TellsEach, TellsFrom, report_for}
@@ -17,13 +17,10 @@ use Rattle.osdp_bus_links.specs.Links.{IsNoRefusalOf, IsTold, TellsEach, TellsFr
 abbrev pub EndsAreTold : Type 0
 EndsAreTold = (now : ℕ) (s : Session) → TellsEnds now s
 
--- what a tick or a plain reply may bring refuses no number
-refuses_none_here : (entry : ℕ) (r : Option Report) → NoRefusal r → IsNoRefusalOf (waiting_after entry r None)
-refuses_none_here entry None none = tt
-refuses_none_here entry (Some r) none = none
-
-pub refuses_none : (entry : ℕ) → HoldsOfReports (λ r. IsNoRefusalOf (waiting_after entry r None))
-refuses_none entry = weaker NoRefusal (λ r. IsNoRefusalOf (waiting_after entry r None)) (refuses_none_here entry) none_refused
+-- what a plain reply may bring refuses no number
+pub refuses_none : (entry : ℕ) (r : Option Report) → MayBring r → IsNoRefusalOf (waiting_after entry r None)
+refuses_none entry None may = tt
+refuses_none entry (Some r) may = none_refused (Some r) may
 
 -- ---- who is told
 

@@ -1,5 +1,5 @@
 -- What holds of each controller is kept by each call.
-use Rattle.std.proofs.Common.{◌≡◌, ℕ, ◌+◌, ◌<◌, ◌≤◌, Bool, true, false, List, [], ◌∷◌, length, Option, Some, None, refl, arith}
+use Rattle.std.proofs.Common.{◌≡◌, ℕ, ◌+◌, ◌<◌, ◌≤◌, Bool, true, false, List, [], ◌∷◌, length, Option, Some, None, refl, arith, rules}
 use Rattle.std.specs.Prelude.{◌≢◌, if◌then◌else◌, All, drop, nat_lt, nat_le}
 use Rattle.std.proofs.lemmas.Bool.{ltb-true}
 use Rattle.std.proofs.lemmas.List.{length_push}
@@ -78,15 +78,7 @@ same_state c address (Waiting until sends o) is = (is.0, is.1, same_outstanding 
 same_state c address (Pausing until o) is = same_outstanding c address 0 o is
 
 pub keeps_config : (c : ControllerConfig) (address : ℕ) → address < 127 → IsConfig c → IsConfig (record c { address = address })
-keeps_config c address device is = record {
-  address = device;
-  reply_wait = is.reply_wait;
-  poll_interval = is.poll_interval;
-  busy_wait = is.busy_wait;
-  quiet_wait = is.quiet_wait;
-  sends = is.sends;
-  busy_limit = is.busy_limit;
-}
+keeps_config c address device is = search rules
 
 keeps_retarget : (f : Option ControllerFault) (address : ℕ) (m : Machine) → (f ≡ None → address < 127) → IsMachine m
     → IsMachine (changed_unless f m (after_retarget address m))

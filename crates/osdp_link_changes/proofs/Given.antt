@@ -29,6 +29,7 @@ use Rattle.osdp_link_laws.specs.Link.{Account, Delivered, Delivery, Link, Lost, 
 use Rattle.osdp_link_laws.proofs.Accounts.{one_more_answer}
 use Rattle.osdp_link_laws.proofs.Acting.{no_event, same_answer, taken_is}
 use Rattle.osdp_link_laws.proofs.Once.{GoesOn}
+use Rattle.osdp_link_laws.proofs.Stages.{Answering}
 use Rattle.osdp_link_changes.specs.Changes.{given_at, given_by, given_to, given_to_front}
 
 poll_or_not : (c : Command) → (c ≡ command.Poll) ⊎ (c ≢ command.Poll)
@@ -46,10 +47,8 @@ told_takes_none r t = refl
 
 module _ (fixed : ControllerConfig) {H : Type 0} (answer_of : H → Command → Answer) (after : H → Command → H) (settings : ReaderConfig) (first : H) where
   -- what a reader answers by, after these commands
-  pub record AnswersAs (r : ReaderState H) (t : Account) : Type 0 where
-    pub id : r.config.id ≡ settings.id
-    pub caps : r.config.caps ≡ settings.caps
-    pub handler : r.handler ≡ handler_after_commands answer_of after settings first t.taken
+  abbrev pub AnswersAs : ReaderState H → Account → Type 0
+  AnswersAs r t = Answering fixed answer_of after settings first t.taken r.config r.handler
 
   -- so much more is given to the commands taken
   abbrev pub Gives : Account → List (Command × Reply) → Account → Type 0

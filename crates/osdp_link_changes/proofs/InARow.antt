@@ -11,67 +11,38 @@ use Rattle.osdp_controller.specs.States.{is_closed}
 use Rattle.osdp_controller.specs.declared.config.ControllerConfig.{ControllerConfig}
 use Rattle.osdp_controller.specs.declared.fault.ControllerFault.{ControllerFault}
 use Rattle.osdp_controller.specs.declared.state.State.{State}
-use Rattle.osdp_controller.specs.declared.state.State.TheVariants.{Closed, Quiet, Idle, Waiting, Pausing}
+use Rattle.osdp_controller.specs.declared.state.State.TheVariants.{Closed}
 use Rattle.osdp_controller_laws.proofs.Closed.{closed_is, was_closed}
 use Rattle.osdp_reader.specs.declared.config.ReaderConfig.{ReaderConfig}
 use Rattle.osdp_reader.specs.declared.handler.Answer.{Answer}
-use Rattle.osdp_reader.specs.Table.{answer_to}
-use Rattle.osdp_link_laws.specs.Headline.{Begins, IsBeginning, MoveFits, MaySubmit, handler_after, with_answers}
-use Rattle.osdp_link_laws.specs.Link.{Account, Link, Move, Queue as QueueEvent, Reopen, SetBusy, Submit, Tick, ToController, ToReader, after_move}
+use Rattle.osdp_link_laws.specs.Headline.{Begins, MoveFits, handler_after, with_answers}
+use Rattle.osdp_link_laws.specs.Link.{Link, Move, Reopen, after_move}
 use Rattle.osdp_link_laws.specs.Sessions.{queued, submitted}
 use Rattle.osdp_link_laws.proofs.Advancing.{HoldsAtSomeStage}
 use Rattle.osdp_link_laws.proofs.Devices.{IsDevice, move_there}
 use Rattle.osdp_link_laws.proofs.Growing.{Grows, goes_on}
-use Rattle.osdp_link_laws.proofs.InARow.{Assumed, begins_more}
-use Rattle.osdp_link_laws.proofs.Lines.{each_of, each_rest}
-use Rattle.osdp_link_laws.proofs.Once.{GoesOn, fresh, is_once}
-use Rattle.osdp_link_laws.proofs.Sessions.{lasts_or_leaves, leaves}
-use Rattle.osdp_link_laws.proofs.Stages.{Fresh, Waits}
+use Rattle.osdp_link_laws.proofs.InARow.{Assumed, begins_on, begun, begun_again}
+use Rattle.osdp_link_laws.proofs.Once.{GoesOn, is_once}
+use Rattle.osdp_link_laws.proofs.Sessions.{answered_commands, lasts_or_leaves, leaves}
 use Rattle.osdp_link_changes.specs.Changes as changed
-use Rattle.osdp_link_changes.specs.Changes.{AreChanges, Change, Changed, IsChange, Moves, Session, SetHandler, Withdraw, after_change, given_at, run, session, unchanged, withdraws}
+use Rattle.osdp_link_changes.specs.Changes.{AreChanges, Change, Changed, IsChange, Moves, Session, SetHandler, Withdraw, after_change, given_at, run, session, unchanged}
 use Rattle.osdp_link_changes.specs.Handlers.{AreAnswersOf, KeepHandler, KeepsHandler}
-use Rattle.osdp_link_changes.specs.Sessions.{AreInARow, AreOnce, IsOnce, LastsOrLeaves, accounts}
-use Rattle.osdp_link_changes.proofs.Given.{AnswersAs, move_gives}
+use Rattle.osdp_link_changes.specs.Sessions.{AreInARow, AreOnce, IsOnce, LastsOrLeaves, LeavesBehind, accounts}
+use Rattle.osdp_link_changes.proofs.Given.{move_gives}
 use Rattle.osdp_link_changes.proofs.Waiting.{IsQuiet, moving_waited, stays_quiet, waited}
 
 -- the last session goes on
 row_goes_on : (s u : Session) (cs : List Command) (es : List Event) (before : List Session) → Grows cs es s.account u.account
     → AreInARow s before → AreInARow u before
 row_goes_on s u cs es [] grows row = tt
-row_goes_on s u cs es (one ∷ before) grows ((waiting, events, left, commands, waits), row) = (
-  (
-    waiting,
-    events,
-    left,
-    begins_more waiting s.account.issued u.account.issued cs commands grows.issued,
-    begins_more events s.account.queued u.account.queued es waits grows.queued,
-  ),
-  row,
-)
+row_goes_on s u cs es (one ∷ before) grows (follows, row) = (begins_on (LeavesBehind one) s.account u.account cs es grows follows, row)
 
-same_row : (s u : Session) (before : List Session) → s.account ≡ u.account → AreInARow s before → AreInARow u before
-same_row s u before same row = by_account before same row
-  where
-    by_account : (before : List Session) → s.account ≡ u.account → AreInARow s before → AreInARow u before
-    by_account [] same row = tt
-    by_account (one ∷ before) same ((waiting, events, left, commands, waits), row) = (
-      (
-        waiting,
-        events,
-        left,
-        subst (λ (t : Account). IsBeginning waiting t.issued) same commands,
-        subst (λ (t : Account). IsBeginning events t.queued) same waits,
-      ),
-      row,
-    )
+-- .. or commands of it are withdrawn
+same_row : (s : Session) (withdrawn : List Command) (before : List Session) → AreInARow s before → AreInARow (record s { withdrawn = withdrawn }) before
+same_row s withdrawn [] row = tt
+same_row s withdrawn (one ∷ before) row = row
 
 module _ {H : Type 0} (answer_of : H → Command → Answer) (after : H → Command → H) where
-  answered_commands : (settings : ReaderConfig) (h : H) (cs : List Command)
-      → map (λ (p : Command × Reply). p.0) (with_answers answer_of after settings h cs) ≡ cs
-  answered_commands settings h [] = refl
-  answered_commands settings h (c ∷ cs) =
-      ap (λ l. c ∷ l) (answered_commands settings (answer_to answer_of after settings h c).handler cs)
-
   -- a session that holds, after sessions that were once and in a row
   pub record Stands (settings : ReaderConfig) (first : H) (s : Changed H) : Type 0 where
     pub fixed : ControllerConfig
@@ -107,10 +78,7 @@ module _ {H : Type 0} (answer_of : H → Command → Answer) (after : H → Comm
   keeps_on : Assumed answer_of after settings first → (move : Move) (s : Changed H) → GoesOn move → MoveFits answer_of after move s.link → All s
       → All (going move s)
   keeps_on given move s on fits h =
-      let answering = h.holds.1.answering in
       let goes = goes_on answer_of after move s.link on in
-      let facts : AnswersAs h.fixed answer_of after settings (handler_of s) s.link.reader s.link.account =
-      record { id = answering.id; caps = answering.caps; handler = answering.handler } in
       record {
         fixed = h.fixed;
         device = h.device;
@@ -118,7 +86,7 @@ module _ {H : Type 0} (answer_of : H → Command → Answer) (after : H → Comm
         holds = moving_waited h.fixed answer_of after settings (handler_of s) (given h.fixed (handler_of s) h.device) s.withdrawn move s.link on fits h.quiet h.holds;
         quiet = stays_quiet answer_of after s.withdrawn move s.link on h.quiet;
         given = ap (λ l. l ++ given_at answer_of after move s.link) h.given
-            ∙ sym (move_gives h.fixed answer_of after settings (handler_of s) move s.link on facts);
+            ∙ sym (move_gives h.fixed answer_of after settings (handler_of s) move s.link on h.holds.1.answering);
         once = h.once;
         answers = h.answers;
         row = row_goes_on (session s) (session (going move s)) (submitted move s.link) (queued move s.link) s.before goes.0 h.row;
@@ -132,24 +100,11 @@ module _ {H : Type 0} (answer_of : H → Command → Answer) (after : H → Comm
   reopening None [] (q ∷ qs) now s may here there h = h
   reopening None [] [] now s may here there h =
       let fixed = s.link.controller.session.config in
-      let new = changed.reopens None [] [] now s in
-      let at = h.holds.0 in
-      let held = h.holds.1 in
       record {
         fixed = fixed;
         device = h.current;
         current = h.current;
-        holds = (
-          Fresh,
-          fresh fixed answer_of after settings (handler_of new) (waited [] new.link) (record {
-            controller = refl;
-            waiting = each_rest MaySubmit s.withdrawn s.link.controller.waiting held.waiting;
-            answering = record { id = held.answering.id; caps = held.answering.caps; handler = held.answering.handler };
-            to_reader = here;
-            to_controller = there;
-            account = refl;
-          }),
-        );
+        holds = begun_again answer_of after h.fixed settings (handler_of s) s.withdrawn now s.link h.holds here there;
         quiet = inl refl;
         given = refl;
         once = (once_now s h, h.once);
@@ -158,7 +113,7 @@ module _ {H : Type 0} (answer_of : H → Command → Answer) (after : H → Comm
           (
             s.link.controller.waiting,
             s.link.reader.queue.events,
-            leaves h.fixed answer_of after settings (handler_of s) at (waited s.withdrawn s.link) held (was_closed s.link.controller.session.state may),
+            leaves h.fixed answer_of after settings (handler_of s) h.holds.0 (waited s.withdrawn s.link) h.holds.1 (was_closed s.link.controller.session.state may),
             ([], sym (append-nil s.link.controller.waiting)),
             ([], sym (append-nil s.link.reader.queue.events)),
           ),
@@ -182,7 +137,7 @@ module _ {H : Type 0} (answer_of : H → Command → Answer) (after : H → Comm
     given = h.given;
     once = h.once;
     answers = h.answers;
-    row = same_row (session s) (session (put w ws s)) s.before refl h.row;
+    row = same_row (session s) w s.before h.row;
   }
 
   none_more : (s : Changed H) → IsQuiet s.withdrawn s.link → ((s.withdrawn ++ []) ≡ []) ⊎ (s.link.controller.session.state ≡ Closed)
@@ -201,14 +156,9 @@ module _ {H : Type 0} (answer_of : H → Command → Answer) (after : H → Comm
 
   pub standing : Assumed answer_of after settings first → (change : Change H) (s : Changed H) → KeepsHandler change
       → IsChange answer_of after change s → All s → All (after_change answer_of after change s)
-  standing given (Moves (Submit c)) s keeps fits h = keeps_on given (Submit c) s tt fits h
-  standing given (Moves (QueueEvent e)) s keeps fits h = keeps_on given (QueueEvent e) s tt fits h
-  standing given (Moves (SetBusy busy)) s keeps fits h = keeps_on given (SetBusy busy) s tt fits h
-  standing given (Moves (Tick now)) s keeps fits h = keeps_on given (Tick now) s tt fits h
-  standing given (Moves (ToReader how)) s keeps fits h = keeps_on given (ToReader how) s tt fits h
-  standing given (Moves (ToController how now)) s keeps fits h = keeps_on given (ToController how now) s tt fits h
   standing given (Moves (Reopen now)) s keeps fits h =
       reopening (controllers.begin_refusal s.link.controller) s.link.to_reader s.link.to_controller now s refl refl refl h
+  standing given (Moves move) s keeps fits h = keeps_on given move s tt fits h
   standing given (SetHandler handler) s keeps fits h = absurd keeps
   standing given Withdraw s keeps fits h =
       withdrawing (is_closed s.link.controller.session.state) s.link.controller.waiting s refl refl h
@@ -226,20 +176,8 @@ module _ {H : Type 0} (answer_of : H → Command → Answer) (after : H → Comm
   -- the last session, by its state
   pub last_one : (state : State) (s : Changed H) → s.link.controller.session.state ≡ state → All s → LastsOrLeaves state (session s) s.link.controller.waiting s.link.reader.queue.events
   last_one Closed s is h = leaves h.fixed answer_of after settings (handler_of s) h.holds.0 (waited s.withdrawn s.link) h.holds.1 is
-  last_one (Quiet until) s is h = (
-    lasts_or_leaves h.fixed answer_of after settings (handler_of s) (Quiet until) h.holds.0 (waited s.withdrawn s.link) is h.holds.1,
-    not_closed s h.quiet (λ e. absurd (let f = sym is ∙ e in cc)),
-  )
-  last_one (Idle due) s is h = (
-    lasts_or_leaves h.fixed answer_of after settings (handler_of s) (Idle due) h.holds.0 (waited s.withdrawn s.link) is h.holds.1,
-    not_closed s h.quiet (λ e. absurd (let f = sym is ∙ e in cc)),
-  )
-  last_one (Waiting until k o) s is h = (
-    lasts_or_leaves h.fixed answer_of after settings (handler_of s) (Waiting until k o) h.holds.0 (waited s.withdrawn s.link) is h.holds.1,
-    not_closed s h.quiet (λ e. absurd (let f = sym is ∙ e in cc)),
-  )
-  last_one (Pausing until o) s is h = (
-    lasts_or_leaves h.fixed answer_of after settings (handler_of s) (Pausing until o) h.holds.0 (waited s.withdrawn s.link) is h.holds.1,
+  last_one state s is h = (
+    lasts_or_leaves h.fixed answer_of after settings (handler_of s) state h.holds.0 (waited s.withdrawn s.link) is h.holds.1,
     not_closed s h.quiet (λ e. absurd (let f = sym is ∙ e in cc)),
   )
 
@@ -252,17 +190,7 @@ module _ {H : Type 0} (answer_of : H → Command → Answer) (after : H → Comm
         fixed = fixed;
         device = b.address;
         current = b.address;
-        holds = (
-          Fresh,
-          fresh fixed answer_of after l.reader.config l.reader.handler (waited [] l) (record {
-            controller = subst (λ state. Waits fixed state l.controller.session) (sym b.quiet.1) refl;
-            waiting = each_of MaySubmit l.controller.waiting b.waiting;
-            answering = record { id = refl; caps = refl; handler = refl };
-            to_reader = b.to_reader;
-            to_controller = b.to_controller;
-            account = b.account;
-          }),
-        );
+        holds = begun answer_of after l l.earlier b;
         quiet = inl refl;
         given = sym (ap (λ t. with_answers answer_of after l.reader.config l.reader.handler t.taken) b.account);
         once = tt;

@@ -7,8 +7,9 @@ use Rattle.osdp_frame.specs.Packet.{Packet}
 use Rattle.osdp_reader.specs.declared.handler.Answer.{Answer}
 use Rattle.osdp_link_laws.specs.Headline.{Begins}
 use Rattle.osdp_link_laws.specs.Link as link
-use Rattle.osdp_link_laws.specs.Link.{Link, Move, Queue as QueueEvent, Reopen, SetBusy, Submit, Tick, ToController, ToReader}
+use Rattle.osdp_link_laws.specs.Link.{Link, Move, Reopen}
 use Rattle.osdp_link_laws.specs.Peers.{ReadEachOther}
+use Rattle.osdp_link_laws.specs.Sessions.{queued, submitted}
 use Rattle.osdp_link_laws.proofs.InARow.{Assumed, assumed}
 use Rattle.osdp_link_changes.specs.Changes as changed
 use Rattle.osdp_link_changes.specs.Changes.{AreChanges, Change, Changed, all_queued, all_submitted, run, session, sessions, unchanged}
@@ -16,7 +17,7 @@ use Rattle.osdp_link_changes.specs.Handlers.{GivesItsAnswers, MovesAsBefore, as_
 use Rattle.osdp_link_changes.specs.Sessions.{AreInARow, AreOnce, CommandsHavePlaces, EventsHavePlaces, HoldsOnce, LastsOrLeaves, StayInARow}
 use Rattle.osdp_link_changes.proofs.InARow.{Stands, begins, last_one, once_now, running}
 use Rattle.osdp_link_changes.proofs.Places.{Placed, have_places}
-use Rattle.osdp_link_changes.proofs.Simulated.{answers_in, keep_without, simulated, told, told_begins, told_changes, told_link, told_peers, told_queues, told_submits, without}
+use Rattle.osdp_link_changes.proofs.Simulated.{answers_in, keep_without, move_queues, move_submits, simulated, told, told_adds, told_begins, told_changes, told_link, told_peers, without}
 use Rattle.osdp_link_changes.proofs.Told.{next_answer, other_answers}
 
 module _ {H : Type 0} (answer_of : H → Command → Answer) (after : H → Command → H) (peers : ReadEachOther answer_of after) where
@@ -59,10 +60,10 @@ module _ {H : Type 0} (answer_of : H → Command → Answer) (after : H → Comm
       subst (Placed (l.controller.waiting ++ all_submitted answer_of after changes (unchanged l))
       (l.reader.queue.events ++ all_queued answer_of after changes (unchanged l))) (simulated answer_of after changes (unchanged l) [])
       (subst (λ cs. Placed (l.controller.waiting ++ cs) (l.reader.queue.events ++ all_queued answer_of after changes (unchanged l)) (told_run changes l))
-      (told_submits answer_of after changes (unchanged l) [])
+      (told_adds answer_of after submitted submitted move_submits changes (unchanged l) [])
       (subst (λ es. Placed (l.controller.waiting ++ all_submitted next_answer other_answers (without changes) (told (answers changes l) (unchanged l)))
       (l.reader.queue.events ++ es) (told_run changes l))
-      (told_queues answer_of after changes (unchanged l) [])
+      (told_adds answer_of after queued queued move_queues changes (unchanged l) [])
       (have_places next_answer other_answers (told_link (answers changes l) l) (without changes) (told_assumed changes l)
       (told_begins (answers changes l) l b) (keep_without changes) (told_changes answer_of after changes (unchanged l) [] fits))))
 
@@ -88,14 +89,9 @@ module _ {H : Type 0} (answer_of : H → Command → Answer) (after : H → Comm
   reopens_as_before None [] [] now s = refl
 
   move_as_before : (move : Move) (s : Changed H) → (changed.moves answer_of after move s).link ≡ link.after_move answer_of after move s.link
-  move_as_before (Submit c) s = refl
-  move_as_before (QueueEvent e) s = refl
-  move_as_before (SetBusy busy) s = refl
-  move_as_before (Tick now) s = refl
-  move_as_before (ToReader how) s = refl
-  move_as_before (ToController how now) s = refl
   move_as_before (Reopen now) s =
       reopens_as_before (controllers.begin_refusal s.link.controller) s.link.to_reader s.link.to_controller now s
+  move_as_before move s = refl
 
   as_before : (moves : List Move) (s : Changed H) → (run answer_of after (as_changes moves) s).link ≡ link.run answer_of after moves s.link
   as_before [] s = refl

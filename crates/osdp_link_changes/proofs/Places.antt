@@ -10,14 +10,14 @@ use Rattle.osdp_controller_laws.proofs.Closed.{was_closed}
 use Rattle.osdp_reader.specs.declared.config.ReaderConfig.{ReaderConfig}
 use Rattle.osdp_reader.specs.declared.handler.Answer.{Answer}
 use Rattle.osdp_link_laws.specs.Headline.{Begins, handler_after}
-use Rattle.osdp_link_laws.specs.Link.{Link, Move, Queue as QueueEvent, Reopen, SetBusy, Submit, Tick, ToController, ToReader, after_move}
-use Rattle.osdp_link_laws.specs.Sessions.{HaveLeft, queued, settled_commands, submitted}
+use Rattle.osdp_link_laws.specs.Link.{Link, Move, Reopen, after_move}
+use Rattle.osdp_link_laws.specs.Sessions.{queued, settled_commands, submitted}
 use Rattle.osdp_link_laws.proofs.Growing.{goes_on}
-use Rattle.osdp_link_laws.proofs.InARow.{Assumed, left_more}
+use Rattle.osdp_link_laws.proofs.InARow.{AreQueuedOrLeft, Assumed, queued_again, queued_on}
 use Rattle.osdp_link_laws.proofs.Once.{GoesOn}
 use Rattle.osdp_link_laws.proofs.Sessions.{leaves}
 use Rattle.osdp_link_changes.specs.Changes as changed
-use Rattle.osdp_link_changes.specs.Changes.{AreChanges, Change, Changed, Moves, Session, SetHandler, Withdraw, after_change, all_queued, all_submitted, given_at, queued_by, run, submitted_by, unchanged}
+use Rattle.osdp_link_changes.specs.Changes.{AreChanges, Change, Changed, Moves, SetHandler, Withdraw, added_by, after_change, all_queued, all_submitted, given_at, run, unchanged}
 use Rattle.osdp_link_changes.specs.Handlers.{KeepHandler}
 use Rattle.osdp_link_changes.specs.Sessions.{accounts, done_in}
 use Rattle.osdp_link_changes.proofs.InARow.{Stands, begins, standing}
@@ -33,7 +33,7 @@ module _ {H : Type 0} where
   -- every command and event so far has its place
   pub record Placed (cs : List Command) (es : List Event) (s : Changed H) : Type 0 where
     pub commands : cs ≡ done_in s.before ++ s.link.account.issued
-    pub events : (gone : List Event) × HaveLeft es (accounts s.before) gone × (es ≡ gone ++ s.link.account.queued)
+    pub events : AreQueuedOrLeft es (accounts s.before) s.link.account.queued
 
   -- nothing more is accepted
   no_more : (cs : List Command) (es : List Event) (s : Changed H) → Placed cs es s → Placed (cs ++ []) (es ++ []) s
@@ -52,18 +52,12 @@ module _ {H : Type 0} (answer_of : H → Command → Answer) (after : H → Comm
       → Placed (cs ++ submitted move s.link) (es ++ queued move s.link) (going move s)
   placing_on move s cs es on placed =
       let g = goes_on answer_of after move s.link on in
-      let gone = placed.events.0 in
       record {
         commands = ap (λ all. all ++ submitted move s.link) placed.commands
             ∙ append_assoc (done_in s.before) s.link.account.issued (submitted move s.link)
             ∙ ap (λ all. done_in s.before ++ all) (sym g.0.issued);
-        events = (
-          gone,
-          left_more es (queued move s.link) (accounts s.before) gone placed.events.1,
-          ap (λ all. all ++ queued move s.link) placed.events.2
-              ∙ append_assoc gone s.link.account.queued (queued move s.link)
-              ∙ ap (λ all. gone ++ all) (sym g.0.queued),
-        );
+        events = queued_on es (queued move s.link) (accounts s.before) s.link.account.queued (after_move answer_of after move s.link).account.queued g.0.queued
+            placed.events;
       }
 
   placing_again : (refusal : Option ControllerFault) (ps qs : List Packet) (now : ℕ) (s : Changed H) (cs : List Command) (es : List Event)
@@ -81,36 +75,16 @@ module _ {H : Type 0} (answer_of : H → Command → Answer) (after : H → Comm
             ∙ ap (λ all. done_in s.before ++ all)
             (left.commands ∙ parted (settled_commands t) t.unsettled s.withdrawn s.link.controller.waiting)
             ∙ sym (append_assoc (done_in s.before) (settled_commands t ++ (t.unsettled ++ s.withdrawn)) s.link.controller.waiting);
-        events = (
-          placed.events.0 ++ left.reported.0,
-          (
-            placed.events.0,
-            left.reported.0,
-            left.reported.1,
-            placed.events.1,
-            ([], placed.events.2 ∙ sym (append-nil (placed.events.0 ++ t.queued))),
-            refl,
-            left.reported.3,
-            left.reported.5,
-          ),
-          placed.events.2
-              ∙ ap (λ all. placed.events.0 ++ all) left.reported.2
-              ∙ sym (append_assoc placed.events.0 left.reported.0 s.link.reader.queue.events),
-        );
+        events = queued_again es (accounts s.before) t (s.withdrawn ++ s.link.controller.waiting) s.link.reader.queue.events left placed.events;
       }
 
   placing : (change : Change H) (s : Changed H) (cs : List Command) (es : List Event) → All s → Placed cs es s
-      → Placed (cs ++ submitted_by answer_of after change s) (es ++ queued_by answer_of after change s) (after_change answer_of after change s)
-  placing (Moves (Submit c)) s cs es h placed = placing_on (Submit c) s cs es tt placed
-  placing (Moves (QueueEvent e)) s cs es h placed = placing_on (QueueEvent e) s cs es tt placed
-  placing (Moves (SetBusy busy)) s cs es h placed = placing_on (SetBusy busy) s cs es tt placed
-  placing (Moves (Tick now)) s cs es h placed = placing_on (Tick now) s cs es tt placed
-  placing (Moves (ToReader how)) s cs es h placed = placing_on (ToReader how) s cs es tt placed
-  placing (Moves (ToController how now)) s cs es h placed = placing_on (ToController how now) s cs es tt placed
+      → Placed (cs ++ added_by answer_of after submitted change s) (es ++ added_by answer_of after queued change s) (after_change answer_of after change s)
   placing (Moves (Reopen now)) s cs es h placed =
       let new = changed.reopens (controllers.begin_refusal s.link.controller) s.link.to_reader s.link.to_controller now s in
       no_more cs es new
       (placing_again (controllers.begin_refusal s.link.controller) s.link.to_reader s.link.to_controller now s cs es refl h placed)
+  placing (Moves move) s cs es h placed = placing_on move s cs es tt placed
   placing (SetHandler handler) s cs es h placed =
       no_more cs es (after_change answer_of after (SetHandler handler) s) (record { commands = placed.commands; events = placed.events })
   placing Withdraw s cs es h placed =
@@ -123,8 +97,8 @@ module _ {H : Type 0} (answer_of : H → Command → Answer) (after : H → Comm
   all_placed given (change ∷ changes) s cs es keep fits h placed =
       let new = after_change answer_of after change s in
       let last = run answer_of after changes new in
-      let one = submitted_by answer_of after change s in
-      let event = queued_by answer_of after change s in
+      let one = added_by answer_of after submitted change s in
+      let event = added_by answer_of after queued change s in
       subst (λ all. Placed all (es ++ (event ++ all_queued answer_of after changes new)) last)
       (append_assoc cs one (all_submitted answer_of after changes new))
       (subst (λ all. Placed ((cs ++ one) ++ all_submitted answer_of after changes new) all last)

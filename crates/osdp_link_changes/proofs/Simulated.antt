@@ -11,12 +11,12 @@ use Rattle.osdp_reader.specs.declared.handler.Answer.{Answer}
 use Rattle.osdp_reader.specs.Table.{Outcome, hears, kind_of}
 use Rattle.osdp_link_laws.specs.Headline.{Begins, MoveFits, SaysWhatFitsIf}
 use Rattle.osdp_link_laws.specs.Link as link
-use Rattle.osdp_link_laws.specs.Link.{Delivered, Delivery, Link, Lost, Move, Queue as QueueEvent, Reopen, Repeated, SetBusy, Submit, Tick, ToController, ToReader, after_move}
+use Rattle.osdp_link_laws.specs.Link.{Delivered, Delivery, Link, Lost, Move, Queue as QueueEvent, Reopen, Repeated, SetBusy, Submit, Tick, ToController, ToReader}
 use Rattle.osdp_link_laws.specs.Peers.{ReadEachOther}
 use Rattle.osdp_link_laws.specs.Sessions.{queued, submitted}
 use Rattle.osdp_reader_laws.proofs.PlainReplies.{acted_plain}
 use Rattle.osdp_link_changes.specs.Changes as changed
-use Rattle.osdp_link_changes.specs.Changes.{AreChanges, Change, Changed, Moves, SetHandler, Withdraw, after_change, all_queued, all_submitted, given_at, given_by, given_to_front, queued_by, run, submitted_by}
+use Rattle.osdp_link_changes.specs.Changes.{AreChanges, Change, Changed, Moves, SetHandler, Withdraw, after_change, all_added, given_by, given_to_front, run}
 use Rattle.osdp_link_changes.specs.Handlers.{KeepHandler}
 use Rattle.osdp_link_changes.proofs.Told.{answer_kind, next_answer, other_answers, told_hears, told_reader}
 
@@ -93,6 +93,14 @@ module _ {H : Type 0} where
   reopens_told None [] (q ∷ qs) now s more = refl
   reopens_told None [] [] now s more = refl
 
+  pub move_submits : (move : Move) (l : Link H) (answers : List Answer) → submitted move (told_link answers l) ≡ submitted move l
+  move_submits (Submit c) l answers = refl
+  move_submits move l answers = refl
+
+  pub move_queues : (move : Move) (l : Link H) (answers : List Answer) → queued move (told_link answers l) ≡ queued move l
+  move_queues (QueueEvent e) l answers = refl
+  move_queues move l answers = refl
+
   module _ (answer_of : H → Command → Answer) (after : H → Command → H) where
     -- the handler's answers to a change, and to a list of them
     abbrev pub answers_front : Delivery → List Packet → Link H → List Answer
@@ -105,13 +113,8 @@ module _ {H : Type 0} where
     answers_at (ToReader how) l = answers_front how l.to_reader l
     answers_at _ l = []
 
-    abbrev pub answers_to : Change H → Changed H → List Answer
-    answers_to (Moves move) s = answers_at move s.link
-    answers_to _ s = []
-
     abbrev pub answers_in : List (Change H) → Changed H → List Answer
-    answers_in [] s = []
-    answers_in (change ∷ changes) s = answers_to change s ++ answers_in changes (after_change answer_of after change s)
+    answers_in = all_added answer_of after answers_at
 
     -- a packet that comes to the reader, and what is given to it
     gets_told : (p : Packet) (l : Link H) (more : List Answer)
@@ -194,24 +197,17 @@ module _ {H : Type 0} where
     -- what is asked of the changes
     front_fits : (how : Delivery) (ps : List Packet) (l : Link H) (more : List Answer) → SaysWhatFitsIf answer_of after how ps l.reader
         → SaysWhatFitsIf next_answer other_answers how ps (told_reader (answers_front how ps l ++ more) l.reader)
-    front_fits Delivered [] l more fits = tt
-    front_fits Lost [] l more fits = tt
-    front_fits Repeated [] l more fits = tt
-    front_fits Lost (p ∷ ps) l more fits = tt
     front_fits Delivered (p ∷ ps) l more fits =
         subst (λ (o : Outcome (List Answer)). IfSome o.said ReplyFits) (sym (told_hears answer_of after l.reader p more)) fits
     front_fits Repeated (p ∷ ps) l more fits =
         subst (λ (o : Outcome (List Answer)). IfSome o.said ReplyFits) (sym (told_hears answer_of after l.reader p more)) fits
+    front_fits how ps l more fits = tt
 
     move_fits : (move : Move) (l : Link H) (more : List Answer) → MoveFits answer_of after move l
         → MoveFits next_answer other_answers move (told_link (answers_at move l ++ more) l)
     move_fits (Submit c) l more fits = fits
-    move_fits (QueueEvent e) l more fits = tt
-    move_fits (SetBusy busy) l more fits = tt
-    move_fits (Tick now) l more fits = tt
     move_fits (ToReader how) l more fits = front_fits how l.to_reader l more fits
-    move_fits (ToController how now) l more fits = tt
-    move_fits (Reopen now) l more fits = tt
+    move_fits move l more fits = tt
 
     pub told_changes : (changes : List (Change H)) (s : Changed H) (more : List Answer) → AreChanges answer_of after changes s
         → AreChanges next_answer other_answers (without changes) (told (answers_in changes s ++ more) s)
@@ -228,51 +224,21 @@ module _ {H : Type 0} where
         told_changes changes (after_change answer_of after (SetHandler handler) s) more fits.1
     told_changes (Withdraw ∷ changes) s more fits = (tt, told_changes changes (changed.withdraws s) more fits.1)
 
-    -- the commands accepted and the events queued are the same
-    move_submits : (move : Move) (l : Link H) (answers : List Answer) → submitted move (told_link answers l) ≡ submitted move l
-    move_submits (Submit c) l answers = refl
-    move_submits (QueueEvent e) l answers = refl
-    move_submits (SetBusy busy) l answers = refl
-    move_submits (Tick now) l answers = refl
-    move_submits (ToReader how) l answers = refl
-    move_submits (ToController how now) l answers = refl
-    move_submits (Reopen now) l answers = refl
-
-    move_queues : (move : Move) (l : Link H) (answers : List Answer) → queued move (told_link answers l) ≡ queued move l
-    move_queues (Submit c) l answers = refl
-    move_queues (QueueEvent e) l answers = refl
-    move_queues (SetBusy busy) l answers = refl
-    move_queues (Tick now) l answers = refl
-    move_queues (ToReader how) l answers = refl
-    move_queues (ToController how now) l answers = refl
-    move_queues (Reopen now) l answers = refl
-
-    pub told_submits : (changes : List (Change H)) (s : Changed H) (more : List Answer)
-        → all_submitted next_answer other_answers (without changes) (told (answers_in changes s ++ more) s) ≡ all_submitted answer_of after changes s
-    told_submits [] s more = refl
-    told_submits (Moves move ∷ changes) s more =
+    -- what the moves add, as the commands accepted and the events queued, is the same
+    pub told_adds : {A : Type 0} (adds : Move → Link H → List A) (anew : Move → Link (List Answer) → List A)
+        → ((move : Move) (l : Link H) (answers : List Answer) → anew move (told_link answers l) ≡ adds move l)
+        → (changes : List (Change H)) (s : Changed H) (more : List Answer)
+        → all_added next_answer other_answers anew (without changes) (told (answers_in changes s ++ more) s) ≡ all_added answer_of after adds changes s
+    told_adds adds anew same [] s more = refl
+    told_adds adds anew same (Moves move ∷ changes) s more =
         let new = changed.moves answer_of after move s in
         let rest = answers_in changes new ++ more in
-        ap (λ all. all_submitted next_answer other_answers (without (Moves move ∷ changes)) (told all s))
+        ap (λ all. all_added next_answer other_answers anew (without (Moves move ∷ changes)) (told all s))
         (append_assoc (answers_at move s.link) (answers_in changes new) more)
-        ∙ ap (λ c. c ++ all_submitted next_answer other_answers (without changes) (changed.moves next_answer other_answers move (told (answers_at move s.link ++ rest) s)))
-        (move_submits move s.link (answers_at move s.link ++ rest))
-        ∙ ap (λ t. submitted move s.link ++ all_submitted next_answer other_answers (without changes) t) (move_told move s rest)
-        ∙ ap (λ l. submitted move s.link ++ l) (told_submits changes new more)
-    told_submits (SetHandler handler ∷ changes) s more = told_submits changes (after_change answer_of after (SetHandler handler) s) more
-    told_submits (Withdraw ∷ changes) s more = told_submits changes (changed.withdraws s) more
-
-    pub told_queues : (changes : List (Change H)) (s : Changed H) (more : List Answer)
-        → all_queued next_answer other_answers (without changes) (told (answers_in changes s ++ more) s) ≡ all_queued answer_of after changes s
-    told_queues [] s more = refl
-    told_queues (Moves move ∷ changes) s more =
-        let new = changed.moves answer_of after move s in
-        let rest = answers_in changes new ++ more in
-        ap (λ all. all_queued next_answer other_answers (without (Moves move ∷ changes)) (told all s))
-        (append_assoc (answers_at move s.link) (answers_in changes new) more)
-        ∙ ap (λ c. c ++ all_queued next_answer other_answers (without changes) (changed.moves next_answer other_answers move (told (answers_at move s.link ++ rest) s)))
-        (move_queues move s.link (answers_at move s.link ++ rest))
-        ∙ ap (λ t. queued move s.link ++ all_queued next_answer other_answers (without changes) t) (move_told move s rest)
-        ∙ ap (λ l. queued move s.link ++ l) (told_queues changes new more)
-    told_queues (SetHandler handler ∷ changes) s more = told_queues changes (after_change answer_of after (SetHandler handler) s) more
-    told_queues (Withdraw ∷ changes) s more = told_queues changes (changed.withdraws s) more
+        ∙ ap (λ c. c ++ all_added next_answer other_answers anew (without changes) (changed.moves next_answer other_answers move (told (answers_at move s.link ++ rest) s)))
+        (same move s.link (answers_at move s.link ++ rest))
+        ∙ ap (λ t. adds move s.link ++ all_added next_answer other_answers anew (without changes) t) (move_told move s rest)
+        ∙ ap (λ l. adds move s.link ++ l) (told_adds adds anew same changes new more)
+    told_adds adds anew same (SetHandler handler ∷ changes) s more =
+        told_adds adds anew same changes (after_change answer_of after (SetHandler handler) s) more
+    told_adds adds anew same (Withdraw ∷ changes) s more = told_adds adds anew same changes (changed.withdraws s) more

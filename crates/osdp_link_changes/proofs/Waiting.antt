@@ -1,14 +1,13 @@
 -- What holds of a session, where the commands withdrawn after its end are counted as waiting still.
-use Rattle.std.proofs.Common.{◌≡◌, ◌≢◌, ◌⊎◌, ℕ, Bool, true, false, List, [], ◌∷◌, ◌++◌, Option, Some, None, refl, sym, ap, subst, ◌∙◌, inl, inr, append_assoc}
+use Rattle.std.proofs.Common.{◌≡◌, ◌⊎◌, ℕ, Bool, true, false, List, [], ◌∷◌, ◌++◌, Option, Some, None, refl, sym, ap, subst, ◌∙◌, inl, inr, append_assoc}
 use Rattle.std.specs.Prelude.{◌==◌, length}
 use Rattle.osdp_frame.specs.Packet.{Packet}
 use Rattle.osdp_msg.specs.declared.command.Command.{Command}
-use Rattle.osdp_msg.specs.declared.command.Command.TheVariants as command
 use Rattle.osdp_msg.specs.declared.event.Event.{Event}
 use Rattle.osdp_controller.specs.Answers.{meaning_of as said_by}
 use Rattle.osdp_controller.specs.Hearing as controller
 use Rattle.osdp_controller.specs.Hearing.{hears_in, ignores, is_from_reader}
-use Rattle.osdp_controller.specs.Machine.{Machine, submit_refusal}
+use Rattle.osdp_controller.specs.Machine.{submit_refusal}
 use Rattle.osdp_controller.specs.Sessions.{seen}
 use Rattle.osdp_controller.specs.Ticking.{stays, ticks, ticks_in}
 use Rattle.osdp_controller.specs.declared.config.ControllerConfig.{ControllerConfig}
@@ -25,7 +24,7 @@ use Rattle.osdp_link_laws.proofs.Advancing.{HoldsAtSomeStage}
 use Rattle.osdp_link_laws.proofs.Deliveries.{coming_to_controller, coming_to_reader}
 use Rattle.osdp_link_laws.proofs.Lines.{both}
 use Rattle.osdp_link_laws.proofs.Moves.{Premises, being_busy, queueing, submitting, ticking}
-use Rattle.osdp_link_laws.proofs.Once.{GoesOn}
+use Rattle.osdp_link_laws.proofs.Once.{GoesOn, not_poll}
 
 -- these commands wait in front of the others
 abbrev pub waited : {H : Type 0} → List Command → Link H → Link H
@@ -34,12 +33,6 @@ waited w l = record l { controller = record l.controller { waiting = w ++ l.cont
 -- a session with commands withdrawn has ended
 abbrev pub IsQuiet : {H : Type 0} → List Command → Link H → Type 0
 IsQuiet w l = (w ≡ []) ⊎ (l.controller.session.state ≡ Closed)
-
-not_poll : (c : Command) (m : Machine) → submit_refusal c m ≡ None → c ≢ command.Poll
-not_poll c m e poll = refused (subst (λ d. submit_refusal d m ≡ None) poll e)
-  where
-    refused : submit_refusal command.Poll m ≢ None
-    refused e = absurd cc
 
 closed_tick : (now : ℕ) (s : Session) (ws : List Command) → s.state ≡ Closed → ticks now s ws ≡ stays (seen now s) ws
 closed_tick now s ws closed = ap (λ state. ticks_in state (seen now s) ws) closed

@@ -14,7 +14,7 @@ use Rattle.osdp_reader.specs.State.{ReaderState}
 use Rattle.osdp_reader.specs.Table as reader
 use Rattle.osdp_link_laws.specs.Headline.{MoveFits}
 use Rattle.osdp_link_laws.specs.Link as link
-use Rattle.osdp_link_laws.specs.Link.{Account, Delivered, Delivery, Link, Lost, Move, Queue, Reopen, Repeated, SetBusy, Submit, Tick, ToController, ToReader}
+use Rattle.osdp_link_laws.specs.Link.{Account, Delivery, Link, Lost, Move, Reopen, ToReader}
 use Rattle.osdp_link_laws.specs.Sessions.{submitted, queued}
 use Rattle.osdp_msg.specs.declared.event.Event.{Event}
 
@@ -109,19 +109,18 @@ module _ {H : Type 0} where
     AreChanges [] s = Unit {0}
     AreChanges (change ∷ changes) s = IsChange change s × AreChanges changes (after_change change s)
 
+    -- what each of them adds by its move, one after the other
+    abbrev pub added_by : {A : Type 0} → (Move → Link H → List A) → Change H → Changed H → List A
+    added_by adds (Moves move) s = adds move s.link
+    added_by adds _ s = []
+
+    abbrev pub all_added : {A : Type 0} → (Move → Link H → List A) → List (Change H) → Changed H → List A
+    all_added adds [] s = []
+    all_added adds (change ∷ changes) s = added_by adds change s ++ all_added adds changes (after_change change s)
+
     -- the commands accepted and the events queued
-    abbrev pub submitted_by : Change H → Changed H → List Command
-    submitted_by (Moves move) s = submitted move s.link
-    submitted_by _ s = []
-
-    abbrev pub queued_by : Change H → Changed H → List Event
-    queued_by (Moves move) s = queued move s.link
-    queued_by _ s = []
-
     abbrev pub all_submitted : List (Change H) → Changed H → List Command
-    all_submitted [] s = []
-    all_submitted (change ∷ changes) s = submitted_by change s ++ all_submitted changes (after_change change s)
+    all_submitted = all_added submitted
 
     abbrev pub all_queued : List (Change H) → Changed H → List Event
-    all_queued [] s = []
-    all_queued (change ∷ changes) s = queued_by change s ++ all_queued changes (after_change change s)
+    all_queued = all_added queued

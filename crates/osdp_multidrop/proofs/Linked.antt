@@ -93,20 +93,23 @@ module _ {H : Type 0} (answer_of : H → Command → Answer) (after : H → Comm
           each_map (IsCommandTo named.0) (λ p. p.address < 127) (λ p to. subst (λ a. a < 127) (sym to.1) named.1.below)
           (own k n.to_readers) (each_of (IsCommandTo named.0) (own k n.to_readers) named.1.commands)
 
+  named_by : (Moves : ℕ → Packet → Type 0) (n : Net H) (line : List (ℕ × Packet)) → AreLinked n
+      → ((k : ℕ) (s : Site H) → IsLinked k s n → Each (λ p. (to : ℕ) → Moves to p → IsNameOf to s) (own k line))
+      → Each (λ (p : ℕ × Packet). IsSited n.sites p.0) line → Each (λ (p : ℕ × Packet). IsNamed Moves n.sites p.0 p.1) line
+  named_by Moves n line all names sited = each_by_owner (IsSited n.sites) (IsNamed Moves n.sites) line own_are sited
+    where
+      own_are : (k : ℕ) → IsSited n.sites k → Each (IsNamed Moves n.sites k) (own k line)
+      own_are k (s, is) =
+          each_map (λ p. (to : ℕ) → Moves to p → IsNameOf to s) (IsNamed Moves n.sites k) (λ p named to moves. (s, is, named to moves)) (own k line)
+          (names k s (all k s is))
+
   pub commands_named : (n : Net H) → AreLinked n → Each (λ (p : ℕ × Packet). IsSited n.sites p.0) n.to_readers
       → Each (λ (p : ℕ × Packet). IsNamed MovesReader n.sites p.0 p.1) n.to_readers
-  commands_named n all sited = each_by_owner (IsSited n.sites) (IsNamed MovesReader n.sites) n.to_readers own_are sited
-    where
-      own_are : (k : ℕ) → IsSited n.sites k → Each (IsNamed MovesReader n.sites k) (own k n.to_readers)
-      own_are k (s, is) =
-          each_map (λ p. (to : ℕ) → MovesReader to p → IsNameOf to s) (IsNamed MovesReader n.sites k) (λ p named to moves. (s, is, named to moves))
-          (own k n.to_readers) (all k s is).keeps.names.commands
+  commands_named n all = named_by MovesReader n n.to_readers all (λ k s h. h.keeps.names.commands)
 
   pub replies_named : (n : Net H) → AreLinked n → Each (λ (p : ℕ × Packet). IsSited n.sites p.0) n.to_controllers
       → Each (λ (p : ℕ × Packet). IsNamed MovesController n.sites p.0 p.1) n.to_controllers
-  replies_named n all sited = each_by_owner (IsSited n.sites) (IsNamed MovesController n.sites) n.to_controllers own_are sited
-    where
-      own_are : (k : ℕ) → IsSited n.sites k → Each (IsNamed MovesController n.sites k) (own k n.to_controllers)
-      own_are k (s, is) =
-          each_map (λ p. (to : ℕ) → MovesController to p → IsNameOf to s × (s.reader.config.address ≡ to)) (IsNamed MovesController n.sites k)
-          (λ p named to moves. (s, is, (named to moves).0)) (own k n.to_controllers) (all k s is).keeps.names.replies
+  replies_named n all =
+      named_by MovesController n n.to_controllers all (λ k s h.
+      each_map (λ p. (to : ℕ) → MovesController to p → IsNameOf to s × (s.reader.config.address ≡ to)) (λ p. (to : ℕ) → MovesController to p → IsNameOf to s)
+      (λ p named to moves. (named to moves).0) (own k n.to_controllers) h.keeps.names.replies)

@@ -19,8 +19,8 @@ use Rattle.osdp_link_laws.proofs.Lines.{each_of}
 use Rattle.osdp_link_laws.proofs.Numbers.{is_false, is_true}
 use Rattle.osdp_link_laws.proofs.Stages.{Each}
 use Rattle.osdp_multidrop.specs.Line as line
-use Rattle.osdp_multidrop.specs.Line.{Net, NetMove, Queue, Reopen, SetBusy, Site, Submit, Tick, ToControllers, ToReaders, address_of, after_net, changed, first_gets, is_comset_refused, queues, said_from, site_at, submits, tagged, ticks_of}
-use Rattle.osdp_multidrop.specs.Views.{EachMoveIsItsOwn, HeardByOwn, IsMoved, front_to_controller, front_to_reader, link_of, move_of, one_if, own, view}
+use Rattle.osdp_multidrop.specs.Line.{Net, Queue, Reopen, SetBusy, Site, Submit, Tick, ToControllers, ToReaders, address_of, after_net, changed, is_comset_refused, link_of, queues, said_from, site_at, submits, tagged, ticks_of}
+use Rattle.osdp_multidrop.specs.Views.{EachMoveIsItsOwn, IsMoved, front_to_controller, front_to_reader, move_of, one_if, own, view}
 use Rattle.osdp_multidrop.specs.Views as views
 use Rattle.osdp_multidrop.proofs.Hearing.{at_map, first_other, first_own, reply_of, said_at, silent}
 use Rattle.osdp_multidrop.proofs.Sites.{at_changed, at_other, own_append, own_first, own_mine, own_others, own_rest}
@@ -77,8 +77,7 @@ module _ {H : Type 0} (answer_of : H → Command → Answer) (after : H → Comm
   queueing false e k s n = refl
 
   queue_keeps : (full : Bool) (e : Event) (s : Site H) → (queues full e s).reserved ≡ s.reserved
-  queue_keeps true e s = refl
-  queue_keeps false e s = refl
+  queue_keeps full e s = refl
 
   -- ---- commands
 
@@ -105,25 +104,21 @@ module _ {H : Type 0} (answer_of : H → Command → Answer) (after : H → Comm
             ∙ sym (ap (λ l. reserved_after_moves answer_of after l (view k s n) s.reserved) (one_is k k (link.Submit c) refl));
       }
 
+  not_mine : (i k : ℕ) (c : Command) (refused : Bool) → i ≢ k → cond refused [] (one_if i k (link.Submit c)) ≡ []
+  not_mine i k c true other = refl
+  not_mine i k c false other = one_not i k (link.Submit c) other
+
   submits_elsewhere : (i k : ℕ) (s : Site H) (c : Command) (n : Net H) (o : Option (Site H)) (mine : Bool) → i ≢ k → site_at k n.sites ≡ Some s
       → Moves k s (cond mine [] (one_if i k (link.Submit c))) n (line.submit_at i c o n)
-  submits_elsewhere i k s c n None mine other is = stays k s (cond mine [] (one_if i k (link.Submit c))) n n (none mine) is refl refl
-    where
-      none : (b : Bool) → cond b [] (one_if i k (link.Submit c)) ≡ []
-      none true = refl
-      none false = one_not i k (link.Submit c) other
+  submits_elsewhere i k s c n None mine other is = stays k s (cond mine [] (one_if i k (link.Submit c))) n n (not_mine i k c mine other) is refl refl
   submits_elsewhere i k s c n (Some t) mine other is = by_test (is_comset_refused i (comset_of c) t n.sites)
     where
-      none : (b : Bool) → cond b [] (one_if i k (link.Submit c)) ≡ []
-      none true = refl
-      none false = one_not i k (link.Submit c) other
-
       by_test : (refused : Bool) → Moves k s (cond mine [] (one_if i k (link.Submit c))) n
           (cond refused n (record n { sites = changed i (submits (controllers.submit_refusal c t.controller) c t) n.sites }))
-      by_test true = stays k s (cond mine [] (one_if i k (link.Submit c))) n n (none mine) is refl refl
+      by_test true = stays k s (cond mine [] (one_if i k (link.Submit c))) n n (not_mine i k c mine other) is refl refl
       by_test false =
           stays k s (cond mine [] (one_if i k (link.Submit c))) n
-          (record n { sites = changed i (submits (controllers.submit_refusal c t.controller) c t) n.sites }) (none mine)
+          (record n { sites = changed i (submits (controllers.submit_refusal c t.controller) c t) n.sites }) (not_mine i k c mine other)
           (at_other k i (submits (controllers.submit_refusal c t.controller) c t) n.sites (λ e. other (sym e)) ∙ is) refl refl
 
   submitting : (i k : ℕ) (s : Site H) (c : Command) (n : Net H) → site_at k n.sites ≡ Some s

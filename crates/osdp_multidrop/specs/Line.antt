@@ -1,6 +1,6 @@
 -- Several readers on one line: each of them hears every packet to the readers, and a packet to the controllers goes to the one of its
 -- address.
-use Rattle.std.specs.Prelude.{ℕ, zero, suc, Bool, true, false, ◌||◌, ◌==◌, if◌then◌else◌, List, [], ◌∷◌, ◌++◌, length, map, Option, Some, None, is_some}
+use Rattle.std.specs.Prelude.{ℕ, zero, suc, Bool, false, ◌||◌, ◌==◌, if◌then◌else◌, List, [], ◌∷◌, ◌++◌, length, map, Option, Some, None, is_some}
 use Rattle.osdp_frame.specs.Packet.{Packet}
 use Rattle.osdp_msg.specs.declared.command.Command.{Command}
 use Rattle.osdp_msg.specs.declared.command_fields.Communication.{Communication}
@@ -16,7 +16,7 @@ use Rattle.osdp_reader.specs.State.{ReaderState}
 use Rattle.osdp_reader.specs.Table as reader
 use Rattle.osdp_reader.specs.declared.handler.Answer.{Answer}
 use Rattle.osdp_link_laws.specs.Link as link
-use Rattle.osdp_link_laws.specs.Link.{Account, Delivered, Delivery, Lost, Repeated, new_account, told}
+use Rattle.osdp_link_laws.specs.Link.{Account, Delivered, Delivery, Link, Lost, Repeated}
 use Rattle.osdp_link_laws.specs.Names.{asked_for, freed_by}
 
 -- a reader and its controller, the address that is kept for a COMSET of theirs, and their accounts
@@ -85,26 +85,32 @@ module _ {H : Type 0} where
 
   -- ---- one site
 
+  -- the link of a site, with this on the line, and the site as its link has left it
+  abbrev pub link_of : Site H → List Packet → List Packet → Link H
+  link_of s ps qs = record {
+    controller = s.controller;
+    reader = s.reader;
+    to_reader = ps;
+    to_controller = qs;
+    account = s.account;
+    earlier = s.earlier;
+  }
+
+  abbrev pub left_by : Site H → Link H → Site H
+  left_by s l = record s { controller = l.controller; reader = l.reader; account = l.account; earlier = l.earlier }
+
   abbrev pub submits : Option ControllerFault → Command → Site H → Site H
   submits (Some fault) command s = s
-  submits None command s = record s {
-    controller = controllers.after_submit command s.controller;
+  submits None command s = record (left_by s (link.submits None command (link_of s [] []))) {
     reserved = asked_for (comset_of command) s.reserved;
-    account = record s.account { issued = s.account.issued ++ command ∷ [] };
   }
 
   abbrev pub queues : Bool → Event → Site H → Site H
-  queues true event s = s
-  queues false event s = record s {
-    reader = readers.after_submit event s.reader;
-    account = record s.account { queued = s.account.queued ++ event ∷ [] };
-  }
+  queues full event s = left_by s (link.queues full event (link_of s [] []))
 
   abbrev pub ticked : Ticked → Site H → Site H
-  ticked t s = record s {
-    controller = record s.controller { session = t.session; waiting = t.waiting };
+  ticked t s = record (left_by s (link.ticked t (link_of s [] []))) {
     reserved = freed_by t.step.report s.reserved;
-    account = told t.step.report s.account;
   }
 
   abbrev pub ticks_of : ℕ → Site H → Ticked
@@ -112,20 +118,12 @@ module _ {H : Type 0} where
 
   -- its controller gets a packet
   abbrev pub gets : Packet → ℕ → Site H → Site H
-  gets p now s =
-      let heard = controller.hears p now s.controller.session in
-      record s {
-        controller = record s.controller { session = heard.session };
-        reserved = freed_by heard.report s.reserved;
-        account = told heard.report s.account;
-      }
+  gets p now s = record (left_by s (link.controller_gets p now (link_of s [] []))) {
+    reserved = freed_by (controller.hears p now s.controller.session).report s.reserved;
+  }
 
   abbrev pub begins : ℕ → Site H → Site H
-  begins now s = record s {
-    controller = controllers.after_begin now s.controller;
-    account = new_account s.controller.waiting s.reader.queue.events;
-    earlier = s.account ∷ s.earlier;
-  }
+  begins now s = left_by s (link.reopens None [] [] now (link_of s [] []))
 
   -- ---- all of them
 
@@ -169,9 +167,7 @@ module _ {H : Type 0} where
   module _ (answer_of : H → Command → Answer) (after : H → Command → H) where
     -- a reader hears a packet
     abbrev pub hears : Packet → Site H → Site H
-    hears p s =
-        let outcome = reader.hears answer_of after s.reader p in
-        record s { reader = outcome.reader; account = link.taken (reader.kind_of s.reader p) outcome.command (link.front_of s.reader) s.account }
+    hears p s = left_by s (link.reader_gets answer_of after p (link_of s [] []))
 
     -- what these readers say, the first of them at place k
     abbrev pub said_from : ℕ → Packet → List (Site H) → List (ℕ × Packet)

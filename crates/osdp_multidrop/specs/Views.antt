@@ -7,7 +7,7 @@ use Rattle.osdp_reader.specs.declared.handler.Answer.{Answer}
 use Rattle.osdp_link_laws.specs.Link as link
 use Rattle.osdp_link_laws.specs.Link.{Delivered, Delivery, Link, Lost, Move, Repeated}
 use Rattle.osdp_link_laws.specs.Names.{reserved_after_moves}
-use Rattle.osdp_multidrop.specs.Line.{Net, NetMove, Site, Submit, Queue, SetBusy, Tick, ToReaders, ToControllers, Reopen, address_of, after_net, is_comset_refused, site_at}
+use Rattle.osdp_multidrop.specs.Line.{Net, NetMove, Site, Submit, Queue, SetBusy, Tick, ToReaders, ToControllers, Reopen, address_of, after_net, is_comset_refused, link_of, site_at}
 
 -- of what is on the line, what this site has sent
 abbrev pub own : ℕ → List (ℕ × Packet) → List Packet
@@ -35,17 +35,6 @@ reopens i k [] [] now = one_if i k (link.Reopen now)
 reopens i k _ _ now = []
 
 module _ {H : Type 0} where
-  -- the link of a site, with what is its own on the line
-  abbrev pub link_of : Site H → List Packet → List Packet → Link H
-  link_of s ps qs = record {
-    controller = s.controller;
-    reader = s.reader;
-    to_reader = ps;
-    to_controller = qs;
-    account = s.account;
-    earlier = s.earlier;
-  }
-
   abbrev pub view : ℕ → Site H → Net H → Link H
   view k s n = link_of s (own k n.to_readers) (own k n.to_controllers)
 
