@@ -15,10 +15,11 @@ use Rattle.osdp_sim.specs.declared.step.SimStep.{SimStep}
 use Rattle.osdp_sim_bus.specs.Runs as simulation
 use Rattle.osdp_sim_bus.specs.State.{LineState, Site}
 use Rattle.osdp_sim_bus.specs.Steps.{after_step}
+use Rattle.osdp_sim_laws.proofs.Accepting.{IsNoOrder}
 use Rattle.osdp_sim_laws.proofs.Accounts.{some_begun}
 use Rattle.osdp_sim_laws.specs.Progress.{rounds}
 use Rattle.osdp_sim_bus_laws.specs.Moves.{Follows, count}
-use Rattle.osdp_sim_bus_laws.proofs.Idling.{IsIdle, IsNoOrder, idle_sites}
+use Rattle.osdp_sim_bus_laws.proofs.Idling.{IsIdle, idle_sites}
 use Rattle.osdp_sim_bus_laws.proofs.Places.{StaysAt, stays_all, stays_then}
 use Rattle.osdp_sim_bus_laws.proofs.Sites.{get_site}
 
@@ -66,7 +67,7 @@ module _ {H : Type 0} where
       begins = λ u none. none;
     }
 
-    ends_stay : (k : ℕ) (steps : List SimStep) (s : LineState H) → Each (IsNoOrder answer_of after) steps
+    ends_stay : (k : ℕ) (steps : List SimStep) (s : LineState H) → Each IsNoOrder steps
         → StaysAt EndsStay k s.sites (simulation.run answer_of after steps s).sites
     ends_stay k [] s idles = stays_all EndsStay (λ u none. none) k s.sites
     ends_stay k (step ∷ steps) s idles =
@@ -74,7 +75,7 @@ module _ {H : Type 0} where
         stays_then EndsStay (λ u v w one more none. one (more none)) k s.sites next.sites (simulation.run answer_of after steps next).sites
         (idle_sites answer_of after EndsStay ends_idle k step s idles.0) (ends_stay k steps next idles.1)
 
-    rounds_idle : (m wait : ℕ) → Each (IsNoOrder answer_of after) (rounds m wait)
+    rounds_idle : (m wait : ℕ) → Each IsNoOrder (rounds m wait)
     rounds_idle zero wait = tt
     rounds_idle (suc m) wait = (tt, (tt, (tt, rounds_idle m wait)))
 

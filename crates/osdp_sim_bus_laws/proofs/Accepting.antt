@@ -23,12 +23,12 @@ use Rattle.osdp_link_laws.proofs.Lines.{each_of}
 use Rattle.osdp_link_laws.proofs.Stages.{Each}
 use Rattle.osdp_sim.specs.Account.{Account}
 use Rattle.osdp_sim.specs.declared.step.SimStep.{SimStep}
-use Rattle.osdp_sim.specs.declared.step.SimStep.TheVariants.{Issue, Queue, Busy, Wait, ToReader, ToController, Reopen}
+use Rattle.osdp_sim.specs.declared.step.SimStep.TheVariants.{Issue, Queue}
 use Rattle.osdp_sim_bus.specs.Runs.{run, steps_done}
 use Rattle.osdp_sim_bus.specs.State.{Given, LineState, Site, begun_device, new_site, set_up}
 use Rattle.osdp_sim_bus.specs.Steps.{after_step, changed_site, is_there, issued, site_issues, site_queues, site_queues_unless}
 use Rattle.osdp_sim_laws.specs.Accepted.{IsAmong, but_poll, commands_for, events_for}
-use Rattle.osdp_sim_laws.proofs.Accepting.{Accepts, accepted, counts, none_accepted, one_accepted, one_less, one_refused, submit_is}
+use Rattle.osdp_sim_laws.proofs.Accepting.{Accepts, IsNoOrder, accepted, counts, none_accepted, one_accepted, one_less, one_refused, submit_is}
 use Rattle.osdp_sim_bus_laws.specs.Accepted.{AcceptsFor, EachAccepts, IsNoComset}
 use Rattle.osdp_sim_bus_laws.proofs.Places.{StaysAt, get_changed, get_set, other_changed, stays_all, stays_changed}
 use Rattle.osdp_sim_bus_laws.proofs.Rows.{answers, told_by}
@@ -64,6 +64,13 @@ module _ {H : Type 0} (answer_of : H → Command → Answer) (after : H → Comm
         accepts = subst (λ m. Accepts (m - n) (commands_for (suc k) list) u.account.issued last.site.account.issued) e.2.room
             (subst (λ cs. Accepts (e.0.controller.capacity - n) (commands_for (suc k) list) cs last.site.account.issued) v.2 last.accepts);
       }
+
+  idle_accepts : (k : ℕ) (list : List SimStep) → RestAccepts k list → (step : SimStep) → IsNoOrder step → (n : ℕ) (s : LineState H) (d : Device) (u : Site H)
+      → device_of k s.bus ≡ Some d → slice_get s.sites k ≡ Some u → length d.controller.waiting ≤ n → Each IsNoComset (commands_for (suc k) list)
+      → AcceptsIssued (d.controller.capacity - n) k (commands_for (suc k) list) u.account.issued (run answer_of after (step ∷ list) s)
+  idle_accepts k list rest step idles n s d u at sited few none =
+      carried k list rest n s (after_step answer_of after step s) d u at sited few none
+      ((idle_device answer_of after) k step s idles) ((idle_sites answer_of after) (SameIssued answer_of after) (issued_idle answer_of after) k step s idles)
 
   refused_still : (b : Bool) (o : Option BusFault) → (o ≡ None → ⊥) → (if b then Some AddressTaken else o) ≡ None → ⊥
   refused_still true o refused is = absurd cc
@@ -170,21 +177,7 @@ module _ {H : Type 0} (answer_of : H → Command → Answer) (after : H → Comm
   accepts_commands k (Queue number e ∷ list) n s d u at sited few none =
       let both = (event_step answer_of after) k number e s in
       carried k list (accepts_commands k list) n s (after_step answer_of after (Queue number e) s) d u at sited few none both.0 both.1
-  accepts_commands k (Busy number busy ∷ list) n s d u at sited few none =
-      carried k list (accepts_commands k list) n s (after_step answer_of after (Busy number busy) s) d u at sited few none
-      ((idle_device answer_of after) k (Busy number busy) s tt) ((idle_sites answer_of after) (SameIssued answer_of after) (issued_idle answer_of after) k (Busy number busy) s tt)
-  accepts_commands k (Wait wait ∷ list) n s d u at sited few none =
-      carried k list (accepts_commands k list) n s (after_step answer_of after (Wait wait) s) d u at sited few none
-      ((idle_device answer_of after) k (Wait wait) s tt) ((idle_sites answer_of after) (SameIssued answer_of after) (issued_idle answer_of after) k (Wait wait) s tt)
-  accepts_commands k (ToReader move ∷ list) n s d u at sited few none =
-      carried k list (accepts_commands k list) n s (after_step answer_of after (ToReader move) s) d u at sited few none
-      ((idle_device answer_of after) k (ToReader move) s tt) ((idle_sites answer_of after) (SameIssued answer_of after) (issued_idle answer_of after) k (ToReader move) s tt)
-  accepts_commands k (ToController move ∷ list) n s d u at sited few none =
-      carried k list (accepts_commands k list) n s (after_step answer_of after (ToController move) s) d u at sited few none
-      ((idle_device answer_of after) k (ToController move) s tt) ((idle_sites answer_of after) (SameIssued answer_of after) (issued_idle answer_of after) k (ToController move) s tt)
-  accepts_commands k (Reopen number ∷ list) n s d u at sited few none =
-      carried k list (accepts_commands k list) n s (after_step answer_of after (Reopen number) s) d u at sited few none
-      ((idle_device answer_of after) k (Reopen number) s tt) ((idle_sites answer_of after) (SameIssued answer_of after) (issued_idle answer_of after) k (Reopen number) s tt)
+  accepts_commands k (step ∷ list) n s d u at sited few none = idle_accepts k list (accepts_commands k list) step tt n s d u at sited few none
 
   -- ---- whatever there is room for, some of the commands, in their order
 
@@ -204,6 +197,13 @@ module _ {H : Type 0} (answer_of : H → Command → Answer) (after : H → Comm
         there = last.there;
         accepts = subst (λ cs. Accepts 0 (commands_for (suc k) list) cs last.site.account.issued) v.2 last.accepts;
       }
+
+  idle_among : (k : ℕ) (list : List SimStep) → RestAmong k list → (step : SimStep) → IsNoOrder step → (s : LineState H) (d : Device) (u : Site H)
+      → device_of k s.bus ≡ Some d → slice_get s.sites k ≡ Some u
+      → AcceptsIssued 0 k (commands_for (suc k) list) u.account.issued (run answer_of after (step ∷ list) s)
+  idle_among k list rest step idles s d u at sited =
+      carried_among k list rest s (after_step answer_of after step s) d u at sited
+      ((idle_device answer_of after) k step s idles) ((idle_sites answer_of after) (SameIssued answer_of after) (issued_idle answer_of after) k step s idles)
 
   module _ (k : ℕ) (c : Command) (list : List SimStep) (rest : RestAmong k list) (s : LineState H) (d : Device) (u : Site H)
       (at : device_of k s.bus ≡ Some d) (sited : slice_get s.sites k ≡ Some u) where
@@ -270,21 +270,7 @@ module _ {H : Type 0} (answer_of : H → Command → Answer) (after : H → Comm
   some_commands k (Queue number e ∷ list) s d u at sited =
       let both = (event_step answer_of after) k number e s in
       carried_among k list (some_commands k list) s (after_step answer_of after (Queue number e) s) d u at sited both.0 both.1
-  some_commands k (Busy number busy ∷ list) s d u at sited =
-      carried_among k list (some_commands k list) s (after_step answer_of after (Busy number busy) s) d u at sited
-      ((idle_device answer_of after) k (Busy number busy) s tt) ((idle_sites answer_of after) (SameIssued answer_of after) (issued_idle answer_of after) k (Busy number busy) s tt)
-  some_commands k (Wait wait ∷ list) s d u at sited =
-      carried_among k list (some_commands k list) s (after_step answer_of after (Wait wait) s) d u at sited
-      ((idle_device answer_of after) k (Wait wait) s tt) ((idle_sites answer_of after) (SameIssued answer_of after) (issued_idle answer_of after) k (Wait wait) s tt)
-  some_commands k (ToReader move ∷ list) s d u at sited =
-      carried_among k list (some_commands k list) s (after_step answer_of after (ToReader move) s) d u at sited
-      ((idle_device answer_of after) k (ToReader move) s tt) ((idle_sites answer_of after) (SameIssued answer_of after) (issued_idle answer_of after) k (ToReader move) s tt)
-  some_commands k (ToController move ∷ list) s d u at sited =
-      carried_among k list (some_commands k list) s (after_step answer_of after (ToController move) s) d u at sited
-      ((idle_device answer_of after) k (ToController move) s tt) ((idle_sites answer_of after) (SameIssued answer_of after) (issued_idle answer_of after) k (ToController move) s tt)
-  some_commands k (Reopen number ∷ list) s d u at sited =
-      carried_among k list (some_commands k list) s (after_step answer_of after (Reopen number) s) d u at sited
-      ((idle_device answer_of after) k (Reopen number) s tt) ((idle_sites answer_of after) (SameIssued answer_of after) (issued_idle answer_of after) k (Reopen number) s tt)
+  some_commands k (step ∷ list) s d u at sited = idle_among k list (some_commands k list) step tt s d u at sited
 
   -- ---- events
 
@@ -309,6 +295,13 @@ module _ {H : Type 0} (answer_of : H → Command → Answer) (after : H → Comm
         accepts = subst (λ m. Accepts (m - n) (events_for (suc k) list) u.account.queued last.site.account.queued) v.2.room
             (subst (λ es. Accepts (v.0.reader.queue.capacity - n) (events_for (suc k) list) es last.site.account.queued) v.2.queued last.accepts);
       }
+
+  idle_kept : (k : ℕ) (list : List SimStep) → RestQueues k list → (step : SimStep) → IsNoOrder step → (n : ℕ) (s : LineState H) (u : Site H)
+      → slice_get s.sites k ≡ Some u → length u.reader.queue.events ≤ n
+      → AcceptsQueued (u.reader.queue.capacity - n) k (events_for (suc k) list) u.account.queued (run answer_of after (step ∷ list) s)
+  idle_kept k list rest step idles n s u sited few =
+      kept k list rest n s (after_step answer_of after step s) u sited few
+      ((idle_sites answer_of after) (NoneQueued answer_of after) (events_idle answer_of after) k step s idles)
 
   order_leaves : (k number : ℕ) (c : Command) (s : LineState H) → StaysAt (NoneQueued answer_of after) k s.sites (after_step answer_of after (Issue number c) s).sites
   order_leaves k number c s =
@@ -382,16 +375,7 @@ module _ {H : Type 0} (answer_of : H → Command → Answer) (after : H → Comm
   accepts_events k (Issue number c ∷ list) n s u sited few =
       kept k list (accepts_events k list) n s (after_step answer_of after (Issue number c) s) u sited few (order_leaves k number c s)
   accepts_events k (Queue number e ∷ list) n s u sited few = queue_accepts k number e list (accepts_events k list) n s u sited few
-  accepts_events k (Busy number busy ∷ list) n s u sited few =
-      kept k list (accepts_events k list) n s (after_step answer_of after (Busy number busy) s) u sited few ((idle_sites answer_of after) (NoneQueued answer_of after) (events_idle answer_of after) k (Busy number busy) s tt)
-  accepts_events k (Wait wait ∷ list) n s u sited few =
-      kept k list (accepts_events k list) n s (after_step answer_of after (Wait wait) s) u sited few ((idle_sites answer_of after) (NoneQueued answer_of after) (events_idle answer_of after) k (Wait wait) s tt)
-  accepts_events k (ToReader move ∷ list) n s u sited few =
-      kept k list (accepts_events k list) n s (after_step answer_of after (ToReader move) s) u sited few ((idle_sites answer_of after) (NoneQueued answer_of after) (events_idle answer_of after) k (ToReader move) s tt)
-  accepts_events k (ToController move ∷ list) n s u sited few =
-      kept k list (accepts_events k list) n s (after_step answer_of after (ToController move) s) u sited few ((idle_sites answer_of after) (NoneQueued answer_of after) (events_idle answer_of after) k (ToController move) s tt)
-  accepts_events k (Reopen number ∷ list) n s u sited few =
-      kept k list (accepts_events k list) n s (after_step answer_of after (Reopen number) s) u sited few ((idle_sites answer_of after) (NoneQueued answer_of after) (events_idle answer_of after) k (Reopen number) s tt)
+  accepts_events k (step ∷ list) n s u sited few = idle_kept k list (accepts_events k list) step tt n s u sited few
 
   -- ---- from the set-up on
 

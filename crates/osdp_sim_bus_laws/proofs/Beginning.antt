@@ -5,6 +5,7 @@ use Rattle.std.specs.Prelude.{nat_le, slice_get}
 use Rattle.std.specs.List.{list_all, list_any}
 use Rattle.osdp_reader.specs.State.{new_reader}
 use Rattle.osdp_bus.specs.Machine.{most_devices}
+use Rattle.osdp_bus.specs.Settings.{controller_config}
 use Rattle.osdp_bus.specs.declared.config.BusConfig.{BusConfig}
 use Rattle.osdp_link_laws.specs.Link.{new_account}
 use Rattle.osdp_link_laws.specs.Names.{BeginsTogether}
@@ -16,7 +17,7 @@ use Rattle.osdp_multidrop.specs.Views.{view}
 use Rattle.osdp_bus_links.specs.Links.{device_of}
 use Rattle.osdp_sim_bus.specs.Runs.{AreSettings, are_apart, is_at, is_reader_in_range}
 use Rattle.osdp_sim_bus.specs.State.{Given, address_of, begun_device, new_site, set_up}
-use Rattle.osdp_sim_laws.proofs.Holding.{tells_nothing}
+use Rattle.osdp_sim_laws.proofs.Holding.{begins, tells_nothing}
 use Rattle.osdp_sim_bus_laws.specs.Moves.{Follows, SitesOf}
 
 -- ---- tests of lists
@@ -103,15 +104,8 @@ module _ {H : Type 0} where
   begins_together : (config : BusConfig) (readers : List (Given H)) (k : ℕ) (given : Given H) → address_of given < 127
       → BeginsTogether (view k (first_site config given) (first_net config readers))
   begins_together config readers k given device = record {
-    begins = record {
-      quiet = (_, refl);
-      address = device;
-      waiting = λ k d lt. absurd (omega (arith, lt));
-      to_reader = refl;
-      to_controller = refl;
-      account = refl;
-      earlier = refl;
-    };
+    begins = begins (record { reader = given.0; events = given.1; controller = controller_config (address_of given) config; commands = config.capacity })
+        given.2 device;
     together = refl;
     stored = refl;
     waiting = λ k d lt. absurd (omega (arith, lt));

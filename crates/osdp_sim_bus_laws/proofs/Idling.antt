@@ -17,7 +17,7 @@ use Rattle.osdp_sim.specs.declared.step.SimStep.{SimStep}
 use Rattle.osdp_sim.specs.declared.step.SimStep.TheVariants.{Issue, Queue, Busy, Wait, ToReader, ToController, Reopen}
 use Rattle.osdp_sim_bus.specs.State.{LineState, Site}
 use Rattle.osdp_sim_bus.specs.Steps.{after_step, all_hear, all_hear_each, changed_site, hears_run, is_there, issued, reopened, site_begins, site_hears, site_is_busy, site_is_told, site_issues, site_queues, site_queues_unless, told, waited}
-use Rattle.osdp_sim_laws.proofs.Accepting.{outcome_few}
+use Rattle.osdp_sim_laws.proofs.Accepting.{IsNoOrder, outcome_few}
 use Rattle.osdp_sim_laws.proofs.Accounts.{report_leaves}
 use Rattle.osdp_sim_bus_laws.proofs.Places.{StaysAt, other_changed, stays_all, stays_changed, stays_each, stays_then, within}
 use Rattle.osdp_sim_bus_laws.proofs.Waiting.{Keeps, keeps_all, keeps_begin, keeps_hears, keeps_other, keeps_tick}
@@ -65,12 +65,6 @@ module _ {H : Type 0} (answer_of : H → Command → Answer) (after : H → Comm
     busy = λ busy u. record { waiting = omega arith; room = refl; queued = refl };
     begins = λ u. record { waiting = omega arith; room = refl; queued = refl };
   }
-
-  -- the step is for no reader's queue
-  abbrev pub IsNoOrder : SimStep → Type 0
-  IsNoOrder (Issue number command) = ⊥
-  IsNoOrder (Queue number event) = ⊥
-  IsNoOrder _ = Unit {0}
 
   module _ (R : Site H → Site H → Type 0) (idle : IsIdle R) (k : ℕ) where
     pub where_sites : (there : Bool) (s t : LineState H) → StaysAt R k s.sites t.sites → StaysAt R k s.sites (if there then t else s).sites
