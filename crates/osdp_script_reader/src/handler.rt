@@ -1,6 +1,6 @@
 //! The handler of a script's readers.
 
-ghost use Rattle.std.specs.Prelude.{◌≡◌, ◌≤◌, length};
+ghost use Rattle.std.specs.Prelude.{◌≡◌};
 ghost use Rattle.osdp_script_reader.specs.Handler.{answer_to_maker, new_handler};
 
 use crate::outputs::switch_all;
@@ -29,16 +29,6 @@ impl ScriptReader {
     }
 }
 
-/// The bytes as a list.
-fn list(bytes: &[u8]) -> ArrayVec<u8, 1432>
-    requires { length bytes.now ≤ 1432 }
-    ensures { result.items ≡ bytes.now }
-{
-    let mut list = ArrayVec::new();
-    let _ = list.try_extend_from_slice(bytes);
-    list
-}
-
 /// The maker's own reply has the bytes of the command. Another maker's command is refused.
 fn answer_to_maker(message: &MakerMessage) -> Answer
     ensures { result ≡ answer_to_maker message.now }
@@ -46,8 +36,7 @@ fn answer_to_maker(message: &MakerMessage) -> Answer
     if message.vendor != VENDOR {
         return Answer::Refuse(NakReason::RecordNotProcessed);
     }
-    let mut bytes = ArrayVec::new();
-    let _ = bytes.try_extend_from_slice(message.bytes.as_slice());
+    let bytes = ArrayVec::try_from(message.bytes.as_slice()).unwrap();
     Answer::Maker(message.vendor, bytes)
 }
 
@@ -61,8 +50,8 @@ impl Handler for ScriptReader {
     fn answer(&mut self, command: &Command) -> Answer {
         match command {
             Command::LocalStatus => Answer::Local(0, 0),
-            Command::InputStatus | Command::ReaderStatus => Answer::List(list(&[0])),
-            Command::OutputStatus => Answer::List(list(&self.outputs)),
+            Command::InputStatus | Command::ReaderStatus => Answer::list(&[0]),
+            Command::OutputStatus => Answer::list(&self.outputs),
             Command::Output(outputs) => {
                 if !are_known(outputs.records()) {
                     return Answer::Refuse(NakReason::RecordNotProcessed);
