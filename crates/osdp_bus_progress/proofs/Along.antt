@@ -1,6 +1,6 @@
 -- What holds of a bus over each schedule in which no session begins again: moments, ranges, and one exchange at most.
-use Rattle.std.proofs.Common.{◌≡◌, ◌≤◌, ◌-◌, ℕ, zero, suc, ◌||◌, Bool, true, false, if◌then◌else◌, List, [], ◌∷◌, ◌++◌, map, Option, Some, None, inl, inr, refl, sym, subst, ap, ◌∙◌, arith}
-use Rattle.std.specs.Prelude.{not, slice_get, slice_set}
+use Rattle.std.proofs.Common.{◌≡◌, ◌≤◌, ◌-◌, ℕ, zero, suc, Bool, true, false, if◌then◌else◌, List, [], ◌∷◌, ◌++◌, map, Option, Some, None, inl, inr, refl, sym, subst, ap, ◌∙◌, arith}
+use Rattle.std.specs.Prelude.{slice_get, slice_set}
 use Rattle.std.specs.Option.{option_map_or}
 use Rattle.osdp_frame.specs.Items.{items}
 use Rattle.osdp_frame.specs.Packet.{Packet}
@@ -14,17 +14,17 @@ use Rattle.osdp_controller_laws.specs.Calls.{IsInRange, StaysInRange, longest_wa
 use Rattle.osdp_controller_laws.specs.Runs.{Begin, Hear, Tick}
 use Rattle.osdp_reader.specs.declared.handler.Answer.{Answer}
 use Rattle.osdp_bus.specs.Buses.{BusState, Devices, device_of, has_report, holder, is_silent, seen}
-use Rattle.osdp_bus.specs.Devices.{device_hears, device_ticks, holds, is_device_due}
+use Rattle.osdp_bus.specs.Devices.{device_hears, device_ticks, holds}
 use Rattle.osdp_bus.specs.Hearing.{after_bytes, ends_run, ends_silent, hears_bytes, hears_items}
 use Rattle.osdp_bus.specs.Machine.{after_next_report, after_submit_at, device_submits, submit_refusal_at}
 use Rattle.osdp_bus.specs.Settings.{controller_config}
-use Rattle.osdp_bus.specs.Ticking.{BusTicked, bus_ticks, is_due_at, is_held_and_due, next_due, stays, ticks_at, ticks_by, ticks_free, ticks_held, ticks_on, ticks_with}
+use Rattle.osdp_bus.specs.Ticking.{BusTicked, bus_ticks, is_due_at, next_due, stays, ticks_at, ticks_by, ticks_free, ticks_held, ticks_on, ticks_with}
 use Rattle.osdp_bus.specs.declared.config.BusConfig.{BusConfig}
 use Rattle.osdp_bus.specs.declared.device.Device.{Device}
 use Rattle.osdp_bus.specs.declared.fault.BusFault.{BusFault}
 use Rattle.osdp_bus_laws.proofs.Hearing.{items_keep}
 use Rattle.osdp_bus_laws.proofs.Places.{IsAt, replaced}
-use Rattle.osdp_bus_laws.proofs.Sound.{HeldBefore, IsNobody, WereHeld, held_items, held_there, nobody, still_nobody}
+use Rattle.osdp_bus_laws.proofs.Sound.{HeldBefore, IsNobody, WereHeld, either_held, held_items, nobody, still_nobody}
 use Rattle.osdp_link_laws.proofs.Stages.{Each}
 use Rattle.osdp_sim.specs.Line.{handed, left, packets_in}
 use Rattle.osdp_sim.specs.Steps.{moment_after}
@@ -32,9 +32,10 @@ use Rattle.osdp_sim.specs.declared.step.SimStep.{SimStep}
 use Rattle.osdp_sim.specs.declared.step.SimStep.TheVariants as step
 use Rattle.osdp_sim_bus.specs.Runs as simulation
 use Rattle.osdp_sim_bus.specs.State.{Given, LineState, begun_bus, begun_device}
-use Rattle.osdp_sim_bus.specs.Steps.{after_step, all_hear, all_hear_each, hears_run, is_there, issued, told}
+use Rattle.osdp_sim_bus.specs.Steps.{after_step, all_hear_each, hears_run, is_there, issued, told}
 use Rattle.osdp_sim_laws.specs.Accounts.{IsInSession}
 use Rattle.osdp_sim_laws.proofs.Moments.{InTime, clock_on, hears_so, last_moment, tick_so}
+use Rattle.osdp_bus_progress.proofs.BusRounds.{heard_bus, heard_clock, told_bus, told_clock}
 
 -- ---- devices
 
@@ -179,13 +180,8 @@ module _ (ranges : StaysInRange) (wait clock : ℕ) where
 
   held_at : (entry : ℕ) (b : BusState) → BusAt wait clock b → TickAt (ticks_held entry b)
   held_at entry b is =
-      either_way TickAt (has_report b || not (is_held_and_due entry b)) (stays b) (ticks_at (Some entry) b) (λ h. is)
-      (λ h. by_holder (held_there entry b h))
-    where
-      by_holder : (has_report b ≡ false) × ((d : Device) × (device_of entry b ≡ Some d) × (holds d ≡ true) × (is_device_due b.greatest d ≡ true))
-          → TickAt (ticks_at (Some entry) b)
-      by_holder (none, (d, at, stands, due)) =
-          with_at entry (device_of entry b) b refl (λ j f there h. is.one j entry f d there at h stands) is
+      either_held TickAt entry b is (λ none d at stands.
+      with_at entry (device_of entry b) b refl (λ j f there h. is.one j entry f d there at h stands) is)
 
   by_at : (o : Option ℕ) (b : BusState) → holder b ≡ o → BusAt wait clock b → TickAt (ticks_by o b)
   by_at None b none is =
@@ -246,13 +242,16 @@ module _ {H : Type 0} (answer_of : H → Command → Answer) (after : H → Comm
   issued_at (Some fault) place command s is = is
   issued_at None place command s is = submits_at ranges wait s.clock place command s.bus is
 
+  -- what changes neither the bus nor the moment
+  still_at : (s t : LineState H) → t.bus ≡ s.bus → t.clock ≡ s.clock → LineAt s → LineAt t
+  still_at s t bus clock is = subst (λ b. BusAt wait t.clock b) (sym bus) (subst (λ n. BusAt wait n s.bus) (sym clock) is)
+
   told_at : (o : Option (ℕ × Report)) (s : LineState H) → LineAt s → LineAt (told o s)
-  told_at None s is = is
-  told_at (Some (entry, report)) s is = is
+  told_at o s is = still_at s (told o s) (told_bus answer_of after o s) (told_clock answer_of after o s) is
 
   heard_at : (packets : List Packet) (s : LineState H) → LineAt s → LineAt (all_hear_each answer_of after packets s)
-  heard_at [] s is = is
-  heard_at (p ∷ packets) s is = heard_at packets (all_hear answer_of after p s) is
+  heard_at packets s is =
+      still_at s (all_hear_each answer_of after packets s) (heard_bus answer_of after packets s) (heard_clock answer_of after packets s) is
 
   pub step_at : (move : SimStep) (s : LineState H) → IsInSession move → LineAt s → LineAt (after_step answer_of after move s)
   step_at (step.Issue number command) s within is =

@@ -18,9 +18,9 @@ use Rattle.osdp_link_laws.proofs.Deliveries.{all_said}
 use Rattle.osdp_link_laws.proofs.InARow.{Stands, assumed, running}
 use Rattle.osdp_link_laws.proofs.Lines.{each_all, each_of}
 use Rattle.osdp_link_laws.proofs.OneDevice.{standing_names}
-use Rattle.osdp_link_laws.proofs.Round.{IsStill, at_tick, goes}
+use Rattle.osdp_link_laws.proofs.Round.{at_tick, goes}
 use Rattle.osdp_link_laws.proofs.Stages.{Each}
-use Rattle.osdp_link_laws.proofs.Through.{config_is, first_round, held_after}
+use Rattle.osdp_link_laws.proofs.Through.{clear_still, config_is, first_round, held_after}
 use Rattle.osdp_multidrop.proofs.Linked.{sends_from}
 
 module _ {H : Type 0} (answer_of : H → Command → Answer) (after : H → Command → H) (peers : ReadEachOther answer_of after) where
@@ -43,12 +43,7 @@ module _ {H : Type 0} (answer_of : H → Command → Answer) (after : H → Comm
       let handler = handler_after answer_of after config first.reader.handler l.earlier in
       let given = assumed answer_of after config first.reader.handler peers s.fixed handler s.device in
       let same = config_is s.fixed answer_of after config handler s.holds.0 l s.holds.1 unended in
-      let still : IsStill s.fixed answer_of after config handler l = record {
-        to_reader = clear.to_reader;
-        to_controller = clear.to_controller;
-        ready = record { here = clear.address ∙ ap (λ c. c.address) same; ready = clear.ready };
-        issued = each_of SetsNoAddress l.account.issued clear.issued;
-      } in
+      let still = clear_still s.fixed answer_of after config handler l clear same in
       let next = goes answer_of after now l in
       let held = held_after s.fixed answer_of after config handler given now l fits s.holds in
       elim (first_round s.fixed answer_of after config handler given now l s.holds still due fits) [
