@@ -10,6 +10,7 @@ use Rattle.osdp_line_programs.specs.declared.reader.ReaderSetting.{ReaderSetting
 use Rattle.osdp_line_programs.specs.declared.reader.ReaderSetting.TheVariants as reader
 use Rattle.osdp_line_programs.specs.declared.reader.ReaderSettings.{ReaderSettings}
 use Rattle.osdp_line_programs.proofs.Reading.{some_same}
+use Rattle.osdp_line_programs.specs.Settings.{SettingFits}
 use Rattle.osdp_line_programs.specs.PanelSettings as panel
 use Rattle.osdp_line_programs.specs.ReaderSettings as of_reader
 
@@ -28,7 +29,7 @@ with_config c d h config gap capacity = record {
   gap = (omega (arith, h.gap.0, gap), omega (arith, h.gap.1, gap));
 }
 
-pub set_in_range : (s : PanelSetting) (c : BusConfig) → panel.SettingFits s → IsBusConfig c → IsBusConfig (panel.with_setting s c)
+pub set_in_range : (s : PanelSetting) (c : BusConfig) → SettingFits panel.entry s → IsBusConfig c → IsBusConfig (panel.with_setting s c)
 set_in_range (Check kind) c fits h =
     let k = h.controllers.config_in_range in
     with_config c _ h (record { address = k.address; reply_wait = k.reply_wait; poll_interval = k.poll_interval; busy_wait = k.busy_wait; quiet_wait = k.quiet_wait; sends = k.sends; busy_limit = k.busy_limit }) refl refl
@@ -53,24 +54,6 @@ set_in_range (QuietWait n) c fits h =
 set_in_range (Gap n) c fits h = record { controllers = h.controllers; gap = fits }
 set_in_range (Capacity n) c fits h = record { controllers = record { config_in_range = h.controllers.config_in_range; room = fits.0; limit = fits.1 }; gap = h.gap }
 
-pub default_in_range : IsBusConfig panel.defaults
-default_in_range = record {
-  controllers = record {
-    config_in_range = record {
-      address = omega arith;
-      reply_wait = (omega arith, omega arith);
-      poll_interval = (omega arith, omega arith);
-      busy_wait = (omega arith, omega arith);
-      quiet_wait = (omega arith, omega arith);
-      sends = (omega arith, omega arith);
-      busy_limit = omega arith;
-    };
-    room = omega arith;
-    limit = omega arith;
-  };
-  gap = (omega arith, omega arith);
-}
-
 -- ---- readers
 
 capability_in_range : (b : Bool) (r d e : ReaderSettings) → (if b then Some d else None) ≡ Some e → of_reader.AreInRange d → of_reader.AreInRange e
@@ -80,7 +63,7 @@ capability_in_range false r d e is h = absurd (none_some e is)
     none_some : (x : ReaderSettings) → None ≡ Some x → ⊥
     none_some x n = cc
 
-pub put_in_range : (s : ReaderSetting) (r e : ReaderSettings) → of_reader.SettingFits s → of_reader.put s r ≡ Some e → of_reader.AreInRange r → of_reader.AreInRange e
+pub put_in_range : (s : ReaderSetting) (r e : ReaderSettings) → SettingFits of_reader.entry s → of_reader.put s r ≡ Some e → of_reader.AreInRange r → of_reader.AreInRange e
 put_in_range (reader.At address) r e fits is h = subst of_reader.AreInRange (some_same _ e is) (record { address = fits; room = h.room; gap = h.gap })
 put_in_range (reader.Vendor vendor) r e fits is h = subst of_reader.AreInRange (some_same _ e is) (record { address = h.address; room = h.room; gap = h.gap })
 put_in_range (reader.Model n) r e fits is h = subst of_reader.AreInRange (some_same _ e is) (record { address = h.address; room = h.room; gap = h.gap })
@@ -90,6 +73,3 @@ put_in_range (reader.Firmware ns) r e fits is h = subst of_reader.AreInRange (so
 put_in_range (reader.Cap ns) r e fits is h = capability_in_range _ r _ e is (record { address = h.address; room = h.room; gap = h.gap })
 put_in_range (reader.Room n) r e fits is h = subst of_reader.AreInRange (some_same _ e is) (record { address = h.address; room = fits; gap = h.gap })
 put_in_range (reader.Gap n) r e fits is h = subst of_reader.AreInRange (some_same _ e is) (record { address = h.address; room = h.room; gap = fits })
-
-pub default_reader_in_range : of_reader.AreInRange of_reader.defaults
-default_reader_in_range = record { address = omega arith; room = (omega arith, omega arith); gap = (omega arith, omega arith) }

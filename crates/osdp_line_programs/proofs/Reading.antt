@@ -3,8 +3,8 @@ use Rattle.std.proofs.Common.{◌≡◌, ℕ, List, [], ◌∷◌, Option, Some,
 use Rattle.std.specs.Option.{unwrap_or}
 use Rattle.std.specs.Prelude.{option_and_then}
 use Rattle.osdp_words.specs.Reading.{ReadsWords}
-use Rattle.osdp_words.specs.Word.{Word, plain}
-use Rattle.osdp_line_programs.specs.Settings.{Give, ReadsSettings, after}
+use Rattle.osdp_words.specs.Word.{Word}
+use Rattle.osdp_line_programs.specs.Settings.{Entry, Give, ReadsSettings, SettingFits, after, setting_words}
 
 pub some_same : {A : Type 0} (a b : A) → Some a ≡ Some b → a ≡ b
 some_same a b e = ap (λ o. unwrap_or o a) e
@@ -21,13 +21,10 @@ pub stands_first : {S C : Type 0} (words : S → List Word) (Fits : S → Type 0
     → Stands words Fits put defaults given given defaults
 stands_first words Fits put defaults given = record { all = λ rest g. (rest, g, refl); last = λ settings g. (settings, g, refl) }
 
-module _ {S C : Type 0} (name : S → List ℕ) (value : S → Word) (Fits : S → Type 0) (put : S → C → Option C) (defaults : C) (given : List (List ℕ)) where
-  abbrev pub two_words : S → List Word
-  two_words s = plain (name s) ∷ value s ∷ []
-
+module _ {S C : Type 0} (entry : S → Entry) (put : S → C → Option C) (defaults : C) (given : List (List ℕ)) where
   -- a setting more in front
-  in_front : (n v : List ℕ) (left : List (List ℕ)) (s : S) (rest : List S) → ReadsWords two_words Fits (n ∷ v ∷ []) (Some s)
-      → Give two_words Fits left rest → Give two_words Fits (n ∷ v ∷ left) (s ∷ rest)
+  in_front : (n v : List ℕ) (left : List (List ℕ)) (s : S) (rest : List S) → ReadsWords (setting_words entry) (SettingFits entry) (n ∷ v ∷ []) (Some s)
+      → Give (setting_words entry) (SettingFits entry) left rest → Give (setting_words entry) (SettingFits entry) (n ∷ v ∷ left) (s ∷ rest)
   in_front n v left s rest reads g = record {
     stand = (reads.value.0.0, (reads.value.0.1.0, g.stand));
     fit = (reads.value.1, g.fit);
@@ -39,10 +36,10 @@ module _ {S C : Type 0} (name : S → List ℕ) (value : S → Word) (Fits : S �
     others : List S
     split : rest ≡ first ∷ others
     is : r ≡ Some first
-    gives : Give two_words Fits left others
+    gives : Give (setting_words entry) (SettingFits entry) left others
 
-  front_of : (n v : List ℕ) (left : List (List ℕ)) (r : Option S) (rest : List S) → ReadsWords two_words Fits (n ∷ v ∷ []) r
-      → Give two_words Fits (n ∷ v ∷ left) rest → Front n v left r rest
+  front_of : (n v : List ℕ) (left : List (List ℕ)) (r : Option S) (rest : List S) → ReadsWords (setting_words entry) (SettingFits entry) (n ∷ v ∷ []) r
+      → Give (setting_words entry) (SettingFits entry) (n ∷ v ∷ left) rest → Front n v left r rest
   front_of n v left r [] reads g = absurd g.stand
   front_of n v left r (s ∷ rest) reads g = record {
     first = s;
@@ -55,8 +52,8 @@ module _ {S C : Type 0} (name : S → List ℕ) (value : S → Word) (Fits : S �
   put_first : (s : S) (rest : List S) (config next : C) → put s config ≡ Some next → after put (s ∷ rest) config ≡ after put rest next
   put_first s rest config next e = ap (option_and_then (after put rest)) e
 
-  pub stands_more : (n v : List ℕ) (left : List (List ℕ)) (s : S) (config next : C) → Stands two_words Fits put defaults given (n ∷ v ∷ left) config
-      → ReadsWords two_words Fits (n ∷ v ∷ []) (Some s) → put s config ≡ Some next → Stands two_words Fits put defaults given left next
+  pub stands_more : (n v : List ℕ) (left : List (List ℕ)) (s : S) (config next : C) → Stands (setting_words entry) (SettingFits entry) put defaults given (n ∷ v ∷ left) config
+      → ReadsWords (setting_words entry) (SettingFits entry) (n ∷ v ∷ []) (Some s) → put s config ≡ Some next → Stands (setting_words entry) (SettingFits entry) put defaults given left next
   stands_more n v left s config next so_far reads e = record {
     all = λ rest g.
         let a = so_far.all (s ∷ rest) (in_front n v left s rest reads g) in
@@ -69,8 +66,8 @@ module _ {S C : Type 0} (name : S → List ℕ) (value : S → Word) (Fits : S �
   }
 
   -- the next two words are no setting
-  pub no_setting : (n v : List ℕ) (left : List (List ℕ)) (config : C) → Stands two_words Fits put defaults given (n ∷ v ∷ left) config
-      → ReadsWords two_words Fits (n ∷ v ∷ []) None → ReadsSettings two_words Fits put defaults given None
+  pub no_setting : (n v : List ℕ) (left : List (List ℕ)) (config : C) → Stands (setting_words entry) (SettingFits entry) put defaults given (n ∷ v ∷ left) config
+      → ReadsWords (setting_words entry) (SettingFits entry) (n ∷ v ∷ []) None → ReadsSettings (setting_words entry) (SettingFits entry) put defaults given None
   no_setting n v left config so_far reads = record {
     value = tt;
     only = λ settings g.
@@ -83,8 +80,8 @@ module _ {S C : Type 0} (name : S → List ℕ) (value : S → Word) (Fits : S �
       none_some s e = cc
 
   -- there is no room for the setting
-  pub no_room : (n v : List ℕ) (left : List (List ℕ)) (s : S) (config : C) → Stands two_words Fits put defaults given (n ∷ v ∷ left) config
-      → ReadsWords two_words Fits (n ∷ v ∷ []) (Some s) → put s config ≡ None → ReadsSettings two_words Fits put defaults given None
+  pub no_room : (n v : List ℕ) (left : List (List ℕ)) (s : S) (config : C) → Stands (setting_words entry) (SettingFits entry) put defaults given (n ∷ v ∷ left) config
+      → ReadsWords (setting_words entry) (SettingFits entry) (n ∷ v ∷ []) (Some s) → put s config ≡ None → ReadsSettings (setting_words entry) (SettingFits entry) put defaults given None
   no_room n v left s config so_far reads e = record {
     value = tt;
     only = λ settings g.
@@ -94,21 +91,21 @@ module _ {S C : Type 0} (name : S → List ℕ) (value : S → Word) (Fits : S �
         sym (l.2 ∙ ap (λ r. after put r config) f.split ∙ ap (option_and_then (after put f.others)) (subst (λ x. put x config ≡ None) same e));
   }
 
-  all_read : (config : C) (rest : List S) → Give two_words Fits [] rest → after put rest config ≡ Some config
+  all_read : (config : C) (rest : List S) → Give (setting_words entry) (SettingFits entry) [] rest → after put rest config ≡ Some config
   all_read config [] g = refl
   all_read config (s ∷ rest) g = absurd g.stand
 
-  one_left : (x : List ℕ) (rest : List S) → Give two_words Fits (x ∷ []) rest → ⊥
+  one_left : (x : List ℕ) (rest : List S) → Give (setting_words entry) (SettingFits entry) (x ∷ []) rest → ⊥
   one_left x [] g = g.stand
   one_left x (s ∷ rest) g = g.stand.1
 
-  pub stands_last : (config : C) → Stands two_words Fits put defaults given [] config → ReadsSettings two_words Fits put defaults given (Some config)
+  pub stands_last : (config : C) → Stands (setting_words entry) (SettingFits entry) put defaults given [] config → ReadsSettings (setting_words entry) (SettingFits entry) put defaults given (Some config)
   stands_last config so_far = record {
     value = so_far.all [] (record { stand = tt; fit = tt });
     only = λ settings g. let l = so_far.last settings g in sym (l.2 ∙ all_read config l.0 l.1);
   }
 
-  pub stands_odd : (x : List ℕ) (config : C) → Stands two_words Fits put defaults given (x ∷ []) config → ReadsSettings two_words Fits put defaults given None
+  pub stands_odd : (x : List ℕ) (config : C) → Stands (setting_words entry) (SettingFits entry) put defaults given (x ∷ []) config → ReadsSettings (setting_words entry) (SettingFits entry) put defaults given None
   stands_odd x config so_far = record {
     value = tt;
     only = λ settings g. let l = so_far.last settings g in absurd (one_left x l.0 l.1);
@@ -116,28 +113,28 @@ module _ {S C : Type 0} (name : S → List ℕ) (value : S → Word) (Fits : S �
 
   -- ---- the same, by what was taken from the front
 
-  pub more_set : (n v : List ℕ) (before between left : List (List ℕ)) (s : S) (config next : C) → Stands two_words Fits put defaults given before config
-      → before ≡ n ∷ between → between ≡ v ∷ left → ReadsWords two_words Fits (n ∷ v ∷ []) (Some s) → put s config ≡ Some next
-      → Stands two_words Fits put defaults given left next
+  pub more_set : (n v : List ℕ) (before between left : List (List ℕ)) (s : S) (config next : C) → Stands (setting_words entry) (SettingFits entry) put defaults given before config
+      → before ≡ n ∷ between → between ≡ v ∷ left → ReadsWords (setting_words entry) (SettingFits entry) (n ∷ v ∷ []) (Some s) → put s config ≡ Some next
+      → Stands (setting_words entry) (SettingFits entry) put defaults given left next
   more_set n v before between left s config next so_far first second reads e =
-      stands_more n v left s config next (subst (λ l. Stands two_words Fits put defaults given l config) (first ∙ ap (λ l. n ∷ l) second) so_far) reads e
+      stands_more n v left s config next (subst (λ l. Stands (setting_words entry) (SettingFits entry) put defaults given l config) (first ∙ ap (λ l. n ∷ l) second) so_far) reads e
 
-  pub none_read : (n v : List ℕ) (before between left : List (List ℕ)) (config : C) → Stands two_words Fits put defaults given before config
-      → before ≡ n ∷ between → between ≡ v ∷ left → ReadsWords two_words Fits (n ∷ v ∷ []) None → ReadsSettings two_words Fits put defaults given None
+  pub none_read : (n v : List ℕ) (before between left : List (List ℕ)) (config : C) → Stands (setting_words entry) (SettingFits entry) put defaults given before config
+      → before ≡ n ∷ between → between ≡ v ∷ left → ReadsWords (setting_words entry) (SettingFits entry) (n ∷ v ∷ []) None → ReadsSettings (setting_words entry) (SettingFits entry) put defaults given None
   none_read n v before between left config so_far first second reads =
-      no_setting n v left config (subst (λ l. Stands two_words Fits put defaults given l config) (first ∙ ap (λ l. n ∷ l) second) so_far) reads
+      no_setting n v left config (subst (λ l. Stands (setting_words entry) (SettingFits entry) put defaults given l config) (first ∙ ap (λ l. n ∷ l) second) so_far) reads
 
-  pub none_put : (n v : List ℕ) (before between left : List (List ℕ)) (s : S) (config : C) → Stands two_words Fits put defaults given before config
-      → before ≡ n ∷ between → between ≡ v ∷ left → ReadsWords two_words Fits (n ∷ v ∷ []) (Some s) → put s config ≡ None
-      → ReadsSettings two_words Fits put defaults given None
+  pub none_put : (n v : List ℕ) (before between left : List (List ℕ)) (s : S) (config : C) → Stands (setting_words entry) (SettingFits entry) put defaults given before config
+      → before ≡ n ∷ between → between ≡ v ∷ left → ReadsWords (setting_words entry) (SettingFits entry) (n ∷ v ∷ []) (Some s) → put s config ≡ None
+      → ReadsSettings (setting_words entry) (SettingFits entry) put defaults given None
   none_put n v before between left s config so_far first second reads e =
-      no_room n v left s config (subst (λ l. Stands two_words Fits put defaults given l config) (first ∙ ap (λ l. n ∷ l) second) so_far) reads e
+      no_room n v left s config (subst (λ l. Stands (setting_words entry) (SettingFits entry) put defaults given l config) (first ∙ ap (λ l. n ∷ l) second) so_far) reads e
 
-  pub no_value : (n : List ℕ) (before between : List (List ℕ)) (config : C) → Stands two_words Fits put defaults given before config
-      → before ≡ n ∷ between → between ≡ [] → ReadsSettings two_words Fits put defaults given None
+  pub no_value : (n : List ℕ) (before between : List (List ℕ)) (config : C) → Stands (setting_words entry) (SettingFits entry) put defaults given before config
+      → before ≡ n ∷ between → between ≡ [] → ReadsSettings (setting_words entry) (SettingFits entry) put defaults given None
   no_value n before between config so_far first second =
-      stands_odd n config (subst (λ l. Stands two_words Fits put defaults given l config) (first ∙ ap (λ l. n ∷ l) second) so_far)
+      stands_odd n config (subst (λ l. Stands (setting_words entry) (SettingFits entry) put defaults given l config) (first ∙ ap (λ l. n ∷ l) second) so_far)
 
-  pub none_left : (before : List (List ℕ)) (config : C) → Stands two_words Fits put defaults given before config → before ≡ []
-      → ReadsSettings two_words Fits put defaults given (Some config)
-  none_left before config so_far none = stands_last config (subst (λ l. Stands two_words Fits put defaults given l config) none so_far)
+  pub none_left : (before : List (List ℕ)) (config : C) → Stands (setting_words entry) (SettingFits entry) put defaults given before config → before ≡ []
+      → ReadsSettings (setting_words entry) (SettingFits entry) put defaults given (Some config)
+  none_left before config so_far none = stands_last config (subst (λ l. Stands (setting_words entry) (SettingFits entry) put defaults given l config) none so_far)

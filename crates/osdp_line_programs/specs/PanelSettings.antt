@@ -1,51 +1,26 @@
 -- The settings of a panel: their words, and what each sets.
-use Rattle.std.specs.Prelude.{ℕ, ◌<◌, ◌^◌, List, [], ◌∷◌, codes, Option, Some}
+use Rattle.std.specs.Prelude.{ℕ, ◌<◌, ◌^◌, List, codes, Option, Some}
 use Rattle.osdp_bus.specs.declared.config.BusConfig.{BusConfig}
 use Rattle.osdp_bus.specs.Settings.{default_config}
 use Rattle.osdp_controller.specs.Settings.{IsTime}
 use Rattle.osdp_frame.specs.declared.check_kind.CheckKind.TheVariants.{Crc}
 use Rattle.osdp_frame.specs.Check.{check_name}
-use Rattle.osdp_words.specs.Word.{Word, plain, number}
+use Rattle.osdp_words.specs.Word.{plain, number}
 use Rattle.osdp_line_programs.specs.declared.panel.PanelSetting.{PanelSetting}
 use Rattle.osdp_line_programs.specs.declared.panel.PanelSetting.TheVariants.{Check, ReplyWait, PollInterval, Sends, BusyWait, BusyLimit, QuietWait, Gap, Capacity}
-use Rattle.osdp_line_programs.specs.Settings.{IsRoom, IsSends, Make, ReadsSettings}
+use Rattle.osdp_line_programs.specs.Settings.{Entry, IsRoom, IsSends, Make, ReadsSettings, SettingFits, setting_words}
 
-abbrev pub setting_name : PanelSetting → List ℕ
-setting_name (Check kind) = codes "check"
-setting_name (ReplyWait n) = codes "reply-wait"
-setting_name (PollInterval n) = codes "poll-interval"
-setting_name (Sends n) = codes "sends"
-setting_name (BusyWait n) = codes "busy-wait"
-setting_name (BusyLimit n) = codes "busy-limit"
-setting_name (QuietWait n) = codes "quiet-wait"
-setting_name (Gap n) = codes "gap"
-setting_name (Capacity n) = codes "capacity"
-
-abbrev pub setting_value : PanelSetting → Word
-setting_value (Check kind) = plain (check_name kind)
-setting_value (ReplyWait n) = number n
-setting_value (PollInterval n) = number n
-setting_value (Sends n) = number n
-setting_value (BusyWait n) = number n
-setting_value (BusyLimit n) = number n
-setting_value (QuietWait n) = number n
-setting_value (Gap n) = number n
-setting_value (Capacity n) = number n
-
-abbrev pub setting_words : PanelSetting → List Word
-setting_words s = plain (setting_name s) ∷ setting_value s ∷ []
-
--- each is within the range that a bus asks for
-abbrev pub SettingFits : PanelSetting → Type 0
-SettingFits (Check kind) = Unit {0}
-SettingFits (ReplyWait n) = IsTime n
-SettingFits (PollInterval n) = IsTime n
-SettingFits (Sends n) = IsSends n
-SettingFits (BusyWait n) = IsTime n
-SettingFits (BusyLimit n) = n < 2 ^ 8
-SettingFits (QuietWait n) = IsTime n
-SettingFits (Gap n) = IsTime n
-SettingFits (Capacity n) = IsRoom n
+-- the name of each, its value as a word, and the range that is asked of it
+abbrev pub entry : PanelSetting → Entry
+entry (Check kind) = record { name = codes "check"; value = plain (check_name kind); Fits = Unit {0} }
+entry (ReplyWait n) = record { name = codes "reply-wait"; value = number n; Fits = IsTime n }
+entry (PollInterval n) = record { name = codes "poll-interval"; value = number n; Fits = IsTime n }
+entry (Sends n) = record { name = codes "sends"; value = number n; Fits = IsSends n }
+entry (BusyWait n) = record { name = codes "busy-wait"; value = number n; Fits = IsTime n }
+entry (BusyLimit n) = record { name = codes "busy-limit"; value = number n; Fits = n < 2 ^ 8 }
+entry (QuietWait n) = record { name = codes "quiet-wait"; value = number n; Fits = IsTime n }
+entry (Gap n) = record { name = codes "gap"; value = number n; Fits = IsTime n }
+entry (Capacity n) = record { name = codes "capacity"; value = number n; Fits = IsRoom n }
 
 abbrev pub with_setting : PanelSetting → BusConfig → BusConfig
 with_setting (Check kind) c = record c { check = kind }
@@ -66,8 +41,8 @@ abbrev pub defaults : BusConfig
 defaults = default_config Crc 64
 
 abbrev pub ReadsPanel : List (List ℕ) → Option BusConfig → Type 0
-ReadsPanel = ReadsSettings setting_words SettingFits put defaults
+ReadsPanel = ReadsSettings (setting_words entry) (SettingFits entry) put defaults
 
 -- the words are settings of a panel, and they make this bus of the defaults
 abbrev pub AreOfPanel : List (List ℕ) → BusConfig → Type 0
-AreOfPanel = Make setting_words SettingFits put defaults
+AreOfPanel = Make (setting_words entry) (SettingFits entry) put defaults

@@ -4,47 +4,23 @@ use Rattle.osdp_controller.specs.Settings.{IsTime}
 use Rattle.osdp_msg.specs.declared.reply_fields.PdCap.{PdCap}
 use Rattle.osdp_msg.specs.declared.reply_fields.PdId.{PdId}
 use Rattle.osdp_msg.specs.ReplyFields.{capability_at}
-use Rattle.osdp_words.specs.Word.{Word, plain, bytes, number, numbers}
+use Rattle.osdp_words.specs.Word.{bytes, number, numbers}
 use Rattle.osdp_line_programs.specs.declared.reader.ReaderSetting.{ReaderSetting}
 use Rattle.osdp_line_programs.specs.declared.reader.ReaderSetting.TheVariants.{At, Vendor, Model, Version, Serial, Firmware, Cap, Room, Gap}
 use Rattle.osdp_line_programs.specs.declared.reader.ReaderSettings.{ReaderSettings}
-use Rattle.osdp_line_programs.specs.Settings.{IsRoom, IsTriple, IsVendor, Make, ReadsSettings}
+use Rattle.osdp_line_programs.specs.Settings.{Entry, IsRoom, IsTriple, IsVendor, Make, ReadsSettings, SettingFits, setting_words}
 
-abbrev pub setting_name : ReaderSetting → List ℕ
-setting_name (At address) = codes "address"
-setting_name (Vendor vendor) = codes "vendor"
-setting_name (Model n) = codes "model"
-setting_name (Version n) = codes "version"
-setting_name (Serial n) = codes "serial"
-setting_name (Firmware ns) = codes "firmware"
-setting_name (Cap ns) = codes "cap"
-setting_name (Room n) = codes "room"
-setting_name (Gap n) = codes "gap"
-
-abbrev pub setting_value : ReaderSetting → Word
-setting_value (At address) = number address
-setting_value (Vendor vendor) = bytes vendor
-setting_value (Model n) = number n
-setting_value (Version n) = number n
-setting_value (Serial n) = number n
-setting_value (Firmware ns) = numbers ns
-setting_value (Cap ns) = numbers ns
-setting_value (Room n) = number n
-setting_value (Gap n) = number n
-
-abbrev pub setting_words : ReaderSetting → List Word
-setting_words s = plain (setting_name s) ∷ setting_value s ∷ []
-
-abbrev pub SettingFits : ReaderSetting → Type 0
-SettingFits (At address) = address < 127
-SettingFits (Vendor vendor) = IsVendor vendor
-SettingFits (Model n) = n < 2 ^ 8
-SettingFits (Version n) = n < 2 ^ 8
-SettingFits (Serial n) = n < 2 ^ 32
-SettingFits (Firmware ns) = IsTriple ns
-SettingFits (Cap ns) = IsTriple ns
-SettingFits (Room n) = IsRoom n
-SettingFits (Gap n) = IsTime n
+-- the name of each, its value as a word, and the range that is asked of it
+abbrev pub entry : ReaderSetting → Entry
+entry (At address) = record { name = codes "address"; value = number address; Fits = address < 127 }
+entry (Vendor vendor) = record { name = codes "vendor"; value = bytes vendor; Fits = IsVendor vendor }
+entry (Model n) = record { name = codes "model"; value = number n; Fits = n < 2 ^ 8 }
+entry (Version n) = record { name = codes "version"; value = number n; Fits = n < 2 ^ 8 }
+entry (Serial n) = record { name = codes "serial"; value = number n; Fits = n < 2 ^ 32 }
+entry (Firmware ns) = record { name = codes "firmware"; value = numbers ns; Fits = IsTriple ns }
+entry (Cap ns) = record { name = codes "cap"; value = numbers ns; Fits = IsTriple ns }
+entry (Room n) = record { name = codes "room"; value = number n; Fits = IsRoom n }
+entry (Gap n) = record { name = codes "gap"; value = number n; Fits = IsTime n }
 
 abbrev pub with_id : PdId → ReaderSettings → ReaderSettings
 with_id id r = record r { config = record r.config { id = id } }
@@ -94,11 +70,11 @@ defaults = record {
 }
 
 abbrev pub ReadsReader : List (List ℕ) → Option ReaderSettings → Type 0
-ReadsReader = ReadsSettings setting_words SettingFits put defaults
+ReadsReader = ReadsSettings (setting_words entry) (SettingFits entry) put defaults
 
 -- the words are settings of a reader, and they make this one of the defaults
 abbrev pub AreOfReader : List (List ℕ) → ReaderSettings → Type 0
-AreOfReader = Make setting_words SettingFits put defaults
+AreOfReader = Make (setting_words entry) (SettingFits entry) put defaults
 
 -- what a reader asks for
 pub record AreInRange (r : ReaderSettings) : Type 0 where

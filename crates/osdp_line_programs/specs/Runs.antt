@@ -8,9 +8,7 @@ use Rattle.osdp_panel_calls.specs.Sessions.{new_session as new_panel}
 use Rattle.osdp_reader_calls.specs.Lines.{Answers as ReaderAnswers}
 use Rattle.osdp_reader_calls.specs.Sessions.{Session as ReaderSession, new_session as new_reader}
 use Rattle.osdp_tool_streams.specs.declared.fault.ToolFault.{ToolFault}
-use Rattle.osdp_tool_streams.specs.declared.fault.ToolFault.TheVariants.{NotHex, TooLong, BadWords, BadStep}
-use Rattle.osdp_tool_streams.specs.declared.fault.ToolFault.TheVariants.{HoldsPacket, NotQuiet, ReadFailed}
-use Rattle.osdp_tool_streams.specs.declared.fault.ToolFault.TheVariants.{WriteFailed, NoMemory}
+use Rattle.osdp_tool_streams.specs.declared.fault.ToolFault.TheVariants.{TooLong, BadWords, ReadFailed, WriteFailed, NoMemory}
 use Rattle.osdp_line_programs.specs.declared.reader.ReaderSettings.{ReaderSettings}
 use Rattle.osdp_line_programs.specs.PanelSettings.{AreOfPanel}
 use Rattle.osdp_line_programs.specs.ReaderSettings.{AreOfReader}
@@ -59,7 +57,4 @@ fault_text TooLong = codes "input too long"
 fault_text ReadFailed = codes "read failed"
 fault_text WriteFailed = codes "write failed"
 fault_text NoMemory = codes "no memory"
-fault_text (NotHex line) = codes "bad input"
-fault_text (BadStep line) = codes "bad input"
-fault_text (HoldsPacket step) = codes "bad input"
-fault_text (NotQuiet step) = codes "bad input"
+fault_text other = codes "bad input"

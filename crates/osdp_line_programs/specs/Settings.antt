@@ -2,7 +2,20 @@
 use Rattle.std.specs.Prelude.{◌≡◌, ℕ, ◌≤◌, List, [], ◌∷◌, flat_map, length, IfSome, Option, Some, option_and_then}
 use Rattle.std.specs.List.{AllByRecursion}
 use Rattle.hex.specs.Hex.{IsBytes}
-use Rattle.osdp_words.specs.Word.{AllStandFor, AreWithin, Word}
+use Rattle.osdp_words.specs.Word.{AllStandFor, AreWithin, Word, plain}
+
+-- how a setting stands in words: its name, then its value, which is within a range
+pub record Entry : Type 1 where
+  pub name : List ℕ
+  pub value : Word
+  pub Fits : Type 0
+
+module _ {S : Type 0} (entry : S → Entry) where
+  abbrev pub setting_words : S → List Word
+  setting_words s = plain (entry s).name ∷ (entry s).value ∷ []
+
+  abbrev pub SettingFits : S → Type 0
+  SettingFits s = (entry s).Fits
 
 -- the words are these settings, one after the other, each within its range
 pub record Give {S : Type 0} (words : S → List Word) (Fits : S → Type 0) (given : List (List ℕ)) (settings : List S) : Type 0 where

@@ -5,7 +5,8 @@ ghost use Rattle.osdp_bus.specs.Settings.{IsBusConfig};
 ghost use Rattle.osdp_frame.specs.Check.{check_name};
 ghost use Rattle.osdp_words.specs.Reading.{Reads, ReadsWords};
 ghost use Rattle.osdp_words.specs.Word.{plain, texts};
-ghost use Rattle.osdp_line_programs.specs.PanelSettings.{ReadsPanel, SettingFits, setting_words, with_setting};
+ghost use Rattle.osdp_line_programs.specs.PanelSettings.{ReadsPanel, entry, with_setting};
+ghost use Rattle.osdp_line_programs.specs.Settings.{SettingFits, setting_words};
 
 use crate::values::{room, sends, time};
 use osdp_bus::BusConfig;
@@ -49,7 +50,7 @@ fn check(word: &str) -> Option<CheckKind>
 impl PanelSetting {
     /// The setting of this name with this value.
     pub fn parse(name: &str, value: &str) -> Option<PanelSetting>
-        ensures { ReadsWords setting_words SettingFits (name.now ∷ value.now ∷ []) result }
+        ensures { ReadsWords (setting_words entry) (SettingFits entry) (name.now ∷ value.now ∷ []) result }
     {
         match name {
             "check" => Some(PanelSetting::Check(check(value)?)),

@@ -3,7 +3,8 @@
 ghost use Rattle.std.specs.Prelude.{◌≡◌, ◌∷◌, [], IfSome};
 ghost use Rattle.osdp_words.specs.Reading.{ReadsWords};
 ghost use Rattle.osdp_words.specs.Word.{texts};
-ghost use Rattle.osdp_line_programs.specs.ReaderSettings.{AreInRange, ReadsReader, SettingFits, defaults, put, put_capability, setting_words};
+ghost use Rattle.osdp_line_programs.specs.ReaderSettings.{AreInRange, ReadsReader, defaults, entry, put, put_capability};
+ghost use Rattle.osdp_line_programs.specs.Settings.{SettingFits, setting_words};
 
 use crate::values::{device_address, room, time, triple};
 use arrayvec::ArrayVec;
@@ -49,7 +50,7 @@ pub struct ReaderSettings {
 impl ReaderSetting {
     /// The setting of this name with this value.
     pub fn parse(name: &str, value: &str) -> Option<ReaderSetting>
-        ensures { ReadsWords setting_words SettingFits (name.now ∷ value.now ∷ []) result }
+        ensures { ReadsWords (setting_words entry) (SettingFits entry) (name.now ∷ value.now ∷ []) result }
     {
         match name {
             "address" => Some(ReaderSetting::At(device_address(value)?)),

@@ -1,16 +1,14 @@
 use Rattle.std.proofs.Common.{length}
 use Rattle.osdp_bus.specs.Settings.{IsBusConfig}
 use Rattle.osdp_words.specs.Word.{texts}
-use Rattle.osdp_line_programs.specs.PanelSettings.{SettingFits, defaults, put, setting_words}
+use Rattle.osdp_line_programs.specs.Settings.{SettingFits, setting_words}
+use Rattle.osdp_line_programs.specs.PanelSettings.{defaults, entry, put}
 use Rattle.osdp_line_programs.proofs.Reading.{Stands}
 use Rattle.osdp_line_programs.proofs.panel.panel_settings.Given as goal
 
 -- what is set so far, and the words that are left
 abbrev pub invariant-settings : goal.invariant-settings
-invariant-settings l = record {
-  range : IsBusConfig l.config;
-  stands : Stands setting_words SettingFits put defaults (texts l.fn.words) l.fields l.config;
-}
+invariant-settings l = IsBusConfig l.config × Stands (setting_words entry) (SettingFits entry) put defaults (texts l.fn.words) l.fields l.config
 
 abbrev pub decreases-settings : goal.decreases-settings
 decreases-settings l = length l.fields
