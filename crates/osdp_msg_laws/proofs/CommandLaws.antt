@@ -2,7 +2,7 @@
 use Rattle.std.proofs.Common.{◌<◌, lit<, [], ◌∷◌, length, sym, ◌∙◌, arith}
 use Rattle.hex.specs.Hex.{IsBytes}
 use Rattle.osdp_msg.specs.declared.command.Command.{Command}
-use Rattle.osdp_msg.specs.declared.command.Command.TheVariants.{Poll, Id, Cap, LocalStatus, InputStatus, OutputStatus, ReaderStatus, Output, Led, Buzzer, Text, Comset, Maker}
+use Rattle.osdp_msg.specs.declared.command.Command.TheVariants.{Poll, Id, Cap, Output, Led, Buzzer, Text, Comset, Maker}
 use Rattle.osdp_msg.specs.CommandFields.{LedFits, OutputFits, led_at, led_data, output_at, output_data}
 use Rattle.osdp_msg.specs.CommandTable.{CommandFits, IsCommand, command_at, command_code, command_counts_agree, command_data, command_fault, command_length_allowed, command_of}
 use Rattle.osdp_msg_laws.specs.Laws.{FitsAPacket, HasOneSpelling, HasOneValue, ReadsTheFaults, ReadsTheTable}
@@ -27,34 +27,19 @@ pub commands_one_spelling : HasOneSpelling IsCommand
 commands_one_spelling code other bytes others m is also = (is.code_is ∙ sym also.code_is, is.data_is ∙ sym also.data_is)
 
 spells_data : (m : Command) → CommandFits m → IsBytes (command_data m)
-spells_data Poll fits = IsBytes-nil
 spells_data (Id kept) fits = IsBytes-each (kept ∷ []) (fits, tt)
 spells_data (Cap kept) fits = IsBytes-each (kept ∷ []) (fits, tt)
-spells_data LocalStatus fits = IsBytes-nil
-spells_data InputStatus fits = IsBytes-nil
-spells_data OutputStatus fits = IsBytes-nil
-spells_data ReaderStatus fits = IsBytes-nil
 spells_data (Output rs) fits = records_spell 4 output_data OutputFits output_at outputs rs fits.2
 spells_data (Led rs) fits = records_spell 14 led_data LedFits led_at leds rs fits.2
 spells_data (Buzzer b) fits = buzzer_spells b fits
 spells_data (Text t) fits = text_spells t fits
 spells_data (Comset c) fits = communication_spells c fits
 spells_data (Maker m) fits = maker_spells m fits
+spells_data _ fits = IsBytes-nil
 
 code_is_byte : (m : Command) → command_code m < 256
 code_is_byte Poll = lit< tt
-code_is_byte (Id kept) = lit< tt
-code_is_byte (Cap kept) = lit< tt
-code_is_byte LocalStatus = lit< tt
-code_is_byte InputStatus = lit< tt
-code_is_byte OutputStatus = lit< tt
-code_is_byte ReaderStatus = lit< tt
-code_is_byte (Output rs) = lit< tt
-code_is_byte (Led rs) = lit< tt
-code_is_byte (Buzzer b) = lit< tt
-code_is_byte (Text t) = lit< tt
-code_is_byte (Comset c) = lit< tt
-code_is_byte (Maker m) = lit< tt
+code_is_byte _ = lit< tt
 
 pub commands_fit : FitsAPacket IsCommand
 unfolding command_fault

@@ -1,44 +1,26 @@
 -- Each word of a command is printed as digits, colons and letters.
-use Rattle.std.proofs.Common.{[], ◌∷◌, lit<, refl}
-use Rattle.osdp_words.specs.Word.{bytes, plain}
+use Rattle.std.proofs.Common.{[], ◌∷◌}
+use Rattle.osdp_words.specs.Word.{bytes}
 use Rattle.osdp_msg.specs.declared.command.Command.{Command}
-use Rattle.osdp_msg.specs.declared.command.Command.TheVariants.{Poll, Id, Cap, LocalStatus, InputStatus, OutputStatus, ReaderStatus, Output, Led, Buzzer, Text, Comset, Maker}
+use Rattle.osdp_msg.specs.declared.command.Command.TheVariants.{Poll, Id, Cap, Output, Led, Buzzer, Text, Comset, Maker}
 use Rattle.osdp_msg.specs.CommandFields.{LedFits, OutputFits, led_word, output_word}
 use Rattle.osdp_msg.specs.CommandTable.{CommandFits}
-use Rattle.osdp_msg.specs.CommandText.{command_fields, command_name, command_words}
-use Rattle.osdp_msg_laws.specs.Laws.{HasPlainWords, IsPlainWord}
+use Rattle.osdp_msg.specs.CommandText.{command_fields, command_words}
+use Rattle.osdp_msg_laws.specs.Laws.{HasPlainWords}
 use Rattle.osdp_msg_laws.proofs.OneMeaning.{byte, led_small, output_small, word_4}
-use Rattle.osdp_msg_laws.proofs.PlainWords.{ArePlainWords, bytes_plain, name_plain, numbers_plain, record_plain, records_plain}
+use Rattle.osdp_msg_laws.proofs.PlainNames.{command_name_plain}
+use Rattle.osdp_msg_laws.proofs.PlainWords.{ArePlainWords, bytes_plain, numbers_plain, record_plain, records_plain}
 
 fields_plain : (m : Command) → CommandFits m → ArePlainWords (command_fields m)
-fields_plain Poll h = tt
 fields_plain (Id a) h = numbers_plain (a ∷ []) [] (byte a h, tt) tt
 fields_plain (Cap a) h = numbers_plain (a ∷ []) [] (byte a h, tt) tt
-fields_plain LocalStatus h = tt
-fields_plain InputStatus h = tt
-fields_plain OutputStatus h = tt
-fields_plain ReaderStatus h = tt
 fields_plain (Output a) h = records_plain output_word OutputFits (λ r f. record_plain r.output (r.control ∷ r.timer ∷ []) (output_small r f)) a h.2
 fields_plain (Led a) h = records_plain led_word LedFits (λ r f. record_plain r.reader (r.led ∷ r.temporary_control ∷ r.temporary_on_time ∷ r.temporary_off_time ∷ r.temporary_on_color ∷ r.temporary_off_color ∷ r.timer ∷ r.permanent_control ∷ r.permanent_on_time ∷ r.permanent_off_time ∷ r.permanent_on_color ∷ r.permanent_off_color ∷ []) (led_small r f)) a h.2
 fields_plain (Buzzer a) h = numbers_plain (a.reader ∷ a.tone ∷ a.on_time ∷ a.off_time ∷ a.count ∷ []) [] (byte a.reader h.0, (byte a.tone h.1, (byte a.on_time h.2, (byte a.off_time h.3, (byte a.count h.4, tt))))) tt
 fields_plain (Text a) h = numbers_plain (a.reader ∷ a.command ∷ a.time ∷ a.row ∷ a.column ∷ []) (bytes a.characters.items ∷ []) (byte a.reader h.reader, (byte a.command h.command, (byte a.time h.time, (byte a.row h.row, (byte a.column h.column, tt))))) (bytes_plain a.characters.items h.characters, tt)
 fields_plain (Comset a) h = numbers_plain (a.address ∷ a.baud_rate ∷ []) [] (byte a.address h.0, (word_4 a.baud_rate h.1, tt)) tt
 fields_plain (Maker a) h = (bytes_plain a.vendor h.vendor, (bytes_plain a.bytes.items h.bytes, tt))
-
-command_name_plain : (m : Command) → IsPlainWord (plain (command_name m))
-command_name_plain Poll = name_plain (command_name Poll) (lit< tt) refl refl
-command_name_plain (Id a) = name_plain (command_name (Id a)) (lit< tt) refl refl
-command_name_plain (Cap a) = name_plain (command_name (Cap a)) (lit< tt) refl refl
-command_name_plain LocalStatus = name_plain (command_name LocalStatus) (lit< tt) refl refl
-command_name_plain InputStatus = name_plain (command_name InputStatus) (lit< tt) refl refl
-command_name_plain OutputStatus = name_plain (command_name OutputStatus) (lit< tt) refl refl
-command_name_plain ReaderStatus = name_plain (command_name ReaderStatus) (lit< tt) refl refl
-command_name_plain (Output a) = name_plain (command_name (Output a)) (lit< tt) refl refl
-command_name_plain (Led a) = name_plain (command_name (Led a)) (lit< tt) refl refl
-command_name_plain (Buzzer a) = name_plain (command_name (Buzzer a)) (lit< tt) refl refl
-command_name_plain (Text a) = name_plain (command_name (Text a)) (lit< tt) refl refl
-command_name_plain (Comset a) = name_plain (command_name (Comset a)) (lit< tt) refl refl
-command_name_plain (Maker a) = name_plain (command_name (Maker a)) (lit< tt) refl refl
+fields_plain _ h = tt
 
 pub plain_commands : HasPlainWords CommandFits command_words
 plain_commands m h = (command_name_plain m, fields_plain m h)

@@ -1,25 +1,25 @@
 -- Each word of a reply, and so of an event, is printed as digits, colons and letters.
-use Rattle.std.proofs.Common.{ℕ, List, [], ◌∷◌, lit<, refl}
+use Rattle.std.proofs.Common.{ℕ, List, [], ◌∷◌}
 use Rattle.hex.specs.Hex.{IsBytes}
-use Rattle.osdp_words.specs.Word.{bytes, plain}
+use Rattle.osdp_words.specs.Word.{bytes}
 use Rattle.osdp_msg.specs.declared.reply.Reply.{Reply}
-use Rattle.osdp_msg.specs.declared.reply.Reply.TheVariants.{Ack, Nak, PdId, PdCap, LocalState, Inputs, Outputs, Readers, Raw, Formatted, Keypad, Com, Busy, MakerReply}
+use Rattle.osdp_msg.specs.declared.reply.Reply.TheVariants.{Ack, Nak, PdId, PdCap, LocalState, Inputs, Outputs, Readers, Raw, Formatted, Keypad, Com, MakerReply}
 use Rattle.osdp_msg.specs.Events.{EventFits, event_reply, event_words}
 use Rattle.osdp_msg.specs.NakReasons.{reason_number}
 use Rattle.osdp_msg.specs.ReplyFields.{CapabilityFits, capability_word, detail_words}
 use Rattle.osdp_msg.specs.ReplyTable.{ReplyFits}
-use Rattle.osdp_msg.specs.ReplyText.{reply_fields, reply_name, reply_words}
+use Rattle.osdp_msg.specs.ReplyText.{reply_fields, reply_words}
 use Rattle.osdp_msg.proofs.ReplyRows.{reason_byte}
-use Rattle.osdp_msg_laws.specs.Laws.{HasPlainWords, IsPlainWord}
+use Rattle.osdp_msg_laws.specs.Laws.{HasPlainWords}
 use Rattle.osdp_msg_laws.proofs.OneMeaning.{byte, word_2, word_4}
-use Rattle.osdp_msg_laws.proofs.PlainWords.{ArePlainWords, bytes_plain, name_plain, numbers_plain, record_plain, records_plain}
+use Rattle.osdp_msg_laws.proofs.PlainNames.{reply_name_plain}
+use Rattle.osdp_msg_laws.proofs.PlainWords.{ArePlainWords, bytes_plain, numbers_plain, record_plain, records_plain}
 
 details_plain : (d : List ℕ) → IsBytes d → ArePlainWords (detail_words d)
 details_plain [] h = tt
 details_plain (b ∷ bs) h = (bytes_plain (b ∷ bs) h, tt)
 
 fields_plain : (m : Reply) → ReplyFits m → ArePlainWords (reply_fields m)
-fields_plain Ack h = tt
 fields_plain (Nak a) h = numbers_plain (reason_number a.reason ∷ []) (detail_words a.detail.items) (byte (reason_number a.reason) (reason_byte a.reason h.reason), tt) (details_plain a.detail.items h.detail)
 fields_plain (PdId a) h = (bytes_plain a.vendor h.vendor, numbers_plain (a.model ∷ a.version ∷ a.serial ∷ a.firmware_major ∷ a.firmware_minor ∷ a.firmware_build ∷ []) [] (byte a.model h.model, (byte a.version h.version, (word_4 a.serial h.serial, (byte a.firmware_major h.firmware_major, (byte a.firmware_minor h.firmware_minor, (byte a.firmware_build h.firmware_build, tt)))))) tt)
 fields_plain (PdCap a) h = records_plain capability_word CapabilityFits (λ r f. record_plain r.function (r.level ∷ r.count ∷ []) (byte r.function f.0, (byte r.level f.1, (byte r.count f.2, tt)))) a.capabilities.items h.1
@@ -31,24 +31,8 @@ fields_plain (Raw a) h = numbers_plain (a.reader ∷ a.format ∷ a.bits ∷ [])
 fields_plain (Formatted a) h = numbers_plain (a.reader ∷ a.direction ∷ []) (bytes a.digits.items ∷ []) (byte a.reader h.reader, (byte a.direction h.direction, tt)) (bytes_plain a.digits.items h.digits, tt)
 fields_plain (Keypad a) h = numbers_plain (a.reader ∷ []) (bytes a.digits.items ∷ []) (byte a.reader h.reader, tt) (bytes_plain a.digits.items h.digits, tt)
 fields_plain (Com a) h = numbers_plain (a.address ∷ a.baud_rate ∷ []) [] (byte a.address h.0, (word_4 a.baud_rate h.1, tt)) tt
-fields_plain Busy h = tt
 fields_plain (MakerReply a) h = (bytes_plain a.vendor h.vendor, (bytes_plain a.bytes.items h.bytes, tt))
-
-reply_name_plain : (m : Reply) → IsPlainWord (plain (reply_name m))
-reply_name_plain Ack = name_plain (reply_name Ack) (lit< tt) refl refl
-reply_name_plain (Nak a) = name_plain (reply_name (Nak a)) (lit< tt) refl refl
-reply_name_plain (PdId a) = name_plain (reply_name (PdId a)) (lit< tt) refl refl
-reply_name_plain (PdCap a) = name_plain (reply_name (PdCap a)) (lit< tt) refl refl
-reply_name_plain (LocalState a) = name_plain (reply_name (LocalState a)) (lit< tt) refl refl
-reply_name_plain (Inputs a) = name_plain (reply_name (Inputs a)) (lit< tt) refl refl
-reply_name_plain (Outputs a) = name_plain (reply_name (Outputs a)) (lit< tt) refl refl
-reply_name_plain (Readers a) = name_plain (reply_name (Readers a)) (lit< tt) refl refl
-reply_name_plain (Raw a) = name_plain (reply_name (Raw a)) (lit< tt) refl refl
-reply_name_plain (Formatted a) = name_plain (reply_name (Formatted a)) (lit< tt) refl refl
-reply_name_plain (Keypad a) = name_plain (reply_name (Keypad a)) (lit< tt) refl refl
-reply_name_plain (Com a) = name_plain (reply_name (Com a)) (lit< tt) refl refl
-reply_name_plain Busy = name_plain (reply_name Busy) (lit< tt) refl refl
-reply_name_plain (MakerReply a) = name_plain (reply_name (MakerReply a)) (lit< tt) refl refl
+fields_plain _ h = tt
 
 pub plain_replies : HasPlainWords ReplyFits reply_words
 plain_replies m h = (reply_name_plain m, fields_plain m h)

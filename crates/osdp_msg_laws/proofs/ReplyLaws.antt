@@ -2,7 +2,7 @@
 use Rattle.std.proofs.Common.{◌<◌, lit<, length, sym, ◌∙◌, arith}
 use Rattle.hex.specs.Hex.{IsBytes}
 use Rattle.osdp_msg.specs.declared.reply.Reply.{Reply}
-use Rattle.osdp_msg.specs.declared.reply.Reply.TheVariants.{Ack, Nak, PdId, PdCap, LocalState, Inputs, Outputs, Readers, Raw, Formatted, Keypad, Com, Busy, MakerReply}
+use Rattle.osdp_msg.specs.declared.reply.Reply.TheVariants.{Ack, Nak, PdId, PdCap, LocalState, Inputs, Outputs, Readers, Raw, Formatted, Keypad, Com, MakerReply}
 use Rattle.osdp_msg.specs.ReplyFields.{CapabilityFits, capability_at, capability_data}
 use Rattle.osdp_msg.specs.ReplyTable.{IsReply, ReplyFits, reply_at, reply_code, reply_counts_agree, reply_data, reply_fault, reply_length_allowed, reply_of}
 use Rattle.osdp_msg_laws.specs.Laws.{FitsAPacket, HasOneSpelling, HasOneValue, ReadsTheFaults, ReadsTheTable}
@@ -28,7 +28,6 @@ pub replies_one_spelling : HasOneSpelling IsReply
 replies_one_spelling code other bytes others m is also = (is.code_is ∙ sym also.code_is, is.data_is ∙ sym also.data_is)
 
 spells_data : (m : Reply) → ReplyFits m → IsBytes (reply_data m)
-spells_data Ack fits = IsBytes-nil
 spells_data (Nak n) fits = nak_spells n fits
 spells_data (PdId p) fits = pd_id_spells p fits
 spells_data (PdCap p) fits = records_spell 3 capability_data CapabilityFits capability_at capabilities p.capabilities.items fits.1
@@ -40,24 +39,12 @@ spells_data (Raw r) fits = raw_spells r fits
 spells_data (Formatted f) fits = formatted_spells f fits
 spells_data (Keypad k) fits = keypad_spells k fits
 spells_data (Com c) fits = communication_spells c fits
-spells_data Busy fits = IsBytes-nil
 spells_data (MakerReply m) fits = maker_spells m fits
+spells_data _ fits = IsBytes-nil
 
 code_is_byte : (m : Reply) → reply_code m < 256
 code_is_byte Ack = lit< tt
-code_is_byte (Nak n) = lit< tt
-code_is_byte (PdId p) = lit< tt
-code_is_byte (PdCap p) = lit< tt
-code_is_byte (LocalState s) = lit< tt
-code_is_byte (Inputs states) = lit< tt
-code_is_byte (Outputs states) = lit< tt
-code_is_byte (Readers states) = lit< tt
-code_is_byte (Raw r) = lit< tt
-code_is_byte (Formatted f) = lit< tt
-code_is_byte (Keypad k) = lit< tt
-code_is_byte (Com c) = lit< tt
-code_is_byte Busy = lit< tt
-code_is_byte (MakerReply m) = lit< tt
+code_is_byte _ = lit< tt
 
 pub replies_fit : FitsAPacket IsReply
 unfolding reply_fault
