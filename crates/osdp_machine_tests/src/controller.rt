@@ -3,7 +3,7 @@
 mod damage;
 mod withdrawing;
 
-use crate::identity::IDENTITY;
+use crate::identity::config_at;
 use osdp_controller::*;
 use osdp_frame::{Address, CheckKind, Framer, Item};
 use osdp_msg::{Command, Reply};
@@ -115,9 +115,9 @@ fn has_sent(rt: &impl Abort, controller: &Controller, frames: u32) {
 }
 
 /// Whether it is what an opened session tells.
-fn is_opened(report: &Option<Report>) -> bool {
+fn is_opened(rt: &impl Abort, report: &Option<Report>) -> bool {
     match report {
-        Some(Report::Opened(id)) => *id == IDENTITY,
+        Some(Report::Opened(id)) => *id == config_at(rt, 5).id,
         _ => false,
     }
 }
@@ -140,7 +140,7 @@ fn opened(rt: &impl Abort, alloc: Global) -> Controller {
     sends(rt, &mut controller, 400, ID);
     has_sent(rt, &controller, 1);
     hears_no_other(rt, &mut controller);
-    assert!(rt; is_opened(&hear(rt, &mut controller, PDID, 410)));
+    assert!(rt; is_opened(rt, &hear(rt, &mut controller, PDID, 410)));
     assert!(rt; !controller.outstanding());
     controller
 }

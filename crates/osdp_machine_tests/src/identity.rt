@@ -1,14 +1,11 @@
 //! Who the reader of all rows is.
 
-use osdp_msg::PdId;
+use osdp_frame::Address;
+use osdp_reader::ReaderConfig;
+use osdp_script_reader::script_config;
+use std::process::Abort;
 
-/// What its PDID tells, as in `53851300004553494D010101000000010000E3`.
-pub const IDENTITY: PdId = PdId {
-    vendor: [0x53, 0x49, 0x4d],
-    model: 1,
-    version: 1,
-    serial: 1,
-    firmware_major: 1,
-    firmware_minor: 0,
-    firmware_build: 0,
-};
+/// What the reader at this address is: the first of a script, of which the PDID is as in `53851300004553494D010101000000010000E3`.
+pub fn config_at(rt: &impl Abort, address: u8) -> ReaderConfig {
+    script_config(1, Address::new(address).expect(rt, "an address"))
+}

@@ -2,7 +2,7 @@
 
 use osdp_door::Door;
 
-/// The laws of one link hold with a door as the reader.
+/// The laws of one link hold with a door as the reader, and where its inputs change and commands are withdrawn.
 #[test]
 fn a_session_holds_with_a_door(_rt: HostRuntime) {
     osdp_link_laws::holds_once::<Door>();
@@ -13,11 +13,6 @@ fn a_session_holds_with_a_door(_rt: HostRuntime) {
     osdp_link_laws::comes_through::<Door>();
     osdp_link_laws::comes_through_in_time::<Door>();
     osdp_link_laws::goes_in_turn::<Door>();
-}
-
-/// They hold too where the door's inputs change and commands are withdrawn.
-#[test]
-fn a_session_holds_with_a_door_that_changes(_rt: HostRuntime) {
     osdp_link_changes::changed_links_hold_once::<Door>();
     osdp_link_changes::changed_links_stay_in_a_row::<Door>();
     osdp_link_changes::moves_as_before::<Door>();

@@ -6,11 +6,11 @@
 mod answers;
 mod damage;
 
-use crate::identity::IDENTITY;
+use crate::identity::config_at;
 use crate::responses::{response_to, response_to_digits};
 use arrayvec::ArrayVec;
-use osdp_frame::{Address, Framer, Item};
-use osdp_msg::{Capability, Event, Keypad, NakReason, PdCap};
+use osdp_frame::{Framer, Item};
+use osdp_msg::{Event, Keypad, NakReason};
 use osdp_reader::*;
 use osdp_test_packets::{bytes_of, is_spelled};
 use std::alloc::Global;
@@ -35,24 +35,6 @@ impl Handler for Bench {
 
     fn answer(&mut self, _command: &osdp_msg::Command) -> Answer {
         mem::replace(&mut self.first, Answer::Done)
-    }
-}
-
-/// What the reader at this address is.
-fn config_at(rt: &impl Abort, address: u8) -> ReaderConfig {
-    let mut capabilities = ArrayVec::new();
-    for (function, level, count) in [(2, 1, 8), (8, 1, 0)] {
-        let capability = Capability {
-            function,
-            level,
-            count,
-        };
-        assert!(rt; capabilities.try_push(capability).is_ok());
-    }
-    ReaderConfig {
-        address: Address::new(address).expect(rt, "an address"),
-        id: IDENTITY,
-        caps: PdCap { capabilities },
     }
 }
 
@@ -139,6 +121,11 @@ fn opened(rt: &impl Abort, alloc: Global, capacity: usize, first: Answer) -> Rea
     reader
 }
 
+/// The packets of these rows come to a reader that was opened, and are answered so.
+fn opened_are_answered(rt: &impl Abort, alloc: Global, rows: &str) {
+    are_answered(rt, &mut opened(rt, alloc, 4, Answer::Done), rows);
+}
+
 /// Keys are pressed, and there is room for the event.
 fn press(rt: &impl Abort, reader: &mut Reader<Bench>, pressed: &[u8]) {
     assert!(rt; reader.submit_event(keys(rt, pressed)).is_ok());
@@ -186,26 +173,29 @@ fn number_zero_begins_anew(rt: HostRuntime) {
     are_answered(&rt, &mut reader, ANEW);
 }
 
+/// An opened reader with room for so many events, which has told keys 12 to POLL 1.
+fn told_keys(rt: &impl Abort, alloc: Global, capacity: usize) -> Reader<Bench> {
+    let mut reader = opened(rt, alloc, capacity, Answer::Done);
+    press(rt, &mut reader, b"12");
+    let row = "53050700016040 Taken 53850B0001530002313264";
+    is_answered(rt, &mut reader, row);
+    reader
+}
+
+/// POLL 2 says that the keys were heard.
+const HEARD: &str = "5305070002603F Taken 538507000240DF";
+
 #[test]
 fn a_full_queue_gives_the_event_back(rt: HostRuntime) {
-    let mut reader = opened(&rt, rt.alloc(), 1, Answer::Done);
-    press(&rt, &mut reader, b"12");
-    is_answered(
-        &rt,
-        &mut reader,
-        "53050700016040 Taken 53850B0001530002313264",
-    );
+    let mut reader = told_keys(&rt, rt.alloc(), 1);
     match reader.submit_event(keys(&rt, b"9")) {
         Ok(()) => assert!(rt; false, "the queue is full"),
         Err(event) => assert!(rt; event == keys(&rt, b"9")),
     }
-    is_answered(&rt, &mut reader, "5305070002603F Taken 538507000240DF");
+    is_answered(&rt, &mut reader, HEARD);
     press(&rt, &mut reader, b"9");
-    is_answered(
-        &rt,
-        &mut reader,
-        "5305070003603E Taken 53850A0003530001398E",
-    );
+    let row = "5305070003603E Taken 53850A0003530001398E";
+    is_answered(&rt, &mut reader, row);
 }
 
 /// POLL 2 and ID to a busy reader, POLL 1 once more, and POLL 3.
@@ -218,17 +208,11 @@ const AT_WORK: &str = "\
 
 #[test]
 fn a_busy_reader_takes_nothing_but_repeats(rt: HostRuntime) {
-    let mut reader = opened(&rt, rt.alloc(), 4, Answer::Done);
-    press(&rt, &mut reader, b"12");
-    is_answered(
-        &rt,
-        &mut reader,
-        "53050700016040 Taken 53850B0001530002313264",
-    );
+    let mut reader = told_keys(&rt, rt.alloc(), 4);
     reader.set_busy(true);
     are_answered(&rt, &mut reader, AT_WORK);
     reader.set_busy(false);
-    is_answered(&rt, &mut reader, "5305070002603F Taken 538507000240DF");
+    is_answered(&rt, &mut reader, HEARD);
 }
 
 /// The row of a COMSET to address 7 moves a reader, which is silent to the row after it, and hears the last one.
@@ -239,31 +223,18 @@ fn is_moved(rt: &impl Abort, reader: &mut Reader<Bench>, comset: &str, later: &s
     are_answered(rt, reader, later);
 }
 
-/// POLL 2 to address 5, and to 7.
-const AFTER_1: &str = "\
-5305070002603F Silent none
-5307070002603D Wrong 53870800024104D7
-";
-
+/// A COMSET with number 1, then POLL 2 to address 5 and to 7; one with number 0 after POLL 1, then POLL 0 to 5 and POLL 1 to 7.
 #[test]
 fn comset_moves_the_reader(rt: HostRuntime) {
     let mut reader = opened(&rt, rt.alloc(), 4, Answer::Done);
     let comset = "53050C00016E078025000081 Taken 53850C00015407802500001B";
-    is_moved(&rt, &mut reader, comset, AFTER_1);
-}
-
-/// POLL 0 to address 5, and POLL 1 to 7.
-const AFTER_0: &str = "\
-53050700006041 Silent none
-5307070001603E Wrong 53870800014104D8
-";
-
-#[test]
-fn comset_at_number_zero_moves_the_reader(rt: HostRuntime) {
+    let later = "5305070002603F Silent none\n5307070002603D Wrong 53870800024104D7";
+    is_moved(&rt, &mut reader, comset, later);
     let mut reader = opened(&rt, rt.alloc(), 4, Answer::Done);
     is_answered(&rt, &mut reader, "53050700016040 Taken 538507000140E0");
     let comset = "53050C00006E078025000082 Zero 53850C00005407802500001C";
-    is_moved(&rt, &mut reader, comset, AFTER_0);
+    let later = "53050700006041 Silent none\n5307070001603E Wrong 53870800014104D8";
+    is_moved(&rt, &mut reader, comset, later);
 }
 
 /// COMSETs to addresses 5 and 127.
@@ -281,15 +252,15 @@ fn comset_to_its_own_address_or_none_keeps_all(rt: HostRuntime) {
 }
 
 /// A POLL with a security block to a new reader at address 0, and POLL 1, which shows that it opened nothing.
-const SECURED: &str = "\
-530009000802156025 Secured 53800800004105DF 0 none
-53000700016045 Wrong 53800800014104DF
-";
-
 #[test]
 fn a_security_block_is_refused(rt: HostRuntime) {
     let mut reader = reader_with(&rt, rt.alloc(), 0, 4, Answer::Done);
-    are_answered(&rt, &mut reader, SECURED);
+    for row in [
+        "530009000802156025 Secured 53800800004105DF 0 none",
+        "53000700016045 Wrong 53800800014104DF",
+    ] {
+        is_answered(&rt, &mut reader, row);
+    }
 }
 
 /// A POLL to another address, and replies from its own.
@@ -300,22 +271,14 @@ const OTHERS: &str = "\
 53050700016040 Taken 538507000140E0
 ";
 
+/// Packets of others are passed by. A reply has the check of its command: POLL 1 comes with a CRC, and its repeat with a checksum, which is
+/// answered by the same bytes.
 #[test]
-fn packets_of_others_are_passed_by(rt: HostRuntime) {
-    let mut reader = opened(&rt, rt.alloc(), 4, Answer::Done);
-    are_answered(&rt, &mut reader, OTHERS);
-}
-
-/// POLL 1 with a CRC, and its repeat with a checksum, which is answered by the same bytes.
-const CHECKS: &str = "\
-5305080005608DBA Taken 5385080005403FBC
-53050700016040 Repeat 5385080005403FBC
-";
-
-#[test]
-fn a_reply_has_the_check_of_its_command(rt: HostRuntime) {
-    let mut reader = opened(&rt, rt.alloc(), 4, Answer::Done);
-    are_answered(&rt, &mut reader, CHECKS);
+fn opened_readers_hear_their_own(rt: HostRuntime) {
+    let checks = "5305080005608DBA Taken 5385080005403FBC\n53050700016040 Repeat 5385080005403FBC";
+    for rows in [OTHERS, checks] {
+        opened_are_answered(&rt, rt.alloc(), rows);
+    }
 }
 
 /// What the making of a reader with these settings gives.

@@ -1,6 +1,7 @@
 //! Published packets, and what the program doesn't show. The tables of messages row by row stand in `tests/rows/`.
 use osdp_msg::*;
 use std::alloc::{AllocError, Global};
+use std::fmt;
 use std::process::Abort;
 
 mod events;
@@ -39,38 +40,48 @@ fn is_spelled(rt: &impl Abort, message: &[u8], code: u8, data: &[u8]) {
     assert_eq!(rt; rest, data);
 }
 
-/// A command and its copy are the same as another.
-fn is_command_again(rt: &impl Abort, command: &Command, other: &Command) {
-    assert!(rt; command == other);
-    assert!(rt; command.copy() == *other);
+/// Why the table of this name refuses a code and data; None where it has them.
+fn fault_of(table: &str, code: u8, data: &[u8]) -> Option<MsgFault> {
+    if table == "command" {
+        Command::read(code, data).err()
+    } else {
+        Reply::read(code, data).err()
+    }
 }
 
-/// A code and data are read as the command of this text, and the words of the text as the command of this
-/// code and data.
-fn is_command(rt: &impl Abort, alloc: Global, code: u8, data: &[u8], text: &str) {
-    let read = Command::read(code, data).ok().expect(rt, text);
-    let printed = read.to_string(alloc).ok().expect(rt, "memory for a text");
-    is_text(rt, printed.as_str(), text);
-    let words = words_of(rt, alloc, text);
-    let parsed = Command::parse(words.as_slice()).ok().expect(rt, text);
-    is_spelled(rt, parsed.write().as_slice(), code, data);
-    is_command_again(rt, &parsed, &read);
+/// A message is printed as this text.
+fn prints(rt: &impl Abort, alloc: Global, message: &impl fmt::Display, text: &str) {
+    let printed = message.to_string(alloc).ok();
+    is_text(rt, printed.expect(rt, "memory for a text").as_str(), text);
 }
 
-/// A reply and its copy are the same as another.
-fn is_reply_again(rt: &impl Abort, reply: &Reply, other: &Reply) {
-    assert!(rt; reply == other);
-    assert!(rt; reply.copy() == *other);
+/// These are one message, that of this text.
+fn are_one<M: fmt::Display + PartialEq>(
+    rt: &impl Abort,
+    alloc: Global,
+    messages: [&M; 3],
+    text: &str,
+) {
+    let [read, parsed, copied] = messages;
+    prints(rt, alloc, read, text);
+    assert!(rt; parsed == read);
+    assert!(rt; copied == read);
 }
 
-/// A code and data are read as the reply of this text, and the words of the text as the reply of this code
+/// A code and data are read as the message of this table and text, and the words of the text as that of this code
 /// and data.
-fn is_reply(rt: &impl Abort, alloc: Global, code: u8, data: &[u8], text: &str) {
-    let read = Reply::read(code, data).ok().expect(rt, text);
-    let printed = read.to_string(alloc).ok().expect(rt, "memory for a text");
-    is_text(rt, printed.as_str(), text);
+fn is_message(rt: &impl Abort, alloc: Global, table: &str, code: u8, data: &[u8], text: &str) {
     let words = words_of(rt, alloc, text);
-    let parsed = Reply::parse(words.as_slice()).ok().expect(rt, text);
-    is_spelled(rt, parsed.write().as_slice(), code, data);
-    is_reply_again(rt, &parsed, &read);
+    let words = words.as_slice();
+    if table == "command" {
+        let read = Command::read(code, data).ok().expect(rt, text);
+        let parsed = Command::parse(words).ok().expect(rt, text);
+        is_spelled(rt, parsed.write().as_slice(), code, data);
+        are_one(rt, alloc, [&read, &parsed, &parsed.copy()], text);
+    } else {
+        let read = Reply::read(code, data).ok().expect(rt, text);
+        let parsed = Reply::parse(words).ok().expect(rt, text);
+        is_spelled(rt, parsed.write().as_slice(), code, data);
+        are_one(rt, alloc, [&read, &parsed, &parsed.copy()], text);
+    }
 }

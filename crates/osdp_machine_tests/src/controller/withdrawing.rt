@@ -43,7 +43,7 @@ fn opens_again(rt: &impl Abort, controller: &mut Controller) {
     assert_eq!(rt; controller.begin(1011), Ok(()));
     takes_none_back(rt, controller, 2);
     sends(rt, controller, 1411, ID);
-    assert!(rt; is_opened(&hear(rt, controller, PDID, 1420)));
+    assert!(rt; is_opened(rt, &hear(rt, controller, PDID, 1420)));
     takes_none_back(rt, controller, 2);
 }
 

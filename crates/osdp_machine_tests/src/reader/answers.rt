@@ -9,22 +9,15 @@ const NO_COMMANDS: &str = "\
 530508000162003D Taken 53850D000146020108080100C0 0 53850D000146020108080100C0
 ";
 
+/// The same code with number 0 to a new reader, and a POLL.
+const NO_COMMAND_AT_ZERO: &str =
+    "5305070000A100 Zero 53850800004103DC\n53050700016040 Taken 538507000140E0";
+
 #[test]
 fn what_is_no_command_is_refused(rt: HostRuntime) {
     for row in NO_COMMANDS.lines() {
-        let mut reader = opened(&rt, rt.alloc(), 4, Answer::Done);
-        is_answered(&rt, &mut reader, row);
+        opened_are_answered(&rt, rt.alloc(), row);
     }
-}
-
-/// The same code with number 0, and a POLL.
-const NO_COMMAND_AT_ZERO: &str = "\
-5305070000A100 Zero 53850800004103DC
-53050700016040 Taken 538507000140E0
-";
-
-#[test]
-fn what_is_no_command_begins_anew(rt: HostRuntime) {
     let mut reader = reader_with(&rt, rt.alloc(), 5, 4, Answer::Done);
     are_answered(&rt, &mut reader, NO_COMMAND_AT_ZERO);
 }

@@ -1,41 +1,31 @@
 //! Commands and events made from their parts, and from lines.
 use super::*;
 
-/// So many output records.
-fn outputs(rt: &impl Abort, alloc: Global, count: usize) -> Vec<OutputRecord> {
-    let mut records = Vec::new(alloc);
-    for _ in 0..count {
-        let record = OutputRecord {
-            output: 1,
-            control: 5,
-            timer: 300,
-        };
-        records.push(record).ok().expect(rt, "memory for a record");
+const OUTPUT: OutputRecord = OutputRecord {
+    output: 1,
+    control: 5,
+    timer: 300,
+};
+
+/// An LED that is green from now on.
+fn led() -> LedRecord {
+    LedRecord {
+        permanent_control: 1,
+        permanent_on_color: 2,
+        ..LedRecord::default()
     }
-    records
 }
 
-/// So many records of LEDs.
-fn leds(rt: &impl Abort, alloc: Global, count: usize) -> Vec<LedRecord> {
-    let mut records = Vec::new(alloc);
+/// An element so many times.
+fn repeated<T: Copy + Drop>(rt: &impl Abort, alloc: Global, element: T, count: usize) -> Vec<T> {
+    let mut elements = Vec::new(alloc);
     for _ in 0..count {
-        let record = LedRecord {
-            permanent_control: 1,
-            permanent_on_color: 2,
-            ..LedRecord::default()
-        };
-        records.push(record).ok().expect(rt, "memory for a record");
+        elements
+            .push(element)
+            .ok()
+            .expect(rt, "memory for an element");
     }
-    records
-}
-
-/// So many bytes.
-fn bytes(rt: &impl Abort, alloc: Global, count: usize) -> Vec<u8> {
-    let mut bytes = Vec::new(alloc);
-    for _ in 0..count {
-        bytes.push(0xA5).ok().expect(rt, "memory for a byte");
-    }
-    bytes
+    elements
 }
 
 /// A line with a name and a word so many times, with spaces between.
@@ -48,40 +38,15 @@ fn line(rt: &impl Abort, alloc: Global, name: &str, word: &str, count: usize) ->
     line
 }
 
-/// The command is printed as this text.
-fn prints(rt: &impl Abort, alloc: Global, command: &Command, text: &str) {
-    let printed = command
-        .to_string(alloc)
-        .ok()
-        .expect(rt, "memory for a text");
-    is_text(rt, printed.as_str(), text);
-}
-
 #[test]
 fn an_output_from_its_record(rt: HostRuntime) {
-    let records = outputs(&rt, rt.alloc(), 1);
-    let made = Outputs::new(&records).expect(&rt, "one record");
+    let made = Outputs::new(&[OUTPUT]).expect(&rt, "one record");
     prints(&rt, rt.alloc(), &Command::Output(made), "OUT 1:5:300");
 }
 
 #[test]
-fn an_output_has_1_to_358_records(rt: HostRuntime) {
-    for (count, fits) in [
-        (0, false),
-        (1, true),
-        (357, true),
-        (358, true),
-        (359, false),
-    ] {
-        let records = outputs(&rt, rt.alloc(), count);
-        assert_eq!(rt; Outputs::new(&records).is_some(), fits);
-    }
-}
-
-#[test]
 fn an_led_from_its_record(rt: HostRuntime) {
-    let records = leds(&rt, rt.alloc(), 1);
-    let made = Leds::new(&records).expect(&rt, "one record");
+    let made = Leds::new(&[led()]).expect(&rt, "one record");
     prints(
         &rt,
         rt.alloc(),
@@ -90,28 +55,31 @@ fn an_led_from_its_record(rt: HostRuntime) {
     );
 }
 
+/// Whether there are lists of so many outputs, and of so many LEDs.
+fn are_lists(rt: &impl Abort, alloc: Global, outputs: usize, leds: usize) -> (bool, bool) {
+    let outputs = repeated(rt, alloc, OUTPUT, outputs);
+    let leds = repeated(rt, alloc, led(), leds);
+    (Outputs::new(&outputs).is_some(), Leds::new(&leds).is_some())
+}
+
 #[test]
-fn an_led_has_1_to_102_records(rt: HostRuntime) {
-    for (count, fits) in [
-        (0, false),
-        (1, true),
-        (101, true),
-        (102, true),
-        (103, false),
-    ] {
-        let records = leds(&rt, rt.alloc(), count);
-        assert_eq!(rt; Leds::new(&records).is_some(), fits);
+fn one_to_358_outputs_and_one_to_102_leds(rt: HostRuntime) {
+    for (outputs, leds) in [(1, 1), (357, 101), (358, 102)] {
+        assert_eq!(rt; are_lists(&rt, rt.alloc(), outputs, leds), (true, true));
+    }
+}
+
+#[test]
+fn no_outputs_and_leds_or_too_many(rt: HostRuntime) {
+    for (outputs, leds) in [(0, 0), (359, 103)] {
+        assert_eq!(rt; are_lists(&rt, rt.alloc(), outputs, leds), (false, false));
     }
 }
 
 #[test]
 fn a_card_from_its_bits(rt: HostRuntime) {
     let made = Raw::new(1, 0, 26, &[0x0A, 0x0B, 0x0C, 0x40]).expect(&rt, "four bytes");
-    let printed = Event::Raw(made)
-        .to_string(rt.alloc())
-        .ok()
-        .expect(&rt, "memory for a text");
-    is_text(&rt, printed.as_str(), "RAW 1 0 26 0A0B0C40");
+    prints(&rt, rt.alloc(), &Event::Raw(made), "RAW 1 0 26 0A0B0C40");
 }
 
 #[test]
@@ -128,7 +96,7 @@ fn a_card_has_as_many_bytes_as_its_bits_need(rt: HostRuntime) {
         (11_425, 1_429, false),
         (65_535, 8_192, false),
     ] {
-        let bytes = bytes(&rt, rt.alloc(), count);
+        let bytes = repeated(&rt, rt.alloc(), 0xA5_u8, count);
         assert_eq!(rt; Raw::new(0, 0, bits, &bytes).is_some(), fits);
     }
 }
@@ -189,11 +157,7 @@ fn an_event_of_a_line(rt: HostRuntime) {
     let event = Event::parse_line(" KEYPAD  0 3132")
         .ok()
         .expect(&rt, "an event");
-    let printed = event
-        .to_string(rt.alloc())
-        .ok()
-        .expect(&rt, "memory for a text");
-    is_text(&rt, printed.as_str(), "KEYPAD 0 3132");
+    prints(&rt, rt.alloc(), &event, "KEYPAD 0 3132");
     for text in ["ACK", "KEYPAD 0", "KEYPAD\t0 31", "OUT 0:2:0", ""] {
         assert_eq!(rt; Event::parse_line(text), Err(BadWords));
     }

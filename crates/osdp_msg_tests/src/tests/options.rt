@@ -1,28 +1,28 @@
 use super::*;
 
-/// Commands of each shape of text: a name alone, a number, records, bytes.
-const COMMANDS: &str = "POLL
-ID 0
-OUT 0:2:0 7:5:300
-BUZ 0 2 1 1 0
-COMSET 5 115200
-MFG 5CD12E 01020A";
-
-/// Replies of each shape, those of the events among them.
-const REPLIES: &str = "ACK
-BUSY
-NAK 3
-NAK 9 0102
-PDCAP 1:2:3
-LSTATR 0 1
-ISTATR 0001
-RAW 0 1 26 12345680
-KEYPAD 0 31
-COM 5 9600
-MFGREP 5CD12E none";
+/// Messages of each shape of text: a name alone, a number, records, bytes.
+const MESSAGES: &str = "command POLL
+command ID 0
+command OUT 0:2:0 7:5:300
+command BUZ 0 2 1 1 0
+command COMSET 5 115200
+command MFG 5CD12E 01020A
+reply ACK
+reply BUSY
+reply NAK 3
+reply NAK 9 0102
+reply PDCAP 1:2:3
+reply LSTATR 0 1
+reply ISTATR 0001
+reply RAW 0 1 26 12345680
+reply KEYPAD 0 31
+reply COM 5 9600
+reply MFGREP 5CD12E none
+event RAW 0 1 26 12345680
+event KEYPAD 0 31";
 
 /// A text that was printed under a width, `#`, a precision, a sign or zeros is the plain one.
-fn is_plain(rt: &impl Abort, alloc: Global, message: &impl std::fmt::Display, text: &str) {
+fn is_plain(rt: &impl Abort, alloc: Global, message: &impl fmt::Display, text: &str) {
     let wide = format!(in alloc; "{message:>40}|{message:<40}|{message:^40}|{message:040}");
     let flagged = format!(in alloc; "{message:#}|{message:+}|{message:.1}|{message:#06}");
     let plain = format!(in alloc; "{text}|{text}|{text}|{text}");
@@ -39,29 +39,26 @@ fn is_plain(rt: &impl Abort, alloc: Global, message: &impl std::fmt::Display, te
     );
 }
 
-#[test]
-fn commands_are_printed_the_same_under_each_option(rt: HostRuntime) {
-    for text in COMMANDS.lines() {
-        let words = words_of(&rt, rt.alloc(), text);
-        let command = Command::parse(words.as_slice()).ok().expect(&rt, text);
-        is_plain(&rt, rt.alloc(), &command, text);
+/// The same of the message of this kind and text.
+fn is_plain_message(rt: &impl Abort, alloc: Global, kind: &str, text: &str) {
+    let words = words_of(rt, alloc, text);
+    let words = words.as_slice();
+    match kind {
+        "command" => is_plain(
+            rt,
+            alloc,
+            &Command::parse(words).ok().expect(rt, text),
+            text,
+        ),
+        "reply" => is_plain(rt, alloc, &Reply::parse(words).ok().expect(rt, text), text),
+        _ => is_plain(rt, alloc, &Event::parse(words).ok().expect(rt, text), text),
     }
 }
 
 #[test]
-fn replies_are_printed_the_same_under_each_option(rt: HostRuntime) {
-    for text in REPLIES.lines() {
-        let words = words_of(&rt, rt.alloc(), text);
-        let reply = Reply::parse(words.as_slice()).ok().expect(&rt, text);
-        is_plain(&rt, rt.alloc(), &reply, text);
-    }
-}
-
-#[test]
-fn events_are_printed_the_same_under_each_option(rt: HostRuntime) {
-    for text in ["RAW 0 1 26 12345680", "KEYPAD 0 31"] {
-        let words = words_of(&rt, rt.alloc(), text);
-        let event = Event::parse(words.as_slice()).ok().expect(&rt, text);
-        is_plain(&rt, rt.alloc(), &event, text);
+fn messages_are_printed_the_same_under_each_option(rt: HostRuntime) {
+    for row in MESSAGES.lines() {
+        let (kind, text) = row.split_once(' ').expect(&rt, "a kind and a text");
+        is_plain_message(&rt, rt.alloc(), kind, text);
     }
 }

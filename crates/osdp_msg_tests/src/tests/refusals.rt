@@ -10,15 +10,6 @@ reply 41 0
 reply 46 1 1434
 ";
 
-/// Why the table of this name refuses a code and data; None where it has them.
-fn fault_of(table: &str, code: u8, data: &[u8]) -> Option<MsgFault> {
-    if table == "command" {
-        Command::read(code, data).err()
-    } else {
-        Reply::read(code, data).err()
-    }
-}
-
 /// A table refuses a code with this many data bytes.
 fn refuses_length(rt: &impl Abort, table: &str, code: u8, length: usize) {
     let data = [0; 1442];

@@ -2,7 +2,7 @@
 use super::*;
 
 /// A packet's digits, and the text of its message.
-const COMMANDS: &str = "\
+const MESSAGES: &str = "\
 53000700006046 POLL
 530008000460EBAA POLL
 530508000061003F ID 0
@@ -12,9 +12,6 @@ const COMMANDS: &str = "\
 53050C00016E078025000081 COMSET 7 9600
 53050B00038053494D0130 MFG 53494D 01
 53001400016B0001000101075300070000604623 TEXT 0 1 0 1 1 53000700006046
-";
-
-const REPLIES: &str = "\
 538008000540689F ACK
 53851300004553494D010101000000010000E3 PDID 53494D 1 1 1 1 0 0
 53850D000146020108080100C0 PDCAP 2:1:8 8:1:0
@@ -28,13 +25,12 @@ const REPLIES: &str = "\
 53850A00039053494DA2 MFGREP 53494D none
 ";
 
-/// Packets whose data have a length that their code doesn't allow.
-const COMMANDS_OF_OTHER_LENGTHS: [&str; 2] = ["53000A00006800020039", "530509000380534980"];
-
-/// Packets with a count that disagrees.
-const REPLIES_OF_OTHER_COUNTS: [&str; 2] = [
-    "53850B0002530003313262",
-    "53850E00015000001A000A0B0C8E",
+/// Packets whose data have a length that their code doesn't allow, and packets with a count that disagrees.
+const REFUSED: [(&str, MsgFault); 4] = [
+    ("53000A00006800020039", MsgFault::Length),
+    ("530509000380534980", MsgFault::Length),
+    ("53850B0002530003313262", MsgFault::Count),
+    ("53850E00015000001A000A0B0C8E", MsgFault::Count),
 ];
 
 /// A packet's code and data: what stands between its five bytes in front and its check of one or two.
@@ -46,40 +42,40 @@ fn message_of(packet: &[u8]) -> Option<(u8, &[u8])> {
     Some((*code, data))
 }
 
+/// The table of a packet's message, by the highest bit of its address: a reader's is of the replies.
+fn table_of(packet: &[u8]) -> &'static str {
+    if packet.get(1).is_some_and(|address| address & 0x80 != 0) {
+        "reply"
+    } else {
+        "command"
+    }
+}
+
 #[test]
-fn commands(rt: HostRuntime) {
-    for row in COMMANDS.lines() {
+fn messages(rt: HostRuntime) {
+    for row in MESSAGES.lines() {
         let (digits, text) = row.split_once(' ').expect(&rt, "digits and a text");
         let packet = bytes_of(&rt, rt.alloc(), digits);
         let (code, data) = message_of(packet.as_slice()).expect(&rt, "a packet");
-        is_command(&rt, rt.alloc(), code, data, text);
+        is_message(
+            &rt,
+            rt.alloc(),
+            table_of(packet.as_slice()),
+            code,
+            data,
+            text,
+        );
     }
 }
 
 #[test]
-fn replies(rt: HostRuntime) {
-    for row in REPLIES.lines() {
-        let (digits, text) = row.split_once(' ').expect(&rt, "digits and a text");
+fn refused(rt: HostRuntime) {
+    for (digits, fault) in REFUSED {
         let packet = bytes_of(&rt, rt.alloc(), digits);
         let (code, data) = message_of(packet.as_slice()).expect(&rt, "a packet");
-        is_reply(&rt, rt.alloc(), code, data, text);
-    }
-}
-
-#[test]
-fn refused_commands(rt: HostRuntime) {
-    for digits in COMMANDS_OF_OTHER_LENGTHS {
-        let packet = bytes_of(&rt, rt.alloc(), digits);
-        let (code, data) = message_of(packet.as_slice()).expect(&rt, "a packet");
-        assert_eq!(rt; Command::read(code, data), Err(MsgFault::Length));
-    }
-}
-
-#[test]
-fn refused_replies(rt: HostRuntime) {
-    for digits in REPLIES_OF_OTHER_COUNTS {
-        let packet = bytes_of(&rt, rt.alloc(), digits);
-        let (code, data) = message_of(packet.as_slice()).expect(&rt, "a packet");
-        assert_eq!(rt; Reply::read(code, data), Err(MsgFault::Count));
+        assert_eq!(rt;
+            fault_of(table_of(packet.as_slice()), code, data),
+            Some(fault)
+        );
     }
 }
