@@ -86,18 +86,7 @@ taken_alike command.Poll front a t earlier h = record {
   issued = h.issued;
   queued = h.queued;
 }
-taken_alike (command.Id kept) front a t earlier h = after_taken (command.Id kept ∷ []) a t earlier h
-taken_alike (command.Cap kept) front a t earlier h = after_taken (command.Cap kept ∷ []) a t earlier h
-taken_alike command.LocalStatus front a t earlier h = after_taken (command.LocalStatus ∷ []) a t earlier h
-taken_alike command.InputStatus front a t earlier h = after_taken (command.InputStatus ∷ []) a t earlier h
-taken_alike command.OutputStatus front a t earlier h = after_taken (command.OutputStatus ∷ []) a t earlier h
-taken_alike command.ReaderStatus front a t earlier h = after_taken (command.ReaderStatus ∷ []) a t earlier h
-taken_alike (command.Output records) front a t earlier h = after_taken (command.Output records ∷ []) a t earlier h
-taken_alike (command.Led records) front a t earlier h = after_taken (command.Led records ∷ []) a t earlier h
-taken_alike (command.Buzzer b) front a t earlier h = after_taken (command.Buzzer b ∷ []) a t earlier h
-taken_alike (command.Text text) front a t earlier h = after_taken (command.Text text ∷ []) a t earlier h
-taken_alike (command.Comset c) front a t earlier h = after_taken (command.Comset c ∷ []) a t earlier h
-taken_alike (command.Maker m) front a t earlier h = after_taken (command.Maker m ∷ []) a t earlier h
+taken_alike c front a t earlier h = after_taken (c ∷ []) a t earlier h
 
 -- nothing is taken
 none_taken : (a : Account) (t : link.Account) (earlier : List link.Account) → IsOf a t earlier → IsOf (with_taken [] a) t earlier
