@@ -1,6 +1,6 @@
 //! The settings of a controller.
 
-ghost use Rattle.std.specs.Prelude.{◌≡◌, ◌↔◌, IsTrue, nat_lt};
+ghost use Rattle.std.specs.Prelude.{◌≡◌, ◌↔◌, IsTrue};
 ghost use Rattle.osdp_controller.specs.Settings.{IsConfig, IsTime, default_config};
 
 use osdp_frame::{Address, CheckKind};
@@ -54,20 +54,13 @@ impl ControllerConfig {
     {
         // Reading it brings in that a `u8` is at most 255, which `IsConfig` says of it.
         let _range = self.busy_limit;
-        is_device(self.address)
+        self.address.is_device()
             && is_time(self.reply_wait)
             && is_time(self.poll_interval)
             && is_time(self.busy_wait)
             && is_time(self.quiet_wait)
             && self.sends >= 1
     }
-}
-
-/// Whether it is the address of a device, and not the configuration address.
-pub(crate) fn is_device(address: Address) -> bool
-    ensures { result ≡ nat_lt address 127 }
-{
-    address.get() < Address::CONFIGURATION
 }
 
 /// Whether a setting may be this long.

@@ -6,7 +6,7 @@ ghost use Rattle.osdp_controller.specs.Private.{after_act, frame_if, is_over, ne
 ghost use Rattle.osdp_controller.specs.Ticking.{stays, ticks_in};
 ghost use Rattle.std.specs.Prelude.{◌≡◌, ◌↔◌, ◌*◌, ◌+◌, ◌≤◌, IfErr, None, Some, OnOk, drop, is_some, length, option_copied, true, false};
 
-use crate::config::{ControllerConfig, is_device};
+use crate::config::ControllerConfig;
 use crate::fault::ControllerFault;
 use crate::report::Report;
 use crate::session::Session;
@@ -180,7 +180,7 @@ impl Controller {
         if !self.session.state.is_closed() {
             return Err(ControllerFault::NotClosed);
         }
-        if !is_device(address) {
+        if !address.is_device() {
             return Err(ControllerFault::OutOfRange);
         }
         self.session.config.address = address;

@@ -1,6 +1,6 @@
 //! Addresses of devices on the line.
 
-ghost use Rattle.std.specs.Prelude.{◌≡◌, ◌<◌, ◌%◌};
+ghost use Rattle.std.specs.Prelude.{◌≡◌, ◌<◌, ◌%◌, nat_lt};
 ghost use Rattle.std.specs.Option.{SomeIff};
 
 use std::marker::Model;
@@ -37,6 +37,24 @@ impl Address {
         } else {
             None
         }
+    }
+
+    /// The address of the device of this number. None from 127 on.
+    pub fn device(value: u8) -> Option<Address>
+        ensures { SomeIff result (value < 127) value }
+    {
+        if value < Address::CONFIGURATION {
+            Some(Address { value })
+        } else {
+            None
+        }
+    }
+
+    /// Whether it is the address of one device, and not the configuration address.
+    pub fn is_device(&self) -> bool
+        ensures { result ≡ nat_lt self.now 127 }
+    {
+        self.get() < Address::CONFIGURATION
     }
 
     /// The address in the low seven bits of a byte.

@@ -45,11 +45,7 @@ pub(crate) fn room(word: &str) -> Option<usize>
 pub(crate) fn device_address(word: &str) -> Option<Address>
     ensures { Reads number (λ address. address < 127) word.now result }
 {
-    let address = number_u8(word)?;
-    if address > 126 {
-        return None;
-    }
-    Address::new(address)
+    Address::device(number_u8(word)?)
 }
 
 /// Three numbers from 0 to 255, joined by colons.

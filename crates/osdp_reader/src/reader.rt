@@ -56,7 +56,7 @@ impl<H: Handler> Reader<H> {
         ensures made { IfOk result (λ r. r ≡ new_reader config handler capacity) }
         ensures range { IsErrOf result OutOfRange ↔ ((126 < config.address) ⊎ (capacity < 1) ⊎ (1024 < capacity)) }
     {
-        if config.address.get() > 126 || capacity < 1 || capacity > 1024 {
+        if !config.address.is_device() || capacity < 1 || capacity > 1024 {
             return Err(ReaderFault::OutOfRange);
         }
         let Ok(queue) = EventQueue::new(alloc, capacity) else {
@@ -391,9 +391,7 @@ fn new_address(command: &Command) -> Option<Address>
     ensures { result ≡ new_address command.now }
 {
     match command {
-        Command::Comset(communication) if communication.address <= 126 => {
-            Address::new(communication.address)
-        }
+        Command::Comset(communication) => Address::device(communication.address),
         _ => None,
     }
 }

@@ -14,7 +14,7 @@ ghost use Rattle.osdp_reader.specs.Table.{answer_to, event_or_answer};
 use crate::config::ReaderConfig;
 use crate::handler::{Answer, Handler};
 use arrayvec::ArrayVec;
-use osdp_frame::{Burst, FrameView, Seq};
+use osdp_frame::{Address, Burst, FrameView, Seq};
 use osdp_msg::{
     Command, Communication, Event, LocalState, MakerMessage, MsgFault, Nak, NakReason, Reply,
 };
@@ -247,7 +247,7 @@ fn spell_comset(packet: &FrameView, seq: Seq, communication: &Communication, out
     ensures spelled { Spells (reply_packet packet.now seq (comset_reply communication.now)) out.new.items }
     ensures fits { ReplyFits (comset_reply communication.now) }
 {
-    if communication.address <= 126 {
+    if Address::device(communication.address).is_some() {
         spell(packet, seq, &Reply::Com(*communication), out);
     } else {
         spell_nak(packet, seq, NakReason::RecordNotProcessed, out);

@@ -100,7 +100,7 @@ impl LineDevice {
         ensures range { IsErrOf result OutOfRange
             ↔ ((126 < config.address) ⊎ (capacity < 1) ⊎ (1024 < capacity) ⊎ (gap < 1) ⊎ (3600000 < gap)) }
     {
-        if config.address.get() > 126 || capacity < 1 || capacity > 1024 {
+        if !config.address.is_device() || capacity < 1 || capacity > 1024 {
             return Err(ReaderFault::OutOfRange);
         }
         if gap < 1 || gap > 3_600_000 {

@@ -72,18 +72,8 @@ module _ {H : Type 0} where
         → TellsItsOffer (taken answer_of after read r p).reader
     taken_offer (Err fault) r p = none_offered _ refl
     taken_offer (Ok command.Poll) r p = poll_offer (slice_get (released r.queue).events 0) (released r.queue) r p refl
-    taken_offer (Ok (command.Id kept)) r p = none_offered _ refl
-    taken_offer (Ok (command.Cap kept)) r p = none_offered _ refl
-    taken_offer (Ok command.LocalStatus) r p = none_offered _ refl
-    taken_offer (Ok command.InputStatus) r p = none_offered _ refl
-    taken_offer (Ok command.OutputStatus) r p = none_offered _ refl
-    taken_offer (Ok command.ReaderStatus) r p = none_offered _ refl
-    taken_offer (Ok (command.Output records)) r p = none_offered _ refl
-    taken_offer (Ok (command.Led records)) r p = none_offered _ refl
-    taken_offer (Ok (command.Buzzer b)) r p = none_offered _ refl
-    taken_offer (Ok (command.Text t)) r p = none_offered _ refl
     taken_offer (Ok (command.Comset c)) r p = moved_none_offered (new_address (command.Comset c)) _ refl
-    taken_offer (Ok (command.Maker m)) r p = none_offered _ refl
+    taken_offer (Ok c) r p = none_offered _ refl
 
     pub outcome_offer : (kind : Kind) (r : ReaderState H) (p : Packet) → TellsItsOffer r
         → TellsItsOffer (outcome answer_of after kind r p).reader

@@ -71,9 +71,9 @@ fn parse_reader(words: &[&str]) -> Option<(Address, usize)>
     let [address, room] = words else {
         return None;
     };
-    let address = Address::new(number_u8(address)?)?;
+    let address = Address::device(number_u8(address)?)?;
     let room = number_within(room, 1, 1024)?;
-    (address.get() <= 126).then_some((address, room as usize))
+    Some((address, room as usize))
 }
 
 /// A reader, and a command other than POLL.

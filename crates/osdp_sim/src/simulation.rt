@@ -52,7 +52,7 @@ pub struct Simulation<H: Handler> {
 fn is_reader_in_range(config: &SimConfig) -> bool
     ensures { IsTrue result ↔ ReaderInRange config.now }
 {
-    config.reader.address.get() <= 126 && config.events >= 1 && config.events <= 1024
+    config.reader.address.is_device() && config.events >= 1 && config.events <= 1024
 }
 
 /// A controller whose first session has begun.

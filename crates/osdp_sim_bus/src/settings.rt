@@ -13,7 +13,7 @@ const MOST_READERS: usize = 16;
 fn is_in_range<H>(reader: &(ReaderConfig, usize, H)) -> bool
     ensures { result ≡ is_reader_in_range reader.now }
 {
-    reader.0.address.get() <= 126 && reader.1 >= 1 && reader.1 <= 1024
+    reader.0.address.is_device() && reader.1 >= 1 && reader.1 <= 1024
 }
 
 /// Whether each reader is in its ranges.
