@@ -46,11 +46,7 @@ abbrev AnswersCom : Command → Reply → Type 0
 AnswersCom c r = (d : Communication) → r ≡ reply.Com d → new_address c ≡ Some d.address
 
 done_com : (c : Command) (d : Communication) → done_reply c ≡ reply.Com d → ⊥
-done_com (command.Output records) d is = cc
-done_com (command.Led records) d is = cc
-done_com (command.Buzzer b) d is = cc
-done_com (command.Text t) d is = cc
-done_com (command.Maker m) d is = cc
+done_com command.Poll d is = cc
 done_com _ d is = cc
 
 local_com : (c : Command) (tamper power : ℕ) (d : Communication) → local_reply c tamper power ≡ reply.Com d → ⊥
