@@ -1,5 +1,6 @@
 -- The replies of commands that are acted on: never BUSY, NAK 1 or NAK 4.
-use Rattle.std.proofs.Common.{◌≡◌, ◌⊎◌, ℕ, Bool, true, false, cond, nat_le, List, Option, Some, None, Result, Ok, Err, refl, sym, subst, inl, inr, arith}
+use Rattle.std.proofs.Common.{◌≡◌, ◌⊎◌, ℕ, Bool, true, false, not, ◌&&◌, eqb, cond, nat_le, List, Option, Some, None, Result, Ok, Err, refl, sym, subst, inl, inr}
+use Rattle.std.proofs.lemmas.Bool.{false≢true}
 use Rattle.std.specs.Prelude.{slice_get}
 use Rattle.std.specs.Option.{option_map}
 use Rattle.osdp_frame.specs.Packet.{Packet}
@@ -8,12 +9,13 @@ use Rattle.osdp_msg.specs.declared.command.Command.TheVariants as command
 use Rattle.osdp_msg.specs.declared.event.Event.{Event}
 use Rattle.osdp_msg.specs.declared.event.Event.TheVariants as event
 use Rattle.osdp_msg.specs.declared.fault.MsgFault.{MsgFault}
-use Rattle.osdp_msg.specs.declared.fault.MsgFault.TheVariants.{UnknownCode, Length, Count}
+use Rattle.osdp_msg.specs.declared.fault.MsgFault.TheVariants.{UnknownCode}
 use Rattle.osdp_msg.specs.declared.nak.NakReason.{NakReason}
-use Rattle.osdp_msg.specs.declared.nak.NakReason.TheVariants.{CommandLength, UnknownCommand}
+use Rattle.osdp_msg.specs.declared.nak.NakReason.TheVariants.{CommandLength}
 use Rattle.osdp_msg.specs.declared.reply.Reply.{Reply}
 use Rattle.osdp_msg.specs.declared.reply.Reply.TheVariants as reply
 use Rattle.osdp_msg.specs.Events.{event_reply}
+use Rattle.osdp_msg.specs.NakReasons.{reason_number}
 use Rattle.osdp_reader.specs.declared.config.ReaderConfig.{ReaderConfig}
 use Rattle.osdp_reader.specs.declared.handler.Answer.{Answer}
 use Rattle.osdp_reader.specs.declared.handler.Answer.TheVariants as answer
@@ -25,48 +27,42 @@ use Rattle.osdp_reader.specs.State.{ReaderState}
 use Rattle.osdp_reader.specs.Table.{Outcome, answered, begun, command_in, kind_of, outcome, taken, event_or_answer}
 use Rattle.osdp_reader_laws.proofs.Meeting.{zero_number}
 
-nine : IsPlain not_processed
-nine = ((λ e. omega (arith, e)), (λ e. omega (arith, e)))
+-- whether a reply is plain
+abbrev plainly : Reply → Bool
+plainly reply.Busy = false
+plainly (reply.Nak n) = not (eqb (reason_number n.reason) 1) && not (eqb (reason_number n.reason) 4)
+plainly r = true
 
-two : IsPlain (refused CommandLength)
-two = ((λ e. omega (arith, e)), (λ e. omega (arith, e)))
+plain : (r : Reply) → plainly r ≡ true → IsPlain r
+plain reply.Busy e = absurd (false≢true e)
+plain (reply.Nak n) e = ((λ is. false≢true (rw is at e)), (λ is. false≢true (rw is at e)))
+plain r e = tt
 
-three : IsPlain (refused UnknownCommand)
-three = ((λ e. omega (arith, e)), (λ e. omega (arith, e)))
+unread_plain : (fault : MsgFault) → plainly (refused (unread_reason fault)) ≡ true
+unread_plain UnknownCode = refl
+unread_plain fault = refl
 
-unread_plain : (fault : MsgFault) → IsPlain (refused (unread_reason fault))
-unread_plain UnknownCode = three
-unread_plain Length = two
-unread_plain Count = two
+done_plain : (c : Command) → plainly (done_reply c) ≡ true
+done_plain command.Poll = refl
+done_plain c = refl
 
-done_plain : (c : Command) → IsPlain (done_reply c)
-done_plain (command.Output records) = tt
-done_plain (command.Led records) = tt
-done_plain (command.Buzzer b) = tt
-done_plain (command.Text t) = tt
-done_plain (command.Maker m) = tt
-done_plain c = nine
+local_plain : (c : Command) (tamper power : ℕ) → plainly (local_reply c tamper power) ≡ true
+local_plain command.Poll tamper power = refl
+local_plain c tamper power = refl
 
-local_plain : (c : Command) (tamper power : ℕ) → IsPlain (local_reply c tamper power)
-local_plain command.LocalStatus tamper power = tt
-local_plain c tamper power = nine
+list_plain : (c : Command) (states : List ℕ) → plainly (list_reply c states) ≡ true
+list_plain command.Poll states = refl
+list_plain c states = refl
 
-list_plain : (c : Command) (states : List ℕ) → IsPlain (list_reply c states)
-list_plain command.InputStatus states = tt
-list_plain command.OutputStatus states = tt
-list_plain command.ReaderStatus states = tt
-list_plain c states = nine
+maker_plain : (c : Command) (vendor bytes : List ℕ) → plainly (maker_reply c vendor bytes) ≡ true
+maker_plain command.Poll vendor bytes = refl
+maker_plain c vendor bytes = refl
 
-maker_plain : (c : Command) (vendor bytes : List ℕ) → IsPlain (maker_reply c vendor bytes)
-maker_plain (command.Maker m) vendor bytes = tt
-maker_plain c vendor bytes = nine
+refusal_plain : (reason : NakReason) → plainly (refusal_reply reason) ≡ true
+refusal_plain CommandLength = refl
+refusal_plain reason = refl
 
-refusal_plain : (reason : NakReason) → IsPlain (refusal_reply reason)
-refusal_plain CommandLength = two
-refusal_plain UnknownCommand = three
-refusal_plain reason = nine
-
-for_plain : (a : Answer) (c : Command) → IsPlain (reply_for a c)
+for_plain : (a : Answer) (c : Command) → plainly (reply_for a c) ≡ true
 for_plain answer.Done c = done_plain c
 for_plain (answer.Local tamper power) c = local_plain c tamper power
 for_plain (answer.List states) c = list_plain c states.items
@@ -83,7 +79,7 @@ own_plain config (command.Comset c) = by_range (nat_le c.address 126)
   where
     by_range : (within : Bool) → IsPlain (cond within (reply.Com c) not_processed)
     by_range true = tt
-    by_range false = nine
+    by_range false = plain not_processed refl
 own_plain config c = tt
 
 event_plain : (e : Event) → IsPlain (event_reply e)
@@ -101,13 +97,13 @@ event_for_plain c events = tt
 module _ {H : Type 0} (answer_of : H → Command → Answer) (after : H → Command → H) where
   answered_plain : (own : Option Reply) (handler : H) (c : Command) → IsPlainIf own
       → IsPlain (answered answer_of after own handler c).reply
-  answered_plain (Some own) handler c plain = plain
-  answered_plain None handler c plain = for_plain (answer_of handler c) c
+  answered_plain (Some own) handler c is = is
+  answered_plain None handler c none = plain (reply_for (answer_of handler c) c) (for_plain (answer_of handler c) c)
 
   event_or_answer_plain : (told : Option Reply) (config : ReaderConfig) (handler : H) (c : Command) → IsPlainIf told
       → IsPlain (event_or_answer answer_of after told config handler c).reply
-  event_or_answer_plain (Some told) config handler c plain = plain
-  event_or_answer_plain None config handler c plain =
+  event_or_answer_plain (Some told) config handler c is = is
+  event_or_answer_plain None config handler c none =
       answered_plain (own_reply config c) handler c (own_plain config c)
 
   -- the reply said, which is sent with this number, is plain
@@ -117,13 +113,13 @@ module _ {H : Type 0} (answer_of : H → Command → Answer) (after : H → Comm
 
   begun_plain : (read : Result Command MsgFault) (r : ReaderState H) (p : Packet)
       → SaysPlainly (begun answer_of after read r p) p 0
-  begun_plain (Err fault) r p = (refused (unread_reason fault), refl, refl, unread_plain fault)
+  begun_plain (Err fault) r p = (refused (unread_reason fault), refl, refl, plain (refused (unread_reason fault)) (unread_plain fault))
   begun_plain (Ok c) r p =
       (_, refl, refl, answered_plain (own_reply r.config c) r.handler c (own_plain r.config c))
 
   taken_plain : (read : Result Command MsgFault) (r : ReaderState H) (p : Packet)
       → SaysPlainly (taken answer_of after read r p) p p.sequence
-  taken_plain (Err fault) r p = (refused (unread_reason fault), refl, refl, unread_plain fault)
+  taken_plain (Err fault) r p = (refused (unread_reason fault), refl, refl, plain (refused (unread_reason fault)) (unread_plain fault))
   taken_plain (Ok c) r p =
       (_, refl, refl, event_or_answer_plain (event_for c (released r.queue).events) r.config r.handler c (event_for_plain c (released r.queue).events))
 
