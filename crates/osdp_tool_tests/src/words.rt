@@ -79,22 +79,38 @@ fn long_word(rt: &impl Abort, alloc: Global, count: usize) -> String {
     word
 }
 
-/// As many bytes as a list has room for are read, and one more is not.
-fn fills_room<const ROOM: usize>(rt: &impl Abort, alloc: Global) {
-    let word = long_word(rt, alloc, ROOM);
-    let list = byte_list::<ROOM>(word.as_str()).expect(rt, "room for all");
-    assert_eq!(rt; list.len(), ROOM);
-    let longer = long_word(rt, alloc, ROOM.saturating_add(1));
-    assert!(rt; byte_list::<ROOM>(longer.as_str()).is_none(), "at {ROOM}");
+/// The room of digits.
+#[test]
+fn fills_a_small_room(rt: HostRuntime) {
+    let word = long_word(&rt, rt.alloc(), 255);
+    let list = byte_list::<255>(word.as_str()).expect(&rt, "digits");
+    assert_eq!(rt; list.len(), 255);
+    let longer = long_word(&rt, rt.alloc(), 256);
+    assert!(rt; byte_list::<255>(longer.as_str()).is_none());
 }
 
-/// The rooms of digits, of a maker's data, of a detail and of states.
+/// The room of a maker's data.
 #[test]
-fn fills_each_room(rt: HostRuntime) {
-    fills_room::<255>(&rt, rt.alloc());
-    fills_room::<1429>(&rt, rt.alloc());
-    fills_room::<1431>(&rt, rt.alloc());
-    fills_room::<1432>(&rt, rt.alloc());
+fn fills_a_large_room(rt: HostRuntime) {
+    let word = long_word(&rt, rt.alloc(), 1429);
+    let list = byte_list::<1429>(word.as_str()).expect(&rt, "a maker's data");
+    assert_eq!(rt; list.len(), 1429);
+    let longer = long_word(&rt, rt.alloc(), 1430);
+    assert!(rt; byte_list::<1429>(longer.as_str()).is_none());
+}
+
+/// The rooms of a detail and of states.
+#[test]
+fn fills_the_largest_rooms(rt: HostRuntime) {
+    let word = long_word(&rt, rt.alloc(), 1431);
+    let list = byte_list::<1431>(word.as_str()).expect(&rt, "a detail");
+    assert_eq!(rt; list.len(), 1431);
+    let longer = long_word(&rt, rt.alloc(), 1432);
+    assert!(rt; byte_list::<1431>(longer.as_str()).is_none());
+    let list = byte_list::<1432>(longer.as_str()).expect(&rt, "states");
+    assert_eq!(rt; list.len(), 1432);
+    let longest = long_word(&rt, rt.alloc(), 1433);
+    assert!(rt; byte_list::<1432>(longest.as_str()).is_none());
 }
 
 #[test]

@@ -46,6 +46,10 @@ const REFUSED: &str = "\
 #[test]
 fn messages_are_shown(rt: HostRuntime) {
     expect_rows(&rt, rt.alloc(), READ, Ok(false));
+}
+
+#[test]
+fn refused_messages_are_shown(rt: HostRuntime) {
     expect_rows(&rt, rt.alloc(), REFUSED, Ok(true));
 }
 
@@ -92,10 +96,10 @@ fn expect_large(rt: &impl Abort, alloc: Global, row: &str) -> Result<(), Fail> {
     };
     let digits = repeated(alloc, head, "FF", bytes, check)?;
     let text = repeated(alloc, front, item, items, "\n")?;
-    expect_told(
+    expect_shown(
         rt,
         alloc,
-        SHOW_LINES,
+        LINES,
         digits.as_bytes(),
         Ok(false),
         text.as_str(),
