@@ -73,11 +73,7 @@ impl Handler for DeviceStatus {
                 }
             }
             Command::Led(_) | Command::Buzzer(_) | Command::Text(_) => Answer::Done,
-            Command::Maker(_)
-            | Command::Poll
-            | Command::Id(_)
-            | Command::Cap(_)
-            | Command::Comset(_) => Answer::Refuse(NakReason::RecordNotProcessed),
+            _ => Answer::Refuse(NakReason::RecordNotProcessed),
         }
     }
 }

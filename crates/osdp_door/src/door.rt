@@ -162,12 +162,7 @@ impl Handler for Door {
                 self.sounds = buzzer.tone == 2;
                 Answer::Done
             }
-            Command::Text(_)
-            | Command::Maker(_)
-            | Command::Poll
-            | Command::Id(_)
-            | Command::Cap(_)
-            | Command::Comset(_) => Answer::Refuse(NakReason::RecordNotProcessed),
+            _ => Answer::Refuse(NakReason::RecordNotProcessed),
         }
     }
 }

@@ -61,9 +61,7 @@ impl Handler for ScriptReader {
             }
             Command::Led(_) | Command::Buzzer(_) | Command::Text(_) => Answer::Done,
             Command::Maker(message) => answer_to_maker(message),
-            Command::Poll | Command::Id(_) | Command::Cap(_) | Command::Comset(_) => {
-                Answer::Refuse(NakReason::RecordNotProcessed)
-            }
+            _ => Answer::Refuse(NakReason::RecordNotProcessed),
         }
     }
 }
