@@ -1,6 +1,6 @@
 //! Enums whose cases the header numbers.
 
-/// An enum, each case with its constant of `sys`; and `of`, which gives the case of a number, if it has one.
+/// An enum, each case with its constant of `sys`; and `of`, which gives the case of a number, if it has one. More cases may come.
 macro_rules! numbered {
     (
         $(#[$of_enum:meta])*
@@ -9,6 +9,8 @@ macro_rules! numbered {
         }
     ) => {
         $(#[$of_enum])*
+        #[derive(Clone, Copy, Debug, PartialEq, Eq)]
+        #[non_exhaustive]
         pub enum $name {
             $($(#[$of_case])* $case,)*
         }

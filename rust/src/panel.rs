@@ -33,8 +33,6 @@ impl Entry {
 
 numbered! {
     /// Why a session was lost.
-    #[derive(Clone, Copy, Debug, PartialEq, Eq)]
-    #[non_exhaustive]
     pub enum LostCause {
         /// No reply that answers came to the last of the sends.
         NoReply = OSDP_LOST_NO_REPLY,

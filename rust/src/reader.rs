@@ -35,8 +35,6 @@ pub struct ReaderConfig<'a> {
 
 numbered! {
     /// How a packet was answered.
-    #[derive(Clone, Copy, Debug, PartialEq, Eq)]
-    #[non_exhaustive]
     pub enum Said {
         /// NAK 5: a security block isn't supported.
         Secured = OSDP_SAID_SECURED,
