@@ -62,7 +62,11 @@ def rust():
         functions[name] = ([tuple(one.split(": ")) for one in parts(takes, ",")], gives or "c_void")
     constants = {name: int(value) for name, value in re.findall(r"pub const (OSDP_\w+): u32 = (\d+);", text)}
     fields = {name: parts(body, ",") for name, body in re.findall(r"pub struct (\w+) \{(.*?)\n\}", text, re.S)}
-    structs = {name: [tuple(one.removeprefix("pub ").split(": ")) for one in body] for name, body in fields.items()}
+    numbers = {name: "u32" for name in re.findall(r"#\[repr\(u32\)\]\n(?:#.*\n)*pub enum (\w+)", text)}
+    structs = {}
+    for name, body in fields.items():
+        pairs = [one.removeprefix("pub ").split(": ") for one in body]
+        structs[name] = [(field, numbers.get(kind, kind)) for field, kind in pairs]
     return functions, constants, structs
 
 

@@ -37,6 +37,7 @@ mod error;
 #[cfg(feature = "heap")]
 mod heap;
 mod message;
+mod numbered;
 mod panel;
 mod reader;
 pub mod sys;
@@ -45,3 +46,4 @@ pub use error::Error;
 pub use message::{Burst, Command, Reply};
 pub use panel::{Entry, LostCause, Panel, PanelConfig, Report};
 pub use reader::{Answer, Moved, Order, Reader, ReaderConfig, Said};
+pub use sys::Check;

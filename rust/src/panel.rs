@@ -2,71 +2,20 @@
 
 use crate::error::{Error, check};
 use crate::message::{Burst, Command, Reply};
+use crate::numbered::numbered;
 use crate::sys;
 use core::mem::MaybeUninit;
 use core::ptr::null_mut;
 
-/// The settings of a panel. Times are in milliseconds, 1 to 3,600,000.
-#[derive(Clone, Copy, Debug, PartialEq, Eq)]
-pub struct PanelConfig {
-    /// Which check the frames end with: a CRC, or else a checksum.
-    pub crc: bool,
-    /// How long an answer is waited for.
-    pub reply_wait: u32,
-    /// From an answer to the next POLL.
-    pub poll_interval: u32,
-    /// How often a frame is sent while no answer comes, 1 to 255.
-    pub sends: u32,
-    /// From a BUSY to the next send.
-    pub busy_wait: u32,
-    /// How often a reader may answer BUSY in one exchange, 0 to 255.
-    pub busy_limit: u32,
-    /// How long a device is left quiet before a session opens.
-    pub quiet_wait: u32,
-    /// After how long a silence a run of bytes is over.
-    pub gap: u32,
-    /// How many commands may wait for each device, 1 to 1,024.
-    pub capacity: u32,
-}
+pub use crate::sys::osdp_panel_config as PanelConfig;
 
 impl Default for PanelConfig {
     fn default() -> PanelConfig {
-        let mut raw = MaybeUninit::uninit();
-        // SAFETY: the call writes each field.
-        let raw = unsafe {
-            sys::osdp_panel_defaults(raw.as_mut_ptr());
-            raw.assume_init()
-        };
-        PanelConfig {
-            crc: raw.check == sys::OSDP_CHECK_CRC,
-            reply_wait: raw.reply_wait,
-            poll_interval: raw.poll_interval,
-            sends: raw.sends,
-            busy_wait: raw.busy_wait,
-            busy_limit: raw.busy_limit,
-            quiet_wait: raw.quiet_wait,
-            gap: raw.gap,
-            capacity: raw.capacity,
-        }
-    }
-}
-
-impl PanelConfig {
-    fn to_raw(self) -> sys::osdp_panel_config {
-        sys::osdp_panel_config {
-            check: if self.crc {
-                sys::OSDP_CHECK_CRC
-            } else {
-                sys::OSDP_CHECK_SUM
-            },
-            reply_wait: self.reply_wait,
-            poll_interval: self.poll_interval,
-            sends: self.sends,
-            busy_wait: self.busy_wait,
-            busy_limit: self.busy_limit,
-            quiet_wait: self.quiet_wait,
-            gap: self.gap,
-            capacity: self.capacity,
+        let mut config = MaybeUninit::uninit();
+        // SAFETY: the call writes each field, and as the check one of the two.
+        unsafe {
+            sys::osdp_panel_defaults(config.as_mut_ptr());
+            config.assume_init()
         }
     }
 }
@@ -82,16 +31,16 @@ impl Entry {
     }
 }
 
-/// Why a session was lost.
-#[derive(Clone, Copy, Debug, PartialEq, Eq)]
-#[non_exhaustive]
-pub enum LostCause {
-    /// No reply that answers came to the last of the sends.
-    NoReply,
-    /// The device answered BUSY more often than is allowed.
-    TooBusy,
-    /// The device didn't expect the sequence number: NAK 4.
-    NumberRefused,
+numbered! {
+    /// Why a session was lost.
+    pub enum LostCause {
+        /// No reply that answers came to the last of the sends.
+        NoReply = OSDP_LOST_NO_REPLY,
+        /// The device answered BUSY more often than is allowed.
+        TooBusy = OSDP_LOST_TOO_BUSY,
+        /// The device didn't expect the sequence number: NAK 4.
+        NumberRefused = OSDP_LOST_NUMBER_REFUSED,
+    }
 }
 
 /// What a device's controller tells.
@@ -125,19 +74,10 @@ fn report_of(raw: &sys::osdp_report) -> Option<(Entry, Report)> {
         sys::OSDP_REPORT_EVENT => Report::Event(reply?),
         sys::OSDP_REPORT_ANSWERED => Report::Answered(reply?),
         sys::OSDP_REPORT_UNREAD => Report::Unread(command, raw.detail as u8),
-        sys::OSDP_REPORT_LOST => Report::Lost(cause_of(raw.detail)?, command),
+        sys::OSDP_REPORT_LOST => Report::Lost(LostCause::of(raw.detail)?, command),
         _ => return None,
     };
     Some((Entry(raw.entry), report))
-}
-
-fn cause_of(detail: u32) -> Option<LostCause> {
-    match detail {
-        sys::OSDP_LOST_NO_REPLY => Some(LostCause::NoReply),
-        sys::OSDP_LOST_TOO_BUSY => Some(LostCause::TooBusy),
-        sys::OSDP_LOST_NUMBER_REFUSED => Some(LostCause::NumberRefused),
-        _ => None,
-    }
 }
 
 /// The panel's end of a line with up to sixteen devices. It reads and writes nothing: its program hands bytes and moments in.
@@ -157,7 +97,7 @@ impl Panel {
             live: 0,
         });
         // SAFETY: the handle is none, and both pointers are good.
-        check(unsafe { sys::osdp_panel_new(&mut panel.0, &config.to_raw()) })?;
+        check(unsafe { sys::osdp_panel_new(&mut panel.0, config) })?;
         Ok(panel)
     }
 

@@ -2,6 +2,7 @@
 
 use crate::error::{Error, check};
 use crate::message::{Burst, Command};
+use crate::numbered::numbered;
 use crate::panel::{no_burst, no_message};
 use crate::sys;
 use core::ptr::null_mut;
@@ -32,22 +33,22 @@ pub struct ReaderConfig<'a> {
     pub capabilities: &'a [[u8; 3]],
 }
 
-/// How a packet was answered.
-#[derive(Clone, Copy, Debug, PartialEq, Eq)]
-#[non_exhaustive]
-pub enum Said {
-    /// NAK 5: a security block isn't supported.
-    Secured,
-    /// A command with number 0, which begins anew: it was acted on.
-    Zero,
-    /// The stored reply once more.
-    Repeat,
-    /// A command with the next number: it was acted on, once.
-    Taken,
-    /// The reader is busy: nothing was taken.
-    Busy,
-    /// NAK 4: the number isn't expected.
-    Wrong,
+numbered! {
+    /// How a packet was answered.
+    pub enum Said {
+        /// NAK 5: a security block isn't supported.
+        Secured = OSDP_SAID_SECURED,
+        /// A command with number 0, which begins anew: it was acted on.
+        Zero = OSDP_SAID_ZERO,
+        /// The stored reply once more.
+        Repeat = OSDP_SAID_REPEAT,
+        /// A command with the next number: it was acted on, once.
+        Taken = OSDP_SAID_TAKEN,
+        /// The reader is busy: nothing was taken.
+        Busy = OSDP_SAID_BUSY,
+        /// NAK 4: the number isn't expected.
+        Wrong = OSDP_SAID_WRONG,
+    }
 }
 
 /// What the device is to do.
@@ -90,22 +91,10 @@ impl Answer {
     }
 }
 
-fn said_of(kind: u32) -> Option<Said> {
-    match kind {
-        sys::OSDP_SAID_SECURED => Some(Said::Secured),
-        sys::OSDP_SAID_ZERO => Some(Said::Zero),
-        sys::OSDP_SAID_REPEAT => Some(Said::Repeat),
-        sys::OSDP_SAID_TAKEN => Some(Said::Taken),
-        sys::OSDP_SAID_BUSY => Some(Said::Busy),
-        sys::OSDP_SAID_WRONG => Some(Said::Wrong),
-        _ => None,
-    }
-}
-
 fn answer_of(raw: &sys::osdp_answer) -> Option<Answer> {
     let command = Command::from_raw(&raw.command);
     Some(Answer {
-        said: said_of(raw.kind)?,
+        said: Said::of(raw.kind)?,
         order: match raw.order {
             sys::OSDP_ORDER_TAKEN => command.map(Order::Taken),
             sys::OSDP_ORDER_AGAIN => command.map(Order::Again),

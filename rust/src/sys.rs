@@ -77,17 +77,37 @@ pub struct osdp_panel {
     pub live: usize,
 }
 
+/// The check that frames end with.
+#[repr(u32)]
+#[derive(Clone, Copy, Debug, PartialEq, Eq)]
+pub enum Check {
+    /// The checksum, of one byte.
+    Sum = OSDP_CHECK_SUM,
+    /// The CRC, of two bytes.
+    Crc = OSDP_CHECK_CRC,
+}
+
+/// The settings of a panel. Times are in milliseconds, 1 to 3,600,000.
 #[repr(C)]
-#[derive(Clone, Copy)]
+#[derive(Clone, Copy, Debug, PartialEq, Eq)]
 pub struct osdp_panel_config {
-    pub check: u32,
+    /// Which check the frames end with.
+    pub check: Check,
+    /// How long an answer is waited for.
     pub reply_wait: u32,
+    /// From an answer to the next POLL.
     pub poll_interval: u32,
+    /// How often a frame is sent while no answer comes, 1 to 255.
     pub sends: u32,
+    /// From a BUSY to the next send.
     pub busy_wait: u32,
+    /// How often a reader may answer BUSY in one exchange, 0 to 255.
     pub busy_limit: u32,
+    /// How long a device is left quiet before a session opens.
     pub quiet_wait: u32,
+    /// After how long a silence a run of bytes is over.
     pub gap: u32,
+    /// How many commands may wait for each device, 1 to 1,024.
     pub capacity: u32,
 }
 
