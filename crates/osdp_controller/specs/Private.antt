@@ -1,5 +1,5 @@
 -- What functions inside the crate say of themselves. No row of a table and no law speaks of these.
-use Rattle.std.specs.Prelude.{Bool, true, false, not, ◌&&◌, nat_le, nat_lt, if◌then◌else◌, List, slice_get, Option, Some, None, is_none}
+use Rattle.std.specs.Prelude.{◌≡◌, Bool, true, false, not, ◌&&◌, nat_le, nat_lt, if◌then◌else◌, List, slice_get, Option, Some, None, is_none}
 use Rattle.std.specs.Option.{option_map_or}
 use Rattle.osdp_frame.specs.Packet.{Packet}
 use Rattle.osdp_msg.specs.declared.command.Command.{Command}
@@ -13,9 +13,10 @@ use Rattle.osdp_controller.specs.declared.report.Report.TheVariants.{Settled}
 use Rattle.osdp_controller.specs.declared.session.Session.{Session}
 use Rattle.osdp_controller.specs.declared.state.State.{State}
 use Rattle.osdp_controller.specs.declared.state.State.TheVariants.{Closed, Quiet, Idle, Waiting, Pausing}
+use Rattle.osdp_controller.specs.Answers.{meaning_of}
 use Rattle.osdp_controller.specs.Held.{outstanding_in}
-use Rattle.osdp_controller.specs.Hearing.{Heard, ignores, pausing_hears, pd_id_of, waiting_hears}
-use Rattle.osdp_controller.specs.Machine.{Machine, is_outstanding}
+use Rattle.osdp_controller.specs.Hearing.{Heard, hears_in, ignores, pausing_hears, pd_id_of, waiting_hears}
+use Rattle.osdp_controller.specs.Machine.{IsSession, Machine, is_outstanding}
 use Rattle.osdp_controller.specs.Sessions.{frame_of}
 use Rattle.osdp_controller.specs.States.{is_idle, moment_of}
 use Rattle.osdp_controller.specs.Ticking.{ticks_in}
@@ -74,3 +75,9 @@ frame_in s = frame_of (outstanding_in s.state).exchange s
 
 abbrev pub frame_if : Bool → Session → Option Packet
 frame_if sends s = if sends then Some (frame_in s) else None
+
+-- a reply of the own reader is heard: what is told, and the session after it
+pub record HearsReply (p : Packet) (s : Session) (told : Option Report) (after : Session) : Type 0 where
+  pub report : told ≡ (hears_in s.state p.sequence (meaning_of p) s).report
+  pub session : after ≡ (hears_in s.state p.sequence (meaning_of p) s).session
+  pub kept : IsSession after

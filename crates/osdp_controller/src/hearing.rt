@@ -11,7 +11,7 @@ ghost use Rattle.osdp_controller.specs.Exchanges.{submitted_command};
 ghost use Rattle.osdp_controller.specs.Hearing.{answered, answered_unread, com_of, comset_of, event_in, hears, hears_busy, hears_in, is_ack, is_from_reader, is_numbered, loses, moved_by, opening_answered, pausing_hears, pd_id_of, poll_told, rests, waiting_hears};
 ghost use Rattle.osdp_controller.specs.Held.{exchange_of, outstanding_in, sends_in, stage_of};
 ghost use Rattle.osdp_controller.specs.Machine.{IsSession, is_outstanding};
-ghost use Rattle.osdp_controller.specs.Private.{acknowledged, is_no_answer, is_no_answer_in, numbered_in};
+ghost use Rattle.osdp_controller.specs.Private.{HearsReply, acknowledged, is_no_answer, is_no_answer_in, numbered_in};
 ghost use Rattle.osdp_controller.specs.Sessions.{at_rest, closed};
 
 use crate::exchange::Asked;
@@ -260,9 +260,7 @@ impl Session {
     fn hear_reader(&mut self, frame: &FrameView<'_>, report: &mut Option<Report>)
         requires session { IsSession self.old }
         requires none { report.old ≡ None }
-        ensures report { report.new ≡ (hears_in self.old.state frame.now.sequence (meaning_of frame.now) self.old).report }
-        ensures session { self.new ≡ (hears_in self.old.state frame.now.sequence (meaning_of frame.now) self.old).session }
-        ensures kept { IsSession self.new }
+        ensures { HearsReply frame.now self.old report.new self.new }
     {
         if !self.is_acknowledged_by(frame) {
             self.hear_reply(frame, report);
@@ -287,9 +285,7 @@ impl Session {
     fn hear_reply(&mut self, frame: &FrameView<'_>, report: &mut Option<Report>)
         requires session { IsSession self.old }
         requires none { report.old ≡ None }
-        ensures report { report.new ≡ (hears_in self.old.state frame.now.sequence (meaning_of frame.now) self.old).report }
-        ensures session { self.new ≡ (hears_in self.old.state frame.now.sequence (meaning_of frame.now) self.old).session }
-        ensures kept { IsSession self.new }
+        ensures { HearsReply frame.now self.old report.new self.new }
     {
         let mut answer = ReplyMeaning::of(frame);
         if self.is_numbered(frame.seq(), &answer) && !self.is_no_answer(&answer) {

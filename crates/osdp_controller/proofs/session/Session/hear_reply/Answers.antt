@@ -1,6 +1,31 @@
+use Rattle.std.proofs.Common.{◌≡◌, ℕ, true, ap, refl, sym, ◌∙◌, rules}
+use Rattle.osdp_controller.specs.declared.meaning.ReplyMeaning.{ReplyMeaning}
+use Rattle.osdp_controller.specs.declared.session.Session.{Session}
+use Rattle.osdp_controller.specs.declared.state.State.{State}
+use Rattle.osdp_controller.specs.declared.state.State.TheVariants.{Closed, Quiet, Idle, Waiting, Pausing}
+use Rattle.osdp_controller.specs.Answers.{meaning_of}
+use Rattle.osdp_controller.specs.Hearing.{Heard, hears_in, is_numbered}
+use Rattle.osdp_controller.specs.Private.{numbered_in}
 use Rattle.osdp_controller.proofs.Keeping.{keeps_numbered}
 use Rattle.osdp_controller.proofs.session.Session.hear_reply.Goals as goal
 
-pub returns-then-not-is_no_answer-clause-kept : goal.returns-then-not-is_no_answer-clause-kept
-returns-then-not-is_no_answer-clause-kept c =
-    rw c.hear_numbered.ensures.session (keeps_numbered c.args.self.now.state c.of-answer.result c.args.self.now c.requires.session.state c.requires.session.opening c.requires.session)
+-- an answer that has the number is heard as one
+has_number : (state : State) (number : ℕ) (answer : ReplyMeaning) (s : Session) → is_numbered number answer s ≡ true
+    → hears_in state number answer s ≡ numbered_in state answer s
+has_number Closed number answer s e = refl
+has_number (Quiet until) number answer s e = refl
+has_number (Idle due) number answer s e = refl
+has_number (Waiting until sends o) number answer s e = rw e refl
+has_number (Pausing until o) number answer s e = rw e refl
+
+pub returns-then-not-is_no_answer : goal.returns-then-not-is_no_answer
+returns-then-not-is_no_answer c =
+    let s = c.args.self.now in
+    let read : c.of-answer.result ≡ meaning_of c.args.frame.now = search rules in
+    let same = ap (λ (answer : ReplyMeaning). hears_in s.state c.args.frame.now.sequence answer s) (sym read)
+    ∙ has_number s.state c.args.frame.now.sequence c.of-answer.result s (search rules) in
+    record {
+      report = c.hear_numbered.ensures.report ∙ ap (λ (h : Heard). h.report) (sym same);
+      session = c.hear_numbered.ensures.session ∙ ap (λ (h : Heard). h.session) (sym same);
+      kept = rw c.hear_numbered.ensures.session (keeps_numbered s.state c.of-answer.result s c.requires.session.state c.requires.session.opening c.requires.session);
+    }
