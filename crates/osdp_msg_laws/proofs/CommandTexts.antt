@@ -1,7 +1,5 @@
 -- What is given stands for one command at most, and one text is that of one command.
-use Rattle.std.proofs.Common.{◌≡◌, ℕ, List, refl, ap}
-use Rattle.osdp_words.specs.Word.{AllStandFor}
-use Rattle.osdp_msg.specs.declared.command.Command.{Command}
+use Rattle.std.proofs.Common.{refl, ap}
 use Rattle.osdp_msg.specs.declared.command.Command.TheVariants.{Poll, Id, Cap, LocalStatus, InputStatus, OutputStatus, ReaderStatus, Output, Led, Buzzer, Text, Comset, Maker}
 use Rattle.osdp_msg.specs.CommandFields.{LedFits, OutputFits, led_word, output_word}
 use Rattle.osdp_msg_laws.proofs.OneMeaning.{buzzer_one, byte_one, communication_one, led_one, maker_one, output_one, records_one, text_one}
@@ -10,10 +8,9 @@ use Rattle.osdp_msg.specs.CommandText.{command_fields, command_name, command_tex
 use Rattle.osdp_msg_laws.specs.Laws.{HasOneMeaning, HasOneText}
 use Rattle.osdp_msg.proofs.RowTexts.{differ}
 use Rattle.osdp_msg_laws.proofs.PlainCommands.{plain_commands}
-use Rattle.osdp_msg_laws.proofs.TableLaws.{one_meaning, one_text}
+use Rattle.osdp_msg_laws.proofs.TableLaws.{RowsHaveOneMeaning, one_meaning, one_text}
 
--- values of one row
-rows : (given : List (List ℕ)) (m n : Command) → command_name m ≡ command_name n → CommandFits m → CommandFits n → AllStandFor (command_fields m) given → AllStandFor (command_fields n) given → m ≡ n
+rows : RowsHaveOneMeaning CommandFits command_name command_fields
 rows given Poll Poll e h k s t = refl
 rows given (Id a) (Id b) e h k s t = ap Id (byte_one given a b h k s t)
 rows given (Cap a) (Cap b) e h k s t = ap Cap (byte_one given a b h k s t)

@@ -2,7 +2,7 @@
 use Rattle.std.proofs.Common.{[], ◌∷◌}
 use Rattle.osdp_words.specs.Word.{bytes}
 use Rattle.osdp_msg.specs.declared.command.Command.{Command}
-use Rattle.osdp_msg.specs.declared.command.Command.TheVariants.{Poll, Id, Cap, Output, Led, Buzzer, Text, Comset, Maker}
+use Rattle.osdp_msg.specs.declared.command.Command.TheVariants.{Id, Cap, Output, Led, Buzzer, Text, Comset, Maker}
 use Rattle.osdp_msg.specs.CommandFields.{LedFits, OutputFits, led_word, output_word}
 use Rattle.osdp_msg.specs.CommandTable.{CommandFits}
 use Rattle.osdp_msg.specs.CommandText.{command_fields, command_words}

@@ -3,7 +3,7 @@ use Rattle.std.proofs.Common.{ℕ, List, [], ◌∷◌}
 use Rattle.hex.specs.Hex.{IsBytes}
 use Rattle.osdp_words.specs.Word.{bytes}
 use Rattle.osdp_msg.specs.declared.reply.Reply.{Reply}
-use Rattle.osdp_msg.specs.declared.reply.Reply.TheVariants.{Ack, Nak, PdId, PdCap, LocalState, Inputs, Outputs, Readers, Raw, Formatted, Keypad, Com, MakerReply}
+use Rattle.osdp_msg.specs.declared.reply.Reply.TheVariants.{Nak, PdId, PdCap, LocalState, Inputs, Outputs, Readers, Raw, Formatted, Keypad, Com, MakerReply}
 use Rattle.osdp_msg.specs.Events.{EventFits, event_reply, event_words}
 use Rattle.osdp_msg.specs.NakReasons.{reason_number}
 use Rattle.osdp_msg.specs.ReplyFields.{CapabilityFits, capability_word, detail_words}

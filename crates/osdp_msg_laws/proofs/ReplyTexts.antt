@@ -1,7 +1,5 @@
 -- What is given stands for one reply at most, and one text is that of one reply.
-use Rattle.std.proofs.Common.{◌≡◌, ℕ, List, refl, ap}
-use Rattle.osdp_words.specs.Word.{AllStandFor}
-use Rattle.osdp_msg.specs.declared.reply.Reply.{Reply}
+use Rattle.std.proofs.Common.{List, refl, ap}
 use Rattle.osdp_msg.specs.declared.reply.Reply.TheVariants.{Ack, Nak, PdId, PdCap, LocalState, Inputs, Outputs, Readers, Raw, Formatted, Keypad, Com, Busy, MakerReply}
 use Rattle.osdp_msg.specs.declared.capability.Capability.{Capability}
 use Rattle.osdp_msg.specs.ReplyFields.{CapabilityFits, capability_word}
@@ -11,10 +9,9 @@ use Rattle.osdp_msg.specs.ReplyText.{reply_fields, reply_name, reply_text, reply
 use Rattle.osdp_msg_laws.specs.Laws.{HasOneMeaning, HasOneText}
 use Rattle.osdp_msg.proofs.RowTexts.{differ}
 use Rattle.osdp_msg_laws.proofs.PlainReplies.{plain_replies}
-use Rattle.osdp_msg_laws.proofs.TableLaws.{one_meaning, one_text}
+use Rattle.osdp_msg_laws.proofs.TableLaws.{RowsHaveOneMeaning, one_meaning, one_text}
 
--- values of one row
-rows : (given : List (List ℕ)) (m n : Reply) → reply_name m ≡ reply_name n → ReplyFits m → ReplyFits n → AllStandFor (reply_fields m) given → AllStandFor (reply_fields n) given → m ≡ n
+rows : RowsHaveOneMeaning ReplyFits reply_name reply_fields
 rows given Ack Ack e h k s t = refl
 rows given (Nak a) (Nak b) e h k s t = ap Nak (nak_one given a b h k s t)
 rows given (PdId a) (PdId b) e h k s t = ap PdId (pd_id_one given a b h k s t)

@@ -6,9 +6,14 @@ use Rattle.osdp_msg_laws.proofs.PlainWords.{ArePlainWords}
 use Rattle.osdp_msg_laws.proofs.PrintedWords.{plain_words_printed, words_held}
 use Rattle.osdp_msg_laws.proofs.TextWords.{text_parts}
 
+-- what is given stands for one value at most of those that have one name
+abbrev pub RowsHaveOneMeaning : {M : Type 0} → (M → Type 0) → (M → List ℕ) → (M → List Word) → Type 0
+RowsHaveOneMeaning {M} Fits name_of fields_of =
+    (given : List (List ℕ)) (m n : M) → name_of m ≡ name_of n → Fits m → Fits n → AllStandFor (fields_of m) given → AllStandFor (fields_of n) given → m ≡ n
+
 -- what is given stands for one value at most, where that holds of the values of one name
 pub one_meaning : {M : Type 0} (Fits : M → Type 0) (name_of : M → List ℕ) (fields_of : M → List Word)
-    → ((given : List (List ℕ)) (m n : M) → name_of m ≡ name_of n → Fits m → Fits n → AllStandFor (fields_of m) given → AllStandFor (fields_of n) given → m ≡ n)
+    → RowsHaveOneMeaning Fits name_of fields_of
     → HasOneMeaning Fits (λ m. plain (name_of m) ∷ fields_of m)
 one_meaning Fits name_of fields_of rows [] m n h k s t = absurd s
 one_meaning Fits name_of fields_of rows (g ∷ given) m n h k s t = rows given m n (sym s.0 ∙ t.0) h k s.1 t.1
