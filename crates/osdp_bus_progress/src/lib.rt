@@ -18,7 +18,7 @@ pub fn each_comes_through<H: Handler>()
     osdp_multidrop::each_is_a_link::<H>();
     osdp_multidrop::each_stays_in_a_row::<H>();
     osdp_link_laws::read_each_other::<H>();
-    osdp_link_laws::comes_through_in_time::<H>();
+    osdp_link_laws::comes_through::<H>();
     osdp_link_laws::stay_where_they_are::<H>();
     osdp_controller_laws::endings_are_told();
     osdp_controller_laws::stays_in_range();

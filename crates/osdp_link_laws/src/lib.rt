@@ -68,16 +68,10 @@ pub fn sessions_in_a_row<H: Handler>()
 }
 
 /// In these runs no reader refuses a number or a check, and each of its packets can be read: whatever is on its way to the controller
-/// says BUSY, or a reply that settles.
-pub fn says_all_plainly<H: Handler>()
-    ensures { SaysAllPlainly H.answer_of H.after }
-{
-    read_each_other::<H>();
-}
-
-/// So no session ends because a reader refused a number.
+/// says BUSY, or a reply that settles. So no session ends because a reader refused a number.
 pub fn refuses_no_number<H: Handler>()
-    ensures { RefusesNoNumber H.answer_of H.after }
+    ensures packets { SaysAllPlainly H.answer_of H.after }
+    ensures endings { RefusesNoNumber H.answer_of H.after }
 {
     read_each_other::<H>();
 }
@@ -91,16 +85,11 @@ pub fn stay_where_they_are<H: Handler>()
 
 /// From a link with nothing on the line, both ends at one address, the reader not busy and no COMSET to a device's address
 /// issued: after m rounds that lose nothing, each with a tick that is due, m - 1 more commands and events of this session, or all of them, are settled and reported.
-pub fn comes_through<H: Handler>()
-    ensures { ComesThrough H.answer_of H.after }
-{
-    read_each_other::<H>();
-}
-
 /// With ticks that come as much later than the greatest moment seen as the longest of the controller's waits, that is so or the session
 /// has ended.
-pub fn comes_through_in_time<H: Handler>()
-    ensures { ComesThroughInTime H.answer_of H.after }
+pub fn comes_through<H: Handler>()
+    ensures due { ComesThrough H.answer_of H.after }
+    ensures in_time { ComesThroughInTime H.answer_of H.after }
 {
     read_each_other::<H>();
     osdp_controller_laws::stays_in_range();
@@ -116,14 +105,6 @@ pub fn goes_in_turn<H: Handler>()
     read_each_other::<H>();
 }
 
-/// Within each session the events that the reader has offered are a beginning of those queued, and hold those reported. Of the last command
-/// taken and the last event offered at most one isn't told yet.
-pub fn offers_once<H: Handler>()
-    ensures { OffersOnce H.answer_of H.after }
-{
-    read_each_other::<H>();
-}
-
 /// Two lists and four counts: no step takes more commands than are issued or offers more events than are queued, settles one that wasn't
 /// taken or reports one that wasn't offered, and at most one is taken or offered and not yet told.
 pub fn keeps_in_step()
@@ -131,10 +112,12 @@ pub fn keeps_in_step()
 {}
 
 /// A link is two lists and four counts: the lists of its account are read off them, and each of its moves is one step or none. So what the
-/// headline says can be seen without packets, numbers and timers.
+/// headline says can be seen without packets, numbers and timers. Within each session the events that the reader has offered are a beginning
+/// of those queued, and hold those reported. Of the last command taken and the last event offered at most one isn't told yet.
 pub fn moves_in_step<H: Handler>()
     ensures read { IsReadOff H.answer_of H.after }
     ensures moves { MovesInStep H.answer_of H.after }
+    ensures offers { OffersOnce H.answer_of H.after }
 {
     read_each_other::<H>();
 }

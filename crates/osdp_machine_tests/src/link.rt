@@ -7,11 +7,9 @@ use osdp_door::Door;
 fn a_session_holds_with_a_door(_rt: HostRuntime) {
     osdp_link_laws::holds_once::<Door>();
     osdp_link_laws::sessions_in_a_row::<Door>();
-    osdp_link_laws::says_all_plainly::<Door>();
     osdp_link_laws::refuses_no_number::<Door>();
     osdp_link_laws::stay_where_they_are::<Door>();
     osdp_link_laws::comes_through::<Door>();
-    osdp_link_laws::comes_through_in_time::<Door>();
     osdp_link_laws::goes_in_turn::<Door>();
     osdp_link_changes::changed_links_hold_once::<Door>();
     osdp_link_changes::changed_links_stay_in_a_row::<Door>();

@@ -22,20 +22,15 @@ pub fn stands_on_one_bus<H: Handler>()
 }
 
 /// Each step of a schedule that isn't refused is a list of moves of several links: the simulated line follows it, with the bus as their
-/// controllers, their packets as bytes, and each reader's account as what the sessions of its site come to.
-pub fn steps_are_moves<H: Handler>()
-    ensures { StepsAreMoves H.answer_of H.after }
+/// controllers, their packets as bytes, and each reader's account as what the sessions of its site come to. So is each schedule, as far as it
+/// isn't refused, from a line on which the first sessions begin.
+pub fn schedules_are_moves<H: Handler>()
+    ensures steps { StepsAreMoves H.answer_of H.after }
+    ensures schedules { SchedulesAreMoves H.answer_of H.after }
 {
     stands_on_one_bus::<H>();
-}
-
-/// So is each schedule, as far as it isn't refused, from a line on which the first sessions begin.
-pub fn schedules_are_moves<H: Handler>()
-    ensures { SchedulesAreMoves H.answer_of H.after }
-{
-    steps_are_moves::<H>();
     osdp_link_laws::read_each_other::<H>();
-    osdp_link_laws::says_all_plainly::<H>();
+    osdp_link_laws::refuses_no_number::<H>();
     osdp_multidrop::each_is_a_link::<H>();
     osdp_multidrop::each_stays_in_a_row::<H>();
 }

@@ -40,22 +40,16 @@ pub fn schedule_holds_once<H: Handler>()
 /// After steps of one session that leave nothing on the line, both ends at one address, the reader not busy and no COMSET to a device's
 /// address issued: over m rounds that lose nothing, each as long as the longest of the controller's waits or longer, m - 1 more commands
 /// and events, or all of them, are settled and reported, where the session hasn't ended.
-pub fn schedule_comes_through<H: Handler>()
-    ensures { ComesThrough H.answer_of H.after }
-{
-    stands_on_one_link::<H>();
-    osdp_link_laws::comes_through_in_time::<H>();
-    osdp_controller_laws::stays_in_range();
-}
-
+///
 /// After any steps of one session: once the reader is ready and what is on the line is lost, over m such rounds m - 1 commands and
 /// events, or all of them, are settled and reported, where both ends were at one address, no COMSET to a device's address was issued and
 /// the session hasn't ended.
-pub fn recovers<H: Handler>()
-    ensures { Recovers H.answer_of H.after }
+pub fn schedule_comes_through<H: Handler>()
+    ensures onward { ComesThrough H.answer_of H.after }
+    ensures recovers { Recovers H.answer_of H.after }
 {
     stands_on_one_link::<H>();
-    osdp_link_laws::comes_through_in_time::<H>();
+    osdp_link_laws::comes_through::<H>();
     osdp_link_laws::stay_where_they_are::<H>();
     osdp_controller_laws::stays_in_range();
 }

@@ -181,7 +181,6 @@ fn accounts_hold_with_a_door(_rt: HostRuntime) {
     osdp_sim_laws::schedule_stays_in_a_row::<Door>();
     osdp_sim_laws::schedule_holds_once::<Door>();
     osdp_sim_laws::schedule_comes_through::<Door>();
-    osdp_sim_laws::recovers::<Door>();
     osdp_sim_laws::accepts_by_room::<Door>();
     osdp_sim_laws::schedule_goes_in_turn::<Door>();
     osdp_session::holds_in_sessions::<Door>();

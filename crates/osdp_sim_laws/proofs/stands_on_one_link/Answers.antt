@@ -13,6 +13,6 @@ returns g c = record {
   last = c.sessions_in_a_row.ensures.last;
   commands = c.sessions_in_a_row.ensures.commands;
   events = c.sessions_in_a_row.ensures.events;
-  causes = c.refuses_no_number.ensures;
+  causes = c.refuses_no_number.ensures.endings;
   told = c.endings_are_told.ensures;
 }

@@ -1,5 +1,0 @@
-use Rattle.osdp_sim_laws.proofs.Coming.{recovers}
-use Rattle.osdp_sim_laws.proofs.recovers.Goals as goal
-
-pub returns : goal.returns
-returns g c = recovers g.H.Handler.answer_of g.H.Handler.after c.stands_on_one_link.ensures c.comes_through_in_time.ensures c.stays_in_range.ensures c.stay_where_they_are.ensures
