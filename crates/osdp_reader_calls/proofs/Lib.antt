@@ -1,4 +1,3 @@
-pub mod Decimals
 pub mod Rows
 pub mod Turns
 pub mod Calls

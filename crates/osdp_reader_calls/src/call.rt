@@ -1,13 +1,13 @@
 //! What a line may order.
 
-ghost use Rattle.std.specs.Prelude.{◌≡◌, ◌<◌, ◌^◌, ◌∷◌, ◌⊎◌, ◌↔◌, ℕ, List, [], IsTrue, MatchOption, length, slice_index};
+ghost use Rattle.std.specs.Prelude.{◌≡◌, ◌<◌, ◌^◌, ◌∷◌, ℕ, List, [], MatchOption};
 ghost use Rattle.osdp_msg.specs.Events.{EventFits, event_words};
-ghost use Rattle.osdp_words.specs.Reading.{Reads, ReadsWords};
+ghost use Rattle.osdp_words.specs.Reading.{ReadsWords};
 ghost use Rattle.osdp_words.specs.Word.{bytes, number, texts};
 ghost use Rattle.osdp_reader_calls.specs.Calls.{AreStates, CallFits, IsLong, call_words, switch_word};
 
 use arrayvec::ArrayVec;
-use osdp_words::{byte_list, number_u8};
+use osdp_words::{byte_list, number_u8, number_u64};
 
 /// What a line orders.
 #[derive(Debug, Drop, PartialEq)]
@@ -32,24 +32,6 @@ pub enum ReaderCall {
     Readers(ArrayVec<u8, 1432>),
     /// Tamper and power, from now on.
     Local(u8, u8),
-}
-
-/// Whether std's `parse` takes what is no decimal word.
-fn has_sign_or_leading_zero(characters: &[u8]) -> bool
-    ensures { IsTrue result
-        ↔ ((slice_index characters.now 0 ≡ 43) ⊎ ((slice_index characters.now 0 ≡ 48) × (1 < length characters.now))) }
-{
-    matches!(characters, [b'+', ..] | [b'0', _, ..])
-}
-
-/// The number from 0 to the greatest `u64` that a decimal word stands for.
-pub fn number_u64(word: &str) -> Option<u64>
-    ensures { Reads number (λ n. n < 2 ^ 64) word.now result }
-{
-    if has_sign_or_leading_zero(word.as_bytes()) {
-        return None;
-    }
-    word.parse().ok()
 }
 
 /// One word, and no other.

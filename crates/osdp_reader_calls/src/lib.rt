@@ -17,5 +17,6 @@ mod machine;
 mod say;
 mod session;
 
-pub use call::{ReaderCall, number_u64, one_word};
+pub use call::{ReaderCall, one_word};
+pub use osdp_words::number_u64;
 pub use session::LineDevice;

@@ -1,13 +1,13 @@
 -- The pieces of a line between spaces, one after the other, and the words among them.
-use Rattle.std.proofs.Common.{lit<, ◌≡◌, ◌≤◌, ℕ, arith, true, false, List, [], ◌∷◌, ◌++◌, filter, length, Bor, Some, None, cond, eqb, not, refl, sym, ap, ◌∙◌, append_assoc, append-nil}
-use Rattle.std.proofs.lemmas.List.{length-append}
+use Rattle.std.proofs.Common.{lit<, ◌≡◌, ◌≤◌, ℕ, arith, true, false, List, [], ◌∷◌, ◌++◌, filter, length, Bor, Some, None, cond, eqb, not, refl, sym, ap, subst, ◌∙◌, append_assoc, append-nil}
+use Rattle.std.proofs.lemmas.List.{length-append, map-append}
 use Rattle.std.specs.List.{slice_split}
 use Rattle.std.specs.Str.Iter.{split_has_more, split_pattern, split_steps, split_text}
 use Rattle.std.specs.Str.Pattern.{FindsChar}
 use Rattle.std.specs.declared.str.Split.{Split}
 use Rattle.std.proofs.lemmas.Iterator.{YieldsList}
 use Rattle.std.proofs.lemmas.Iterator.Splits.{YieldsList-from_str_split}
-use Rattle.osdp_words.specs.Word.{words_in}
+use Rattle.osdp_words.specs.Word.{texts, words_in}
 
 -- those that have characters
 abbrev some_characters : List (List ℕ) → List (List ℕ)
@@ -66,6 +66,17 @@ taken all words s t x cut k e =
       whole = append_assoc words (x.now ∷ []) (some_characters p.0) ∙ ap (λ l. words ++ l) (sym (a_word x.now p.0 e))
           ∙ ap (λ l. words ++ some_characters l) (sym p.1) ∙ cut.whole;
     }
+
+-- the same of words as they are lent: none at first, then one more after the others
+pub lent_begun : (text : List ℕ) (words : List (Bor (List ℕ))) (s t : Split ℕ) → split_text s ≡ text → split_has_more s ≡ true → split_pattern s ≡ 32
+    → words ≡ [] → t ≡ s → IsCutTo (words_in text) (texts words) t
+lent_begun text words s t rest more pattern none same =
+    subst (λ ws. IsCutTo (words_in text) (texts ws) t) (sym none) (subst (λ u. IsCutTo (words_in text) [] u) (sym same) (begun text s rest more pattern))
+
+pub lent_taken : (all : List (List ℕ)) (words others : List (Bor (List ℕ))) (s t : Split ℕ) (x : Bor (List ℕ)) → IsCutTo all (texts words) s
+    → split_steps FindsChar (λ a b. b ≡ a) s (Some x) t → eqb (length x.now) 0 ≡ false → others ≡ words ++ x ∷ [] → IsCutTo all (texts others) t
+lent_taken all words others s t x cut k e pushed =
+    subst (λ ws. IsCutTo all ws t) (sym (ap texts pushed ∙ map-append (λ w. w.now) words (x ∷ []))) (taken all (texts words) s t x cut k e)
 
 pub all_taken : (all words : List (List ℕ)) (s t : Split ℕ) → IsCutTo all words s → split_steps FindsChar (λ a b. b ≡ a) s None t → words ≡ all
 all_taken all words s t cut k =

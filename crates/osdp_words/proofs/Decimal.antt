@@ -30,7 +30,7 @@ decimal_has_no_more n small h =
     ]
 
 -- what such a text reads as
-pub none_read : (text : List ℕ) → HasMore text → Reads number (λ n. n < 2 ^ 32) text None
+pub none_read : (text : List ℕ) → HasMore text → Reads number (λ n. n < 2 ^ 64) text None
 none_read text h = record {
   value = tt;
   only = λ n small e. absurd (decimal_has_no_more n (omega arith) (rw e at h));
@@ -38,24 +38,24 @@ none_read text h = record {
 
 -- what `parse` reads is printed as it was given
 printed_back : (text : List ℕ) (v : ℕ) → (HasMore text → ⊥)
-    → (AllDigits 10 text × (0 < length text) × (digits_value 10 text < 2 ^ 32)) × (v ≡ digits_value 10 text)
-    → (text ≡ decimal v) × (v < 2 ^ 32)
+    → (AllDigits 10 text × (0 < length text) × (digits_value 10 text < 2 ^ 64)) × (v ≡ digits_value 10 text)
+    → (text ≡ decimal v) × (v < 2 ^ 64)
 printed_back text v bare h =
     let one : get_or text 0 0 ≡ 48 → length text ≡ 1 =
     λ e. elim (cases_lt 1 (length text)) [ inl more ↦ absurd (bare (inr (e, more))) | inr less ↦ omega (arith, h.0.1) ] in
     let same = decimal-digits_value own text h.0.0 h.0.1 one (omega (arith, h.0.2)) in
     (sym same ∙ ap decimal (sym h.1), omega (arith, h.0.2, h.1))
 
-value_read : {E : Type 0} (text : List ℕ) (r : Result ℕ E) → (HasMore text → ⊥) → ParsesUnsigned 32 10 text r
-    → IfSome (result_ok r) (λ v. (text ≡ decimal v) × (v < 2 ^ 32))
+value_read : {E : Type 0} (text : List ℕ) (r : Result ℕ E) → (HasMore text → ⊥) → ParsesUnsigned 64 10 text r
+    → IfSome (result_ok r) (λ v. (text ≡ decimal v) × (v < 2 ^ 64))
 value_read {E} text (Ok v) bare h =
-    printed_back text v bare (parse_plain own {E = E} 32 text (Ok v) h (λ e. bare (inl e)))
+    printed_back text v bare (parse_plain own {E = E} 64 text (Ok v) h (λ e. bare (inl e)))
 value_read text (Err e) bare h = tt
 
 -- what any other text reads as
-pub number_read : {E : Type 0} (text : List ℕ) (r : Result ℕ E) → (HasMore text → ⊥) → ParsesUnsigned 32 10 text r
-    → Reads number (λ n. n < 2 ^ 32) text (result_ok r)
+pub number_read : {E : Type 0} (text : List ℕ) (r : Result ℕ E) → (HasMore text → ⊥) → ParsesUnsigned 64 10 text r
+    → Reads number (λ n. n < 2 ^ 64) text (result_ok r)
 number_read text r bare h = record {
   value = value_read text r bare h;
-  only = λ n small e. ap result_ok (parse-decimal 32 n text r small (omega arith) e h);
+  only = λ n small e. ap result_ok (parse-decimal 64 n text r small (omega arith) e h);
 }

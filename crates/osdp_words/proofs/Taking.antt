@@ -1,11 +1,13 @@
 -- Words taken from the front, one value after another.
 use Rattle.std.proofs.Common.{◌≡◌, ℕ, zero, suc, ◌+◌, ◌<◌, ◌≤◌, ◌^◌, List, [], ◌∷◌, ◌++◌, length, get_or, take, drop, map, Option, Some, None, refl, sym, ap, subst, ◌∙◌, arith}
 use Rattle.std.proofs.lemmas.Fmt.{decimal_injective}
-use Rattle.std.proofs.lemmas.List.{append_assoc, drop_all, drop_more, take_all}
+use Rattle.std.proofs.lemmas.List.{drop_all, drop_more, take_all}
+use Rattle.std.specs.List.{AllByRecursion}
 use Rattle.std.specs.Prelude.{IfSome}
 use Rattle.hex.specs.Hex.{IsBytes}
 use Rattle.osdp_words.specs.Reading.{Reads, Takes}
 use Rattle.osdp_words.specs.Word.{AllStandFor, StandsFor, Word, number}
+use Rattle.osdp_words.proofs.Lists.{HasTakenAll}
 
 -- ---- a word
 
@@ -36,37 +38,13 @@ one_taken word Allowed given left text r e h = record {
 -- ---- numbers, each a word of its own
 
 -- the numbers that were taken
-pub record HasTaken (given : List (List ℕ)) (ns : List ℕ) (left : List (List ℕ)) : Type 0 where
-  pub front : List (List ℕ)
-  pub whole : given ≡ front ++ left
-  pub stand : AllStandFor (map number ns) front
-  pub fits : IsBytes ns
+abbrev pub HasTaken : List (List ℕ) → List ℕ → List (List ℕ) → Type 0
+HasTaken = HasTakenAll number (λ n. n < 2 ^ 8)
 
-pub none_taken : (given : List (List ℕ)) → HasTaken given [] given
-none_taken given = record { front = []; whole = refl; stand = tt; fits = λ k. omega arith }
-
-stand_more : (ns : List ℕ) (v : ℕ) (front first : List (List ℕ)) → AllStandFor (map number ns) front → AllStandFor (number v ∷ []) first
-    → AllStandFor (map number (ns ++ v ∷ [])) (front ++ first)
-stand_more [] v [] first h stands = stands
-stand_more [] v (text ∷ front) first h stands = absurd h
-stand_more (n ∷ ns) v [] first h stands = absurd h
-stand_more (n ∷ ns) v (text ∷ front) first h stands = (h.0, stand_more ns v front first h.1 stands)
-
-fits_more : (ns : List ℕ) (v : ℕ) → IsBytes ns → v < 256 → IsBytes (ns ++ v ∷ [])
-fits_more [] v h small zero = small
-fits_more [] v h small (suc k) = omega arith
-fits_more (n ∷ ns) v h small zero = h 0
-fits_more (n ∷ ns) v h small (suc k) = fits_more ns v (λ j. h (suc j)) small k
-
--- one more
-pub more_taken : (given mid left : List (List ℕ)) (ns : List ℕ) (v : ℕ) → HasTaken given ns mid
-    → Takes (λ n. number n ∷ []) (λ n. n < 2 ^ 8) mid left (Some v) → HasTaken given (ns ++ v ∷ []) left
-more_taken given mid left ns v so_far h = record {
-  front = so_far.front ++ h.value.0;
-  whole = so_far.whole ∙ ap (λ (rest : List (List ℕ)). so_far.front ++ rest) h.value.1 ∙ sym (append_assoc so_far.front h.value.0 left);
-  stand = stand_more ns v so_far.front h.value.0 so_far.stand h.value.2;
-  fits = fits_more ns v so_far.fits h.value.3;
-}
+are_bytes : (ns : List ℕ) → AllByRecursion (λ n. n < 2 ^ 8) ns → IsBytes ns
+are_bytes [] h k = omega arith
+are_bytes (n ∷ ns) h zero = h.0
+are_bytes (n ∷ ns) h (suc k) = are_bytes ns h.1 k
 
 -- what else may have been given for numbers that begin with those
 rest_of : (ns ms : List ℕ) (front mid first rest : List (List ℕ)) → IsBytes ns → IsBytes ms → length ns ≤ length ms
@@ -101,9 +79,9 @@ first_of others mid rest text more e split = e ∙ ap (λ (all : List (List ℕ)
 pub all_taken : (given left : List (List ℕ)) (found : List ℕ) (n : ℕ) → HasTaken given found left → length found ≡ n
     → Takes (λ ns. map number ns) (λ ns. (length ns ≡ n) × IsBytes ns) given left (Some found)
 all_taken given left found n h len = record {
-  value = (h.front, h.whole, h.stand, (len, h.fits));
+  value = (h.front, h.whole, h.stand, (len, are_bytes found h.allowed));
   only = λ ms first rest allowed e stands.
-      let r = rest_of found ms h.front left first rest h.fits allowed.1 (omega arith) h.stand stands (sym h.whole ∙ e) in
+      let r = rest_of found ms h.front left first rest (are_bytes found h.allowed) allowed.1 (omega arith) h.stand stands (sym h.whole ∙ e) in
       let done : drop (length found) ms ≡ [] = drop_all (length found) ms (omega arith) in
       let none = nothing_left (drop (length found) ms) r.1.0 done r.1.2 in
       (ap Some (r.0 ∙ take_all (length found) ms (omega arith)), r.1.1 ∙ ap (λ (others : List (List ℕ)). others ++ rest) none);
@@ -116,7 +94,7 @@ pub one_missing : (given mid left : List (List ℕ)) (ns : List ℕ) (n : ℕ) �
 one_missing given mid left ns n h short unread = record {
   value = tt;
   only = λ ms first rest allowed e stands.
-      let r = rest_of ns ms h.front mid first rest h.fits allowed.1 (omega arith) h.stand stands (sym h.whole ∙ e) in
+      let r = rest_of ns ms h.front mid first rest (are_bytes ns h.allowed) allowed.1 (omega arith) h.stand stands (sym h.whole ∙ e) in
       let next : drop (length ns) ms ≡ get_or ms (length ns) 0 ∷ drop (length ns + 1) ms = drop_more ms (length ns) 0 (omega arith) in
       let P : List ℕ → Type 0 = λ xs. AllStandFor (map number xs) r.1.0 in
       let one = one_left (get_or ms (length ns) 0) (drop (length ns + 1) ms) r.1.0 (subst P next r.1.2) in

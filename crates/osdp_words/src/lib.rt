@@ -26,7 +26,7 @@ pub use crate::laws::{
     are_all_words, has_one_list, has_one_result, has_one_word, is_decimal, is_decoded,
     joins_by_spaces, joins_words, parts_at_colons, parts_at_spaces, stands_for_itself,
 };
-pub use crate::numbers::{number_u8, number_u16, number_u32};
+pub use crate::numbers::{number_u8, number_u16, number_u32, number_u64};
 pub use crate::printing::{ByteList, Record};
 pub use crate::records::record;
 pub use crate::splitting::{all_words_in, words_in};

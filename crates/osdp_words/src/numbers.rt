@@ -18,10 +18,17 @@ pub fn number_u16(word: &str) -> Option<u16>
     u16::try_from(number_u32(word)?).ok()
 }
 
-/// The number from 0 to 4,294,967,295 that a decimal word stands for: digits with no sign, and with no
-/// leading zero but that of `0` itself.
+/// The number from 0 to 4,294,967,295 that a decimal word stands for.
 pub fn number_u32(word: &str) -> Option<u32>
     ensures { Reads number (λ n. n < 2 ^ 32) word.now result }
+{
+    u32::try_from(number_u64(word)?).ok()
+}
+
+/// The number from 0 to the greatest `u64` that a decimal word stands for: digits with no sign, and with no
+/// leading zero but that of `0` itself.
+pub fn number_u64(word: &str) -> Option<u64>
+    ensures { Reads number (λ n. n < 2 ^ 64) word.now result }
 {
     if has_sign_or_leading_zero(word.as_bytes()) {
         return None;

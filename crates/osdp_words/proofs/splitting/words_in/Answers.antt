@@ -1,15 +1,14 @@
-use Rattle.std.proofs.Common.{◌≡◌, ◌++◌, arith, [], ◌∷◌, length, sym, subst, ap, ◌∙◌}
+use Rattle.std.proofs.Common.{◌≡◌, ◌++◌, arith, [], ◌∷◌, length, sym, ap, ◌∙◌}
 use Rattle.std.proofs.lemmas.Bool.{eqb-true}
-use Rattle.std.proofs.lemmas.List.{length-append, length-map, map-append}
+use Rattle.std.proofs.lemmas.List.{length-append, length-map}
 use Rattle.osdp_words.specs.Word.{texts, words_in}
-use Rattle.osdp_words.proofs.Cutting.{IsCutTo, all_taken, begun, no_more, passed, taken}
+use Rattle.osdp_words.proofs.Cutting.{all_taken, lent_begun, lent_taken, no_more, passed, taken}
 use Rattle.osdp_words.proofs.splitting.words_in.Goals as goal
 
 pub loop-word-init : goal.loop-word-init
 loop-word-init g c =
-    let none = subst (λ words. IsCutTo (words_in c.args.line.now) (texts words) c.split-word-items.result) (sym c.new-words.ensures)
-    (begun c.args.line.now c.split-word-items.result c.split-word-items.ensures.text c.split-word-items.ensures.has_more c.split-word-items.ensures.pattern) in
-    (tt, tt, subst (λ s. IsCutTo (words_in c.args.line.now) (texts c.new-words.result.items) s) (sym c.into_iter-word-iterator.ensures.into_iter_gives) none)
+    let items = c.split-word-items in
+    (tt, tt, lent_begun c.args.line.now c.new-words.result.items items.result _ items.ensures.text items.ensures.has_more items.ensures.pattern c.new-words.ensures c.into_iter-word-iterator.ensures.into_iter_gives)
 
 -- with the word for which there is no place there are too many
 pub returns-then-is_full : goal.returns-then-is_full
@@ -25,15 +24,12 @@ returns-then-is_full g c =
     omega (arith, full, count, few, more)
 
 pub loop-word-preserved-then-not-is_empty : goal.loop-word-preserved-then-not-is_empty
-loop-word-preserved-then-not-is_empty g c =
-    let all = words_in c.args.line.now in
-    let one_more = taken all (texts c.loop-word.words.items) c.loop-word.word-iterator c.next.new.self c.in-Some.word c.loop-word.invariant.2 c.in-Some.ensures.steps
-    (sym c.is_empty.ensures ∙ c.if-not-is_empty.true) in (
-      tt,
-      tt,
-      subst (λ words. IsCutTo all words c.next.new.self)
-          (sym (ap texts c.push.ensures.items ∙ map-append (λ x. x.now) c.loop-word.words.items (c.in-Some.word ∷ []))) one_more,
-    )
+loop-word-preserved-then-not-is_empty g c = (
+  tt,
+  tt,
+  lent_taken (words_in c.args.line.now) c.loop-word.words.items _ c.loop-word.word-iterator c.next.new.self c.in-Some.word c.loop-word.invariant.2
+      c.in-Some.ensures.steps (sym c.is_empty.ensures ∙ c.if-not-is_empty.true) c.push.ensures.items,
+)
 
 pub loop-word-preserved : goal.loop-word-preserved
 loop-word-preserved g c = (

@@ -1,7 +1,7 @@
 use Rattle.std.proofs.Common.{sym, ◌∙◌}
 use Rattle.std.proofs.lemmas.Bool.{false≢true}
-use Rattle.osdp_reader_calls.proofs.Decimals.{none_read, number_read}
-use Rattle.osdp_reader_calls.proofs.call.number_u64.Goals as goal
+use Rattle.osdp_words.proofs.Decimal.{none_read, number_read}
+use Rattle.osdp_words.proofs.numbers.number_u64.Goals as goal
 
 pub returns-then-has_sign_or_leading_zero : goal.returns-then-has_sign_or_leading_zero
 returns-then-has_sign_or_leading_zero c = none_read c.args.word.now (rw c.as_bytes.ensures.value at (c.has_sign_or_leading_zero.ensures.0 c.if-has_sign_or_leading_zero.true))
