@@ -4,26 +4,6 @@ use std::alloc::{AllocError, Global};
 use std::process::Abort;
 use std::test::Fail;
 
-const LINES: Mode = Mode {
-    raw: false,
-    join: false,
-};
-
-const RAW: Mode = Mode {
-    raw: true,
-    join: false,
-};
-
-const JOIN: Mode = Mode {
-    raw: false,
-    join: true,
-};
-
-const RAW_JOIN: Mode = Mode {
-    raw: true,
-    join: true,
-};
-
 /// The job of a text's words: what stands between its bars.
 fn job_of(alloc: Global, text: &str) -> Result<Result<Job, ToolFault>, AllocError> {
     let words: Vec<&str> = text.split('|').collect(alloc)?;
@@ -31,23 +11,29 @@ fn job_of(alloc: Global, text: &str) -> Result<Result<Job, ToolFault>, AllocErro
 }
 
 /// The options, each after a bar, make this mode of both commands that have one.
-fn is_mode(rt: &impl Abort, alloc: Global, options: &str, mode: Mode) -> Result<(), Fail> {
-    let mut text = String::from_str(alloc, "show")?;
-    text.push_str(options)?;
-    assert_eq!(rt; job_of(alloc, text.as_str())?, Ok(Job::Show(mode)));
-    let mut text = String::from_str(alloc, "check")?;
-    text.push_str(options)?;
-    assert_eq!(rt; job_of(alloc, text.as_str())?, Ok(Job::Check(mode)));
+fn is_mode(
+    rt: &impl Abort,
+    alloc: Global,
+    options: &str,
+    raw: bool,
+    join: bool,
+) -> Result<(), Fail> {
+    let mode = Mode { raw, join };
+    for (command, wanted) in [("show", Job::Show(mode)), ("check", Job::Check(mode))] {
+        let mut text = String::from_str(alloc, command)?;
+        text.push_str(options)?;
+        assert_eq!(rt; job_of(alloc, text.as_str())?, Ok(wanted));
+    }
     Ok(())
 }
 
 #[test]
 fn options_stand_in_any_order(rt: HostRuntime) -> Result<(), Fail> {
-    is_mode(&rt, rt.alloc(), "", LINES)?;
-    is_mode(&rt, rt.alloc(), "|--raw", RAW)?;
-    is_mode(&rt, rt.alloc(), "|--join", JOIN)?;
-    is_mode(&rt, rt.alloc(), "|--raw|--join", RAW_JOIN)?;
-    is_mode(&rt, rt.alloc(), "|--join|--raw", RAW_JOIN)
+    is_mode(&rt, rt.alloc(), "", false, false)?;
+    is_mode(&rt, rt.alloc(), "|--raw", true, false)?;
+    is_mode(&rt, rt.alloc(), "|--join", false, true)?;
+    is_mode(&rt, rt.alloc(), "|--raw|--join", true, true)?;
+    is_mode(&rt, rt.alloc(), "|--join|--raw", true, true)
 }
 
 /// Words of no job: a bar between each two, and a semicolon between lists.

@@ -3,7 +3,7 @@ mod rows;
 mod streams;
 mod vectors;
 
-use osdp_tool_job::Mode;
+use osdp_tool_job::{Job, Mode};
 use osdp_tool_show::{check, show};
 use osdp_tool_streams::{ToolFault, Watched};
 use std::alloc::Global;
@@ -25,6 +25,14 @@ const RAW: Mode = Mode {
     join: false,
 };
 
+const SHOW_LINES: Job = Job::Show(LINES);
+
+const CHECK_LINES: Job = Job::Check(LINES);
+
+const SHOW_JOINED: Job = Job::Show(JOINED);
+
+const SHOW_RAW: Job = Job::Show(RAW);
+
 /// A packet of seven bytes, POLL to address 0 with a checksum, as a line.
 const POLL_LINE: &str = "53 00 07 00 00 60 46\n";
 
@@ -32,28 +40,17 @@ const POLL_TEXT: &str = "1:0 cmd 0 seq 0 sum POLL\n";
 
 type Shown = (Result<bool, ToolFault>, Vec<u8>);
 
-/// What `show` answers and prints for what this reader gives.
-fn shown_from<R: Read>(alloc: Global, mode: Mode, input: &mut R) -> Shown {
-    let mut output = Vec::new(alloc);
-    let answer = show(
-        alloc,
-        mode,
-        &mut Watched::new(input),
-        &mut Watched::new(&mut output),
-    );
-    (answer, output)
-}
-
-/// What `check` answers and prints for what this reader gives.
-fn checked_from<R: Read>(alloc: Global, mode: Mode, input: &mut R) -> Shown {
-    let mut output = Vec::new(alloc);
-    let answer = check(
-        alloc,
-        mode,
-        &mut Watched::new(input),
-        &mut Watched::new(&mut output),
-    );
-    (answer, output)
+/// What a command that reads a capture answers and prints for what this reader gives.
+fn told_from<R: Read>(alloc: Global, job: Job, input: &mut R) -> Shown {
+    let mut printed = Vec::new(alloc);
+    let mut input = Watched::new(input);
+    let mut output = Watched::new(&mut printed);
+    let answer = match job {
+        Job::Show(mode) => show(alloc, mode, &mut input, &mut output),
+        Job::Check(mode) => check(alloc, mode, &mut input, &mut output),
+        Job::Make | Job::Sim => Err(ToolFault::BadWords),
+    };
+    (answer, printed)
 }
 
 fn expect(rt: &impl Abort, shown: &Shown, answer: Result<bool, ToolFault>, text: &str) {
@@ -61,30 +58,17 @@ fn expect(rt: &impl Abort, shown: &Shown, answer: Result<bool, ToolFault>, text:
     assert_eq!(rt; shown.1.as_slice(), text.as_bytes());
 }
 
-/// `show` of these bytes answers and prints so.
-fn expect_shown(
+/// The command, of these bytes, answers and prints so.
+fn expect_told(
     rt: &impl Abort,
     alloc: Global,
-    mode: Mode,
+    job: Job,
     input: &[u8],
     answer: Result<bool, ToolFault>,
     text: &str,
 ) {
     let mut input = input;
-    expect(rt, &shown_from(alloc, mode, &mut input), answer, text);
-}
-
-/// `check` of these bytes answers and prints so.
-fn expect_checked(
-    rt: &impl Abort,
-    alloc: Global,
-    mode: Mode,
-    input: &[u8],
-    answer: Result<bool, ToolFault>,
-    text: &str,
-) {
-    let mut input = input;
-    expect(rt, &checked_from(alloc, mode, &mut input), answer, text);
+    expect(rt, &told_from(alloc, job, &mut input), answer, text);
 }
 
 /// `show` of each row's input, its lines apart, prints the row's text, and answers so. A bar stands between the
@@ -92,6 +76,6 @@ fn expect_checked(
 fn expect_rows(rt: &impl Abort, alloc: Global, rows: &str, answer: Result<bool, ToolFault>) {
     for row in rows.split(';') {
         let (input, text) = row.split_once('|').expect(rt, "a bar");
-        expect_shown(rt, alloc, LINES, input.as_bytes(), answer, text);
+        expect_told(rt, alloc, SHOW_LINES, input.as_bytes(), answer, text);
     }
 }

@@ -4,6 +4,7 @@ use super::*;
 use crate::faulty::{Pieces, Refusal, make_pieces, make_sink};
 use std::io;
 use std::io::ErrorKind;
+use std::ops::Range;
 
 /// A refused packet, and a byte on a line of its own.
 const REFUSED: &[u8] = b"53000700006047\nFF\n";
@@ -14,6 +15,13 @@ const COUNTED: &str = "1:0 refused F3\nruns 2 packets 0 skipped 7 refused 1\n";
 
 /// A byte that is skipped, and a packet.
 const SKIPPED: &[u8] = &[0xFF, 0x53, 0x00, 0x07, 0x00, 0x00, 0x60, 0x46];
+
+const SKIP_TEXT: &str = "1:0 skip FF\n";
+
+const BOTH_TEXT: &str = "1:0 skip FF\n1:1 cmd 0 seq 0 sum POLL\n";
+
+/// A packet over two lines.
+const JOINED_LINES: &[u8] = b"5300\n0700006046\n";
 
 /// These parts, one a read, and then a read that fails.
 #[derive(Drop)]
@@ -38,57 +46,61 @@ fn one_a_read(bytes: &[u8], failing_call: u64) -> Pieces<'_> {
     make_pieces(bytes, 1, failing_call, ErrorKind::Other)
 }
 
-#[test]
-fn a_check_tells_each_failed_read(rt: HostRuntime) {
-    let alloc = rt.alloc();
-    // The first line feed is the 15th byte; the 19th read would find the end.
-    for call in 1..20u64 {
-        let shown = checked_from(alloc, LINES, &mut one_a_read(REFUSED, call));
-        let text = if call < 16 { "" } else { REFUSAL };
-        expect(&rt, &shown, Err(ToolFault::ReadFailed), text);
+/// The bytes come one a read. Where the read of one of these numbers fails this text is printed, and the
+/// failure is told.
+fn expect_cut(
+    rt: &impl Abort,
+    alloc: Global,
+    job: Job,
+    bytes: &[u8],
+    calls: Range<u64>,
+    text: &str,
+) {
+    for call in calls {
+        let shown = told_from(alloc, job, &mut one_a_read(bytes, call));
+        expect(rt, &shown, Err(ToolFault::ReadFailed), text);
     }
-    let shown = checked_from(alloc, LINES, &mut one_a_read(REFUSED, 20));
-    expect(&rt, &shown, Ok(true), COUNTED);
 }
 
+/// Of the refused lines the first ends with the 15th byte, of the joined ones the second with the 16th. The
+/// skipped byte is the first of its bytes, and the packet's last is the eighth. The read after the last byte
+/// would find the end.
 #[test]
-fn raw_bytes_are_shown_up_to_each_failed_read(rt: HostRuntime) {
-    let alloc = rt.alloc();
-    let both = "1:0 skip FF\n1:1 cmd 0 seq 0 sum POLL\n";
-    // The skipped byte is the first, the packet's last byte the eighth.
-    for call in 1..10u64 {
-        let shown = shown_from(alloc, RAW, &mut one_a_read(SKIPPED, call));
-        let text = match call {
-            1 => "",
-            9 => both,
-            _ => "1:0 skip FF\n",
-        };
-        expect(&rt, &shown, Err(ToolFault::ReadFailed), text);
+fn failed_reads_cut_what_is_told(rt: HostRuntime) {
+    let rows: [(Job, &[u8], Range<u64>, &str); 7] = [
+        (CHECK_LINES, REFUSED, 1..16, ""),
+        (CHECK_LINES, REFUSED, 16..20, REFUSAL),
+        (SHOW_RAW, SKIPPED, 1..2, ""),
+        (SHOW_RAW, SKIPPED, 2..9, SKIP_TEXT),
+        (SHOW_RAW, SKIPPED, 9..10, BOTH_TEXT),
+        (SHOW_JOINED, JOINED_LINES, 1..17, ""),
+        (SHOW_JOINED, JOINED_LINES, 17..18, POLL_TEXT),
+    ];
+    for (job, bytes, calls, text) in rows {
+        expect_cut(&rt, rt.alloc(), job, bytes, calls, text);
     }
-    let shown = shown_from(alloc, RAW, &mut one_a_read(SKIPPED, 10));
-    expect(&rt, &shown, Ok(false), both);
 }
 
+/// The end is found once, and no read of a later number is tried.
 #[test]
-fn joined_lines_are_shown_up_to_each_failed_read(rt: HostRuntime) {
-    let alloc = rt.alloc();
-    let lines = b"5300\n0700006046\n";
-    // The packet is whole once its second line has ended, with the 16th byte.
-    for call in 1..18u64 {
-        let shown = shown_from(alloc, JOINED, &mut one_a_read(lines, call));
-        let text = if call < 17 { "" } else { POLL_TEXT };
-        expect(&rt, &shown, Err(ToolFault::ReadFailed), text);
+fn bytes_one_a_read_are_told_whole(rt: HostRuntime) {
+    let rows: [(Job, &[u8], u64, Result<bool, ToolFault>, &str); 3] = [
+        (CHECK_LINES, REFUSED, 20, Ok(true), COUNTED),
+        (SHOW_RAW, SKIPPED, 10, Ok(false), BOTH_TEXT),
+        (SHOW_JOINED, JOINED_LINES, 18, Ok(false), POLL_TEXT),
+    ];
+    for (job, bytes, call, answer, text) in rows {
+        let shown = told_from(rt.alloc(), job, &mut one_a_read(bytes, call));
+        expect(&rt, &shown, answer, text);
     }
-    let shown = shown_from(alloc, JOINED, &mut one_a_read(lines, 18));
-    expect(&rt, &shown, Ok(false), POLL_TEXT);
 }
 
 #[test]
 fn parts_are_shown_up_to_a_failed_read(rt: HostRuntime) {
     let alloc = rt.alloc();
     let parts: [&[u8]; 2] = [&[0xFF], &[0x53, 0x00]];
-    let shown = shown_from(alloc, RAW, &mut Parts { left: &parts });
-    expect(&rt, &shown, Err(ToolFault::ReadFailed), "1:0 skip FF\n");
+    let shown = told_from(alloc, SHOW_RAW, &mut Parts { left: &parts });
+    expect(&rt, &shown, Err(ToolFault::ReadFailed), SKIP_TEXT);
 }
 
 /// The output of a check whose write of this number fails, or each flush, and what it answers.
@@ -128,6 +140,13 @@ fn a_check_tells_each_failed_write(rt: HostRuntime) {
 fn a_comment_is_counted_as_a_line(rt: HostRuntime) {
     let alloc = rt.alloc();
     let lines = b"# a capture\n\n5\n";
-    expect_shown(&rt, alloc, LINES, lines, Err(ToolFault::NotHex(3)), "");
-    expect_shown(&rt, alloc, JOINED, lines, Err(ToolFault::NotHex(3)), "");
+    expect_told(&rt, alloc, SHOW_LINES, lines, Err(ToolFault::NotHex(3)), "");
+    expect_told(
+        &rt,
+        alloc,
+        SHOW_JOINED,
+        lines,
+        Err(ToolFault::NotHex(3)),
+        "",
+    );
 }

@@ -42,75 +42,53 @@ const REFUSED: &str = "\
 #[test]
 fn inputs_are_shown(rt: HostRuntime) {
     expect_rows(&rt, rt.alloc(), SHOWN, Ok(false));
-}
-
-#[test]
-fn refused_inputs_are_shown(rt: HostRuntime) {
     expect_rows(&rt, rt.alloc(), REFUSED, Ok(true));
 }
 
 #[test]
 fn joined_inputs_are_shown(rt: HostRuntime) {
-    expect_shown(
-        &rt,
-        rt.alloc(),
-        JOINED,
-        b"530007\n00006046\n",
-        Ok(false),
-        POLL_TEXT,
-    );
-    expect_shown(&rt, rt.alloc(), BOTH, b"\xFF", Ok(false), "1:0 skip FF\n");
+    let alloc = rt.alloc();
+    let lines = b"530007\n00006046\n";
+    expect_told(&rt, alloc, SHOW_JOINED, lines, Ok(false), POLL_TEXT);
+    let both = Job::Show(BOTH);
+    expect_told(&rt, alloc, both, b"\xFF", Ok(false), "1:0 skip FF\n");
 }
 
+/// What stands before a bad line is told.
 #[test]
 fn bad_lines_are_told(rt: HostRuntime) {
-    let not_hex = Err(ToolFault::NotHex(1));
-    expect_shown(&rt, rt.alloc(), LINES, b"5", not_hex, "");
-    let not_hex = Err(ToolFault::NotHex(3));
-    expect_shown(
-        &rt,
-        rt.alloc(),
-        LINES,
-        b"\nFF\n5G\nFE\n",
-        not_hex,
-        "1:0 skip FF\n",
-    );
-    let not_hex = Err(ToolFault::NotHex(2));
-    expect_shown(
-        &rt,
-        rt.alloc(),
-        JOINED,
-        b"53\nx\n00\n",
-        not_hex,
-        "1:0 refused F4\n",
-    );
+    let rows: [(Job, &[u8], u64, &str); 3] = [
+        (SHOW_LINES, b"5", 1, ""),
+        (SHOW_LINES, b"\nFF\n5G\nFE\n", 3, "1:0 skip FF\n"),
+        (SHOW_JOINED, b"53\nx\n00\n", 2, "1:0 refused F4\n"),
+    ];
+    for (job, input, line, text) in rows {
+        let not_hex = Err(ToolFault::NotHex(line));
+        expect_told(&rt, rt.alloc(), job, input, not_hex, text);
+    }
 }
 
 /// The line of counts stands after the refusals, and after what came before a bad line.
 #[test]
 fn refusals_and_counts_are_told(rt: HostRuntime) {
+    let alloc = rt.alloc();
     let counts = "1:0 refused F3\nruns 1 packets 0 skipped 6 refused 1\n";
-    expect_checked(
-        &rt,
-        rt.alloc(),
-        LINES,
-        b"53000700006047\n",
-        Ok(true),
-        counts,
-    );
+    let input = b"53000700006047\n";
+    expect_told(&rt, alloc, CHECK_LINES, input, Ok(true), counts);
     let counts =
         "2:0 cmd 0 seq 0 sum refused M2 code 60 01\nruns 2 packets 2 skipped 0 refused 1\n";
     let input = b"\n53000700006046\n#\n5300080000600144\n";
-    expect_checked(&rt, rt.alloc(), LINES, input, Ok(true), counts);
+    expect_told(&rt, alloc, CHECK_LINES, input, Ok(true), counts);
 }
 
 #[test]
 fn inputs_are_counted(rt: HostRuntime) {
+    let alloc = rt.alloc();
     let counts = "runs 0 packets 0 skipped 0 refused 0\n";
-    expect_checked(&rt, rt.alloc(), LINES, b"", Ok(false), counts);
+    expect_told(&rt, alloc, CHECK_LINES, b"", Ok(false), counts);
     let counts = "runs 1 packets 0 skipped 1 refused 0\n";
     let not_hex = Err(ToolFault::NotHex(2));
-    expect_checked(&rt, rt.alloc(), LINES, b"FF\nFF FF F\n", not_hex, counts);
+    expect_told(&rt, alloc, CHECK_LINES, b"FF\nFF FF F\n", not_hex, counts);
 }
 
 /// The largest packet, of 1440 bytes, with this byte as the low one of its length.
@@ -135,16 +113,11 @@ fn largest_packet_is_shown(rt: HostRuntime) -> Result<(), Fail> {
     }
     text.push_str("\n")?;
     let line = largest(alloc, "A0")?;
-    expect_shown(&rt, alloc, LINES, line.as_bytes(), Ok(false), text.as_str());
+    let input = line.as_bytes();
+    expect_told(&rt, alloc, SHOW_LINES, input, Ok(false), text.as_str());
     let line = largest(alloc, "A1")?;
-    expect_checked(
-        &rt,
-        alloc,
-        LINES,
-        line.as_bytes(),
-        Ok(true),
-        "1:0 refused F2\nruns 1 packets 0 skipped 1439 refused 1\n",
-    );
+    let counts = "1:0 refused F2\nruns 1 packets 0 skipped 1439 refused 1\n";
+    expect_told(&rt, alloc, CHECK_LINES, line.as_bytes(), Ok(true), counts);
     Ok(())
 }
 
@@ -162,17 +135,11 @@ fn beginnings_of_a_raw_packet(rt: HostRuntime) -> Result<(), Fail> {
     let mut text = String::new(alloc);
     for count in 1..8 {
         text.push_str(lines.next().ok_or("a line")?)?;
-        expect_shown(
-            &rt,
-            alloc,
-            RAW,
-            &CRC_PACKET[..count],
-            Ok(true),
-            text.as_str(),
-        );
+        let cut = &CRC_PACKET[..count];
+        expect_told(&rt, alloc, SHOW_RAW, cut, Ok(true), text.as_str());
     }
     let packet = "1:0 cmd 0 seq 0 crc POLL\n";
-    expect_shown(&rt, alloc, RAW, &CRC_PACKET, Ok(false), packet);
+    expect_told(&rt, alloc, SHOW_RAW, &CRC_PACKET, Ok(false), packet);
     Ok(())
 }
 
@@ -185,6 +152,7 @@ fn long_texts_are_written_whole(rt: HostRuntime) -> Result<(), Fail> {
         noise.push(0xFE)?;
         write!(text, "1:{place} skip FE\n")?;
     }
-    expect_shown(&rt, alloc, RAW, noise.as_slice(), Ok(false), text.as_str());
+    let input = noise.as_slice();
+    expect_told(&rt, alloc, SHOW_RAW, input, Ok(false), text.as_str());
     Ok(())
 }

@@ -28,7 +28,7 @@ fn expect_failed(
     text: &str,
 ) {
     let mut input = make_pieces(bytes, most, failing_call, ErrorKind::Other);
-    let shown = shown_from(alloc, RAW, &mut input);
+    let shown = told_from(alloc, SHOW_RAW, &mut input);
     expect(rt, &shown, Err(ToolFault::ReadFailed), text);
 }
 
@@ -44,12 +44,12 @@ fn failed_reads_are_told(rt: HostRuntime) {
     let failed = Err(ToolFault::ReadFailed);
     // The line feed is the 21st byte: five reads of four bytes come before the one that has it.
     for call in 1..7 {
-        let shown = shown_from(alloc, LINES, &mut poll_pieces(4, call));
+        let shown = told_from(alloc, SHOW_LINES, &mut poll_pieces(4, call));
         expect(&rt, &shown, failed, "");
     }
-    let shown = shown_from(alloc, LINES, &mut poll_pieces(4, 7));
+    let shown = told_from(alloc, SHOW_LINES, &mut poll_pieces(4, 7));
     expect(&rt, &shown, failed, POLL_TEXT);
-    let shown = shown_from(alloc, LINES, &mut poll_pieces(4, 8));
+    let shown = told_from(alloc, SHOW_LINES, &mut poll_pieces(4, 8));
     expect(&rt, &shown, Ok(false), POLL_TEXT);
 }
 

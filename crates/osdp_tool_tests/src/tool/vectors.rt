@@ -46,10 +46,6 @@ const REFUSED: &str = "\
 #[test]
 fn messages_are_shown(rt: HostRuntime) {
     expect_rows(&rt, rt.alloc(), READ, Ok(false));
-}
-
-#[test]
-fn refused_messages_are_shown(rt: HostRuntime) {
     expect_rows(&rt, rt.alloc(), REFUSED, Ok(true));
 }
 
@@ -96,10 +92,10 @@ fn expect_large(rt: &impl Abort, alloc: Global, row: &str) -> Result<(), Fail> {
     };
     let digits = repeated(alloc, head, "FF", bytes, check)?;
     let text = repeated(alloc, front, item, items, "\n")?;
-    expect_shown(
+    expect_told(
         rt,
         alloc,
-        LINES,
+        SHOW_LINES,
         digits.as_bytes(),
         Ok(false),
         text.as_str(),
