@@ -15,10 +15,7 @@ pub fn stands_on_one_bus<H: Handler>()
     osdp_sim::laws::reads_packets();
     osdp_frame_laws::one_spelling();
     osdp_frame_laws::spelling_of_bytes();
-    osdp_bus_links::submits_as_a_move::<H>();
-    osdp_bus_links::begins_as_a_move::<H>();
-    osdp_bus_links::ticks_as_a_move::<H>();
-    osdp_bus_links::hears_as_a_move::<H>();
+    osdp_bus_links::calls_are_moves::<H>();
 }
 
 /// Each step of a schedule that isn't refused is a list of moves of several links: the simulated line follows it, with the bus as their

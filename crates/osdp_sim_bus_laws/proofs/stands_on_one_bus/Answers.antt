@@ -4,10 +4,10 @@ use Rattle.osdp_sim_bus_laws.proofs.stands_on_one_bus.Goals as goal
 
 pub returns : goal.returns
 returns g c = record {
-  submits = c.submits_as_a_move.ensures;
-  begins = c.begins_as_a_move.ensures;
-  ticks = c.ticks_as_a_move.ensures;
-  hears = c.hears_as_a_move.ensures;
+  submits = c.calls_are_moves.ensures.submits;
+  begins = c.calls_are_moves.ensures.begins;
+  ticks = c.calls_are_moves.ensures.ticks;
+  hears = c.calls_are_moves.ensures.hears;
   reads = record {
     one = λ p packet. c.reads_packets.ensures.one p (spelling p) ((c.one_spelling.ensures p (spelling p)).1 (packet, refl));
     none = c.reads_packets.ensures.none;

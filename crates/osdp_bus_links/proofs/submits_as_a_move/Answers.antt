@@ -1,5 +1,0 @@
-use Rattle.osdp_bus_links.proofs.Calls.{submits_as_a_move}
-use Rattle.osdp_bus_links.proofs.submits_as_a_move.Goals as goal
-
-pub returns : goal.returns
-returns g c = submits_as_a_move g.H.Handler.answer_of g.H.Handler.after
