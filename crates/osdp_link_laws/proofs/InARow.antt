@@ -277,10 +277,14 @@ module _ {H : Type 0} (answer_of : H → Command → Answer) (after : H → Comm
         row = tt;
       })
 
+  -- of the reader of a link
+  pub assumed_of : ReadEachOther answer_of after → (l : Link H) → Assumed answer_of after l.reader.config l.reader.handler
+  assumed_of peers l = assumed answer_of after l.reader.config l.reader.handler peers
+
   stands : ReadEachOther answer_of after → (l : Link H) (moves : List Move) → Begins l → MovesFit answer_of after moves l
       → Stands answer_of after l.reader.config l.reader.handler (run answer_of after moves l)
   stands peers l moves b fits =
-      running answer_of after l.reader.config l.reader.handler (assumed answer_of after l.reader.config l.reader.handler peers) moves l fits (begins l b)
+      running answer_of after l.reader.config l.reader.handler (assumed_of peers l) moves l fits (begins l b)
 
   pub all_once : (l : Link H) (moves : List Move) → Assumed answer_of after l.reader.config l.reader.handler → Begins l → MovesFit answer_of after moves l
       → let later = run answer_of after moves l in AreOnce answer_of after l.reader.config l.reader.handler (later.account ∷ later.earlier)
@@ -304,7 +308,7 @@ module _ {H : Type 0} (answer_of : H → Command → Answer) (after : H → Comm
       → Placed (l.controller.waiting ++ all_submitted answer_of after moves l) (l.reader.queue.events ++ all_queued answer_of after moves l)
       (run answer_of after moves l)
   have_places peers l moves b fits =
-      let given = assumed answer_of after l.reader.config l.reader.handler peers in
+      let given = assumed_of peers l in
       all_placed answer_of after l.reader.config l.reader.handler given moves l l.controller.waiting l.reader.queue.events fits (begins l b) (record {
         commands = sym (ap (λ t. t.issued) b.account) ∙ sym (ap (λ earlier. ended_commands earlier ++ l.account.issued) b.earlier);
         events = ([], subst (λ earlier. HaveLeft l.reader.queue.events earlier []) (sym b.earlier) refl, sym (ap (λ t. t.queued) b.account));
