@@ -1,11 +1,11 @@
 //! The calls of a panel, for C.
 
-ghost use Rattle.std.specs.Prelude.{◌≡◌, Option};
+ghost use Rattle.std.specs.Prelude.{◌≡◌, Option, Some};
 ghost use Rattle.std.specs.Result.{result_map_both};
 ghost use Rattle.osdp_msg.specs.declared.command.Command.{Command as Ordered};
 ghost use Rattle.osdp_bus.specs.Settings.{default_config};
 ghost use Rattle.osdp_frame.specs.declared.check_kind.CheckKind.TheVariants.{Crc};
-ghost use Rattle.osdp_c_values.specs.Settings.{bus_config_of, settings_of};
+ghost use Rattle.osdp_c_values.specs.Settings.{bus_config_of};
 ghost use Rattle.osdp_c.specs.Addresses.{device_address};
 ghost use Rattle.osdp_c.specs.Calls.{IsDone, calls, frees, writes};
 ghost use Rattle.osdp_c.specs.CommandTexts.{IsReadCommand};
@@ -23,7 +23,7 @@ use std::alloc::Global;
 /// Writes the default settings: those of a bus with a CRC, and room for 16 commands.
 #[unsafe(no_mangle)]
 pub extern "C" fn osdp_panel_defaults(settings: &mut PanelSettings)
-    ensures { settings.new ≡ settings_of (default_config Crc 16) }
+    ensures { bus_config_of settings.new ≡ Some (default_config Crc 16) }
 {
     settings.set_defaults();
 }

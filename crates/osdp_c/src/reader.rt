@@ -10,6 +10,7 @@ ghost use Rattle.osdp_c.specs.Readers.{IsEventRead, NewReaderEnds, does, falls_s
 
 use crate::read::read_event;
 use crate::reader_calls;
+use crate::reader_calls::StateList;
 use osdp_c_handle::ReaderHandle;
 use osdp_c_values::{AnswerStruct, ReaderSettings, Status};
 use std::alloc::Global;
@@ -59,7 +60,7 @@ pub extern "C" fn osdp_reader_set_inputs(
     let Some(mut machine) = reader.take(alloc) else {
         return Status::NoMachine.number();
     };
-    let status = reader_calls::set_inputs(&mut machine, states);
+    let status = reader_calls::set_states(&mut machine, StateList::Inputs, states);
     reader.put(machine);
     status.number()
 }
@@ -76,7 +77,7 @@ pub extern "C" fn osdp_reader_set_outputs(
     let Some(mut machine) = reader.take(alloc) else {
         return Status::NoMachine.number();
     };
-    let status = reader_calls::set_outputs(&mut machine, states);
+    let status = reader_calls::set_states(&mut machine, StateList::Outputs, states);
     reader.put(machine);
     status.number()
 }
@@ -93,7 +94,7 @@ pub extern "C" fn osdp_reader_set_readers(
     let Some(mut machine) = reader.take(alloc) else {
         return Status::NoMachine.number();
     };
-    let status = reader_calls::set_readers(&mut machine, states);
+    let status = reader_calls::set_states(&mut machine, StateList::Readers, states);
     reader.put(machine);
     status.number()
 }
