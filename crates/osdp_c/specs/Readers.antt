@@ -25,6 +25,8 @@ use Rattle.osdp_c_values.specs.Answers.{answer_struct}
 use Rattle.osdp_c_values.specs.Settings.{id_of}
 use Rattle.osdp_c_values.specs.Statuses.{number}
 use Rattle.osdp_c.specs.Calls.{Done}
+use Rattle.osdp_c.specs.declared.reader_calls.StateList.{StateList}
+use Rattle.osdp_c.specs.declared.reader_calls.StateList.TheVariants.{Inputs, Outputs, Readers}
 
 -- what a reader answers to CAP, by the data of that reply
 abbrev pub caps_in : Result Reply MsgFault → Result PdCap MsgFault
@@ -91,18 +93,27 @@ tells s m = sets (after_set_handler s m.device.reader) m
 abbrev pub states_of : List ℕ → Option (ArrayVec ℕ)
 states_of states = if nat_le (length states) 1432 then Some (record { items = states }) else None
 
-abbrev pub tells_list : Option (ArrayVec ℕ) → (ArrayVec ℕ → DeviceStatus) → ReaderMachine → Done ReaderMachine
-tells_list None set m = record { status = status.Message Length; machine = m }
-tells_list (Some list) set m = does (tells (set list) m)
+-- the states of its inputs, outputs or readers are others
+abbrev pub with_states : StateList → ArrayVec ℕ → DeviceStatus → DeviceStatus
+with_states Inputs list s = record s { inputs = list }
+with_states Outputs list s = record s { outputs = list }
+with_states Readers list s = record s { readers = list }
+
+abbrev pub tells_states : StateList → Option (ArrayVec ℕ) → ReaderMachine → Done ReaderMachine
+tells_states told None m = record { status = status.Message Length; machine = m }
+tells_states told (Some list) m = does (tells (with_states told list m.device.reader.handler) m)
+
+abbrev pub sets_states : StateList → List ℕ → ReaderMachine → Done ReaderMachine
+sets_states told states m = tells_states told (states_of states) m
 
 abbrev pub sets_inputs : List ℕ → ReaderMachine → Done ReaderMachine
-sets_inputs states m = tells_list (states_of states) (λ list. record m.device.reader.handler { inputs = list }) m
+sets_inputs states m = sets_states Inputs states m
 
 abbrev pub sets_outputs : List ℕ → ReaderMachine → Done ReaderMachine
-sets_outputs states m = tells_list (states_of states) (λ list. record m.device.reader.handler { outputs = list }) m
+sets_outputs states m = sets_states Outputs states m
 
 abbrev pub sets_readers : List ℕ → ReaderMachine → Done ReaderMachine
-sets_readers states m = tells_list (states_of states) (λ list. record m.device.reader.handler { readers = list }) m
+sets_readers states m = sets_states Readers states m
 
 abbrev pub sets_local : ℕ → ℕ → ReaderMachine → Done ReaderMachine
 sets_local tamper power m = does (tells (record m.device.reader.handler { tamper = tamper; power = power }) m)

@@ -4,6 +4,7 @@
 //! a call does is the definitions in `specs/`, over those of the machines.
 #![tactic(auto)]
 
+mod held;
 mod panel;
 mod panel_calls;
 mod read;

@@ -1,16 +1,17 @@
 //! The calls of a panel, for C.
 
-ghost use Rattle.std.specs.Prelude.{◌≡◌, Option};
+ghost use Rattle.std.specs.Prelude.{◌≡◌, Option, Some};
 ghost use Rattle.std.specs.Result.{result_map_both};
 ghost use Rattle.osdp_msg.specs.declared.command.Command.{Command as Ordered};
 ghost use Rattle.osdp_bus.specs.Settings.{default_config};
 ghost use Rattle.osdp_frame.specs.declared.check_kind.CheckKind.TheVariants.{Crc};
-ghost use Rattle.osdp_c_values.specs.Settings.{bus_config_of, settings_of};
+ghost use Rattle.osdp_c_values.specs.Settings.{bus_config_of};
 ghost use Rattle.osdp_c.specs.Addresses.{device_address};
 ghost use Rattle.osdp_c.specs.Calls.{IsDone, calls, frees, writes};
 ghost use Rattle.osdp_c.specs.CommandTexts.{IsReadCommand};
 ghost use Rattle.osdp_c.specs.Panels.{AddsTo, IsBurstIn, IsDueIn, MadeAs, NewPanelEnds, begins, does, falls_silent, hears, reports, retargets, submits_data, submits_text, ticks, withdraws, writes_report, writes_withdrawn};
 
+use crate::held::on_held;
 use crate::panel_calls;
 use crate::read::read_command;
 use osdp_bus::{Bus, BusFault, Entry};
@@ -23,7 +24,7 @@ use std::alloc::Global;
 /// Writes the default settings: those of a bus with a CRC, and room for 16 commands.
 #[unsafe(no_mangle)]
 pub extern "C" fn osdp_panel_defaults(settings: &mut PanelSettings)
-    ensures { settings.new ≡ settings_of (default_config Crc 16) }
+    ensures { bus_config_of settings.new ≡ Some (default_config Crc 16) }
 {
     settings.set_defaults();
 }
@@ -83,18 +84,17 @@ pub extern "C" fn osdp_panel_add(
 ) -> u32
     ensures { AddsTo (device_address address) panel.old.slot.machine result panel.new.slot.machine entry.old entry.new }
 {
-    let Some(mut bus) = panel.take(alloc) else {
-        return Status::NoMachine.number();
-    };
-    let added = panel_calls::add(&mut bus, address);
-    panel.put(bus);
-    match added {
-        Ok(number) => {
-            *entry = number;
-            Status::Done.number()
+    on_held!(
+        panel,
+        alloc,
+        |bus| match panel_calls::add(&mut bus, address) {
+            Ok(number) => {
+                *entry = number;
+                Status::Done
+            }
+            Err(fault) => Status::Panel(fault),
         }
-        Err(fault) => Status::Panel(fault).number(),
-    }
+    )
 }
 
 /// Begins a session of a device.
@@ -107,12 +107,7 @@ pub extern "C" fn osdp_panel_begin(
 ) -> u32
     ensures { IsDone (calls (begins entry now) panel.old.slot.machine) result panel.new.slot.machine }
 {
-    let Some(mut bus) = panel.take(alloc) else {
-        return Status::NoMachine.number();
-    };
-    let status = panel_calls::begin(&mut bus, entry, now);
-    panel.put(bus);
-    status.number()
+    on_held!(panel, alloc, |bus| panel_calls::begin(&mut bus, entry, now))
 }
 
 /// Puts a command after those that wait for a device, by its code and data.
@@ -126,12 +121,11 @@ pub extern "C" fn osdp_panel_submit(
 ) -> u32
     ensures { IsDone (calls (submits_data entry code body.now) panel.old.slot.machine) result panel.new.slot.machine }
 {
-    let Some(mut bus) = panel.take(alloc) else {
-        return Status::NoMachine.number();
-    };
-    let status = panel_calls::submit_data(&mut bus, entry, code, body);
-    panel.put(bus);
-    status.number()
+    on_held!(
+        panel,
+        alloc,
+        |bus| panel_calls::submit_data(&mut bus, entry, code, body)
+    )
 }
 
 /// Puts a command after those that wait for a device, by its text.
@@ -146,12 +140,11 @@ pub extern "C" fn osdp_panel_submit_text(
         × IsDone (calls (submits_text entry read) panel.old.slot.machine) result panel.new.slot.machine }
 {
     let read = read_command(text);
-    let Some(mut bus) = panel.take(alloc) else {
-        return Status::NoMachine.number();
-    };
-    let status = panel_calls::submit_read(&mut bus, entry, read);
-    panel.put(bus);
-    status.number()
+    on_held!(
+        panel,
+        alloc,
+        |bus| panel_calls::submit_read(&mut bus, entry, read)
+    )
 }
 
 /// Takes back the command that has waited longest for a device, and writes it.
@@ -165,12 +158,11 @@ pub extern "C" fn osdp_panel_withdraw(
     ensures panel { IsDone (calls (withdraws entry) panel.old.slot.machine) result panel.new.slot.machine }
     ensures written { command.new ≡ writes (writes_withdrawn entry) panel.old.slot.machine command.old }
 {
-    let Some(mut bus) = panel.take(alloc) else {
-        return Status::NoMachine.number();
-    };
-    let status = panel_calls::withdraw(&mut bus, entry, command);
-    panel.put(bus);
-    status.number()
+    on_held!(
+        panel,
+        alloc,
+        |bus| panel_calls::withdraw(&mut bus, entry, command)
+    )
 }
 
 /// Sets the address of a device.
@@ -183,12 +175,11 @@ pub extern "C" fn osdp_panel_retarget(
 ) -> u32
     ensures { IsDone (calls (retargets entry (device_address address)) panel.old.slot.machine) result panel.new.slot.machine }
 {
-    let Some(mut bus) = panel.take(alloc) else {
-        return Status::NoMachine.number();
-    };
-    let status = panel_calls::retarget(&mut bus, entry, address);
-    panel.put(bus);
-    status.number()
+    on_held!(
+        panel,
+        alloc,
+        |bus| panel_calls::retarget(&mut bus, entry, address)
+    )
 }
 
 /// Bytes have come from the line, in any pieces.
@@ -201,12 +192,10 @@ pub extern "C" fn osdp_panel_bytes(
 ) -> u32
     ensures { IsDone (calls (hears bytes.now now) panel.old.slot.machine) result panel.new.slot.machine }
 {
-    let Some(mut bus) = panel.take(alloc) else {
-        return Status::NoMachine.number();
-    };
-    bus.on_bytes(bytes, now);
-    panel.put(bus);
-    Status::Done.number()
+    on_held!(panel, alloc, |bus| {
+        bus.on_bytes(bytes, now);
+        Status::Done
+    })
 }
 
 /// The line was seen silent.
@@ -214,12 +203,10 @@ pub extern "C" fn osdp_panel_bytes(
 pub extern "C" fn osdp_panel_silence(alloc: Global, panel: &mut PanelHandle, now: u64) -> u32
     ensures { IsDone (calls (falls_silent now) panel.old.slot.machine) result panel.new.slot.machine }
 {
-    let Some(mut bus) = panel.take(alloc) else {
-        return Status::NoMachine.number();
-    };
-    bus.on_silence(now);
-    panel.put(bus);
-    Status::Done.number()
+    on_held!(panel, alloc, |bus| {
+        bus.on_silence(now);
+        Status::Done
+    })
 }
 
 /// What is due at a moment: writes the burst to send.
@@ -233,13 +220,10 @@ pub extern "C" fn osdp_panel_tick(
     ensures panel { IsDone (calls (ticks now) panel.old.slot.machine) result panel.new.slot.machine }
     ensures written { IsBurstIn now panel.old.slot.machine burst.old burst.new }
 {
-    let Some(mut bus) = panel.take(alloc) else {
-        return Status::NoMachine.number();
-    };
-    let sent = bus.tick(now);
-    panel.put(bus);
-    burst.set_sent(sent);
-    Status::Done.number()
+    on_held!(panel, alloc, |bus| {
+        burst.set_sent(bus.tick(now));
+        Status::Done
+    })
 }
 
 /// Writes the moment at which `osdp_panel_tick` is to be called next.
@@ -252,12 +236,10 @@ pub extern "C" fn osdp_panel_next_deadline(
     ensures panel { IsDone (calls does panel.old.slot.machine) result panel.new.slot.machine }
     ensures written { IsDueIn panel.old.slot.machine deadline.old deadline.new }
 {
-    let Some(bus) = panel.take(alloc) else {
-        return Status::NoMachine.number();
-    };
-    deadline.set(bus.next_deadline());
-    panel.put(bus);
-    Status::Done.number()
+    on_held!(panel, alloc, |bus| {
+        deadline.set(bus.next_deadline());
+        Status::Done
+    })
 }
 
 /// Takes the report that waits, and writes it.
@@ -270,11 +252,8 @@ pub extern "C" fn osdp_panel_next_report(
     ensures panel { IsDone (calls reports panel.old.slot.machine) result panel.new.slot.machine }
     ensures written { report.new ≡ writes writes_report panel.old.slot.machine report.old }
 {
-    let Some(mut bus) = panel.take(alloc) else {
-        return Status::NoMachine.number();
-    };
-    let told = bus.next_report();
-    panel.put(bus);
-    report.set(told);
-    Status::Done.number()
+    on_held!(panel, alloc, |bus| {
+        report.set(bus.next_report());
+        Status::Done
+    })
 }

@@ -8,8 +8,10 @@ ghost use Rattle.osdp_c.specs.Calls.{IsDone, calls, frees, writes};
 ghost use Rattle.osdp_c.specs.CommandTexts.{IsReadEvent};
 ghost use Rattle.osdp_c.specs.Readers.{IsEventRead, NewReaderEnds, does, falls_silent, sets_busy, sets_inputs, sets_local, sets_outputs, sets_readers, steps, submits_read, submits_text, ticks, writes_silence, writes_step, writes_taken, writes_tick, writes_waiting};
 
+use crate::held::on_held;
 use crate::read::read_event;
 use crate::reader_calls;
+use crate::reader_calls::StateList;
 use osdp_c_handle::ReaderHandle;
 use osdp_c_values::{AnswerStruct, ReaderSettings, Status};
 use std::alloc::Global;
@@ -56,12 +58,11 @@ pub extern "C" fn osdp_reader_set_inputs(
 ) -> u32
     ensures { IsDone (calls (sets_inputs states.now) reader.old.slot.machine) result reader.new.slot.machine }
 {
-    let Some(mut machine) = reader.take(alloc) else {
-        return Status::NoMachine.number();
-    };
-    let status = reader_calls::set_inputs(&mut machine, states);
-    reader.put(machine);
-    status.number()
+    on_held!(
+        reader,
+        alloc,
+        |machine| reader_calls::set_states(&mut machine, StateList::Inputs, states)
+    )
 }
 
 /// Sets the state of each output.
@@ -73,12 +74,11 @@ pub extern "C" fn osdp_reader_set_outputs(
 ) -> u32
     ensures { IsDone (calls (sets_outputs states.now) reader.old.slot.machine) result reader.new.slot.machine }
 {
-    let Some(mut machine) = reader.take(alloc) else {
-        return Status::NoMachine.number();
-    };
-    let status = reader_calls::set_outputs(&mut machine, states);
-    reader.put(machine);
-    status.number()
+    on_held!(
+        reader,
+        alloc,
+        |machine| reader_calls::set_states(&mut machine, StateList::Outputs, states)
+    )
 }
 
 /// Sets the state of each reader.
@@ -90,12 +90,11 @@ pub extern "C" fn osdp_reader_set_readers(
 ) -> u32
     ensures { IsDone (calls (sets_readers states.now) reader.old.slot.machine) result reader.new.slot.machine }
 {
-    let Some(mut machine) = reader.take(alloc) else {
-        return Status::NoMachine.number();
-    };
-    let status = reader_calls::set_readers(&mut machine, states);
-    reader.put(machine);
-    status.number()
+    on_held!(
+        reader,
+        alloc,
+        |machine| reader_calls::set_states(&mut machine, StateList::Readers, states)
+    )
 }
 
 /// Sets whether the device is tampered with, and whether its power fails.
@@ -108,12 +107,10 @@ pub extern "C" fn osdp_reader_set_local(
 ) -> u32
     ensures { IsDone (calls (sets_local tamper power) reader.old.slot.machine) result reader.new.slot.machine }
 {
-    let Some(mut machine) = reader.take(alloc) else {
-        return Status::NoMachine.number();
-    };
-    reader_calls::set_local(&mut machine, tamper, power);
-    reader.put(machine);
-    Status::Done.number()
+    on_held!(reader, alloc, |machine| {
+        reader_calls::set_local(&mut machine, tamper, power);
+        Status::Done
+    })
 }
 
 /// Sets whether the reader is busy.
@@ -121,12 +118,10 @@ pub extern "C" fn osdp_reader_set_local(
 pub extern "C" fn osdp_reader_set_busy(alloc: Global, reader: &mut ReaderHandle, busy: u32) -> u32
     ensures { IsDone (calls (sets_busy busy) reader.old.slot.machine) result reader.new.slot.machine }
 {
-    let Some(mut machine) = reader.take(alloc) else {
-        return Status::NoMachine.number();
-    };
-    machine.device.reader.set_busy(busy != 0);
-    reader.put(machine);
-    Status::Done.number()
+    on_held!(reader, alloc, |machine| {
+        machine.device.reader.set_busy(busy != 0);
+        Status::Done
+    })
 }
 
 /// Puts an event after those that wait, by the code and data of the reply that tells it.
@@ -141,12 +136,11 @@ pub extern "C" fn osdp_reader_event(
         × IsDone (calls (submits_read read) reader.old.slot.machine) result reader.new.slot.machine }
 {
     let read = reader_calls::event_at(code, body);
-    let Some(mut machine) = reader.take(alloc) else {
-        return Status::NoMachine.number();
-    };
-    let status = reader_calls::submit_data(&mut machine, read);
-    reader.put(machine);
-    status.number()
+    on_held!(
+        reader,
+        alloc,
+        |machine| reader_calls::submit_data(&mut machine, read)
+    )
 }
 
 /// Puts an event after those that wait, by its text.
@@ -160,12 +154,11 @@ pub extern "C" fn osdp_reader_event_text(
         × IsDone (calls (submits_text read) reader.old.slot.machine) result reader.new.slot.machine }
 {
     let read = read_event(text);
-    let Some(mut machine) = reader.take(alloc) else {
-        return Status::NoMachine.number();
-    };
-    let status = reader_calls::submit_read(&mut machine, read);
-    reader.put(machine);
-    status.number()
+    on_held!(
+        reader,
+        alloc,
+        |machine| reader_calls::submit_read(&mut machine, read)
+    )
 }
 
 /// Writes how many events wait, the one that is offered included.
@@ -178,12 +171,10 @@ pub extern "C" fn osdp_reader_waiting(
     ensures reader { IsDone (calls does reader.old.slot.machine) result reader.new.slot.machine }
     ensures written { count.new ≡ writes writes_waiting reader.old.slot.machine count.old }
 {
-    let Some(machine) = reader.take(alloc) else {
-        return Status::NoMachine.number();
-    };
-    *count = machine.device.reader.waiting();
-    reader.put(machine);
-    Status::Done.number()
+    on_held!(reader, alloc, |machine| {
+        *count = machine.device.reader.waiting();
+        Status::Done
+    })
 }
 
 /// Bytes have come up to a moment: writes how many were taken, and what the reader says.
@@ -200,12 +191,10 @@ pub extern "C" fn osdp_reader_step(
     ensures taken { taken.new ≡ writes (writes_taken bytes.now now) reader.old.slot.machine taken.old }
     ensures written { answer.new ≡ writes (writes_step bytes.now now) reader.old.slot.machine answer.old }
 {
-    let Some(mut machine) = reader.take(alloc) else {
-        return Status::NoMachine.number();
-    };
-    reader_calls::step(&mut machine, bytes, now, taken, answer);
-    reader.put(machine);
-    Status::Done.number()
+    on_held!(reader, alloc, |machine| {
+        reader_calls::step(&mut machine, bytes, now, taken, answer);
+        Status::Done
+    })
 }
 
 /// No bytes have come up to a moment: writes what the reader says.
@@ -219,12 +208,10 @@ pub extern "C" fn osdp_reader_tick(
     ensures reader { IsDone (calls (ticks now) reader.old.slot.machine) result reader.new.slot.machine }
     ensures written { answer.new ≡ writes (writes_tick now) reader.old.slot.machine answer.old }
 {
-    let Some(mut machine) = reader.take(alloc) else {
-        return Status::NoMachine.number();
-    };
-    reader_calls::tick(&mut machine, now, answer);
-    reader.put(machine);
-    Status::Done.number()
+    on_held!(reader, alloc, |machine| {
+        reader_calls::tick(&mut machine, now, answer);
+        Status::Done
+    })
 }
 
 /// The line was seen silent: writes what the reader says.
@@ -238,10 +225,8 @@ pub extern "C" fn osdp_reader_silence(
     ensures reader { IsDone (calls (falls_silent now) reader.old.slot.machine) result reader.new.slot.machine }
     ensures written { answer.new ≡ writes (writes_silence now) reader.old.slot.machine answer.old }
 {
-    let Some(mut machine) = reader.take(alloc) else {
-        return Status::NoMachine.number();
-    };
-    reader_calls::silence(&mut machine, now, answer);
-    reader.put(machine);
-    Status::Done.number()
+    on_held!(reader, alloc, |machine| {
+        reader_calls::silence(&mut machine, now, answer);
+        Status::Done
+    })
 }

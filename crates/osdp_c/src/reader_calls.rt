@@ -3,7 +3,7 @@
 ghost use Rattle.std.specs.Prelude.{◌≡◌, ◌↔◌, IsTrue};
 ghost use Rattle.std.specs.Result.{result_map_both};
 ghost use Rattle.osdp_msg.specs.ReplyTable.{reply_of};
-ghost use Rattle.osdp_c.specs.Readers.{AreSettings, IsEventRead, MadeAs, MadeWith, caps_of, falls_silent, reads_next, sets_inputs, sets_local, sets_outputs, sets_readers, states_of, steps, submits, submits_read, submits_text, ticks, writes_next, writes_silence, writes_step, writes_taken, writes_tick};
+ghost use Rattle.osdp_c.specs.Readers.{AreSettings, IsEventRead, MadeAs, MadeWith, caps_of, falls_silent, reads_next, sets_local, sets_states, states_of, steps, submits, submits_read, submits_text, ticks, writes_next, writes_silence, writes_step, writes_taken, writes_tick};
 
 use arrayvec::ArrayVec;
 use osdp_c_handle::ReaderMachine;
@@ -95,39 +95,28 @@ fn read_states(states: &[u8]) -> Option<ArrayVec<u8, 1432>>
     }
 }
 
-/// Sets the state of each input.
-pub(crate) fn set_inputs(machine: &mut ReaderMachine, states: &[u8]) -> Status
-    ensures status { result ≡ (sets_inputs states.now machine.old).status }
-    ensures machine { machine.new ≡ (sets_inputs states.now machine.old).machine }
-{
-    let Some(list) = read_states(states) else {
-        return Status::Message(MsgFault::Length);
-    };
-    machine.device.reader.handler_mut().inputs = list;
-    Status::Done
+/// The lists of states that a device tells.
+#[derive(Drop)]
+pub(crate) enum StateList {
+    Inputs,
+    Outputs,
+    Readers,
 }
 
-/// Sets the state of each output.
-pub(crate) fn set_outputs(machine: &mut ReaderMachine, states: &[u8]) -> Status
-    ensures status { result ≡ (sets_outputs states.now machine.old).status }
-    ensures machine { machine.new ≡ (sets_outputs states.now machine.old).machine }
+/// Sets the state of each input, output or reader.
+pub(crate) fn set_states(machine: &mut ReaderMachine, told: StateList, states: &[u8]) -> Status
+    ensures status { result ≡ (sets_states told states.now machine.old).status }
+    ensures machine { machine.new ≡ (sets_states told states.now machine.old).machine }
 {
     let Some(list) = read_states(states) else {
         return Status::Message(MsgFault::Length);
     };
-    machine.device.reader.handler_mut().outputs = list;
-    Status::Done
-}
-
-/// Sets the state of each reader.
-pub(crate) fn set_readers(machine: &mut ReaderMachine, states: &[u8]) -> Status
-    ensures status { result ≡ (sets_readers states.now machine.old).status }
-    ensures machine { machine.new ≡ (sets_readers states.now machine.old).machine }
-{
-    let Some(list) = read_states(states) else {
-        return Status::Message(MsgFault::Length);
-    };
-    machine.device.reader.handler_mut().readers = list;
+    let status = machine.device.reader.handler_mut();
+    match told {
+        StateList::Inputs => status.inputs = list,
+        StateList::Outputs => status.outputs = list,
+        StateList::Readers => status.readers = list,
+    }
     Status::Done
 }
 

@@ -7,26 +7,8 @@ use Rattle.osdp_msg.specs.declared.reply_fields.PdId.{PdId}
 use Rattle.osdp_c_values.specs.declared.settings.PanelSettings.{PanelSettings}
 use Rattle.osdp_c_values.specs.declared.settings.ReaderSettings.{ReaderSettings}
 
-abbrev pub check_number : CheckKind → ℕ
-check_number Sum = 0
-check_number Crc = 1
-
 abbrev pub check_of : ℕ → CheckKind
 check_of number = if number == 0 then Sum else Crc
-
--- a bus's settings as a struct
-abbrev pub settings_of : BusConfig → PanelSettings
-settings_of c = record {
-  check = check_number c.check;
-  reply_wait = c.reply_wait;
-  poll_interval = c.poll_interval;
-  sends = c.sends;
-  busy_wait = c.busy_wait;
-  busy_limit = c.busy_limit;
-  quiet_wait = c.quiet_wait;
-  gap = c.gap;
-  capacity = c.capacity;
-}
 
 -- the bus's settings that a struct stands for: there are two checks, and the sends and the BUSYs are bytes
 abbrev pub bus_config_of : PanelSettings → Option BusConfig

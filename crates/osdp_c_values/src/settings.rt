@@ -1,9 +1,9 @@
 //! The settings of machines as structs of plain fields.
 
-ghost use Rattle.std.specs.Prelude.{◌≡◌};
+ghost use Rattle.std.specs.Prelude.{◌≡◌, Some};
 ghost use Rattle.osdp_bus.specs.Settings.{default_config};
 ghost use Rattle.osdp_frame.specs.declared.check_kind.CheckKind.TheVariants.{Crc};
-ghost use Rattle.osdp_c_values.specs.Settings.{bus_config_of, check_of, id_of, settings_of};
+ghost use Rattle.osdp_c_values.specs.Settings.{bus_config_of, check_of, id_of};
 
 use osdp_bus::BusConfig;
 use osdp_frame::CheckKind;
@@ -47,7 +47,7 @@ fn check_of(number: u32) -> CheckKind
 impl PanelSettings {
     /// Writes the default settings of a bus: a CRC, and room for 16 commands.
     pub fn set_defaults(&mut self)
-        ensures { self.new ≡ settings_of (default_config Crc 16) }
+        ensures { bus_config_of self.new ≡ Some (default_config Crc 16) }
     {
         self.check = 1;
         self.reply_wait = 200;
