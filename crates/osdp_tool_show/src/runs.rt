@@ -229,28 +229,7 @@ pub fn take<W: Write>(
     Ok(())
 }
 
-/// What is held of a run that ends is told, where something is.
-fn end_held<W: Write>(
-    framer: &mut Framer,
-    report: &mut Report,
-    output: &mut Watched<W>,
-) -> Result<(), ToolFault>
-    requires settled { IsSettled framer.old }
-    requires counts { counted report.old.tally + 5 * length framer.old.bytes < 2 ^ 62 }
-    ensures step { IsStep result (has_failed output.old) (has_failed output.new) }
-    ensures drained { OnOk result (Drained (after_gap framer.old) framer.new report.old report.new
-        (told (W.contents (inner_of output.old)) report.old) (told (W.contents (inner_of output.new)) report.new)) }
-    ensures stops { OnErr result (StopsWithin (told (W.contents (inner_of output.old)) report.old) (W.contents (inner_of output.new))
-        (shown_lines report.old.full report.old.tally (items (after_gap framer.old).ended (after_gap framer.old).bytes))) }
-{
-    if framer.is_empty() {
-        return Ok(());
-    }
-    framer.gap();
-    drain(framer, report, output)
-}
-
-/// The run has ended.
+/// The run has ended: what is held of it is told, where something is.
 pub fn end_run<W: Write>(
     framer: &mut Framer,
     report: &mut Report,
@@ -263,7 +242,10 @@ pub fn end_run<W: Write>(
         (told (W.contents (inner_of output.old)) report.old) (told (W.contents (inner_of output.new)) report.new)) }
     ensures stops { OnErr result (StopsAtRunEnd framer.old report.old (told (W.contents (inner_of output.old)) report.old) (W.contents (inner_of output.new))) }
 {
-    end_held(framer, report, output)?;
+    if !framer.is_empty() {
+        framer.gap();
+        drain(framer, report, output)?;
+    }
     report.tally.end_run();
     Ok(())
 }
