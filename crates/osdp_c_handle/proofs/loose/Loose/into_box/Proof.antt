@@ -1,6 +1,5 @@
 -- `into_box` makes the box again.
 use Rattle.std.proofs.Common.{◌≡◌, List, [], ◌∷◌, ◌++◌, refl, sym, ap, subst}
-use mir.Syntax.{a_type, dcons, dnil}
 use mir.Val.{Val, vptr}
 use mir.MapTy.{inst_fn}
 use base.Logic.{SProp, ent, id⊢}
@@ -18,7 +17,7 @@ use denote.RattleType.{RattleType, owns}
 use denote.Signature.{types_at, plain}
 use denote.RawPtr.{block_ptr}
 use denote.Steps.{nothing, only}
-use denote.Param.{param, layout, bounded}
+use denote.Param.{param, layout}
 use denote.Param.Laws.{param_laws}
 use denote.Triple.Clauses.{Lasts, lasts}
 use denote.Triple.Spec.{triple_of}
@@ -31,7 +30,7 @@ use Rattle.core.proofs.cell.Inside.{Good}
 use Rattle.std_alloc.proofs.BoxSteps.Form as box
 use Rattle.std_alloc.proofs.BoxSteps.Steps.{box_out, box_in}
 use Rattle.std.proofs.raw_atomic.Walks.{proved_at, leaves}
-use Rattle.osdp_c_handle.proofs.Words.{two_words, Loose, words_fit, loose_opens}
+use Rattle.osdp_c_handle.proofs.Words.{box_form, generics, two_words, Loose, words_fit, loose_opens}
 use Rattle.std_alloc.specs.contracts.boxed.Box.from_raw as callee
 use Rattle.std_alloc.proofs.boxed.Box.from_raw.Met.{met}
 use Rattle.osdp_c_handle.specs.contracts.loose.Loose.into_box.{ended, clauses}
@@ -43,8 +42,7 @@ pub into_box_spec : {M : Type 1} → statement M
 into_box_spec 𝓤 𝓛 𝓜 𝓡 wired T A L LA g d dx dd allocator glue glued =
     let H = 𝓛.H in let 𝓣 = tables 𝓤 H 𝓜 𝓡 𝓡.env in let R : RattleType = param 0 T in let Z : RattleType = param 1 A in let LZ = param_laws 1 A LA in
     let En = ended T A g d dx dd in let c = clauses T A g d dx dd 𝓛 𝓜.mem 𝓡.returns in
-    let E : box.Bx = record { row = T; laws = L; al = record { row = A; laws = LA; g = g; d = d; drops = dd } } in
-    let inst = bounded (a_type ∷ a_type ∷ []) (T, (A, tt)) (dcons d (dcons dx (dcons dd dnil))) in let fn = inst_fn inst code.function in
+    let E = box_form T L A LA g d dd in let inst = generics T A d dx dd in let fn = inst_fn inst code.function in
     let hs : Stays En.signature.params En.kept = (stay_dropped (plain (λ _. Loose R Z LZ g)) no, tt) in
     proved_at 𝓛 En hs c 𝓜 𝓡 (Goes-blank 𝓛 2 (plain (λ _. Loose R Z LZ g)) no (λ κs x f. tt), tt) (#self inst) fn
     (code.unfolded 𝓤 H 𝓜 𝓡 wired (T, (A, tt)) d dx dd) (λ z are.

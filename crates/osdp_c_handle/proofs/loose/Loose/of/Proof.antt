@@ -1,6 +1,5 @@
 -- `of` takes the box apart, and keeps its pointer and its allocator.
 use Rattle.std.proofs.Common.{◌≡◌, List, [], ◌∷◌, ◌++◌, refl, sym, ap, ◌∙◌, subst}
-use mir.Syntax.{a_type, dcons, dnil}
 use mir.Raw.{raw as bare}
 use mir.Val.{Val, vptr, vstruct, of_list}
 use mir.MapTy.{inst_fn}
@@ -20,7 +19,7 @@ use denote.Signature.{types_at, plain}
 use denote.Builtin.{RawPtr}
 use denote.RawPtr.{Ptr, block_ptr, null_ptr, ptr_val, in_a_block}
 use denote.Steps.{nothing, only, heard}
-use denote.Param.{param, layout, bounded}
+use denote.Param.{param, layout}
 use denote.Param.Laws.{param_laws}
 use denote.Struct.Tuple.{Tuple}
 use denote.Triple.Spec.{triple_of}
@@ -32,7 +31,7 @@ use Rattle.std_alloc.specs.Box.Ownership.{box_owns}
 use Rattle.std_alloc.proofs.BoxSteps.Form as box
 use Rattle.std_alloc.proofs.BoxSteps.Steps.{box_out, box_in}
 use Rattle.std.proofs.raw_atomic.Walks.{proved_at, leaves}
-use Rattle.osdp_c_handle.proofs.Words.{two_words, words_fit, loose_closes}
+use Rattle.osdp_c_handle.proofs.Words.{box_form, generics, two_words, words_fit, loose_closes}
 use Rattle.std_alloc.specs.contracts.boxed.Box.into_raw_with_allocator as callee
 use Rattle.std_alloc.proofs.boxed.Box.into_raw_with_allocator.Met.{met}
 use Rattle.osdp_c_handle.specs.contracts.loose.Loose.of.{ended, clauses}
@@ -44,8 +43,7 @@ pub of_spec : {M : Type 1} → statement M
 of_spec 𝓤 𝓛 𝓜 𝓡 wired T A L LA g d dx dd allocator glue glued =
     let H = 𝓛.H in let 𝓣 = tables 𝓤 H 𝓜 𝓡 𝓡.env in let R : RattleType = param 0 T in let Z : RattleType = param 1 A in let LZ = param_laws 1 A LA in
     let En = ended T A g d dx dd in let c = clauses T A g d dx dd 𝓛 𝓜.mem 𝓡.returns in
-    let E : box.Bx = record { row = T; laws = L; al = record { row = A; laws = LA; g = g; d = d; drops = dd } } in
-    let inst = bounded (a_type ∷ a_type ∷ []) (T, (A, tt)) (dcons d (dcons dx (dcons dd dnil))) in let fn = inst_fn inst code.function in
+    let E = box_form T L A LA g d dd in let inst = generics T A d dx dd in let fn = inst_fn inst code.function in
     let hs : Stays En.signature.params En.kept = (stay_dropped (plain (λ _. box.B E)) no, tt) in
     proved_at 𝓛 En hs c 𝓜 𝓡 (Goes-blank 𝓛 2 (plain (λ _. box.B E)) no (λ κs x f. tt), tt) (#self inst) fn
     (code.unfolded 𝓤 H 𝓜 𝓡 wired (T, (A, tt)) d dx dd) (λ z are.
