@@ -11,7 +11,7 @@ use Rattle.osdp_msg.specs.declared.command_fields.Communication.{Communication}
 use Rattle.osdp_msg.specs.declared.reply.Reply.{Reply}
 use Rattle.osdp_msg.specs.declared.reply_fields.PdId.{PdId}
 use Rattle.osdp_msg.specs.CommandTable.{CommandFits, command_code, command_data}
-use Rattle.osdp_msg_laws.proofs.CommandLaws.{commands_fit}
+use Rattle.osdp_msg_laws.proofs.CommandLaws.{command_laws}
 use Rattle.osdp_controller.specs.declared.meaning.ReplyMeaning.{ReplyMeaning}
 use Rattle.osdp_controller.specs.declared.meaning.ReplyMeaning.TheVariants.{NotTaken, Damaged, NumberRefused, Plain, Unreadable}
 use Rattle.osdp_controller.specs.declared.exchange.Exchange.{Exchange}
@@ -302,7 +302,7 @@ exchange_fits (Asking command) fits = fits
 
 frame_is_packet : (x : Exchange) (s : Session) → s.config.address < 127 → s.number < 4 → CommandFits (exchange_command x) → IsPacket (frame_of x s)
 frame_is_packet x s address number fits =
-    let body = commands_fit (command_code (exchange_command x)) (command_data (exchange_command x)) (exchange_command x)
+    let body = command_laws.fits (command_code (exchange_command x)) (command_data (exchange_command x)) (exchange_command x)
     (record { code_is = refl; data_is = refl; fits = fits }) in
     let room : 1 + length (command_data (exchange_command x)) ≤ 1433 = body.1 in
     let check : check_size s.config.check ≤ 2 = small_check s.config.check in record {

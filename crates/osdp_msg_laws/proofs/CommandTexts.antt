@@ -5,10 +5,9 @@ use Rattle.osdp_msg.specs.CommandFields.{LedFits, OutputFits, led_word, output_w
 use Rattle.osdp_msg_laws.proofs.OneMeaning.{buzzer_one, byte_one, communication_one, led_one, maker_one, output_one, records_one, text_one}
 use Rattle.osdp_msg.specs.CommandTable.{CommandFits}
 use Rattle.osdp_msg.specs.CommandText.{command_fields, command_name, command_text, command_words}
-use Rattle.osdp_msg_laws.specs.Laws.{HasOneMeaning, HasOneText}
 use Rattle.osdp_msg.proofs.RowTexts.{differ}
 use Rattle.osdp_msg_laws.proofs.PlainCommands.{plain_commands}
-use Rattle.osdp_msg_laws.proofs.TableLaws.{RowsHaveOneMeaning, one_meaning, one_text}
+use Rattle.osdp_msg_laws.proofs.TableLaws.{HasTexts, RowsHaveOneMeaning, texts_of}
 
 rows : RowsHaveOneMeaning CommandFits command_name command_fields
 rows given Poll Poll e h k s t = refl
@@ -26,9 +25,6 @@ rows given (Comset a) (Comset b) e h k s t = ap Comset (communication_one given 
 rows given (Maker a) (Maker b) e h k s t = ap Maker (maker_one given a b h k s t)
 rows given m n e h k s t = absurd (differ (command_name m) (command_name n) refl e)
 
-pub command_one_meaning : HasOneMeaning CommandFits command_words
-command_one_meaning = one_meaning CommandFits command_name command_fields rows
-
-pub command_one_text : HasOneText CommandFits command_text
+pub command_texts : HasTexts CommandFits command_words command_text
 unfolding command_text
-command_one_text = one_text CommandFits command_name command_fields command_one_meaning plain_commands
+command_texts = texts_of CommandFits command_name command_fields rows plain_commands

@@ -6,10 +6,9 @@ use Rattle.osdp_msg.specs.ReplyFields.{CapabilityFits, capability_word}
 use Rattle.osdp_msg_laws.proofs.OneMeaning.{capability_one, communication_one, formatted_one, keypad_one, local_state_one, maker_one, nak_one, pd_id_one, raw_one, records_one, states_one}
 use Rattle.osdp_msg.specs.ReplyTable.{ReplyFits}
 use Rattle.osdp_msg.specs.ReplyText.{reply_fields, reply_name, reply_text, reply_words}
-use Rattle.osdp_msg_laws.specs.Laws.{HasOneMeaning, HasOneText}
 use Rattle.osdp_msg.proofs.RowTexts.{differ}
 use Rattle.osdp_msg_laws.proofs.PlainReplies.{plain_replies}
-use Rattle.osdp_msg_laws.proofs.TableLaws.{RowsHaveOneMeaning, one_meaning, one_text}
+use Rattle.osdp_msg_laws.proofs.TableLaws.{HasTexts, RowsHaveOneMeaning, texts_of}
 
 rows : RowsHaveOneMeaning ReplyFits reply_name reply_fields
 rows given Ack Ack e h k s t = refl
@@ -28,9 +27,6 @@ rows given Busy Busy e h k s t = refl
 rows given (MakerReply a) (MakerReply b) e h k s t = ap MakerReply (maker_one given a b h k s t)
 rows given m n e h k s t = absurd (differ (reply_name m) (reply_name n) refl e)
 
-pub reply_one_meaning : HasOneMeaning ReplyFits reply_words
-reply_one_meaning = one_meaning ReplyFits reply_name reply_fields rows
-
-pub reply_one_text : HasOneText ReplyFits reply_text
+pub reply_texts : HasTexts ReplyFits reply_words reply_text
 unfolding reply_text
-reply_one_text = one_text ReplyFits reply_name reply_fields reply_one_meaning plain_replies
+reply_texts = texts_of ReplyFits reply_name reply_fields rows plain_replies

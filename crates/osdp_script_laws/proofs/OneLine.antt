@@ -8,10 +8,10 @@ use Rattle.osdp_msg.specs.declared.event.Event.{Event}
 use Rattle.osdp_msg.specs.CommandText.{command_words}
 use Rattle.osdp_msg.specs.Events.{EventFits, event_reply, event_words}
 use Rattle.osdp_msg.proofs.RowTexts.{IsRow, differ}
-use Rattle.osdp_msg_laws.proofs.CommandTexts.{command_one_meaning}
+use Rattle.osdp_msg_laws.proofs.CommandTexts.{command_texts}
 use Rattle.osdp_msg_laws.proofs.EventReplies.{same_event}
 use Rattle.osdp_msg_laws.proofs.OneMeaning.{numbers_then, states_one}
-use Rattle.osdp_msg_laws.proofs.ReplyTexts.{reply_one_meaning}
+use Rattle.osdp_msg_laws.proofs.ReplyTexts.{reply_texts}
 use Rattle.osdp_sim.specs.declared.step.Move.{Move}
 use Rattle.osdp_sim.specs.declared.step.Move.TheVariants.{Deliver, Drop, Repeat, Damage}
 use Rattle.osdp_sim.specs.declared.step.SimStep.TheVariants.{Issue, Queue, Busy, Wait, ToReader, ToController, Reopen}
@@ -62,11 +62,11 @@ numbered {X} words Fits one readers given x y h k s t =
 
 one_issue : (readers : ℕ) → HasOne (λ (x : ℕ × Command). number x.0 ∷ command_words x.1) (λ (x : ℕ × Command). IsOrder readers x.0 x.1)
 one_issue readers given x y h k s t =
-    numbered command_words _ command_one_meaning readers given x y (h.there, h.fits) (k.there, k.fits) s t
+    numbered command_words _ command_texts.one_meaning readers given x y (h.there, h.fits) (k.there, k.fits) s t
 
 one_event : HasOne event_words EventFits
 one_event given x y h k s t =
-    same_event x y (reply_one_meaning given (event_reply x) (event_reply y) h k s t)
+    same_event x y (reply_texts.one_meaning given (event_reply x) (event_reply y) h k s t)
 
 one_queue : (readers : ℕ) → HasOne (λ (x : ℕ × Event). number x.0 ∷ event_words x.1) (λ (x : ℕ × Event). IsHappening readers x.0 x.1)
 one_queue readers given x y h k s t =

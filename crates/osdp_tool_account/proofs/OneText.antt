@@ -15,12 +15,12 @@ use Rattle.osdp_msg.specs.ReplyTable.{ReplyFits}
 use Rattle.osdp_msg.specs.ReplyText.{reply_text, reply_words}
 use Rattle.osdp_msg.proofs.RowTexts.{differ}
 use Rattle.osdp_msg_laws.specs.Laws.{IsPlainCharacter, IsPlainWord}
-use Rattle.osdp_msg_laws.proofs.CommandTexts.{command_one_text}
+use Rattle.osdp_msg_laws.proofs.CommandTexts.{command_texts}
 use Rattle.osdp_msg_laws.proofs.EventReplies.{same_event}
 use Rattle.osdp_msg_laws.proofs.PlainCommands.{plain_commands}
 use Rattle.osdp_msg_laws.proofs.PlainReplies.{plain_events, plain_replies}
 use Rattle.osdp_msg_laws.proofs.PrintedWords.{ArePrintedWords, IsPrintedWord, IsTextCharacter, both_printed, name_printed, plain_words_printed, same_printed, text_shown}
-use Rattle.osdp_msg_laws.proofs.ReplyTexts.{reply_one_text}
+use Rattle.osdp_msg_laws.proofs.ReplyTexts.{reply_texts}
 use Rattle.osdp_sim.specs.declared.account.End.{End}
 use Rattle.osdp_sim.specs.declared.account.End.TheVariants.{Lost, Moved}
 use Rattle.osdp_words.specs.Word.{Word, plain, printed, text_of}
@@ -92,7 +92,7 @@ command_shown name held c fits = text_shown (command_line name c) (held, plain_w
 pub one_command : (name : List ℕ) → HasOne (command_line name) CommandFits
 unfolding command_text
 one_command name c d h k e =
-    command_one_text c d h k (ap (λ (l : List ℕ). drop 1 l) (append_cancel_left name (codes " " ++ command_text c) (codes " " ++ command_text d) e))
+    command_texts.one_text c d h k (ap (λ (l : List ℕ). drop 1 l) (append_cancel_left name (codes " " ++ command_text c) (codes " " ++ command_text d) e))
 
 -- ---- commands and their answers
 
@@ -145,8 +145,8 @@ one_pair (c, r) (d, s) h k e =
     (sym (map-append printed (command_words c) (plain (codes "=") ∷ reply_words r))
     ∙ ap (λ (l : List (List ℕ)). drop 1 l) words
     ∙ map-append printed (command_words d) (plain (codes "=") ∷ reply_words s)) in
-    let command : c ≡ d = command_one_text c d h.0 k.0 (same_text (command_words c) (command_words d) parts.0) in
-    let answer : r ≡ s = reply_one_text r s h.1 k.1 (same_text (reply_words r) (reply_words s) parts.1) in
+    let command : c ≡ d = command_texts.one_text c d h.0 k.0 (same_text (command_words c) (command_words d) parts.0) in
+    let answer : r ≡ s = reply_texts.one_text r s h.1 k.1 (same_text (reply_words r) (reply_words s) parts.1) in
     ap (λ (x : Command). let pair : Command × Reply = (x, r) in pair) command ∙ ap (λ (x : Reply). let pair : Command × Reply = (d, x) in pair) answer
 
 -- ---- events
@@ -159,7 +159,7 @@ pub one_event : HasOne reported_line EventFits
 unfolding reply_text
 one_event x y h k e =
     let texts = ap (λ (l : List ℕ). drop 1 l) (append_cancel_left (codes "reported") (codes " " ++ event_text x) (codes " " ++ event_text y) e) in
-    same_event x y (reply_one_text (event_reply x) (event_reply y) h k texts)
+    same_event x y (reply_texts.one_text (event_reply x) (event_reply y) h k texts)
 
 -- ---- ends
 

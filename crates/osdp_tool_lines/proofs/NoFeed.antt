@@ -15,11 +15,11 @@ use Rattle.osdp_msg.specs.CommandText.{command_fields, command_name, command_tex
 use Rattle.osdp_msg.specs.ReplyTable.{IsReply, ReplyFits, reply_of}
 use Rattle.osdp_msg.specs.ReplyText.{reply_fields, reply_name, reply_text}
 use Rattle.osdp_msg_laws.specs.Laws.{HasPlainWords, IsPlainCharacter, ReadsTheTable}
-use Rattle.osdp_msg_laws.proofs.CommandLaws.{command_reads}
+use Rattle.osdp_msg_laws.proofs.CommandLaws.{command_laws}
 use Rattle.osdp_msg_laws.proofs.PlainCommands.{plain_commands}
 use Rattle.osdp_msg_laws.proofs.PlainReplies.{plain_replies}
 use Rattle.osdp_msg_laws.proofs.PlainWords.{ArePlain, ArePlainWords, bytes_plain}
-use Rattle.osdp_msg_laws.proofs.ReplyLaws.{reply_reads}
+use Rattle.osdp_msg_laws.proofs.ReplyLaws.{reply_laws}
 use Rattle.osdp_tool_lines.specs.ItemText.{data_text, message_text, refusal_text, told_text, unread_text}
 
 pub record HasNoFeed (text : List ℕ) : Type 0 where
@@ -108,7 +108,7 @@ module _ {M : Type 0} (Is : ℕ → List ℕ → M → Type 0) (Fits : M → Typ
 pub message_no_feed : (reply : Bool) (code : ℕ) (bs : List ℕ) → IsBytes (code ∷ []) → IsBytes bs
     → HasNoFeed (message_text reply code bs)
 unfolding command_text reply_text
-message_no_feed true code bs h k = told_no_feed IsReply ReplyFits reply_of reply_name reply_fields reply_reads (λ c b m is. is.fits)
+message_no_feed true code bs h k = told_no_feed IsReply ReplyFits reply_of reply_name reply_fields reply_laws.reads (λ c b m is. is.fits)
     plain_replies code bs (reply_of code bs) h k refl
-message_no_feed false code bs h k = told_no_feed IsCommand CommandFits command_of command_name command_fields command_reads
+message_no_feed false code bs h k = told_no_feed IsCommand CommandFits command_of command_name command_fields command_laws.reads
     (λ c b m is. is.fits) plain_commands code bs (command_of code bs) h k refl

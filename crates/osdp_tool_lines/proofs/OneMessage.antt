@@ -13,10 +13,10 @@ use Rattle.osdp_msg.specs.CommandText.{command_text}
 use Rattle.osdp_msg.specs.ReplyTable.{IsReply, ReplyFits, reply_of}
 use Rattle.osdp_msg.specs.ReplyText.{reply_text}
 use Rattle.osdp_msg_laws.specs.Laws.{HasOneSpelling, HasOneText, ReadsTheTable}
-use Rattle.osdp_msg_laws.proofs.CommandLaws.{command_reads, commands_one_spelling}
-use Rattle.osdp_msg_laws.proofs.CommandTexts.{command_one_text}
-use Rattle.osdp_msg_laws.proofs.ReplyLaws.{replies_one_spelling, reply_reads}
-use Rattle.osdp_msg_laws.proofs.ReplyTexts.{reply_one_text}
+use Rattle.osdp_msg_laws.proofs.CommandLaws.{command_laws}
+use Rattle.osdp_msg_laws.proofs.CommandTexts.{command_texts}
+use Rattle.osdp_msg_laws.proofs.ReplyLaws.{reply_laws}
+use Rattle.osdp_msg_laws.proofs.ReplyTexts.{reply_texts}
 use Rattle.osdp_tool_lines.specs.ItemText.{data_text, message_text, told_text, unread_text}
 use Rattle.osdp_tool_lines.proofs.Cuts.{differ_at, one_byte, one_list}
 
@@ -114,13 +114,13 @@ reply_first m = lit< tt
 
 pub one_message : (reply : Bool) (code other : ℕ) (bytes others : List ℕ) → IsBytes (code ∷ bytes) → IsBytes (other ∷ others)
     → message_text reply code bytes ≡ message_text reply other others → (code ≡ other) × (bytes ≡ others)
-one_message true = one_told IsReply ReplyFits reply_of reply_text reply_reads replies_one_spelling reply_one_text
+one_message true = one_told IsReply ReplyFits reply_of reply_text reply_laws.reads reply_laws.one_spelling reply_texts.one_text
     (λ code bytes m is. is.fits) reply_first
-one_message false = one_told IsCommand CommandFits command_of command_text command_reads commands_one_spelling
-    command_one_text (λ code bytes m is. is.fits) command_first
+one_message false = one_told IsCommand CommandFits command_of command_text command_laws.reads command_laws.one_spelling
+    command_texts.one_text (λ code bytes m is. is.fits) command_first
 
 pub message_first : (reply : Bool) (code : ℕ) (bytes : List ℕ) → get_or (message_text reply code bytes) 0 0 ≡ 98 → ⊥
-message_first true code bytes = told_first IsReply ReplyFits reply_of reply_text reply_reads replies_one_spelling
-    reply_one_text (λ code bytes m is. is.fits) reply_first (reply_of code bytes) code bytes
-message_first false code bytes = told_first IsCommand CommandFits command_of command_text command_reads commands_one_spelling
-    command_one_text (λ code bytes m is. is.fits) command_first (command_of code bytes) code bytes
+message_first true code bytes = told_first IsReply ReplyFits reply_of reply_text reply_laws.reads reply_laws.one_spelling
+    reply_texts.one_text (λ code bytes m is. is.fits) reply_first (reply_of code bytes) code bytes
+message_first false code bytes = told_first IsCommand CommandFits command_of command_text command_laws.reads command_laws.one_spelling
+    command_texts.one_text (λ code bytes m is. is.fits) command_first (command_of code bytes) code bytes

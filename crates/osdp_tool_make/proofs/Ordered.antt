@@ -13,10 +13,10 @@ use Rattle.osdp_words.specs.Word.{AllStandFor}
 use Rattle.osdp_words.proofs.WordLaws.{is_decimal}
 use Rattle.osdp_msg.specs.CommandTable.{command_code, command_data}
 use Rattle.osdp_msg.specs.ReplyTable.{reply_code, reply_data}
-use Rattle.osdp_msg_laws.proofs.CommandLaws.{command_reads, commands_fit}
-use Rattle.osdp_msg_laws.proofs.ReplyLaws.{replies_fit, reply_reads}
-use Rattle.osdp_msg_laws.proofs.CommandTexts.{command_one_meaning}
-use Rattle.osdp_msg_laws.proofs.ReplyTexts.{reply_one_meaning}
+use Rattle.osdp_msg_laws.proofs.CommandLaws.{command_laws}
+use Rattle.osdp_msg_laws.proofs.ReplyLaws.{reply_laws}
+use Rattle.osdp_msg_laws.proofs.CommandTexts.{command_texts}
+use Rattle.osdp_msg_laws.proofs.ReplyTexts.{reply_texts}
 use Rattle.osdp_tool_make.specs.declared.order.Message.{Message}
 use Rattle.osdp_tool_make.specs.declared.order.Message.TheVariants.{Command, Reply}
 use Rattle.osdp_tool_make.specs.declared.order.PacketOrder.{PacketOrder}
@@ -41,8 +41,8 @@ one_check Crc Sum given a b = absurd (sum_is_not_crc (sym b ∙ a))
 
 one_message : (m n : Message) (given : List (List ℕ)) → MessageFits m → MessageFits n → AllStandFor (message_words m) given
     → AllStandFor (message_words n) given → m ≡ n
-one_message (Command c) (Command d) given h k a b = ap Command (command_one_meaning given c d h k a b)
-one_message (Reply c) (Reply d) given h k a b = ap Reply (reply_one_meaning given c d h k a b)
+one_message (Command c) (Command d) given h k a b = ap Command (command_texts.one_meaning given c d h k a b)
+one_message (Reply c) (Reply d) given h k a b = ap Reply (reply_texts.one_meaning given c d h k a b)
 one_message (Command c) (Reply d) given h k a b = absurd (not_both c d given a b)
 one_message (Reply c) (Command d) given h k a b = absurd (not_both d c given b a)
 
@@ -70,21 +70,21 @@ one_order (w ∷ v ∷ u ∷ given) a b f g =
 
 body_bytes : (m : Message) → MessageFits m → IsBytes (message_body m) × (length (message_body m) ≤ 1433)
 body_bytes (Command c) h =
-    let fit = commands_fit (command_code c) (command_data c) c (record { code_is = refl; data_is = refl; fits = h }) in
+    let fit = command_laws.fits (command_code c) (command_data c) c (record { code_is = refl; data_is = refl; fits = h }) in
     (fit.0, omega (arith, fit.1))
 body_bytes (Reply r) h =
-    let fit = replies_fit (reply_code r) (reply_data r) r (record { code_is = refl; data_is = refl; fits = h }) in
+    let fit = reply_laws.fits (reply_code r) (reply_data r) r (record { code_is = refl; data_is = refl; fits = h }) in
     (fit.0, omega (arith, fit.1))
 
 read_message : (o : PacketOrder) (m : Message) → o.message ≡ m → MessageFits m → IsReadAs (order_packet o) m
 unfolding order_of
 read_message o (Command c) e h =
     let bytes = body_bytes (Command c) h in
-    let read = (command_reads (command_code c) (command_data c) c (λ i. bytes.0 (suc i))).1 (record { code_is = refl; data_is = refl; fits = h }) in
+    let read = (command_laws.reads (command_code c) (command_data c) c (λ i. bytes.0 (suc i))).1 (record { code_is = refl; data_is = refl; fits = h }) in
     subst (λ x. IsReadAs (order_packet (order_of o.address o.seq o.check x)) (Command c)) (sym e) (refl, read)
 read_message o (Reply r) e h =
     let bytes = body_bytes (Reply r) h in
-    let read = (reply_reads (reply_code r) (reply_data r) r (λ i. bytes.0 (suc i))).1 (record { code_is = refl; data_is = refl; fits = h }) in
+    let read = (reply_laws.reads (reply_code r) (reply_data r) r (λ i. bytes.0 (suc i))).1 (record { code_is = refl; data_is = refl; fits = h }) in
     subst (λ x. IsReadAs (order_packet (order_of o.address o.seq o.check x)) (Reply r)) (sym e) (refl, read)
 
 -- with the law of spellings, and that of a run which is one
