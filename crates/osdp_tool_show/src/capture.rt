@@ -1,6 +1,6 @@
 //! A capture: its lines, and the runs of bytes that stand in them.
 
-ghost use Rattle.std.specs.Prelude.{◌≡◌, ◌+◌, ◌*◌, ◌<◌, ◌^◌, ◌++◌, ℕ, List, [], ◌∷◌, Bool, true, false, length, Option, OnOk, OnErr, IfOk, IfErr, MatchOption};
+ghost use Rattle.std.specs.Prelude.{◌≡◌, ◌+◌, ◌*◌, ◌<◌, ◌^◌, ◌++◌, ℕ, List, [], ◌∷◌, Bool, true, false, length, Option, string_bytes, OnOk, OnErr, IfOk, IfErr, MatchOption};
 ghost use Rattle.osdp_tool_streams.specs.Watched.{inner_of, has_failed};
 ghost use Rattle.osdp_tool_input.specs.Cut.{line_feed, IsLine};
 ghost use Rattle.osdp_tool_show.specs.Machine.{told, IsStep, IsSettled};
@@ -140,10 +140,12 @@ impl Capture {
         Ok(true)
     }
 
-    /// The capture goes on by these bytes; false where a bad line has ended.
-    pub fn take<W: Write>(
+    /// The capture goes on by what one read gave; false where a bad line has ended. Where that is less than there was room for, the
+    /// next bytes may be a while in coming, so what waits is written out.
+    pub fn take_read<W: Write>(
         &mut self,
         piece: &[u8],
+        room: usize,
         output: &mut Watched<W>,
     ) -> Result<bool, ToolFault>
         requires settled { IsSettled self.old.framer }
@@ -151,15 +153,20 @@ impl Capture {
         ensures step { IsStep result (has_failed output.old) (has_failed output.new) }
         ensures took { IfOk result (λ good. TookPart piece.now good self.old self.new
             (told (W.contents (inner_of output.old)) self.old.report) (told (W.contents (inner_of output.new)) self.new.report)) }
+        ensures waits { IfOk result (λ good. length piece.now < room → string_bytes self.new.report.text ≡ []) }
         ensures stops { OnErr result (StopsInPiece piece.now self.old (told (W.contents (inner_of output.old)) self.old.report) (W.contents (inner_of output.new))) }
     {
-        match self.form {
+        let good = match self.form {
             Form::Raw => {
                 take(&mut self.framer, &mut self.report, piece, output)?;
-                Ok(true)
+                true
             }
-            Form::Joined | Form::Apart => self.take_lines(piece, output),
+            Form::Joined | Form::Apart => self.take_lines(piece, output)?,
+        };
+        if piece.len() < room {
+            self.report.write_out(output)?;
         }
+        Ok(good)
     }
 }
 

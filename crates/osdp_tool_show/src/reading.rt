@@ -1,6 +1,6 @@
 //! A capture that is read from a stream to its end.
 
-ghost use Rattle.std.specs.Prelude.{◌≡◌, ◌+◌, ◌*◌, ◌<◌, ◌≤◌, ◌^◌, ◌↔◌, ℕ, List, [], length, take, Bool, Option, is_err, true, false, string_bytes, if◌then◌else◌, Result, IfOk, OnOk, OnErr, IfErr};
+ghost use Rattle.std.specs.Prelude.{◌≡◌, ◌+◌, ◌*◌, ◌<◌, ◌≤◌, ◌^◌, ◌↔◌, ℕ, List, [], length, take, Bool, Option, is_err, true, false, if◌then◌else◌, Result, IfOk, OnOk, OnErr, IfErr};
 ghost use Rattle.osdp_tool_input.specs.declared.form.Form.{Form};
 ghost use Rattle.osdp_tool_streams.specs.Watched.{inner_of, has_failed};
 ghost use Rattle.osdp_tool_show.specs.Machine.{told, IsStep, IsSettled};
@@ -22,32 +22,9 @@ pub enum Ending {
 }
 
 impl Capture {
-    ghost use Rattle.osdp_tool_show.specs.Capture.{load, Follows, TookPart, StopsInPiece};
+    ghost use Rattle.osdp_tool_show.specs.Capture.{load, Follows};
     ghost use Rattle.osdp_tool_show.specs.Ending.{streamed};
     ghost use Rattle.osdp_tool_show.specs.Works.{ReadTo, ReadPart, Works, Answered};
-
-    /// The capture goes on by what one read gave; false where a bad line has ended. Where that is less than there was room for, the
-    /// next bytes may be a while in coming, so what waits is written out.
-    fn take_read<W: Write>(
-        &mut self,
-        piece: &[u8],
-        room: usize,
-        output: &mut Watched<W>,
-    ) -> Result<bool, ToolFault>
-        requires settled { IsSettled self.old.framer }
-        requires load { load self.old + 5 * length piece.now < 2 ^ 61 }
-        ensures step { IsStep result (has_failed output.old) (has_failed output.new) }
-        ensures took { IfOk result (λ good. TookPart piece.now good self.old self.new
-            (told (W.contents (inner_of output.old)) self.old.report) (told (W.contents (inner_of output.new)) self.new.report)) }
-        ensures waits { IfOk result (λ good. length piece.now < room → string_bytes self.new.report.text ≡ []) }
-        ensures stops { OnErr result (StopsInPiece piece.now self.old (told (W.contents (inner_of output.old)) self.old.report) (W.contents (inner_of output.new))) }
-    {
-        let good = self.take(piece, output)?;
-        if piece.len() < room {
-            self.report.write_out(output)?;
-        }
-        Ok(good)
-    }
 
     /// Reads to the end of the input, a bad line, the limit or a failed read.
     pub fn read_all<R: Read, W: Write>(
