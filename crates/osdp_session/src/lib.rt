@@ -4,11 +4,9 @@
 //! each reader, session by session, at the places that the account's lengths give. So nobody has to join the run's contract and a law by hand.
 #![tactic(auto)]
 
-ghost use Rattle.osdp_sim.specs.Runs.{FitAlong, RunEnds, steps_done};
-ghost use Rattle.osdp_sim.specs.State.{set_up};
-ghost use Rattle.osdp_sim_laws.specs.Accounts.{IsInSession, IsOnce, WasSetUp, account_in};
-ghost use Rattle.osdp_session.specs.Sessions.{AreInSessions, HoldsInSessions};
-ghost use Rattle.std.specs.Prelude.{◌<◌, ◌^◌, All, length};
+ghost use Rattle.osdp_session.specs.Sessions.{AreInSessions};
+ghost use Rattle.osdp_session.specs.Runs.{HoldsOfEachRun, HoldsOfRun};
+ghost use Rattle.std.specs.Prelude.{◌<◌, ◌^◌, length};
 
 mod several_readers;
 
@@ -32,15 +30,9 @@ pub fn run_session<H: Handler>(
     handler: H,
     steps: &[SimStep],
 ) -> Result<Account, Fault<Account>>
-    ensures ends { RunEnds H.answer_of H.after config.now handler steps.now result }
-    ensures fits { FitAlong H.answer_of H.after (steps_done steps.now result) (set_up config.now handler) }
-    ensures once { WasSetUp result → All IsInSession (steps_done steps.now result)
-        → IsOnce H.answer_of H.after config.now.reader handler (account_in result) }
-    ensures sessions { WasSetUp result → HoldsInSessions H.answer_of H.after config.now.reader handler (account_in result) }
+    ensures { HoldsOfRun H.answer_of H.after config.now handler steps.now result }
 {
-    osdp_sim_laws::schedule_holds_once::<H>();
-    osdp_sim_laws::schedule_stays_in_a_row::<H>();
-    holds_in_sessions::<H>();
+    holds_of_each_run::<H>();
     osdp_sim::run_session(alloc, config, handler, steps)
 }
 
@@ -52,16 +44,19 @@ pub fn run_schedule<H: Handler, S: Schedule>(
     schedule: S,
 ) -> Result<Account, Fault<Account>>
     requires { length (S.left schedule) < 2 ^ 64 }
-    ensures ends { RunEnds H.answer_of H.after config.now handler (S.left schedule) result }
-    ensures fits { FitAlong H.answer_of H.after (steps_done (S.left schedule) result) (set_up config.now handler) }
-    ensures once { WasSetUp result → All IsInSession (steps_done (S.left schedule) result)
-        → IsOnce H.answer_of H.after config.now.reader handler (account_in result) }
-    ensures sessions { WasSetUp result → HoldsInSessions H.answer_of H.after config.now.reader handler (account_in result) }
+    ensures { HoldsOfRun H.answer_of H.after config.now handler (S.left schedule) result }
+{
+    holds_of_each_run::<H>();
+    osdp_sim::run_schedule(alloc, config, handler, schedule)
+}
+
+/// What holds of each run: `osdp_sim` answers so, and the laws of accounts say the rest.
+fn holds_of_each_run<H: Handler>()
+    ensures { HoldsOfEachRun H.answer_of H.after }
 {
     osdp_sim_laws::schedule_holds_once::<H>();
     osdp_sim_laws::schedule_stays_in_a_row::<H>();
     holds_in_sessions::<H>();
-    osdp_sim::run_schedule(alloc, config, handler, schedule)
 }
 
 /// What holds of sessions one after the other holds at the places that the account's lengths give.

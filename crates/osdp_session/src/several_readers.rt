@@ -1,12 +1,7 @@
 //! A schedule run over a line with a bus and several readers.
 
-ghost use Rattle.osdp_session.specs.Sessions.{HoldsInSessions};
-ghost use Rattle.osdp_session.specs.SeveralReaders.{EachIsInSessions};
-ghost use Rattle.osdp_sim_bus.specs.Runs.{FitAlong, RunEnds, steps_done};
-ghost use Rattle.osdp_sim_bus.specs.State.{set_up};
-ghost use Rattle.osdp_sim_bus_laws.specs.Accounts.{EachMeets, WasSetUp, accounts_in};
-ghost use Rattle.osdp_sim_laws.specs.Accounts.{IsInSession, IsOnce};
-ghost use Rattle.std.specs.Prelude.{◌<◌, ◌^◌, All, length};
+ghost use Rattle.osdp_session.specs.SeveralReaders.{EachIsInSessions, HoldsOfBusRun, HoldsOfEachBusRun};
+ghost use Rattle.std.specs.Prelude.{◌<◌, ◌^◌, length};
 
 use crate::holds_in_sessions;
 use osdp_bus::BusConfig;
@@ -28,15 +23,9 @@ pub fn run_bus<H: Handler>(
     readers: Vec<(ReaderConfig, usize, H)>,
     steps: &[SimStep],
 ) -> Result<Vec<Account>, Fault<Vec<Account>>>
-    ensures ends { RunEnds H.answer_of H.after config.now readers.items steps.now result }
-    ensures fits { FitAlong H.answer_of H.after (steps_done steps.now result) (set_up config.now readers.items) }
-    ensures once { WasSetUp result → All IsInSession (steps_done steps.now result)
-        → EachMeets (IsOnce H.answer_of H.after) readers.items (accounts_in result) }
-    ensures sessions { WasSetUp result → EachMeets (HoldsInSessions H.answer_of H.after) readers.items (accounts_in result) }
+    ensures { HoldsOfBusRun H.answer_of H.after config.now readers.items steps.now result }
 {
-    osdp_sim_bus_laws::each_account_holds_once::<H>();
-    osdp_sim_bus_laws::each_account_stays_in_a_row::<H>();
-    each_holds_in_sessions::<H>();
+    holds_of_each_bus_run::<H>();
     osdp_sim_bus::run_bus(alloc, config, readers, steps)
 }
 
@@ -48,16 +37,19 @@ pub fn run_bus_schedule<H: Handler, S: Schedule>(
     schedule: S,
 ) -> Result<Vec<Account>, Fault<Vec<Account>>>
     requires { length (S.left schedule) < 2 ^ 64 }
-    ensures ends { RunEnds H.answer_of H.after config.now readers.items (S.left schedule) result }
-    ensures fits { FitAlong H.answer_of H.after (steps_done (S.left schedule) result) (set_up config.now readers.items) }
-    ensures once { WasSetUp result → All IsInSession (steps_done (S.left schedule) result)
-        → EachMeets (IsOnce H.answer_of H.after) readers.items (accounts_in result) }
-    ensures sessions { WasSetUp result → EachMeets (HoldsInSessions H.answer_of H.after) readers.items (accounts_in result) }
+    ensures { HoldsOfBusRun H.answer_of H.after config.now readers.items (S.left schedule) result }
+{
+    holds_of_each_bus_run::<H>();
+    osdp_sim_bus::run_bus_schedule(alloc, config, readers, schedule)
+}
+
+/// What holds of each run over a bus: `osdp_sim_bus` answers so, and the laws of accounts say the rest.
+fn holds_of_each_bus_run<H: Handler>()
+    ensures { HoldsOfEachBusRun H.answer_of H.after }
 {
     osdp_sim_bus_laws::each_account_holds_once::<H>();
     osdp_sim_bus_laws::each_account_stays_in_a_row::<H>();
     each_holds_in_sessions::<H>();
-    osdp_sim_bus::run_bus_schedule(alloc, config, readers, schedule)
 }
 
 /// What holds of each reader's sessions one after the other holds at the places that its account's lengths give.

@@ -10,7 +10,7 @@ pub returns-in-Ok-clause-told : goal.returns-in-Ok-clause-told
 returns-in-Ok-clause-told c =
     told_ok c.args.script.now c.args.address c.args.events c.in-Ok.what c.accepts_by_room.ensures
     (run_as c.args.script.now c.args.address c.args.events c.settings-config.result c.new.result (steps_left c.schedule.result) (Ok c.in-Ok.what)
-    c.settings-config.ensures c.new.ensures c.schedule.ensures c.in-Ok.ensures.ends)
+    c.settings-config.ensures c.new.ensures c.schedule.ensures c.in-Ok.ensures.run.ends)
     (holds_as c.args.script.now c.args.address c.args.events c.settings-config.result c.new.result (lists_of c.in-Ok.what)
     c.settings-config.ensures c.new.ensures (c.in-Ok.ensures.sessions tt))
 
@@ -20,7 +20,7 @@ returns-in-Err-clause-told c =
     subst (λ (a : declared.Account). TellsOne c.args.script.now (c.args.address, c.args.events) (lists_of a) told.end) (sym is.0)
     (told_stopped c.args.script.now c.args.address c.args.events c.in-Err.fault told.end c.accepts_by_room.ensures
     (run_as c.args.script.now c.args.address c.args.events c.settings-config.result c.new.result (steps_left c.schedule.result) (Err c.in-Err.fault)
-    c.settings-config.ensures c.new.ensures c.schedule.ensures c.in-Err.ensures.ends)
+    c.settings-config.ensures c.new.ensures c.schedule.ensures c.in-Err.ensures.run.ends)
     (λ some. holds_as c.args.script.now c.args.address c.args.events c.settings-config.result c.new.result (lists_of c.in-Err.fault.account)
     c.settings-config.ensures c.new.ensures (c.in-Err.ensures.sessions some)) is.1))
     c.stopped.ensures.told

@@ -1,0 +1,10 @@
+use Rattle.osdp_sim_bus_laws.specs.Accounts.{accounts_in}
+use Rattle.osdp_session.proofs.several_readers.holds_of_each_bus_run.Goals as goal
+
+pub returns : goal.returns
+returns g c config readers steps answer run = record {
+  run = run;
+  once = c.each_account_holds_once.ensures config readers steps answer run;
+  sessions = λ begun.
+      c.each_holds_in_sessions.ensures readers (accounts_in answer) (c.each_account_stays_in_a_row.ensures config readers steps answer run begun);
+}
