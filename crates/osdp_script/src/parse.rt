@@ -1,6 +1,6 @@
 //! The words of a line of a script.
 
-ghost use Rattle.std.specs.Prelude.{◌≡◌, ◌<◌, ◌≤◌, ◌^◌, ◌∷◌, [], Bool, ℕ};
+ghost use Rattle.std.specs.Prelude.{◌≡◌, ◌<◌, ◌≤◌, ◌^◌, ◌∷◌, [], Bool, List, MatchOption, None, Some, ℕ};
 ghost use Rattle.osdp_frame.specs.Check.{check_name};
 ghost use Rattle.osdp_msg.specs.CommandText.{command_words};
 ghost use Rattle.osdp_msg.specs.Events.{event_words};
@@ -22,14 +22,15 @@ fn number_within(word: &str, least: u32, most: u32) -> Option<u32>
     (least <= number && number <= most).then_some(number)
 }
 
-/// One word, and no other: such a number.
-fn parse_number(words: &[&str], least: u32, most: u32) -> Option<u32>
-    ensures { ReadsWords (λ n. number n ∷ []) (λ n. (least ≤ n) × (n ≤ most)) (texts words.now) result }
+/// One word, and no other: a number that is at most so much.
+fn parse_number(words: &[&str], most: u32) -> Option<u32>
+    ensures { ReadsWords (λ n. number n ∷ []) (λ n. n ≤ most) (texts words.now) result }
 {
     let [word] = words else {
         return None;
     };
-    number_within(word, least, most)
+    let number = number_u32(word)?;
+    (number <= most).then_some(number)
 }
 
 /// One of so many readers, counted from 1.
@@ -38,6 +39,18 @@ fn reader_of(word: &str, readers: usize) -> Option<usize>
 {
     let reader = number_within(word, 1, 16)? as usize;
     (reader <= readers).then_some(reader)
+}
+
+/// The first word: one of so many readers. It gives the words after it too.
+fn reader_first<'a>(words: &'a [&'a str], readers: usize) -> Option<(usize, &'a [&'a str])>
+    ensures { MatchOption result ((first : List ℕ) (rest : List (List ℕ)) → texts words.now ≡ first ∷ rest → Reads number (IsReader readers) first None)
+        (λ r. (first : List ℕ) × (texts words.now ≡ first ∷ texts r.1.now) × Reads number (IsReader readers) first (Some r.0)) }
+{
+    let [reader, rest @ ..] = words else {
+        return None;
+    };
+    let reader = reader_of(reader, readers)?;
+    Some((reader, rest))
 }
 
 /// One word, and no other: one of so many readers.
@@ -81,10 +94,7 @@ fn parse_issue(words: &[&str], readers: usize) -> Option<(usize, Command)>
     ensures { ReadsWords (λ (x : ℕ × Command). number x.0 ∷ command_words x.1) (λ (x : ℕ × Command). IsOrder readers x.0 x.1)
         (texts words.now) result }
 {
-    let [reader, text @ ..] = words else {
-        return None;
-    };
-    let reader = reader_of(reader, readers)?;
+    let (reader, text) = reader_first(words, readers)?;
     match Command::parse(text) {
         Ok(Command::Poll) | Err(_) => None,
         Ok(command) => Some((reader, command)),
@@ -96,10 +106,7 @@ fn parse_queue(words: &[&str], readers: usize) -> Option<(usize, Event)>
     ensures { ReadsWords (λ (x : ℕ × Event). number x.0 ∷ event_words x.1) (λ (x : ℕ × Event). IsHappening readers x.0 x.1)
         (texts words.now) result }
 {
-    let [reader, text @ ..] = words else {
-        return None;
-    };
-    let reader = reader_of(reader, readers)?;
+    let (reader, text) = reader_first(words, readers)?;
     match Event::parse(text) {
         Ok(event) => Some((reader, event)),
         Err(_) => None,
@@ -110,10 +117,9 @@ fn parse_queue(words: &[&str], readers: usize) -> Option<(usize, Event)>
 fn parse_busy(words: &[&str], readers: usize) -> Option<(usize, bool)>
     ensures { ReadsWords (λ (x : ℕ × Bool). number x.0 ∷ switch_word x.1 ∷ []) (λ (x : ℕ × Bool). IsReader readers x.0) (texts words.now) result }
 {
-    let [reader, switch] = words else {
+    let (reader, [switch]) = reader_first(words, readers)? else {
         return None;
     };
-    let reader = reader_of(reader, readers)?;
     match *switch {
         "on" => Some((reader, true)),
         "off" => Some((reader, false)),
@@ -165,7 +171,7 @@ fn parse_row(name: &str, words: &[&str], readers: usize) -> Option<ScriptLine>
             Some(ScriptLine::Step(SimStep::Busy(reader, busy)))
         }
         "wait" => {
-            let time = parse_number(words, 0, 3_600_000)?;
+            let time = parse_number(words, 3_600_000)?;
             Some(ScriptLine::Step(SimStep::Wait(u64::from(time))))
         }
         "to-reader" => Some(ScriptLine::Step(SimStep::ToReader(parse_move(words)?))),
@@ -174,7 +180,7 @@ fn parse_row(name: &str, words: &[&str], readers: usize) -> Option<ScriptLine>
             let reader = parse_reopen(words, readers)?;
             Some(ScriptLine::Step(SimStep::Reopen(reader)))
         }
-        "clean" => Some(ScriptLine::Clean(parse_number(words, 0, 1000)? as usize)),
+        "clean" => Some(ScriptLine::Clean(parse_number(words, 1000)? as usize)),
         _ => None,
     }
 }

@@ -7,7 +7,7 @@ use Rattle.osdp_msg.specs.declared.command.Command.{Command}
 use Rattle.osdp_msg.specs.declared.event.Event.{Event}
 use Rattle.osdp_msg.specs.CommandText.{command_words}
 use Rattle.osdp_msg.specs.Events.{EventFits, event_reply, event_words}
-use Rattle.osdp_msg.proofs.RowTexts.{IsRow, differ}
+use Rattle.osdp_msg.proofs.RowTexts.{differ}
 use Rattle.osdp_msg_laws.proofs.CommandTexts.{command_texts}
 use Rattle.osdp_msg_laws.proofs.EventReplies.{same_event}
 use Rattle.osdp_msg_laws.proofs.OneMeaning.{numbers_then, states_one}
@@ -19,7 +19,7 @@ use Rattle.osdp_words.specs.Word.{AllStandFor, Word, number, plain}
 use Rattle.osdp_script.specs.declared.script.ScriptLine.{ScriptLine}
 use Rattle.osdp_script.specs.declared.script.ScriptLine.TheVariants.{Check, Reader, Step, Clean}
 use Rattle.osdp_script.specs.Lines.{IsHappening, IsOrder, IsReader, IsSetting, LineFits, MoveFits, line_fields, line_name, line_words, move_words, switch_word}
-use Rattle.osdp_script.proofs.Rows.{busy_line, issue_line, queue_line, reader_line, reopen_line, row_busy, row_check, row_clean, row_issue, row_queue, row_reader, row_reopen, row_to_controller, row_to_reader, row_wait, to_controller_line, to_reader_line, wait_line}
+use Rattle.osdp_script.proofs.Rows.{BusyRow, CheckRow, CleanRow, IssueRow, QueueRow, ReaderRow, ReopenRow, Row, RowFits, RowValue, ToControllerRow, ToReaderRow, WaitRow, row_line, row_name, row_only, row_words}
 
 -- ---- fields
 
@@ -114,46 +114,36 @@ one_move (g ∷ given) x y h k s t = absurd (differ (move_name x) (move_name y) 
 -- ---- lines
 
 -- two lines of one row
-by_row : {X : Type 0} (readers : ℕ) (words : X → List Word) (Allowed : X → Type 0) (name : List ℕ) (make : X → ScriptLine)
-    → IsRow line_name line_fields (LineFits readers) words Allowed name make → HasOne words Allowed
-    → (given : List (List ℕ)) (m n : ScriptLine) → line_name m ≡ name → line_name n ≡ name → LineFits readers m → LineFits readers n
+by_row : (readers : ℕ) (row : Row) → HasOne (row_words row) (RowFits readers row)
+    → (given : List (List ℕ)) (m n : ScriptLine) → line_name m ≡ row_name row → line_name n ≡ row_name row → LineFits readers m → LineFits readers n
     → AllStandFor (line_fields m) given → AllStandFor (line_fields n) given → m ≡ n
-by_row {X} readers words Allowed name make row one given m n e f h k s t =
-    let a = row.only m e in
-    let b = row.only n f in
-    a.1 ∙ ap make (one given a.0 b.0 (allowed m a.0 a.1 h) (allowed n b.0 b.1 k) (stands m a.0 a.1 s) (stands n b.0 b.1 t)) ∙ sym b.1
+by_row readers row one given m n e f h k s t =
+    let a = row_only row m e in
+    let b = row_only row n f in
+    a.1 ∙ ap (row_line row) (one given a.0 b.0 (fits m a.0 a.1 h) (fits n b.0 b.1 k) (stands m a.0 a.1 s) (stands n b.0 b.1 t)) ∙ sym b.1
   where
-    allowed : (l : ScriptLine) (x : X) → l ≡ make x → LineFits readers l → Allowed x
-    allowed l x is fits = row.allowed x (subst (LineFits readers) is fits)
+    fits : (l : ScriptLine) (x : RowValue row) → l ≡ row_line row x → LineFits readers l → RowFits readers row x
+    fits l x is h = subst (LineFits readers) is h
 
-    stands : (l : ScriptLine) (x : X) → l ≡ make x → AllStandFor (line_fields l) given → AllStandFor (words x) given
-    stands l x is all =
-        subst (λ (ws : List Word). AllStandFor ws given) (row.fields x) (subst (λ (q : ScriptLine). AllStandFor (line_fields q) given) is all)
+    stands : (l : ScriptLine) (x : RowValue row) → l ≡ row_line row x → AllStandFor (line_fields l) given → AllStandFor (row_words row x) given
+    stands l x is all = subst (λ (q : ScriptLine). AllStandFor (line_fields q) given) is all
 
-rows : (readers : ℕ) (given : List (List ℕ)) (m n : ScriptLine) → line_name n ≡ line_name m → LineFits readers m → LineFits readers n
-    → AllStandFor (line_fields m) given → AllStandFor (line_fields n) given → m ≡ n
-rows readers given (Check x) n e h k s t =
-    by_row readers _ _ _ Check (row_check readers) one_check given (Check x) n refl e h k s t
-rows readers given (Reader address room) n e h k s t =
-    by_row readers _ _ _ reader_line (row_reader readers) one_reader given (Reader address room) n refl e h k s t
-rows readers given (Clean x) n e h k s t =
-    by_row readers _ _ _ Clean (row_clean readers) (λ g x y h k. one_number 1000 (omega arith) g x y h.1 k.1) given (Clean x) n refl e h k s t
-rows readers given (Step (Issue reader x)) n e h k s t =
-    by_row readers _ _ _ issue_line (row_issue readers) (one_issue readers) given (Step (Issue reader x)) n refl e h k s t
-rows readers given (Step (Queue reader x)) n e h k s t =
-    by_row readers _ _ _ queue_line (row_queue readers) (one_queue readers) given (Step (Queue reader x)) n refl e h k s t
-rows readers given (Step (Busy reader x)) n e h k s t =
-    by_row readers _ _ _ busy_line (row_busy readers) (one_busy readers) given (Step (Busy reader x)) n refl e h k s t
-rows readers given (Step (Wait x)) n e h k s t =
-    by_row readers _ _ _ wait_line (row_wait readers) (λ g x y h k. one_number 3600000 (omega arith) g x y h.1 k.1) given (Step (Wait x)) n refl e h k s t
-rows readers given (Step (ToReader x)) n e h k s t =
-    by_row readers _ _ _ to_reader_line (row_to_reader readers) one_move given (Step (ToReader x)) n refl e h k s t
-rows readers given (Step (ToController x)) n e h k s t =
-    by_row readers _ _ _ to_controller_line (row_to_controller readers) one_move given (Step (ToController x)) n refl e h k s t
-rows readers given (Step (Reopen x)) n e h k s t =
-    by_row readers _ _ _ reopen_line (row_reopen readers) (one_reopen readers) given (Step (Reopen x)) n refl e h k s t
+-- a line's row, and that its value is one
+row_one : (readers : ℕ) (m : ScriptLine) → (row : Row) × (line_name m ≡ row_name row) × HasOne (row_words row) (RowFits readers row)
+row_one readers (Check kind) = (CheckRow, refl, one_check)
+row_one readers (Reader address room) = (ReaderRow, refl, one_reader)
+row_one readers (Step (Issue reader command)) = (IssueRow, refl, one_issue readers)
+row_one readers (Step (Queue reader event)) = (QueueRow, refl, one_queue readers)
+row_one readers (Step (Busy reader busy)) = (BusyRow, refl, one_busy readers)
+row_one readers (Step (Wait time)) = (WaitRow, refl, one_number 3600000 (omega arith))
+row_one readers (Step (ToReader move)) = (ToReaderRow, refl, one_move)
+row_one readers (Step (ToController move)) = (ToControllerRow, refl, one_move)
+row_one readers (Step (Reopen reader)) = (ReopenRow, refl, one_reopen readers)
+row_one readers (Clean count) = (CleanRow, refl, one_number 1000 (omega arith))
 
 pub one_line : (readers : ℕ) (given : List (List ℕ)) (m n : ScriptLine) → LineFits readers m → LineFits readers n
     → AllStandFor (line_words m) given → AllStandFor (line_words n) given → m ≡ n
 one_line readers [] m n h k s t = absurd s
-one_line readers (g ∷ given) m n h k s t = rows readers given m n (sym t.0 ∙ s.0) h k s.1 t.1
+one_line readers (g ∷ given) m n h k s t =
+    let row = row_one readers m in
+    by_row readers row.0 row.2 given m n row.1 (sym t.0 ∙ s.0 ∙ row.1) h k s.1 t.1
