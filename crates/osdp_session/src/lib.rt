@@ -55,7 +55,6 @@ fn holds_of_each_run<H: Handler>()
     ensures { HoldsOfEachRun H.answer_of H.after }
 {
     osdp_sim_laws::schedule_holds_once::<H>();
-    osdp_sim_laws::schedule_stays_in_a_row::<H>();
     holds_in_sessions::<H>();
 }
 

@@ -48,7 +48,6 @@ fn holds_of_each_bus_run<H: Handler>()
     ensures { HoldsOfEachBusRun H.answer_of H.after }
 {
     osdp_sim_bus_laws::each_account_holds_once::<H>();
-    osdp_sim_bus_laws::each_account_stays_in_a_row::<H>();
     each_holds_in_sessions::<H>();
 }
 

@@ -35,23 +35,19 @@ pub fn schedules_are_moves<H: Handler>()
 /// Whatever a schedule over a bus says, for each reader: its account is that of sessions in a row, with the last session's unsettled commands
 /// and the lengths of all lists where each session began. Each session is once and in order, and the next begins with what it leaves. None
 /// ends because a number was refused. That holds of the accounts with a fault too, once the line was set up.
-pub fn each_account_stays_in_a_row<H: Handler>()
-    ensures { StaysInARow H.answer_of H.after }
+///
+/// Where no session begins again: the commands that a reader has taken are a beginning of those issued to it, and hold each settled one,
+/// with the answer that this reader gave, and one more at most; the events reported are a beginning of those queued at it; its session ends
+/// at most once, and not by a refused number.
+pub fn each_account_holds_once<H: Handler>()
+    ensures row { StaysInARow H.answer_of H.after }
+    ensures once { HoldsOnce H.answer_of H.after }
 {
     schedules_are_moves::<H>();
     osdp_multidrop::each_is_a_link::<H>();
     osdp_multidrop::each_holds_once::<H>();
     osdp_multidrop::each_stays_in_a_row::<H>();
     osdp_sim_bus::laws::has_an_account_each::<H>();
-}
-
-/// Whatever a schedule over a bus says that begins no session again, for each reader: the commands that it has taken are a beginning of
-/// those issued to it, and hold each settled one, with the answer that this reader gave, and one more at most; the events reported are a
-/// beginning of those queued at it; its session ends at most once, and not by a refused number.
-pub fn each_account_holds_once<H: Handler>()
-    ensures { HoldsOnce H.answer_of H.after }
-{
-    each_account_stays_in_a_row::<H>();
 }
 
 /// Whatever a schedule over a bus says, for each reader: of the commands for it, POLL left out, some are accepted, each once and in their order.

@@ -22,17 +22,13 @@ pub fn stands_on_one_link<H: Handler>()
 }
 
 /// Whatever a schedule says, in sessions in a row: each is once and in order, and the next begins with what it leaves.
-pub fn schedule_stays_in_a_row<H: Handler>()
-    ensures { StaysInARow H.answer_of H.after }
-{
-    stands_on_one_link::<H>();
-}
-
-/// Whatever a schedule says that begins no session again: the commands that the reader has taken are a beginning of those issued, and
-/// hold each settled one, with the answer that the reader gave, and one more at most; the events that the controller reported are a
-/// beginning of those queued; it ends at most once, and not by a refused number.
+///
+/// Where it begins no session again: the commands that the reader has taken are a beginning of those issued, and hold each settled one, with
+/// the answer that the reader gave, and one more at most; the events that the controller reported are a beginning of those queued; it ends
+/// at most once, and not by a refused number.
 pub fn schedule_holds_once<H: Handler>()
-    ensures { HoldsOnce H.answer_of H.after }
+    ensures row { StaysInARow H.answer_of H.after }
+    ensures once { HoldsOnce H.answer_of H.after }
 {
     stands_on_one_link::<H>();
 }

@@ -178,7 +178,6 @@ fn sessions_are_told_apart(rt: HostRuntime) {
 #[test]
 fn accounts_hold_with_a_door(_rt: HostRuntime) {
     osdp_sim::laws::reads_packets();
-    osdp_sim_laws::schedule_stays_in_a_row::<Door>();
     osdp_sim_laws::schedule_holds_once::<Door>();
     osdp_sim_laws::schedule_comes_through::<Door>();
     osdp_sim_laws::accepts_by_room::<Door>();

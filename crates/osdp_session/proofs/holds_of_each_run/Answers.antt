@@ -4,7 +4,7 @@ use Rattle.osdp_session.proofs.holds_of_each_run.Goals as goal
 pub returns : goal.returns
 returns g c config handler steps answer run = record {
   run = run;
-  once = c.schedule_holds_once.ensures config handler steps answer run;
+  once = c.schedule_holds_once.ensures.once config handler steps answer run;
   sessions = λ begun.
-      c.holds_in_sessions.ensures config.reader handler (account_in answer) (c.schedule_stays_in_a_row.ensures config handler steps answer run begun);
+      c.holds_in_sessions.ensures config.reader handler (account_in answer) (c.schedule_holds_once.ensures.row config handler steps answer run begun);
 }

@@ -4,7 +4,7 @@ use Rattle.osdp_session.proofs.several_readers.holds_of_each_bus_run.Goals as go
 pub returns : goal.returns
 returns g c config readers steps answer run = record {
   run = run;
-  once = c.each_account_holds_once.ensures config readers steps answer run;
+  once = c.each_account_holds_once.ensures.once config readers steps answer run;
   sessions = λ begun.
-      c.each_holds_in_sessions.ensures readers (accounts_in answer) (c.each_account_stays_in_a_row.ensures config readers steps answer run begun);
+      c.each_holds_in_sessions.ensures readers (accounts_in answer) (c.each_account_holds_once.ensures.row config readers steps answer run begun);
 }
