@@ -16,7 +16,6 @@ pub fn each_comes_through<H: Handler>()
     osdp_sim_bus_laws::schedules_are_moves::<H>();
     osdp_sim_bus::laws::has_an_account_each::<H>();
     osdp_multidrop::each_is_a_link::<H>();
-    osdp_multidrop::each_stays_in_a_row::<H>();
     osdp_link_laws::read_each_other::<H>();
     osdp_link_laws::comes_through::<H>();
     osdp_link_laws::stay_where_they_are::<H>();

@@ -25,35 +25,23 @@ pub fn nobody_else_hears<H: Handler>()
 }
 
 /// So after every list of moves each reader and its controller, with what is their own on the line, are their link after the moves that
-/// the list comes to for them.
-pub fn each_is_a_link<H: Handler>()
-    ensures { EachIsALink H.answer_of H.after }
-{
-    osdp_link_laws::read_each_other::<H>();
-}
-
+/// the list comes to for them. What holds of one link holds of each.
+///
 /// Within each session of each reader, over every list of losses, repeats and detected damage: its commands are taken once and in order,
 /// settled with their own answers, and its events are reported once and in order.
-pub fn each_holds_once<H: Handler>()
-    ensures { EachHoldsOnce H.answer_of H.after }
-{
-    each_is_a_link::<H>();
-    osdp_link_laws::holds_once::<H>();
-}
-
+///
 /// No session of any of them ends because a reader refused a number.
-pub fn each_refuses_no_number<H: Handler>()
-    ensures { EachRefusesNoNumber H.answer_of H.after }
-{
-    each_is_a_link::<H>();
-    osdp_link_laws::refuses_no_number::<H>();
-}
-
+///
 /// Over sessions in a row of each reader: no command that one settled or told unsettled is one of a later session, no event is skipped, and
 /// each beginning tells again one at most.
-pub fn each_stays_in_a_row<H: Handler>()
-    ensures { EachStaysInARow H.answer_of H.after }
+pub fn each_is_a_link<H: Handler>()
+    ensures link { EachIsALink H.answer_of H.after }
+    ensures once { EachHoldsOnce H.answer_of H.after }
+    ensures numbers { EachRefusesNoNumber H.answer_of H.after }
+    ensures row { EachStaysInARow H.answer_of H.after }
 {
-    each_is_a_link::<H>();
+    osdp_link_laws::read_each_other::<H>();
+    osdp_link_laws::holds_once::<H>();
+    osdp_link_laws::refuses_no_number::<H>();
     osdp_link_laws::sessions_in_a_row::<H>();
 }

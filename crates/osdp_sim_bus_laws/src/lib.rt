@@ -29,7 +29,6 @@ pub fn schedules_are_moves<H: Handler>()
     osdp_link_laws::read_each_other::<H>();
     osdp_link_laws::refuses_no_number::<H>();
     osdp_multidrop::each_is_a_link::<H>();
-    osdp_multidrop::each_stays_in_a_row::<H>();
 }
 
 /// Whatever a schedule over a bus says, for each reader: its account is that of sessions in a row, with the last session's unsettled commands
@@ -45,8 +44,6 @@ pub fn each_account_holds_once<H: Handler>()
 {
     schedules_are_moves::<H>();
     osdp_multidrop::each_is_a_link::<H>();
-    osdp_multidrop::each_holds_once::<H>();
-    osdp_multidrop::each_stays_in_a_row::<H>();
     osdp_sim_bus::laws::has_an_account_each::<H>();
 }
 

@@ -7,5 +7,5 @@ returns-clause-steps g c = steps_are_moves g.H.Handler.answer_of g.H.Handler.aft
 
 pub returns-clause-schedules : goal.returns-clause-schedules
 returns-clause-schedules g c =
-    schedules_are_moves g.H.Handler.answer_of g.H.Handler.after (returns-clause-steps g c) c.read_each_other.ensures c.each_is_a_link.ensures
-    c.refuses_no_number.ensures.packets c.each_stays_in_a_row.ensures
+    schedules_are_moves g.H.Handler.answer_of g.H.Handler.after (returns-clause-steps g c) c.read_each_other.ensures c.each_is_a_link.ensures.link
+    c.refuses_no_number.ensures.packets c.each_is_a_link.ensures.row

@@ -1,5 +1,0 @@
-use Rattle.osdp_multidrop.proofs.Linking.{each_refuses_no_number}
-use Rattle.osdp_multidrop.proofs.each_refuses_no_number.Goals as goal
-
-pub returns : goal.returns
-returns g c = each_refuses_no_number g.H.Handler.answer_of g.H.Handler.after c.each_is_a_link.ensures c.refuses_no_number.ensures.endings
