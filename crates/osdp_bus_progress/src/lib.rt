@@ -12,7 +12,6 @@ use osdp_reader::Handler;
 pub fn each_comes_through<H: Handler>()
     ensures { EachComesThrough H.answer_of H.after }
 {
-    osdp_sim_bus_laws::stands_on_one_bus::<H>();
     osdp_sim_bus_laws::schedules_are_moves::<H>();
     osdp_sim_bus::laws::has_an_account_each::<H>();
     osdp_multidrop::each_is_a_link::<H>();

@@ -8,24 +8,20 @@ ghost use Rattle.osdp_sim_bus_laws.specs.Moves.{OneBus, SchedulesAreMoves, Steps
 
 use osdp_reader::Handler;
 
-/// What the law stands on: the calls of a bus are moves, and a packet is read as it is spelled.
-pub fn stands_on_one_bus<H: Handler>()
-    ensures { OneBus H.answer_of H.after }
+/// The calls of a bus are moves, and a packet is read as it is spelled.
+///
+/// So each step of a schedule that isn't refused is a list of moves of several links: the simulated line follows it, with the bus as their
+/// controllers, their packets as bytes, and each reader's account as what the sessions of its site come to. So is each schedule, as far as it
+/// isn't refused, from a line on which the first sessions begin.
+pub fn schedules_are_moves<H: Handler>()
+    ensures bus { OneBus H.answer_of H.after }
+    ensures steps { StepsAreMoves H.answer_of H.after }
+    ensures schedules { SchedulesAreMoves H.answer_of H.after }
 {
     osdp_sim::laws::reads_packets();
     osdp_frame_laws::one_spelling();
     osdp_frame_laws::spelling_of_bytes();
     osdp_bus_links::calls_are_moves::<H>();
-}
-
-/// Each step of a schedule that isn't refused is a list of moves of several links: the simulated line follows it, with the bus as their
-/// controllers, their packets as bytes, and each reader's account as what the sessions of its site come to. So is each schedule, as far as it
-/// isn't refused, from a line on which the first sessions begin.
-pub fn schedules_are_moves<H: Handler>()
-    ensures steps { StepsAreMoves H.answer_of H.after }
-    ensures schedules { SchedulesAreMoves H.answer_of H.after }
-{
-    stands_on_one_bus::<H>();
     osdp_link_laws::read_each_other::<H>();
     osdp_link_laws::refuses_no_number::<H>();
     osdp_multidrop::each_is_a_link::<H>();

@@ -1,9 +1,25 @@
+use Rattle.std.proofs.Common.{refl, arith}
+use Rattle.osdp_frame.specs.Spelling.{spelling}
 use Rattle.osdp_sim_bus_laws.proofs.Scheduling.{schedules_are_moves}
 use Rattle.osdp_sim_bus_laws.proofs.Stepping.{steps_are_moves}
 use Rattle.osdp_sim_bus_laws.proofs.schedules_are_moves.Goals as goal
 
+pub returns-clause-bus : goal.returns-clause-bus
+returns-clause-bus g c = record {
+  submits = c.calls_are_moves.ensures.submits;
+  begins = c.calls_are_moves.ensures.begins;
+  ticks = c.calls_are_moves.ensures.ticks;
+  hears = c.calls_are_moves.ensures.hears;
+  reads = record {
+    one = λ p packet. c.reads_packets.ensures.one p (spelling p) ((c.one_spelling.ensures p (spelling p)).1 (packet, refl));
+    none = c.reads_packets.ensures.none;
+  };
+  spells = λ p packet. c.spelling_of_bytes.ensures p (spelling p) ((c.one_spelling.ensures p (spelling p)).1 (packet, refl));
+  no_bytes = λ place. omega arith;
+}
+
 pub returns-clause-steps : goal.returns-clause-steps
-returns-clause-steps g c = steps_are_moves g.H.Handler.answer_of g.H.Handler.after c.stands_on_one_bus.ensures
+returns-clause-steps g c = steps_are_moves g.H.Handler.answer_of g.H.Handler.after (returns-clause-bus g c)
 
 pub returns-clause-schedules : goal.returns-clause-schedules
 returns-clause-schedules g c =
