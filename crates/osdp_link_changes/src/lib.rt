@@ -9,11 +9,15 @@ use osdp_reader::Handler;
 
 /// Within each session, whatever the device tells and when it changes: commands are taken once and in order, each is settled with the
 /// answer that the reader gave to it then, and events are reported once and in order.
-///
+pub fn changed_links_hold_once<H: Handler>()
+    ensures { HoldsOnce H.answer_of H.after }
+{
+    osdp_link_laws::read_each_other::<H>();
+}
+
 /// Over sessions in a row each accepted command has one place, by place and not by value: settled, told unsettled, withdrawn, or with the
 /// last session. The commands withdrawn after a session are the first of those that waited at its end, and no session has them again.
-pub fn changed_links_hold_once<H: Handler>()
-    ensures once { HoldsOnce H.answer_of H.after }
+pub fn changed_links_stay_in_a_row<H: Handler>()
     ensures row { StayInARow H.answer_of H.after }
     ensures commands { CommandsHavePlaces H.answer_of H.after }
     ensures events { EventsHavePlaces H.answer_of H.after }

@@ -12,5 +12,6 @@ fn a_session_holds_with_a_door(_rt: HostRuntime) {
     osdp_link_laws::comes_through::<Door>();
     osdp_link_laws::goes_in_turn::<Door>();
     osdp_link_changes::changed_links_hold_once::<Door>();
+    osdp_link_changes::changed_links_stay_in_a_row::<Door>();
     osdp_link_changes::moves_as_before::<Door>();
 }
