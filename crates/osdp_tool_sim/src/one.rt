@@ -3,8 +3,7 @@
 ghost use Rattle.std.specs.Prelude.{◌≡◌, ◌<◌, ◌^◌, ℕ, length, IfErr, IfOk, string_bytes};
 ghost use Rattle.osdp_script.specs.Lines.{IsSetting};
 ghost use Rattle.osdp_script.specs.Script.{steps_of};
-ghost use Rattle.osdp_sim.specs.Account.{lists_of};
-ghost use Rattle.osdp_tool_sim.specs.One.{TellsOne, config_of};
+ghost use Rattle.osdp_tool_sim.specs.One.{config_of};
 ghost use Rattle.osdp_tool_sim.specs.Told.{IsTextOfOne};
 
 use crate::told::{COMMANDS, Told, stopped};
@@ -13,7 +12,7 @@ use osdp_frame::{Address, CheckKind};
 use osdp_script::Script;
 use osdp_script_reader::{ScriptReader, script_config};
 use osdp_session::run_schedule;
-use osdp_sim::{Account, SimConfig};
+use osdp_sim::SimConfig;
 use osdp_tool_account::account_text;
 use osdp_tool_streams::ToolFault;
 use std::alloc::Global;
@@ -30,26 +29,6 @@ fn settings(check: CheckKind, address: Address, events: usize) -> SimConfig
     }
 }
 
-/// Runs a script of one reader.
-fn run_one(
-    alloc: Global,
-    script: &Script,
-    address: Address,
-    events: usize,
-) -> Result<Told<Account>, ToolFault>
-    requires steps { length (steps_of script.now) < 2 ^ 64 }
-    requires setting { IsSetting address events }
-    ensures told { IfOk result (λ told. TellsOne script.now (address, events) (lists_of told.what) told.end) }
-    ensures fault { IfErr result (λ fault. fault ≡ ToolFault.NoMemory) }
-{
-    osdp_sim_laws::accepts_by_room::<ScriptReader>();
-    let config = settings(script.check, address, events);
-    match run_schedule(alloc, &config, ScriptReader::new(), script.schedule()) {
-        Ok(what) => Ok(Told { what, end: Ok(()) }),
-        Err(fault) => stopped(fault),
-    }
-}
-
 /// Runs a script of one reader, and tells its account.
 pub(crate) fn tell_one(
     alloc: Global,
@@ -62,7 +41,12 @@ pub(crate) fn tell_one(
     ensures told { IfOk result (λ told. IsTextOfOne script.now (address, events) (string_bytes told.what) told.end) }
     ensures fault { IfErr result (λ fault. fault ≡ ToolFault.NoMemory) }
 {
-    let told = run_one(alloc, script, address, events)?;
+    osdp_sim_laws::accepts_by_room::<ScriptReader>();
+    let config = settings(script.check, address, events);
+    let told = match run_schedule(alloc, &config, ScriptReader::new(), script.schedule()) {
+        Ok(what) => Told { what, end: Ok(()) },
+        Err(fault) => stopped(fault)?,
+    };
     match account_text(alloc, 1, &told.what) {
         Ok(what) => Ok(Told {
             what,
