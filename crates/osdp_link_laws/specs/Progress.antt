@@ -2,11 +2,12 @@
 use Rattle.std.specs.Prelude.{◌≡◌, ◌⊎◌, ◌≤◌, ℕ, ◌+◌, ◌-◌, min, true, false, All, List, [], ◌∷◌, ◌++◌, length, None}
 use Rattle.osdp_msg.specs.declared.command.Command.{Command}
 use Rattle.osdp_controller.specs.Hearing.{comset_of}
-use Rattle.osdp_controller.specs.Machine.{is_due}
+use Rattle.osdp_controller.specs.Machine.{Machine, is_due}
 use Rattle.osdp_controller.specs.Sessions.{later as later_by}
 use Rattle.osdp_controller.specs.declared.state.State.TheVariants.{Closed}
 use Rattle.osdp_controller_laws.specs.Calls.{IsInRange, longest_wait}
 use Rattle.osdp_reader.specs.declared.handler.Answer.{Answer}
+use Rattle.osdp_reader.specs.State.{ReaderState}
 use Rattle.osdp_reader.specs.Table.{new_address}
 use Rattle.osdp_link_laws.specs.Headline.{MovesFit, Begins}
 use Rattle.osdp_link_laws.specs.Link.{Account, Delivered, Link, Move, Tick, ToController, ToReader, run}
@@ -34,13 +35,17 @@ ComeOn moments before t =
     ≤ length t.settled + length t.reported
 
 module _ {H : Type 0} where
-  -- nothing is on the line, both ends are at one address, the reader isn't busy, and no COMSET to a device's address was issued
-  pub record IsClear (l : Link H) : Type 0 where
-    pub to_reader : l.to_reader ≡ []
-    pub to_controller : l.to_controller ≡ []
-    pub address : l.reader.config.address ≡ l.controller.session.config.address
-    pub ready : l.reader.busy ≡ false
-    pub issued : All SetsNoAddress l.account.issued
+  -- nothing is on the line, there or back, both ends are at one address, the reader isn't busy, and no COMSET to a device's address was issued
+  pub record AreClear {There Back : Type 0} (there : List There) (back : List Back) (r : ReaderState H) (c : Machine) (commands : List Command) : Type 0 where
+    pub to_reader : there ≡ []
+    pub to_controller : back ≡ []
+    pub address : r.config.address ≡ c.session.config.address
+    pub ready : r.busy ≡ false
+    pub issued : All SetsNoAddress commands
+
+  -- the link is
+  abbrev pub IsClear : Link H → Type 0
+  IsClear l = AreClear l.to_reader l.to_controller l.reader l.controller l.account.issued
 
   module _ (answer_of : H → Command → Answer) (after : H → Command → H) where
     -- each tick is due when it comes: none is where the session has ended

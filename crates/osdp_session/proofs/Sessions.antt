@@ -29,16 +29,20 @@ record IsIn (a : Account) (t : link.Account) (earlier : List link.Account) (past
   pub unsettled : IsBeginning (all_in (λ u. u.unsettled) (t ∷ earlier)) a.unsettled
   pub reported : IsBeginning (all_in (λ u. u.reported) (t ∷ earlier)) a.reported
 
+-- how long the lists are of what these sessions took, settled, told unsettled and reported
+record Counts (at : Lengths) (sessions : List link.Account) : Type 0 where
+  pub taken : at.taken ≡ length (all_in (λ u. u.taken) sessions)
+  pub settled : at.settled ≡ length (all_in (λ u. u.settled) sessions)
+  pub unsettled : at.unsettled ≡ length (all_in (λ u. u.unsettled) sessions)
+  pub reported : at.reported ≡ length (all_in (λ u. u.reported) sessions)
+
 -- where the session begins ..
 record IsFrom (from : Lengths) (place : ℕ) (t : link.Account) (earlier : List link.Account) (past : List Event) : Type 0 where
   pub least_issued : length (ended_commands earlier) ≤ from.issued
   pub most_issued : from.issued ≤ length (ended_commands earlier ++ t.issued)
   pub least_queued : length past ≤ from.queued
   pub most_queued : from.queued ≤ length (past ++ t.queued)
-  pub taken : from.taken ≡ length (all_in (λ u. u.taken) earlier)
-  pub settled : from.settled ≡ length (all_in (λ u. u.settled) earlier)
-  pub unsettled : from.unsettled ≡ length (all_in (λ u. u.unsettled) earlier)
-  pub reported : from.reported ≡ length (all_in (λ u. u.reported) earlier)
+  pub counts : Counts from earlier
   pub ends : from.ends ≡ length earlier
   pub first : place ≡ length past
 
@@ -46,10 +50,7 @@ record IsFrom (from : Lengths) (place : ℕ) (t : link.Account) (earlier : List 
 record IsTo (to : Lengths) (t : link.Account) (earlier : List link.Account) (past : List Event) : Type 0 where
   pub issued : to.issued ≡ length (ended_commands earlier ++ t.issued)
   pub queued : to.queued ≡ length (past ++ t.queued)
-  pub taken : to.taken ≡ length (all_in (λ u. u.taken) (t ∷ earlier))
-  pub settled : to.settled ≡ length (all_in (λ u. u.settled) (t ∷ earlier))
-  pub unsettled : to.unsettled ≡ length (all_in (λ u. u.unsettled) (t ∷ earlier))
-  pub reported : to.reported ≡ length (all_in (λ u. u.reported) (t ∷ earlier))
+  pub counts : Counts to (t ∷ earlier)
 
 -- the parts of the account are the lists of the session
 record IsPart (a : Account) (from to : Lengths) (first : ℕ) (t : link.Account) : Type 0 where
@@ -64,12 +65,12 @@ is_part : (a : Account) (from to : Lengths) (first : ℕ) (t : link.Account) (ea
     → IsIn a t earlier past → IsFrom from first t earlier past → IsTo to t earlier past → IsPart a from to first t
 is_part a from to first t earlier past in_ is_from is_to = record {
   issued = part (ended_commands earlier) t.issued a.issued in_.issued.0 (first_command from) to.issued
-      (omega (arith, is_from.settled, is_from.unsettled, told_length earlier)) is_to.issued in_.issued.1;
+      (omega (arith, is_from.counts.settled, is_from.counts.unsettled, told_length earlier)) is_to.issued in_.issued.1;
   queued = part past t.queued a.queued in_.queued.0 first to.queued is_from.first is_to.queued in_.queued.1;
-  taken = part (all_in (λ u. u.taken) earlier) t.taken a.taken in_.taken.0 from.taken to.taken is_from.taken is_to.taken in_.taken.1;
-  settled = part (all_in (λ u. u.settled) earlier) t.settled a.settled in_.settled.0 from.settled to.settled is_from.settled is_to.settled in_.settled.1;
-  unsettled = part (all_in (λ u. u.unsettled) earlier) t.unsettled a.unsettled in_.unsettled.0 from.unsettled to.unsettled is_from.unsettled is_to.unsettled in_.unsettled.1;
-  reported = part (all_in (λ u. u.reported) earlier) t.reported a.reported in_.reported.0 from.reported to.reported is_from.reported is_to.reported in_.reported.1;
+  taken = part (all_in (λ u. u.taken) earlier) t.taken a.taken in_.taken.0 from.taken to.taken is_from.counts.taken is_to.counts.taken in_.taken.1;
+  settled = part (all_in (λ u. u.settled) earlier) t.settled a.settled in_.settled.0 from.settled to.settled is_from.counts.settled is_to.counts.settled in_.settled.1;
+  unsettled = part (all_in (λ u. u.unsettled) earlier) t.unsettled a.unsettled in_.unsettled.0 from.unsettled to.unsettled is_from.counts.unsettled is_to.counts.unsettled in_.unsettled.1;
+  reported = part (all_in (λ u. u.reported) earlier) t.reported a.reported in_.reported.0 from.reported to.reported is_from.counts.reported is_to.counts.reported in_.reported.1;
 }
 
 told_is : (a : Account) (from to : Lengths) (first : ℕ) (t : link.Account) → IsPart a from to first t → session_told a from to ≡ settled_commands t ++ t.unsettled
@@ -98,8 +99,8 @@ next_event from to first t earlier past left [] is_from is_to is few =
     inl (omega (
       arith,
       is_from.first,
-      is_from.reported,
-      is_to.reported,
+      is_from.counts.reported,
+      is_to.counts.reported,
       length-append (all_in (λ u. u.reported) earlier) t.reported,
       ap length is,
       length-append left [],
@@ -109,8 +110,8 @@ next_event from to first t earlier past left (e ∷ []) is_from is_to is few =
     let count = length-append (all_in (λ u. u.reported) earlier) t.reported in
     let more = ap length is ∙ length-append left (e ∷ []) in
     inr (
-      omega (arith, is_from.reported, is_to.reported, count, more),
-      omega (arith, is_from.first, is_from.reported, is_to.reported, count, more, length-append past left),
+      omega (arith, is_from.counts.reported, is_to.counts.reported, count, more),
+      omega (arith, is_from.first, is_from.counts.reported, is_to.counts.reported, count, more, length-append past left),
     )
 next_event from to first t earlier past left (e ∷ f ∷ again) is_from is_to is few = absurd (omega (arith, few))
 
@@ -128,20 +129,20 @@ module _ {H : Type 0} (answer_of : H → Command → Answer) (after : H → Comm
       let parts = is_part a from to first t earlier past in_ is_from is_to in
       let later : handler_after_commands answer_of after config handler (take from.taken a.taken) ≡ handler_after answer_of after config handler earlier =
       ap (handler_after_commands answer_of after config handler)
-      (front (all_in (λ u. u.taken) earlier) t.taken a.taken in_.taken.0 from.taken is_from.taken in_.taken.1)
+      (front (all_in (λ u. u.taken) earlier) t.taken a.taken in_.taken.0 from.taken is_from.counts.taken in_.taken.1)
       ∙ handler_all answer_of after config handler earlier in
       record {
         begins = (
-          omega (arith, is_from.settled, is_from.unsettled, told_length earlier, is_from.least_issued),
+          omega (arith, is_from.counts.settled, is_from.counts.unsettled, told_length earlier, is_from.least_issued),
           omega (arith, is_from.first, is_from.least_queued),
         );
         grow = record {
           issued = omega (arith, is_from.most_issued, is_to.issued);
-          taken = omega (arith, is_from.taken, is_to.taken, length-append (all_in (λ u. u.taken) earlier) t.taken);
-          settled = omega (arith, is_from.settled, is_to.settled, length-append (all_in (λ u. u.settled) earlier) t.settled);
-          unsettled = omega (arith, is_from.unsettled, is_to.unsettled, length-append (all_in (λ u. u.unsettled) earlier) t.unsettled);
+          taken = omega (arith, is_from.counts.taken, is_to.counts.taken, length-append (all_in (λ u. u.taken) earlier) t.taken);
+          settled = omega (arith, is_from.counts.settled, is_to.counts.settled, length-append (all_in (λ u. u.settled) earlier) t.settled);
+          unsettled = omega (arith, is_from.counts.unsettled, is_to.counts.unsettled, length-append (all_in (λ u. u.unsettled) earlier) t.unsettled);
           queued = omega (arith, is_from.most_queued, is_to.queued);
-          reported = omega (arith, is_from.reported, is_to.reported, length-append (all_in (λ u. u.reported) earlier) t.reported);
+          reported = omega (arith, is_from.counts.reported, is_to.counts.reported, length-append (all_in (λ u. u.reported) earlier) t.reported);
         };
         taken = subst (λ cs. IsBeginning cs (session_commands a from to)) (sym parts.taken) (subst (IsBeginning t.taken) (sym parts.issued) good.once.taken);
         settled = (
@@ -156,7 +157,7 @@ module _ {H : Type 0} (answer_of : H → Command → Answer) (after : H → Comm
             (subst (IsBeginning t.reported) (sym parts.queued) good.once.reported);
         told = subst (λ cs. IsBeginning cs (session_commands a from to)) (sym (told_is a from to first t parts))
             (subst (IsBeginning (settled_commands t ++ t.unsettled)) (sym parts.issued) good.told);
-        unsettled = omega (arith, is_from.unsettled, is_to.unsettled, length-append (all_in (λ u. u.unsettled) earlier) t.unsettled, good.few);
+        unsettled = omega (arith, is_from.counts.unsettled, is_to.counts.unsettled, length-append (all_in (λ u. u.unsettled) earlier) t.unsettled, good.few);
       }
 
   -- from the last session on, to the one before it, and so on to the first
@@ -172,10 +173,7 @@ module _ {H : Type 0} (answer_of : H → Command → Answer) (after : H → Comm
       most_issued = omega arith;
       least_queued = omega (arith, ap length none);
       most_queued = omega arith;
-      taken = refl;
-      settled = refl;
-      unsettled = refl;
-      reported = refl;
+      counts = record { taken = refl; settled = refl; unsettled = refl; reported = refl };
       ends = refl;
       first = sym (ap length none);
     }),
@@ -203,8 +201,9 @@ module _ {H : Type 0} (answer_of : H → Command → Answer) (after : H → Comm
         reported = shorter (all_in (λ v. v.reported) (u ∷ earlier)) t.reported a.reported in_.reported;
       } in
       let cut = is.cut in
-      let is_to : IsTo at u earlier gone =
-      record { issued = cut.issued; queued = cut.queued; taken = cut.taken; settled = cut.settled; unsettled = cut.unsettled; reported = cut.reported } in
+      let counts : Counts at (u ∷ earlier) =
+      record { taken = cut.taken; settled = cut.settled; unsettled = cut.unsettled; reported = cut.reported } in
+      let is_to : IsTo at u earlier gone = record { issued = cut.issued; queued = cut.queued; counts = counts } in
       let next : IsFrom at (length past) t (u ∷ earlier) past = record {
         least_issued = omega (
           arith,
@@ -227,10 +226,7 @@ module _ {H : Type 0} (answer_of : H → Command → Answer) (after : H → Comm
           length-append is.left is.waits,
         );
         most_queued = omega (arith, cut.queued, ap length events_on, length-append (gone ++ u.queued) is.first.0);
-        taken = cut.taken;
-        settled = cut.settled;
-        unsettled = cut.unsettled;
-        reported = cut.reported;
+        counts = counts;
         ends = cut.ends;
         first = refl;
       } in
@@ -263,7 +259,7 @@ module _ {H : Type 0} (answer_of : H → Command → Answer) (after : H → Comm
   last_one a from first t earlier past parts is_from all some (inl (lasts, none)) =
       inl (
         omega (arith, lasts, some, is_from.ends),
-        omega (arith, is_from.unsettled, ap length all, length-append (all_in (λ u. u.unsettled) earlier) t.unsettled, ap length none),
+        omega (arith, is_from.counts.unsettled, ap length all, length-append (all_in (λ u. u.unsettled) earlier) t.unsettled, ap length none),
       )
   last_one a from first t earlier past parts is_from all some (inr (ended, (waiting, events, leaves))) =
       inr (has_ended a from (lengths_of a) first t waiting events parts leaves (omega (arith, ended, some, is_from.ends)))
@@ -294,10 +290,12 @@ module _ {H : Type 0} (answer_of : H → Command → Answer) (after : H → Comm
       let is_to : IsTo (lengths_of a) t earlier past = record {
         issued = ap length lists.issued;
         queued = ap length lists.queued.2;
-        taken = ap length lists.taken;
-        settled = ap length lists.settled;
-        unsettled = ap length lists.unsettled;
-        reported = ap length lists.reported;
+        counts = record {
+          taken = ap length lists.taken;
+          settled = ap length lists.settled;
+          unsettled = ap length lists.unsettled;
+          reported = ap length lists.reported;
+        };
       } in
       let good : IsGood t earlier = record {
         once = row.once.0;

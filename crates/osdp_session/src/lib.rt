@@ -4,15 +4,17 @@
 //! each reader, session by session, at the places that the account's lengths give. So nobody has to join the run's contract and a law by hand.
 #![tactic(auto)]
 
-ghost use Rattle.osdp_session.specs.Sessions.{AreInSessions};
-ghost use Rattle.osdp_session.specs.Runs.{HoldsOfEachRun, HoldsOfRun};
+ghost use Rattle.osdp_session.specs.Runs.{HoldsOfRun};
 ghost use Rattle.std.specs.Prelude.{◌<◌, ◌^◌, length};
 
+mod laws;
 mod several_readers;
 
+use laws::holds_of_each_run;
+pub use laws::{each_holds_in_sessions, holds_in_sessions};
 use osdp_reader::Handler;
 use osdp_sim::{Account, Fault, Schedule, SimConfig, SimStep};
-pub use several_readers::{each_holds_in_sessions, run_bus, run_bus_schedule};
+pub use several_readers::{run_bus, run_bus_schedule};
 use std::alloc::Global;
 
 /// Runs a schedule over a line with one controller and one reader, as `osdp_sim::run_session` does, and gives the account of what happened, or
@@ -49,16 +51,3 @@ pub fn run_schedule<H: Handler, S: Schedule>(
     holds_of_each_run::<H>();
     osdp_sim::run_schedule(alloc, config, handler, schedule)
 }
-
-/// What holds of each run: `osdp_sim` answers so, and the laws of accounts say the rest.
-fn holds_of_each_run<H: Handler>()
-    ensures { HoldsOfEachRun H.answer_of H.after }
-{
-    osdp_sim_laws::schedule_holds_once::<H>();
-    holds_in_sessions::<H>();
-}
-
-/// What holds of sessions one after the other holds at the places that the account's lengths give.
-pub fn holds_in_sessions<H: Handler>()
-    ensures { AreInSessions H.answer_of H.after }
-{}

@@ -1,9 +1,9 @@
 //! A schedule run over a line with a bus and several readers.
 
-ghost use Rattle.osdp_session.specs.SeveralReaders.{EachIsInSessions, HoldsOfBusRun, HoldsOfEachBusRun};
+ghost use Rattle.osdp_session.specs.SeveralReaders.{HoldsOfBusRun};
 ghost use Rattle.std.specs.Prelude.{◌<◌, ◌^◌, length};
 
-use crate::holds_in_sessions;
+use crate::laws::holds_of_each_bus_run;
 use osdp_bus::BusConfig;
 use osdp_reader::{Handler, ReaderConfig};
 use osdp_sim::{Account, Fault, Schedule, SimStep};
@@ -41,19 +41,4 @@ pub fn run_bus_schedule<H: Handler, S: Schedule>(
 {
     holds_of_each_bus_run::<H>();
     osdp_sim_bus::run_bus_schedule(alloc, config, readers, schedule)
-}
-
-/// What holds of each run over a bus: `osdp_sim_bus` answers so, and the laws of accounts say the rest.
-fn holds_of_each_bus_run<H: Handler>()
-    ensures { HoldsOfEachBusRun H.answer_of H.after }
-{
-    osdp_sim_bus_laws::each_account_holds_once::<H>();
-    each_holds_in_sessions::<H>();
-}
-
-/// What holds of each reader's sessions one after the other holds at the places that its account's lengths give.
-pub fn each_holds_in_sessions<H: Handler>()
-    ensures { EachIsInSessions H.answer_of H.after }
-{
-    holds_in_sessions::<H>();
 }

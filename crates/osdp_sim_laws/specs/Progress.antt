@@ -3,7 +3,7 @@ use Rattle.std.specs.Prelude.{◌≡◌, ◌≤◌, ℕ, zero, suc, ◌+◌, ◌
 use Rattle.osdp_msg.specs.declared.command.Command.{Command}
 use Rattle.osdp_controller_laws.specs.Calls.{longest_wait}
 use Rattle.osdp_reader.specs.declared.handler.Answer.{Answer}
-use Rattle.osdp_link_laws.specs.Progress.{SetsNoAddress}
+use Rattle.osdp_link_laws.specs.Progress.{AreClear, SetsNoAddress}
 use Rattle.osdp_sim.specs.Account.{Account}
 use Rattle.osdp_sim.specs.Runs.{AreSettings, FitAlong, is_well, run}
 use Rattle.osdp_sim.specs.State.{SimState, set_up}
@@ -37,13 +37,9 @@ abbrev pub ComesOn : ℕ → Account → Account → Type 0
 ComesOn m before a = min (done before + (m - 1)) (length a.issued + length a.queued) ≤ done a
 
 module _ {H : Type 0} where
-  -- nothing is on the line, both ends are at one address, the reader isn't busy, and no COMSET to a device's address was issued
-  pub record IsClear (s : SimState H) : Type 0 where
-    pub to_reader : s.to_reader ≡ []
-    pub to_controller : s.to_controller ≡ []
-    pub address : s.reader.config.address ≡ s.controller.session.config.address
-    pub ready : s.reader.busy ≡ false
-    pub issued : All SetsNoAddress s.account.issued
+  -- the line and both ends are clear, as those of a link are
+  abbrev pub IsClear : SimState H → Type 0
+  IsClear s = AreClear s.to_reader s.to_controller s.reader s.controller s.account.issued
 
   module _ (answer_of : H → Command → Answer) (after : H → Command → H) where
     -- a schedule whose settings are in their ranges, of which no step is refused, and what goes over the line in it fits

@@ -1,5 +1,5 @@
 use Rattle.osdp_sim_laws.specs.Accounts.{account_in}
-use Rattle.osdp_session.proofs.holds_of_each_run.Goals as goal
+use Rattle.osdp_session.proofs.laws.holds_of_each_run.Goals as goal
 
 pub returns : goal.returns
 returns g c config handler steps answer run = record {

@@ -1,5 +1,5 @@
 use Rattle.osdp_sim_bus_laws.specs.Accounts.{accounts_in}
-use Rattle.osdp_session.proofs.several_readers.holds_of_each_bus_run.Goals as goal
+use Rattle.osdp_session.proofs.laws.holds_of_each_bus_run.Goals as goal
 
 pub returns : goal.returns
 returns g c config readers steps answer run = record {

@@ -1,4 +1,4 @@
-use Rattle.osdp_session.proofs.several_readers.each_holds_in_sessions.Goals as goal
+use Rattle.osdp_session.proofs.laws.each_holds_in_sessions.Goals as goal
 
 pub returns : goal.returns
 returns g c readers told row = record {

@@ -1,0 +1,35 @@
+//! What the runs' contracts stand on. The functions do nothing: their contracts are laws.
+
+ghost use Rattle.osdp_session.specs.Runs.{HoldsOfEachRun};
+ghost use Rattle.osdp_session.specs.Sessions.{AreInSessions};
+ghost use Rattle.osdp_session.specs.SeveralReaders.{EachIsInSessions, HoldsOfEachBusRun};
+
+use osdp_reader::Handler;
+
+/// What holds of sessions one after the other holds at the places that the account's lengths give.
+pub fn holds_in_sessions<H: Handler>()
+    ensures { AreInSessions H.answer_of H.after }
+{}
+
+/// What holds of each reader's sessions one after the other holds at the places that its account's lengths give.
+pub fn each_holds_in_sessions<H: Handler>()
+    ensures { EachIsInSessions H.answer_of H.after }
+{
+    holds_in_sessions::<H>();
+}
+
+/// What holds of each run: `osdp_sim` answers so, and the laws of accounts say the rest.
+pub(crate) fn holds_of_each_run<H: Handler>()
+    ensures { HoldsOfEachRun H.answer_of H.after }
+{
+    osdp_sim_laws::schedule_holds_once::<H>();
+    holds_in_sessions::<H>();
+}
+
+/// What holds of each run over a bus: `osdp_sim_bus` answers so, and the laws of accounts say the rest.
+pub(crate) fn holds_of_each_bus_run<H: Handler>()
+    ensures { HoldsOfEachBusRun H.answer_of H.after }
+{
+    osdp_sim_bus_laws::each_account_holds_once::<H>();
+    each_holds_in_sessions::<H>();
+}
