@@ -1,9 +1,9 @@
 -- The settings of a reader: their words, and what each sets.
-use Rattle.std.specs.Prelude.{ℕ, ◌<◌, ◌^◌, List, [], ◌∷◌, ◌++◌, codes, length, nat_lt, if◌then◌else◌, slice_index, Option, Some, None}
+use Rattle.std.specs.Prelude.{ℕ, ◌<◌, ◌^◌, List, [], ◌∷◌, ◌++◌, codes, length, replicate, nat_lt, if◌then◌else◌, slice_index, Option, Some, None}
 use Rattle.osdp_controller.specs.Settings.{IsTime}
 use Rattle.osdp_msg.specs.declared.reply_fields.PdCap.{PdCap}
 use Rattle.osdp_msg.specs.declared.reply_fields.PdId.{PdId}
-use Rattle.osdp_msg.specs.ReplyFields.{capability_at}
+use Rattle.osdp_msg.specs.ReplyFields.{capability_at, pd_id_at}
 use Rattle.osdp_words.specs.Word.{bytes, number, numbers}
 use Rattle.osdp_line_programs.specs.declared.reader.ReaderSetting.{ReaderSetting}
 use Rattle.osdp_line_programs.specs.declared.reader.ReaderSetting.TheVariants.{At, Vendor, Model, Version, Serial, Firmware, Cap, Room, Gap}
@@ -54,15 +54,7 @@ abbrev pub defaults : ReaderSettings
 defaults = record {
   config = record {
     address = 0;
-    id = record {
-      vendor = 0 ∷ 0 ∷ 0 ∷ [];
-      model = 0;
-      version = 0;
-      serial = 0;
-      firmware_major = 0;
-      firmware_minor = 0;
-      firmware_build = 0;
-    };
+    id = pd_id_at (replicate 12 0);
     caps = record { capabilities = record { items = [] } };
   };
   room = 64;
