@@ -1,5 +1,5 @@
 -- The settings of a reader: their words, and what each sets.
-use Rattle.std.specs.Prelude.{ℕ, ◌<◌, ◌^◌, List, [], ◌∷◌, ◌++◌, codes, length, nat_lt, if◌then◌else◌, slice_index, Option, Some, None}
+use Rattle.std.specs.Prelude.{ℕ, ◌<◌, ◌^◌, List, [], ◌∷◌, ◌++◌, codes, length, replicate, nat_lt, if◌then◌else◌, slice_index, Option, Some, None}
 use Rattle.osdp_controller.specs.Settings.{IsTime}
 use Rattle.osdp_msg.specs.declared.reply_fields.PdCap.{PdCap}
 use Rattle.osdp_msg.specs.declared.reply_fields.PdId.{PdId}
@@ -54,7 +54,7 @@ abbrev pub defaults : ReaderSettings
 defaults = record {
   config = record {
     address = 0;
-    id = pd_id_at (0 ∷ 0 ∷ 0 ∷ 0 ∷ 0 ∷ 0 ∷ 0 ∷ 0 ∷ 0 ∷ 0 ∷ 0 ∷ 0 ∷ []);
+    id = pd_id_at (replicate 12 0);
     caps = record { capabilities = record { items = [] } };
   };
   room = 64;

@@ -15,54 +15,35 @@ use Rattle.osdp_script.specs.Lines.{LineFits, line_fields, line_name, line_words
 
 -- a row for each name of a line
 pub data Row : Type 0 where
-  CheckRow : Row
-  ReaderRow : Row
-  IssueRow : Row
-  QueueRow : Row
-  BusyRow : Row
-  WaitRow : Row
-  ToReaderRow : Row
-  ToControllerRow : Row
-  ReopenRow : Row
-  CleanRow : Row
+  CheckRow ReaderRow CleanRow : Row
+  IssueRow QueueRow BusyRow WaitRow ToReaderRow ToControllerRow ReopenRow : Row
+
+-- its name, what is read after it, and the line that this makes
+pub record Entry : Type 1 where
+  pub name : List ℕ
+  pub Value : Type 0
+  pub line : Value → ScriptLine
+
+abbrev pub entry : Row → Entry
+entry CheckRow = record { name = codes "check"; Value = CheckKind; line = Check }
+entry ReaderRow = record { name = codes "reader"; Value = ℕ × ℕ; line = λ x. Reader x.0 x.1 }
+entry IssueRow = record { name = codes "issue"; Value = ℕ × Command; line = λ x. Step (Issue x.0 x.1) }
+entry QueueRow = record { name = codes "queue"; Value = ℕ × Event; line = λ x. Step (Queue x.0 x.1) }
+entry BusyRow = record { name = codes "busy"; Value = ℕ × Bool; line = λ x. Step (Busy x.0 x.1) }
+entry WaitRow = record { name = codes "wait"; Value = ℕ; line = λ time. Step (Wait time) }
+entry ToReaderRow = record { name = codes "to-reader"; Value = Move; line = λ move. Step (ToReader move) }
+entry ToControllerRow = record { name = codes "to-controller"; Value = Move; line = λ move. Step (ToController move) }
+entry ReopenRow = record { name = codes "reopen"; Value = ℕ; line = λ reader. Step (Reopen reader) }
+entry CleanRow = record { name = codes "clean"; Value = ℕ; line = Clean }
 
 abbrev pub row_name : Row → List ℕ
-row_name CheckRow = codes "check"
-row_name ReaderRow = codes "reader"
-row_name IssueRow = codes "issue"
-row_name QueueRow = codes "queue"
-row_name BusyRow = codes "busy"
-row_name WaitRow = codes "wait"
-row_name ToReaderRow = codes "to-reader"
-row_name ToControllerRow = codes "to-controller"
-row_name ReopenRow = codes "reopen"
-row_name CleanRow = codes "clean"
+row_name row = (entry row).name
 
--- what is read after the name ..
 abbrev pub RowValue : Row → Type 0
-RowValue CheckRow = CheckKind
-RowValue ReaderRow = ℕ × ℕ
-RowValue IssueRow = ℕ × Command
-RowValue QueueRow = ℕ × Event
-RowValue BusyRow = ℕ × Bool
-RowValue WaitRow = ℕ
-RowValue ToReaderRow = Move
-RowValue ToControllerRow = Move
-RowValue ReopenRow = ℕ
-RowValue CleanRow = ℕ
+RowValue row = (entry row).Value
 
--- .. makes this line
 abbrev pub row_line : (row : Row) → RowValue row → ScriptLine
-row_line CheckRow kind = Check kind
-row_line ReaderRow reader = Reader reader.0 reader.1
-row_line IssueRow order = Step (Issue order.0 order.1)
-row_line QueueRow happening = Step (Queue happening.0 happening.1)
-row_line BusyRow state = Step (Busy state.0 state.1)
-row_line WaitRow time = Step (Wait time)
-row_line ToReaderRow move = Step (ToReader move)
-row_line ToControllerRow move = Step (ToController move)
-row_line ReopenRow reader = Step (Reopen reader)
-row_line CleanRow count = Clean count
+row_line row = (entry row).line
 
 -- the words of such a value are the line's, and it is allowed where the line is
 abbrev pub row_words : (row : Row) → RowValue row → List Word
