@@ -1,54 +1,72 @@
 -- How the programs end.
-use Rattle.std.specs.Prelude.{◌≡◌, ◌⊎◌, ℕ, Bool, List, codes, Option, Result, Err}
+use Rattle.std.specs.Prelude.{◌≡◌, ◌⊎◌, ℕ, List, codes, Option, Result, Err}
 use Rattle.std.specs.Io.KnownBytes.{Keeps}
 use Rattle.osdp_line_streams.specs.Answers.{Answering}
 use Rattle.osdp_line_streams.specs.Ending.{Ends}
 use Rattle.osdp_panel_calls.specs.Lines.{Answers as PanelAnswers}
-use Rattle.osdp_panel_calls.specs.Sessions.{new_session as new_panel}
+use Rattle.osdp_panel_calls.specs.Sessions.{Session as PanelSession, new_session as new_panel}
 use Rattle.osdp_reader_calls.specs.Lines.{Answers as ReaderAnswers}
 use Rattle.osdp_reader_calls.specs.Sessions.{Session as ReaderSession, new_session as new_reader}
 use Rattle.osdp_tool_streams.specs.declared.fault.ToolFault.{ToolFault}
 use Rattle.osdp_tool_streams.specs.declared.fault.ToolFault.TheVariants.{TooLong, BadWords, ReadFailed, WriteFailed, NoMemory}
+use Rattle.osdp_tool_streams.specs.Watched.{inner_of, has_failed}
+use Rattle.osdp_words.specs.Word.{texts}
 use Rattle.osdp_line_programs.specs.declared.reader.ReaderSettings.{ReaderSettings}
+use Rattle.osdp_line_programs.specs.declared.run.LineRun.{LineRun}
 use Rattle.osdp_line_programs.specs.PanelSettings.{AreOfPanel}
 use Rattle.osdp_line_programs.specs.ReaderSettings.{AreOfReader}
 
--- the words are no settings: nothing is read and nothing written
-pub record IsRefused {C : Type 0} (AreSettings : C → Type 0) (input_before input_after before after : Option (List ℕ))
-    (result : Result (Unit {0}) ToolFault) : Type 0 where
-  pub none : (config : C) → AreSettings config → ⊥
-  pub read : Keeps input_before input_after
-  pub written : Keeps before after
-  pub fault : result ≡ Err BadWords
+-- the words are settings, and the machine is that of these settings
+abbrev pub SetBy : {C M : Type 0} → (List (List ℕ) → C → Type 0) → (C → M) → List (List ℕ) → M → Type 0
+SetBy {C} AreSettings new given machine = (config : C) × AreSettings given config × (machine ≡ new config)
 
--- what may be so of a run: of its words, of its input before and after and whether that failed, of its output the same, and of its end
-abbrev pub OfRuns : Type 1
-OfRuns = List (List ℕ) → Option (List ℕ) → Option (List ℕ) → Bool → Option (List ℕ) → Option (List ℕ) → Bool → Result (Unit {0}) ToolFault
-    → Type 0
+-- what may be so of a run: what its streams know before and after it, and how it ends
+abbrev pub OfRuns : Type 0 → Type 0 → Type 1
+OfRuns I O = (I → Option (List ℕ)) → (O → Option (List ℕ)) → LineRun I O → LineRun I O → Result (Unit {0}) ToolFault → Type 0
 
-module _ {C M : Type 0} (AreSettings : List (List ℕ) → C → Type 0) (new : C → M) (answers : Answering M) where
-  -- the words are settings, and each line that was read was answered, in order, by the machine of these settings
-  pub record IsRun (given : List (List ℕ)) (input_before input_after : Option (List ℕ)) (input_failed : Bool)
-      (before after : Option (List ℕ)) (failed : Bool) (result : Result (Unit {0}) ToolFault) : Type 0 where
-    pub config : C
-    pub settings : AreSettings given config
-    pub last : M
-    pub ends : Ends answers (new config) last input_before input_after input_failed before after failed result
+module _ {M : Type 0} (IsSetBy : List (List ℕ) → M → Type 0) where
+  -- why there is no machine: the words set none, or they set one and there is no memory for it
+  abbrev pub SetsNone : List (List ℕ) → ToolFault → Type 0
+  SetsNone given BadWords = (machine : M) → IsSetBy given machine → ⊥
+  SetsNone given NoMemory = (machine : M) × IsSetBy given machine
+  SetsNone given other = ⊥
 
-  abbrev pub Runs : OfRuns
-  Runs given input_before input_after input_failed before after failed result =
-      IsRefused (AreSettings given) input_before input_after before after result
-      ⊎ IsRun given input_before input_after input_failed before after failed result
+  module _ {I O : Type 0} (remaining : I → Option (List ℕ)) (contents : O → Option (List ℕ)) (before after : LineRun I O)
+      (result : Result (Unit {0}) ToolFault) where
+    -- the words are no settings: nothing is read and nothing written
+    pub record IsRefused : Type 0 where
+      pub none : SetsNone (texts before.words.now) BadWords
+      pub read : Keeps (remaining (inner_of before.input)) (remaining (inner_of after.input))
+      pub written : Keeps (contents (inner_of before.output)) (contents (inner_of after.output))
+      pub fault : result ≡ Err BadWords
+
+    -- the words are settings, and each line that was read was answered, in order, by the machine of these settings
+    pub record IsRun (answers : Answering M) : Type 0 where
+      pub first : M
+      pub set : IsSetBy (texts before.words.now) first
+      pub last : M
+      pub ends : Ends answers first last (remaining (inner_of before.input)) (remaining (inner_of after.input)) (has_failed after.input)
+          (contents (inner_of before.output)) (contents (inner_of after.output)) (has_failed after.output) result
+
+  abbrev pub Runs : {I O : Type 0} → Answering M → OfRuns I O
+  Runs answers remaining contents before after result =
+      IsRefused remaining contents before after result ⊎ IsRun remaining contents before after result answers
 
 -- a panel without devices, and a reader's device
-abbrev pub RunsPanel : OfRuns
-RunsPanel = Runs AreOfPanel new_panel PanelAnswers
+abbrev pub IsPanelOf : List (List ℕ) → PanelSession → Type 0
+IsPanelOf = SetBy AreOfPanel new_panel
+
+abbrev pub RunsPanel : {I O : Type 0} → OfRuns I O
+RunsPanel = Runs IsPanelOf PanelAnswers
 
 abbrev pub new_device : ReaderSettings → ReaderSession
 new_device settings = new_reader settings.config settings.room settings.gap
 
-abbrev pub RunsReader : OfRuns
-RunsReader = Runs AreOfReader new_device ReaderAnswers
+abbrev pub IsDeviceOf : List (List ℕ) → ReaderSession → Type 0
+IsDeviceOf = SetBy AreOfReader new_device
+
+abbrev pub RunsReader : {I O : Type 0} → OfRuns I O
+RunsReader = Runs IsDeviceOf ReaderAnswers
 
 -- what is told of a fault, after the program's name; the others don't come
 abbrev pub fault_text : ToolFault → List ℕ

@@ -9,10 +9,12 @@
 #![tactic(auto)]
 
 mod panel;
+mod program;
 mod reader;
 mod run;
 mod values;
 
 pub use panel::{PanelSetting, panel_settings};
+pub use program::run_program;
 pub use reader::{ReaderSetting, ReaderSettings, reader_settings};
-pub use run::{fault_text, panel_lines, reader_lines};
+pub use run::{LineProgram, LineRun, fault_text, panel_lines, reader_lines, run_lines};

@@ -1,4 +1,4 @@
-//! The settings of a panel.
+//! The settings of a panel, and the panel that they make.
 
 ghost use Rattle.std.specs.Prelude.{◌≡◌, ◌∷◌, [], ⊤, IfSome};
 ghost use Rattle.osdp_bus.specs.Settings.{IsBusConfig};
@@ -6,12 +6,17 @@ ghost use Rattle.osdp_frame.specs.Check.{check_name};
 ghost use Rattle.osdp_words.specs.Reading.{Reads, ReadsWords};
 ghost use Rattle.osdp_words.specs.Word.{plain, texts};
 ghost use Rattle.osdp_line_programs.specs.PanelSettings.{ReadsPanel, entry, with_setting};
+ghost use Rattle.osdp_line_programs.specs.Runs.{IsPanelOf};
 ghost use Rattle.osdp_line_programs.specs.Settings.{SettingFits, setting_words};
 
+use crate::run::LineProgram;
 use crate::values::{room, sends, time};
 use osdp_bus::BusConfig;
 use osdp_frame::CheckKind;
+use osdp_panel_calls::LinePanel;
+use osdp_tool_streams::ToolFault;
 use osdp_words::{Fields, number_u8};
+use std::alloc::Global;
 
 /// What one setting of a panel sets. Times are in milliseconds, 1 to 3,600,000.
 #[derive(Clone, Copy, Debug, PartialEq, Eq)]
@@ -98,4 +103,18 @@ pub fn panel_settings(words: &[&str]) -> Option<BusConfig>
         setting.set(&mut config);
     }
     Some(config)
+}
+
+impl LineProgram for LinePanel {
+    ghost is_set_by = { IsPanelOf };
+
+    fn of_words(alloc: Global, words: &[&str]) -> Result<LinePanel, ToolFault> {
+        let Some(config) = panel_settings(words) else {
+            return Err(ToolFault::BadWords);
+        };
+        match LinePanel::new(alloc, config) {
+            Ok(panel) => Ok(panel),
+            Err(_) => Err(ToolFault::NoMemory),
+        }
+    }
 }

@@ -1,17 +1,22 @@
-//! The settings of a reader.
+//! The settings of a reader, and the device that they make.
 
 ghost use Rattle.std.specs.Prelude.{◌≡◌, ◌∷◌, [], IfSome};
 ghost use Rattle.osdp_words.specs.Reading.{ReadsWords};
 ghost use Rattle.osdp_words.specs.Word.{texts};
 ghost use Rattle.osdp_line_programs.specs.ReaderSettings.{AreInRange, ReadsReader, defaults, entry, put, put_capability};
+ghost use Rattle.osdp_line_programs.specs.Runs.{IsDeviceOf};
 ghost use Rattle.osdp_line_programs.specs.Settings.{SettingFits, setting_words};
 
+use crate::run::LineProgram;
 use crate::values::{device_address, room, time, triple};
 use arrayvec::ArrayVec;
 use osdp_frame::Address;
 use osdp_msg::{Capability, PdCap, PdId};
 use osdp_reader::ReaderConfig;
+use osdp_reader_calls::LineDevice;
+use osdp_tool_streams::ToolFault;
 use osdp_words::{Fields, number_u8, number_u32, vendor};
+use std::alloc::Global;
 
 /// What one setting of a reader sets.
 #[derive(Clone, Copy, Debug, PartialEq, Eq)]
@@ -149,4 +154,18 @@ pub fn reader_settings(words: &[&str]) -> Option<ReaderSettings>
         settings = setting.set(settings)?;
     }
     Some(settings)
+}
+
+impl LineProgram for LineDevice {
+    ghost is_set_by = { IsDeviceOf };
+
+    fn of_words(alloc: Global, words: &[&str]) -> Result<LineDevice, ToolFault> {
+        let Some(settings) = reader_settings(words) else {
+            return Err(ToolFault::BadWords);
+        };
+        match LineDevice::new(alloc, settings.config, settings.room, settings.gap) {
+            Ok(device) => Ok(device),
+            Err(_) => Err(ToolFault::NoMemory),
+        }
+    }
 }

@@ -1,66 +1,73 @@
 //! The programs' runs.
 
-ghost use Rattle.std.specs.Prelude.{◌≡◌, false};
-ghost use Rattle.osdp_tool_streams.specs.Watched.{inner_of, has_failed};
+ghost use Rattle.std.specs.Prelude.{◌≡◌, ℕ, List, IfErr, IfOk, false};
+ghost use Rattle.osdp_tool_streams.specs.Watched.{has_failed};
 ghost use Rattle.osdp_words.specs.Word.{texts};
-ghost use Rattle.osdp_line_programs.specs.Runs.{RunsPanel, RunsReader, fault_text};
+ghost use Rattle.osdp_line_programs.specs.Runs.{Runs, RunsPanel, RunsReader, SetsNone, fault_text};
 
-use crate::panel::panel_settings;
-use crate::reader::reader_settings;
-use osdp_line_streams::answer_lines;
+use osdp_line_streams::{LineMachine, answer_lines};
 use osdp_panel_calls::LinePanel;
 use osdp_reader_calls::LineDevice;
 use osdp_tool_streams::{ToolFault, Watched};
 use std::alloc::Global;
 use std::io::{Read, Write};
 
-/// A panel without devices, by lines: makes the one that the words set, and answers each line of the input to its end.
-///
-/// BadWords where the words are no settings: nothing is read then.
-pub fn panel_lines<R: Read, W: Write>(
-    alloc: Global,
-    words: &[&str],
-    input: &mut Watched<R>,
-    output: &mut Watched<W>,
-) -> Result<(), ToolFault>
-    requires input { has_failed input.old ≡ false }
-    requires output { has_failed output.old ≡ false }
-    ensures { RunsPanel (texts words.now)
-        (R.remaining (inner_of input.old)) (R.remaining (inner_of input.new)) (has_failed input.new)
-        (W.contents (inner_of output.old)) (W.contents (inner_of output.new)) (has_failed output.new) result }
-{
-    let Some(config) = panel_settings(words) else {
-        return Err(ToolFault::BadWords);
-    };
-    let Ok(mut panel) = LinePanel::new(alloc, config) else {
-        return Err(ToolFault::NoMemory);
-    };
-    answer_lines(alloc, &mut panel, input, output)
+/// What a program runs on: where its memory comes from, its words, its input and its output.
+#[derive(Drop)]
+pub struct LineRun<'a, R, W> {
+    /// Where its memory comes from.
+    pub alloc: Global,
+    /// The words of its command line, after its name.
+    pub words: &'a [&'a str],
+    /// The lines that it reads.
+    pub input: Watched<R>,
+    /// Where it writes its answers.
+    pub output: Watched<W>,
 }
 
-/// A reader's device by lines: makes the one that the words set, and answers each line of the input to its end.
+/// A machine that is called by lines, and that the words of a program's command line set.
+pub trait LineProgram: LineMachine + Drop + Sized {
+    ghost is_set_by: { List (List ℕ) → Self → Type 0 };
+
+    /// The machine that the words set.
+    ///
+    /// BadWords where the words are no settings; else NoMemory where there is none for it.
+    fn of_words(alloc: Global, words: &[&str]) -> Result<Self, ToolFault>
+        ensures set { IfOk result (λ machine. is_set_by (texts words.now) machine) }
+        ensures ready { IfOk result (λ machine. Self.is_ready machine) }
+        ensures none { IfErr result (λ fault. SetsNone is_set_by (texts words.now) fault) };
+}
+
+/// Makes the machine that the words set, and answers each line of the input to its end.
 ///
 /// BadWords where the words are no settings: nothing is read then.
-pub fn reader_lines<R: Read, W: Write>(
-    alloc: Global,
-    words: &[&str],
-    input: &mut Watched<R>,
-    output: &mut Watched<W>,
+pub fn run_lines<P: LineProgram, R: Read, W: Write>(
+    run: &mut LineRun<'_, R, W>,
 ) -> Result<(), ToolFault>
-    requires input { has_failed input.old ≡ false }
-    requires output { has_failed output.old ≡ false }
-    ensures { RunsReader (texts words.now)
-        (R.remaining (inner_of input.old)) (R.remaining (inner_of input.new)) (has_failed input.new)
-        (W.contents (inner_of output.old)) (W.contents (inner_of output.new)) (has_failed output.new) result }
+    requires input { has_failed run.old.input ≡ false }
+    requires output { has_failed run.old.output ≡ false }
+    ensures { Runs P.is_set_by P.answers R.remaining W.contents run.old run.new result }
 {
-    let Some(settings) = reader_settings(words) else {
-        return Err(ToolFault::BadWords);
-    };
-    let made = LineDevice::new(alloc, settings.config, settings.room, settings.gap);
-    let Ok(mut device) = made else {
-        return Err(ToolFault::NoMemory);
-    };
-    answer_lines(alloc, &mut device, input, output)
+    let mut machine = P::of_words(run.alloc, run.words)?;
+    answer_lines(run.alloc, &mut machine, &mut run.input, &mut run.output)
+}
+
+/// The run of a panel without devices.
+pub fn panel_lines<R: Read, W: Write>(run: &mut LineRun<'_, R, W>) -> Result<(), ToolFault>
+    requires input { has_failed run.old.input ≡ false }
+    requires output { has_failed run.old.output ≡ false }
+    ensures { RunsPanel R.remaining W.contents run.old run.new result }
+{
+    run_lines::<LinePanel, R, W>(run)
+}
+
+/// The run of a reader's device.
+pub fn reader_lines<R: Read, W: Write>(run: &mut LineRun<'_, R, W>) -> Result<(), ToolFault>
+    requires input { has_failed run.old.input ≡ false }
+    requires output { has_failed run.old.output ≡ false }
+    ensures { RunsReader R.remaining W.contents run.old run.new result }
+{
+    run_lines::<LineDevice, R, W>(run)
 }
 
 /// What is told of a fault, after the program's name.
