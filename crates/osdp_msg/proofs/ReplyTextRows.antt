@@ -1,25 +1,11 @@
--- The rows of the texts of replies: what is read after a row's name is what the row's value is made of.
-use Rattle.std.proofs.Common.{◌≡◌, codes, refl}
+-- A reply that goes by one of these names is made of a value that is read after it.
+use Rattle.std.proofs.Common.{codes, refl}
 use Rattle.osdp_msg.specs.declared.reply.Reply.{Reply}
 use Rattle.osdp_msg.specs.declared.reply.Reply.TheVariants.{LocalState, Com}
-use Rattle.osdp_msg.specs.declared.command_fields.Communication.{Communication}
-use Rattle.osdp_msg.specs.declared.reply_fields.LocalState.{LocalState as LocalStateData}
-use Rattle.osdp_msg.specs.CommandFields.{CommunicationFits, communication_words}
-use Rattle.osdp_msg.specs.ReplyFields.{LocalStateFits, local_state_words}
-use Rattle.osdp_msg.specs.ReplyTable.{ReplyFits}
-use Rattle.osdp_msg.specs.ReplyText.{reply_fields, reply_name}
-use Rattle.osdp_msg.proofs.RowTexts.{IsRow, differ}
+use Rattle.osdp_msg.specs.ReplyText.{reply_name}
+use Rattle.osdp_msg.proofs.RowTexts.{IsMadeBy, apart}
 
-is_lstatr : (m : Reply) → reply_name m ≡ codes "LSTATR" → (x : LocalStateData) × (m ≡ LocalState x)
-is_lstatr (LocalState x) e = (x, refl)
-is_lstatr m e = absurd (differ (reply_name m) (codes "LSTATR") refl e)
-
-pub row_lstatr : IsRow reply_name reply_fields ReplyFits local_state_words LocalStateFits (codes "LSTATR") LocalState
-row_lstatr = record { named = λ x. refl; fields = λ x. refl; fits = λ x h. h; allowed = λ x h. h; only = is_lstatr }
-
-is_com : (m : Reply) → reply_name m ≡ codes "COM" → (x : Communication) × (m ≡ Com x)
-is_com (Com x) e = (x, refl)
-is_com m e = absurd (differ (reply_name m) (codes "COM") refl e)
-
-pub row_com : IsRow reply_name reply_fields ReplyFits communication_words CommunicationFits (codes "COM") Com
-row_com = record { named = λ x. refl; fields = λ x. refl; fits = λ x h. h; allowed = λ x h. h; only = is_com }
+pub made_by_names : (m : Reply) → IsMadeBy reply_name (codes "LSTATR") LocalState m × IsMadeBy reply_name (codes "COM") Com m
+made_by_names (LocalState x) = (λ e. (x, refl), apart _ _ refl)
+made_by_names (Com x) = (apart _ _ refl, λ e. (x, refl))
+made_by_names m = (apart _ _ refl, apart _ _ refl)

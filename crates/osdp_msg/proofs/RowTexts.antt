@@ -21,6 +21,10 @@ same_self (b ∷ rest) = rw (eq-eqb b b refl, same_self rest) refl
 pub differ : (a b : List ℕ) → same a b ≡ false → a ≡ b → ⊥
 differ a b no_match e = true≢false (sym (same_self a) ∙ ap (same a) e ∙ no_match)
 
+-- what goes by another name is no value of a row
+pub apart : {A : Type 0} (a b : List ℕ) → same a b ≡ false → a ≡ b → A
+apart a b no_match e = absurd (differ a b no_match e)
+
 -- the values of a row: those that go by its name
 pub record IsRow {M X : Type 0} (name_of : M → List ℕ) (fields_of : M → List Word) (Fits : M → Type 0) (words : X → List Word) (Allowed : X → Type 0) (name : List ℕ) (make : X → M) : Type 0 where
   pub named : (x : X) → name_of (make x) ≡ name
@@ -28,6 +32,10 @@ pub record IsRow {M X : Type 0} (name_of : M → List ℕ) (fields_of : M → Li
   pub fits : (x : X) → Allowed x → Fits (make x)
   pub allowed : (x : X) → Fits (make x) → Allowed x
   pub only : (m : M) → name_of m ≡ name → (x : X) × (m ≡ make x)
+
+-- a value that goes by a name is one of those made so
+abbrev pub IsMadeBy : {M X : Type 0} → (M → List ℕ) → List ℕ → (X → M) → M → Type 0
+IsMadeBy {M} {X} name_of name make m = name_of m ≡ name → (x : X) × (m ≡ make x)
 
 module _ {M X : Type 0} (name_of : M → List ℕ) (fields_of : M → List Word) (Fits : M → Type 0) (words : X → List Word) (Allowed : X → Type 0) (name : List ℕ) (make : X → M) (row : IsRow name_of fields_of Fits words Allowed name make) where
   abbrev pub named_words : M → List Word
@@ -51,6 +59,15 @@ module _ {M X : Type 0} (name_of : M → List ℕ) (fields_of : M → List Word)
     value = row_value given r reads.value;
     only = λ m fits stands. let x = row.only m (sym stands.0) in row_only given r reads m x.0 x.1 fits stands.1;
   }
+
+-- the same of a row whose fields and ranges are those that the table has for its values
+pub made_row_read : {M X : Type 0} (name_of : M → List ℕ) (fields_of : M → List Word) (Fits : M → Type 0) (name : List ℕ) (make : X → M)
+    → ((x : X) → name_of (make x) ≡ name) → ((m : M) → IsMadeBy name_of name make m)
+    → (given : List (List ℕ)) (r : Option X) (result : Option M) → ReadsWords (λ x. fields_of (make x)) (λ x. Fits (make x)) given r
+    → result ≡ option_map make r → ReadsWords (λ m. plain (name_of m) ∷ fields_of m) Fits (name ∷ given) result
+made_row_read name_of fields_of Fits name make named only =
+    row_read name_of fields_of Fits (λ x. fields_of (make x)) (λ x. Fits (make x)) name make
+    (record { named = named; fields = λ x. refl; fits = λ x h. h; allowed = λ x h. h; only = only })
 
 -- what maps a value that was read makes the row's value of it
 pub mapped : {X M : Type 0} (make : X → M) (o : Option X) (r : Option M) → MatchOption o (r ≡ None) (λ x. IsSomeAnd r (λ m. m ≡ make x)) → r ≡ option_map make o
