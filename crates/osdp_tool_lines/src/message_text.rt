@@ -1,7 +1,7 @@
 //! What is told of a packet's code and data.
 
 ghost use Rattle.std.specs.Prelude.{◌≡◌, ◌++◌, ℕ, Bool, List, false, true, IfSome, OnOk, string_bytes};
-ghost use Rattle.osdp_tool_lines.specs.ItemText.{data_text, refusal_text, unread_text, told_text, is_refused, is_refused_message, message_text};
+ghost use Rattle.osdp_tool_lines.specs.ItemText.{data_text, unread_text, told_text, is_refused, is_refused_message, message_text};
 ghost use Rattle.osdp_msg.specs.CommandText.{command_text};
 ghost use Rattle.osdp_msg.specs.ReplyText.{reply_text};
 
@@ -112,22 +112,16 @@ fn push_data(text: &mut String, bytes: &[u8]) -> Result<(), AllocError>
     push_bytes(text, bytes)
 }
 
-/// Which refusal it is; an unknown code is none.
-fn refusal_text(fault: MsgFault) -> &'static str
-    ensures { result.now ≡ refusal_text fault }
-{
-    match fault {
-        MsgFault::UnknownCode => "",
-        MsgFault::Length => "refused M2 ",
-        MsgFault::Count => "refused M3 ",
-    }
-}
-
-/// Writes a code and data that are no message, and why.
+/// Writes a code and data that are no message, with the refusal before them; an unknown code is no refusal.
 fn push_unread(text: &mut String, fault: MsgFault, code: u8, bytes: &[u8]) -> Result<(), AllocError>
     ensures { OnOk result (string_bytes text.new ≡ string_bytes text.old ++ unread_text fault code bytes.now) }
 {
-    text.push_str(refusal_text(fault))?;
+    let refusal = match fault {
+        MsgFault::UnknownCode => "",
+        MsgFault::Length => "refused M2 ",
+        MsgFault::Count => "refused M3 ",
+    };
+    text.push_str(refusal)?;
     text.push_str("code ")?;
     push_bytes(text, &[code])?;
     push_data(text, bytes)
