@@ -347,6 +347,5 @@ fn laws_hold_of_any_handler(_rt: HostRuntime) {
     osdp_reader_laws::answers_in_order::<Bench>();
     osdp_reader_laws::replies_to_its_command();
     osdp_reader_laws::takes_the_next_number::<Bench>();
-    osdp_reader_laws::refuses_and_keeps_all::<Bench>();
     osdp_reader_laws::moves_by_comset_alone::<Bench>();
 }

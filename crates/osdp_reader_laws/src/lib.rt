@@ -104,14 +104,11 @@ pub fn replies_to_its_command()
     ensures { RepliesToItsCommand }
 {}
 
-/// A reader that isn't busy takes the number after the last one, and, but for 0, no other.
+/// A reader that isn't busy takes the number after the last one, and, but for 0, no other. What cannot be taken is answered and changes
+/// nothing: a security block by NAK 5, a number out of turn by NAK 4, and, while the reader is busy, number 0 and the number after the
+/// last one by BUSY.
 pub fn takes_the_next_number<H: Handler>()
-    ensures { TakesNext H.answer_of H.after }
-{}
-
-/// What cannot be taken is answered and changes nothing: a security block by NAK 5, a number out of turn by NAK 4, and, while
-/// the reader is busy, number 0 and the number after the last one by BUSY.
-pub fn refuses_and_keeps_all<H: Handler>()
+    ensures next { TakesNext H.answer_of H.after }
     ensures blocks { RefusesBlocks H.answer_of H.after }
     ensures numbers { RefusesNumbers H.answer_of H.after }
     ensures busy { SaysBusy H.answer_of H.after }
