@@ -5,7 +5,7 @@ ghost use Rattle.osdp_bus.specs.Machine.{NewEnds, add_refusal, after_add, after_
 ghost use Rattle.osdp_bus.specs.Settings.{IsBusConfig};
 ghost use Rattle.osdp_bus.specs.Ticking.{bus_ticks};
 ghost use Rattle.osdp_panel_calls.specs.Lines.{Ends, refuses};
-ghost use Rattle.osdp_panel_calls.specs.Sessions.{Called, Comes, answered, does, new_session, told};
+ghost use Rattle.osdp_panel_calls.specs.Sessions.{Called, Comes, Session, answered, does, new_session, told};
 ghost use Rattle.osdp_panel_calls.specs.Texts.{refusal_line, send_line, withdrawal_line};
 
 use crate::call::PanelCall;
@@ -23,8 +23,6 @@ pub struct LinePanel {
 }
 
 impl Model for LinePanel {
-    ghost use Rattle.osdp_panel_calls.specs.Sessions.{Session};
-
     ghost Value = { Session };
 
     ghost view = { λ p. record { bus = p.bus; now = p.now } };

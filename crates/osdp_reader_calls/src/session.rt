@@ -6,7 +6,7 @@ ghost use Rattle.osdp_device.specs.Receiving.{IsGap};
 ghost use Rattle.osdp_device.specs.Status.{status_after, status_answer};
 ghost use Rattle.osdp_reader.specs.State.{after_set_busy, after_set_handler};
 ghost use Rattle.osdp_reader.specs.declared.fault.ReaderFault.TheVariants.{OutOfRange};
-ghost use Rattle.osdp_reader_calls.specs.Sessions.{Called, Comes, IsHeard, after_event, answered, does, heard, new_session, submit_text};
+ghost use Rattle.osdp_reader_calls.specs.Sessions.{Called, Comes, IsHeard, Session, after_event, answered, does, heard, new_session, submit_text};
 ghost use Rattle.osdp_reader_calls.specs.Lines.{refuses};
 ghost use Rattle.osdp_reader_calls.specs.Texts.{all_lines, waiting_line};
 
@@ -26,8 +26,6 @@ pub struct LineDevice {
 }
 
 impl Model for LineDevice {
-    ghost use Rattle.osdp_reader_calls.specs.Sessions.{Session};
-
     ghost Value = { Session };
 
     ghost view = { λ d. record { reader = d.device.reader; line = d.device.line; now = d.now } };
