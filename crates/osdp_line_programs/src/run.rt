@@ -46,7 +46,8 @@ pub fn run_lines<P: LineProgram, R: Read, W: Write>(
 ) -> Result<(), ToolFault>
     requires input { has_failed run.old.input ≡ false }
     requires output { has_failed run.old.output ≡ false }
-    ensures { Runs P.is_set_by P.answers R.remaining W.contents run.old run.new result }
+    ensures run { Runs P.is_set_by P.answers R.remaining W.contents run.old run.new result }
+    ensures words { run.new.words ≡ run.old.words }
 {
     let mut machine = P::of_words(run.alloc, run.words)?;
     answer_lines(run.alloc, &mut machine, &mut run.input, &mut run.output)
@@ -56,7 +57,8 @@ pub fn run_lines<P: LineProgram, R: Read, W: Write>(
 pub fn panel_lines<R: Read, W: Write>(run: &mut LineRun<'_, R, W>) -> Result<(), ToolFault>
     requires input { has_failed run.old.input ≡ false }
     requires output { has_failed run.old.output ≡ false }
-    ensures { RunsPanel R.remaining W.contents run.old run.new result }
+    ensures run { RunsPanel R.remaining W.contents run.old run.new result }
+    ensures words { run.new.words ≡ run.old.words }
 {
     run_lines::<LinePanel, R, W>(run)
 }
@@ -65,7 +67,8 @@ pub fn panel_lines<R: Read, W: Write>(run: &mut LineRun<'_, R, W>) -> Result<(),
 pub fn reader_lines<R: Read, W: Write>(run: &mut LineRun<'_, R, W>) -> Result<(), ToolFault>
     requires input { has_failed run.old.input ≡ false }
     requires output { has_failed run.old.output ≡ false }
-    ensures { RunsReader R.remaining W.contents run.old run.new result }
+    ensures run { RunsReader R.remaining W.contents run.old run.new result }
+    ensures words { run.new.words ≡ run.old.words }
 {
     run_lines::<LineDevice, R, W>(run)
 }

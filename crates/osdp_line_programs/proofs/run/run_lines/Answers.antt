@@ -4,8 +4,8 @@ use Rattle.osdp_line_programs.specs.Runs.{Runs}
 use Rattle.osdp_line_programs.proofs.Running.{unset}
 use Rattle.osdp_line_programs.proofs.run.run_lines.Goals as goal
 
-pub returns-in_err-machine : goal.returns-in_err-machine
-returns-in_err-machine g c =
+pub returns-in_err-machine-clause-run : goal.returns-in_err-machine-clause-run
+returns-in_err-machine-clause-run g c =
     let is_set_by = g.P.LineProgram.is_set_by in
     let answers = g.P.LineMachine.answers in
     let remaining = g.R.Read.remaining in
@@ -15,8 +15,8 @@ returns-in_err-machine g c =
     on_err (λ r. Runs is_set_by answers remaining contents run run r) c.from_residual.result fault c.from_residual.ensures.1
     (unset is_set_by answers remaining contents run fault c.in_err-machine.ensures.none c.requires.input c.requires.output)
 
-pub returns : goal.returns
-returns g c = inr (record {
+pub returns-clause-run : goal.returns-clause-run
+returns-clause-run g c = inr (record {
   first = c.in_ok-machine.machine;
   set = c.in_ok-machine.ensures.set;
   last = c.answer_lines.new.machine;
