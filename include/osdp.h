@@ -14,7 +14,7 @@
  * Results.    Each call that can be refused gives a status. A refused call has changed nothing: no machine, no handle, and nothing
  *             that it would have written, except where it says so.
  * Writing.    A struct is written whole but for its arrays: of an array as many bytes as its length says are written, and the others
- *             stay as they were. Nothing beyond a struct is written. No struct has padding.
+ *             stay as they were. Nothing beyond a struct is written. No struct that a call reads or writes has padding.
  * Heap.       `osdp_panel_new` takes 43,216 bytes in two blocks, and `osdp_panel_add` 1,648 for each command that may wait, in one.
  *             `osdp_reader_new` takes 18,904 bytes, and 1,456 for each event that may wait, in two blocks. `free` gives all back. No other call
  *             takes memory. Where there is none, a call says so, and nothing has changed.
