@@ -6,12 +6,13 @@
 //!
 //! ```text
 //! let mut bus = Bus::new(alloc, BusConfig::new(CheckKind::Crc, 16))?;
-//! let door = bus.add(alloc, address)?;
+//! let door = bus.add(address)?;
 //! bus.begin(door, clock.now())?;
 //! loop {
 //!     .. bus.on_bytes(bytes, clock.now()), where bytes have come ..
 //!     while let Some((entry, report)) = bus.next_report() { .. }
 //!     if let Some(burst) = bus.tick(clock.now()) { .. it goes out .. }
+//!     while let Some((entry, report)) = bus.next_report() { .. }
 //! }
 //! ```
 //!
