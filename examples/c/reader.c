@@ -4,7 +4,8 @@
  *
  * Each line of standard input is a call: `event KEYPAD 0 31`, `inputs 0100`, `busy on`. Each line of standard output is such a line, or what the
  * reader tells: `taken` and a command, `moved`, `refused` and others. The reader has eight outputs, which an OUT switches; the time of an output is
- * counted here. Words, lines and settings are those of examples/reader.py. */
+ * counted here. Words and settings are those of examples/reader.py. Of its lines this one takes `event`, `busy`, `inputs`, `readers` and `local`:
+ * outputs, moments, bytes, silences and ticks are its own. */
 #include <stdio.h>
 #include <string.h>
 

@@ -20,7 +20,7 @@ pub struct BusConfig {
     pub sends: u8,
     /// From a BUSY to the next send.
     pub busy_wait: u32,
-    /// How often a reader may answer BUSY in one exchange.
+    /// How often a reader may answer BUSY in one exchange, 0 to 255.
     pub busy_limit: u8,
     /// How long a device is left quiet before a session opens.
     pub quiet_wait: u32,

@@ -1,12 +1,13 @@
-//! A bus, seen as the controllers of several links on one line: each of its calls is a move of theirs. The functions do nothing: their
-//! contracts are laws.
+//! A bus, seen as the controllers of several links on one line: what `submit`, `begin`, `tick` and the end of a run do is a move of theirs.
+//! The functions do nothing: their contracts are laws.
 #![tactic(auto)]
 
 ghost use Rattle.osdp_bus_links.specs.Links.{BeginsAsAMove, HearsAsAMove, SubmitsAsAMove, TicksAsAMove};
 
 use osdp_reader::Handler;
 
-/// Each call of a bus that holds no bytes is a move of its controllers, at the greatest moment seen.
+/// Of a bus that holds no bytes each `submit`, `begin` and `tick`, and each run that comes whole, is a move of its controllers, at the greatest
+/// moment seen. Of `add`, `withdraw` and `retarget` nothing is said.
 ///
 /// A command that it accepts is submitted to the controller of its entry, and one that it refuses changes nothing. A session that it begins
 /// for an entry, with nothing on the line, is one of that controller. A tick of it is a tick of one controller or of none: it sends what

@@ -26,7 +26,7 @@ pub enum Report {
     Event(Event),
     /// The reader answered a POLL by a reply that is neither ACK nor an event.
     PollAnswered(Reply),
-    /// The answer to a command, or to a POLL where there is none, cannot be read. Its code.
+    /// The answer to this command, or to a POLL (None), cannot be read. Its code.
     Unread(Option<Command>, u8),
     /// The session has ended. What became of the outstanding command, if there was one, is unknown; it is
     /// not sent again.

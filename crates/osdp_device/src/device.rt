@@ -158,7 +158,7 @@ fn acted_on(response: &Response) -> (Option<&Command>, Option<&Command>)
     }
 }
 
-/// The command that was taken, but POLL: the device does it, once, unless the answer is a NAK, whose code 41 is the sixth byte. None
+/// The command that was taken, but POLL: the device does it, once, unless the answer is a NAK, whose code, 0x41, is the sixth byte. None
 /// where none was taken, or it couldn't be read.
 pub fn taken(response: &Response) -> Option<&Command>
     ensures { option_copied result ≡ taken_in response.now }

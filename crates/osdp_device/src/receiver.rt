@@ -45,7 +45,7 @@ impl Receiver {
         }
     }
 
-    /// Whether no byte is held. What holds of a line at all times is known after this call.
+    /// Whether no byte is held. The clause `received` hands the receiver's invariant to the caller.
     pub fn is_empty(&self) -> bool
         ensures empty { result ≡ (length self.now.held.bytes == 0) }
         ensures received { IsReceived self.now }

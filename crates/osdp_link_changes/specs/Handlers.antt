@@ -1,4 +1,4 @@
--- Where the device never changes its state, and no command is withdrawn: the link of today, with the answers of today.
+-- Where the device never sets another handler, and no command is withdrawn: the link of `osdp_link_laws`, with the answers of its one handler.
 use Rattle.std.specs.Prelude.{◌≡◌, List, [], ◌∷◌}
 use Rattle.osdp_msg.specs.declared.command.Command.{Command}
 use Rattle.osdp_reader.specs.declared.config.ReaderConfig.{ReaderConfig}

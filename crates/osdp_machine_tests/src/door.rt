@@ -1,4 +1,4 @@
-//! The door after a reader, by packets.
+//! A door as the handler of a reader, by packets.
 //!
 //! A row has a command and what it is answered, or says what the device sees by itself: what changes, or how much time passes.
 

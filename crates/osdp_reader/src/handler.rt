@@ -23,7 +23,7 @@ pub enum Answer {
 impl Answer {
     ghost use Rattle.osdp_reader.specs.declared.handler.Answer.TheVariants as answer;
 
-    /// A byte for each input, output or reader, of a slice of them.
+    /// A byte for each input, output or reader, of a slice of at most 1,432 of them.
     pub fn list(states: &[u8]) -> Answer
         requires { length states.now ≤ 1432 }
         ensures { result ≡ answer.List (record { items = states.now }) }

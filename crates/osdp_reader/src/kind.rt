@@ -15,6 +15,6 @@ pub enum Kind {
     Taken,
     /// Number 0 or the next, while the reader is busy.
     Busy,
-    /// Any other number; each but 0 where no number is the last one.
+    /// Any other number. A new reader, and one that has moved, has no last number: there it is each number but 0.
     Wrong,
 }

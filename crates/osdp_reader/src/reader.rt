@@ -46,7 +46,8 @@ impl<H: Handler> Model for Reader<H> {
 }
 
 impl<H: Handler> Reader<H> {
-    /// A reader that nothing has come to yet, with room for `capacity` events, 1 to 1024.
+    /// A reader that nothing has come to yet, with room for `capacity` events, 1 to 1024. N3: the address is above 126, or the room is
+    /// out of its range. N1: there is no memory for the events. N3 is decided first.
     pub fn new(
         alloc: Global,
         config: ReaderConfig,

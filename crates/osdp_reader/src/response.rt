@@ -15,13 +15,14 @@ pub enum Response {
     Silent,
     /// A security block isn't supported: NAK 5.
     Secured(Burst),
-    /// A command with number 0, which is acted on each time. The handler has done it already; the device drives its hardware by
-    /// the handler's state, and may see the same order again: what must not happen twice for one order is done at Taken alone.
+    /// A command with number 0, which is acted on each time. The handler has answered it, where it isn't the reader's own (POLL, ID,
+    /// CAP or COMSET). The device does it unless the reply is a NAK, and may see the same order again: what must not happen twice for
+    /// one order is done at Taken alone.
     Zero(Option<Command>, Burst),
     /// A packet with the last number, which isn't 0: the stored reply once more, as it was sent.
     Repeat(Burst),
-    /// A command with the next number: the handler has done it, once. The device drives its hardware by it, or by the handler's
-    /// state.
+    /// A command with the next number. The handler has answered it, once, where it isn't the reader's own. The device does it unless
+    /// the reply is a NAK, whose sixth byte is 0x41.
     Taken(Option<Command>, Burst),
     /// The reader is busy: nothing was taken.
     Busy(Burst),

@@ -5,13 +5,16 @@
 //!
 //! ```text
 //! check crc
-//! reader 5 4              # at address 5, with room for four events
-//! issue 1 OUT 0:2:0       # for reader 1, the first one
+//! # a reader at address 5, with room for four events
+//! reader 5 4
+//! # a command and an event of reader 1, the first one
+//! issue 1 OUT 0:2:0
 //! queue 1 KEYPAD 0 31
-//! clean 3                 # opens the session, and then three rounds without losses
+//! # opens the session; then three rounds without losses
+//! clean 3
 //! ```
 //!
-//! A comment stands on a line of its own; those above are for the reader of this page.
+//! A comment stands on a line of its own.
 #![tactic(auto)]
 
 mod draft;

@@ -79,7 +79,7 @@ abbrev pub taken_by : Kind → Option Command → List Command
 taken_by kind.Taken command = taken_command command
 taken_by _ command = []
 
--- what is left of it where it was heard: a POLL stays, which no account counts
+-- what stands in the command's place once the account has moved a taken one out of it: a POLL stays, since no account counts it
 abbrev pub left_by : Kind → Option Command → Option Command
 left_by kind.Taken (Some Poll) = Some Poll
 left_by kind.Taken _ = None

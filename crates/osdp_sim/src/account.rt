@@ -46,7 +46,7 @@ pub struct Account {
     pub taken: Vec<Command>,
     /// The commands that were settled, each with its answer. A COMSET that moved the reader stands with its COM.
     pub settled: Vec<(Command, Reply)>,
-    /// The commands that were outstanding where a session ended.
+    /// The commands that were outstanding where a session was lost.
     pub unsettled: Vec<Command>,
     /// The events that the reader accepted.
     pub queued: Vec<Event>,
@@ -101,8 +101,8 @@ impl Account {
         let places = commands.saturating_add(1);
         let _ = self.issued.try_reserve_exact(places);
         let _ = self.taken.try_reserve_exact(places);
-        // The largest block has places to spare, which no page of memory is taken for: an allocator that gives back to the system what is
-        // free at its end, where that is more than twice its largest block, as that of the C library does, then keeps it for the next run.
+        // The largest list gets places to spare, for which no page of memory is taken. The C library gives free memory back to the system
+        // where more than twice its largest block is free; with this one it keeps the memory for the next run.
         let _ = self
             .settled
             .try_reserve_exact(places.saturating_add(places / 8 + 64));
