@@ -112,8 +112,9 @@ pub fn keeps_in_step()
 {}
 
 /// A link is two lists and four counts: the lists of its account are read off them, and each of its moves is one step or none, or begins
-/// a session. So what the headline says can be seen without packets, numbers and timers. Within each session the events that the reader has offered are a beginning
-/// of those queued, and hold those reported. Of the last command taken and the last event offered at most one isn't told yet.
+/// a session. So what the headline says can be seen without packets, numbers and timers. Within each session the events that the reader has
+/// offered are a beginning of those queued, and hold those reported. Of the last command taken and the last event offered at most one isn't
+/// told yet.
 pub fn moves_in_step<H: Handler>()
     ensures read { IsReadOff H.answer_of H.after }
     ensures moves { MovesInStep H.answer_of H.after }
