@@ -92,12 +92,12 @@ fn drive(strike: &mut Strike, record: &OutputRecord, now: u64) {
     }
 }
 
-/// Whether an answer says that nothing was done: the code of a reply is its sixth byte, and 41 is that of a NAK.
+/// Whether an answer says that nothing was done: the code of a reply is its sixth byte, and 0x41 is that of a NAK.
 fn is_refused(response: &Response) -> bool {
     response.bytes().get(5) == Some(&0x41)
 }
 
-/// What the device does with an answer, after its bytes have gone out. A command is told as taken once, one that is refused too.
+/// What the device does with an answer. A command is told as taken once, one that is refused too.
 fn act(strike: &mut Strike, response: &Response, now: u64) {
     if is_refused(response) {
         return;
