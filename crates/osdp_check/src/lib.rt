@@ -45,8 +45,8 @@ pub trait Check: Drop {
     fn spell(&self) -> [u8; 2]
         ensures { (bytes : List ℕ) → Took self.now bytes → take SIZE result ≡ check bytes };
 
-    /// The check of the last `count` bytes alone, fewer than 2,048, before which the state was `front`. It is spelled
-    /// as by `spell`, and takes the same few steps for each count.
+    /// The check of the last `count` bytes alone, before which the state was `front`. It is spelled as by
+    /// `spell`, and takes the same few steps for each count.
     fn spell_since(&self, front: &Self, count: usize) -> [u8; 2]
         requires { count < 2048 }
         ensures { (bytes : List ℕ) → length bytes ≡ count → TookSince front.now bytes self.now

@@ -65,7 +65,7 @@ impl Framer {
     }
 
     /// The next item, where the bytes held decide it. It changes nothing: `advance` takes the item
-    /// off. None where no byte is held, or where bytes to come decide what a byte 0x53 begins.
+    /// off. None where no byte is held, or where bytes to come decide what a byte 53 begins.
     pub fn next(&self) -> Option<Item<'_>>
         ensures shown { option_map item_of result ≡ decided self.now.ended self.now.bytes }
         ensures first { IfSome result (λ item. IsFirst self.now.ended self.now.bytes (item_of item)) }

@@ -139,7 +139,7 @@ impl<'a> FrameView<'a> {
         self.head.reply
     }
 
-    /// The device that it comes from or goes to, or 127, which is that of no device.
+    /// The device that it comes from or goes to.
     pub fn address(&self) -> Address
         ensures { result ≡ self.now.address }
     {

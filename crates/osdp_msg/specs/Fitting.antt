@@ -22,7 +22,7 @@ fitting_codes (Text t) = 0x40 ∷ []
 fitting_codes (Comset c) = 0x54 ∷ []
 fitting_codes (Maker m) = 0x40 ∷ 0x90 ∷ []
 
--- a reply fits a command; NAK, of code 0x41, fits each
+-- a reply fits a command; NAK, of code 41, fits each
 abbrev pub reply_fits : Command → Reply → Bool
 reply_fits command reply =
     reply_code reply == 0x41 || list_any (λ code. code == reply_code reply) (fitting_codes command)

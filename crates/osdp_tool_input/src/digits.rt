@@ -10,8 +10,8 @@ use std::marker::Model;
 /// What the table has where a character is no digit.
 const NO_DIGIT: u8 = 255;
 
-/// The value of each character as a digit: a table, for which `hex` reads every character once. Lines of digits are read by the
-/// table, since `hex` tests the kind of each digit in turn, which takes several times as long where letters and numbers are mixed.
+/// The value of each character as a digit. `hex` reads every character once, and lines of digits are read by what
+/// it said: it looks at the kind of each digit in turn, which in a line of mixed ones takes several times as long.
 #[derive(Drop)]
 pub struct Digits {
     values: [u8; 256],

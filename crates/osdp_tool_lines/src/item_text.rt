@@ -174,8 +174,8 @@ pub(crate) fn push_skipped(
     text.push_str("\n")
 }
 
-/// Writes what is told of a refused byte, and the line's end. Each case pushes a literal of its own, since the push of a literal is
-/// compiled without a call.
+/// Writes what is told of a refused byte, and the line's end. Each text is pushed where it stands, since a push
+/// of one that is known takes no call.
 fn push_refused(text: &mut String, fault: FrameFault) -> Result<(), AllocError>
     ensures { OnOk result (string_bytes text.new ≡ string_bytes text.old
         ++ (codes " refused " ++ (fault_name fault ++ codes "\n"))) }

@@ -11,8 +11,8 @@ use crate::number::push_number;
 use osdp_frame::{CheckKind, FrameView};
 use std::alloc::AllocError;
 
-/// Writes where the packet comes from, between spaces. Each case pushes a literal of its own, since the push of a literal is compiled
-/// without a call.
+/// Writes where the packet comes from, between spaces. Each text is pushed where it stands, since a push of one
+/// that is known takes no call.
 fn push_direction(text: &mut String, reply: bool) -> Result<(), AllocError>
     ensures { OnOk result (string_bytes text.new ≡ string_bytes text.old
         ++ (codes " " ++ (direction_name reply ++ codes " "))) }

@@ -35,7 +35,7 @@ pub record EndsAtEnd (full : Bool) (form : Form) (limit : ℕ) (input output : S
   pub output_well : output.failed ≡ false
 
 -- A bad line ended the input, and what stands before it is shown. It has ended, at a line feed or with the
--- input, within the last bytes that were read, no more than are asked for at once.
+-- input, and nothing was read after the piece in which it did.
 pub record EndsAtBadLine (full : Bool) (form : Form) (limit : ℕ) (input output : Stream) (line : ℕ) : Type 0 where
   pub earlier : List ℕ
   pub piece : List ℕ

@@ -12,7 +12,7 @@ use Rattle.osdp_words.specs.Word.{AllStandFor, AreWithin, AreWords, IsSameSort, 
 abbrev pub StandsForItself : Type 0
 StandsForItself = (word : Word) → IsWord word → StandsFor word (printed word)
 
--- of one sort, what is given stands for one word at most
+-- of one sort, one word alone is after what is given
 abbrev pub HasOneWord : Type 0
 HasOneWord = (given : List ℕ) (a b : Word) → IsWord a → IsWord b → IsSameSort a b → StandsFor a given → StandsFor b given → a ≡ b
 
@@ -54,7 +54,7 @@ PartsAtSpaces =
     → (slice_split (λ c. c == 32) (text_of (first ∷ rest)) ≡ map printed (first ∷ rest))
     × AllByRecursion (λ word. 0 < length (printed word)) (first ∷ rest)
 
--- words of the same sorts that are printed as one text, or that the same given words stand for, are the same
+-- words of the same sorts that are printed as one text, or that all stand after the same, are the same
 abbrev pub HasOneList : Type 0
 HasOneList =
     (ws vs : List Word) → AreWords ws → AreWords vs → AllZip IsSameSort ws vs

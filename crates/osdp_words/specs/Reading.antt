@@ -1,4 +1,4 @@
--- What reading gives: the one value that the given words stand for, and none where there is none.
+-- What reading gives: the one value that stands after what was given, and none where there is none.
 use Rattle.std.specs.Prelude.{◌≡◌, ◌++◌, List, ℕ, Option, Some, IfSome}
 use Rattle.osdp_words.specs.Word.{Word, StandsFor, AllStandFor}
 

@@ -7,7 +7,7 @@
 //! of the field that it is given for.
 //!
 //! [`Fields`] takes the words of a text from its front, and [`number_u8`] and the like read one word.
-//! Each gives the one value that the given word stands for, and None exactly where there is none. [`ByteList`]
+//! Each gives the one value after what was given, and None exactly where there is none. [`ByteList`]
 //! and [`Record`] print words inside a `write!`, and [`words_in`] cuts a line into words. Only [`all_words_in`]
 //! takes memory.
 #![tactic(auto)]

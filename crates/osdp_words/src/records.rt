@@ -6,7 +6,7 @@ ghost use Rattle.osdp_words.specs.Word.{AreWithin, numbers};
 
 use crate::numbers::number_u16;
 
-/// The `N` numbers of a record word, one or more: decimal words joined by colons. There are `N` limits, and each number is at most its own.
+/// The numbers of a record word, one for each limit and at most that: decimal words joined by colons.
 pub fn record<const N: usize>(word: &str, limits: &[u16]) -> Option<[u16; N]>
     requires some { 0 < N }
     requires one_each { length limits.now ≡ N }
