@@ -33,7 +33,7 @@ def tell(page, what, wanted="", got=""):
     """Prints a disagreement."""
     global faults
     faults += 1
-    print(f"{page}: {what}\nwanted: {wanted!r}\nprints: {got!r}")
+    print(f"{page}: {what}\nwanted: {wanted!r}\nis: {got!r}")
 
 
 def judge_page(page, environment):
@@ -50,7 +50,7 @@ def judge_page(page, environment):
             if done.stdout + done.stderr != wanted:
                 tell(page, command, wanted, done.stdout + done.stderr)
             if done.returncode not in statuses(wanted):
-                tell(page, f"{command}: status {done.returncode}")
+                tell(page, f"the status of {command}", statuses(wanted), done.returncode)
     return count
 
 
