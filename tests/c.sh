@@ -1,8 +1,8 @@
 #!/usr/bin/env bash
-# Builds the archive for C and for Rust, as `rt lib` does (`archive.py`), and looks at it from outside: the names in it against those of the header and of rust/, and
-# their numbers against the definitions; the structs, each with the bytes around it; a whole session in C over malloc, with each block refused in turn, over the fixed pool, and with the address
-# sanitizer and its leak detection; the examples in C, with all warnings as errors; and the example in Rust, with no crate from outside. Where a
-# compiler, cargo or another tool isn't there, it fails and names it.
+# Builds the archive for C and for Rust, as `rt lib` does (`archive.py`), and looks at it from outside: the names in it against those of the header and of
+# rust/, and their numbers against the definitions; the structs, each with the bytes around it; a whole session in C over malloc, with each block refused in
+# turn, over the fixed pool, and with the address sanitizer and its leak detection; the examples in C, with all warnings as errors; and the example in Rust,
+# with no crate from outside. Where a compiler, cargo or another tool isn't there, it fails and names it.
 set -u
 cd "$(dirname "$0")/.." || exit 1
 CC=${CC:-cc}
