@@ -2,10 +2,13 @@
 import os
 import select
 import subprocess
+import sys
 import termios
 import time
 
 START = time.monotonic()
+PIECE = 2048  # how many bytes a read takes at most: a line to the programs has 8,192 characters at most, and a byte two of them
+BAD_PORT = 3  # the status where the port fails
 
 
 def moment():
@@ -13,13 +16,21 @@ def moment():
     return int((time.monotonic() - START) * 1000)
 
 
+def stop(why):
+    """Ends the program with one line on standard error."""
+    print(why, file=sys.stderr)
+    raise SystemExit(BAD_PORT)
+
+
 def set_rate(port, rate):
-    """Sets the port raw: 8 bits, no parity, 1 stop bit, and each byte as it is. At once: bytes that have come are kept."""
-    speed = getattr(termios, f"B{rate}")
+    """Sets the port raw: 8 bits, no parity, 1 stop bit, and each byte as it is. What was written goes out before, at the old rate."""
+    speed = getattr(termios, f"B{rate}", termios.B0)
+    if speed == termios.B0:
+        stop("the port has no such rate")
     characters = termios.tcgetattr(port)[6]
     characters[termios.VMIN], characters[termios.VTIME] = 1, 0
     flags = termios.CS8 | termios.CREAD | termios.CLOCAL
-    termios.tcsetattr(port, termios.TCSANOW, [0, 0, flags, 0, speed, speed, characters])
+    termios.tcsetattr(port, termios.TCSADRAIN, [0, 0, flags, 0, speed, speed, characters])
 
 
 def open_port(path, rate):
@@ -29,8 +40,22 @@ def open_port(path, rate):
 
 
 def write_all(port, burst):
-    while burst:
-        burst = burst[os.write(port, burst):]
+    try:
+        while burst:
+            burst = burst[os.write(port, burst):]
+    except OSError:
+        stop("the port can't be written")
+
+
+def read_port(port):
+    """The bytes that have come to a port that is ready. Where it has none it has hung up."""
+    try:
+        read = os.read(port, PIECE)
+    except OSError:
+        read = b""
+    if not read:
+        stop("the port can't be read")
+    return read
 
 
 class Program:
@@ -69,6 +94,6 @@ class Lines:
 def wait_for(port, given, wait):
     """Waits so many seconds, or until something comes: the bytes of the port, the lines that are given, and where more may come from."""
     ready = select.select([port] + ([given.source] if given else []), [], [], wait)[0]
-    read = os.read(port, 4096) if port in ready else b""
+    read = read_port(port) if port in ready else b""
     lines = given.read() if given and given.source in ready else []
     return read, lines or [], None if lines is None else given

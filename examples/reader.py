@@ -16,11 +16,32 @@ TURN = 0.01  # how long a read waits, in seconds
 NAK = 0x41  # the code of a reply that says that nothing was done
 
 
+class Output:
+    """An output: whether it is on for good, and whether it is on for a time, which counts until a moment."""
+
+    def __init__(self):
+        self.for_good = self.for_a_time = False
+        self.until = 0
+
+    def is_on(self):
+        return self.for_a_time if moment() < self.until else self.for_good
+
+    def switch(self, control, time):
+        """Does what one record of an OUT says. 1 and 2 are off and on for good, at once. 3 and 4 are the same, but a time that runs goes on.
+        5 and 6 are on and off for a time. Other controls ask for nothing, though the reader confirms them too."""
+        if control in (5, 6):
+            self.for_a_time, self.until = control == 5, moment() + 100 * time
+        elif control in (1, 2, 3, 4):
+            self.for_good = control in (2, 4)
+            self.until = 0 if control in (1, 2) else self.until
+
+
 class Reader:
     def __init__(self, path, rate, words):
         self.port = open_port(path, rate)
         self.program = Program(words)
-        self.until = [None] * 8  # the moment at which each output goes off: None where it is off
+        self.outputs = [Output() for _ in range(8)]
+        self.told = None  # what the program was told of them
         self.tell_outputs()
 
     def call(self, line):
@@ -38,36 +59,28 @@ class Reader:
                 set_rate(self.port, int(words[1]))
 
     def switch(self, records):
-        """Does what an OUT says: 2 on for good, 5 on for a time, 1 and 6 off."""
+        """Does what an OUT says. One of an output that isn't here was refused."""
         for output, control, time in (map(int, record.split(":")) for record in records):
-            if control in (1, 6):
-                self.until[output] = None
-            elif control == 2:
-                self.until[output] = float("inf")
-            elif control == 5:
-                self.until[output] = moment() + 100 * time
+            self.outputs[output].switch(control, time)
         self.tell_outputs()
 
     def tell_outputs(self):
-        self.call("outputs " + "".join("00" if until is None else "01" for until in self.until))
-
-    def pass_time(self):
-        """Outputs go off whose time is over."""
-        on = [until is not None for until in self.until]
-        self.until = [until if until is not None and until > moment() else None for until in self.until]
-        if on != [until is not None for until in self.until]:
-            self.tell_outputs()
+        """Tells the program which outputs are on, where that has changed: by it OSTAT is answered."""
+        states = "".join("01" if output.is_on() else "00" for output in self.outputs)
+        if states != self.told:
+            self.told = states
+            self.call(f"outputs {states}")
 
     def turn(self, calls):
         """Waits for bytes and for lines, and hands them to the program. Where more lines may come from."""
         read, lines, calls = wait_for(self.port, calls, TURN)
         self.call(f"at {moment()}")
+        self.tell_outputs()
         if read:
             self.call(f"bytes {read.hex()}")
         for line in lines:
             print(line, flush=True)
             self.call(line)
-        self.pass_time()
         self.call("tick")
         return calls
 

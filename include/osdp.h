@@ -15,7 +15,7 @@
  *             that it would have written, except where it says so.
  * Writing.    A struct is written whole but for its arrays: of an array as many bytes as its length says are written, and the others
  *             stay as they were. Nothing beyond a struct is written. No struct that a call reads or writes has padding.
- * Heap.       `osdp_panel_new` takes 43,216 bytes in two blocks, and `osdp_panel_add` 1,648 for each command that may wait, in one.
+ * Heap.       `osdp_panel_new` takes 43,088 bytes in two blocks, and `osdp_panel_add` 1,648 for each command that may wait, in one.
  *             `osdp_reader_new` takes 18,904 bytes, and 1,456 for each event that may wait, in two blocks. `free` gives all back. No other call
  *             takes memory. Where there is none, a call says so, and nothing has changed.
  * Stack.      `osdp_reader_new` takes 93 KiB of stack, each other call at most 68 KiB, as measured on 64-bit x86.
@@ -337,6 +337,10 @@ struct osdp_reader_config {
  * `capabilities` is what it answers to CAP: three bytes for each, of which the first is the function, the second the level and the third the
  * count; `length` is how many bytes there are. It has no inputs, outputs and readers, no tamper and no failure of power until it is told of them.
  *
+ * No call changes how these are answered. LED, BUZ and TEXT are answered ACK, and so is an OUT whose outputs are all there, whatever its controls are.
+ * Each other OUT is answered NAK 9, and so is each MFG. The answer is made before the program sees the command. So the program does what was
+ * confirmed, or tells the panel by an event that it didn't, such as OSTATR.
+ *
  * OSDP_IN_USE: the handle holds a reader, which stays. OSDP_BAD_LENGTH (M2): the capabilities have more than 1,432 bytes, or a number that isn't a
  * multiple of three. OSDP_READER_OUT_OF_RANGE (N3): the address, the capacity or the gap. OSDP_READER_NO_MEMORY (N1).
  */
@@ -403,10 +407,11 @@ enum {
 enum {
     /* Nothing: a POLL, a command that couldn't be read, or none. */
     OSDP_ORDER_NONE = 0,
-    /* To do the command, once: it came with a number that had its turn. Nothing is to be done where byte 5 of the burst is 0x41, the code of NAK:
-     * the reader has refused the command. */
+    /* The command came with a number that had its turn: do it, once, but not where `burst.bytes[5] == 0x41`. There the reader has refused the
+     * command by a NAK, and nothing of it is to be done. */
     OSDP_ORDER_TAKEN = 1,
-    /* The command came with number 0, where the same order may come again: do what may be done twice, and nothing after a NAK. */
+    /* The command came with number 0, where the same order may come again: do what may be done twice, but nothing where
+     * `burst.bytes[5] == 0x41`, as above. */
     OSDP_ORDER_AGAIN = 2
 };
 
@@ -421,7 +426,7 @@ struct osdp_answer {
     /* The address and the rate in baud that it set; else 0. */
     uint32_t address;
     uint32_t baud_rate;
-    /* The command that the device is to do; none where `order` is OSDP_ORDER_NONE. */
+    /* The command that `order` is about; none where that is OSDP_ORDER_NONE. */
     struct osdp_message command;
     /* What is to be written to the line. */
     struct osdp_burst burst;
@@ -435,11 +440,16 @@ struct osdp_answer {
  * A read that gave no bytes is told as no bytes, and ends no run.
  *
  *     size_t at = 0, taken;
- *     do {
- *         osdp_reader_step(&reader, bytes + at, length - at, now, &taken, &answer);
+ *     while (osdp_reader_step(&reader, bytes + at, length - at, now, &taken, &answer) == OSDP_OK) {
  *         at += taken;
- *         .. answer.burst is written, answer.command is done ..
- *     } while (at < length || answer.kind != OSDP_SAID_NONE);
+ *         .. answer.burst is written ..
+ *         if (answer.order == OSDP_ORDER_TAKEN && answer.burst.bytes[5] != 0x41) {
+ *             .. answer.command is done ..
+ *         }
+ *         if (at == length && answer.kind == OSDP_SAID_NONE) {
+ *             break;
+ *         }
+ *     }
  *
  * OSDP_NO_MACHINE.
  */

@@ -1,8 +1,8 @@
 #!/usr/bin/env bash
-# Builds the archive for C and for Rust, as `rt lib` does (`archive.py`), and looks at it from outside: the names in it against those of the header and of rust/; the
-# structs, each with the bytes around it; a whole session in C over malloc, with each block refused in turn, over the fixed pool, and with the address
-# sanitizer and its leak detection; the examples in C, with all warnings as errors; and the example in Rust, with no crate from outside. Where a
-# compiler, cargo or another tool isn't there, it fails and names it.
+# Builds the archive for C and for Rust, as `rt lib` does (`archive.py`), and looks at it from outside: the names in it against those of the header and of
+# rust/, and their numbers against the definitions; the structs, each with the bytes around it; a whole session in C over malloc, with each block refused in
+# turn, over the fixed pool, and with the address sanitizer and its leak detection; the examples in C, with all warnings as errors; and the example in Rust,
+# with no crate from outside. Where a compiler, cargo or another tool isn't there, it fails and names it.
 set -u
 cd "$(dirname "$0")/.." || exit 1
 CC=${CC:-cc}
@@ -30,11 +30,12 @@ build() {
   return 1
 }
 
-# The rest: a program with its words, which must end well.
+# The rest: a program with its words, which must end well. The status tells whether it did, since in a subshell `fail` sets nothing out here.
 passes() {
   "$@" >"$work/said" 2>&1 && return
   cat "$work/said"
   fail "${*//$work\//} has failed"
+  return 1
 }
 
 echo 'int main(void) { return 0; }' >"$work/empty.c"
@@ -48,6 +49,7 @@ fi
 archive=crates/osdp_c/out/libosdp_c.a
 passes python3 tests/names.py "$archive"
 
+session=(tests/c/session.c tests/c/line.c)
 counted=(tests/c/counted.c -Wl,--wrap=malloc,--wrap=realloc,--wrap=free)
 checked=(-fsanitize=address,undefined -fno-sanitize-recover=all)
 export ASAN_OPTIONS=detect_leaks=1:allocator_may_return_null=1
@@ -59,12 +61,12 @@ build structs tests/c/structs.c c/heap_malloc.c "$archive" && passes "$work/stru
 build structs_checked tests/c/structs.c c/heap_malloc.c "$archive" "${checked[@]}" && passes "$work/structs_checked"
 
 for heap in malloc pool; do
-  build "session_$heap" tests/c/session.c "c/heap_$heap.c" "${counted[@]}" "$archive" && passes "$work/session_$heap"
-  [ "$heap" = pool ] && wanted="0 blocks" || wanted="8 blocks"
+  build "session_$heap" "${session[@]}" "c/heap_$heap.c" "${counted[@]}" "$archive" && passes "$work/session_$heap"
+  [ "$heap" = pool ] && wanted="0 blocks" || wanted="10 blocks"
   grep -q "^session: $wanted, each refused once$" "$work/said" || fail "session_$heap: not $wanted"
 done
-build session_checked tests/c/session.c c/heap_malloc.c "${counted[@]}" "$archive" "${checked[@]}" && passes "$work/session_checked"
-# no call takes 64 KiB of stack: with 128 for the whole program the session runs too
+build session_checked "${session[@]}" c/heap_malloc.c "${counted[@]}" "$archive" "${checked[@]}" && passes "$work/session_checked"
+# `osdp_reader_new` takes 93 KiB of stack, and no other call as much: the session needs no more than 128 for the whole program
 (ulimit -s 128 && passes "$work/session_malloc") || fail "the session needs more stack"
 
 build leak tests/c/leak.c c/heap_malloc.c "$archive" "${checked[@]}" &&

@@ -2,8 +2,8 @@
 """Runs what the pages show of the programs. Takes the path of `osdp`; the others stand beside it, as crates/NAME/out/NAME.
 
 A block of a page that is marked `console` is a run at the top of the repository: a line that begins with "$ " is a command, and the lines after
-it are what it prints. A page's block marked `sh` is not run, and the page says so: the words "not run" stand in the block or in the paragraph
-above it. README's blocks that call `rt` or `bash .ci/run` are the gate itself, and need not say so."""
+it are what it prints. Its status is 1 where these lines show a refusal of `show` or `check`, 2 to 4 where they show a fault, and 0 else. A page's
+block marked `sh` is not run, and the page says so: the words "not run" stand in the block or in the paragraph above it. README's blocks that call `rt` or `bash .ci/run` are the gate itself, and need not say so."""
 import os
 import re
 import subprocess
@@ -22,11 +22,18 @@ def commands(text):
         yield command, wanted
 
 
+def statuses(wanted):
+    """The statuses that a command may end with that prints this, as docs/PROTOCOL.md and the manual pages have them."""
+    if re.search(r"^osdp\w*: ", wanted, re.M):
+        return (2, 3, 4)
+    return (1,) if re.search(r"\brefused (F[1-4]|M[23])\b", wanted) else (0,)
+
+
 def tell(page, what, wanted="", got=""):
     """Prints a disagreement."""
     global faults
     faults += 1
-    print(f"{page}: {what}\nwanted: {wanted!r}\nprints: {got!r}")
+    print(f"{page}: {what}\nwanted: {wanted!r}\nis: {got!r}")
 
 
 def judge_page(page, environment):
@@ -42,6 +49,8 @@ def judge_page(page, environment):
             count += 1
             if done.stdout + done.stderr != wanted:
                 tell(page, command, wanted, done.stdout + done.stderr)
+            if done.returncode not in statuses(wanted):
+                tell(page, f"the status of {command}", statuses(wanted), done.returncode)
     return count
 
 

@@ -1,7 +1,7 @@
 #!/usr/bin/env bash
 # While an item of a framer is in use, its bytes may not change: `push` and `advance` do not compile there.
 # Writes two small crates beside a copy of the repository's sources, and looks for the borrow error.
-set -u
+set -uo pipefail
 cd "$(dirname "$0")/.." || exit 1
 copy=$(mktemp -d)
 trap 'rm -rf "$copy"' EXIT

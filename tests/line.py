@@ -5,6 +5,9 @@ terminal itself and keeps it open. It cuts
 bursts by their length field and keeps their order; each of the panel's goes to all readers. In each direction 5 % of all bursts are
 lost, the last byte of 5 % is changed, and 5 % come twice: a seeded generator decides, burst by burst. From the 50th order on each
 reader is silent once for two seconds. Moments make runs differ, and what is asked of them holds for all.
+
+Before that each example is tried alone, on a line without losses: what the reader's outputs are after each control of OUT, and that a port which hangs
+up, or has no such rate, ends a program with a message and status 3.
 """
 import os
 import pty
@@ -23,6 +26,15 @@ ORDERS = EVENTS = 200
 SILENCE = 2.0
 WITHIN = 55.0
 TIMES = "check crc reply-wait 100 poll-interval 10 busy-wait 20 quiet-wait 150 gap 15 capacity 256"
+
+# OUTs, each record as output, control and time, and which outputs are on after each, by the table of controls in docs/PROTOCOL.md. The times are a minute,
+# which isn't over here, or none; that of the last OUT is 100 ms, and is waited for.
+CONTROLS = (
+    ([(0, 6, 600), (1, 5, 600), (2, 4, 0), (3, 2, 0), (3, 6, 600)], (0, 1, 1, 0)),
+    ([(0, 4, 0), (1, 3, 0), (2, 6, 600), (3, 6, 0)], (0, 1, 0, 1)),
+    ([(0, 2, 0), (1, 0, 0), (2, 0, 0), (3, 1, 0)], (1, 1, 0, 0)),
+    ([(0, 3, 0), (1, 5, 1), (2, 1, 0), (3, 4, 0)], (0, 0, 0, 1)),
+)
 
 faults = []
 counts = Counter()
@@ -45,8 +57,17 @@ class Terminal:
             length = int.from_bytes(self.held[2:4], "little")
             if len(self.held) < length:
                 return
-            yield self.held[:length]
-            self.held = self.held[length:]
+            burst, self.held = self.held[:length], self.held[length:]
+            yield burst
+
+    def next_burst(self):
+        """The next whole burst; none where none has come within five seconds."""
+        end = time.monotonic() + 5
+        while time.monotonic() < end:
+            if select.select([self.end], [], [], 0.1)[0]:
+                for burst in self.bursts():
+                    return burst
+        return b""
 
 
 class Relay:
@@ -165,6 +186,67 @@ class Account:
         asks(all(taken[order] <= 1 for order in self.unsettled), "an unsettled order was taken twice")
 
 
+def packet(address, number, code, data=b""):
+    """A packet with a checksum."""
+    whole = bytes([0x53, address, 7 + len(data), 0, number, code]) + data
+    return whole + bytes([-sum(whole) % 256])
+
+
+def started(*words):
+    """An example that is tried alone."""
+    pipes = {"stdin": subprocess.PIPE, "stdout": subprocess.DEVNULL, "stderr": subprocess.PIPE}
+    return subprocess.Popen([str(word) for word in words], **pipes)
+
+
+def judge_end(name, process, wanted):
+    """The program ends by itself, with this message and status 3."""
+    try:
+        status = process.wait(timeout=5)
+    except subprocess.TimeoutExpired:
+        process.kill()
+        status = None
+    said = process.stderr.read().decode()
+    if status != 3 or said != f"{wanted}\n":
+        faults.append(f"{name}: status {status}, and it says {said!r}, not {wanted!r}")
+
+
+def controls():
+    """Codes and data of commands, and of the replies to them: an OUT, and after it what OSTAT tells."""
+    for records, states in CONTROLS:
+        data = b"".join(bytes([output, control]) + timer.to_bytes(2, "little") for output, control, timer in records)
+        yield (0x68, data), (0x40, b"")
+        yield (0x66, b""), (0x4A, bytes(states) + bytes(4))
+
+
+def judge_outputs(terminal):
+    """The reader's outputs are as the controls of OUT have them."""
+    os.write(terminal.end, packet(5, 0, 0x61, b"\0"))
+    terminal.next_burst()
+    for order, (command, reply) in enumerate(controls()):
+        if order == 2 * len(CONTROLS) - 1:
+            time.sleep(0.3)
+        os.write(terminal.end, packet(5, order % 3 + 1, *command))
+        burst = terminal.next_burst()
+        if burst != packet(0x85, order % 3 + 1, *reply):
+            faults.append(f"outputs: command {order + 1} is answered {burst.hex()}")
+
+
+def judge_port(name, words, rest, speak):
+    """An example alone, on a port that has no such rate, and on one that hangs up after something was said."""
+    terminal = Terminal()
+    judge_end(f"{name}: no such rate", started(*words, terminal.path, 12345, *rest), "the port has no such rate")
+    process = started(*words, terminal.path, 9600, *rest)
+    speak(terminal)
+    os.close(terminal.end)
+    judge_end(f"{name}: the port hangs up", process, "the port can't be read")
+
+
+def judge_alone(crates, built):
+    (panel, panel_program), (reader, reader_program) = commands(crates, built)
+    judge_port("panel", panel, ["5", *panel_program, "quiet-wait", 50], Terminal.next_burst)
+    judge_port("reader", reader, [*reader_program, "address", 5], judge_outputs)
+
+
 def plan():
     """Orders and events, reader by reader in turn: each has a number of its own."""
     for number in range(1, ORDERS + 1):
@@ -212,6 +294,7 @@ def commands(crates, built):
 
 
 def main(crates, seed="1", built=None):
+    judge_alone(crates, built)
     begun = time.monotonic()
     relay = Relay(seed)
     (panel_example, panel_program), (reader_example, reader_program) = commands(crates, built)

@@ -7,12 +7,11 @@ work=$(mktemp -d)
 trap 'rm -rf "$work"' EXIT
 failed=0
 cd "$(dirname "$0")/../man" || exit 1
-command -v man >/dev/null || echo 'manual.sh: there is no man here, so no page is formatted'
+command -v man >/dev/null || { echo 'manual.sh: man is missing'; exit 1; }
 
 for page in *.1; do
-  command -v man >/dev/null && MANROFFOPT= man --warnings -E UTF-8 -l "$page" 2>"$work/warnings" >/dev/null || true
-  if [ -s "$work/warnings" ]; then
-    echo "$page:"
+  if ! MANROFFOPT= man --warnings -E UTF-8 -l "$page" 2>"$work/warnings" >/dev/null || [ -s "$work/warnings" ]; then
+    echo "$page: it is not formatted well"
     cat "$work/warnings"
     failed=1
   fi
@@ -20,6 +19,7 @@ for page in *.1; do
   # an example is a line that begins with "$ " between .EX and .EE, and the lines after it are what it prints
   awk '/^\.EX/ { on = 1; next } /^\.EE/ { on = 0 } on && /^\$ / { asked = 1 } on && asked' "$page" |
     sed 's/\\e/\\/g; s/\\-/-/g' >"$work/wanted"
+  [ -s "$work/wanted" ] || { echo "$page: it has no example"; failed=1; }
   while IFS= read -r line; do
     [[ $line == '$ '* ]] || continue
     printf '%s\n' "$line"

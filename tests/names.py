@@ -1,9 +1,10 @@
 #!/usr/bin/env python3
-"""Holds include/osdp.h and rust/src/sys.rs to the archive: `names.py ARCHIVE`. Prints each disagreement.
+"""Holds include/osdp.h and rust/src/sys.rs to the archive and to the definitions: `names.py ARCHIVE`. Prints each disagreement.
 
 - The functions that the header declares, those that rust/ declares, and those that the archive has are the same.
 - What the archive needs from outside is what the header says: its heap, and three calls of C.
 - The constants of both have the same names and values, and the structs the same fields, in their order and of the same types.
+- Each constant has the number that a definition of crates/osdp_c_values/specs gives it, and each such number has a constant.
 - The functions of both have the same parameters, by names and types."""
 import re
 import subprocess
@@ -16,13 +17,46 @@ OUTSIDE = HEAP | {"memcpy", "memmove", "memset"}
 TYPES = {
     "uint8_t": "u8", "uint16_t": "u16", "uint32_t": "u32", "uint64_t": "u64", "size_t": "usize", "char": "c_char", "void": "c_void",
 }
+SPECS = "crates/osdp_c_values/specs"
+# The lines that give a number, by their file: the name of what has it, the number, and how its constants begin
+NUMBERED = (
+    ("Statuses", r"^\w+ (?P<name>[\w.]+) = (?P<number>\d+)$", "OSDP_"),
+    ("Settings", r"^check_of number = if number == (?P<number>\d+) then (?P<name>Sum) else Crc$", "OSDP_CHECK_"),
+    ("Settings", r"nat_le s\.(?P<name>check) (?P<number>\d+)", "OSDP_CHECK_"),
+    ("Reports", r"^report_of \((?P<name>\w+) .*\) r = tells (?P<number>\d+) ", "OSDP_REPORT_"),
+    ("Reports", r"^report_struct (?P<name>None) r = tells (?P<number>\d+) ", "OSDP_REPORT_"),
+    ("Reports", r"^cause_number (?P<name>\w+) = (?P<number>\d+)$", "OSDP_LOST_"),
+    ("Answers", r"^kind_number (?P<name>\w+) = (?P<number>\d+)$", "OSDP_SAID_"),
+    ("Answers", r"^orders_of (?P<name>.*) a = record a \{ order = (?P<number>\d+)[ ;]", "OSDP_ORDER_"),
+)
+# What a constant calls otherwise than its definition does
+OTHERWISE = {
+    "Done": "OK", "message.Length": "BAD_LENGTH", "message.Count": "BAD_COUNT", "bus.NoMemory": "PANEL_NO_MEMORY",
+    "bus.OutOfRange": "PANEL_OUT_OF_RANGE", "bus.Full": "COMMANDS_FULL", "reader.NoMemory": "READER_NO_MEMORY",
+    "reader.OutOfRange": "READER_OUT_OF_RANGE", "check": "CRC", "PollAnswered": "ANSWERED", "Silent": "NONE",
+    "(Some command) again": "TAKEN", "None (Some command)": "AGAIN", "None None": "NONE",
+}
 faults = []
 
 
-def compare(what, ours, theirs):
+def compare(what, ours, theirs, where="rust/src/sys.rs"):
     for name in sorted(ours.keys() | theirs.keys()):
         if ours.get(name) != theirs.get(name):
-            faults.append(f"{what} {name}: {ours.get(name)} in the header, {theirs.get(name)} in rust/src/sys.rs")
+            faults.append(f"{what} {name}: {ours.get(name)} in the header, {theirs.get(name)} in {where}")
+
+
+def constant(name):
+    """What a constant calls what a definition names: its words in capitals."""
+    return OTHERWISE.get(name) or re.sub(r"(?<=[a-z])(?=[A-Z])", "_", name.rpartition(".")[2]).upper()
+
+
+def defined():
+    """The numbers that the definitions give, by the constants that have them."""
+    found = {}
+    for file, line, front in NUMBERED:
+        for each in re.finditer(line, (TOP / SPECS / f"{file}.antt").read_text(), re.M):
+            found[front + constant(each["name"])] = int(each["number"])
+    return found
 
 
 def c_type(text):
@@ -80,6 +114,7 @@ def main():
     declared, constants, structs = header()
     compare("function", {name: one for name, one in declared.items() if name not in HEAP}, rust()[0])
     compare("constant", constants, rust()[1])
+    compare("constant", constants, defined(), SPECS)
     compare("struct", {name: one for name, one in structs.items() if name != "osdp_block"}, rust()[2])
     for name in sorted((declared.keys() - HEAP) ^ names(sys.argv[1], "--defined-only", "--extern-only")):
         faults.append(f"{name}: only {'the header' if name in declared else 'the archive'} has it")

@@ -81,6 +81,25 @@ static uint64_t until_due(void)
     return first > now ? first - now : 0;
 }
 
+/* Hands the panel the orders that have come. */
+static void take_orders(struct lines *lines)
+{
+    for (const char *line = next_line(lines); line != NULL; line = next_line(lines)) {
+        order(line);
+    }
+}
+
+/* Begins the sessions whose moment has come. */
+static void begin_sessions(uint64_t now)
+{
+    for (size_t i = 0; i < entries; i++) {
+        if (begins[i] <= now) {
+            begins[i] = NEVER;
+            (void)osdp_panel_begin(&panel, i, now);
+        }
+    }
+}
+
 /* Waits for bytes, for orders or for what is due, and hands it to the panel. */
 static void turn(struct lines *lines)
 {
@@ -90,15 +109,8 @@ static void turn(struct lines *lines)
     uint64_t now = moment(); /* after the read: not before it */
     (void)osdp_panel_bytes(&panel, bytes, count, now);
     take_reports();
-    for (const char *line = next_line(lines); line != NULL; line = next_line(lines)) {
-        order(line);
-    }
-    for (size_t i = 0; i < entries; i++) {
-        if (begins[i] <= now) {
-            begins[i] = NEVER;
-            (void)osdp_panel_begin(&panel, i, now);
-        }
-    }
+    take_orders(lines);
+    begin_sessions(now);
     (void)osdp_panel_tick(&panel, now, &burst);
     write_all(port, &burst);
     take_reports();

@@ -40,7 +40,7 @@ void set_rate(int port, uint32_t rate)
     settings.c_cc[VTIME] = 0;
     cfsetispeed(&settings, speeds[i].speed);
     cfsetospeed(&settings, speeds[i].speed);
-    if (tcsetattr(port, TCSANOW, &settings) != 0) {
+    if (tcsetattr(port, TCSADRAIN, &settings) != 0) {
         stop(BAD_PORT, "the port can't be set");
     }
 }

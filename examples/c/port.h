@@ -17,7 +17,8 @@ uint64_t moment(void);
 /* Opens a port; ends the program where it can't. */
 int open_port(const char *path, uint32_t rate);
 
-/* Sets the port raw: 8 bits, no parity, 1 stop bit, and each byte as it is. At once: bytes that have come are kept. */
+/* Sets the port raw: 8 bits, no parity, 1 stop bit, and each byte as it is. What was written goes out before, at the old rate, and bytes that have come
+ * are kept. Ends the program where the port has no such rate. */
 void set_rate(int port, uint32_t rate);
 
 /* Writes a burst whole. */

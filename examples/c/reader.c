@@ -15,37 +15,49 @@
 #define TURN 10 /* how long a read waits, in milliseconds */
 #define OUTPUTS 8
 #define NAK 0x41 /* the code of a reply that says that nothing was done */
-#define GOOD UINT64_MAX /* on for good */
+
+/* An output: whether it is on for good, and whether it is on for a time, which counts until a moment. */
+struct output {
+    bool for_good, for_a_time;
+    uint64_t until;
+};
 
 static struct osdp_reader reader;
 static int port;
-static uint64_t until[OUTPUTS]; /* the moment at which each output goes off; 0 where it is off */
+static struct output outputs[OUTPUTS];
 
-static void tell_outputs(void)
+/* Tells the reader which outputs are on, by which it answers OSTAT. */
+static void tell_outputs(uint64_t now)
 {
     uint8_t states[OUTPUTS];
     for (size_t i = 0; i < OUTPUTS; i++) {
-        states[i] = until[i] != 0;
+        states[i] = now < outputs[i].until ? outputs[i].for_a_time : outputs[i].for_good;
     }
     (void)osdp_reader_set_outputs(&reader, states, OUTPUTS);
 }
 
-/* Does what an OUT says: 2 on for good, 5 on for a time, 1 and 6 off. One of an output that isn't here was refused. */
+/* Does what one record of an OUT says. 1 and 2 are off and on for good, at once. 3 and 4 are the same, but a time that runs goes on. 5 and 6 are on and
+ * off for a time. Other controls ask for nothing, though the reader confirms them too. */
+static void switch_output(const uint8_t *record, uint64_t now)
+{
+    struct output *output = &outputs[record[0]];
+    uint8_t control = record[1];
+    if (control == 5 || control == 6) {
+        output->for_a_time = control == 5;
+        output->until = now + 100 * (record[2] + 256 * (uint64_t)record[3]);
+    } else if (1 <= control && control <= 4) {
+        output->for_good = control == 2 || control == 4;
+        output->until = control <= 2 ? 0 : output->until;
+    }
+}
+
+/* Does what an OUT says. One of an output that isn't here was refused. */
 static void switch_outputs(const struct osdp_message *out, uint64_t now)
 {
-    for (size_t i = 0; i + 4 <= out->length; i += 4) {
-        const uint8_t *record = out->data + i;
-        uint64_t time = 100 * (record[2] + 256 * (uint64_t)record[3]);
-        if (record[0] >= OUTPUTS) {
-            return;
-        }
-        if (record[1] == 1 || record[1] == 6) {
-            until[record[0]] = 0;
-        } else if (record[1] == 2 || record[1] == 5) {
-            until[record[0]] = record[1] == 2 ? GOOD : now + time;
-        }
+    for (size_t i = 0; i + 4 <= out->length && out->data[i] < OUTPUTS; i += 4) {
+        switch_output(out->data + i, now);
     }
-    tell_outputs();
+    tell_outputs(now);
 }
 
 /* Sends what the reader says, and does what it is to do. */
@@ -68,12 +80,14 @@ static void act(const struct osdp_answer *answer, uint64_t now)
 static void hear(const uint8_t *bytes, size_t length, uint64_t now)
 {
     static struct osdp_answer answer;
-    size_t at = 0, taken = 0;
-    do {
-        (void)osdp_reader_step(&reader, bytes + at, length - at, now, &taken, &answer);
+    size_t at = 0, taken;
+    while (osdp_reader_step(&reader, bytes + at, length - at, now, &taken, &answer) == OSDP_OK) {
         at += taken;
         act(&answer, now);
-    } while (at < length || answer.kind != OSDP_SAID_NONE);
+        if (at == length && answer.kind == OSDP_SAID_NONE) {
+            return;
+        }
+    }
 }
 
 /* Does what a line says. */
@@ -101,25 +115,29 @@ static osdp_status call(const char *line)
     return OSDP_BAD_TEXT;
 }
 
-/* Waits for bytes and for lines, and hands them to the reader. Outputs go off whose time is over. */
+/* Does what the lines say that have come. */
+static void take_lines(struct lines *lines)
+{
+    for (const char *line = next_line(lines); line != NULL; line = next_line(lines)) {
+        tell("%s\n", line);
+        tell_refusal(call(line));
+    }
+}
+
+/* Waits for bytes and for lines, and hands them to the reader. */
 static void turn(struct lines *lines)
 {
     static struct osdp_answer answer;
     uint8_t bytes[4096];
     size_t count = read_port(port, lines, TURN, bytes, sizeof bytes);
     uint64_t now = moment(); /* after the read: not before it */
+    tell_outputs(now);
     hear(bytes, count, now);
-    for (const char *line = next_line(lines); line != NULL; line = next_line(lines)) {
-        tell("%s\n", line);
-        tell_refusal(call(line));
+    take_lines(lines);
+    if (osdp_reader_tick(&reader, now, &answer) == OSDP_OK) {
+        act(&answer, now);
+        hear(bytes, 0, now);
     }
-    for (size_t i = 0; i < OUTPUTS; i++) {
-        until[i] = until[i] <= now ? 0 : until[i];
-    }
-    tell_outputs();
-    (void)osdp_reader_tick(&reader, now, &answer);
-    act(&answer, now);
-    hear(bytes, 0, now);
 }
 
 int main(int count, char **words)

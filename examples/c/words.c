@@ -121,22 +121,27 @@ void set_reader(struct reader_settings *settings, const char *name, const char *
     }
 }
 
-static char text[6145];
+typedef osdp_status text_call(uint8_t, const uint8_t *, size_t, char *, size_t, size_t *);
 
-const char *command_text(const struct osdp_message *command)
+static const char *text_of(text_call *call, const struct osdp_message *message)
 {
-    size_t length = 0;
-    (void)osdp_command_text(command->code, command->data, command->length, text, sizeof text - 1, &length);
+    static char text[6145];
+    size_t length;
+    if (call(message->code, message->data, message->length, text, sizeof text - 1, &length) != OSDP_OK) {
+        return "no text";
+    }
     text[length] = '\0';
     return text;
 }
 
+const char *command_text(const struct osdp_message *command)
+{
+    return text_of(osdp_command_text, command);
+}
+
 const char *reply_text(const struct osdp_message *reply)
 {
-    size_t length = 0;
-    (void)osdp_reply_text(reply->code, reply->data, reply->length, text, sizeof text - 1, &length);
-    text[length] = '\0';
-    return text;
+    return text_of(osdp_reply_text, reply);
 }
 
 bool tell_refusal(osdp_status status)

@@ -24,7 +24,7 @@ uint32_t number(const char *word);
 /* The bytes that digits stand for, or `none`: how many; more than the room where they are none. */
 size_t digits(const char *word, uint8_t *bytes, size_t room);
 
-/* The text of a message. It stays until the next call. */
+/* The text of a message, or `no text` where it has none. It stays until the next call. */
 const char *command_text(const struct osdp_message *command);
 const char *reply_text(const struct osdp_message *reply);
 

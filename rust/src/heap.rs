@@ -15,12 +15,12 @@ const HEAD: usize = 16;
 #[repr(C)]
 struct Block {
     ok: bool,
-    p: *mut c_void,
+    block: *mut c_void,
 }
 
 const NONE: Block = Block {
     ok: false,
-    p: NonNull::<u128>::dangling().as_ptr().cast(),
+    block: NonNull::<u128>::dangling().as_ptr().cast(),
 };
 
 fn layout(size: usize) -> Option<Layout> {
@@ -42,7 +42,7 @@ extern "C" fn rattle_alloc(size: usize, _align: usize) -> Block {
         head.cast::<usize>().write(size);
         Block {
             ok: true,
-            p: head.add(HEAD).cast(),
+            block: head.add(HEAD).cast(),
         }
     }
 }

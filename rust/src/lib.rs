@@ -4,27 +4,52 @@
 //! `unsafe` calls into it. `docs/GUIDE.md` says what a panel and a reader do, and what each report asks for.
 //!
 //! ```no_run
-//! use osdp::{Panel, PanelConfig, Report};
+//! use osdp::{Entry, Error, Panel, PanelConfig, Reply, Report};
 //!
-//! # fn read(_: &mut [u8]) -> usize { 0 }
+//! # fn read(_: &mut [u8], _: Option<u64>) -> usize { 0 }
 //! # fn write(_: &[u8]) {}
 //! # fn now() -> u64 { 0 }
-//! # fn main() -> Result<(), osdp::Error> {
+//! # fn may_enter(_: &Reply) -> bool { false }
+//! const CARD: u8 = 0x50; // the code of RAW
+//!
+//! fn open(panel: &mut Panel, door: Entry) -> Result<(), Error> {
+//!     match panel.submit_text(door, "OUT 0:5:30") {
+//!         Err(Error::Full) => Ok(()), // as many orders wait as may: the door stays closed
+//!         done => done,
+//!     }
+//! }
+//!
+//! /// The orders that wait for a door that was out of reach are stale.
+//! fn begin_again(panel: &mut Panel, door: Entry, now: u64) -> Result<(), Error> {
+//!     while panel.withdraw(door)?.is_some() {}
+//!     panel.begin(door, now)
+//! }
+//!
+//! fn take_reports(panel: &mut Panel, now: u64) -> Result<(), Error> {
+//!     while let Some((door, report)) = panel.next_report() {
+//!         match report {
+//!             Report::Event(card) if card.code() == CARD && may_enter(&card) => open(panel, door)?,
+//!             Report::Lost(..) | Report::Moved(..) => begin_again(panel, door, now)?,
+//!             _ => {}
+//!         }
+//!     }
+//!     Ok(())
+//! }
+//!
+//! # fn main() -> Result<(), Error> {
 //! let mut panel = Panel::new(&PanelConfig::default())?;
 //! let door = panel.add(5)?;
 //! panel.begin(door, now())?;
+//! let mut bytes = [0; 256];
 //! loop {
-//!     let mut bytes = [0; 256];
-//!     let count = read(&mut bytes); // waits for bytes, at most until panel.next_deadline()
-//!     panel.on_bytes(&bytes[..count], now());
-//!     while let Some((entry, report)) = panel.next_report() {
-//!         if let Report::Event(card) = report {
-//!             panel.submit_text(entry, "OUT 0:5:30")?;
-//!         }
-//!     }
-//!     if let Some(burst) = panel.tick(now()) {
+//!     let count = read(&mut bytes, panel.next_deadline()); // waits for bytes, at most until that moment
+//!     let now = now();
+//!     panel.on_bytes(&bytes[..count], now);
+//!     take_reports(&mut panel, now)?;
+//!     if let Some(burst) = panel.tick(now) {
 //!         write(&burst);
 //!     }
+//!     take_reports(&mut panel, now)?;
 //! }
 //! # }
 //! ```

@@ -83,6 +83,7 @@ fn report_of(raw: &sys::osdp_report) -> Option<(Entry, Report)> {
 /// The panel's end of a line with up to sixteen devices. It reads and writes nothing: its program hands bytes and moments in.
 ///
 /// Moments are milliseconds of any clock that doesn't go backwards. It stays on the thread that made it.
+#[derive(Debug)]
 pub struct Panel(sys::osdp_panel);
 
 impl Panel {

@@ -55,10 +55,10 @@ numbered! {
 #[derive(Clone, Debug, PartialEq, Eq)]
 #[allow(clippy::large_enum_variant)]
 pub enum Order {
-    /// The command, once: it came with a number that had its turn. Nothing is to be done where the reader has refused the command
-    /// (`Answer::is_refused`).
+    /// The command came with a number that had its turn: do it, once, but not where `Answer::is_refused`. There the reader has refused the
+    /// command by a NAK (`burst.bytes[5] == 0x41`), and nothing of it is to be done.
     Taken(Command),
-    /// The command came with number 0, where the same order may come again: what may be done twice.
+    /// The command came with number 0, where the same order may come again: do what may be done twice, but nothing where `Answer::is_refused`.
     Again(Command),
 }
 
@@ -76,7 +76,7 @@ pub struct Moved {
 pub struct Answer {
     /// How the packet was answered.
     pub said: Said,
-    /// What the device is to do, after the burst has gone out.
+    /// What the device is to do, after the burst has gone out, unless `is_refused`.
     pub order: Option<Order>,
     /// What a COMSET that was accepted has set.
     pub moved: Option<Moved>,
@@ -122,7 +122,12 @@ fn no_answer() -> sys::osdp_answer {
 
 /// The device's end of a line. It reads and writes nothing: its program hands bytes and moments in.
 ///
+/// No call changes how these are answered. LED, BUZ and TEXT are answered ACK, and so is an OUT whose outputs are all there, whatever its controls
+/// are. Each other OUT is answered NAK 9, and so is each MFG. The answer is made before the program sees the command. So the program does what was
+/// confirmed, or tells the panel by an event that it didn't, such as OSTATR.
+///
 /// Moments are milliseconds of any clock that doesn't go backwards. It stays on the thread that made it.
+#[derive(Debug)]
 pub struct Reader(sys::osdp_reader);
 
 impl Reader {
@@ -235,17 +240,31 @@ impl Reader {
     /// the first that it answers. Call it again with the others, at the same moment, until all are taken and nothing is said.
     ///
     /// ```no_run
-    /// # fn hear(reader: &mut osdp::Reader, mut bytes: &[u8], now: u64) {
-    /// loop {
-    ///     let (taken, answer) = reader.step(bytes, now);
-    ///     bytes = &bytes[taken..];
-    ///     match answer {
-    ///         Some(answer) => { /* write its burst, and do its order */ }
-    ///         None if bytes.is_empty() => break,
-    ///         None => {}
+    /// # use osdp::{Answer, Command, Order, Reader};
+    /// # fn write(_: &[u8]) {}
+    /// # fn act(_: &Command) {}
+    /// fn hear(reader: &mut Reader, mut bytes: &[u8], now: u64) {
+    ///     loop {
+    ///         let (taken, answer) = reader.step(bytes, now);
+    ///         bytes = &bytes[taken..];
+    ///         match answer {
+    ///             Some(answer) => obey(&answer),
+    ///             None if bytes.is_empty() => break,
+    ///             None => {}
+    ///         }
     ///     }
     /// }
-    /// # }
+    ///
+    /// fn obey(answer: &Answer) {
+    ///     if let Some(burst) = &answer.burst {
+    ///         write(burst);
+    ///     }
+    ///     if let Some(Order::Taken(command)) = &answer.order
+    ///         && !answer.is_refused()
+    ///     {
+    ///         act(command);
+    ///     }
+    /// }
     /// ```
     pub fn step(&mut self, bytes: &[u8], now: u64) -> (usize, Option<Answer>) {
         let mut taken = 0;

@@ -72,6 +72,7 @@ pub struct osdp_burst {
 }
 
 #[repr(C)]
+#[derive(Debug)]
 pub struct osdp_panel {
     pub machine: *mut c_void,
     pub live: usize,
@@ -129,6 +130,7 @@ pub struct osdp_report {
 }
 
 #[repr(C)]
+#[derive(Debug)]
 pub struct osdp_reader {
     pub machine: *mut c_void,
     pub live: usize,

@@ -2,6 +2,7 @@
 #include "counted.h"
 
 size_t blocks_asked;
+size_t bytes_given;
 size_t blocks_held;
 size_t block_refused;
 
@@ -19,6 +20,7 @@ void *__wrap_malloc(size_t size)
         return NULL;
     }
     blocks_held++;
+    bytes_given += size;
     return __real_malloc(size);
 }
 

@@ -377,15 +377,19 @@ static void texts(void)
     demand_around(&second_place);
 }
 
-/* The longest text of all: 102 LED records, each number of it as long as it can be. */
-static void longest_text(void)
+/* The longest text of a command is that of 102 LED records, and the longest of all that of a PDCAP with 477 abilities: 5,729 characters. Each number has
+ * as many digits as it can have. */
+static void longest_texts(void)
 {
-    static uint8_t data[1428];
+    static uint8_t data[1431];
     char *text = filled(&first_place, MOST);
     size_t *length = filled(&second_place, sizeof *length);
     memset(data, 255, sizeof data);
-    demand(osdp_command_text(0x69, data, sizeof data, text, MOST, length) == OSDP_OK);
+    demand(osdp_command_text(0x69, data, 1428, text, MOST, length) == OSDP_OK);
     demand(*length == 3 + 102 * (1 + 12 * 4 + 5) && memcmp(text, "LED 255:255:", 12) == 0);
+    demand(is_pattern((uint8_t *)text + *length, MOST - *length));
+    demand(osdp_reply_text(0x46, data, 1431, text, MOST, length) == OSDP_OK);
+    demand(*length == 5729 && memcmp(text, "PDCAP 255:255:255 ", 18) == 0);
     demand(is_pattern((uint8_t *)text + *length, MOST - *length));
     demand_around(&first_place);
     demand_around(&second_place);
@@ -408,7 +412,7 @@ int main(void)
         moving(panel, reader);
         losing(panel);
         texts();
-        longest_text();
+        longest_texts();
         demand(osdp_panel_free(panel) == OSDP_OK && is_zero(panel, sizeof *panel));
         demand(osdp_reader_free(reader) == OSDP_OK && is_zero(reader, sizeof *reader));
         demand_around(&panel_place);
