@@ -22,6 +22,7 @@ pub fn each_holds_in_sessions<H: Handler>()
 pub(crate) fn holds_of_each_run<H: Handler>()
     ensures { HoldsOfEachRun H.answer_of H.after }
 {
+    osdp_sim_laws::accepts_by_room::<H>();
     osdp_sim_laws::schedule_holds_once::<H>();
     holds_in_sessions::<H>();
 }
@@ -30,6 +31,7 @@ pub(crate) fn holds_of_each_run<H: Handler>()
 pub(crate) fn holds_of_each_bus_run<H: Handler>()
     ensures { HoldsOfEachBusRun H.answer_of H.after }
 {
+    osdp_sim_bus_laws::each_accepts_by_room::<H>();
     osdp_sim_bus_laws::each_account_holds_once::<H>();
     each_holds_in_sessions::<H>();
 }
