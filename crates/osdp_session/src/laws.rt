@@ -6,7 +6,7 @@ ghost use Rattle.osdp_session.specs.SeveralReaders.{EachIsInSessions, HoldsOfEac
 
 use osdp_reader::Handler;
 
-/// What holds of sessions one after the other holds at the places that the account's lengths give.
+/// What holds of sessions one after the other holds at the places that the account's lengths give, and over all of them no command is taken twice.
 pub fn holds_in_sessions<H: Handler>()
     ensures { AreInSessions H.answer_of H.after }
 {}

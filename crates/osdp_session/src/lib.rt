@@ -31,7 +31,8 @@ use std::alloc::Global;
 ///   once and in order.
 /// - `sessions`: where sessions begin again, that holds of each, at the places that `sessions` of the account gives: a session's commands
 ///   are those after the ones that the sessions before it settled or told unsettled, and its events those after the ones that were
-///   reported before it, with the last of them again or without it. Each session tells one command unsettled at most.
+///   reported before it, with the last of them again or without it. Each session tells one command unsettled at most. Over all sessions the
+///   commands taken are a beginning of those issued, with some of those told unsettled left out; so none is taken twice.
 ///
 /// Each session ends at most once, and none ends because the reader refused a number.
 pub fn run_session<H: Handler>(
