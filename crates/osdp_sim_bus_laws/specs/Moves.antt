@@ -1,4 +1,5 @@
 -- What the steps of a schedule are to several links: a simulated line with a bus, seen as sites on a line of packets.
+use Rattle.std.specs.List.{AllByRecursion}
 use Rattle.std.specs.Prelude.{◌≡◌, ◌+◌, ℕ, Bool, true, false, All, List, [], ◌∷◌, length, map, Some, None}
 use Rattle.osdp_frame.specs.Bytes.{AreBytes}
 use Rattle.osdp_frame.specs.Packet.{IsPacket, Packet}
@@ -8,7 +9,6 @@ use Rattle.osdp_controller.specs.States.{is_closed}
 use Rattle.osdp_reader.specs.declared.handler.Answer.{Answer}
 use Rattle.osdp_link_laws.specs.Peers.{IsPlainlySaid}
 use Rattle.osdp_link_laws.specs.Sessions.{LastsOrLeaves}
-use Rattle.osdp_link_laws.proofs.Stages.{Each}
 use Rattle.osdp_multidrop.specs.Line as line
 use Rattle.osdp_multidrop.specs.Line.{Net, NetMove, run, site_at}
 use Rattle.osdp_multidrop.specs.Runs.{NetMovesFit, IsSetUp}
@@ -36,7 +36,7 @@ module _ {H : Type 0} where
     pub reader : u.reader ≡ t.reader
     pub tells : IsOf u.account t.account t.earlier
     pub ended : length u.account.ends + 1 ≡ length u.account.sessions + count (is_closed t.controller.session.state)
-    pub causes : Each IsNoRefusal u.account.ends
+    pub causes : AllByRecursion IsNoRefusal u.account.ends
 
   abbrev pub SitesOf : List (Site H) → List (line.Site H) → Type 0
   SitesOf [] [] = Unit {0}
@@ -49,8 +49,8 @@ module _ {H : Type 0} where
     pub sites : SitesOf s.sites n.sites
     pub to_readers : s.to_readers ≡ map spelling (packets_on n.to_readers)
     pub to_bus : s.to_bus ≡ map spelling (packets_on n.to_controllers)
-    pub asked : Each IsPacket (packets_on n.to_readers)
-    pub answered : Each IsPacket (packets_on n.to_controllers)
+    pub asked : AllByRecursion IsPacket (packets_on n.to_readers)
+    pub answered : AllByRecursion IsPacket (packets_on n.to_controllers)
 
   -- what is known of sites after any moves: all that their readers say settles, and a session that is over leaves what the next begins with
   pub record IsKnown (n : Net H) : Type 0 where
