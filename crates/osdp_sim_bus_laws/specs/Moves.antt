@@ -13,11 +13,12 @@ use Rattle.osdp_multidrop.specs.Line as line
 use Rattle.osdp_multidrop.specs.Line.{Net, NetMove, run, site_at}
 use Rattle.osdp_multidrop.specs.Runs.{NetMovesFit, IsSetUp}
 use Rattle.osdp_multidrop.specs.Views.{view}
+use Rattle.osdp_bus.specs.declared.config.BusConfig.{BusConfig}
 use Rattle.osdp_bus_links.specs.Links.{BeginsAsAMove, HearsAsAMove, IsBusOf, SubmitsAsAMove, TicksAsAMove, packets_on}
 use Rattle.osdp_sim.specs.declared.step.SimStep.{SimStep}
 use Rattle.osdp_sim_bus.specs.Runs as simulation
-use Rattle.osdp_sim_bus.specs.Runs.{FitAlong}
-use Rattle.osdp_sim_bus.specs.State.{LineState, Site}
+use Rattle.osdp_sim_bus.specs.Runs.{AreSettings, FitAlong}
+use Rattle.osdp_sim_bus.specs.State.{Given, LineState, Site, set_up}
 use Rattle.osdp_sim_bus.specs.Steps.{StepFits, after_step, fault_of}
 use Rattle.osdp_sim_laws.specs.Accounts.{IsNoRefusal, IsOf}
 use Rattle.osdp_sim_laws.specs.OneLink.{ReadsPackets}
@@ -81,3 +82,8 @@ module _ {H : Type 0} where
     SchedulesAreMoves = (steps : List SimStep) (s : LineState H) (first : Net H) → IsSetUp first → Follows s first
         → simulation.is_well answer_of after steps s ≡ true → FitAlong answer_of after steps s
         → Done (simulation.run answer_of after steps s) first
+
+-- where the settings are in their ranges, the line that is set up follows sites on which the first sessions begin
+abbrev pub BeginsAsSites : Type 0 → Type 0
+BeginsAsSites H = (config : BusConfig) (readers : List (Given H)) → AreSettings config readers
+    → (first : Net H) × IsSetUp first × Follows (set_up config readers) first
