@@ -77,7 +77,7 @@ told_stopped script address events fault end ends sessions accepted is =
     let lists = lists_of fault.account in
     let stops = stopped_at script address events fault.cause fault.step end lists is ends in
     let told = stop_is_told (after_step handler_answer handler_after) fault_of (λ s. s.account) fault.cause fault.step end lists (steps_of script)
-    (start_of script.check (address, events)) is stops.1 in
+    (start_of script.check (address, events)) is stops in
     record {
       run_is = told.0;
       sessions = sessions stops.0;
