@@ -19,6 +19,7 @@ use Rattle.osdp_sim_laws.specs.Accounts.{AreOver, IsInARow, IsOf, all_in, no_len
 use Rattle.osdp_sim_laws.proofs.Accounts.{begun}
 use Rattle.osdp_session.specs.Sessions.{AreSessions, HasEnded, HoldsInSessions, IsNextEvent, IsSession, LastsOrHasEnded, between, first_command, session_commands, session_reported, session_settled, session_taken, session_told, session_unsettled}
 use Rattle.osdp_session.proofs.Cuts.{front, handler_all, part, shorter, told_length}
+use Rattle.osdp_session.proofs.Taken.{are_taken_once}
 
 -- the account's lists begin with those of this session and the ones before it
 record IsIn (a : Account) (t : link.Account) (earlier : List link.Account) (past : List Event) : Type 0 where
@@ -312,6 +313,7 @@ module _ {H : Type 0} (answer_of : H → Command → Answer) (after : H → Comm
         later = found.0;
         begins = sym (append-nil a.sessions) ∙ found.1;
         sessions = found.2;
+        taken = are_taken_once a t earlier lists row.row row.once.0.taken;
         causes = row.causes;
       }
     where

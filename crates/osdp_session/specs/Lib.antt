@@ -1,3 +1,4 @@
 pub mod Runs
 pub mod Sessions
 pub mod SeveralReaders
+pub mod Taken

@@ -7,13 +7,16 @@ use Rattle.osdp_sim.specs.declared.account.Account.{Account}
 use Rattle.osdp_sim.specs.declared.config.SimConfig.{SimConfig}
 use Rattle.osdp_sim.specs.declared.fault.Fault.{Fault}
 use Rattle.osdp_sim.specs.declared.step.SimStep.{SimStep}
+use Rattle.osdp_sim_laws.specs.Accepted.{IsAcceptedByRoom}
 use Rattle.osdp_sim_laws.specs.Accounts.{IsAnswer, IsInSession, IsOnce, WasSetUp, account_in}
 use Rattle.osdp_session.specs.Sessions.{HoldsInSessions}
 
 module _ {H : Type 0} (answer_of : H → Command → Answer) (after : H → Command → H) where
-  -- all that the call of `osdp_sim` promises, and, once both ends are set up, what the account says of one session and of each session
+  -- all that the call of `osdp_sim` promises; which of the orders were accepted; and, once both ends are set up, what the account says of
+  -- one session and of each session
   pub record HoldsOfRun (config : SimConfig) (handler : H) (steps : List SimStep) (answer : Result Account (Fault Account)) : Type 0 where
     pub run : IsAnswer answer_of after config handler steps answer
+    pub room : IsAcceptedByRoom config (steps_done steps answer) (account_in answer)
     pub once : WasSetUp answer → All IsInSession (steps_done steps answer) → IsOnce answer_of after config.reader handler (account_in answer)
     pub sessions : WasSetUp answer → HoldsInSessions answer_of after config.reader handler (account_in answer)
 

@@ -10,6 +10,7 @@ use Rattle.osdp_link_laws.specs.Headline.{IsBeginning, with_answers}
 use Rattle.osdp_sim.specs.Account.{Account, lengths_of}
 use Rattle.osdp_sim.specs.declared.account.Lengths.{Lengths}
 use Rattle.osdp_sim_laws.specs.Accounts.{IsInARow, IsNoRefusal, no_lengths}
+use Rattle.osdp_session.specs.Taken.{AreTakenOnce}
 
 -- the items of a list from one place up to another
 abbrev pub between : {A : Type 0} → ℕ → ℕ → List A → List A
@@ -85,11 +86,13 @@ module _ {H : Type 0} (answer_of : H → Command → Answer) (after : H → Comm
       IsSession config handler a from to first × HasEnded a from to
       × ((next : ℕ) × IsNextEvent from to first next × AreSessions config handler a to next later)
 
-  -- the account is that of sessions in a row; the first begins with nothing, and none ends by a refused number
+  -- the account is that of sessions in a row; the first begins with nothing, over all of them each command is taken once at most, and none
+  -- ends by a refused number
   pub record HoldsInSessions (config : ReaderConfig) (handler : H) (a : Account) : Type 0 where
     pub later : List Lengths
     pub begins : a.sessions ≡ no_lengths ∷ later
     pub sessions : AreSessions config handler a no_lengths 0 later
+    pub taken : AreTakenOnce a
     pub causes : All IsNoRefusal a.ends
 
   abbrev pub AreInSessions : Type 0

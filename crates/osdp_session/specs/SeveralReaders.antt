@@ -7,6 +7,7 @@ use Rattle.osdp_sim.specs.Account.{Account}
 use Rattle.osdp_sim.specs.declared.step.SimStep.{SimStep}
 use Rattle.osdp_sim_bus.specs.Runs.{steps_done}
 use Rattle.osdp_sim_bus.specs.State.{Given}
+use Rattle.osdp_sim_bus_laws.specs.Accepted.{AcceptsEach}
 use Rattle.osdp_sim_bus_laws.specs.Accounts.{BusAnswer, EachMeets, IsAnswer, WasSetUp, accounts_in}
 use Rattle.osdp_sim_laws.specs.Accounts.{IsInARow, IsInSession, IsOnce}
 use Rattle.osdp_session.specs.Sessions.{HoldsInSessions}
@@ -20,6 +21,7 @@ module _ {H : Type 0} (answer_of : H → Command → Answer) (after : H → Comm
   -- of a run over a bus: all that the call of `osdp_sim_bus` promises, and of each reader, once the line is set up, what `HoldsOfRun` says of one
   pub record HoldsOfBusRun (config : BusConfig) (readers : List (Given H)) (steps : List SimStep) (answer : BusAnswer) : Type 0 where
     pub run : IsAnswer answer_of after config readers steps answer
+    pub room : WasSetUp answer → AcceptsEach config readers (steps_done steps answer) (accounts_in answer)
     pub once : WasSetUp answer → All IsInSession (steps_done steps answer) → EachMeets (IsOnce answer_of after) readers (accounts_in answer)
     pub sessions : WasSetUp answer → EachMeets (HoldsInSessions answer_of after) readers (accounts_in answer)
 

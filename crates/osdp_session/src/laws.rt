@@ -6,7 +6,7 @@ ghost use Rattle.osdp_session.specs.SeveralReaders.{EachIsInSessions, HoldsOfEac
 
 use osdp_reader::Handler;
 
-/// What holds of sessions one after the other holds at the places that the account's lengths give.
+/// What holds of sessions one after the other holds at the places that the account's lengths give, and over all of them no command is taken twice.
 pub fn holds_in_sessions<H: Handler>()
     ensures { AreInSessions H.answer_of H.after }
 {}
@@ -22,6 +22,7 @@ pub fn each_holds_in_sessions<H: Handler>()
 pub(crate) fn holds_of_each_run<H: Handler>()
     ensures { HoldsOfEachRun H.answer_of H.after }
 {
+    osdp_sim_laws::accepts_by_room::<H>();
     osdp_sim_laws::schedule_holds_once::<H>();
     holds_in_sessions::<H>();
 }
@@ -30,6 +31,7 @@ pub(crate) fn holds_of_each_run<H: Handler>()
 pub(crate) fn holds_of_each_bus_run<H: Handler>()
     ensures { HoldsOfEachBusRun H.answer_of H.after }
 {
+    osdp_sim_bus_laws::each_accepts_by_room::<H>();
     osdp_sim_bus_laws::each_account_holds_once::<H>();
     each_holds_in_sessions::<H>();
 }

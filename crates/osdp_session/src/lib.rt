@@ -1,7 +1,8 @@
 //! A schedule run over a simulated line, with the headline in the contract of the call.
 //!
 //! `run_session` here is that of `osdp_sim`, and `run_bus` that of `osdp_sim_bus`. Their contracts say in addition what holds of the account of
-//! each reader, session by session, at the places that the account's lengths give. So nobody has to join the run's contract and a law by hand.
+//! each reader: which orders were accepted, and what was taken, settled and reported, session by session, at the places that the account's
+//! lengths give. So nobody has to join the run's contract and a law by hand.
 #![tactic(auto)]
 
 ghost use Rattle.osdp_session.specs.Runs.{HoldsOfRun};
@@ -18,14 +19,22 @@ pub use several_readers::{run_bus, run_bus_schedule};
 use std::alloc::Global;
 
 /// Runs a schedule over a line with one controller and one reader, as `osdp_sim::run_session` does, and gives the account of what happened, or
-/// the fault with the account of the steps before it. Once both ends are set up:
+/// the fault with the account of the steps before it.
+///
+/// - `room`: of the steps that were taken, all commands for the reader but POLL are accepted, where they are at most as many as may wait. Where
+///   they are more, the first of them are, as many as may wait, and some of the others, each once and in their order. So it is of the events.
+///
+/// Once both ends are set up:
 ///
 /// - `once`: where no session begins again, the commands that the reader has taken are a beginning of those issued, and hold each settled one,
 ///   with the answer that the reader gave, and one more at most; the events that the controller reported are a beginning of those queued, each
 ///   once and in order.
 /// - `sessions`: where sessions begin again, that holds of each, at the places that `sessions` of the account gives: a session's commands
 ///   are those after the ones that the sessions before it settled or told unsettled, and its events those after the ones that were
-///   reported before it, with the last of them again or without it. Each session tells one command unsettled at most.
+///   reported before it, with the last of them again or without it. Each session tells one command unsettled at most. Over all sessions the
+///   commands taken are a beginning of those issued, with some of those told unsettled left out; so none is taken twice.
+///
+/// Each session ends at most once, and none ends because the reader refused a number.
 pub fn run_session<H: Handler>(
     alloc: Global,
     config: &SimConfig,

@@ -1,5 +1,5 @@
 -- Where no session begins again, each reader's account is that of one session.
-use Rattle.std.proofs.Common.{◌≡◌, ◌-◌, ◌==◌, ◌++◌, ◌≤◌, ℕ, zero, suc, Bool, true, false, if◌then◌else◌, All, List, [], ◌∷◌, length, map, Option, Some, None, refl, sym, subst, ap, ◌∙◌, inl, inr, arith}
+use Rattle.std.proofs.Common.{◌≡◌, ◌-◌, ◌==◌, ℕ, zero, suc, Bool, true, false, if◌then◌else◌, List, [], ◌∷◌, length, map, Option, Some, None, refl, subst, ap, ◌∙◌, arith}
 use Rattle.std.proofs.lemmas.List.{length-append}
 use Rattle.std.specs.Prelude.{slice_get, slice_set}
 use Rattle.std.specs.Option.{option_map_or}
@@ -7,12 +7,10 @@ use Rattle.osdp_frame.specs.Packet.{Packet}
 use Rattle.osdp_msg.specs.declared.command.Command.{Command}
 use Rattle.osdp_msg.specs.declared.event.Event.{Event}
 use Rattle.osdp_controller.specs.declared.report.Report.{Report}
-use Rattle.osdp_reader.specs.declared.config.ReaderConfig.{ReaderConfig}
 use Rattle.osdp_reader.specs.declared.handler.Answer.{Answer}
 use Rattle.osdp_bus.specs.Machine.{after_next_report, submit_refusal_at}
 use Rattle.osdp_bus.specs.declared.config.BusConfig.{BusConfig}
 use Rattle.osdp_bus.specs.declared.fault.BusFault.{BusFault}
-use Rattle.osdp_link_laws.specs.Headline.{AreOnce, IsBeginning, with_answers}
 use Rattle.osdp_link_laws.specs.Link as link
 use Rattle.osdp_link_laws.proofs.Lines.{each_of}
 use Rattle.osdp_link_laws.proofs.Stages.{Each}
@@ -26,7 +24,7 @@ use Rattle.osdp_sim_bus.specs.Runs as simulation
 use Rattle.osdp_sim_bus.specs.Runs.{steps_done}
 use Rattle.osdp_sim_bus.specs.State.{Given, LineState, Site, new_site, set_up}
 use Rattle.osdp_sim_bus.specs.Steps.{after_step, all_hear, all_hear_each, changed_site, hears_run, is_there, issued, site_hears, site_is_busy, site_is_told, site_issues, site_queues, site_queues_unless, told, waited}
-use Rattle.osdp_sim_laws.specs.Accounts.{AreOver, IsInSession, IsNoRefusal, IsOf, IsOnce, LastsOrHasEnded}
+use Rattle.osdp_sim_laws.specs.Accounts.{AreOver, IsInSession, IsOf}
 use Rattle.osdp_sim_laws.proofs.Ends.{sessions_of_report}
 use Rattle.osdp_sim_laws.proofs.Holding.{of_one}
 use Rattle.osdp_sim_bus_laws.specs.Accounts.{HoldsOnce, StaysInARow, accounts_in}

@@ -1,5 +1,5 @@
 -- Each reader's account is that of sessions in a row.
-use Rattle.std.proofs.Common.{◌≡◌, ◌+◌, ◌++◌, ◌-◌, ◌≤◌, ℕ, zero, suc, Bool, true, false, List, ◌∷◌, length, map, take, Some, Ok, Err, refl, sym, subst, ap, ◌∙◌, append_assoc, arith}
+use Rattle.std.proofs.Common.{◌≡◌, ◌+◌, ◌++◌, ◌-◌, ◌≤◌, ℕ, zero, suc, true, List, ◌∷◌, length, map, take, Some, Ok, Err, sym, subst, ap, ◌∙◌, append_assoc, arith}
 use Rattle.std.proofs.lemmas.Option.{slice_get-map}
 use Rattle.std.specs.Prelude.{slice_get, option_map}
 use Rattle.osdp_msg.specs.declared.command.Command.{Command}
@@ -25,7 +25,7 @@ use Rattle.osdp_sim_bus.specs.State.{Given, LineState, Site, accounts, set_up}
 use Rattle.osdp_sim_laws.specs.Accounts.{IsInARow, IsNoRefusal, LastsOrHasEnded}
 use Rattle.osdp_sim_laws.proofs.Holding.{each_one, last_one, one_unsettled, told_first}
 use Rattle.osdp_sim_bus_laws.specs.Accounts.{BusAnswer, EachMeets, IsAnswer, StaysInARow, WasSetUp, accounts_in}
-use Rattle.osdp_sim_bus_laws.specs.Moves.{Done, IsSiteOf, SchedulesAreMoves, count}
+use Rattle.osdp_sim_bus_laws.specs.Moves.{Done, IsSiteOf, SchedulesAreMoves}
 use Rattle.osdp_sim_bus_laws.proofs.Beginning.{first_net, first_site, follows_first, has_site, is_set_up}
 use Rattle.osdp_sim_bus_laws.proofs.Sites.{counts_alike, get_site}
 

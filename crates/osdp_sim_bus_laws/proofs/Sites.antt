@@ -1,6 +1,6 @@
 -- The readers of a simulated line and the sites whose readers they are, place by place.
-use Rattle.std.proofs.Common.{◌≡◌, ◌||◌, ◌<◌, ◌+◌, ℕ, zero, suc, Bool, true, false, cond, List, [], ◌∷◌, ◌++◌, length, map, Option, Some, None, refl, sym, subst, ap, ◌∙◌, arith}
-use Rattle.std.proofs.lemmas.List.{length-append, map-append}
+use Rattle.std.proofs.Common.{◌≡◌, ◌<◌, ◌+◌, ℕ, zero, suc, Bool, true, false, cond, List, [], ◌∷◌, ◌++◌, map, Option, Some, None, refl, sym, subst, ap, ◌∙◌, arith}
+use Rattle.std.proofs.lemmas.List.{map-append}
 use Rattle.std.specs.Prelude.{slice_get, slice_set, option_to_list, ◌==◌}
 use Rattle.std.specs.Option.{option_map_or}
 use Rattle.std.specs.List.{flat_map}
@@ -9,8 +9,6 @@ use Rattle.osdp_frame.specs.Spelling.{spelling}
 use Rattle.osdp_msg.specs.declared.command.Command.{Command}
 use Rattle.osdp_controller.specs.States.{is_closed}
 use Rattle.osdp_controller.specs.declared.report.Report.{Report}
-use Rattle.osdp_controller.specs.declared.report.Report.TheVariants as report
-use Rattle.osdp_controller_laws.specs.Commands.{tells_end}
 use Rattle.osdp_reader.specs.Table as reader
 use Rattle.osdp_reader.specs.State.{ReaderState}
 use Rattle.osdp_reader.specs.declared.handler.Answer.{Answer}
@@ -22,9 +20,8 @@ use Rattle.osdp_link_laws.specs.Ends as ends
 use Rattle.osdp_multidrop.specs.Line as line
 use Rattle.osdp_multidrop.specs.Line.{changed, said_from, site_at, tagged}
 use Rattle.osdp_bus_links.specs.Links.{IsNoRefusalOf, IsTold, TellsFrom, packets_on, report_for}
-use Rattle.osdp_sim.specs.Account.{Account, with_report}
+use Rattle.osdp_sim.specs.Account.{with_report}
 use Rattle.osdp_sim.specs.Line.{sent}
-use Rattle.osdp_sim.specs.declared.account.End.TheVariants as ending
 use Rattle.osdp_sim_bus.specs.State.{Site}
 use Rattle.osdp_sim_bus.specs.Steps.{changed_site, site_hears, site_is_told, site_says}
 use Rattle.osdp_sim_laws.specs.Accounts.{IsOf}

@@ -17,16 +17,16 @@ IsNoComset command = comset_of command ≡ None
 
 -- Of the orders for the reader of this number some are accepted, each once and in their order; where none is a COMSET, those for which there
 -- is room. So it is of its events.
-pub record AcceptsFor (commands events number : ℕ) (taken : List SimStep) (a : Account) : Type 0 where
-  pub among : IsAmong a.issued (commands_for number taken)
-  pub issued : All IsNoComset (commands_for number taken) → IsAccepted commands (commands_for number taken) a.issued
-  pub queued : IsAccepted events (events_for number taken) a.queued
+pub record AcceptsFor (commands events number : ℕ) (steps_taken : List SimStep) (a : Account) : Type 0 where
+  pub among : IsAmong a.issued (commands_for number steps_taken)
+  pub issued : All IsNoComset (commands_for number steps_taken) → IsAccepted commands (commands_for number steps_taken) a.issued
+  pub queued : IsAccepted events (events_for number steps_taken) a.queued
 
 module _ {H : Type 0} where
   -- of the steps that were taken, for each reader: these commands were accepted for it, and these events
   abbrev pub AcceptsEach : BusConfig → List (Given H) → List SimStep → List Account → Type 0
-  AcceptsEach config readers taken told = (k : ℕ) (given : Given H) → slice_get readers k ≡ Some given
-      → (a : Account) × (slice_get told k ≡ Some a) × AcceptsFor config.capacity given.1 (suc k) taken a
+  AcceptsEach config readers steps_taken told = (k : ℕ) (given : Given H) → slice_get readers k ≡ Some given
+      → (a : Account) × (slice_get told k ≡ Some a) × AcceptsFor config.capacity given.1 (suc k) steps_taken a
 
   -- whatever the steps are
   abbrev pub EachAccepts : (H → Command → Answer) → (H → Command → H) → Type 0

@@ -1,4 +1,5 @@
 -- What the steps of a schedule are to several links: a simulated line with a bus, seen as sites on a line of packets.
+use Rattle.std.specs.List.{AllByRecursion}
 use Rattle.std.specs.Prelude.{◌≡◌, ◌+◌, ℕ, Bool, true, false, All, List, [], ◌∷◌, length, map, Some, None}
 use Rattle.osdp_frame.specs.Bytes.{AreBytes}
 use Rattle.osdp_frame.specs.Packet.{IsPacket, Packet}
@@ -8,16 +9,16 @@ use Rattle.osdp_controller.specs.States.{is_closed}
 use Rattle.osdp_reader.specs.declared.handler.Answer.{Answer}
 use Rattle.osdp_link_laws.specs.Peers.{IsPlainlySaid}
 use Rattle.osdp_link_laws.specs.Sessions.{LastsOrLeaves}
-use Rattle.osdp_link_laws.proofs.Stages.{Each}
 use Rattle.osdp_multidrop.specs.Line as line
 use Rattle.osdp_multidrop.specs.Line.{Net, NetMove, run, site_at}
 use Rattle.osdp_multidrop.specs.Runs.{NetMovesFit, IsSetUp}
 use Rattle.osdp_multidrop.specs.Views.{view}
+use Rattle.osdp_bus.specs.declared.config.BusConfig.{BusConfig}
 use Rattle.osdp_bus_links.specs.Links.{BeginsAsAMove, HearsAsAMove, IsBusOf, SubmitsAsAMove, TicksAsAMove, packets_on}
 use Rattle.osdp_sim.specs.declared.step.SimStep.{SimStep}
 use Rattle.osdp_sim_bus.specs.Runs as simulation
-use Rattle.osdp_sim_bus.specs.Runs.{FitAlong}
-use Rattle.osdp_sim_bus.specs.State.{LineState, Site}
+use Rattle.osdp_sim_bus.specs.Runs.{AreSettings, FitAlong}
+use Rattle.osdp_sim_bus.specs.State.{Given, LineState, Site, set_up}
 use Rattle.osdp_sim_bus.specs.Steps.{StepFits, after_step, fault_of}
 use Rattle.osdp_sim_laws.specs.Accounts.{IsNoRefusal, IsOf}
 use Rattle.osdp_sim_laws.specs.OneLink.{ReadsPackets}
@@ -36,7 +37,7 @@ module _ {H : Type 0} where
     pub reader : u.reader ≡ t.reader
     pub tells : IsOf u.account t.account t.earlier
     pub ended : length u.account.ends + 1 ≡ length u.account.sessions + count (is_closed t.controller.session.state)
-    pub causes : Each IsNoRefusal u.account.ends
+    pub causes : AllByRecursion IsNoRefusal u.account.ends
 
   abbrev pub SitesOf : List (Site H) → List (line.Site H) → Type 0
   SitesOf [] [] = Unit {0}
@@ -49,8 +50,8 @@ module _ {H : Type 0} where
     pub sites : SitesOf s.sites n.sites
     pub to_readers : s.to_readers ≡ map spelling (packets_on n.to_readers)
     pub to_bus : s.to_bus ≡ map spelling (packets_on n.to_controllers)
-    pub asked : Each IsPacket (packets_on n.to_readers)
-    pub answered : Each IsPacket (packets_on n.to_controllers)
+    pub asked : AllByRecursion IsPacket (packets_on n.to_readers)
+    pub answered : AllByRecursion IsPacket (packets_on n.to_controllers)
 
   -- what is known of sites after any moves: all that their readers say settles, and a session that is over leaves what the next begins with
   pub record IsKnown (n : Net H) : Type 0 where
@@ -81,3 +82,8 @@ module _ {H : Type 0} where
     SchedulesAreMoves = (steps : List SimStep) (s : LineState H) (first : Net H) → IsSetUp first → Follows s first
         → simulation.is_well answer_of after steps s ≡ true → FitAlong answer_of after steps s
         → Done (simulation.run answer_of after steps s) first
+
+-- where the settings are in their ranges, the line that is set up follows sites on which the first sessions begin
+abbrev pub BeginsAsSites : Type 0 → Type 0
+BeginsAsSites H = (config : BusConfig) (readers : List (Given H)) → AreSettings config readers
+    → (first : Net H) × IsSetUp first × Follows (set_up config readers) first

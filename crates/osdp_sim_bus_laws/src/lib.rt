@@ -4,7 +4,7 @@
 
 ghost use Rattle.osdp_sim_bus_laws.specs.Accepted.{EachAccepts};
 ghost use Rattle.osdp_sim_bus_laws.specs.Accounts.{HoldsOnce, StaysInARow};
-ghost use Rattle.osdp_sim_bus_laws.specs.Moves.{OneBus, SchedulesAreMoves, StepsAreMoves};
+ghost use Rattle.osdp_sim_bus_laws.specs.Moves.{BeginsAsSites, OneBus, SchedulesAreMoves, StepsAreMoves};
 
 use osdp_reader::Handler;
 
@@ -12,11 +12,12 @@ use osdp_reader::Handler;
 ///
 /// So each step of a schedule that isn't refused is a list of moves of several links: the simulated line follows it, with the bus as their
 /// controllers, their packets as bytes, and each reader's account as what the sessions of its site come to. So is each schedule, as far as it
-/// isn't refused, from a line on which the first sessions begin.
+/// isn't refused, from a line on which the first sessions begin. The line that is set up is one, where the settings are in their ranges.
 pub fn schedules_are_moves<H: Handler>()
     ensures bus { OneBus H.answer_of H.after }
     ensures steps { StepsAreMoves H.answer_of H.after }
     ensures schedules { SchedulesAreMoves H.answer_of H.after }
+    ensures set_up { BeginsAsSites H }
 {
     osdp_sim::laws::reads_packets();
     osdp_frame_laws::one_spelling();

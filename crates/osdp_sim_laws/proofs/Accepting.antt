@@ -1,6 +1,6 @@
 -- Which orders are accepted: by the room that there is.
 use Rattle.std.proofs.Common.{◌≡◌, ◌⊎◌, ◌≤◌, ◌+◌, ◌-◌, ℕ, zero, suc, arith, Bool, true, false, ◌==◌, if◌then◌else◌, ltb, leb, eqb, List, [], ◌∷◌, ◌++◌, length, take, drop, Option, Some, None, Result, Ok, Err, inl, inr, refl, sym, subst, ap, ◌∙◌, append_assoc}
-use Rattle.std.proofs.lemmas.Bool.{le-ltb, lt-ltb}
+use Rattle.std.proofs.lemmas.Bool.{lt-ltb}
 use Rattle.std.proofs.lemmas.Bool.Decides.{eqb_tells, leb_tells}
 use Rattle.std.proofs.lemmas.List.{append-nil, length-append, take_all}
 use Rattle.osdp_frame.specs.Packet.{Packet, next_sequence}
@@ -26,22 +26,18 @@ use Rattle.osdp_reader.specs.declared.kind.Kind.{Kind}
 use Rattle.osdp_reader.specs.declared.kind.Kind.TheVariants as kind
 use Rattle.osdp_link_laws.specs.Headline.{IsBeginning}
 use Rattle.osdp_link_laws.proofs.Lines.{both}
-use Rattle.osdp_link_laws.proofs.Stages.{Each}
 use Rattle.osdp_sim.specs.Account.{Account}
 use Rattle.osdp_sim.specs.Line.{handed, left, packets_in}
-use Rattle.osdp_sim.specs.Runs.{Stops, run, steps_done}
+use Rattle.osdp_sim.specs.Runs.{Stops, run}
 use Rattle.osdp_sim.specs.State.{SimState, set_up}
 use Rattle.osdp_sim.specs.Steps as steps
 use Rattle.osdp_sim.specs.Steps.{after_step, controller_hears, moment_after, reader_hears}
-use Rattle.osdp_sim.specs.declared.account.Account as declared
 use Rattle.osdp_sim.specs.declared.config.SimConfig.{SimConfig}
 use Rattle.osdp_sim.specs.declared.fault.Cause.{Cause}
-use Rattle.osdp_sim.specs.declared.fault.Fault.{Fault}
 use Rattle.osdp_sim.specs.declared.step.SimStep.{SimStep}
 use Rattle.osdp_sim.specs.declared.step.SimStep.TheVariants.{Issue, Queue, Busy, Wait, ToReader, ToController, Reopen}
-use Rattle.osdp_sim_laws.specs.Accepted.{AcceptsByRoom, IsAccepted, IsAmong, but_poll, commands_of, events_of}
+use Rattle.osdp_sim_laws.specs.Accepted.{AcceptsByRoom, IsAccepted, IsAcceptedByRoom, IsAmong, but_poll, commands_of, events_of}
 use Rattle.osdp_sim_laws.specs.Accounts.{account_in}
-use Rattle.osdp_sim_laws.specs.Clean.{IsOrder}
 use Rattle.osdp_sim_laws.proofs.Accounts.{report_leaves}
 
 -- a step that brings neither a command nor an event
@@ -400,28 +396,28 @@ module _ {H : Type 0} (answer_of : H → Command → Answer) (after : H → Comm
 
   -- ---- whatever is answered
 
-  abbrev IsAcceptedIn : SimConfig → List SimStep → Account → Type 0
-  IsAcceptedIn config taken a = IsAccepted config.commands (commands_of taken) a.issued × IsAccepted config.events (events_of taken) a.queued
-
-  from_set_up : (config : SimConfig) (handler : H) (list : List SimStep) → IsAcceptedIn config list (run answer_of after list (set_up config handler)).account
+  from_set_up : (config : SimConfig) (handler : H) (list : List SimStep) → IsAcceptedByRoom config list (run answer_of after list (set_up config handler)).account
   from_set_up config handler list =
       let s = set_up config handler in
-      let last = (run answer_of after list s).account in (
-        accepted config.commands (commands_of list) last.issued
-            (subst (λ n. Accepts n (commands_of list) [] last.issued) (all_of config.commands) (accepts_commands list 0 s (omega arith))),
-        accepted config.events (events_of list) last.queued
-            (subst (λ n. Accepts n (events_of list) [] last.queued) (all_of config.events) (accepts_events list 0 s (omega arith))),
-      )
+      let last = (run answer_of after list s).account in
+      record {
+        issued = accepted config.commands (commands_of list) last.issued
+            (subst (λ n. Accepts n (commands_of list) [] last.issued) (all_of config.commands) (accepts_commands list 0 s (omega arith)));
+        queued = accepted config.events (events_of list) last.queued
+            (subst (λ n. Accepts n (events_of list) [] last.queued) (all_of config.events) (accepts_events list 0 s (omega arith)));
+      }
     where
       all_of : (n : ℕ) → n - 0 ≡ n
       all_of n = omega arith
 
   pub accepts_by_room : AcceptsByRoom answer_of after
   accepts_by_room config handler list (Ok account) ends =
-      subst (IsAcceptedIn config list) (sym ends.2) (from_set_up config handler list)
+      subst (IsAcceptedByRoom config list) (sym ends.2) (from_set_up config handler list)
   accepts_by_room config handler list (Err fault) ends = by_step fault.step fault.cause (account_in (Err fault)) ends
     where
-      by_step : (at : ℕ) (why : Cause) (lists : Account) → Stops answer_of after at why lists config handler list → IsAcceptedIn config (take (at - 1) list) lists
-      by_step zero why lists stops = subst (IsAcceptedIn config []) (sym stops.1) (from_set_up config handler [])
+      by_step : (at : ℕ) (why : Cause) (lists : Account) → Stops answer_of after at why lists config handler list → IsAcceptedByRoom config (take (at - 1) list) lists
+      by_step zero why lists stops =
+          let none = from_set_up config handler [] in
+          subst (IsAcceptedByRoom config []) (sym stops.1) (record { issued = none.issued; queued = none.queued })
       by_step (suc before) why lists stops =
-          subst (IsAcceptedIn config (take (suc before - 1) list)) (sym stops.1.account) (from_set_up config handler (take (suc before - 1) list))
+          subst (IsAcceptedByRoom config (take (suc before - 1) list)) (sym stops.1.account) (from_set_up config handler (take (suc before - 1) list))

@@ -32,7 +32,7 @@ use Rattle.osdp_sim.specs.declared.step.SimStep.TheVariants.{Issue, Queue, Busy,
 use Rattle.osdp_sim_laws.specs.Accounts.{IsInARow, IsInSession, IsNoRefusal, IsOf, IsOnce, IsAnswer, LastsOrHasEnded, StaysInARow, HoldsOnce, WasSetUp, account_in}
 use Rattle.osdp_sim_laws.specs.OneLink.{OneLink}
 use Rattle.osdp_sim_laws.specs.Progress.{IsRun}
-use Rattle.osdp_sim_laws.specs.Moves.{step_clock, first_link, move_of, moves_of}
+use Rattle.osdp_sim_laws.specs.Moves.{ScheduleIsMoves, step_clock, first_link, move_of, moves_of}
 use Rattle.osdp_sim_laws.proofs.Ends.{run_ended}
 use Rattle.osdp_sim_laws.proofs.Schedules.{GoesFrom, schedule_follows}
 
@@ -72,6 +72,17 @@ module _ {H : Type 0} (answer_of : H → Command → Answer) (after : H → Comm
     ended = refl;
     leave = λ ms moves. given.last (first_link config handler) ms (begins config handler device) moves;
   }
+
+  pub schedule_is_moves : OneLink answer_of after → ScheduleIsMoves answer_of after
+  schedule_is_moves given config handler steps settings well fits =
+      let device = settings.controller.config_in_range.address in
+      let follows = schedule_follows answer_of after given.reads given.told steps (first_link config handler) 0 no_account
+      (goes_from_first given config handler device) well fits in
+      record {
+        begins = begins config handler device;
+        fit = follows.moves;
+        follows = record { state = follows.carried.state; tells = follows.carried.tells };
+      }
 
   -- while the last session lasts it has told nothing unsettled, and once it has ended it leaves what a next one would begin with
   pub last_one : (state : State) (a : Account) (l : link.Link H) → LastsOrLeaves state l

@@ -5,6 +5,7 @@ use Rattle.osdp_msg.specs.declared.command.Command.TheVariants.{Poll}
 use Rattle.osdp_msg.specs.declared.event.Event.{Event}
 use Rattle.osdp_reader.specs.declared.handler.Answer.{Answer}
 use Rattle.osdp_link_laws.specs.Headline.{IsBeginning}
+use Rattle.osdp_sim.specs.Account.{Account}
 use Rattle.osdp_sim.specs.Runs.{RunEnds, steps_done}
 use Rattle.osdp_sim.specs.declared.account.Account as declared
 use Rattle.osdp_sim.specs.declared.config.SimConfig.{SimConfig}
@@ -52,11 +53,13 @@ pub record IsAccepted {A : Type 0} (room : ℕ) (all accepted : List A) : Type 0
   pub first : IsBeginning (take room all) accepted
   pub among : IsAmong accepted all
 
+-- of the steps that were taken these commands were accepted, and these events: those for which the settings leave room
+pub record IsAcceptedByRoom (config : SimConfig) (steps_taken : List SimStep) (a : Account) : Type 0 where
+  pub issued : IsAccepted config.commands (commands_of steps_taken) a.issued
+  pub queued : IsAccepted config.events (events_of steps_taken) a.queued
+
 module _ {H : Type 0} (answer_of : H → Command → Answer) (after : H → Command → H) where
-  -- whatever the steps are: of those that were taken these commands were accepted, and these events
+  -- whatever the steps are
   abbrev pub AcceptsByRoom : Type 0
   AcceptsByRoom = (config : SimConfig) (handler : H) (steps : List SimStep) (answer : Result declared.Account (Fault declared.Account))
-      → RunEnds answer_of after config handler steps answer
-      → let taken = steps_done steps answer in
-      IsAccepted config.commands (commands_of taken) (account_in answer).issued
-      × IsAccepted config.events (events_of taken) (account_in answer).queued
+      → RunEnds answer_of after config handler steps answer → IsAcceptedByRoom config (steps_done steps answer) (account_in answer)

@@ -1,7 +1,6 @@
 -- Schedules without losses: what their accounts are, exactly.
-use Rattle.std.specs.Prelude.{◌≡◌, ◌≤◌, ℕ, ◌-◌, All, List, [], ◌∷◌, ◌++◌, length, take, Result, Ok, Err}
+use Rattle.std.specs.Prelude.{◌≡◌, ◌≤◌, ℕ, ◌-◌, All, List, [], ◌++◌, length, take, Result, Ok, Err}
 use Rattle.osdp_msg.specs.declared.command.Command.{Command}
-use Rattle.osdp_reader.specs.declared.config.ReaderConfig.{ReaderConfig}
 use Rattle.osdp_reader.specs.declared.handler.Answer.{Answer}
 use Rattle.osdp_link_laws.specs.Headline.{with_answers}
 use Rattle.osdp_link_laws.specs.Progress.{SetsNoAddress}

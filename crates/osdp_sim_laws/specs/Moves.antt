@@ -1,18 +1,23 @@
 -- What the steps of a schedule are to the link.
-use Rattle.std.specs.Prelude.{ℕ, ◌==◌, if◌then◌else◌, List, [], ◌∷◌, ◌++◌, map}
+use Rattle.std.specs.Prelude.{◌≡◌, ℕ, true, ◌==◌, if◌then◌else◌, List, [], ◌∷◌, ◌++◌, map}
+use Rattle.osdp_msg.specs.declared.command.Command.{Command}
 use Rattle.osdp_controller.specs.Machine.{after_begin, new_machine}
 use Rattle.osdp_frame.specs.Spelling.{spelling}
 use Rattle.osdp_reader.specs.State.{new_reader}
+use Rattle.osdp_reader.specs.declared.handler.Answer.{Answer}
+use Rattle.osdp_link_laws.specs.Headline.{Begins, MovesFit}
 use Rattle.osdp_link_laws.specs.Link as link
 use Rattle.osdp_link_laws.specs.Link.{Delivered, Delivery, Link, Lost, Repeated, new_account}
 use Rattle.osdp_sim.specs.Account.{Account}
-use Rattle.osdp_sim.specs.State.{SimState}
+use Rattle.osdp_sim.specs.Runs.{AreSettings, FitAlong, is_well, run}
+use Rattle.osdp_sim.specs.State.{SimState, set_up}
 use Rattle.osdp_sim.specs.Steps.{moment_after}
 use Rattle.osdp_sim.specs.declared.config.SimConfig.{SimConfig}
 use Rattle.osdp_sim.specs.declared.step.Move as way
 use Rattle.osdp_sim.specs.declared.step.Move.TheVariants.{Deliver, Drop, Repeat, Damage}
 use Rattle.osdp_sim.specs.declared.step.SimStep.{SimStep}
 use Rattle.osdp_sim.specs.declared.step.SimStep.TheVariants.{Issue, Queue, Busy, Wait, ToReader, ToController, Reopen}
+use Rattle.osdp_sim_laws.specs.Accounts.{IsOf}
 
 -- damage that holds no packet is a loss
 abbrev pub delivery : way.Move → Delivery
@@ -69,3 +74,22 @@ module _ {H : Type 0} where
     account = new_account [] [];
     earlier = [];
   }
+
+  -- the simulation is this link, with its packets as bytes, and its account holds what the link's sessions came to
+  pub record FollowsLink (s : SimState H) (l : Link H) (clock : ℕ) : Type 0 where
+    pub state : s ≡ in_bytes l clock s.account
+    pub tells : IsOf s.account l.account l.earlier
+
+  module _ (answer_of : H → Command → Answer) (after : H → Command → H) where
+    -- a schedule is the moves that its steps are: from a link on which the first session begins they lead to where the simulation comes to
+    pub record IsMoves (config : SimConfig) (handler : H) (steps : List SimStep) : Type 0 where
+      pub begins : Begins (first_link config handler)
+      pub fit : MovesFit answer_of after (moves_of steps 0) (first_link config handler)
+      pub follows : FollowsLink (run answer_of after steps (set_up config handler))
+          (link.run answer_of after (moves_of steps 0) (first_link config handler)) (clock_after steps 0)
+
+    -- each schedule is so of which no step is refused, where the settings are in their ranges and what goes over the line fits
+    abbrev pub ScheduleIsMoves : Type 0
+    ScheduleIsMoves = (config : SimConfig) (handler : H) (steps : List SimStep) → AreSettings config
+        → is_well answer_of after steps (set_up config handler) ≡ true → FitAlong answer_of after steps (set_up config handler)
+        → IsMoves config handler steps

@@ -4,13 +4,14 @@
 ghost use Rattle.osdp_sim_laws.specs.Accepted.{AcceptsByRoom};
 ghost use Rattle.osdp_sim_laws.specs.Accounts.{HoldsOnce, StaysInARow};
 ghost use Rattle.osdp_sim_laws.specs.Clean.{GoesInTurn};
+ghost use Rattle.osdp_sim_laws.specs.Moves.{ScheduleIsMoves};
 ghost use Rattle.osdp_sim_laws.specs.OneLink.{OneLink};
 ghost use Rattle.osdp_sim_laws.specs.Progress.{ComesThrough, Recovers};
 
 use osdp_reader::Handler;
 
 /// What the laws of accounts stand on: a packet is read as it is spelled, and the theory of one link.
-pub fn stands_on_one_link<H: Handler>()
+fn stands_on_one_link<H: Handler>()
     ensures { OneLink H.answer_of H.after }
 {
     osdp_sim::laws::reads_packets();
@@ -19,6 +20,14 @@ pub fn stands_on_one_link<H: Handler>()
     osdp_link_laws::sessions_in_a_row::<H>();
     osdp_link_laws::refuses_no_number::<H>();
     osdp_controller_laws::endings_are_told();
+}
+
+/// Each schedule, as far as it isn't refused, is the list of moves that its steps are: from a link on which the first session begins they lead to
+/// the link that the simulated line has come to, with its packets as bytes and its account as what the sessions of the link come to.
+pub fn schedule_is_moves<H: Handler>()
+    ensures { ScheduleIsMoves H.answer_of H.after }
+{
+    stands_on_one_link::<H>();
 }
 
 /// Whatever a schedule says, in sessions in a row: each is once and in order, and the next begins with what it leaves.

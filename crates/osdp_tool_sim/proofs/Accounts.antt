@@ -83,7 +83,7 @@ pub each_stopped : (script : Script) (fault : Fault (Vec declared.Account)) (end
 each_stopped script fault end ends holds accepts is =
     let lists = lists_of_all fault.account.items in
     let stops = stopped_at script fault.cause fault.step end lists is ends in
-    let told = stop_is_told (after_step handler_answer handler_after) fault_of accounts fault.cause fault.step end lists (steps_of script) (line_of script) is stops.1 in
+    let told = stop_is_told (after_step handler_answer handler_after) fault_of accounts fault.cause fault.step end lists (steps_of script) (line_of script) is stops in
     record {
       run_is = told.0;
       sessions = holds stops.0;

@@ -13,10 +13,10 @@ use Rattle.osdp_sim.specs.declared.fault.Cause.{Cause}
 use Rattle.osdp_sim.specs.declared.fault.Cause.TheVariants as cause
 use Rattle.osdp_sim.specs.declared.fault.Fault.{Fault}
 use Rattle.osdp_sim.specs.Account.{Account, lists_of}
-use Rattle.osdp_sim.specs.Runs.{RunEnds, Stops, StopsAt}
-use Rattle.osdp_sim_laws.specs.Accepted.{AcceptsByRoom}
+use Rattle.osdp_sim.specs.Runs.{RunEnds, Stops, StopsAt, steps_done}
 use Rattle.osdp_sim.specs.Steps.{after_step, fault_of}
-use Rattle.osdp_sim_laws.specs.Accepted.{IsAccepted, commands_of, events_of}
+use Rattle.osdp_sim_laws.specs.Accepted.{IsAcceptedByRoom}
+use Rattle.osdp_sim_laws.specs.Accounts.{account_in}
 use Rattle.osdp_tool_streams.specs.declared.fault.ToolFault.{ToolFault}
 use Rattle.osdp_tool_sim.specs.One.{TellsOne, config_of, start_of}
 use Rattle.osdp_tool_sim.specs.Steps.{EndsBy}
@@ -42,12 +42,22 @@ holds_as script address events config h lists e f holds =
     subst (λ (k : ScriptReader). HoldsInSessions handler_answer handler_after (script_config 1 address) k lists) f
     (subst (λ (c : SimConfig). HoldsInSessions handler_answer handler_after c.reader h lists) e holds)
 
-pub told_ok : (script : Script) (address events : ℕ) (account : declared.Account) → AcceptsByRoom handler_answer handler_after
+abbrev pub Accepted : Script → ℕ → ℕ → Result declared.Account (Fault declared.Account) → Type 0
+Accepted script address events r =
+    IsAcceptedByRoom (config_of script.check (address, events)) (steps_done (steps_of script) r) (account_in r)
+
+pub accepted_as : (script : Script) (address events : ℕ) (config : SimConfig) (steps : List SimStep) (r : Result declared.Account (Fault declared.Account))
+    → config ≡ config_of script.check (address, events) → steps ≡ steps_of script → IsAcceptedByRoom config (steps_done steps r) (account_in r)
+    → Accepted script address events r
+accepted_as script address events config steps r e g accepts =
+    subst (λ (s : List SimStep). IsAcceptedByRoom (config_of script.check (address, events)) (steps_done s r) (account_in r)) g
+    (subst (λ (c : SimConfig). IsAcceptedByRoom c (steps_done steps r) (account_in r)) e accepts)
+
+pub told_ok : (script : Script) (address events : ℕ) (account : declared.Account)
     → RunEnds handler_answer handler_after (config_of script.check (address, events)) new_handler (steps_of script) (Ok account)
-    → Holds address (lists_of account) → TellsOne script (address, events) (lists_of account) (Ok tt)
-told_ok script address events account accepts ends sessions =
-    let accepted = accepts (config_of script.check (address, events)) new_handler (steps_of script) (Ok account) ends in
-    record { run_is = (ends.1, ends.2); sessions = sessions; issued = accepted.0; queued = accepted.1 }
+    → Holds address (lists_of account) → Accepted script address events (Ok account) → TellsOne script (address, events) (lists_of account) (Ok tt)
+told_ok script address events account ends sessions accepted =
+    record { run_is = (ends.1, ends.2); sessions = sessions; accepted = accepted }
 
 -- a step was refused, and both ends were set up
 stopped_at : (script : Script) (address events : ℕ) (why : Cause) (at : ℕ) (end : Result (Unit {0}) ToolFault) (lists : Account) → EndsBy why at end
@@ -60,21 +70,18 @@ stopped_at script address events cause.OutOfRange zero end lists is stops = absu
 stopped_at script address events why (suc before) end lists is stops = (omega arith, stops.1)
 
 pub told_stopped : (script : Script) (address events : ℕ) (fault : Fault declared.Account) (end : Result (Unit {0}) ToolFault)
-    → AcceptsByRoom handler_answer handler_after
     → RunEnds handler_answer handler_after (config_of script.check (address, events)) new_handler (steps_of script) (Err fault)
-    → (1 ≤ fault.step → Holds address (lists_of fault.account)) → EndsBy fault.cause fault.step end
-    → TellsOne script (address, events) (lists_of fault.account) end
-told_stopped script address events fault end accepts ends sessions is =
+    → (1 ≤ fault.step → Holds address (lists_of fault.account)) → Accepted script address events (Err fault)
+    → EndsBy fault.cause fault.step end → TellsOne script (address, events) (lists_of fault.account) end
+told_stopped script address events fault end ends sessions accepted is =
     let lists = lists_of fault.account in
     let stops = stopped_at script address events fault.cause fault.step end lists is ends in
     let told = stop_is_told (after_step handler_answer handler_after) fault_of (λ s. s.account) fault.cause fault.step end lists (steps_of script)
-    (start_of script.check (address, events)) is stops.1 in
-    let accepted = accepts (config_of script.check (address, events)) new_handler (steps_of script) (Err fault) ends in
+    (start_of script.check (address, events)) is stops in
     record {
       run_is = told.0;
       sessions = sessions stops.0;
-      issued = subst (λ (taken : List SimStep). IsAccepted 64 (commands_of taken) lists.issued) (sym told.1) accepted.0;
-      queued = subst (λ (taken : List SimStep). IsAccepted events (events_of taken) lists.queued) (sym told.1) accepted.1;
+      accepted = subst (λ (taken : List SimStep). IsAcceptedByRoom (config_of script.check (address, events)) taken lists) (sym told.1) accepted;
     }
 
 pub if_ok : {T E : Type 0} {P Q : T → Type 0} (r : Result T E) → ((x : T) → P x → Q x) → IfOk r P → IfOk r Q

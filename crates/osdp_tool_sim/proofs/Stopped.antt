@@ -1,5 +1,5 @@
 -- A run that stops is told as it stopped.
-use Rattle.std.proofs.Common.{◌≡◌, ◌-◌, ℕ, List, Option, take, Result, refl, sym, subst}
+use Rattle.std.proofs.Common.{◌≡◌, ◌≤◌, ◌-◌, ℕ, List, Option, take, Result, refl, sym, subst}
 use Rattle.osdp_sim.specs.declared.fault.Cause.{Cause}
 use Rattle.osdp_sim.specs.declared.fault.Cause.TheVariants as cause
 use Rattle.osdp_sim.specs.declared.step.SimStep.{SimStep}
@@ -14,7 +14,7 @@ module _ {S A : Type 0} (after_step : SimStep → S → S) (fault_of : SimStep �
       RunTells after_step fault_of account_of end told steps start × (steps_taken end steps ≡ take (step - 1) steps)
 
   pub stop_is_told : (why : Cause) (step : ℕ) (end : Result (Unit {0}) ToolFault) (told : A) (steps : List SimStep) (start : S) → EndsBy why step end
-      → StopsAt after_step fault_of account_of step why told steps start → IsTold step told steps start end
+      → (1 ≤ step) × StopsAt after_step fault_of account_of step why told steps start → IsTold step told steps start end
   stop_is_told cause.HoldsPacket step end told steps start is stops = subst (IsTold step told steps start) (sym is) (stops, refl)
   stop_is_told cause.NotQuiet step end told steps start is stops = subst (IsTold step told steps start) (sym is) (stops, refl)
   stop_is_told cause.NoMemory step end told steps start is stops = absurd is

@@ -12,7 +12,7 @@ use Rattle.osdp_sim.specs.declared.config.SimConfig.{SimConfig}
 use Rattle.osdp_sim.specs.Account.{Account}
 use Rattle.osdp_sim.specs.State.{SimState, set_up}
 use Rattle.osdp_sim.specs.Steps.{after_step, fault_of}
-use Rattle.osdp_sim_laws.specs.Accepted.{IsAccepted, commands_of, events_of}
+use Rattle.osdp_sim_laws.specs.Accepted.{IsAcceptedByRoom}
 use Rattle.osdp_tool_streams.specs.declared.fault.ToolFault.{ToolFault}
 use Rattle.osdp_tool_sim.specs.Steps.{RunTells, steps_taken}
 
@@ -35,5 +35,4 @@ start_of check reader = set_up (config_of check reader) new_handler
 pub record TellsOne (script : Script) (reader : ℕ × ℕ) (lists : Account) (end : Result (Unit {0}) ToolFault) : Type 0 where
   pub run_is : RunTells (after_step handler_answer handler_after) fault_of (λ s. s.account) end lists (steps_of script) (start_of script.check reader)
   pub sessions : HoldsInSessions handler_answer handler_after (script_config 1 reader.0) new_handler lists
-  pub issued : IsAccepted 64 (commands_of (steps_taken end (steps_of script))) lists.issued
-  pub queued : IsAccepted reader.1 (events_of (steps_taken end (steps_of script))) lists.queued
+  pub accepted : IsAcceptedByRoom (config_of script.check reader) (steps_taken end (steps_of script)) lists

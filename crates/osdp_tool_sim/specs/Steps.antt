@@ -1,5 +1,5 @@
 -- What the run of a script's steps comes to, over a line with one reader or with several.
-use Rattle.std.specs.Prelude.{◌≡◌, ◌-◌, ℕ, true, List, Option, take, Result, Ok, Err}
+use Rattle.std.specs.Prelude.{◌≡◌, ◌≤◌, ◌-◌, ℕ, true, List, Option, take, Result, Ok, Err}
 use Rattle.osdp_sim.specs.declared.fault.Cause.{Cause}
 use Rattle.osdp_sim.specs.declared.fault.Cause.TheVariants as cause
 use Rattle.osdp_sim.specs.declared.step.SimStep.{SimStep}
@@ -9,12 +9,12 @@ use Rattle.osdp_tool_streams.specs.declared.fault.ToolFault.TheVariants.{NotHex,
 use Rattle.osdp_tool_streams.specs.declared.fault.ToolFault.TheVariants.{HoldsPacket, NotQuiet, ReadFailed}
 use Rattle.osdp_tool_streams.specs.declared.fault.ToolFault.TheVariants.{WriteFailed, NoMemory}
 
--- a run comes to this: over all steps, or up to the step that is refused
+-- a run comes to this: over all steps, or up to the step that is refused, counted from 1
 module _ {S A : Type 0} (after_step : SimStep → S → S) (fault_of : SimStep → S → Option Cause) (account_of : S → A) where
   abbrev pub RunTells : Result (Unit {0}) ToolFault → A → List SimStep → S → Type 0
   RunTells (Ok done) told steps start = (is_well after_step fault_of steps start ≡ true) × (told ≡ account_of (run after_step steps start))
-  RunTells (Err (HoldsPacket step)) told steps start = StopsAt after_step fault_of account_of step cause.HoldsPacket told steps start
-  RunTells (Err (NotQuiet step)) told steps start = StopsAt after_step fault_of account_of step cause.NotQuiet told steps start
+  RunTells (Err (HoldsPacket step)) told steps start = (1 ≤ step) × StopsAt after_step fault_of account_of step cause.HoldsPacket told steps start
+  RunTells (Err (NotQuiet step)) told steps start = (1 ≤ step) × StopsAt after_step fault_of account_of step cause.NotQuiet told steps start
   RunTells (Err (NotHex line)) told steps start = ⊥
   RunTells (Err TooLong) told steps start = ⊥
   RunTells (Err BadWords) told steps start = ⊥

@@ -41,7 +41,6 @@ pub(crate) fn tell_one(
     ensures told { IfOk result (λ told. IsTextOfOne script.now (address, events) (string_bytes told.what) told.end) }
     ensures fault { IfErr result (λ fault. fault ≡ ToolFault.NoMemory) }
 {
-    osdp_sim_laws::accepts_by_room::<ScriptReader>();
     let config = settings(script.check, address, events);
     let told = match run_schedule(alloc, &config, ScriptReader::new(), script.schedule()) {
         Ok(what) => Told { what, end: Ok(()) },

@@ -46,7 +46,6 @@ fn run_several(alloc: Global, script: &Script) -> Result<Told<Vec<Account>>, Too
     ensures told { IfOk result (λ told. TellsEach script.now (lists_of_all told.what.items) told.end) }
     ensures fault { IfErr result (λ fault. fault ≡ ToolFault.NoMemory) }
 {
-    osdp_sim_bus_laws::each_accepts_by_room::<ScriptReader>();
     let Ok(readers) = readers_of(alloc, &script.readers) else {
         return Err(ToolFault::NoMemory);
     };

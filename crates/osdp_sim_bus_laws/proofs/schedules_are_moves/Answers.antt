@@ -1,5 +1,6 @@
 use Rattle.std.proofs.Common.{refl, arith}
 use Rattle.osdp_frame.specs.Spelling.{spelling}
+use Rattle.osdp_sim_bus_laws.proofs.Beginning.{first_net, follows_first, is_set_up}
 use Rattle.osdp_sim_bus_laws.proofs.Scheduling.{schedules_are_moves}
 use Rattle.osdp_sim_bus_laws.proofs.Stepping.{steps_are_moves}
 use Rattle.osdp_sim_bus_laws.proofs.schedules_are_moves.Goals as goal
@@ -25,3 +26,6 @@ pub returns-clause-schedules : goal.returns-clause-schedules
 returns-clause-schedules g c =
     schedules_are_moves g.H.Handler.answer_of g.H.Handler.after (returns-clause-steps g c) c.read_each_other.ensures c.each_is_a_link.ensures.link
     c.refuses_no_number.ensures.packets c.each_is_a_link.ensures.row
+
+pub returns-clause-set_up : goal.returns-clause-set_up
+returns-clause-set_up g c config readers settings = (first_net config readers, is_set_up config readers settings, follows_first config readers)

@@ -4,6 +4,7 @@ use Rattle.osdp_session.proofs.laws.holds_of_each_run.Goals as goal
 pub returns : goal.returns
 returns g c config handler steps answer run = record {
   run = run;
+  room = c.accepts_by_room.ensures config handler steps answer run.ends;
   once = c.schedule_holds_once.ensures.once config handler steps answer run;
   sessions = λ begun.
       c.holds_in_sessions.ensures config.reader handler (account_in answer) (c.schedule_holds_once.ensures.row config handler steps answer run begun);

@@ -18,8 +18,7 @@ returns-in-Ok-run_bus_schedule-clause-told c =
     (c.in-Ok-run_bus_schedule.ensures.sessions tt))
     (accepted_as c.args.script.now c.new-config.result c.in-Ok.readers.items (steps_left c.schedule.result) (Ok c.in-Ok-run_bus_schedule.what)
     c.new-config.ensures (c.in-Ok.ensures ∙ ap (readers_from 1) c.deref.ensures.value) c.schedule.ensures
-    (c.each_accepts_by_room.ensures c.new-config.result c.in-Ok.readers.items (steps_left c.schedule.result) (Ok c.in-Ok-run_bus_schedule.what)
-    c.in-Ok-run_bus_schedule.ensures.run tt))
+    (c.in-Ok-run_bus_schedule.ensures.room tt))
 
 pub returns-in-Err-clause-told : goal.returns-in-Err-clause-told
 returns-in-Err-clause-told c =
@@ -32,8 +31,7 @@ returns-in-Err-clause-told c =
     (c.in-Err.ensures.sessions some))
     (λ some. accepted_as c.args.script.now c.new-config.result c.in-Ok.readers.items (steps_left c.schedule.result) (Err c.in-Err.fault)
     c.new-config.ensures (c.in-Ok.ensures ∙ ap (readers_from 1) c.deref.ensures.value) c.schedule.ensures
-    (c.each_accepts_by_room.ensures c.new-config.result c.in-Ok.readers.items (steps_left c.schedule.result) (Err c.in-Err.fault)
-    c.in-Err.ensures.run some)) is.1))
+    (c.in-Err.ensures.room some)) is.1))
     c.stopped.ensures.told
 
 pub stopped-requires : goal.stopped-requires
