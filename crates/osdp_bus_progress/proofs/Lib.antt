@@ -6,4 +6,5 @@ pub mod BusRounds
 pub mod Ends
 pub mod Rounds
 pub mod Coming
+pub mod Bursts
 pub mod Clearing

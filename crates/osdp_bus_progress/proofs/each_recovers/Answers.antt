@@ -3,5 +3,5 @@ use Rattle.osdp_bus_progress.proofs.each_recovers.Goals as goal
 
 pub returns : goal.returns
 returns g c =
-    each_recovers g.H.Handler.answer_of g.H.Handler.after c.each_comes_through.ensures c.reads_packets.ensures.none c.tells_at_once.ensures
-    c.has_an_account_each.ensures
+    each_recovers g.H.Handler.answer_of g.H.Handler.after c.each_comes_through.ensures c.schedules_are_moves.ensures.bus
+    c.schedules_are_moves.ensures.schedules c.read_each_other.ensures c.tells_at_once.ensures c.has_an_account_each.ensures
