@@ -100,7 +100,7 @@ nothing_left [] e = refl
 nothing_left (burst ∷ rest) e = absurd (omega arith)
 
 -- the steps are of one session
-in_session : (readers : ℕ) (steps : List SimStep) → All IsInSession (clear readers steps)
+pub in_session : (readers : ℕ) (steps : List SimStep) → All IsInSession (clear readers steps)
 in_session readers steps =
     All-append IsInSession (all_ready readers) (losses steps) (set_ready readers) (each_all IsInSession (losses steps) (losses_within steps))
   where

@@ -57,22 +57,22 @@ none_on : (ps : List (ℕ × Packet)) → map spelling (packets_on ps) ≡ [] �
 none_on [] none = refl
 none_on (p ∷ ps) none = absurd cc
 
-unmapped : {A B : Type 0} (f : A → B) (k : ℕ) (b : B) (xs : List A) → slice_get (map f xs) k ≡ Some b → (a : A) × (slice_get xs k ≡ Some a) × (f a ≡ b)
+pub unmapped : {A B : Type 0} (f : A → B) (k : ℕ) (b : B) (xs : List A) → slice_get (map f xs) k ≡ Some b → (a : A) × (slice_get xs k ≡ Some a) × (f a ≡ b)
 unmapped f k b [] at = absurd cc
 unmapped f zero b (x ∷ xs) at = (x, refl, some_same (f x) b at)
 unmapped f (suc k) b (x ∷ xs) at = unmapped f k b xs at
 
-get_each : {A : Type 0} (P : A → Type 0) (k : ℕ) (x : A) (xs : List A) → Each P xs → slice_get xs k ≡ Some x → P x
+pub get_each : {A : Type 0} (P : A → Type 0) (k : ℕ) (x : A) (xs : List A) → Each P xs → slice_get xs k ≡ Some x → P x
 get_each P k x [] all is = absurd cc
 get_each P zero x (y ∷ xs) all is = subst P (some_same y x is) all.0
 get_each P (suc k) x (y ∷ xs) all is = get_each P k x xs all.1 is
 
-there_is : {A : Type 0} (k : ℕ) (xs : List A) → k < length xs → (x : A) × (slice_get xs k ≡ Some x)
+pub there_is : {A : Type 0} (k : ℕ) (xs : List A) → k < length xs → (x : A) × (slice_get xs k ≡ Some x)
 there_is k [] few = absurd (omega (arith, few))
 there_is zero (x ∷ xs) few = (x, refl)
 there_is (suc k) (x ∷ xs) few = there_is k xs (omega (arith, few))
 
-get_within : {A : Type 0} (k : ℕ) (x : A) (xs : List A) → slice_get xs k ≡ Some x → k < length xs
+pub get_within : {A : Type 0} (k : ℕ) (x : A) (xs : List A) → slice_get xs k ≡ Some x → k < length xs
 get_within k x [] at = absurd cc
 get_within zero x (y ∷ xs) at = omega arith
 get_within (suc k) x (y ∷ xs) at = omega (arith, get_within k x xs at)

@@ -75,7 +75,7 @@ module _ {H : Type 0} where
         stays_then EndsStay (λ u v w one more none. one (more none)) k s.sites next.sites (simulation.run answer_of after steps next).sites
         (idle_sites answer_of after EndsStay ends_idle k step s idles.0) (ends_stay k steps next idles.1)
 
-    rounds_idle : (m wait : ℕ) → Each IsNoOrder (rounds m wait)
+    pub rounds_idle : (m wait : ℕ) → Each IsNoOrder (rounds m wait)
     rounds_idle zero wait = tt
     rounds_idle (suc m) wait = (tt, (tt, (tt, rounds_idle m wait)))
 

@@ -8,3 +8,4 @@ pub mod Rounds
 pub mod Coming
 pub mod Bursts
 pub mod Clearing
+pub mod Answered

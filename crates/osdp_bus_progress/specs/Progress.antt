@@ -1,19 +1,23 @@
 -- Something comes through for each of several readers: after m rounds that lose nothing each of n readers has m / n - 1 more commands and
 -- events settled and reported, or all of them.
-use Rattle.std.specs.Prelude.{◌≡◌, ◌≤◌, ℕ, zero, suc, ◌+◌, ◌-◌, ◌/◌, min, true, false, All, List, [], ◌∷◌, ◌++◌, length, Some, slice_get}
+use Rattle.std.specs.Prelude.{◌≡◌, ◌≤◌, ℕ, zero, suc, ◌+◌, ◌-◌, ◌/◌, min, true, false, All, List, [], ◌∷◌, ◌++◌, length, Some, slice_get, Ok}
+use Rattle.std.specs.Global.{Vec}
 use Rattle.osdp_msg.specs.declared.command.Command.{Command}
 use Rattle.osdp_controller_laws.specs.Calls.{longest_wait}
+use Rattle.osdp_reader.specs.declared.config.ReaderConfig.{ReaderConfig}
 use Rattle.osdp_reader.specs.declared.handler.Answer.{Answer}
 use Rattle.osdp_bus.specs.Settings.{controller_config}
 use Rattle.osdp_bus.specs.declared.config.BusConfig.{BusConfig}
 use Rattle.osdp_link_laws.specs.Progress.{SetsNoAddress}
 use Rattle.osdp_sim.specs.Account.{Account}
+use Rattle.osdp_sim.specs.declared.account.Account as declared
 use Rattle.osdp_sim.specs.declared.step.SimStep.{SimStep}
 use Rattle.osdp_sim.specs.declared.step.SimStep.TheVariants.{Busy}
-use Rattle.osdp_sim_bus.specs.Runs.{AreSettings, FitAlong, is_well, run}
+use Rattle.osdp_sim_bus.specs.Runs.{AreSettings, FitAlong, is_well, lists_of_all, run}
 use Rattle.osdp_sim_bus.specs.State.{Given, LineState, Site, accounts, set_up}
 use Rattle.osdp_sim_laws.specs.Accounts.{IsInSession}
-use Rattle.osdp_sim_laws.specs.Progress.{done, losses, rounds}
+use Rattle.osdp_sim_bus_laws.specs.Accounts.{EachMeets, IsAnswer}
+use Rattle.osdp_sim_laws.specs.Progress.{HasComeThrough, done, losses, rounds}
 
 -- m rounds are m / readers for each reader, rounded down. After them as many more of its commands and events but one are settled and
 -- reported, or all are.
@@ -77,3 +81,13 @@ module _ {H : Type 0} where
         NoneMoves (accounts before)
         → let last = run answer_of after ((steps ++ clear (length readers) steps) ++ rounds m wait) (set_up config readers) in
         EachComesOn m (length readers) (accounts before) (accounts last)
+
+    -- so it is of what `run_bus` answers: a reader whose session has not ended has its share of the rounds
+    abbrev pub HasItsShare : ℕ → ReaderConfig → H → Account → Type 0
+    HasItsShare count config handler a = a.ends ≡ [] → HasComeThrough answer_of after count config handler a
+
+    abbrev pub EachAnswerRecovers : Type 0
+    EachAnswerRecovers = (config : BusConfig) (readers : List (Given H)) (steps : List SimStep) (m wait : ℕ) (told : Vec declared.Account)
+        → IsAnswer answer_of after config readers ((steps ++ clear (length readers) steps) ++ rounds m wait) (Ok told)
+        → All IsInSession steps → longest_wait (controller_config 0 config) ≤ wait → NoneMoves (lists_of_all told.items)
+        → EachMeets (HasItsShare (m / length readers)) readers (lists_of_all told.items)
