@@ -1,5 +1,5 @@
 -- A line is cleared: its readers are set ready, and what is on it is lost.
-use Rattle.std.proofs.Common.{◌≡◌, ◌≤◌, ◌<◌, ◌-◌, ◌+◌, ℕ, zero, suc, false, ◌&&◌, cond, List, [], ◌∷◌, ◌++◌, length, map, Option, Some, None, is_some, refl, sym, subst, ap, ◌∙◌, arith}
+use Rattle.std.proofs.Common.{◌≡◌, ◌≤◌, ◌-◌, ℕ, zero, suc, false, ◌&&◌, cond, List, [], ◌∷◌, ◌++◌, length, map, Option, Some, None, is_some, refl, sym, subst, ap, ◌∙◌, arith}
 use Rattle.std.specs.Prelude.{nat_le, slice_get, slice_set}
 use Rattle.std.specs.List.{All}
 use Rattle.std.specs.Option.{option_map_or}
@@ -9,10 +9,11 @@ use Rattle.std.proofs.lemmas.List.Elements.{All-append, All-cons, All-head, All-
 use Rattle.osdp_msg.specs.declared.command.Command.{Command}
 use Rattle.osdp_reader.specs.declared.handler.Answer.{Answer}
 use Rattle.osdp_bus.specs.Machine.{after_next_report}
-use Rattle.osdp_bus.specs.declared.config.BusConfig.{BusConfig}
 use Rattle.osdp_controller.specs.declared.report.Report.{Report}
+use Rattle.osdp_link_laws.specs.Peers.{ReadEachOther}
 use Rattle.osdp_link_laws.specs.Progress.{SetsNoAddress}
-use Rattle.osdp_sim.proofs.Schedules.{runs_on}
+use Rattle.osdp_link_laws.proofs.Lines.{each_all}
+use Rattle.osdp_sim.proofs.Schedules.{holds_on, runs_on, well_on}
 use Rattle.osdp_sim.specs.Account.{Account}
 use Rattle.osdp_sim.specs.Line.{handed, left, packets_in}
 use Rattle.osdp_sim.specs.declared.step.Move.TheVariants.{Drop}
@@ -20,11 +21,14 @@ use Rattle.osdp_sim.specs.declared.step.SimStep.{SimStep}
 use Rattle.osdp_sim.specs.declared.step.SimStep.TheVariants.{Busy, ToController, ToReader}
 use Rattle.osdp_sim_bus.specs.Laws.{HasAnAccountEach, TellsAtOnce}
 use Rattle.osdp_sim_bus.specs.Runs as simulation
-use Rattle.osdp_sim_bus.specs.State.{Given, LineState, Site, accounts, set_up}
-use Rattle.osdp_sim_bus.specs.Steps.{after_step, all_hear_each, changed_site, hears_run, is_there, site_is_busy, takes_report, told}
+use Rattle.osdp_sim_bus.specs.State.{LineState, Site, accounts, set_up}
+use Rattle.osdp_sim_bus.specs.Steps.{StepFits, after_step, all_hear_each, changed_site, fault_of, hears_run, site_is_busy, takes_report, told}
 use Rattle.osdp_sim_laws.specs.Accounts.{IsInSession}
-use Rattle.osdp_sim_laws.specs.Progress.{rounds}
-use Rattle.osdp_bus_progress.specs.Progress.{EachComesOn, EachComesThrough, EachRecovers, IsClear, IsReady, NoneMoves, all_ready, clear, losses}
+use Rattle.osdp_sim_laws.specs.Progress.{losses, rounds}
+use Rattle.osdp_sim_laws.proofs.Clearing.{losses_within}
+use Rattle.osdp_sim_bus_laws.specs.Moves.{OneBus, SchedulesAreMoves}
+use Rattle.osdp_bus_progress.specs.Progress.{EachComesOn, EachComesThrough, EachRecovers, IsClear, IsReady, NoneMoves, all_ready, clear}
+use Rattle.osdp_bus_progress.proofs.Bursts.{AtMost, as_many_as_steps}
 
 -- ---- the readers
 
@@ -91,23 +95,19 @@ one_less : (l : List (List ℕ)) → length (left Drop l) ≡ length l - 1
 one_less [] = refl
 one_less (burst ∷ rest) = omega arith
 
-nothing_left : (l : List (List ℕ)) (most : ℕ) → length l ≡ 0 → l ≡ []
-nothing_left [] most e = refl
-nothing_left (burst ∷ rest) most e = absurd (omega arith)
+nothing_left : (l : List (List ℕ)) → length l ≡ 0 → l ≡ []
+nothing_left [] e = refl
+nothing_left (burst ∷ rest) e = absurd (omega arith)
 
 -- the steps are of one session
-in_session : (readers most : ℕ) → All IsInSession (clear readers most)
-in_session readers most = All-append IsInSession (all_ready readers) (losses most) (set_ready readers) (lost most)
+pub in_session : (readers : ℕ) (steps : List SimStep) → All IsInSession (clear readers steps)
+in_session readers steps =
+    All-append IsInSession (all_ready readers) (losses steps) (set_ready readers) (each_all IsInSession (losses steps) (losses_within steps))
   where
     set_ready : (n : ℕ) → All IsInSession (all_ready n)
     set_ready zero = All-nil IsInSession
     set_ready (suc n) =
         All-append IsInSession (all_ready n) (Busy (suc n) false ∷ []) (set_ready n) (All-cons IsInSession (Busy (suc n) false) [] tt (All-nil IsInSession))
-
-    lost : (n : ℕ) → All IsInSession (losses n)
-    lost zero = All-nil IsInSession
-    lost (suc n) =
-        All-cons IsInSession (ToReader Drop) (ToController Drop ∷ losses n) tt (All-cons IsInSession (ToController Drop) (losses n) tt (lost n))
 
 no_report : (o : Option (ℕ × Report)) → is_some o ≡ false → o ≡ None
 no_report None e = refl
@@ -156,17 +156,19 @@ module _ {H : Type 0} (answer_of : H → Command → Answer) (after : H → Comm
     pub to_bus : length t.to_bus ≡ length s.to_bus - n
     pub sites : t.sites ≡ s.sites
 
-  losses_run : packets_in [] ≡ [] → (n : ℕ) (s : LineState H) → s.bus.devices.report ≡ None
-      → IsLeft n s (simulation.run answer_of after (losses n) s)
-  losses_run none zero s waits = record { to_readers = omega arith; to_bus = omega arith; sites = refl }
-  losses_run none (suc n) s waits =
+  losses_run : packets_in [] ≡ [] → (steps : List SimStep) (s : LineState H) → s.bus.devices.report ≡ None
+      → IsLeft (length steps) s (simulation.run answer_of after (losses steps) s)
+  losses_run none [] s waits = record { to_readers = omega arith; to_bus = omega arith; sites = refl }
+  losses_run none (step ∷ steps) s waits =
       let mid = record s { to_readers = left Drop s.to_readers } in
       let next = record mid { bus = after_next_report mid.bus; to_bus = left Drop mid.to_bus } in
-      let rest = losses_run none n next refl in
-      let here : simulation.run answer_of after (losses (suc n)) s ≡ simulation.run answer_of after (losses n) next =
-      ap (λ (t : LineState H). simulation.run answer_of after (losses n) (after_step answer_of after (ToController Drop) t)) (drops_front none s)
-      ∙ ap (λ (t : LineState H). simulation.run answer_of after (losses n) t) (drops_answer mid waits) in
-      subst (λ (t : LineState H). IsLeft (suc n) s t) (sym here) (shorter n s next (simulation.run answer_of after (losses n) next) rest (one_less s.to_readers) (one_less s.to_bus) refl)
+      let rest = losses_run none steps next refl in
+      let end = simulation.run answer_of after (losses steps) next in
+      let here : simulation.run answer_of after (losses (step ∷ steps)) s ≡ end =
+      ap (λ (t : LineState H). simulation.run answer_of after (losses steps) (after_step answer_of after (ToController Drop) t)) (drops_front none s)
+      ∙ ap (λ (t : LineState H). simulation.run answer_of after (losses steps) t) (drops_answer mid waits) in
+      subst (λ (t : LineState H). IsLeft (length (step ∷ steps)) s t) (sym here)
+      (shorter (length steps) s next end rest (one_less s.to_readers) (one_less s.to_bus) refl)
     where
       shorter : (k : ℕ) (a b c : LineState H) → IsLeft k b c → length b.to_readers ≡ length a.to_readers - 1 → length b.to_bus ≡ length a.to_bus - 1
           → b.sites ≡ a.sites → IsLeft (suc k) a c
@@ -181,16 +183,15 @@ module _ {H : Type 0} (answer_of : H → Command → Answer) (after : H → Comm
     pub line : IsClear s
     pub same : accounts s ≡ accounts before
 
-  cleared : packets_in [] ≡ [] → (s : LineState H) (readers most : ℕ) → s.bus.devices.report ≡ None → length s.sites ≡ readers
-      → length s.to_readers ≤ most → length s.to_bus ≤ most → NoneMoves (accounts s)
-      → IsCleared s (simulation.run answer_of after (clear readers most) s)
-  cleared none s readers most waits all few less moves =
+  cleared : packets_in [] ≡ [] → (s : LineState H) (readers : ℕ) (steps : List SimStep) → s.bus.devices.report ≡ None → length s.sites ≡ readers
+      → AtMost (length steps) s → NoneMoves (accounts s) → IsCleared s (simulation.run answer_of after (clear readers steps) s)
+  cleared none s readers steps waits all few moves =
       let ready = record s { sites = calm readers s.sites } in
-      let end = simulation.run answer_of after (losses most) ready in
-      let here : simulation.run answer_of after (clear readers most) s ≡ end =
-      runs_on (after_step answer_of after) (all_ready readers) (losses most) s
-      ∙ ap (λ (t : LineState H). simulation.run answer_of after (losses most) t) (ready_run readers s (omega arith)) in
-      let is = losses_run none most ready waits in
+      let end = simulation.run answer_of after (losses steps) ready in
+      let here : simulation.run answer_of after (clear readers steps) s ≡ end =
+      runs_on (after_step answer_of after) (all_ready readers) (losses steps) s
+      ∙ ap (λ (t : LineState H). simulation.run answer_of after (losses steps) t) (ready_run readers s (omega arith)) in
+      let is = losses_run none steps ready waits in
       let short = is.to_readers in
       let small = is.to_bus in
       let calm_sites : All IsCalm (calm readers s.sites) = subst (λ (n : ℕ). All IsCalm (calm n s.sites)) all (all_calm s.sites) in
@@ -201,26 +202,33 @@ module _ {H : Type 0} (answer_of : H → Command → Answer) (after : H → Comm
       subst (λ (t : LineState H). IsCleared s t) (sym here)
       (record {
         line = record {
-          to_readers = nothing_left end.to_readers most (omega arith);
-          to_bus = nothing_left end.to_bus most (omega arith);
+          to_readers = nothing_left end.to_readers (omega (arith, short, few.0));
+          to_bus = nothing_left end.to_bus (omega (arith, small, few.1));
           readers = sites;
         };
         same = told_same;
       })
 
-  pub each_recovers : EachComesThrough answer_of after → packets_in [] ≡ [] → TellsAtOnce answer_of after → HasAnAccountEach answer_of after
-      → EachRecovers answer_of after
-  each_recovers comes none tells counts config readers steps most m wait is within long few less moves none_ended =
-      let before = simulation.run answer_of after steps (set_up config readers) in
-      let all_steps = steps ++ clear (length readers) most in
-      let mid = simulation.run answer_of after all_steps (set_up config readers) in
+  pub each_recovers : EachComesThrough answer_of after → OneBus answer_of after → SchedulesAreMoves answer_of after → ReadEachOther answer_of after
+      → TellsAtOnce answer_of after → HasAnAccountEach answer_of after → EachRecovers answer_of after
+  each_recovers comes bus schedules peers tells counts config readers steps m wait is within long moves =
+      let start = set_up config readers in
+      let lost = clear (length readers) steps in
+      let all_steps = steps ++ lost in
+      let before = simulation.run answer_of after steps start in
+      let mid = simulation.run answer_of after all_steps start in
       let waits = no_report before.bus.devices.report (tells config readers steps) in
       let places : length before.sites ≡ length readers =
       sym (length-map before.sites (λ (site : Site H). site.account)) ∙ counts config readers steps in
+      let well = well_on (after_step answer_of after) fault_of all_steps (rounds m wait) start is.well in
+      let fits = holds_on (after_step answer_of after) (StepFits answer_of after) all_steps (rounds m wait) start is.fits in
+      let few = as_many_as_steps answer_of after schedules bus.reads peers config readers is.settings steps
+      (well_on (after_step answer_of after) fault_of steps lost start well.0).0
+      (holds_on (after_step answer_of after) (StepFits answer_of after) steps lost start fits.0).0 in
       let over : IsCleared before mid =
-      subst (λ (t : LineState H). IsCleared before t) (sym (runs_on (after_step answer_of after) steps (clear (length readers) most) (set_up config readers)))
-      (cleared none before (length readers) most waits places few less moves) in
-      let session = All-append IsInSession steps (clear (length readers) most) within (in_session (length readers) most) in
-      let through = comes config readers all_steps m wait is session long over.line none_ended in
-      subst (λ (l : List Account). EachComesOn m (length readers) l (accounts (simulation.run answer_of after (all_steps ++ rounds m wait) (set_up config readers))))
+      subst (λ (t : LineState H). IsCleared before t) (sym (runs_on (after_step answer_of after) steps lost start))
+      (cleared bus.reads.none before (length readers) steps waits places few moves) in
+      let session = All-append IsInSession steps lost within (in_session (length readers) steps) in
+      let through = comes config readers all_steps m wait is session long over.line in
+      subst (λ (l : List Account). EachComesOn m (length readers) l (accounts (simulation.run answer_of after (all_steps ++ rounds m wait) start)))
       over.same through

@@ -2,7 +2,7 @@
 use Rattle.std.proofs.Common.{◌≡◌, ◌≤◌, ◌<◌, ◌+◌, ◌++◌, ℕ, zero, suc, All, List, [], ◌∷◌, length, map, Some, inl, inr, refl, sym, subst, ap, ◌∙◌, arith}
 use Rattle.std.proofs.Math.Nat.{div-mul-le_self, suc-mul}
 use Rattle.std.proofs.lemmas.List.{length-map}
-use Rattle.std.specs.Prelude.{◌/◌, ◌*◌, slice_get}
+use Rattle.std.specs.Prelude.{◌/◌, ◌*◌, ◌-◌, slice_get}
 use Rattle.osdp_frame.specs.Packet.{Packet}
 use Rattle.osdp_frame.specs.Spelling.{spelling}
 use Rattle.osdp_msg.specs.declared.command.Command.{Command}
@@ -45,11 +45,11 @@ use Rattle.osdp_sim_bus_laws.specs.Moves.{Done, Follows, OneBus, SchedulesAreMov
 use Rattle.osdp_sim_bus_laws.proofs.Beginning.{first_net, first_site, follows_first, has_site, is_set_up}
 use Rattle.osdp_sim_bus_laws.proofs.OneSession.{HasOne, none_earlier, one_first, one_run}
 use Rattle.osdp_sim_bus_laws.proofs.Sites.{get_site}
-use Rattle.osdp_bus_progress.specs.Progress.{ComesOn, EachComesThrough, IsClear, IsReady, IsRun, NoneHasEnded}
+use Rattle.osdp_bus_progress.specs.Progress.{ComesOn, EachComesThrough, IsClear, IsReady, IsRun}
 use Rattle.osdp_bus_progress.proofs.Along.{first_at, run_at_all}
-use Rattle.osdp_bus_progress.proofs.Ends.{NoEnds, lasts_there, none_before_rounds}
+use Rattle.osdp_bus_progress.proofs.Ends.{NoEnd, lasts_there, none_before_rounds}
 use Rattle.osdp_bus_progress.proofs.Rounds.{AtRest, HasRounds, all_rounds, all_turns, site_within}
-use Rattle.osdp_bus_progress.proofs.Turns.{IsTurn, some_away, some_turn}
+use Rattle.osdp_bus_progress.proofs.Turns.{IsTurn, once_around, some_turn}
 
 -- ---- lists
 
@@ -57,22 +57,22 @@ none_on : (ps : List (ℕ × Packet)) → map spelling (packets_on ps) ≡ [] �
 none_on [] none = refl
 none_on (p ∷ ps) none = absurd cc
 
-unmapped : {A B : Type 0} (f : A → B) (k : ℕ) (b : B) (xs : List A) → slice_get (map f xs) k ≡ Some b → (a : A) × (slice_get xs k ≡ Some a) × (f a ≡ b)
+pub unmapped : {A B : Type 0} (f : A → B) (k : ℕ) (b : B) (xs : List A) → slice_get (map f xs) k ≡ Some b → (a : A) × (slice_get xs k ≡ Some a) × (f a ≡ b)
 unmapped f k b [] at = absurd cc
 unmapped f zero b (x ∷ xs) at = (x, refl, some_same (f x) b at)
 unmapped f (suc k) b (x ∷ xs) at = unmapped f k b xs at
 
-get_each : {A : Type 0} (P : A → Type 0) (k : ℕ) (x : A) (xs : List A) → Each P xs → slice_get xs k ≡ Some x → P x
+pub get_each : {A : Type 0} (P : A → Type 0) (k : ℕ) (x : A) (xs : List A) → Each P xs → slice_get xs k ≡ Some x → P x
 get_each P k x [] all is = absurd cc
 get_each P zero x (y ∷ xs) all is = subst P (some_same y x is) all.0
 get_each P (suc k) x (y ∷ xs) all is = get_each P k x xs all.1 is
 
-there_is : {A : Type 0} (k : ℕ) (xs : List A) → k < length xs → (x : A) × (slice_get xs k ≡ Some x)
+pub there_is : {A : Type 0} (k : ℕ) (xs : List A) → k < length xs → (x : A) × (slice_get xs k ≡ Some x)
 there_is k [] few = absurd (omega (arith, few))
 there_is zero (x ∷ xs) few = (x, refl)
 there_is (suc k) (x ∷ xs) few = there_is k xs (omega (arith, few))
 
-get_within : {A : Type 0} (k : ℕ) (x : A) (xs : List A) → slice_get xs k ≡ Some x → k < length xs
+pub get_within : {A : Type 0} (k : ℕ) (x : A) (xs : List A) → slice_get xs k ≡ Some x → k < length xs
 get_within k x [] at = absurd cc
 get_within zero x (y ∷ xs) at = omega arith
 get_within (suc k) x (y ∷ xs) at = omega (arith, get_within k x xs at)
@@ -114,8 +114,7 @@ module _ {H : Type 0} (answer_of : H → Command → Answer) (after : H → Comm
     module _ (config : BusConfig) (readers : List (Given H)) (steps : List SimStep) (m wait : ℕ)
         (is : IsRun answer_of after config readers (steps ++ rounds m wait)) (within : All IsInSession steps)
         (long : longest_wait (controller_config 0 config) ≤ wait)
-        (clear : IsClear (simulation.run answer_of after steps (set_up config readers)))
-        (none : NoneHasEnded (accounts (simulation.run answer_of after (steps ++ rounds m wait) (set_up config readers)))) where
+        (clear : IsClear (simulation.run answer_of after steps (set_up config readers))) where
       abbrev start : LineState H
       start = set_up config readers
 
@@ -124,9 +123,6 @@ module _ {H : Type 0} (answer_of : H → Command → Answer) (after : H → Comm
 
       abbrev later : LineState H
       later = simulation.run answer_of after (rounds m wait) s
-
-      later_is : simulation.run answer_of after (steps ++ rounds m wait) start ≡ later
-      later_is = runs_on (after_step answer_of after) steps (rounds m wait) start
 
       abbrev first : Net H
       first = first_net config readers
@@ -145,22 +141,6 @@ module _ {H : Type 0} (answer_of : H → Command → Answer) (after : H → Comm
 
       follows : Follows s n
       follows = goes.2
-
-      ended_none : NoEnds later
-      ended_none k u at =
-          get_each (λ (a : Account). a.ends ≡ []) k u.account (accounts later)
-          (subst (λ (v : LineState H). Each (λ (a : Account). a.ends ≡ []) (accounts v)) later_is
-          (each_of (λ (a : Account). a.ends ≡ []) (accounts (simulation.run answer_of after (steps ++ rounds m wait) start)) none))
-          (account_at k u later.sites at)
-        where
-          account_at : (k : ℕ) (u : Site H) (us : List (Site H)) → slice_get us k ≡ Some u
-              → slice_get (map (λ (site : Site H). site.account) us) k ≡ Some u.account
-          account_at k u [] at = absurd cc
-          account_at zero u (v ∷ us) at = ap (λ (w : Site H). Some w.account) (some_same v u at)
-          account_at (suc k) u (v ∷ us) at = account_at k u us at
-
-      before_none : NoEnds s
-      before_none = none_before_rounds answer_of after m wait s ended_none
 
       -- each reader has its site from the beginning on
       counted : length s.sites ≡ length readers
@@ -231,8 +211,9 @@ module _ {H : Type 0} (answer_of : H → Command → Answer) (after : H → Comm
       entries_count : length s.bus.devices.entries ≡ length readers
       entries_count = ap length follows.bus.entries ∙ length-map n.sites device_of ∙ sites_count
 
-      at_rest : (entry : ℕ) → entry < length readers → IsTurn entry s.bus → AtRest answer_of after peers (length readers) wait entry s n
-      at_rest entry below turn = record {
+      at_rest : (k : ℕ) (t : line.Site H) → site_at k n.sites ≡ Some t → NoEnd k later → (entry : ℕ) → entry < length readers → IsTurn entry s.bus
+          → AtRest answer_of after peers (length readers) wait k entry s n
+      at_rest k t at none entry below turn = record {
         follows = follows;
         holds = holds_all answer_of after peers goes.0 first goes.1 (holds_first answer_of after peers first up);
         in_time = run_at_all answer_of after ranges wait steps start (each_of IsInSession steps within) (first_at answer_of after ranges wait config readers long);
@@ -240,8 +221,9 @@ module _ {H : Type 0} (answer_of : H → Command → Answer) (after : H → Comm
           to_readers = none_on n.to_readers (sym follows.to_readers ∙ clear.to_readers);
           to_controllers = none_on n.to_controllers (sym follows.to_bus ∙ clear.to_bus);
         };
-        clear = clear_at;
-        lasts = before_none;
+        clear = λ i u there unended. clear_at i u there;
+        lasts = none_before_rounds answer_of after k m wait s none;
+        there = (t, at);
         count_is = sites_count;
         below = below;
         turn = turn;
@@ -260,29 +242,27 @@ module _ {H : Type 0} (answer_of : H → Command → Answer) (after : H → Comm
           (one_run answer_of after steps start (each_of IsInSession steps within) (one_first readers))) at
 
       -- the rounds of one reader
-      its_rounds : (k : ℕ) (t : line.Site H) → site_at k n.sites ≡ Some t
-          → (away : ℕ) × HasRounds answer_of after peers bus ends ranges comes (length readers) wait k t m away s n × (away < length readers)
-      its_rounds k t at =
+      its_rounds : (k : ℕ) (t : line.Site H) → site_at k n.sites ≡ Some t → NoEnd k later
+          → HasRounds answer_of after peers bus ends ranges comes (length readers) wait k t m (length readers - 1) s n
+      its_rounds k t at none =
           let few = site_within answer_of after peers k t n.sites at in
           let same = sites_count in
           let entries = entries_count in
           let turn = some_turn s.bus (omega (arith, few, same, entries)) in
           let below : turn.0 < length readers = let under = turn.1 in omega (arith, under, entries) in
-          let away = some_away (length readers) turn.0 k below (omega (arith, few, same)) in (
-            away.0,
-            all_rounds answer_of after peers bus ends ranges comes (length readers) wait m turn.0 away.0 s n (at_rest turn.0 below turn.2) fits.1 ended_none k t at away.1,
-            away.1.below,
-          )
+          all_rounds answer_of after peers bus ends ranges comes (length readers) wait k m turn.0 (length readers - 1) s n
+          (at_rest k t at none turn.0 below turn.2) fits.1 none t at (once_around (length readers) turn.0 k below (omega (arith, few, same)))
 
-      comes_on : (k : ℕ) (u v : Site H) → slice_get s.sites k ≡ Some u → slice_get later.sites k ≡ Some v → ComesOn m (length readers) u.account v.account
-      comes_on k u v at there =
+      comes_on : (k : ℕ) (u v : Site H) → slice_get s.sites k ≡ Some u → slice_get later.sites k ≡ Some v → v.account.ends ≡ []
+          → ComesOn m (length readers) u.account v.account
+      comes_on k u v at there none =
+          let no_end : NoEnd k later = λ w here. subst (λ (x : Site H). x.account.ends ≡ []) (some_same v w (sym there ∙ here)) none in
           let few = get_within k u s.sites at in
           let same = counted in
           let total = sites_count in
           let t = sited k n.sites (omega (arith, few, same, total)) in
           let l = link_at k t.0 t.1 in
-          let found = its_rounds k t.0 t.1 in
-          let has = found.1 in
+          let has = its_rounds k t.0 t.1 no_end in
           let ms = moves_of answer_of after k goes.0 first in
           let old = view k (first_site config l.given) first in
           let begun = up.begins k (first_site config l.given) l.begins in
@@ -303,11 +283,11 @@ module _ {H : Type 0} (answer_of : H → Command → Answer) (after : H → Comm
           let v_long = as_long v_is.0.account last.account last.earlier (none_earlier v_is.0.account last.account last.earlier v_is.2.tells (one_later k v_is.0 v_is.1)) v_is.2.tells in
           let turns = m / length readers in
           let part = share m (length readers) in
-          let enough : turns ≤ length has.moments = has.enough turns (let below = found.2 in omega (arith, part, below)) in
+          let enough : turns ≤ length has.moments = has.enough turns (omega (arith, part)) in
           subst (λ (x : Site H). ComesOn m (length readers) x.account v.account) u_same
           (subst (λ (y : Site H). ComesOn m (length readers) u_is.0.account y.account) v_same
           (elim through [
-            | inl closed ↦ absurd (lasts_there later has.last has.follows ended_none k last has.seen_then.there (ap (λ (x : Link H). x.controller.session.state) then_ ∙ closed))
+            | inl closed ↦ absurd (lasts_there k later has.last has.follows no_end last has.seen_then.there (ap (λ (x : Link H). x.controller.session.state) then_ ∙ closed))
             | inr on ↦ (
                 let counted_on : progress.ComeOn has.moments t.0.account last.account =
                 subst (λ (x : Link H). progress.ComeOn has.moments x.account last.account) (sym l.moved)
@@ -321,7 +301,7 @@ module _ {H : Type 0} (answer_of : H → Command → Answer) (after : H → Comm
           sited (suc k) (t ∷ ts) few = sited k ts (omega (arith, few))
 
     pub each_comes_through : EachComesThrough answer_of after
-    each_comes_through config readers steps m wait is within long clear none k old new at there =
+    each_comes_through config readers steps m wait is within long clear k old new at there none =
         let s = simulation.run answer_of after steps (set_up config readers) in
         let later = simulation.run answer_of after (rounds m wait) s in
         let u = unmapped (λ (site : Site H). site.account) k old s.sites at in
@@ -329,4 +309,4 @@ module _ {H : Type 0} (answer_of : H → Command → Answer) (after : H → Comm
         (subst (λ (w : LineState H). slice_get (accounts w) k ≡ Some new) (runs_on (after_step answer_of after) steps (rounds m wait) (set_up config readers)) there) in
         subst (λ a. ComesOn m (length readers) a new) u.2
         (subst (λ b. ComesOn m (length readers) u.0.account b) v.2
-        (comes_on config readers steps m wait is within long clear none k u.0 v.0 u.1 v.1))
+        (comes_on config readers steps m wait is within long clear k u.0 v.0 u.1 v.1 (ap (λ (a : Account). a.ends) v.2 ∙ none)))

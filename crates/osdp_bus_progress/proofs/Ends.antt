@@ -37,17 +37,17 @@ no_end_before (report.Unread command code) a none = none
 no_end_before (report.Lost cause command) a none = none_before a.ends _ none
 
 module _ {H : Type 0} where
-  -- no account of a site has an end
-  abbrev pub NoEnds : LineState H → Type 0
-  NoEnds s = (k : ℕ) (u : Site H) → slice_get s.sites k ≡ Some u → u.account.ends ≡ []
+  -- the account of the reader at this place has no end
+  abbrev pub NoEnd : ℕ → LineState H → Type 0
+  NoEnd k s = (u : Site H) → slice_get s.sites k ≡ Some u → u.account.ends ≡ []
 
   -- so its session lasts
-  pub lasts_there : (s : LineState H) (n : Net H) → Follows s n → NoEnds s → (k : ℕ) (t : line.Site H) → site_at k n.sites ≡ Some t
+  pub lasts_there : (k : ℕ) (s : LineState H) (n : Net H) → Follows s n → NoEnd k s → (t : line.Site H) → site_at k n.sites ≡ Some t
       → t.controller.session.state ≡ Closed → ⊥
-  lasts_there s n h none k t at closed =
+  lasts_there k s n h none t at closed =
       let u = get_site k t s.sites n.sites h.sites at in
       let is = u.2 in
-      let no_end : length u.0.account.ends ≡ 0 = ap (λ l. length l) (none k u.0 u.1) in
+      let no_end : length u.0.account.ends ≡ 0 = ap (λ l. length l) (none u.0 u.1) in
       let shut : count (is_closed t.controller.session.state) ≡ 1 = ap (λ st. count (is_closed st)) closed in
       let ended = is.ended in
       let some = some_begun u.0.account.sessions t.account.queued t.earlier is.tells.queued.0 is.tells.queued.1 in
@@ -75,12 +75,12 @@ module _ {H : Type 0} where
         stays_then EndsStay (λ u v w one more none. one (more none)) k s.sites next.sites (simulation.run answer_of after steps next).sites
         (idle_sites answer_of after EndsStay ends_idle k step s idles.0) (ends_stay k steps next idles.1)
 
-    rounds_idle : (m wait : ℕ) → Each IsNoOrder (rounds m wait)
+    pub rounds_idle : (m wait : ℕ) → Each IsNoOrder (rounds m wait)
     rounds_idle zero wait = tt
     rounds_idle (suc m) wait = (tt, (tt, (tt, rounds_idle m wait)))
 
-    -- where no session has ended after these rounds none has before them
-    pub none_before_rounds : (m wait : ℕ) (s : LineState H) → NoEnds (simulation.run answer_of after (rounds m wait) s) → NoEnds s
-    none_before_rounds m wait s none k u at =
+    -- where it has none after these rounds it has none before them
+    pub none_before_rounds : (k m wait : ℕ) (s : LineState H) → NoEnd k (simulation.run answer_of after (rounds m wait) s) → NoEnd k s
+    none_before_rounds k m wait s none u at =
         let later = ends_stay k (rounds m wait) s (rounds_idle m wait) u at in
-        later.2 (none k later.0 later.1)
+        later.2 (none later.0 later.1)

@@ -6,4 +6,6 @@ pub mod BusRounds
 pub mod Ends
 pub mod Rounds
 pub mod Coming
+pub mod Bursts
 pub mod Clearing
+pub mod Answered

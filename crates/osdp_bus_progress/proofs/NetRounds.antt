@@ -24,7 +24,7 @@ use Rattle.osdp_multidrop.proofs.Fitting.{was_there}
 use Rattle.osdp_multidrop.proofs.Moving.{each_is_its_own}
 use Rattle.osdp_multidrop.proofs.Running.{Holds, by_own, holds_after}
 use Rattle.osdp_multidrop.proofs.Sites.{at_changed, own_first}
-use Rattle.osdp_bus_progress.proofs.Rest.{IsAtRest, IsOpen, comes_to_rest, named_here}
+use Rattle.osdp_bus_progress.proofs.Rest.{IsAtRest, IsOpen, comes_to_rest, leaves_nothing, named_here}
 
 -- nobody has anything on the line
 none_own : (S : ℕ → Type 0) (qs : List (ℕ × Packet)) → Each (λ (q : ℕ × Packet). S q.0) qs → ((k : ℕ) → S k → own k qs ≡ []) → qs ≡ []
@@ -121,7 +121,8 @@ module _ {H : Type 0} (answer_of : H → Command → Answer) (after : H → Comm
     pub to_readers : n.to_readers ≡ []
     pub to_controllers : n.to_controllers ≡ []
 
-  -- what comes of the round: the line is quiet again, and each site is its link after its moves, if any
+  -- what comes of the round: the line is quiet again, and each site is its link after its moves, if any. The one that ticked is clear and at
+  -- rest, unless its session has ended
   pub record IsRound (i now : ℕ) (n : Net H) : Type 0 where
     pub holds : Holds answer_of after peers (round_net i now n)
     pub quiet : IsQuiet (round_net i now n)
@@ -129,8 +130,8 @@ module _ {H : Type 0} (answer_of : H → Command → Answer) (after : H → Comm
     pub was : (k : ℕ) (t : Site H) → site_at k (round_net i now n).sites ≡ Some t → IsSited n.sites k
     pub count : length (round_net i now n).sites ≡ length n.sites
     pub fits : (s : Site H) → site_at i n.sites ≡ Some s → MovesFit answer_of after (progress.round now) (view i s n)
-    pub clear : (s : Site H) → site_at i n.sites ≡ Some s → progress.IsClear (goes answer_of after now (view i s n))
-    pub rest : (s : Site H) → site_at i n.sites ≡ Some s → IsAtRest answer_of after peers (goes answer_of after now (view i s n))
+    pub rested : (s : Site H) → site_at i n.sites ≡ Some s → IsOpen answer_of after peers (goes answer_of after now (view i s n))
+        → progress.IsClear (goes answer_of after now (view i s n)) × IsAtRest answer_of after peers (goes answer_of after now (view i s n))
 
   module _ (i now : ℕ) (n : Net H) (s : Site H) (h : Holds answer_of after peers n) (quiet : IsQuiet n) (at : site_at i n.sites ≡ Some s)
       (fits : NetMoveFits answer_of after (ToReaders Delivered) (ticked_net i now n)) where
@@ -180,7 +181,7 @@ module _ {H : Type 0} (answer_of : H → Command → Answer) (after : H → Comm
     heard_was : (k : ℕ) → IsSited (heard_net i now n).sites k → IsSited n.sites k
     heard_was k is = was_there answer_of after (Tick i now) k n (was_there answer_of after (ToReaders Delivered) k (ticked_net i now n) is)
 
-    -- its link after both: the session lasts still, where it does at the end
+    -- its link after both
     abbrev heard_link : Link H
     heard_link = link.after_move answer_of after (link.ToReader Delivered) (link.after_move answer_of after (link.Tick now) (view i s n))
 
@@ -209,8 +210,7 @@ module _ {H : Type 0} (answer_of : H → Command → Answer) (after : H → Comm
         by_frame None says = tt
         by_frame (Some p) says = says
 
-    module _ (clear : progress.IsClear (view i s n)) (unended : IsOpen answer_of after peers (view i s n)) (due : is_due now s.controller ≡ true)
-        (lasts : (t : Site H) → site_at i (round_net i now n).sites ≡ Some t → IsOpen answer_of after peers (view i t (round_net i now n))) where
+    module _ (clear : progress.IsClear (view i s n)) (due : is_due now s.controller ≡ true) where
       -- the packet in front is its own, and named as it is
       front_is : (q : ℕ × Packet) (rest : List (ℕ × Packet)) → (heard_net i now n).to_controllers ≡ q ∷ rest
           → (q.0 ≡ i) × (own_seen.0.controller.session.config.address ≡ q.1.address)
@@ -262,14 +262,14 @@ module _ {H : Type 0} (answer_of : H → Command → Answer) (after : H → Comm
       round_was : (k : ℕ) → IsSited (round_net i now n).sites k → IsSited n.sites k
       round_was k is = heard_was k (was_there answer_of after (ToControllers Delivered now) k (heard_net i now n) is)
 
-      rested : progress.IsClear (goes answer_of after now (view i s n)) × IsAtRest answer_of after peers (goes answer_of after now (view i s n))
-      rested =
+      rests : IsOpen answer_of after peers (goes answer_of after now (view i s n))
+          → progress.IsClear (goes answer_of after now (view i s n)) × IsAtRest answer_of after peers (goes answer_of after now (view i s n))
+      rests lasts =
           let linked = h.linked i s at in
-          let seen = round_seen i s at in
-          let is : view i seen.site (round_net i now n) ≡ goes answer_of after now (view i s n) =
-          seen.moved ∙ ap (λ b. link.run answer_of after (cond b (progress.round now) []) (view i s n)) (is_true i i refl) in
-          comes_to_rest answer_of after peers linked.first (view i s n) linked.stands clear unended now due says
-          (subst (IsOpen answer_of after peers) is (lasts seen.site seen.there))
+          comes_to_rest answer_of after peers linked.first (view i s n) linked.stands clear now due says lasts
+
+      empty : ((goes answer_of after now (view i s n)).to_reader ≡ []) × ((goes answer_of after now (view i s n)).to_controller ≡ [])
+      empty = leaves_nothing answer_of after peers now (view i s n) (ap (own i) quiet.to_readers) (ap (own i) quiet.to_controllers)
 
       -- nobody has anything on the line
       round_own : (k : ℕ) → IsSited (round_net i now n).sites k
@@ -285,8 +285,8 @@ module _ {H : Type 0} (answer_of : H → Command → Answer) (after : H → Comm
                 let is : view k seen.site (round_net i now n) ≡ goes answer_of after now (view i s n) =
                 seen.moved ∙ ap (λ b. link.run answer_of after (cond b (progress.round now) []) (view k old.0 n)) equal.0
                 ∙ ap (link.run answer_of after (progress.round now)) same in (
-                  ap (λ (l : Link H). l.to_reader) is ∙ rested.0.to_reader,
-                  ap (λ (l : Link H). l.to_controller) is ∙ rested.0.to_controller,
+                  ap (λ (l : Link H). l.to_reader) is ∙ empty.0,
+                  ap (λ (l : Link H). l.to_controller) is ∙ empty.1,
                 ))
             | inr differs ↦ (
                 let is : view k seen.site (round_net i now n) ≡ view k old.0 n =
@@ -326,6 +326,8 @@ module _ {H : Type 0} (answer_of : H → Command → Answer) (after : H → Comm
         was = λ k t is. round_was k (t, is);
         count = counted;
         fits = λ t there. subst (λ u. MovesFit answer_of after (progress.round now) (view i u n)) (some_same s t (sym at ∙ there)) (tt, (says, (tt, tt)));
-        clear = λ t there. subst (λ u. progress.IsClear (goes answer_of after now (view i u n))) (some_same s t (sym at ∙ there)) rested.0;
-        rest = λ t there. subst (λ u. IsAtRest answer_of after peers (goes answer_of after now (view i u n))) (some_same s t (sym at ∙ there)) rested.1;
+        rested = λ t there.
+            subst (λ (u : Site H). IsOpen answer_of after peers (goes answer_of after now (view i u n))
+            → progress.IsClear (goes answer_of after now (view i u n)) × IsAtRest answer_of after peers (goes answer_of after now (view i u n)))
+            (some_same s t (sym at ∙ there)) rests;
       }

@@ -7,6 +7,7 @@ use Rattle.osdp_controller.specs.Machine.{is_due}
 use Rattle.osdp_controller.specs.Sessions.{seen}
 use Rattle.osdp_controller.specs.Ticking.{ticks}
 use Rattle.osdp_controller.specs.declared.state.State.TheVariants.{Closed, Idle}
+use Rattle.osdp_reader.specs.Table as reader
 use Rattle.osdp_reader.specs.declared.handler.Answer.{Answer}
 use Rattle.osdp_link_laws.specs.Headline.{SaysWhatFits, handler_after}
 use Rattle.osdp_link_laws.specs.Link as link
@@ -15,6 +16,7 @@ use Rattle.osdp_link_laws.specs.Names.{IsCommandTo, IsReplyFrom}
 use Rattle.osdp_link_laws.specs.Peers.{IsPlainlySaid, ReadEachOther}
 use Rattle.osdp_link_laws.specs.Progress.{IsClear, SetsNoAddress}
 use Rattle.osdp_link_laws.proofs.Deliveries.{all_said}
+use Rattle.osdp_link_laws.proofs.Due.{closed_rests}
 use Rattle.osdp_link_laws.proofs.InARow.{Stands, assumed, running}
 use Rattle.osdp_link_laws.proofs.Lines.{each_all, each_of}
 use Rattle.osdp_link_laws.proofs.OneDevice.{standing_names}
@@ -34,15 +36,20 @@ module _ {H : Type 0} (answer_of : H → Command → Answer) (after : H → Comm
   abbrev pub IsAtRest : Link H → Type 0
   IsAtRest l = (due : ℕ) × (l.controller.session.state ≡ Idle due)
 
+  -- a session that is closed is never due
+  pub open_if_due : (now : ℕ) (l : Link H) → is_due now l.controller ≡ true → IsOpen l
+  open_if_due now l due closed =
+      closed_rests l.controller.session.state (seen now l.controller.session) l.controller.waiting closed due
+
   -- a round from a clear link leaves it clear and at rest, unless the session ends
-  pub comes_to_rest : (first l : Link H) → StandsFrom first l → IsClear l → IsOpen l → (now : ℕ) → is_due now l.controller ≡ true
+  pub comes_to_rest : (first l : Link H) → StandsFrom first l → IsClear l → (now : ℕ) → is_due now l.controller ≡ true
       → SaysWhatFits answer_of after (at_tick now l).to_reader l.reader → IsOpen (goes answer_of after now l)
       → IsClear (goes answer_of after now l) × IsAtRest (goes answer_of after now l)
-  comes_to_rest first l s clear unended now due fits lasts =
+  comes_to_rest first l s clear now due fits lasts =
       let config = first.reader.config in
       let handler = handler_after answer_of after config first.reader.handler l.earlier in
       let given = assumed answer_of after config first.reader.handler peers s.fixed handler s.device in
-      let same = config_is s.fixed answer_of after config handler s.holds.0 l s.holds.1 unended in
+      let same = config_is s.fixed answer_of after config handler s.holds.0 l s.holds.1 (open_if_due now l due) in
       let still = clear_still s.fixed answer_of after config handler l clear same in
       let next = goes answer_of after now l in
       let held = held_after s.fixed answer_of after config handler given now l fits s.holds in
@@ -60,6 +67,33 @@ module _ {H : Type 0} (answer_of : H → Command → Answer) (after : H → Comm
           idle.idle,
         )
       ]
+
+  -- whether the session ends or not, the round leaves nothing on the line
+  abbrev IsEmpty : Link H → Type 0
+  IsEmpty l = (l.to_reader ≡ []) × (l.to_controller ≡ [])
+
+  heard_few : (o : Option Packet) (ps : List Packet) (l : Link H) → ps ≡ option_to_list o → l.to_reader ≡ ps → l.to_controller ≡ []
+      → let m = link.to_reader answer_of after ps Delivered l in (m.to_reader ≡ []) × ((r : Option Packet) × (m.to_controller ≡ option_to_list r))
+  heard_few o [] l is line none = (line, (None, none))
+  heard_few None (p ∷ ps) l is line none = absurd cc
+  heard_few (Some q) (p ∷ []) l is line none =
+      let reply = (reader.hears answer_of after l.reader p).reply in (refl, (reply, ap (λ qs. qs ++ option_to_list reply) none))
+  heard_few (Some q) (p ∷ r ∷ ps) l is line none = absurd cc
+
+  got_none : (r : Option Packet) (qs : List Packet) (now : ℕ) (l : Link H) → qs ≡ option_to_list r → l.to_controller ≡ qs → l.to_reader ≡ []
+      → IsEmpty (link.to_controller qs Delivered now l)
+  got_none r [] now l is line none = (none, line)
+  got_none None (q ∷ qs) now l is line none = absurd cc
+  got_none (Some p) (q ∷ []) now l is line none = (none, refl)
+  got_none (Some p) (q ∷ s ∷ qs) now l is line none = absurd cc
+
+  pub leaves_nothing : (now : ℕ) (l : Link H) → l.to_reader ≡ [] → l.to_controller ≡ [] → IsEmpty (goes answer_of after now l)
+  leaves_nothing now l empty none =
+      let t = at_tick now l in
+      let o = (ticks now l.controller.session l.controller.waiting).step.frame in
+      let heard = heard_few o t.to_reader t (ap (λ ps. ps ++ option_to_list o) empty) refl none in
+      let m = link.to_reader answer_of after t.to_reader Delivered t in
+      got_none heard.1.0 m.to_controller now m heard.1.1 refl heard.0
 
   -- what the reader answers to the packet of a tick names its controller's address
   pub named_here : (first l : Link H) → StandsFrom first l → l.to_reader ≡ [] → l.to_controller ≡ [] → (now : ℕ)

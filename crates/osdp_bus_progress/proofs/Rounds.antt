@@ -1,4 +1,4 @@
--- Rounds of a bus: each is an exchange of the entry whose turn it is, and the turn goes around.
+-- Rounds of a bus: each is an exchange of one entry, and the turn goes around those whose sessions last.
 use Rattle.std.proofs.Common.{◌≡◌, ◌≤◌, ◌<◌, ◌+◌, ◌-◌, ℕ, zero, suc, max, true, false, cond, List, [], ◌∷◌, length, map, Option, Some, None, refl, sym, subst, ap, ◌∙◌, inl, inr, arith}
 use Rattle.std.proofs.lemmas.Bool.Decides.{eqb_tells}
 use Rattle.std.proofs.lemmas.List.{length-map}
@@ -8,7 +8,7 @@ use Rattle.osdp_msg.specs.declared.command.Command.{Command}
 use Rattle.osdp_controller.specs.Machine.{is_due, is_outstanding}
 use Rattle.osdp_controller.specs.Sessions.{later as later_by}
 use Rattle.osdp_controller.specs.declared.state.State.{State}
-use Rattle.osdp_controller.specs.declared.state.State.TheVariants.{Idle}
+use Rattle.osdp_controller.specs.declared.state.State.TheVariants.{Closed, Quiet, Idle, Waiting, Pausing}
 use Rattle.osdp_controller_laws.specs.Calls.{ComesDue, StaysInRange, longest_wait}
 use Rattle.osdp_reader.specs.declared.handler.Answer.{Answer}
 use Rattle.osdp_bus.specs.Buses.{BusState, holder, seen}
@@ -17,8 +17,8 @@ use Rattle.osdp_bus.specs.Machine.{after_next_report}
 use Rattle.osdp_bus.specs.Ticking.{BusTicked, bus_ticks, ticks_with}
 use Rattle.osdp_bus.specs.declared.device.Device.{Device}
 use Rattle.osdp_bus_laws.proofs.Exchanging.{has_exchange}
+use Rattle.osdp_bus_laws.specs.Turns.{IsBefore}
 use Rattle.osdp_bus_laws.proofs.Places.{is_false as unless_true}
-use Rattle.osdp_bus_laws.proofs.Sound.{nobody}
 use Rattle.osdp_link_laws.specs.Headline.{MovesFit}
 use Rattle.osdp_link_laws.specs.Link as link
 use Rattle.osdp_link_laws.specs.Link.{Delivered, Link}
@@ -47,21 +47,14 @@ use Rattle.osdp_sim_bus.specs.State.{LineState, Site}
 use Rattle.osdp_sim_bus.specs.Steps.{after_step, waited}
 use Rattle.osdp_sim_laws.specs.Progress.{rounds}
 use Rattle.osdp_sim_bus_laws.specs.Moves.{Follows, OneBus}
-use Rattle.osdp_bus_progress.proofs.Along.{BusAt, DeviceAt, OneHolds, step_at}
+use Rattle.osdp_bus_progress.proofs.Along.{BusAt, DeviceAt, step_at}
 use Rattle.osdp_bus_progress.proofs.BusRounds.{bus_follows, first_from_bus, heard_bus, heard_clock, readers_follow, tick_follows, told_bus, told_clock}
-use Rattle.osdp_bus_progress.proofs.Ends.{NoEnds, lasts_there, none_before_rounds}
+use Rattle.osdp_bus_progress.proofs.Ends.{NoEnd, lasts_there, none_before_rounds}
 use Rattle.osdp_bus_progress.proofs.NetRounds.{IsQuiet, IsRound, IsSeen, heard_net, its_round, net_round, round_net, ticked_net}
-use Rattle.osdp_bus_progress.proofs.Rest.{said_plainly}
-use Rattle.osdp_bus_progress.proofs.Turns.{AllDue, IsAfter, IsAway, IsFirst, IsTurn, away_again, away_next, away_other, away_own, first_around, next_turn, tick_is}
+use Rattle.osdp_bus_progress.proofs.Rest.{IsAtRest, IsOpen, open_if_due, said_plainly}
+use Rattle.osdp_bus_progress.proofs.Turns.{BusTicks, IsAfter, IsAway, IsFirst, IsTurn, Lasts, LastingDue, away_next, first_around, next_turn, once_around, tick_is}
 
 -- ---- who holds the line
-
--- nobody else than the one whose turn it is
-holds_turn : (entry : ℕ) (b : BusState) → IsTurn entry b → OneHolds b.devices → (i : ℕ) (d : Device) → slice_get b.devices.entries i ≡ Some d
-    → holds d ≡ true → i ≡ entry
-holds_turn entry b (inl held) one i d at h =
-    let x = has_exchange entry b held in one i entry d x.device at x.there h x.outstanding
-holds_turn entry b (inr (free, first)) one i d at h = absurd (nobody b free i d at h)
 
 nobody_holds : (b : BusState) → ((i : ℕ) (d : Device) → slice_get b.devices.entries i ≡ Some d → holds d ≡ false) → holder b ≡ None
 nobody_holds b free = by_holder (holder b) refl
@@ -71,8 +64,13 @@ nobody_holds b free = by_holder (holder b) refl
     by_holder (Some entry) held =
         absurd (let x = has_exchange entry b held in let stands = x.outstanding in let not_held = free entry x.device x.there in cc)
 
-rest_is_free : (state : State) (due : ℕ) → state ≡ Idle due → is_outstanding state ≡ false
-rest_is_free state due is = ap is_outstanding is
+-- at rest, or closed
+rest_is_free : (state : State) → ((state ≡ Closed → ⊥) → (due : ℕ) × (state ≡ Idle due)) → is_outstanding state ≡ false
+rest_is_free Closed rests = refl
+rest_is_free (Quiet until) rests = refl
+rest_is_free (Idle due) rests = refl
+rest_is_free (Waiting until sends o) rests = absurd (let is = rests (λ e. absurd cc) in let same = is.1 in cc)
+rest_is_free (Pausing until o) rests = absurd (let is = rests (λ e. absurd cc) in let same = is.1 in cc)
 
 -- so many turns of each of so many entries
 abbrev pub all_turns : ℕ → ℕ → ℕ
@@ -80,15 +78,16 @@ all_turns zero count = 0
 all_turns (suc turns) count = count + all_turns turns count
 
 module _ {H : Type 0} (answer_of : H → Command → Answer) (after : H → Command → H) (peers : ReadEachOther answer_of after) where
-  -- ---- between two rounds
+  -- ---- between two rounds, for the reader at place k
 
-  pub record AtRest (count wait entry : ℕ) (s : LineState H) (n : Net H) : Type 0 where
+  pub record AtRest (count wait k entry : ℕ) (s : LineState H) (n : Net H) : Type 0 where
     pub follows : Follows s n
     pub holds : Holds answer_of after peers n
     pub in_time : BusAt wait s.clock s.bus
     pub quiet : IsQuiet answer_of after peers n
-    pub clear : (k : ℕ) (t : line.Site H) → site_at k n.sites ≡ Some t → progress.IsClear (view k t n)
-    pub lasts : NoEnds s
+    pub clear : (i : ℕ) (t : line.Site H) → site_at i n.sites ≡ Some t → IsOpen answer_of after peers (view i t n) → progress.IsClear (view i t n)
+    pub lasts : NoEnd k s
+    pub there : (t : line.Site H) × (site_at k n.sites ≡ Some t)
     pub count_is : length n.sites ≡ count
     pub below : entry < count
     pub turn : IsTurn entry s.bus
@@ -109,30 +108,28 @@ module _ {H : Type 0} (answer_of : H → Command → Answer) (after : H → Comm
       → slice_get s.bus.devices.entries i ≡ Some (device_of t)
   entry_there s n h i t there = ap (λ ds. slice_get ds i) h.bus.entries ∙ get_device i t n.sites there
 
-  site_below : (k : ℕ) (ss : List (line.Site H)) → k < length ss → (t : line.Site H) × (site_at k ss ≡ Some t)
-  site_below k [] few = absurd (omega (arith, few))
-  site_below zero (t ∷ ss) few = (t, refl)
-  site_below (suc k) (t ∷ ss) few = site_below k ss (omega (arith, few))
-
   pub site_within : (k : ℕ) (t : line.Site H) (ss : List (line.Site H)) → site_at k ss ≡ Some t → k < length ss
   site_within k t [] is = absurd cc
   site_within zero t (u ∷ ss) is = omega arith
   site_within (suc k) t (u ∷ ss) is = omega (arith, site_within k t ss is)
 
-  module _ (bus : OneBus answer_of after) (ends : EndsAreTold) (ranges : StaysInRange) (comes : ComesDue) (count wait : ℕ) where
-    -- what comes of a round
+  module _ (bus : OneBus answer_of after) (ends : EndsAreTold) (ranges : StaysInRange) (comes : ComesDue) (count wait k : ℕ) where
+    -- what comes of a round: the entry that had its turn came before k, if it is another
     pub record NextRound (entry : ℕ) (s : LineState H) (n : Net H) : Type 0 where
+      pub at : ℕ
+      pub few : at < count
+      pub before : (at ≡ k → ⊥) → IsBefore entry at k
       pub next : ℕ
-      pub after_it : IsAfter count entry next
+      pub after_it : IsAfter count at next
       pub now : ℕ
-      pub round : IsRound answer_of after peers entry now n
-      pub rest : AtRest count wait next
+      pub round : IsRound answer_of after peers at now n
+      pub rest : AtRest count wait k next
           (after_step answer_of after (step.ToController Deliver) (after_step answer_of after (step.ToReader Deliver) (after_step answer_of after (step.Wait wait) s)))
-          (round_net answer_of after peers entry now n)
-      pub late : (k : ℕ) (t : line.Site H) → site_at k n.sites ≡ Some t
+          (round_net answer_of after peers at now n)
+      pub late : (t : line.Site H) → site_at k n.sites ≡ Some t
           → later_by (longest_wait t.controller.session.config) t.controller.session ≤ now
 
-    module _ (entry : ℕ) (s : LineState H) (n : Net H) (h : AtRest count wait entry s n) where
+    module _ (entry : ℕ) (s : LineState H) (n : Net H) (h : AtRest count wait k entry s n) where
       abbrev pub now : ℕ
       now = moment_after wait s.clock
 
@@ -145,46 +142,65 @@ module _ {H : Type 0} (answer_of : H → Command → Answer) (after : H → Comm
       abbrev pub s3 : LineState H
       s3 = after_step answer_of after (step.ToController Deliver) s2
 
-      abbrev pub n1 : Net H
-      n1 = ticked_net answer_of after peers entry now n
-
-      abbrev pub n2 : Net H
-      n2 = heard_net answer_of after peers entry now n
-
-      abbrev pub n3 : Net H
-      n3 = round_net answer_of after peers entry now n
-
       -- the moment
       seen_now : max s.bus.greatest now ≡ now
       seen_now = let fits = h.in_time.fits in let greatest = h.in_time.greatest in omega (arith, fits, greatest)
 
-      late_all : (k : ℕ) (t : line.Site H) → site_at k n.sites ≡ Some t
+      late_all : (i : ℕ) (t : line.Site H) → site_at i n.sites ≡ Some t
           → later_by (longest_wait t.controller.session.config) t.controller.session ≤ now
-      late_all k t at =
+      late_all i t at =
           let fits = h.in_time.fits in
-          let time = (h.in_time.devices k (device_of t) (entry_there s n h.follows k t at)).time in
+          let time = (h.in_time.devices i (device_of t) (entry_there s n h.follows i t at)).time in
           omega (arith, fits, time.0, time.1)
 
-      due_all : AllDue (max s.bus.greatest now) s.bus.devices.entries
-      due_all i d at =
+      due_all : LastingDue (max s.bus.greatest now) s.bus.devices.entries
+      due_all i d at lasts =
           let t = site_there s n h.follows i d at in
           let is = h.in_time.devices i d at in
           subst (λ (e : Device). is_due (max s.bus.greatest now) e.controller ≡ true) (sym t.2)
           (comes (max s.bus.greatest now) t.0.controller (subst (DeviceAt wait s.clock) t.2 is).range
-          (lasts_there s n h.follows h.lasts i t.0 t.1)
+          (subst Lasts t.2 lasts)
           (subst (λ g. later_by (longest_wait t.0.controller.session.config) t.0.controller.session ≤ g) (sym seen_now) (late_all i t.0 t.1)))
 
-      its_site : (t : line.Site H) × (site_at entry n.sites ≡ Some t)
-      its_site = let below = h.below in let same = h.count_is in site_below entry n.sites (omega (arith, below, same))
+      -- that of k is due, so there is one that ticks
+      ticks_one : BusTicks now entry k s.bus
+      ticks_one =
+          let mine = h.there in
+          let d = entry_there s n h.follows k mine.0 mine.1 in
+          tick_is now entry k s.bus due_all h.in_time.one h.follows.bus.held h.follows.bus.report h.turn (device_of mine.0) d
+          (due_all k (device_of mine.0) d (lasts_there k s n h.follows h.lasts mine.0 mine.1))
 
-      ticks_it : bus_ticks now s.bus ≡ ticks_with entry (Some (device_of its_site.0)) (seen now s.bus)
-      ticks_it = tick_is now entry s.bus due_all h.follows.bus.held h.follows.bus.report h.turn (device_of its_site.0) (entry_there s n h.follows entry its_site.0 its_site.1)
+      abbrev at : ℕ
+      at = ticks_one.turn.at
 
-      module _ (fits : FitAlong answer_of after (step.Wait wait ∷ step.ToReader Deliver ∷ step.ToController Deliver ∷ []) s) (lasts : NoEnds s3) where
+      its_site : (t : line.Site H) × (site_at at n.sites ≡ Some t) × (ticks_one.turn.device ≡ device_of t)
+      its_site = site_there s n h.follows at ticks_one.turn.device ticks_one.turn.there
+
+      ticks_it : bus_ticks now s.bus ≡ ticks_with at (Some (device_of its_site.0)) (seen now s.bus)
+      ticks_it = ticks_one.ticks ∙ ap (λ d. ticks_with at (Some d) (seen now s.bus)) its_site.2
+
+      its_due : is_due now its_site.0.controller ≡ true
+      its_due =
+          subst (λ g. is_due g its_site.0.controller ≡ true) seen_now
+          (subst (λ (d : Device). is_due (max s.bus.greatest now) d.controller ≡ true) its_site.2 ticks_one.turn.due)
+
+      at_below : at < count
+      at_below = let below = site_within at its_site.0 n.sites its_site.1 in let same = h.count_is in omega (arith, below, same)
+
+      abbrev n1 : Net H
+      n1 = ticked_net answer_of after peers at now n
+
+      abbrev n2 : Net H
+      n2 = heard_net answer_of after peers at now n
+
+      abbrev n3 : Net H
+      n3 = round_net answer_of after peers at now n
+
+      module _ (fits : FitAlong answer_of after (step.Wait wait ∷ step.ToReader Deliver ∷ step.ToController Deliver ∷ []) s) (lasts : NoEnd k s3) where
         follows1 : Follows s1 n1
         follows1 =
-            subst (λ g. Follows s1 (after_net answer_of after (Tick entry g) n)) seen_now
-            (tick_follows answer_of after ends now entry s n its_site.0 its_site.1 ticks_it fits.0 h.follows)
+            subst (λ g. Follows s1 (after_net answer_of after (Tick at g) n)) seen_now
+            (tick_follows answer_of after ends now at s n its_site.0 its_site.1 ticks_it fits.0 h.follows)
 
         heard2 : Follows s2 n2 × NetMoveFits answer_of after (ToReaders Delivered) n1
         heard2 =
@@ -192,15 +208,15 @@ module _ {H : Type 0} (answer_of : H → Command → Answer) (after : H → Comm
             (each_of (λ (u : Site H). SaysFit answer_of after (packets_in (handed Deliver s1.to_readers)) u.reader) s1.sites fits.1.0)
 
         holds2 : Holds answer_of after peers n2
-        holds2 = holds_after answer_of after peers (ToReaders Delivered) n1 heard2.1 (holds_after answer_of after peers (Tick entry now) n tt h.holds)
+        holds2 = holds_after answer_of after peers (ToReaders Delivered) n1 heard2.1 (holds_after answer_of after peers (Tick at now) n tt h.holds)
 
         plainly : Each (λ (q : ℕ × Packet). IsPlainlySaid q.1) n2.to_controllers
-        plainly = each_by_owner (IsSited n2.sites) (λ k p. IsPlainlySaid p) n2.to_controllers own_are holds2.apart.controllers.sited
+        plainly = each_by_owner (IsSited n2.sites) (λ i p. IsPlainlySaid p) n2.to_controllers own_are holds2.apart.controllers.sited
           where
-            own_are : (k : ℕ) → IsSited n2.sites k → Each IsPlainlySaid (own k n2.to_controllers)
-            own_are k is =
-                let linked = holds2.linked k is.0 is.1 in
-                said_plainly answer_of after peers linked.first (view k is.0 n2) linked.stands
+            own_are : (i : ℕ) → IsSited n2.sites i → Each IsPlainlySaid (own i n2.to_controllers)
+            own_are i is =
+                let linked = holds2.linked i is.0 is.1 in
+                said_plainly answer_of after peers linked.first (view i is.0 n2) linked.stands
 
         bus1 : s1.bus ≡ after_next_report (bus_ticks now s.bus).bus
         bus1 =
@@ -231,72 +247,86 @@ module _ {H : Type 0} (answer_of : H → Command → Answer) (after : H → Comm
             subst (λ g. Follows s3 (after_net answer_of after (line.ToControllers Delivered g) n2)) seen2
             (bus_follows answer_of after bus.hears bus.reads bus.spells bus.no_bytes s2 n2 heard2.0 plainly)
 
-        round : IsRound answer_of after peers entry now n
+        round : IsRound answer_of after peers at now n
         round =
-            net_round answer_of after peers entry now n its_site.0 h.holds h.quiet its_site.1 heard2.1 (h.clear entry its_site.0 its_site.1)
-            (lasts_there s n h.follows h.lasts entry its_site.0 its_site.1)
-            (subst (λ g. is_due g its_site.0.controller ≡ true) seen_now
-            (due_all entry (device_of its_site.0) (entry_there s n h.follows entry its_site.0 its_site.1)))
-            (λ t at. lasts_there s3 n3 follows3 lasts entry t at)
+            net_round answer_of after peers at now n its_site.0 h.holds h.quiet its_site.1 heard2.1
+            (h.clear at its_site.0 its_site.1 (open_if_due answer_of after peers now (view at its_site.0 n) its_due)) its_due
 
         -- what a site has become
-        view_after : (k : ℕ) (t : line.Site H) → site_at k n3.sites ≡ Some t
-            → (old : line.Site H) × (site_at k n.sites ≡ Some old) × (view k t n3 ≡ link.run answer_of after (its_round answer_of after peers entry k now) (view k old n))
-        view_after k t at =
-            let old = round.was k t at in
-            let is = round.each k old.0 old.1 in (
+        view_after : (i : ℕ) (t : line.Site H) → site_at i n3.sites ≡ Some t
+            → (old : line.Site H) × (site_at i n.sites ≡ Some old) × (view i t n3 ≡ link.run answer_of after (its_round answer_of after peers at i now) (view i old n))
+        view_after i t there =
+            let old = round.was i t there in
+            let is = round.each i old.0 old.1 in (
               old.0,
               old.1,
-              subst (λ u. view k u n3 ≡ link.run answer_of after (its_round answer_of after peers entry k now) (view k old.0 n))
-                  (some_same is.site t (sym is.there ∙ at)) is.moved,
+              subst (λ u. view i u n3 ≡ link.run answer_of after (its_round answer_of after peers at i now) (view i old.0 n))
+                  (some_same is.site t (sym is.there ∙ there)) is.moved,
             )
 
-        clear_after : (k : ℕ) (t : line.Site H) → site_at k n3.sites ≡ Some t → progress.IsClear (view k t n3)
-        clear_after k t at = by_owner (view_after k t at)
+        -- the one that had its turn: clear and at rest, unless its session has ended
+        abbrev Rested : Link H → Type 0
+        Rested l = IsOpen answer_of after peers l → progress.IsClear l × IsAtRest answer_of after peers l
+
+        own_after : (i : ℕ) (old : line.Site H) → site_at i n.sites ≡ Some old → at ≡ i → Rested (link.run answer_of after (progress.round now) (view i old n))
+        own_after i old there own =
+            subst (λ j. Rested (link.run answer_of after (progress.round now) (view j old n))) own
+            (round.rested old (ap (λ j. site_at j n.sites) own ∙ there))
+
+        clear_after : (i : ℕ) (t : line.Site H) → site_at i n3.sites ≡ Some t → IsOpen answer_of after peers (view i t n3) → progress.IsClear (view i t n3)
+        clear_after i t there = by_owner (view_after i t there)
           where
-            by_owner : ((old : line.Site H) × (site_at k n.sites ≡ Some old) × (view k t n3 ≡ link.run answer_of after (its_round answer_of after peers entry k now) (view k old n)))
-                → progress.IsClear (view k t n3)
-            by_owner (old, there, is) = elim (eqb_tells entry k) [
-              | inl equal ↦ subst progress.IsClear (sym (is ∙ ap (λ b. link.run answer_of after (cond b (progress.round now) []) (view k old n)) equal.0))
-                  (subst (λ j. progress.IsClear (link.run answer_of after (progress.round now) (view j old n))) equal.1
-                  (round.clear old (ap (λ j. site_at j n.sites) equal.1 ∙ there)))
-              | inr differs ↦ subst progress.IsClear (sym (is ∙ ap (λ b. link.run answer_of after (cond b (progress.round now) []) (view k old n)) differs.0)) (h.clear k old there)
+            by_owner : ((old : line.Site H) × (site_at i n.sites ≡ Some old) × (view i t n3 ≡ link.run answer_of after (its_round answer_of after peers at i now) (view i old n)))
+                → IsOpen answer_of after peers (view i t n3) → progress.IsClear (view i t n3)
+            by_owner (old, was, is) unended = elim (eqb_tells at i) [
+              | inl equal ↦ (
+                  let same : view i t n3 ≡ link.run answer_of after (progress.round now) (view i old n) =
+                  is ∙ ap (λ b. link.run answer_of after (cond b (progress.round now) []) (view i old n)) equal.0 in
+                  subst progress.IsClear (sym same) (own_after i old was equal.1 (subst (IsOpen answer_of after peers) same unended)).0)
+              | inr differs ↦ (
+                  let same : view i t n3 ≡ view i old n =
+                  is ∙ ap (λ b. link.run answer_of after (cond b (progress.round now) []) (view i old n)) differs.0 in
+                  subst progress.IsClear (sym same) (h.clear i old was (subst (IsOpen answer_of after peers) same unended)))
             ]
 
         free_after : (i : ℕ) (d : Device) → slice_get s3.bus.devices.entries i ≡ Some d → holds d ≡ false
-        free_after i d at = by_site (site_there s3 n3 follows3 i d at)
+        free_after i d there = by_site (site_there s3 n3 follows3 i d there)
           where
             by_site : ((t : line.Site H) × (site_at i n3.sites ≡ Some t) × (d ≡ device_of t)) → holds d ≡ false
-            by_site (t, there, same) =
-                let was = view_after i t there in
+            by_site (t, here, same) =
+                let was = view_after i t here in
                 ap holds same
-                ∙ elim (eqb_tells entry i) [
+                ∙ elim (eqb_tells at i) [
                   | inl equal ↦ (
-                      let is = was.2 ∙ ap (λ b. link.run answer_of after (cond b (progress.round now) []) (view i was.0 n)) equal.0 in
-                      let rest = subst (λ j. (due : ℕ) × ((link.run answer_of after (progress.round now) (view j was.0 n)).controller.session.state ≡ Idle due)) equal.1
-                      (round.rest was.0 (ap (λ j. site_at j n.sites) equal.1 ∙ was.1)) in
-                      rest_is_free t.controller.session.state rest.0 (ap (λ (l : Link H). l.controller.session.state) is ∙ rest.1))
+                      let is : view i t n3 ≡ link.run answer_of after (progress.round now) (view i was.0 n) =
+                      was.2 ∙ ap (λ b. link.run answer_of after (cond b (progress.round now) []) (view i was.0 n)) equal.0 in
+                      let rests = subst Rested (sym is) (own_after i was.0 was.1 equal.1) in
+                      rest_is_free t.controller.session.state (λ unended. (rests unended).1))
                   | inr differs ↦ (
                       let is = was.2 ∙ ap (λ b. link.run answer_of after (cond b (progress.round now) []) (view i was.0 n)) differs.0 in
                       ap (λ (l : Link H). is_outstanding l.controller.session.state) is
                       ∙ unless_true (holds (device_of was.0))
-                      (λ stands. differs.1 (sym (holds_turn entry s.bus h.turn h.in_time.one i (device_of was.0) (entry_there s n h.follows i was.0 was.1) stands))))
+                      (λ stands. differs.1 (sym (ticks_one.turn.alone i (device_of was.0) (entry_there s n h.follows i was.0 was.1) stands))))
                 ]
 
         count_after : length s3.bus.devices.entries ≡ count
         count_after = ap length follows3.bus.entries ∙ length-map n3.sites device_of ∙ round.count ∙ h.count_is
 
-        first_after : s3.bus.first ≡ entry + 1
+        first_after : s3.bus.first ≡ at + 1
         first_after =
             first_from_bus answer_of after s2 ∙ ap (λ (b : BusState). b.first) (bus2 ∙ bus1) ∙ ap (λ (t : BusTicked). t.bus.first) ticks_it
 
         pub one_round : NextRound entry s n
         one_round =
-            let below = h.below in
-            let turn = first_around count (entry + 1) (omega (arith, below)) in
+            let below = at_below in
+            let turn = first_around count (at + 1) (omega (arith, below)) in
+            let mine = round.each k h.there.0 h.there.1 in
             record {
+              at = at;
+              few = below;
+              before = ticks_one.turn.before;
               next = turn.0;
-              after_it = next_turn count entry turn.0 turn.1 h.below turn.2;
+              after_it = next_turn count at turn.0 turn.1 below turn.2;
               now = now;
               round = round;
               rest = record {
@@ -307,6 +337,7 @@ module _ {H : Type 0} (answer_of : H → Command → Answer) (after : H → Comm
                 quiet = round.quiet;
                 clear = clear_after;
                 lasts = lasts;
+                there = (mine.site, mine.there);
                 count_is = round.count ∙ h.count_is;
                 below = turn.1;
                 turn = inr (
@@ -314,13 +345,13 @@ module _ {H : Type 0} (answer_of : H → Command → Answer) (after : H → Comm
                   subst (λ c. IsFirst c s3.bus.first turn.0) (sym count_after) (subst (λ f. IsFirst count f turn.0) (sym first_after) turn.2),
                 );
               };
-              late = late_all;
+              late = late_all k;
             }
 
     -- ---- rounds
 
-    -- the rounds of one reader among those of all
-    pub record HasRounds (k : ℕ) (t : line.Site H) (m away : ℕ) (s : LineState H) (n : Net H) : Type 0 where
+    -- the rounds of the reader at place k among those of all
+    pub record HasRounds (t : line.Site H) (m away : ℕ) (s : LineState H) (n : Net H) : Type 0 where
       pub last : Net H
       pub follows : Follows (simulation.run answer_of after (rounds m wait) s) last
       pub moments : List ℕ
@@ -333,24 +364,70 @@ module _ {H : Type 0} (answer_of : H → Command → Answer) (after : H → Comm
     no_turn zero away some few = omega arith
     no_turn (suc turns) away some few = absurd (omega (arith, some, few))
 
-    own_turn : (turns m more : ℕ) → 0 < count → ((less : ℕ) → all_turns less count + (count - 1) ≤ m + (count - 1) → less ≤ more)
-        → all_turns turns count + 0 ≤ suc m + (count - 1) → turns ≤ suc more
-    own_turn zero m more some rest few = omega arith
-    own_turn (suc turns) m more some rest few = let one = rest turns (omega (arith, some, few)) in omega (arith, one)
+    own_turn : (turns m more away : ℕ) → 0 < count → ((less : ℕ) → all_turns less count + (count - 1) ≤ m + (count - 1) → less ≤ more)
+        → all_turns turns count + away ≤ suc m + (count - 1) → turns ≤ suc more
+    own_turn zero m more away some rest few = omega arith
+    own_turn (suc turns) m more away some rest few = let one = rest turns (omega (arith, some, few)) in omega (arith, one)
 
     abbrev after_round : LineState H → LineState H
     after_round s =
         after_step answer_of after (step.ToController Deliver) (after_step answer_of after (step.ToReader Deliver) (after_step answer_of after (step.Wait wait) s))
 
-    -- the rounds that come after one
-    abbrev More : ℕ → ℕ → ℕ → LineState H → Net H → Type 0
-    More k m entry s n = (it : NextRound entry s n) (less : ℕ) (u : line.Site H) → site_at k (round_net answer_of after peers entry it.now n).sites ≡ Some u
-        → IsAway count it.next k less → HasRounds k u m less (after_round s) (round_net answer_of after peers entry it.now n)
+    module _ (m entry : ℕ) (s : LineState H) (n : Net H) (it : NextRound entry s n) (t : line.Site H) (there : site_at k n.sites ≡ Some t) where
+      abbrev later_net : Net H
+      later_net = round_net answer_of after peers it.at it.now n
 
-    pub all_rounds : (m entry away : ℕ) (s : LineState H) (n : Net H) → AtRest count wait entry s n → FitAlong answer_of after (rounds m wait) s
-        → NoEnds (simulation.run answer_of after (rounds m wait) s) → (k : ℕ) (t : line.Site H) → site_at k n.sites ≡ Some t
-        → IsAway count entry k away → HasRounds k t m away s n
-    all_rounds zero entry away s n h fits lasts k t at is = record {
+      abbrev seen_now_there : IsSeen answer_of after peers k t (its_round answer_of after peers it.at k it.now) n later_net
+      seen_now_there = it.round.each k t there
+
+      abbrev Later : ℕ → Type 0
+      Later away = HasRounds seen_now_there.site m away (after_round s) later_net
+
+      -- its own turn: all others may come before the next
+      own_round : it.at ≡ k → (away : ℕ) → 0 < count → Later (count - 1) → HasRounds t (suc m) away s n
+      own_round own away some more =
+          let now = it.now in
+          let here = ap (λ j. site_at j n.sites) own ∙ there in
+          let through : view k seen_now_there.site later_net ≡ link.run answer_of after (progress.round now) (view k t n) =
+          seen_now_there.moved ∙ ap (λ b. link.run answer_of after (cond b (progress.round now) []) (view k t n)) (is_true it.at k own) in
+          let first = subst (λ j. MovesFit answer_of after (progress.round now) (view j t n)) own (it.round.fits t here) in
+          record {
+            last = more.last;
+            follows = more.follows;
+            moments = now ∷ more.moments;
+            seen_then = record {
+              site = more.seen_then.site;
+              there = more.seen_then.there;
+              moved = more.seen_then.moved ∙ ap (link.run answer_of after (progress.rounds more.moments)) through;
+            };
+            fits = (first.0, (first.1.0, (first.1.1.0, subst (MovesFit answer_of after (progress.rounds more.moments)) through more.fits)));
+            late = (it.late t there, subst (progress.AreLate answer_of after more.moments) through more.late);
+            enough = λ turns few. own_turn turns m (length more.moments) away some more.enough few;
+          }
+
+      -- a turn of another that comes before it: one less
+      other_round : (it.at ≡ k → ⊥) → (away : ℕ) → 1 ≤ away → Later (away - 1) → HasRounds t (suc m) away s n
+      other_round other away some more =
+          let stays : view k seen_now_there.site later_net ≡ view k t n =
+          seen_now_there.moved ∙ ap (λ b. link.run answer_of after (cond b (progress.round it.now) []) (view k t n)) (is_false it.at k other) in
+          record {
+            last = more.last;
+            follows = more.follows;
+            moments = more.moments;
+            seen_then = record {
+              site = more.seen_then.site;
+              there = more.seen_then.there;
+              moved = more.seen_then.moved ∙ ap (link.run answer_of after (progress.rounds more.moments)) stays;
+            };
+            fits = subst (MovesFit answer_of after (progress.rounds more.moments)) stays more.fits;
+            late = subst (progress.AreLate answer_of after more.moments) stays more.late;
+            enough = λ turns few. more.enough turns (omega (arith, few, some));
+          }
+
+    pub all_rounds : (m entry away : ℕ) (s : LineState H) (n : Net H) → AtRest count wait k entry s n → FitAlong answer_of after (rounds m wait) s
+        → NoEnd k (simulation.run answer_of after (rounds m wait) s) → (t : line.Site H) → site_at k n.sites ≡ Some t
+        → IsAway count entry k away → HasRounds t m away s n
+    all_rounds zero entry away s n h fits lasts t at is = record {
       last = n;
       follows = h.follows;
       moments = [];
@@ -359,55 +436,18 @@ module _ {H : Type 0} (answer_of : H → Command → Answer) (after : H → Comm
       late = tt;
       enough = λ turns few. no_turn turns away (let below = h.below in omega (arith, below)) few;
     }
-    all_rounds (suc m) entry away s n h fits lasts k t at is =
-        let one = one_round entry s n h (fits.0, (fits.1.0, (fits.1.1.0, tt))) (none_before_rounds answer_of after m wait _ lasts) in
+    all_rounds (suc m) entry away s n h fits lasts t at is =
+        let it = one_round entry s n h (fits.0, (fits.1.0, (fits.1.1.0, tt))) (none_before_rounds answer_of after k m wait _ lasts) in
         let below = h.below in
         let same = h.count_is in
-        let there = site_within k t n.sites at in
-        by_turn one (omega (arith, there, same)) away is
-        (λ it less u here away. all_rounds m it.next less (after_round s) (round_net answer_of after peers entry it.now n) it.rest fits.1.1.1 lasts k u here away)
-      where
-        by_turn : NextRound entry s n → k < count → (away : ℕ) → IsAway count entry k away → More k m entry s n → HasRounds k t (suc m) away s n
-        by_turn one there zero is again =
-            let own = away_own count entry k h.below there is in
-            let seen = one.round.each k t at in
-            let more = again one (count - 1) seen.site seen.there
-            (away_again count entry one.next k h.below there one.after_it is) in
-            let here = ap (λ j. site_at j n.sites) own ∙ at in
-            let now = one.now in
-            let through : view k seen.site (round_net answer_of after peers entry now n) ≡ link.run answer_of after (progress.round now) (view k t n) =
-            seen.moved ∙ ap (λ b. link.run answer_of after (cond b (progress.round now) []) (view k t n)) (is_true entry k own) in
-            let first = subst (λ j. MovesFit answer_of after (progress.round now) (view j t n)) own (one.round.fits t here) in
-            record {
-              last = more.last;
-              follows = more.follows;
-              moments = now ∷ more.moments;
-              seen_then = record {
-                site = more.seen_then.site;
-                there = more.seen_then.there;
-                moved = more.seen_then.moved ∙ ap (link.run answer_of after (progress.rounds more.moments)) through;
-              };
-              fits = (first.0, (first.1.0, (first.1.1.0, subst (MovesFit answer_of after (progress.rounds more.moments)) through more.fits)));
-              late = (one.late k t at, subst (progress.AreLate answer_of after more.moments) through more.late);
-              enough = λ turns few. own_turn turns m (length more.moments) (let below = h.below in omega (arith, below)) more.enough few;
-            }
-        by_turn one there (suc less) is again =
-            let other = away_other count entry k less h.below there is in
-            let seen = one.round.each k t at in
-            let more = again one less seen.site seen.there
-            (away_next count entry one.next k less h.below there one.after_it is) in
-            let stays : view k seen.site (round_net answer_of after peers entry one.now n) ≡ view k t n =
-            seen.moved ∙ ap (λ b. link.run answer_of after (cond b (progress.round one.now) []) (view k t n)) (is_false entry k other) in
-            record {
-              last = more.last;
-              follows = more.follows;
-              moments = more.moments;
-              seen_then = record {
-                site = more.seen_then.site;
-                there = more.seen_then.there;
-                moved = more.seen_then.moved ∙ ap (link.run answer_of after (progress.rounds more.moments)) stays;
-              };
-              fits = subst (MovesFit answer_of after (progress.rounds more.moments)) stays more.fits;
-              late = subst (progress.AreLate answer_of after more.moments) stays more.late;
-              enough = λ turns few. more.enough turns (omega (arith, few));
-            }
+        let within = site_within k t n.sites at in
+        let there : k < count = omega (arith, within, same) in
+        let seen = it.round.each k t at in
+        let later : (less : ℕ) → IsAway count it.next k less → Later m entry s n it t at less =
+        λ less here. all_rounds m it.next less (after_round s) (round_net answer_of after peers it.at it.now n) it.rest fits.1.1.1 lasts seen.site seen.there here in
+        elim (eqb_tells it.at k) [
+          | inl equal ↦ own_round m entry s n it t at equal.1 away (omega (arith, below)) (later (count - 1) (once_around count it.next k it.rest.below there))
+          | inr differs ↦ (
+              let less = away_next count entry it.at k it.next away h.below it.few there (it.before differs.1) it.after_it is in
+              other_round m entry s n it t at differs.1 away less.0 (later (away - 1) less.1))
+        ]

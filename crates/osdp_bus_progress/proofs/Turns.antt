@@ -1,18 +1,22 @@
--- Whose turn it is where every entry is due: that of who holds the line, or else that of the entry that is asked first.
-use Rattle.std.proofs.Common.{◌≡◌, ◌≤◌, ◌<◌, ◌+◌, ◌-◌, ℕ, zero, suc, max, ◌||◌, ◌&&◌, Bool, true, false, if◌then◌else◌, List, [], ◌∷◌, length, Option, Some, None, inl, inr, refl, sym, ap, ◌∙◌, arith}
+-- Whose turn it is where each entry is due whose session lasts: that of who holds the line, or else of the first in turn that is due.
+use Rattle.std.proofs.Common.{◌≡◌, ◌≤◌, ◌<◌, ◌+◌, ◌-◌, ℕ, zero, suc, max, ◌||◌, ◌&&◌, Bool, true, false, if◌then◌else◌, List, [], ◌∷◌, length, Option, Some, None, inl, inr, refl, sym, subst, ap, ◌∙◌, arith}
 use Rattle.std.proofs.lemmas.Bool.{ltb-true, ltb-false}
 use Rattle.std.specs.Prelude.{not, ◌⊎◌, is_some, nat_lt, slice_get}
 use Rattle.std.specs.Option.{option_map_or}
+use Rattle.osdp_controller.specs.Machine.{is_outstanding}
+use Rattle.osdp_controller.specs.declared.state.State.{State}
+use Rattle.osdp_controller.specs.declared.state.State.TheVariants.{Closed}
 use Rattle.osdp_bus.specs.Buses.{BusState, device_of, has_report, holder, seen}
 use Rattle.osdp_bus.specs.Devices.{holds, is_device_due}
 use Rattle.osdp_bus.specs.Hearing.{ends_run, ends_silent}
 use Rattle.osdp_bus.specs.Ticking.{bus_ticks, is_due_at, is_held_and_due, next_due, stays, ticks_at, ticks_by, ticks_free, ticks_held, ticks_on, ticks_with}
 use Rattle.osdp_bus.specs.declared.device.Device.{Device}
 use Rattle.osdp_bus_laws.proofs.Exchanging.{has_exchange}
-use Rattle.osdp_bus_laws.proofs.Turning.{next_is_due, strictly}
-use Rattle.osdp_bus_laws.specs.Turns.{IsBefore, IsDueEntry, IsNext}
+use Rattle.osdp_bus_laws.proofs.Sound.{nobody}
+use Rattle.osdp_bus_laws.proofs.Turning.{due_is_next, none_is_due, strictly}
+use Rattle.osdp_bus_laws.specs.Turns.{IsBefore, IsDueEntry}
 use Rattle.osdp_bus_links.proofs.Ticks.{nothing_ends, nothing_silent}
-use Rattle.osdp_bus_progress.proofs.Along.{AllAre}
+use Rattle.osdp_bus_progress.proofs.Along.{AllAre, OneHolds}
 
 -- the entry that is asked first: around, where the number is past the last
 abbrev pub IsFirst : ℕ → ℕ → ℕ → Type 0
@@ -22,11 +26,6 @@ abbrev pub IsTurn : ℕ → BusState → Type 0
 IsTurn entry b = (holder b ≡ Some entry) ⊎ ((holder b ≡ None) × IsFirst (length b.devices.entries) b.first entry)
 
 -- ---- places
-
-pub device_there : (i : ℕ) (ds : List Device) → i < length ds → (d : Device) × (slice_get ds i ≡ Some d)
-device_there i [] few = absurd (omega (arith, few))
-device_there zero (d ∷ ds) few = (d, refl)
-device_there (suc i) (d ∷ ds) few = device_there i ds (omega (arith, few))
 
 pub within : (i : ℕ) (d : Device) (ds : List Device) → slice_get ds i ≡ Some d → i < length ds
 within i d [] at = absurd cc
@@ -51,63 +50,110 @@ some_turn b some = by_holder (holder b) refl
     by_holder None free =
         let next = first_around (length b.devices.entries) b.first some in (next.0, next.1, inr (free, next.2))
 
--- ---- where every entry is due
+-- ---- where each entry is due whose session lasts
 
-abbrev pub AllDue : ℕ → List Device → Type 0
-AllDue now ds = AllAre (λ d. is_device_due now d ≡ true) ds
+abbrev pub Lasts : Device → Type 0
+Lasts d = d.controller.session.state ≡ Closed → ⊥
 
-module _ (b : BusState) (due : AllDue b.greatest b.devices.entries) where
-  due_entry : (i : ℕ) (d : Device) → slice_get b.devices.entries i ≡ Some d → IsDueEntry i b
-  due_entry i d at = record { device = d; there = at; due = due i d at }
+abbrev pub LastingDue : ℕ → List Device → Type 0
+LastingDue now ds = AllAre (λ d. Lasts d → is_device_due now d ≡ true) ds
 
-  first_next : (entry : ℕ) (d : Device) → slice_get b.devices.entries entry ≡ Some d → IsFirst (length b.devices.entries) b.first entry → IsNext entry b
-  first_next entry d at first = record { due = due_entry entry d at; first = λ other is apart. by_first first other (within other is.device b.devices.entries is.there) apart }
-    where
-      by_first : IsFirst (length b.devices.entries) b.first entry → (other : ℕ) → other < length b.devices.entries → (other ≡ entry → ⊥) → IsBefore b.first entry other
-      by_first (inl here) other few apart = by_side (nat_lt other b.first) refl
-        where
-          by_side : (t : Bool) → nat_lt other b.first ≡ t → IsBefore b.first entry other
-          by_side true lt = let below = ltb-true other b.first lt in inr (inr (below, omega (arith, here)))
-          by_side false ge =
-              let above = ltb-false other b.first ge in
-              inl (omega (arith, here), strictly entry other (omega (arith, above, here)) apart)
-      by_first (inr (zeroth, past)) other few apart =
-          inr (inl (strictly entry other (omega (arith, zeroth)) apart, omega (arith, few, past)))
+outstanding_lasts : (state : State) → is_outstanding state ≡ true → state ≡ Closed → ⊥
+outstanding_lasts state stands closed = absurd (let none : is_outstanding state ≡ false = ap is_outstanding closed in cc)
 
-  is_due_here : (entry : ℕ) (d : Device) → device_of entry b ≡ Some d → is_due_at entry b ≡ true
-  is_due_here entry d at = ap (λ o. option_map_or (is_device_due b.greatest) o false) at ∙ due entry d at
+-- one comes before all others, where it is asked first
+first_before : (entry k : ℕ) → (entry ≡ k → ⊥) → IsBefore entry entry k
+first_before entry k other = by_side (nat_lt k entry) refl
+  where
+    by_side : (t : Bool) → nat_lt k entry ≡ t → IsBefore entry entry k
+    by_side true lt = inr (inr (ltb-true k entry lt, omega arith))
+    by_side false ge = inl (omega arith, strictly entry k (ltb-false k entry ge) (λ e. other (sym e)))
 
-  -- the entry whose turn it is ticks
-  turn_ticks : (entry : ℕ) → b.held ≡ [] → has_report b ≡ false → IsTurn entry b → (d : Device) → device_of entry b ≡ Some d
-      → ticks_on b ≡ ticks_with entry (Some d) b
-  turn_ticks entry held none (inl here) d at =
+-- around, where the number is past the last
+before_around : (count first entry at k : ℕ) → at < count → k < count → IsFirst count first entry → IsBefore first at k → IsBefore entry at k
+before_around count first entry at k few within (inl here) before = subst (λ f. IsBefore f at k) here before
+before_around count first entry at k few within (inr (zeroth, past)) (inl (above, below)) = absurd (omega (arith, past, above, few))
+before_around count first entry at k few within (inr (zeroth, past)) (inr (inl (below, under))) = inl (omega (arith, zeroth), below)
+before_around count first entry at k few within (inr (zeroth, past)) (inr (inr (under, above))) = absurd (omega (arith, past, above, few))
+
+-- the entry that ticks: nobody else holds the line, and around from the one that is asked first it comes before one that is due
+pub record Ticks (entry k : ℕ) (b : BusState) : Type 0 where
+  pub at : ℕ
+  pub device : Device
+  pub there : device_of at b ≡ Some device
+  pub due : is_device_due b.greatest device ≡ true
+  pub alone : (i : ℕ) (d : Device) → slice_get b.devices.entries i ≡ Some d → holds d ≡ true → i ≡ at
+  pub before : (at ≡ k → ⊥) → IsBefore entry at k
+  pub ticks : ticks_on b ≡ ticks_with at (Some device) b
+
+module _ (b : BusState) (due : LastingDue b.greatest b.devices.entries) (one : OneHolds b.devices) where
+  is_due_here : (entry : ℕ) (d : Device) → device_of entry b ≡ Some d → is_device_due b.greatest d ≡ true → is_due_at entry b ≡ true
+  is_due_here entry d at is = ap (λ o. option_map_or (is_device_due b.greatest) o false) at ∙ is
+
+  turn_ticks : (entry k : ℕ) → b.held ≡ [] → has_report b ≡ false → IsTurn entry b → IsDueEntry k b → Ticks entry k b
+  turn_ticks entry k held none (inl here) mine =
       let x = has_exchange entry b here in
-      let same : x.device ≡ d = (let e = sym x.there ∙ at in cc) in
+      let d = x.device in
+      let due_d = due entry d x.there (outstanding_lasts d.controller.session.state x.outstanding) in
       let both : is_held_and_due entry b ≡ true =
-      ap (λ o. option_map_or holds o false && is_due_at entry b) at
-      ∙ ap (λ h. h && is_due_at entry b) (sym (ap holds same) ∙ x.outstanding)
-      ∙ is_due_here entry d at in
-      ap (λ o. ticks_by o b) here
-      ∙ ap (λ t. if t then ticks_held entry (ends_run b) else stays b) (is_due_here entry d at)
-      ∙ ap (ticks_held entry) (nothing_ends b held)
-      ∙ ap (λ t. if t || not (is_held_and_due entry b) then stays b else ticks_at (Some entry) b) none
-      ∙ ap (λ t. if not t then stays b else ticks_at (Some entry) b) both
-      ∙ ap (λ o. ticks_with entry o b) at
-  turn_ticks entry held none (inr (free, first)) d at =
-      ap (λ o. ticks_by o b) free
-      ∙ ap ticks_free (nothing_ends b held)
-      ∙ ap (λ t. if t then stays b else ticks_at (next_due b) b) none
-      ∙ ap (λ o. ticks_at o b) (next_is_due entry b (first_next entry d at first))
-      ∙ ap (λ o. ticks_with entry o b) at
+      ap (λ o. option_map_or holds o false && is_due_at entry b) x.there
+      ∙ ap (λ h. h && is_due_at entry b) x.outstanding
+      ∙ is_due_here entry d x.there due_d in
+      record {
+        at = entry;
+        device = d;
+        there = x.there;
+        due = due_d;
+        alone = λ i e at h. one i entry e d at x.there h x.outstanding;
+        before = first_before entry k;
+        ticks = ap (λ o. ticks_by o b) here
+            ∙ ap (λ t. if t then ticks_held entry (ends_run b) else stays b) (is_due_here entry d x.there due_d)
+            ∙ ap (ticks_held entry) (nothing_ends b held)
+            ∙ ap (λ t. if t || not (is_held_and_due entry b) then stays b else ticks_at (Some entry) b) none
+            ∙ ap (λ t. if not t then stays b else ticks_at (Some entry) b) both
+            ∙ ap (λ o. ticks_with entry o b) x.there;
+      }
+  turn_ticks entry k held none (inr (free, first)) mine = by_next (next_due b) refl
+    where
+      by_next : (o : Option ℕ) → next_due b ≡ o → Ticks entry k b
+      by_next None nobody_due = absurd (none_is_due b nobody_due k mine)
+      by_next (Some at) is =
+          let next = due_is_next at b is in
+          let d = next.due.device in
+          let few = within at d b.devices.entries next.due.there in
+          record {
+            at = at;
+            device = d;
+            there = next.due.there;
+            due = next.due.due;
+            alone = λ i e at h. absurd (nobody b free i e at h);
+            before = λ other.
+                before_around (length b.devices.entries) b.first entry at k few (within k mine.device b.devices.entries mine.there) first
+                (next.first k mine (λ e. other (sym e)));
+            ticks = ap (λ o. ticks_by o b) free
+                ∙ ap ticks_free (nothing_ends b held)
+                ∙ ap (λ t. if t then stays b else ticks_at (next_due b) b) none
+                ∙ ap (λ o. ticks_at o b) is
+                ∙ ap (λ o. ticks_with at o b) next.due.there;
+          }
 
 -- so it is of a tick of the whole bus
-pub tick_is : (now entry : ℕ) (b : BusState) → AllDue (max b.greatest now) b.devices.entries → b.held ≡ [] → b.devices.report ≡ None → IsTurn entry b
-    → (d : Device) → device_of entry b ≡ Some d → bus_ticks now b ≡ ticks_with entry (Some d) (seen now b)
-tick_is now entry b due held none turn d at =
+pub record BusTicks (now entry k : ℕ) (b : BusState) : Type 0 where
+  pub turn : Ticks entry k (seen now b)
+  pub ticks : bus_ticks now b ≡ ticks_with turn.at (Some turn.device) (seen now b)
+
+pub tick_is : (now entry k : ℕ) (b : BusState) → LastingDue (max b.greatest now) b.devices.entries → OneHolds b.devices → b.held ≡ []
+    → b.devices.report ≡ None → IsTurn entry b → (d : Device) → device_of k b ≡ Some d → is_device_due (max b.greatest now) d ≡ true
+    → BusTicks now entry k b
+tick_is now entry k b due one held none turn d at mine =
     let silent : has_report b ≡ false = ap (λ o. is_some o) none in
-    ap (λ t. if t then stays (seen now b) else ticks_on (ends_silent (seen now b))) silent
-    ∙ ap ticks_on (nothing_silent (seen now b) held)
-    ∙ turn_ticks (seen now b) due entry held silent turn d at
+    let is = turn_ticks (seen now b) due one entry k held silent turn (record { device = d; there = at; due = mine }) in
+    record {
+      turn = is;
+      ticks = ap (λ t. if t then stays (seen now b) else ticks_on (ends_silent (seen now b))) silent
+          ∙ ap ticks_on (nothing_silent (seen now b) held)
+          ∙ is.ticks;
+    }
 
 -- ---- the next
 
@@ -119,54 +165,39 @@ pub next_turn : (count entry next : ℕ) → next < count → entry < count → 
 next_turn count entry next few within (inl here) = inl (sym here)
 next_turn count entry next few within (inr (zeroth, past)) = inr (zeroth, omega (arith, past, within))
 
--- how many turns of others come before that of an entry
-pub record IsAway (count entry k away : ℕ) : Type 0 where
-  pub below : away < count
-  pub place : (entry + away ≡ k) ⊎ (entry + away ≡ k + count)
+-- around from the entry that is asked first, one has its turn after so many turns of others at most
+abbrev pub IsAway : ℕ → ℕ → ℕ → ℕ → Type 0
+IsAway count entry k away = ((entry ≤ k) × (k ≤ entry + away)) ⊎ ((k < entry) × (k + count ≤ entry + away))
 
-pub some_away : (count entry k : ℕ) → entry < count → k < count → (away : ℕ) × IsAway count entry k away
-some_away count entry k here there = by_side (nat_lt k entry) refl
+pub once_around : (count entry k : ℕ) → entry < count → k < count → IsAway count entry k (count - 1)
+once_around count entry k here there = by_side (nat_lt k entry) refl
   where
-    by_side : (t : Bool) → nat_lt k entry ≡ t → (away : ℕ) × IsAway count entry k away
-    by_side true lt =
-        let below = ltb-true k entry lt in
-        (k + count - entry, record { below = omega (arith, below, here); place = inr (omega (arith, below, here, there)) })
-    by_side false ge =
-        let above = ltb-false k entry ge in
-        (k - entry, record { below = omega (arith, above, there); place = inl (omega (arith, above)) })
+    by_side : (t : Bool) → nat_lt k entry ≡ t → IsAway count entry k (count - 1)
+    by_side true lt = let below = ltb-true k entry lt in inr (below, omega (arith, below, here, there))
+    by_side false ge = let above = ltb-false k entry ge in inl (above, omega (arith, above, there))
 
-pub away_own : (count entry k : ℕ) → entry < count → k < count → IsAway count entry k 0 → entry ≡ k
-away_own count entry k here there is = by_place is.place
+-- a turn of another that comes before: one less, counted from the place after it
+abbrev Less : ℕ → ℕ → ℕ → ℕ → Type 0
+Less count at k away = (1 ≤ away) × IsAway count (at + 1) k (away - 1)
+
+away_less : (count entry at k away : ℕ) → entry < count → at < count → k < count → IsBefore entry at k → IsAway count entry k away → Less count at k away
+away_less count entry at k away here few there (inl (above, below)) (inl (low, high)) =
+    (omega (arith, above, below, high), inl (omega (arith, below), omega (arith, above, below, high)))
+away_less count entry at k away here few there (inl (above, below)) (inr (low, high)) = absurd (omega (arith, above, below, low))
+away_less count entry at k away here few there (inr (inl (below, under))) (inl (low, high)) = absurd (omega (arith, under, low))
+away_less count entry at k away here few there (inr (inl (below, under))) (inr (low, high)) =
+    (omega (arith, here, high), inl (omega (arith, below), omega (arith, here, high)))
+away_less count entry at k away here few there (inr (inr (under, above))) (inl (low, high)) = absurd (omega (arith, under, low))
+away_less count entry at k away here few there (inr (inr (under, above))) (inr (low, high)) =
+    (omega (arith, above, few, high), inr (omega (arith, under, above), omega (arith, above, few, high)))
+
+-- .. or from the first, around
+pub away_next : (count entry at k next away : ℕ) → entry < count → at < count → k < count → IsBefore entry at k → IsAfter count at next
+    → IsAway count entry k away → (1 ≤ away) × IsAway count next k (away - 1)
+away_next count entry at k next away here few there before after is =
+    let less = away_less count entry at k away here few there before is in (less.0, around after less.1)
   where
-    by_place : (entry + 0 ≡ k) ⊎ (entry + 0 ≡ k + count) → entry ≡ k
-    by_place (inl same) = omega (arith, same)
-    by_place (inr past) = absurd (omega (arith, past, here))
-
-pub away_other : (count entry k away : ℕ) → entry < count → k < count → IsAway count entry k (suc away) → entry ≡ k → ⊥
-away_other count entry k away here there is same = by_place is.place
-  where
-    by_place : (entry + suc away ≡ k) ⊎ (entry + suc away ≡ k + count) → ⊥
-    by_place (inl place) = absurd (omega (arith, place, same))
-    by_place (inr past) = absurd (let below = is.below in omega (arith, past, same, below))
-
--- a turn of another: one less
-pub away_next : (count entry next k away : ℕ) → entry < count → k < count → IsAfter count entry next → IsAway count entry k (suc away)
-    → IsAway count next k away
-away_next count entry next k away here there after is = record { below = (let below = is.below in omega (arith, below)); place = by_both after is.place }
-  where
-    by_both : IsAfter count entry next → (entry + suc away ≡ k) ⊎ (entry + suc away ≡ k + count) → (next + away ≡ k) ⊎ (next + away ≡ k + count)
-    by_both (inl one) (inl place) = inl (omega (arith, one, place))
-    by_both (inl one) (inr past) = inr (omega (arith, one, past))
-    by_both (inr (zeroth, last)) (inl place) = absurd (omega (arith, last, place, there))
-    by_both (inr (zeroth, last)) (inr past) = inl (omega (arith, zeroth, last, past))
-
--- its own: all others come before the next
-pub away_again : (count entry next k : ℕ) → entry < count → k < count → IsAfter count entry next → IsAway count entry k 0 → IsAway count next k (count - 1)
-away_again count entry next k here there after is = record { below = omega (arith, here); place = by_after after }
-  where
-    same : entry ≡ k
-    same = away_own count entry k here there is
-
-    by_after : IsAfter count entry next → (next + (count - 1) ≡ k) ⊎ (next + (count - 1) ≡ k + count)
-    by_after (inl one) = inr (omega (arith, one, same, here))
-    by_after (inr (zeroth, last)) = inl (omega (arith, zeroth, last, same))
+    around : IsAfter count at next → IsAway count (at + 1) k (away - 1) → IsAway count next k (away - 1)
+    around (inl one) less = subst (λ n. IsAway count n k (away - 1)) (sym one) less
+    around (inr (zeroth, last)) (inl (low, high)) = absurd (omega (arith, last, low, there))
+    around (inr (zeroth, last)) (inr (low, high)) = inl (omega (arith, zeroth), omega (arith, zeroth, last, high))

@@ -1,50 +1,46 @@
--- Something comes through for each of several readers: of rounds that lose nothing every reader has its share, and each but the first of
--- them settles a command or reports an event.
-use Rattle.std.specs.Prelude.{◌≡◌, ◌≤◌, ℕ, zero, suc, ◌+◌, ◌-◌, ◌/◌, min, true, false, All, List, [], ◌∷◌, ◌++◌, length, Some, slice_get}
+-- Something comes through for each of several readers: after m rounds that lose nothing each of n readers has m / n - 1 more commands and
+-- events settled and reported, or all of them.
+use Rattle.std.specs.Prelude.{◌≡◌, ◌≤◌, ℕ, zero, suc, ◌+◌, ◌-◌, ◌/◌, min, true, false, All, List, [], ◌∷◌, ◌++◌, length, Some, slice_get, Ok}
+use Rattle.std.specs.Global.{Vec}
 use Rattle.osdp_msg.specs.declared.command.Command.{Command}
 use Rattle.osdp_controller_laws.specs.Calls.{longest_wait}
+use Rattle.osdp_reader.specs.declared.config.ReaderConfig.{ReaderConfig}
 use Rattle.osdp_reader.specs.declared.handler.Answer.{Answer}
 use Rattle.osdp_bus.specs.Settings.{controller_config}
 use Rattle.osdp_bus.specs.declared.config.BusConfig.{BusConfig}
 use Rattle.osdp_link_laws.specs.Progress.{SetsNoAddress}
 use Rattle.osdp_sim.specs.Account.{Account}
-use Rattle.osdp_sim.specs.declared.step.Move.TheVariants.{Drop}
+use Rattle.osdp_sim.specs.declared.account.Account as declared
 use Rattle.osdp_sim.specs.declared.step.SimStep.{SimStep}
-use Rattle.osdp_sim.specs.declared.step.SimStep.TheVariants.{Busy, ToController, ToReader}
-use Rattle.osdp_sim_bus.specs.Runs.{AreSettings, FitAlong, is_well, run}
+use Rattle.osdp_sim.specs.declared.step.SimStep.TheVariants.{Busy}
+use Rattle.osdp_sim_bus.specs.Runs.{AreSettings, FitAlong, is_well, lists_of_all, run}
 use Rattle.osdp_sim_bus.specs.State.{Given, LineState, Site, accounts, set_up}
 use Rattle.osdp_sim_laws.specs.Accounts.{IsInSession}
-use Rattle.osdp_sim_laws.specs.Progress.{done, rounds}
+use Rattle.osdp_sim_bus_laws.specs.Accounts.{EachMeets, IsAnswer}
+use Rattle.osdp_sim_laws.specs.Progress.{HasComeThrough, done, losses, rounds}
 
--- of so many rounds each of these readers has as many as they go into them. After these as many more of its commands and events but one
--- are settled and reported, or all are.
+-- m rounds are m / readers for each reader, rounded down. After them as many more of its commands and events but one are settled and
+-- reported, or all are.
 abbrev pub ComesOn : ℕ → ℕ → Account → Account → Type 0
 ComesOn m readers before a = min (done before + (m / readers - 1)) (length a.issued + length a.queued) ≤ done a
 
+-- so it is of each whose session has not ended
 abbrev pub EachComesOn : ℕ → ℕ → List Account → List Account → Type 0
 EachComesOn m readers before last = (k : ℕ) (old new : Account) → slice_get before k ≡ Some old → slice_get last k ≡ Some new
-    → ComesOn m readers old new
+    → new.ends ≡ [] → ComesOn m readers old new
 
 -- none of so many readers is busy any more ..
 abbrev pub all_ready : ℕ → List SimStep
 all_ready zero = []
 all_ready (suc n) = all_ready n ++ Busy (suc n) false ∷ []
 
--- .. and so many bursts are lost in each direction, if as many are on the line
-abbrev pub losses : ℕ → List SimStep
-losses zero = []
-losses (suc n) = ToReader Drop ∷ ToController Drop ∷ losses n
-
-abbrev pub clear : ℕ → ℕ → List SimStep
-clear readers most = all_ready readers ++ losses most
+-- .. and what is on the line is lost: no more than a burst in each direction for each of these steps
+abbrev pub clear : ℕ → List SimStep → List SimStep
+clear readers steps = all_ready readers ++ losses steps
 
 -- no COMSET to a device's address was issued
 abbrev pub NoneMoves : List Account → Type 0
 NoneMoves told = All (λ (a : Account). All SetsNoAddress a.issued) told
-
--- no session has ended
-abbrev pub NoneHasEnded : List Account → Type 0
-NoneHasEnded told = All (λ (a : Account). a.ends ≡ []) told
 
 module _ {H : Type 0} where
   -- the reader isn't busy, and no COMSET to a device's address was issued to it
@@ -66,22 +62,32 @@ module _ {H : Type 0} where
       pub fits : FitAlong answer_of after steps (set_up config readers)
 
     -- rounds as long as the longest of the four waits, after steps in which no session begins again and that leave the line clear:
-    -- something comes through for each reader, where no session has ended
+    -- something comes through for each reader whose session has not ended
     abbrev pub EachComesThrough : Type 0
     EachComesThrough = (config : BusConfig) (readers : List (Given H)) (steps : List SimStep) (m wait : ℕ)
         → IsRun config readers (steps ++ rounds m wait) → All IsInSession steps → longest_wait (controller_config 0 config) ≤ wait
         → let before = run answer_of after steps (set_up config readers) in
         IsClear before
         → let last = run answer_of after (steps ++ rounds m wait) (set_up config readers) in
-        NoneHasEnded (accounts last) → EachComesOn m (length readers) (accounts before) (accounts last)
+        EachComesOn m (length readers) (accounts before) (accounts last)
 
-    -- whatever the steps were in which no session begins again: after them the readers are set ready and all that is on the line is lost,
-    -- and over m rounds something comes through for each reader, where no COMSET to a device's address was issued and no session has ended
+    -- whatever the steps were in which no session begins again: after them the line is cleared, and over m rounds something comes through
+    -- for each reader whose session has not ended, where no COMSET to a device's address was issued
     abbrev pub EachRecovers : Type 0
-    EachRecovers = (config : BusConfig) (readers : List (Given H)) (steps : List SimStep) (most m wait : ℕ)
-        → IsRun config readers ((steps ++ clear (length readers) most) ++ rounds m wait) → All IsInSession steps
+    EachRecovers = (config : BusConfig) (readers : List (Given H)) (steps : List SimStep) (m wait : ℕ)
+        → IsRun config readers ((steps ++ clear (length readers) steps) ++ rounds m wait) → All IsInSession steps
         → longest_wait (controller_config 0 config) ≤ wait
         → let before = run answer_of after steps (set_up config readers) in
-        length before.to_readers ≤ most → length before.to_bus ≤ most → NoneMoves (accounts before)
-        → let last = run answer_of after ((steps ++ clear (length readers) most) ++ rounds m wait) (set_up config readers) in
-        NoneHasEnded (accounts last) → EachComesOn m (length readers) (accounts before) (accounts last)
+        NoneMoves (accounts before)
+        → let last = run answer_of after ((steps ++ clear (length readers) steps) ++ rounds m wait) (set_up config readers) in
+        EachComesOn m (length readers) (accounts before) (accounts last)
+
+    -- so it is of what `run_bus` answers: a reader whose session has not ended has its share of the rounds
+    abbrev pub HasItsShare : ℕ → ReaderConfig → H → Account → Type 0
+    HasItsShare count config handler a = a.ends ≡ [] → HasComeThrough answer_of after count config handler a
+
+    abbrev pub EachAnswerRecovers : Type 0
+    EachAnswerRecovers = (config : BusConfig) (readers : List (Given H)) (steps : List SimStep) (m wait : ℕ) (told : Vec declared.Account)
+        → IsAnswer answer_of after config readers ((steps ++ clear (length readers) steps) ++ rounds m wait) (Ok told)
+        → All IsInSession steps → longest_wait (controller_config 0 config) ≤ wait → NoneMoves (lists_of_all told.items)
+        → EachMeets (HasItsShare (m / length readers)) readers (lists_of_all told.items)

@@ -2,13 +2,13 @@
 //! laws.
 #![tactic(auto)]
 
-ghost use Rattle.osdp_bus_progress.specs.Progress.{EachComesThrough, EachRecovers};
+ghost use Rattle.osdp_bus_progress.specs.Progress.{EachAnswerRecovers, EachComesThrough, EachRecovers};
 
 use osdp_reader::Handler;
 
 /// After steps in which no session begins again and that leave nothing on the line, no reader busy and no COMSET to a device's address
-/// issued: over m rounds that lose nothing, each as long as the longest of the four waits or longer, each of n readers has m / n - 1 more
-/// of its commands and events, or all of them, settled and reported, where no session has ended.
+/// issued: over m rounds that lose nothing, each as long as the longest of the four waits or longer, each of n readers whose session has
+/// not ended has m / n - 1 more of its commands and events, or all of them, settled and reported.
 pub fn each_comes_through<H: Handler>()
     ensures { EachComesThrough H.answer_of H.after }
 {
@@ -24,13 +24,20 @@ pub fn each_comes_through<H: Handler>()
 }
 
 /// The same after any steps in which no session begins again, with no COMSET to a device's address issued: once every reader has been set
-/// ready and all bursts on the line have been lost, each of n readers has m / n - 1 more of its commands and events, or all of them, settled
-/// and reported over m such rounds, where no session has ended.
+/// ready and, for each of the steps, a burst has been lost in each direction, each of n readers whose session has not ended has m / n - 1
+/// more of its commands and events, or all of them, settled and reported over m such rounds.
+///
+/// So it is of the accounts that are answered where no step is refused and memory suffices: of each such reader m / n - 1 commands and
+/// events, or all of them, are settled and reported. Where m / n is more than all of them, each command issued is settled with this reader's
+/// own answer, and each event queued is reported.
 pub fn each_recovers<H: Handler>()
-    ensures { EachRecovers H.answer_of H.after }
+    ensures state { EachRecovers H.answer_of H.after }
+    ensures answer { EachAnswerRecovers H.answer_of H.after }
 {
     each_comes_through::<H>();
-    osdp_sim::laws::reads_packets();
+    osdp_sim_bus_laws::schedules_are_moves::<H>();
+    osdp_sim_bus_laws::each_account_holds_once::<H>();
+    osdp_link_laws::read_each_other::<H>();
     osdp_sim_bus::laws::tells_at_once::<H>();
     osdp_sim_bus::laws::has_an_account_each::<H>();
 }

@@ -9,3 +9,4 @@ pub mod Ends
 pub mod Holding
 pub mod Moments
 pub mod Schedules
+pub mod Answered

@@ -1,17 +1,20 @@
 -- Something comes through: after m rounds that lose nothing m - 1 more commands and events, or all of them, are settled and reported.
-use Rattle.std.specs.Prelude.{◌≡◌, ◌≤◌, ℕ, zero, suc, ◌+◌, ◌-◌, min, true, false, All, List, [], ◌∷◌, ◌++◌, length}
+use Rattle.std.specs.Prelude.{◌≡◌, ◌≤◌, ◌<◌, ℕ, zero, suc, ◌+◌, ◌-◌, min, true, false, All, List, [], ◌∷◌, ◌++◌, length, Ok}
 use Rattle.osdp_msg.specs.declared.command.Command.{Command}
 use Rattle.osdp_controller_laws.specs.Calls.{longest_wait}
+use Rattle.osdp_reader.specs.declared.config.ReaderConfig.{ReaderConfig}
 use Rattle.osdp_reader.specs.declared.handler.Answer.{Answer}
+use Rattle.osdp_link_laws.specs.Headline.{with_answers}
 use Rattle.osdp_link_laws.specs.Progress.{AreClear, SetsNoAddress}
-use Rattle.osdp_sim.specs.Account.{Account}
+use Rattle.osdp_sim.specs.Account.{Account, lists_of}
 use Rattle.osdp_sim.specs.Runs.{AreSettings, FitAlong, is_well, run}
 use Rattle.osdp_sim.specs.State.{SimState, set_up}
+use Rattle.osdp_sim.specs.declared.account.Account as declared
 use Rattle.osdp_sim.specs.declared.config.SimConfig.{SimConfig}
 use Rattle.osdp_sim.specs.declared.step.Move.TheVariants.{Deliver, Drop}
 use Rattle.osdp_sim.specs.declared.step.SimStep.{SimStep}
 use Rattle.osdp_sim.specs.declared.step.SimStep.TheVariants.{Busy, ToController, ToReader, Wait}
-use Rattle.osdp_sim_laws.specs.Accounts.{IsInSession}
+use Rattle.osdp_sim_laws.specs.Accounts.{IsAnswer, IsInSession}
 
 -- a round that loses nothing: time passes, then the burst to the reader comes through, and the one to the controller
 abbrev pub round : ℕ → List SimStep
@@ -35,6 +38,18 @@ done a = length a.settled + length a.reported
 -- after so many rounds as many more commands and events but one are settled and reported, or all are
 abbrev pub ComesOn : ℕ → Account → Account → Type 0
 ComesOn m before a = min (done before + (m - 1)) (length a.issued + length a.queued) ≤ done a
+
+module _ {H : Type 0} (answer_of : H → Command → Answer) (after : H → Command → H) where
+  -- each command issued is settled, with the reader's answer to it after those before it, and each event queued is reported
+  pub record IsDone (config : ReaderConfig) (handler : H) (a : Account) : Type 0 where
+    pub settled : a.settled ≡ with_answers answer_of after config handler a.issued
+    pub reported : a.reported ≡ a.queued
+
+  -- after so many rounds as many commands and events but one are settled and reported, or all are; so all are done where the rounds are
+  -- more than the commands and events
+  pub record HasComeThrough (count : ℕ) (config : ReaderConfig) (handler : H) (a : Account) : Type 0 where
+    pub some : min (count - 1) (length a.issued + length a.queued) ≤ done a
+    pub all : length a.issued + length a.queued < count → IsDone config handler a
 
 module _ {H : Type 0} where
   -- the line and both ends are clear, as those of a link are
@@ -67,3 +82,11 @@ module _ {H : Type 0} where
         → let last = run answer_of after ((steps ++ clear steps) ++ rounds m wait) (set_up config handler) in
         All SetsNoAddress last.account.issued → last.account.ends ≡ []
         → min (m - 1) (length last.account.issued + length last.account.queued) ≤ done last.account
+
+    -- so it is of what `run_session` answers
+    abbrev pub AnswerRecovers : Type 0
+    AnswerRecovers = (config : SimConfig) (handler : H) (steps : List SimStep) (m wait : ℕ) (account : declared.Account)
+        → IsAnswer answer_of after config handler ((steps ++ clear steps) ++ rounds m wait) (Ok account)
+        → All IsInSession steps → config.reader.address ≡ config.controller.address → longest_wait config.controller ≤ wait
+        → let a = lists_of account in
+        All SetsNoAddress a.issued → a.ends ≡ [] → HasComeThrough answer_of after m config.reader handler a

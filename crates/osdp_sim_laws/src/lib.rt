@@ -6,7 +6,7 @@ ghost use Rattle.osdp_sim_laws.specs.Accounts.{HoldsOnce, StaysInARow};
 ghost use Rattle.osdp_sim_laws.specs.Clean.{GoesInTurn};
 ghost use Rattle.osdp_sim_laws.specs.Moves.{ScheduleIsMoves};
 ghost use Rattle.osdp_sim_laws.specs.OneLink.{OneLink};
-ghost use Rattle.osdp_sim_laws.specs.Progress.{ComesThrough, Recovers};
+ghost use Rattle.osdp_sim_laws.specs.Progress.{AnswerRecovers, ComesThrough, Recovers};
 
 use osdp_reader::Handler;
 
@@ -49,11 +49,16 @@ pub fn schedule_holds_once<H: Handler>()
 /// After any steps of one session: once the reader is ready and what is on the line is lost, over m such rounds m - 1 commands and
 /// events, or all of them, are settled and reported, where both ends were at one address, no COMSET to a device's address was issued and
 /// the session hasn't ended.
+///
+/// So it is of the account that is answered where no step is refused and memory suffices. Where the rounds are more than its commands and
+/// events, each command issued is settled with the reader's own answer, and each event queued is reported.
 pub fn schedule_comes_through<H: Handler>()
     ensures onward { ComesThrough H.answer_of H.after }
     ensures recovers { Recovers H.answer_of H.after }
+    ensures answer { AnswerRecovers H.answer_of H.after }
 {
     stands_on_one_link::<H>();
+    schedule_holds_once::<H>();
     osdp_link_laws::comes_through::<H>();
     osdp_link_laws::stay_where_they_are::<H>();
     osdp_controller_laws::stays_in_range();

@@ -1,7 +1,12 @@
+use Rattle.osdp_bus_progress.proofs.Answered.{answer_recovers}
 use Rattle.osdp_bus_progress.proofs.Clearing.{each_recovers}
 use Rattle.osdp_bus_progress.proofs.each_recovers.Goals as goal
 
-pub returns : goal.returns
-returns g c =
-    each_recovers g.H.Handler.answer_of g.H.Handler.after c.each_comes_through.ensures c.reads_packets.ensures.none c.tells_at_once.ensures
-    c.has_an_account_each.ensures
+pub returns-clause-state : goal.returns-clause-state
+returns-clause-state g c =
+    each_recovers g.H.Handler.answer_of g.H.Handler.after c.each_comes_through.ensures c.schedules_are_moves.ensures.bus
+    c.schedules_are_moves.ensures.schedules c.read_each_other.ensures c.tells_at_once.ensures c.has_an_account_each.ensures
+
+pub returns-clause-answer : goal.returns-clause-answer
+returns-clause-answer g c =
+    answer_recovers g.H.Handler.answer_of g.H.Handler.after (returns-clause-state g c) c.each_account_holds_once.ensures.once c.has_an_account_each.ensures

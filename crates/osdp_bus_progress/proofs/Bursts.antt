@@ -1,0 +1,214 @@
+-- How many bursts are on the line: each step adds one at most in each direction, since one reader alone answers a packet.
+use Rattle.std.proofs.Common.{◌≡◌, ◌≤◌, ◌+◌, ◌-◌, ℕ, zero, suc, Bool, true, false, if◌then◌else◌, List, [], ◌∷◌, length, map, Option, Some, None, inl, inr, refl, sym, subst, ap, ◌∙◌, arith}
+use Rattle.std.proofs.lemmas.List.{length-append}
+use Rattle.std.specs.List.{flat_map}
+use Rattle.std.specs.Prelude.{◌⊎◌, ◌<◌}
+use Rattle.osdp_frame.specs.Items.{reading}
+use Rattle.osdp_frame.specs.Packet.{IsPacket, Packet}
+use Rattle.osdp_frame.specs.Spelling.{spelling}
+use Rattle.osdp_msg.specs.declared.command.Command.{Command}
+use Rattle.osdp_controller.specs.declared.report.Report.{Report}
+use Rattle.osdp_reader.specs.Table as reader
+use Rattle.osdp_reader.specs.State.{ReaderState}
+use Rattle.osdp_reader.specs.declared.handler.Answer.{Answer}
+use Rattle.osdp_bus.specs.Machine.{after_next_report, submit_refusal_at}
+use Rattle.osdp_bus.specs.Ticking.{bus_ticks}
+use Rattle.osdp_bus.specs.declared.config.BusConfig.{BusConfig}
+use Rattle.osdp_bus.specs.declared.fault.BusFault.{BusFault}
+use Rattle.osdp_link_laws.specs.Peers.{ReadEachOther}
+use Rattle.osdp_link_laws.proofs.Lines.{each_of}
+use Rattle.osdp_link_laws.proofs.Stages.{Each}
+use Rattle.osdp_multidrop.specs.Line as line
+use Rattle.osdp_multidrop.specs.Line.{Net, site_at}
+use Rattle.osdp_multidrop.specs.Runs.{IsSetUp}
+use Rattle.osdp_multidrop.specs.Views.{HeardByOwn}
+use Rattle.osdp_multidrop.proofs.Hearing.{silent}
+use Rattle.osdp_multidrop.proofs.Running.{by_own, holds_all, holds_first}
+use Rattle.osdp_bus_links.specs.Links.{packets_on}
+use Rattle.osdp_sim.proofs.Bursts.{no_packets}
+use Rattle.osdp_sim.proofs.Schedules.{HasCome, begins, first_well, goes_on}
+use Rattle.osdp_sim.specs.Line.{handed, left, packets_in, sent}
+use Rattle.osdp_sim.specs.Steps.{damage_fault, moment_after}
+use Rattle.osdp_sim.specs.declared.step.Move as way
+use Rattle.osdp_sim.specs.declared.step.Move.TheVariants.{Deliver, Drop, Repeat, Damage}
+use Rattle.osdp_sim.specs.declared.step.SimStep.{SimStep}
+use Rattle.osdp_sim.specs.declared.step.SimStep.TheVariants as step
+use Rattle.osdp_sim_bus.specs.Runs as simulation
+use Rattle.osdp_sim_bus.specs.Runs.{AreSettings, FitAlong, is_well}
+use Rattle.osdp_sim_bus.specs.State.{Given, LineState, Site, set_up}
+use Rattle.osdp_sim_bus.specs.Steps.{StepFits, after_step, all_hear_each, fault_of, hears_run, is_there, issued, site_says, told, waited}
+use Rattle.osdp_sim_laws.specs.OneLink.{ReadsPackets}
+use Rattle.osdp_sim_bus_laws.specs.Moves.{Follows, SchedulesAreMoves, SitesOf}
+use Rattle.osdp_sim_bus_laws.proofs.Beginning.{first_net, follows_first, is_set_up}
+
+one_sent : (o : Option Packet) → length (sent o) ≤ 1
+one_sent None = omega arith
+one_sent (Some p) = omega arith
+
+left_few : (move : way.Move) (bursts : List (List ℕ)) → length (left move bursts) ≤ length bursts
+left_few move [] = omega arith
+left_few Deliver (burst ∷ rest) = omega arith
+left_few Drop (burst ∷ rest) = omega arith
+left_few Repeat (burst ∷ rest) = omega arith
+left_few (Damage bytes) (burst ∷ rest) = omega arith
+
+module _ {H : Type 0} where
+  -- how many bursts are on the line at most, in each direction
+  abbrev pub AtMost : ℕ → LineState H → Type 0
+  AtMost n s = (length s.to_readers ≤ n) × (length s.to_bus ≤ n)
+
+  more : (n : ℕ) (s : LineState H) → AtMost n s → AtMost (n + 1) s
+  more n s few = (omega (arith, few.0), omega (arith, few.1))
+
+  where_few : (n : ℕ) (there : Bool) (new old : LineState H) → AtMost n old → AtMost (n + 1) new → AtMost (n + 1) (if there then new else old)
+  where_few n true new old few later = later
+  where_few n false new old few later = more n old few
+
+  issued_few : (n : ℕ) (fault : Option BusFault) (place : ℕ) (command : Command) (s : LineState H) → AtMost n s → AtMost (n + 1) (issued fault place command s)
+  issued_few n (Some fault) place command s few = more n s few
+  issued_few n None place command s few = more n s few
+
+  told_few : (n : ℕ) (o : Option (ℕ × Report)) (s : LineState H) → AtMost n s → AtMost n (told o s)
+  told_few n None s few = few
+  told_few n (Some (entry, report)) s few = few
+
+module _ {H : Type 0} (answer_of : H → Command → Answer) (after : H → Command → H) where
+  -- ---- one reader alone answers
+
+  abbrev answers : Packet → List (Site H) → List (List ℕ)
+  answers p us = flat_map (site_says answer_of after p) us
+
+  -- no reader of these is at the packet's address ..
+  abbrev NoneAt : Packet → List (line.Site H) → Type 0
+  NoneAt p ts = (k : ℕ) (t : line.Site H) → site_at k ts ≡ Some t → t.reader.config.address ≡ p.address → ⊥
+
+  -- .. or none but the one at this place
+  abbrev NoneButAt : ℕ → Packet → List (line.Site H) → Type 0
+  NoneButAt own p ts = (k : ℕ) (t : line.Site H) → (k ≡ own → ⊥) → site_at k ts ≡ Some t → t.reader.config.address ≡ p.address → ⊥
+
+  says_nothing : (p : Packet) (u : Site H) (t : line.Site H) → u.reader ≡ t.reader → p.address < 127 → (t.reader.config.address ≡ p.address → ⊥)
+      → length (site_says answer_of after p u) ≡ 0
+  says_nothing p u t same device away =
+      ap (λ (r : ReaderState H). length (sent (reader.hears answer_of after r p).reply)) same
+      ∙ ap (λ o. length (sent o)) (silent answer_of after p t device away).1
+
+  none_answer : (p : Packet) (us : List (Site H)) (ts : List (line.Site H)) → SitesOf us ts → p.address < 127 → NoneAt p ts → length (answers p us) ≤ 0
+  none_answer p [] [] all device away = omega arith
+  none_answer p [] (t ∷ ts) all device away = absurd all
+  none_answer p (u ∷ us) [] all device away = absurd all
+  none_answer p (u ∷ us) (t ∷ ts) all device away =
+      let first = says_nothing p u t all.0.reader device (away 0 t refl) in
+      let rest = none_answer p us ts all.1 device (λ k v at. away (suc k) v at) in
+      omega (arith, length-append (site_says answer_of after p u) (answers p us), first, rest)
+
+  one_answers : (own : ℕ) (p : Packet) (us : List (Site H)) (ts : List (line.Site H)) → SitesOf us ts → p.address < 127 → NoneButAt own p ts
+      → length (answers p us) ≤ 1
+  one_answers own p [] [] all device away = omega arith
+  one_answers own p [] (t ∷ ts) all device away = absurd all
+  one_answers own p (u ∷ us) [] all device away = absurd all
+  one_answers zero p (u ∷ us) (t ∷ ts) all device away =
+      let first = one_sent (reader.hears answer_of after u.reader p).reply in
+      let rest = none_answer p us ts all.1 device (λ k v at. away (suc k) v (λ e. absurd (omega (arith, e))) at) in
+      omega (arith, length-append (site_says answer_of after p u) (answers p us), first, rest)
+  one_answers (suc own) p (u ∷ us) (t ∷ ts) all device away =
+      let first = says_nothing p u t all.0.reader device (away 0 t (λ e. absurd (omega (arith, e))) refl) in
+      let rest = one_answers own p us ts all.1 device (λ k v other at. away (suc k) v (λ e. other (omega (arith, e))) at) in
+      omega (arith, length-append (site_says answer_of after p u) (answers p us), first, rest)
+
+  -- so what is handed over to the readers is no packet, or one with an answer at most
+  abbrev OneAnswers : List ℕ → List (Site H) → Type 0
+  OneAnswers bytes us = (packets_in bytes ≡ []) ⊎ ((p : Packet) × (packets_in bytes ≡ p ∷ []) × (length (answers p us) ≤ 1))
+
+  handed_over : ReadsPackets → (move : way.Move) (s : LineState H) (n : Net H) → damage_fault move ≡ None → HeardByOwn n → Follows s n
+      → OneAnswers (handed move s.to_readers) s.sites
+  handed_over reads move s n well heard h =
+      subst (λ l. OneAnswers (handed move l) s.sites) (sym h.to_readers)
+      (by_front n.to_readers move h.asked well (each_of (λ (p : ℕ × Packet). p.1.address < 127) n.to_readers heard.devices)
+      (each_of (λ (p : ℕ × Packet). NoneButAt p.0 p.1 n.sites) n.to_readers heard.readers))
+    where
+      owner : (p : ℕ × Packet) → IsPacket p.1 → p.1.address < 127 → NoneButAt p.0 p.1 n.sites → OneAnswers (spelling p.1) s.sites
+      owner p packet device away = inr (p.1, reads.one p.1 packet, one_answers p.0 p.1 s.sites n.sites h.sites device away)
+
+      by_front : (ps : List (ℕ × Packet)) (move : way.Move) → Each IsPacket (packets_on ps) → damage_fault move ≡ None
+          → Each (λ (p : ℕ × Packet). p.1.address < 127) ps → Each (λ (p : ℕ × Packet). NoneButAt p.0 p.1 n.sites) ps
+          → OneAnswers (handed move (map spelling (packets_on ps))) s.sites
+      by_front [] move asked well devices away = inl reads.none
+      by_front (p ∷ rest) Deliver asked well devices away = owner p asked.0 devices.0 away.0
+      by_front (p ∷ rest) Drop asked well devices away = inl reads.none
+      by_front (p ∷ rest) Repeat asked well devices away = owner p asked.0 devices.0 away.0
+      by_front (p ∷ rest) (Damage bytes) asked well devices away = inl (no_packets (reading bytes.items) well)
+
+  -- ---- each step
+
+  heard_few : (n : ℕ) (bytes : List ℕ) (s : LineState H) → OneAnswers bytes s.sites → AtMost n s → AtMost (n + 1) (all_hear_each answer_of after (packets_in bytes) s)
+  heard_few n bytes s (inl none) few = subst (λ ps. AtMost (n + 1) (all_hear_each answer_of after ps s)) (sym none) (more n s few)
+  heard_few n bytes s (inr (p, one, small)) few =
+      subst (λ ps. AtMost (n + 1) (all_hear_each answer_of after ps s)) (sym one)
+      (omega (arith, few.0), omega (arith, few.1, length-append s.to_bus (answers p s.sites), small))
+
+  -- what is handed over to the readers has an answer at most
+  abbrev FewAnswer : SimStep → LineState H → Type 0
+  FewAnswer (step.ToReader move) s = OneAnswers (handed move s.to_readers) s.sites
+  FewAnswer _ s = Unit {0}
+
+  step_few : (n : ℕ) (move : SimStep) (s : LineState H) → FewAnswer move s → AtMost n s → AtMost (n + 1) (after_step answer_of after move s)
+  step_few n (step.Issue number command) s answer few =
+      where_few n (is_there number s) _ s few (issued_few n (submit_refusal_at (number - 1) command s.bus) (number - 1) command s few)
+  step_few n (step.Queue number event) s answer few = where_few n (is_there number s) _ s few (more n s few)
+  step_few n (step.Busy number busy) s answer few = where_few n (is_there number s) _ s few (more n s few)
+  step_few n (step.Wait wait) s answer few =
+      let w = waited (moment_after wait s.clock) s in
+      let o = (bus_ticks (moment_after wait s.clock) s.bus).sent in
+      told_few (n + 1) w.bus.devices.report (record w { bus = after_next_report w.bus })
+      (omega (arith, few.0, length-append s.to_readers (sent o), one_sent o), omega (arith, few.1))
+  step_few n (step.ToReader move) s answer few =
+      heard_few n (handed move s.to_readers) (record s { to_readers = left move s.to_readers }) answer
+      (omega (arith, few.0, left_few move s.to_readers), few.1)
+  step_few n (step.ToController move) s answer few =
+      let b = hears_run (handed move s.to_bus) s.clock s.bus in
+      told_few (n + 1) b.devices.report (record s { bus = after_next_report b; to_bus = left move s.to_bus })
+      (omega (arith, few.0), omega (arith, few.1, left_few move s.to_bus))
+  step_few n (step.Reopen number) s answer few = where_few n (is_there number s) _ s few (more n s few)
+
+  -- ---- all steps
+
+  module _ (schedules : SchedulesAreMoves answer_of after) (reads : ReadsPackets) (peers : ReadEachOther answer_of after) (config : BusConfig)
+      (readers : List (Given H)) (settings : AreSettings config readers) where
+    abbrev Come : List SimStep → ℕ → List SimStep → LineState H → Type 0
+    Come steps count rest s = HasCome (after_step answer_of after) fault_of (StepFits answer_of after) steps count rest (set_up config readers) s
+
+    answers_few : (steps : List SimStep) (count : ℕ) (rest : List SimStep) (move : SimStep) (s : LineState H) → Come steps count rest s
+        → fault_of move s ≡ None → FewAnswer move s
+    answers_few steps count rest (step.ToReader move) s come well =
+        let first = first_net config readers in
+        let up : IsSetUp first = is_set_up config readers settings in
+        let goes = schedules come.done (set_up config readers) first up (follows_first config readers) come.taken.well come.taken.along in
+        let n = line.run answer_of after goes.0 first in
+        let heard = by_own answer_of after peers n (holds_all answer_of after peers goes.0 first goes.1 (holds_first answer_of after peers first up)) in
+        handed_over reads move s n well heard (subst (λ (t : LineState H). Follows t n) (sym come.taken.here) goes.2)
+    answers_few steps count rest (step.Issue number command) s come well = tt
+    answers_few steps count rest (step.Queue number event) s come well = tt
+    answers_few steps count rest (step.Busy number busy) s come well = tt
+    answers_few steps count rest (step.Wait wait) s come well = tt
+    answers_few steps count rest (step.ToController move) s come well = tt
+    answers_few steps count rest (step.Reopen number) s come well = tt
+
+    few_on : (steps : List SimStep) (count : ℕ) (rest : List SimStep) (s : LineState H) → Come steps count rest s → is_well answer_of after rest s ≡ true
+        → FitAlong answer_of after rest s → AtMost count s → AtMost (count + length rest) (simulation.run answer_of after rest s)
+    few_on steps count [] s come well fits few = (omega (arith, few.0), omega (arith, few.1))
+    few_on steps count (move ∷ rest) s come well fits few =
+        let next = after_step answer_of after move s in
+        let both = first_well (fault_of move s) (is_well answer_of after rest next) well in
+        let one = step_few count move s (answers_few steps count (move ∷ rest) move s come both.0) few in
+        let later = goes_on (after_step answer_of after) fault_of (StepFits answer_of after) steps count move (move ∷ rest) rest (set_up config readers) s next
+        come refl both.0 refl fits.0 in
+        let all = few_on steps (count + 1) rest next later both.1 fits.1 one in
+        (omega (arith, all.0), omega (arith, all.1))
+
+    -- after these steps there are no more bursts in each direction than steps
+    pub as_many_as_steps : (steps : List SimStep) → is_well answer_of after steps (set_up config readers) ≡ true
+        → FitAlong answer_of after steps (set_up config readers) → AtMost (length steps) (simulation.run answer_of after steps (set_up config readers))
+    as_many_as_steps steps well fits =
+        let begun = begins (after_step answer_of after) fault_of (StepFits answer_of after) steps (set_up config readers) in
+        let all = few_on steps 0 steps (set_up config readers) begun well fits (omega arith, omega arith) in
+        (omega (arith, all.0), omega (arith, all.1))
