@@ -32,11 +32,11 @@ same_tests a b c d there back = by_test (nat_le a b) (nat_le c d) refl refl
 pub due_from : (m : Machine) (now deadline : ℕ) (b : Bool) → IsDeadlineOf m (Some deadline) → is_due now m ≡ b
     → IsDueFrom (λ at. is_due at m) now (Some (cond b now deadline))
 due_from m now deadline true is due =
-    let reached : deadline ≤ max m.session.greatest now = leb-true deadline (max m.session.greatest now) (sym (is now) ∙ due) in
-    (omega arith, λ at le lt. is at ∙ same_tests deadline (max m.session.greatest at) now at (λ _. le) (λ _. omega arith))
+    let reached : deadline ≤ max m.session.greatest now = leb-true deadline (max m.session.greatest now) (sym (is.1 now) ∙ due) in
+    (omega arith, λ at le lt. is.1 at ∙ same_tests deadline (max m.session.greatest at) now at (λ _. le) (λ _. omega arith))
 due_from m now deadline false is due =
-    let above : max m.session.greatest now < deadline = leb-false deadline (max m.session.greatest now) (sym (is now) ∙ due) in
-    (omega arith, λ at le lt. is at ∙ same_tests deadline (max m.session.greatest at) deadline at (λ h. omega arith) (λ h. omega arith))
+    let above : max m.session.greatest now < deadline = leb-false deadline (max m.session.greatest now) (sym (is.1 now) ∙ due) in
+    (omega arith, λ at le lt. is.1 at ∙ same_tests deadline (max m.session.greatest at) deadline at (λ h. omega arith) (λ h. omega arith))
 
 or_tests : (a b n : ℕ) → (nat_le a n || nat_le b n) ≡ nat_le (min a b) n
 or_tests a b n = by_test (nat_le a n) (nat_le b n) refl refl

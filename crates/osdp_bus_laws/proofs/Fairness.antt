@@ -185,7 +185,8 @@ turn_after call k b x =
 
 stands_after : (call : Call) (k : ℕ) (b : BusState) → Begins call k b → IsOutstandingAt k (after_call call b)
 stands_after call k b x =
-    subst (λ c. IsOutstandingAt k (after_call c b)) (sym x.tick) ((takes_turns b).sends x.now k x.free x.next).2
+    let begun = (takes_turns b).sends x.now k x.free x.next in
+    subst (λ c. IsOutstandingAt k (after_call c b)) (sym x.tick) (record { device = begun.device; there = begun.there; outstanding = begun.outstanding })
 
 quiet_first : (b c : BusState) → FirstIs b → Quiet b c → FirstIs c
 quiet_first b c first still n f at h =

@@ -23,11 +23,10 @@ use Rattle.osdp_bus.specs.Ticking.{BusTicked, bus_ticks, is_due_at, is_held_and_
 use Rattle.osdp_bus_laws.specs.Holding.{HoldersTick, HoldsAt, IsStillDue, SendsItsOwn, TellsItsEnd, TicksItsHolder}
 use Rattle.osdp_bus_laws.specs.Turns.{IsDueEntry, asking, judged}
 use Rattle.osdp_bus_laws.proofs.Exchanging.{has_one_exchange}
-use Rattle.osdp_bus_laws.proofs.Incoming.{set_other}
 use Rattle.osdp_bus_laws.proofs.Places.{is_false}
 use Rattle.osdp_bus_laws.proofs.Resending.{framed}
 use Rattle.osdp_bus_laws.proofs.Sound.{SoundBus, held_there, sound_run, sound_seen, sound_silent, sound_tick}
-use Rattle.osdp_bus_laws.proofs.Turning.{set_here}
+use Rattle.osdp_bus_laws.proofs.Turning.{set_here, set_other}
 
 -- ---- one controller whose exchange is outstanding: its frame, or the end
 

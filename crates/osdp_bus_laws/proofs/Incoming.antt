@@ -1,6 +1,6 @@
 -- Packets go to the device of their address, and cuts change nothing.
-use Rattle.std.proofs.Common.{◌≡◌, ◌∙◌, ap, sym, subst, inl, ℕ, zero, suc, ◌-◌, ◌≤◌, Bool, true, false, max, List, [], ◌∷◌, ◌++◌, Option, Some, None, refl, arith, append_assoc, append-nil}
-use Rattle.std.specs.Prelude.{◌≢◌, if◌then◌else◌, nat_le, slice_get, slice_set}
+use Rattle.std.proofs.Common.{◌≡◌, ◌∙◌, ap, sym, subst, inl, ℕ, ◌-◌, ◌≤◌, Bool, true, false, max, List, [], ◌∷◌, ◌++◌, Option, Some, None, refl, arith, append_assoc, append-nil}
+use Rattle.std.specs.Prelude.{◌≢◌, if◌then◌else◌, nat_le, slice_get}
 use Rattle.std.proofs.lemmas.Bool.{eqb-true, eq-eqb, lt-leb}
 use Rattle.osdp_frame.specs.Bytes.{AreBytes}
 use Rattle.osdp_frame.specs.Items.{items, left_over}
@@ -20,16 +20,9 @@ use Rattle.osdp_bus_laws.proofs.Changing.{Sound}
 use Rattle.osdp_controller_laws.proofs.Kept.{hears_at_moment}
 use Rattle.osdp_bus_laws.proofs.Places.{none_at}
 use Rattle.osdp_bus_laws.proofs.Sound.{SoundBus, sound_items}
-use Rattle.osdp_bus_laws.proofs.Turning.{set_here}
+use Rattle.osdp_bus_laws.proofs.Turning.{set_here, set_other}
 
 -- ---- whose a packet is
-
-pub set_other : (ds : List Device) (i j : ℕ) (e : Device) → j ≢ i → slice_get (slice_set ds i e) j ≡ slice_get ds j
-set_other [] i j e other = refl
-set_other (x ∷ ds) zero zero e other = absurd (other refl)
-set_other (x ∷ ds) zero (suc j) e other = refl
-set_other (x ∷ ds) (suc i) zero e other = refl
-set_other (x ∷ ds) (suc i) (suc j) e other = set_other ds i j e (λ h. other (ap suc h))
 
 module _ (p : Packet) (now : ℕ) (ds : Devices) (sound : Sound ds) where
   abbrev found_as : Option ℕ → Type 0

@@ -12,14 +12,12 @@ use Rattle.osdp_controller.specs.declared.state.State.{State}
 use Rattle.osdp_controller.specs.declared.state.State.TheVariants.{Closed, Quiet, Idle, Waiting, Pausing}
 use Rattle.osdp_controller.specs.Machine.{Machine, is_outstanding, refused_unless_closed, retarget_refusal, sent_in}
 use Rattle.osdp_controller.specs.Sessions.{frame_of}
-use Rattle.osdp_controller.specs.Ticking.{ticks}
 use Rattle.osdp_controller.proofs.Choices.{either_way}
 use Rattle.osdp_controller_laws.specs.Laws.{exchange_in}
 use Rattle.osdp_controller_laws.specs.Runs.{Call as CallOf, Tick as TickOf, Hear, after_call as after_call_of, sent_by as sent_by_of}
 use Rattle.osdp_controller_laws.proofs.Closed.{was_closed}
 use Rattle.osdp_controller_laws.proofs.Lasting.{Holds, holds_call, more}
 use Rattle.osdp_controller_laws.proofs.OneCall.{begins_with_frame}
-use Rattle.osdp_controller_laws.proofs.Stepwise.{sends_its_frame}
 use Rattle.osdp_bus.specs.declared.device.Device.{Device}
 use Rattle.osdp_bus.specs.declared.fault.BusFault.{BusFault}
 use Rattle.osdp_bus.specs.Buses.{BusState, Devices, device_of, has_report, holder, is_silent, new_bus, seen}
@@ -30,7 +28,7 @@ use Rattle.osdp_bus.specs.Ticking.{BusTicked, bus_ticks, is_due_at, next_due, st
 use Rattle.osdp_controller.specs.Comsets.{has_comset}
 use Rattle.osdp_bus_laws.specs.Calls.{Call, Add, Begin, Submit, Withdraw, Retarget, OnBytes, OnSilence, Tick, NextReport, after_call, after_calls}
 use Rattle.osdp_bus_laws.specs.Resending.{HoldersSendTheSame, IsTheLastAgain, last_sent, sent_by}
-use Rattle.osdp_bus_laws.specs.Sending.{own_frame}
+use Rattle.osdp_bus_laws.specs.Exchanges.{own_frame}
 use Rattle.osdp_bus_laws.specs.Turns.{asking, judged}
 use Rattle.osdp_bus_laws.proofs.Calling.{map_none, no_device, or_none, sound_call, sound_new}
 use Rattle.osdp_bus_laws.proofs.Changing.{HoldsAlone}
@@ -39,6 +37,7 @@ use Rattle.osdp_bus_laws.proofs.OneDevice.{heard_holds}
 use Rattle.osdp_bus_laws.proofs.Places.{IsAt, added, replaced}
 use Rattle.osdp_bus_laws.proofs.Sending.{holders_send_their_frame}
 use Rattle.osdp_bus_laws.proofs.Sound.{IsNobody, SoundBus, either_held, nobody, sound_run, sound_seen, sound_silent, still_nobody}
+use Rattle.osdp_bus_laws.proofs.Turning.{frame_sent}
 
 -- ---- one controller
 
@@ -87,13 +86,6 @@ frame_heard p now d h = kept_frame (Hear p now) d.controller (heard_holds p now 
 
 frame_ticked : (now : ℕ) (d : Device) → holds d ≡ true → holds (device_ticks now d) ≡ true → own_frame d ≡ own_frame (device_ticks now d)
 frame_ticked now d before after = kept_frame (TickOf now) d.controller before after
-
--- what a tick sends is the frame of the exchange that is outstanding then
-frame_sent : (now : ℕ) (d : Device) (p : Packet) → (step_of now d).frame ≡ Some p → own_frame (device_ticks now d) ≡ Some p
-frame_sent now d p sent =
-    let s = (ticks now d.controller.session d.controller.waiting).session in
-    let own = sends_its_frame now d.controller.session d.controller.waiting p sent in
-    ap (option_map (λ x. frame_of x s)) own.1 ∙ ap Some (sym own.2)
 
 -- ---- the devices: where nothing goes out, who holds the line held it before, with the same frame
 

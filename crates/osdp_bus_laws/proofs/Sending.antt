@@ -20,11 +20,11 @@ use Rattle.osdp_bus.specs.Devices.{holds}
 use Rattle.osdp_bus.specs.Machine.{after_begin_at, changed_unless, device_begins}
 use Rattle.osdp_bus.specs.Ticking.{BusTicked, bus_ticks, is_due_at, stays, ticks_at, ticks_by, ticks_held, ticks_on, ticks_with}
 use Rattle.osdp_bus_laws.specs.Calls.{Begin, after_call}
-use Rattle.osdp_bus_laws.specs.Sending.{HoldersSendTheirFrame, IsReached, SessionsBeginAlone, own_frame}
+use Rattle.osdp_bus_laws.specs.Exchanges.{own_frame}
+use Rattle.osdp_bus_laws.specs.Sending.{HoldersSendTheirFrame, IsReached, SessionsBeginAlone}
 use Rattle.osdp_bus_laws.specs.Turns.{asking, judged}
-use Rattle.osdp_bus_laws.proofs.Incoming.{set_other}
 use Rattle.osdp_bus_laws.proofs.Sound.{either_held}
-use Rattle.osdp_bus_laws.proofs.Turning.{set_here}
+use Rattle.osdp_bus_laws.proofs.Turning.{set_here, set_other}
 
 -- ---- the frame of an exchange
 

@@ -1,18 +1,22 @@
 -- The first in turn that is due begins an exchange.
 use Rattle.std.proofs.Common.{◌≡◌, ◌∙◌, ap, sym, subst, inl, inr, ℕ, zero, suc, ◌+◌, ◌-◌, ◌≤◌, ◌<◌, ◌||◌, Bool, true, false, List, [], ◌∷◌, take, drop, Option, Some, None, refl, arith}
-use Rattle.std.specs.Prelude.{◌≢◌, if◌then◌else◌, is_some, nat_eq, nat_lt, slice_get, slice_set}
+use Rattle.std.specs.Prelude.{◌≢◌, if◌then◌else◌, is_some, nat_eq, nat_lt, option_map, slice_get, slice_set}
 use Rattle.std.specs.Option.{option_or}
 use Rattle.std.proofs.lemmas.Bool.{eqb-true, eqb-false, ltb-true, ltb-false}
 use Rattle.osdp_frame.specs.Packet.{Packet}
 use Rattle.osdp_frame.specs.Items.{items}
+use Rattle.osdp_controller.specs.declared.report.Report.{Report}
+use Rattle.osdp_controller.specs.Sessions.{frame_of}
+use Rattle.osdp_controller.specs.Ticking.{ticks}
+use Rattle.osdp_controller_laws.proofs.Stepwise.{sends_its_frame}
 use Rattle.osdp_controller_laws.proofs.Ticks.{counts_sends}
 use Rattle.osdp_bus.specs.declared.device.Device.{Device}
-use Rattle.osdp_bus.specs.Buses.{BusState, device_of, seen}
+use Rattle.osdp_bus.specs.Buses.{BusState, device_of, has_report, seen, waiting_after}
 use Rattle.osdp_bus.specs.Devices.{device_ticks, first_from, holds, is_device_due, step_of}
-use Rattle.osdp_bus.specs.Ticking.{BusTicked, bus_ticks, next_due, stays, ticks_at, ticks_by, ticks_on, ticks_with}
+use Rattle.osdp_bus.specs.Ticking.{bus_ticks, next_due, stays, ticks_at, ticks_by, ticks_on, ticks_with}
 use Rattle.osdp_bus.proofs.Waiting.{IsAround, IsFound, around, found}
-use Rattle.osdp_bus_laws.specs.Exchanges.{IsOutstandingAt}
-use Rattle.osdp_bus_laws.specs.Turns.{IsBefore, IsDueEntry, IsFree, IsNext, TakesTurns, asking, judged}
+use Rattle.osdp_bus_laws.specs.Exchanges.{own_frame}
+use Rattle.osdp_bus_laws.specs.Turns.{BeginsExchange, IsBefore, IsDueEntry, IsFree, IsNext, TakesTurns, asking, judged}
 use Rattle.osdp_bus_laws.proofs.OneDevice.{ticked_told}
 use Rattle.osdp_bus_laws.proofs.Places.{in_dropped, in_taken, is_false, none_at}
 use Rattle.osdp_bus_laws.proofs.Sound.{IsNobody, nobody, still_nobody}
@@ -124,10 +128,13 @@ no_report : (frame report : Bool) → (frame || report) ≡ true → report ≡ 
 no_report true report h e = refl
 no_report false report h e = absurd cc
 
+-- a device whose exchange isn't outstanding tells nothing at a tick
+tells_nothing : (now : ℕ) (d : Device) → holds d ≡ false → is_some (step_of now d).report ≡ false
+tells_nothing now d free = is_false (is_some (step_of now d).report) (λ h. let stands = (ticked_told now d h).0 in cc)
+
 pub begins_frame : (now : ℕ) (d : Device) → holds d ≡ false → is_device_due now d ≡ true → is_some (step_of now d).frame ≡ true
 begins_frame now d free due =
-    no_report (is_some (step_of now d).frame) (is_some (step_of now d).report) due
-    (is_false (is_some (step_of now d).report) (λ h. let stands = (ticked_told now d h).0 in cc))
+    no_report (is_some (step_of now d).frame) (is_some (step_of now d).report) due (tells_nothing now d free)
 
 pub begins_exchange : (now : ℕ) (d : Device) → holds d ≡ false → is_device_due now d ≡ true → holds (device_ticks now d) ≡ true
 begins_exchange now d free due = (counts_sends now d.controller.session d.controller.waiting).outstanding (begins_frame now d free due)
@@ -137,32 +144,51 @@ set_here [] i d e at = absurd cc
 set_here (x ∷ ds) zero d e at = refl
 set_here (x ∷ ds) (suc i) d e at = set_here ds i d e at
 
+pub set_other : (ds : List Device) (i j : ℕ) (e : Device) → j ≢ i → slice_get (slice_set ds i e) j ≡ slice_get ds j
+set_other [] i j e other = refl
+set_other (x ∷ ds) zero zero e other = absurd (other refl)
+set_other (x ∷ ds) zero (suc j) e other = refl
+set_other (x ∷ ds) (suc i) zero e other = refl
+set_other (x ∷ ds) (suc i) (suc j) e other = set_other ds i j e (λ h. other (ap suc h))
+
 pub free_tick : (now : ℕ) (b : BusState) → IsFree now b → bus_ticks now b ≡ ticks_at (next_due (asking now b)) (asking now b)
 free_tick now b free =
     ap (λ t. if t then stays (seen now b) else ticks_on (judged now b)) free.before
     ∙ ap (λ o. ticks_by o (judged now b)) free.nobody
     ∙ ap (λ t. if t then stays (asking now b) else ticks_at (next_due (asking now b)) (asking now b)) free.after
 
--- what comes of it
-abbrev Began : ℕ → BusTicked → Type 0
-Began entry t = (p : Packet) × (t.sent ≡ Some p) × IsOutstandingAt entry t.bus
+-- what a tick sends is the frame of the exchange that is outstanding then
+pub frame_sent : (now : ℕ) (d : Device) (p : Packet) → (step_of now d).frame ≡ Some p → own_frame (device_ticks now d) ≡ Some p
+frame_sent now d p sent =
+    let s = (ticks now d.controller.session d.controller.waiting).session in
+    let own = sends_its_frame now d.controller.session d.controller.waiting p sent in
+    ap (option_map (λ x. frame_of x s)) own.1 ∙ ap Some (sym own.2)
 
 some_frame : (o : Option Packet) → is_some o ≡ true → (p : Packet) × (o ≡ Some p)
 some_frame None h = absurd cc
 some_frame (Some p) h = (p, refl)
 
+-- where nothing is told no report waits that didn't wait before
+none_waits : (entry : ℕ) (told : Option Report) (waiting : Option (ℕ × Report)) → is_some told ≡ false → is_some waiting ≡ false
+    → is_some (waiting_after entry told waiting) ≡ false
+none_waits entry None waiting h none = none
+none_waits entry (Some report) waiting h none = absurd cc
+
 began_with : (entry : ℕ) (d : Device) (b : BusState) → device_of entry b ≡ Some d → holds d ≡ false → is_device_due b.greatest d ≡ true
-    → Began entry (ticks_with entry (Some d) b)
-began_with entry d b at free due =
-    let frame = some_frame (step_of b.greatest d).frame (begins_frame b.greatest d free due) in (
-      frame.0,
-      frame.1,
-      record {
-        device = device_ticks b.greatest d;
-        there = set_here b.devices.entries entry d (device_ticks b.greatest d) at;
-        outstanding = begins_exchange b.greatest d free due;
-      },
-    )
+    → has_report b ≡ false → BeginsExchange entry b (ticks_with entry (Some d) b)
+began_with entry d b at free due none =
+    let sends = some_frame (step_of b.greatest d).frame (begins_frame b.greatest d free due) in
+    record {
+      device = device_ticks b.greatest d;
+      there = set_here b.devices.entries entry d (device_ticks b.greatest d) at;
+      outstanding = begins_exchange b.greatest d free due;
+      frame = sends.0;
+      sent = sends.1;
+      own = frame_sent b.greatest d sends.0 sends.1;
+      others = λ other apart. set_other b.devices.entries entry other (device_ticks b.greatest d) apart;
+      turn = refl;
+      untold = none_waits entry (step_of b.greatest d).report b.devices.report (tells_nothing b.greatest d free) none;
+    }
 
 pub still_free : (now : ℕ) (b : BusState) → IsFree now b → IsNobody (asking now b).devices
 still_free now b free =
@@ -176,14 +202,14 @@ takes_turns b = record {
   none = λ now free none. free_tick now b free ∙ nothing now none (next_due (asking now b)) refl;
 }
   where
-    sends : (now entry : ℕ) → IsFree now b → IsNext entry (asking now b) → Began entry (bus_ticks now b)
+    sends : (now entry : ℕ) → IsFree now b → IsNext entry (asking now b) → BeginsExchange entry (asking now b) (bus_ticks now b)
     sends now entry free next =
         let r = asking now b in
         let d = next.due.device in
         let not_held = is_false (holds d) (λ h. still_free now b free entry d next.due.there h) in
         let ticked : bus_ticks now b ≡ ticks_with entry (Some d) r =
         free_tick now b free ∙ ap (λ o. ticks_at o r) (next_is_due entry r next) ∙ ap (λ o. ticks_with entry o r) next.due.there in
-        subst (Began entry) (sym ticked) (began_with entry d r next.due.there not_held next.due.due)
+        subst (BeginsExchange entry r) (sym ticked) (began_with entry d r next.due.there not_held next.due.due free.after)
 
     by_due : (now entry : ℕ) → IsDueEntry entry (asking now b) → (o : Option ℕ) → next_due (asking now b) ≡ o → (next : ℕ) × IsNext next (asking now b)
     by_due now entry due None none = absurd (none_is_due (asking now b) none entry due)

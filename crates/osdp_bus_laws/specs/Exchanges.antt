@@ -1,6 +1,9 @@
 -- Exchanges: one at most on the whole line, and one report at most that waits.
-use Rattle.std.specs.Prelude.{◌≡◌, ℕ, true, Some, None}
+use Rattle.std.specs.Prelude.{◌≡◌, ℕ, true, Option, Some, None, option_map}
+use Rattle.osdp_frame.specs.Packet.{Packet}
 use Rattle.osdp_controller.specs.declared.report.Report.{Report}
+use Rattle.osdp_controller.specs.Sessions.{frame_of}
+use Rattle.osdp_controller_laws.specs.Laws.{exchange_in}
 use Rattle.osdp_bus.specs.declared.device.Device.{Device}
 use Rattle.osdp_bus.specs.Buses.{BusState, device_of, has_report, holder}
 use Rattle.osdp_bus.specs.Devices.{holds}
@@ -11,6 +14,10 @@ pub record IsOutstandingAt (entry : ℕ) (b : BusState) : Type 0 where
   pub device : Device
   pub there : device_of entry b ≡ Some device
   pub outstanding : holds device ≡ true
+
+-- the frame of the exchange that is outstanding
+abbrev pub own_frame : Device → Option Packet
+own_frame d = option_map (λ x. frame_of x d.controller.session) (exchange_in d.controller.session.state)
 
 -- one exchange at most is outstanding on the line, and it is the exchange of who holds the line; none while a report waits
 pub record HasOneExchange (b : BusState) : Type 0 where

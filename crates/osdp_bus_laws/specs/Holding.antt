@@ -10,7 +10,7 @@ use Rattle.osdp_bus.specs.Buses.{BusState, device_of, has_report, holder, seen}
 use Rattle.osdp_bus.specs.Devices.{holds, is_device_due}
 use Rattle.osdp_bus.specs.Ticking.{BusTicked, bus_ticks, stays}
 use Rattle.osdp_bus_laws.specs.Exchanges.{IsOutstandingAt}
-use Rattle.osdp_bus_laws.specs.Sending.{own_frame}
+use Rattle.osdp_bus_laws.specs.Exchanges.{own_frame}
 use Rattle.osdp_bus_laws.specs.Turns.{IsDueEntry, asking, judged}
 
 -- no report waits at a tick, and an entry holds the line

@@ -10,7 +10,7 @@ use Rattle.osdp_bus.specs.Devices.{holds}
 use Rattle.osdp_bus.specs.Settings.{IsBusConfig}
 use Rattle.osdp_bus.specs.Ticking.{bus_ticks}
 use Rattle.osdp_bus_laws.specs.Calls.{Call, Tick, after_call, after_calls}
-use Rattle.osdp_bus_laws.specs.Sending.{own_frame}
+use Rattle.osdp_bus_laws.specs.Exchanges.{own_frame}
 use Rattle.osdp_bus_laws.specs.Turns.{judged}
 
 -- the frame that goes out in a call: ticks alone send

@@ -1,8 +1,6 @@
 -- What goes out while an exchange holds the line, and what the beginning of a session leaves.
-use Rattle.std.specs.Prelude.{◌≡◌, ◌≢◌, ℕ, ◌≤◌, false, max, Option, Some, None, IfSome, option_map}
-use Rattle.osdp_controller.specs.Sessions.{frame_of}
+use Rattle.std.specs.Prelude.{◌≡◌, ◌≢◌, ℕ, ◌≤◌, false, max, Some, None, IfSome}
 use Rattle.osdp_controller.specs.States.{moment_of}
-use Rattle.osdp_controller_laws.specs.Laws.{exchange_in}
 use Rattle.osdp_frame.specs.Packet.{Packet}
 use Rattle.osdp_bus.specs.declared.device.Device.{Device}
 use Rattle.osdp_bus.specs.Buses.{BusState, device_of, holder}
@@ -10,11 +8,8 @@ use Rattle.osdp_bus.specs.Devices.{holds}
 use Rattle.osdp_bus.specs.Machine.{begin_refusal_at}
 use Rattle.osdp_bus.specs.Ticking.{bus_ticks}
 use Rattle.osdp_bus_laws.specs.Calls.{Begin, after_call}
+use Rattle.osdp_bus_laws.specs.Exchanges.{own_frame}
 use Rattle.osdp_bus_laws.specs.Turns.{asking, judged}
-
--- the frame of the exchange that is outstanding
-abbrev pub own_frame : Device → Option Packet
-own_frame d = option_map (λ x. frame_of x d.controller.session) (exchange_in d.controller.session.state)
 
 -- the moment that a device waits for is reached
 abbrev pub IsReached : BusState → Device → Type 0

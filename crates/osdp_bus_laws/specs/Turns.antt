@@ -1,12 +1,12 @@
 -- Whose turn it is.
-use Rattle.std.specs.Prelude.{◌≡◌, ◌≢◌, ◌⊎◌, ℕ, ◌<◌, ◌≤◌, true, false, Some, None}
+use Rattle.std.specs.Prelude.{◌≡◌, ◌≢◌, ◌⊎◌, ℕ, ◌+◌, ◌<◌, ◌≤◌, true, false, Some, None}
 use Rattle.osdp_frame.specs.Packet.{Packet}
 use Rattle.osdp_bus.specs.declared.device.Device.{Device}
 use Rattle.osdp_bus.specs.Buses.{BusState, device_of, has_report, holder, seen}
-use Rattle.osdp_bus.specs.Devices.{is_device_due}
+use Rattle.osdp_bus.specs.Devices.{holds, is_device_due}
 use Rattle.osdp_bus.specs.Hearing.{ends_run, ends_silent}
-use Rattle.osdp_bus.specs.Ticking.{bus_ticks, stays}
-use Rattle.osdp_bus_laws.specs.Exchanges.{IsOutstandingAt}
+use Rattle.osdp_bus.specs.Ticking.{BusTicked, bus_ticks, stays}
+use Rattle.osdp_bus_laws.specs.Exchanges.{own_frame}
 
 -- the bus of a tick as it is judged who holds the line: a run after which the line was silent long enough is over
 abbrev pub judged : ℕ → BusState → BusState
@@ -36,10 +36,22 @@ pub record IsNext (entry : ℕ) (b : BusState) : Type 0 where
   pub due : IsDueEntry entry b
   pub first : (other : ℕ) → IsDueEntry other b → other ≢ entry → IsBefore b.first entry other
 
--- where the line is free, the first in turn that is due begins an exchange, and its frame goes out; the turn is then that
--- of the entry after it. Where some entry is due one is the first, and where none is due nothing happens
+-- what an entry's exchange begins with: its own frame goes out, all other devices stay as they are, the turn is that of the entry after it,
+-- and no report waits
+pub record BeginsExchange (entry : ℕ) (b : BusState) (ticked : BusTicked) : Type 0 where
+  pub device : Device
+  pub there : device_of entry ticked.bus ≡ Some device
+  pub outstanding : holds device ≡ true
+  pub frame : Packet
+  pub sent : ticked.sent ≡ Some frame
+  pub own : own_frame device ≡ Some frame
+  pub others : (other : ℕ) → other ≢ entry → device_of other ticked.bus ≡ device_of other b
+  pub turn : ticked.bus.first ≡ entry + 1
+  pub untold : has_report ticked.bus ≡ false
+
+-- where the line is free, the first in turn that is due begins an exchange. Where some entry is due one is the first, and where none is due
+-- nothing happens
 pub record TakesTurns (b : BusState) : Type 0 where
-  pub sends : (now entry : ℕ) → IsFree now b → IsNext entry (asking now b)
-      → (p : Packet) × ((bus_ticks now b).sent ≡ Some p) × IsOutstandingAt entry (bus_ticks now b).bus
+  pub sends : (now entry : ℕ) → IsFree now b → IsNext entry (asking now b) → BeginsExchange entry (asking now b) (bus_ticks now b)
   pub some : (now entry : ℕ) → IsDueEntry entry (asking now b) → (next : ℕ) × IsNext next (asking now b)
   pub none : (now : ℕ) → IsFree now b → ((entry : ℕ) → IsDueEntry entry (asking now b) → ⊥) → bus_ticks now b ≡ stays (asking now b)

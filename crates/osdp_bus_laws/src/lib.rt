@@ -57,7 +57,8 @@ pub fn cuts_change_nothing()
     ensures { Always CutsChangeNothing }
 {}
 
-/// Where nobody holds the line and no report waits, the first in turn that is due begins an exchange, and where none is due nothing happens.
+/// Where nobody holds the line and no report waits, the first in turn that is due begins an exchange: its own frame goes out, all other
+/// devices stay as they are, the turn is that of the entry after it, and no report waits. Where none is due nothing happens.
 pub fn entries_take_turns()
     ensures { (b : BusState) → TakesTurns b }
 {}

@@ -129,10 +129,12 @@ acts step = is_some step.frame || is_some step.report
 abbrev pub is_due : ℕ → Machine → Bool
 is_due now m = acts (ticks now m.session m.waiting).step
 
--- the moment from which on a tick is due: none where no tick ever is
+-- None: no tick at any moment is due. A moment: not before the greatest seen, and a tick is due where this moment is reached,
+-- and only there. So it is the only one
 abbrev pub IsDeadline : Machine → Option ℕ → Type 0
 IsDeadline m None = (now : ℕ) → is_due now m ≡ false
-IsDeadline m (Some deadline) = (now : ℕ) → is_due now m ≡ nat_le deadline (max m.session.greatest now)
+IsDeadline m (Some deadline) =
+    (m.session.greatest ≤ deadline) × ((now : ℕ) → is_due now m ≡ nat_le deadline (max m.session.greatest now))
 
 -- a POLL is never submitted
 abbrev pub IsSubmitted : Command → Type 0

@@ -311,15 +311,16 @@ impl Controller {
         }
     }
 
-    /// The moment from which on a tick is due, or one that lies before it where a tick is due at once. None
-    /// where no tick would send or report at any moment.
+    /// The moment from which on a tick is due. Where one is due at once that is the greatest moment seen, and it is never
+    /// an earlier one. None where no tick would send or report at any moment.
     pub fn next_deadline(&self) -> Option<u64>
         ensures { IsDeadline self.now result }
     {
         if self.session.state.is_idle() && !self.waiting.is_empty() {
             return Some(self.session.greatest);
         }
-        self.session.moment()
+        let moment = self.session.moment()?;
+        Some(moment.max(self.session.greatest))
     }
 }
 

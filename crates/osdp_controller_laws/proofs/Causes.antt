@@ -1,7 +1,7 @@
 -- What must have come where a frame is told about.
-use Rattle.std.proofs.Common.{◌≡◌, ◌≤◌, ◌∙◌, ap, arith, subst, ℕ, ◌+◌, Bool, true, false, not, ◌&&◌, ◌||◌, Option, Some, None, refl}
-use Rattle.std.specs.Prelude.{if◌then◌else◌, nat_lt, ◌==◌}
-use Rattle.std.proofs.lemmas.Bool.{and_parts, eq-eqb, eqb-true, ltb-true}
+use Rattle.std.proofs.Common.{◌≡◌, ◌≤◌, ◌∙◌, ap, arith, inl, inr, subst, ℕ, ◌+◌, Bool, true, false, not, ◌&&◌, ◌||◌, Option, Some, None, refl}
+use Rattle.std.specs.Prelude.{◌⊎◌, if◌then◌else◌, nat_lt, ◌==◌}
+use Rattle.std.proofs.lemmas.Bool.{and_parts, eq-eqb, eqb-true, ltb-true, or_cases}
 use Rattle.osdp_frame.specs.Packet.{Packet}
 use Rattle.osdp_msg.specs.declared.command.Command.{Command}
 use Rattle.osdp_msg.specs.declared.command.Command.TheVariants as commands
@@ -130,12 +130,20 @@ numbered p s x answer plain comes h = record {
   number = eqb-true p.sequence s.number (first_of (p.sequence == s.number) (p.sequence == 0) (rw plain at h));
 }
 
+-- a BUSY has that number or 0
+busy_numbered : (p : Packet) (s : Session) → is_numbered p.sequence NotTaken s ≡ true → (p.sequence ≡ s.number) ⊎ (p.sequence ≡ 0)
+busy_numbered p s h =
+    elim (or_cases (p.sequence == s.number) (p.sequence == 0 && true) h) [
+      | inl own ↦ inl (eqb-true p.sequence s.number own)
+      | inr other ↦ inr (eqb-true p.sequence 0 (and_parts (p.sequence == 0) true other).0)
+    ]
+
 why_waiting : (answer : ReplyMeaning) (sends : ℕ) (o : Outstanding) (p : Packet) (s t : Session) → Comes p s o.exchange answer → is_numbered p.sequence answer s ≡ true
     → (o.exchange ≡ Opening → s.number ≡ 0) → WhyIf (waiting_hears answer sends o t).report p s
 why_waiting NotTaken sends o p s t comes h zero =
     either_way (λ (e : Heard). WhyIf e.report p s) (nat_lt t.config.busy_limit (o.busies + 1)) (loses causes.TooBusy o t)
     (record { session = record t { state = Pausing (later t.config.busy_wait t) (record o { busies = o.busies + 1 }) }; report = None })
-    (λ b. (o.exchange, comes, refl)) (λ b. tt)
+    (λ b. (o.exchange, (comes, busy_numbered p s h), refl)) (λ b. tt)
 why_waiting Damaged sends o p s t comes h zero = tt
 why_waiting NumberRefused sends o p s t comes h zero = (o.exchange, numbered p s o.exchange NumberRefused refl comes h, refl)
 why_waiting (Plain reply) sends o p s t comes h zero = why_answered o.exchange reply p s t (numbered p s o.exchange (Plain reply) refl comes h) zero

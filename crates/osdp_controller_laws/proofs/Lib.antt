@@ -12,3 +12,6 @@ pub mod Kept
 pub mod OneCall
 pub mod Closed
 pub mod InRange
+pub mod Meanings
+pub mod Waits
+pub mod Openings

@@ -1,5 +1,5 @@
 -- What the tables come to, in the subject's words.
-use Rattle.std.specs.Prelude.{◌≡◌, ◌≢◌, ℕ, suc, ◌+◌, ◌≤◌, true, false, List, [], ◌∷◌, Option, Some, None, is_some}
+use Rattle.std.specs.Prelude.{◌≡◌, ◌≢◌, ◌⊎◌, ℕ, suc, ◌+◌, ◌≤◌, true, false, List, [], ◌∷◌, Option, Some, None, is_some}
 use Rattle.osdp_frame.specs.Packet.{Packet, next_sequence}
 use Rattle.osdp_msg.specs.declared.command.Command.{Command}
 use Rattle.osdp_msg.specs.declared.command.Command.TheVariants.{Comset}
@@ -50,10 +50,10 @@ pub record ComesNumbered (p : Packet) (s : Session) (x : Exchange) (answer : Rep
   pub comes : Comes p s x answer
   pub number : p.sequence ≡ s.number
 
--- what a frame that is told about must have been; with BUSY the number may be 0
+-- what a frame that is told about must have been: with the number of the exchange, or, where it is BUSY, with that or 0
 abbrev pub WhyLost : LostCause → Packet → Session → Exchange → Type 0
 WhyLost causes.NoReply p s x = ⊥
-WhyLost causes.TooBusy p s x = Comes p s x NotTaken
+WhyLost causes.TooBusy p s x = Comes p s x NotTaken × ((p.sequence ≡ s.number) ⊎ (p.sequence ≡ 0))
 WhyLost causes.NumberRefused p s x = ComesNumbered p s x NumberRefused
 
 abbrev pub WhyUnread : Option Command → ℕ → Packet → Session → Type 0

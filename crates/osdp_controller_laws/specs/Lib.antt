@@ -3,3 +3,6 @@ pub mod Runs
 pub mod Commands
 pub mod Calls
 pub mod Steps
+pub mod Meanings
+pub mod Waits
+pub mod Openings

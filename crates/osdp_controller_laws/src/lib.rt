@@ -7,16 +7,25 @@ ghost use Rattle.osdp_controller.specs.declared.session.Session.{Session};
 ghost use Rattle.osdp_controller_laws.specs.Calls.{BeginsWithFrame, ComesDue, KeepsSettings, SendsPackets, StaysInRange, WaitsUntilDue};
 ghost use Rattle.osdp_controller_laws.specs.Commands.{CommandsByPlace, TellsEnds};
 ghost use Rattle.osdp_controller_laws.specs.Laws.{CountsSends, HearsAnswers, KeepsTime, NumbersTakeTurns, TakesFront, TellsLost, TellsWhy};
+ghost use Rattle.osdp_controller_laws.specs.Meanings.{MeansWhatItSays};
+ghost use Rattle.osdp_controller_laws.specs.Openings.{OpensById};
 ghost use Rattle.osdp_controller_laws.specs.Runs.{Call, NumbersByPlace, ResendsTheSame, SendsFew, StaysWell};
 ghost use Rattle.osdp_controller.specs.Machine.{IsMachine, Machine};
 ghost use Rattle.osdp_controller.specs.States.{is_closed};
 ghost use Rattle.osdp_controller_laws.specs.Steps.{ExchangesInSteps, FramesInSteps, SendsItsFrame, TicksInSteps};
+ghost use Rattle.osdp_controller_laws.specs.Waits.{WaitsAsSet};
 ghost use Rattle.osdp_frame.specs.Packet.{Packet};
 
 /// Whatever frames come: a session opens only by a PDID with number 0 while the opening ID is outstanding, and
 /// a command is settled, or an event told, only by a frame of the own address with the outstanding number.
 pub fn frames_tell_why()
     ensures { TellsWhy }
+{}
+
+/// What a reply means, by the table of replies: BUSY that the command wasn't taken, NAK 1 that it came damaged, NAK 4 that its number was
+/// refused, any other reply itself, and what the table doesn't have its code.
+pub fn replies_mean_what_they_say()
+    ensures { (p : Packet) → MeansWhatItSays p }
 {}
 
 /// The answer with the number of the outstanding exchange does what the table says for the exchange.
@@ -109,6 +118,17 @@ pub fn settings_stay()
 /// A tick that is not due changes nothing but the greatest moment seen.
 pub fn ticks_wait_until_due()
     ensures { (now : ℕ) (m : Machine) → WaitsUntilDue now m }
+{}
+
+/// A session opens by ID with data byte 0 and number 0: when the line has been left quiet, and each time that this frame goes out again.
+pub fn sessions_open_by_id()
+    ensures { (now : ℕ) (m : Machine) → OpensById now m }
+{}
+
+/// The four waits: after a frame went out a tick is due after the reply wait, after an exchange ended after the poll interval, after a BUSY
+/// after the busy wait and after a session began after the quiet wait, and none is due before.
+pub fn waits_are_as_set()
+    ensures { (now : ℕ) (m : Machine) → WaitsAsSet now m }
 {}
 
 /// Whatever is called: sequence numbers are below 4, and 0 for the opening ID alone; no deadline is further away than

@@ -12,3 +12,6 @@ pub mod ReplyLaws
 pub mod CommandTexts
 pub mod ReplyTexts
 pub mod EventReplies
+pub mod Causes
+pub mod CommandCauses
+pub mod ReplyCauses

@@ -2,17 +2,24 @@
 //! their contracts are laws.
 #![tactic(auto)]
 
-ghost use Rattle.osdp_msg.specs.CommandTable.{CommandFits, IsCommand, command_fault, command_of};
+ghost use Rattle.osdp_msg.specs.CommandTable.{CommandFits, IsCommand, command_fault, command_length_allowed, command_of};
 ghost use Rattle.osdp_msg.specs.CommandText.{command_text, command_words};
 ghost use Rattle.osdp_msg.specs.Events.{EventFits, event_words};
-ghost use Rattle.osdp_msg.specs.ReplyTable.{ReplyFits, IsReply, reply_fault, reply_of};
+ghost use Rattle.osdp_msg.specs.ReplyTable.{ReplyFits, IsReply, reply_fault, reply_length_allowed, reply_of};
 ghost use Rattle.osdp_msg.specs.ReplyText.{reply_text, reply_words};
+ghost use Rattle.osdp_msg_laws.specs.Faults.{FaultsHaveCauses};
 ghost use Rattle.osdp_msg_laws.specs.Laws.{ReadsTheTable, ReadsTheFaults, HasOneValue, HasOneSpelling, FitsAPacket, JoinsItsWords, HasOneMeaning, HasOneText, HasPlainWords, HasOneNumber, HasLowByteFirst, FitsByKind};
 
 /// Reading a code and data as a command follows the table of commands, and its refusals.
 pub fn command_of_reads_the_table()
     ensures values { ReadsTheTable IsCommand command_of }
     ensures faults { ReadsTheFaults command_fault command_of }
+{}
+
+/// Why a code and data are no command: M1 exactly where no command has the code; M2 only where some has it, and none of these has so many
+/// data bytes; M3 only where the table allows so many, and a packet has room for them.
+pub fn command_faults_have_causes()
+    ensures { FaultsHaveCauses IsCommand command_length_allowed command_fault }
 {}
 
 /// A code and data stand for one command at most, and a command has one code and data.
@@ -43,6 +50,12 @@ pub fn command_texts_are_unique()
 pub fn reply_of_reads_the_table()
     ensures values { ReadsTheTable IsReply reply_of }
     ensures faults { ReadsTheFaults reply_fault reply_of }
+{}
+
+/// Why a code and data are no reply: M1 exactly where no reply has the code; M2 only where some has it, and none of these has so many data
+/// bytes; M3 only where the table allows so many, and a packet has room for them.
+pub fn reply_faults_have_causes()
+    ensures { FaultsHaveCauses IsReply reply_length_allowed reply_fault }
 {}
 
 /// A code and data stand for one reply at most, and a reply has one code and data.

@@ -9,3 +9,4 @@ pub mod Repeating
 pub mod Sequences
 pub mod Addresses
 pub mod Handlers
+pub mod FittingReplies

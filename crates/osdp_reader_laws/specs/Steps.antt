@@ -6,14 +6,17 @@ use Rattle.osdp_msg.specs.declared.command.Command.TheVariants.{Comset, Poll}
 use Rattle.osdp_msg.specs.declared.command_fields.Communication.{Communication}
 use Rattle.osdp_msg.specs.declared.event.Event.{Event}
 use Rattle.osdp_msg.specs.declared.fault.MsgFault.{MsgFault}
+use Rattle.osdp_msg.specs.declared.reply.Reply.{Reply}
 use Rattle.osdp_msg.specs.declared.reply.Reply.TheVariants as reply
 use Rattle.osdp_msg.specs.Events.{event_reply}
+use Rattle.osdp_msg.specs.Fitting.{reply_fits}
+use Rattle.osdp_reader.specs.declared.config.ReaderConfig.{ReaderConfig}
 use Rattle.osdp_reader.specs.declared.handler.Answer.{Answer}
 use Rattle.osdp_reader.specs.declared.kind.Kind.TheVariants.{Zero, Taken}
 use Rattle.osdp_reader.specs.Replies.{refused, reply_packet, unread_reason}
 use Rattle.osdp_reader.specs.Responses.{accepted_comset}
 use Rattle.osdp_reader.specs.State.{ReaderState}
-use Rattle.osdp_reader.specs.Table.{command_in, hears, kind_of}
+use Rattle.osdp_reader.specs.Table.{answer_to, command_in, hears, kind_of}
 
 module _ {H : Type 0} (answer_of : H → Command → Answer) (after : H → Command → H) where
   -- only number 0 and a taken number change anything, or reach the handler
@@ -25,6 +28,17 @@ module _ {H : Type 0} (answer_of : H → Command → Answer) (after : H → Comm
   abbrev pub TellsItsCommand : Type 0
   TellsItsCommand = (r : ReaderState H) (p : Packet) (command : Command) → (kind_of r p ≡ Zero) ⊎ (kind_of r p ≡ Taken)
       → command_in p ≡ Ok command → (hears answer_of after r p).command ≡ Some command
+
+  -- .. and the reply that is said to it fits it, whatever the handler answers
+  abbrev pub SaysWhatFits : Type 0
+  SaysWhatFits = (r : ReaderState H) (p : Packet) (command : Command) → (kind_of r p ≡ Zero) ⊎ (kind_of r p ≡ Taken)
+      → command_in p ≡ Ok command
+      → (reply : Reply) × ((hears answer_of after r p).said ≡ Some reply) × (reply_fits command reply ≡ true)
+
+  -- .. as does the answer to a command at any place of a list of them
+  abbrev pub AnswersWhatFits : Type 0
+  AnswersWhatFits = (config : ReaderConfig) (handler : H) (command : Command)
+      → reply_fits command (answer_to answer_of after config handler command).reply ≡ true
 
   -- a COMSET to a device's address that is acted on is told with its address and rate, nothing else is, and the reader is at that
   -- address then

@@ -3,7 +3,7 @@
 #![tactic(auto)]
 
 ghost use Rattle.osdp_reader_laws.specs.Laws.{ActsAtZero, ActsOnce, AnswersByWhatCame, AnswersInOrder, AnswersPlainly, AnswersTaken, AnswersTheSameAgain, AnswersTheSameStill, AnswersWhereverItIs, ChangesAnswersAlone, ForgetsWhereItMoves, HasOneSpelling, HasRoom, HearsItsAddress, IsKept, KeepsReply, KeepsWhatItTook, LosesNoEvent, RefusesBlocks, RefusesNumbers, RepeatsItsReply, RepliesToItsCommand, SaysBusy, SendsWhatItSays, StaysADevice, TakesNext, TellsItsOffer};
-ghost use Rattle.osdp_reader_laws.specs.Steps.{AnswersPolls, BeginsAnew, ChangesByActing, KeepsItsSettings, LetsItsOfferGo, MovesByComsetAlone, OffersToPollsAlone, RefusesUnread, TellsItsCommand, TellsItsComset};
+ghost use Rattle.osdp_reader_laws.specs.Steps.{AnswersPolls, AnswersWhatFits, BeginsAnew, ChangesByActing, KeepsItsSettings, LetsItsOfferGo, MovesByComsetAlone, OffersToPollsAlone, RefusesUnread, SaysWhatFits, TellsItsCommand, TellsItsComset};
 
 use osdp_reader::Handler;
 
@@ -73,6 +73,12 @@ pub fn tells_its_command<H: Handler>()
 /// No command that is acted on is answered BUSY, NAK 1 or NAK 4: these say that nothing was taken.
 pub fn answers_plainly<H: Handler>()
     ensures { AnswersPlainly H.answer_of H.after }
+{}
+
+/// The reply to a command that is acted on fits it, whatever the handler answers.
+pub fn replies_fit<H: Handler>()
+    ensures said { SaysWhatFits H.answer_of H.after }
+    ensures anywhere { AnswersWhatFits H.answer_of H.after }
 {}
 
 /// A reply is sent as it is said, with the number of its command, and BUSY with number 0. Where none is said anew, nothing is sent, or

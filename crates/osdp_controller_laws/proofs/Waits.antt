@@ -1,0 +1,189 @@
+-- How long a controller waits after each of its calls.
+use Rattle.std.proofs.Common.{◌≡◌, ◌∙◌, ap, sym, subst, refl, arith, ℕ, ◌+◌, ◌-◌, ◌^◌, ◌<◌, Bool, true, false, List, [], ◌∷◌, Option, Some, None}
+use Rattle.std.specs.Prelude.{if◌then◌else◌, is_some, min, nat_le, nat_lt}
+use Rattle.std.proofs.lemmas.Bool.{le-ltb}
+use Rattle.osdp_frame.specs.Packet.{Packet, next_sequence}
+use Rattle.osdp_msg.specs.declared.command.Command.{Command}
+use Rattle.osdp_msg.specs.declared.command_fields.Communication.{Communication}
+use Rattle.osdp_msg.specs.declared.reply.Reply.{Reply}
+use Rattle.osdp_msg.specs.declared.reply_fields.PdId.{PdId}
+use Rattle.osdp_controller.specs.declared.meaning.ReplyMeaning.{ReplyMeaning}
+use Rattle.osdp_controller.specs.declared.meaning.ReplyMeaning.TheVariants.{NotTaken, Damaged, NumberRefused, Plain, Unreadable}
+use Rattle.osdp_controller.specs.declared.exchange.Exchange.{Exchange}
+use Rattle.osdp_controller.specs.declared.exchange.Exchange.TheVariants.{Opening, Polling, Asking}
+use Rattle.osdp_controller.specs.declared.exchange.Outstanding.{Outstanding}
+use Rattle.osdp_controller.specs.declared.report.LostCause.TheVariants as causes
+use Rattle.osdp_controller.specs.declared.session.Session.{Session}
+use Rattle.osdp_controller.specs.declared.state.State.{State}
+use Rattle.osdp_controller.specs.declared.state.State.TheVariants.{Closed, Quiet, Idle, Waiting, Pausing}
+use Rattle.osdp_controller.specs.Answers.{meaning_of}
+use Rattle.osdp_controller.specs.Hearing.{Heard, answered, answered_unread, com_of, command_answered, comset_of, hears, hears_busy, loses, moved_by, opening_answered, pausing_hears, pd_id_of, waiting_hears}
+use Rattle.osdp_controller.specs.Machine.{Machine, acts, after_begin, changed_unless, is_outstanding, refused_unless_closed}
+use Rattle.osdp_controller.specs.Private.{numbered_in}
+use Rattle.osdp_controller.specs.Sessions.{later, seen}
+use Rattle.osdp_controller.specs.States.{is_closed, is_idle, moment_of}
+use Rattle.osdp_controller.specs.Ticking.{Ticked, begins, gives_up, sends_frame, stays, ticks_in, tries_again}
+use Rattle.osdp_controller.proofs.Choices.{either_way}
+use Rattle.osdp_controller_laws.specs.Runs.{Hear, Tick, after_call}
+use Rattle.osdp_controller_laws.specs.Waits.{IsDueAfter, WaitsAsSet, so_long_after}
+use Rattle.osdp_controller_laws.proofs.Frames.{either_frame}
+use Rattle.osdp_controller_laws.proofs.Stepwise.{frames_in_steps}
+
+-- where one branch sends or tells something and the other doesn't, the test says which
+acts_by : (b : Bool) (x y : Ticked) → acts x.step ≡ true → acts y.step ≡ false → acts (if b then x else y).step ≡ b
+acts_by true x y p q = p
+acts_by false x y p q = q
+
+-- a tick is due once the moment is reached that the state waits for, where no command is to be asked at once
+due_in : (state : State) (s : Session) (waiting : List Command) (moment : ℕ) → moment_of state ≡ Some moment → (is_idle state ≡ true → waiting ≡ [])
+    → acts (ticks_in state s waiting).step ≡ nat_le moment s.greatest
+due_in Closed s waiting moment is none = absurd cc
+due_in (Quiet until) s waiting moment is none =
+    let same : until ≡ moment = cc in
+    acts_by (nat_le until s.greatest) (begins Opening 0 s waiting) (stays s waiting) refl refl ∙ ap (λ t. nat_le t s.greatest) same
+due_in (Idle due) s [] moment is none =
+    let same : due ≡ moment = cc in
+    acts_by (nat_le due s.greatest) (begins Polling (next_sequence s.number) s []) (stays s []) refl refl ∙ ap (λ t. nat_le t s.greatest) same
+due_in (Idle due) s (command ∷ rest) moment is none = absurd (let some : command ∷ rest ≡ [] = none refl in cc)
+due_in (Waiting until sends o) s waiting moment is none =
+    let same : until ≡ moment = cc in
+    acts_by (nat_le until s.greatest) (tries_again sends o s waiting) (stays s waiting)
+    (either_way (λ (t : Ticked). acts t.step ≡ true) (nat_lt sends s.config.sends) (sends_frame (sends + 1) o s waiting) (gives_up o s waiting) (λ h. refl) (λ h. refl))
+    refl
+    ∙ ap (λ t. nat_le t s.greatest) same
+due_in (Pausing until o) s waiting moment is none =
+    let same : until ≡ moment = cc in
+    acts_by (nat_le until s.greatest) (sends_frame 1 o s waiting) (stays s waiting) refl refl ∙ ap (λ t. nat_le t s.greatest) same
+
+-- the state waits for the moment that comes so long after the greatest one seen
+abbrev WaitsFor : ℕ → Session → Type 0
+WaitsFor wait s = moment_of s.state ≡ Some (min (s.greatest + wait) (2 ^ 64 - 1))
+
+due_after : (wait : ℕ) (m : Machine) → WaitsFor wait m.session → (is_idle m.session.state ≡ true → m.waiting ≡ []) → IsDueAfter wait m
+due_after wait m waits none = λ at. due_in m.session.state (seen at m.session) m.waiting (so_long_after wait m) waits none
+
+-- ---- a frame goes out
+
+abbrev SentWaits : ℕ → Ticked → Type 0
+SentWaits wait t = is_some t.step.frame ≡ true → WaitsFor wait t.session × (is_idle t.session.state ≡ false)
+
+sent_waits : (state : State) (s : Session) (w : List Command) → SentWaits s.config.reply_wait (ticks_in state s w)
+sent_waits Closed s w = λ h. cc
+sent_waits (Quiet until) s w =
+    either_way (SentWaits s.config.reply_wait) (nat_le until s.greatest) (begins Opening 0 s w) (stays s w) (λ b h. (refl, refl)) (λ b h. cc)
+sent_waits (Idle due) s (command ∷ w) = λ h. (refl, refl)
+sent_waits (Idle due) s [] =
+    either_way (SentWaits s.config.reply_wait) (nat_le due s.greatest) (begins Polling (next_sequence s.number) s []) (stays s [])
+    (λ b h. (refl, refl)) (λ b h. cc)
+sent_waits (Waiting until sends o) s w =
+    either_way (SentWaits s.config.reply_wait) (nat_le until s.greatest) (tries_again sends o s w) (stays s w)
+    (λ b. either_way (SentWaits s.config.reply_wait) (nat_lt sends s.config.sends) (sends_frame (sends + 1) o s w) (gives_up o s w)
+    (λ c h. (refl, refl)) (λ c h. cc))
+    (λ b h. cc)
+sent_waits (Pausing until o) s w =
+    either_way (SentWaits s.config.reply_wait) (nat_le until s.greatest) (sends_frame 1 o s w) (stays s w) (λ b h. (refl, refl)) (λ b h. cc)
+
+-- ---- an exchange ends
+
+abbrev RestWaits : ℕ → Heard → Type 0
+RestWaits wait h = is_idle h.session.state ≡ true → WaitsFor wait h.session
+
+not_idle : (state : State) → is_outstanding state ≡ true → is_idle state ≡ true → ⊥
+not_idle Closed out idle = cc
+not_idle (Quiet until) out idle = cc
+not_idle (Idle due) out idle = cc
+not_idle (Waiting until sends o) out idle = cc
+not_idle (Pausing until o) out idle = cc
+
+opening_waits : (id : Option PdId) (s : Session) → is_outstanding s.state ≡ true → RestWaits s.config.poll_interval (opening_answered id s)
+opening_waits (Some id) s out = λ idle. refl
+opening_waits None s out = λ idle. absurd (not_idle s.state out idle)
+
+command_waits : (moved : Option Communication) (command : Command) (reply : Reply) (s : Session)
+    → RestWaits s.config.poll_interval (command_answered moved command reply s)
+command_waits (Some answered) command reply s = λ idle. cc
+command_waits None command reply s = λ idle. refl
+
+answered_waits : (x : Exchange) (reply : Reply) (s : Session) → is_outstanding s.state ≡ true → RestWaits s.config.poll_interval (answered x reply s)
+answered_waits Opening reply s out = opening_waits (pd_id_of reply) s out
+answered_waits Polling reply s out = λ idle. refl
+answered_waits (Asking command) reply s out = command_waits (moved_by (comset_of command) (com_of reply)) command reply s
+
+unread_waits : (x : Exchange) (code : ℕ) (s : Session) → is_outstanding s.state ≡ true → RestWaits s.config.poll_interval (answered_unread x code s)
+unread_waits Opening code s out = λ idle. absurd (not_idle s.state out idle)
+unread_waits Polling code s out = λ idle. refl
+unread_waits (Asking command) code s out = λ idle. refl
+
+busy_waits : (o : Outstanding) (s : Session) → RestWaits s.config.poll_interval (hears_busy o s)
+busy_waits o s =
+    either_way (RestWaits s.config.poll_interval) (nat_lt s.config.busy_limit (o.busies + 1)) (loses causes.TooBusy o s)
+    (record { session = record s { state = Pausing (later s.config.busy_wait s) (record o { busies = o.busies + 1 }) }; report = None })
+    (λ b idle. cc) (λ b idle. cc)
+
+waiting_waits : (a : ReplyMeaning) (sends : ℕ) (o : Outstanding) (s : Session) → is_outstanding s.state ≡ true
+    → RestWaits s.config.poll_interval (waiting_hears a sends o s)
+waiting_waits NotTaken sends o s out = busy_waits o s
+waiting_waits Damaged sends o s out = λ idle. cc
+waiting_waits NumberRefused sends o s out = λ idle. cc
+waiting_waits (Plain reply) sends o s out = answered_waits o.exchange reply s out
+waiting_waits (Unreadable code) sends o s out = unread_waits o.exchange code s out
+
+pausing_waits : (a : ReplyMeaning) (o : Outstanding) (s : Session) → is_outstanding s.state ≡ true → RestWaits s.config.poll_interval (pausing_hears a o s)
+pausing_waits NotTaken o s out = λ idle. absurd (not_idle s.state out idle)
+pausing_waits Damaged o s out = λ idle. absurd (not_idle s.state out idle)
+pausing_waits NumberRefused o s out = λ idle. cc
+pausing_waits (Plain reply) o s out = answered_waits o.exchange reply s out
+pausing_waits (Unreadable code) o s out = unread_waits o.exchange code s out
+
+numbered_waits : (state : State) (a : ReplyMeaning) (s : Session) → is_outstanding s.state ≡ true → RestWaits s.config.poll_interval (numbered_in state a s)
+numbered_waits Closed a s out = λ idle. absurd (not_idle s.state out idle)
+numbered_waits (Quiet until) a s out = λ idle. absurd (not_idle s.state out idle)
+numbered_waits (Idle due) a s out = λ idle. absurd (not_idle s.state out idle)
+numbered_waits (Waiting until sends o) a s out = waiting_waits a sends o s out
+numbered_waits (Pausing until o) a s out = pausing_waits a o s out
+
+rest_waits : (p : Packet) (now : ℕ) (s : Session) → is_outstanding s.state ≡ true → RestWaits s.config.poll_interval (hears p now s)
+rest_waits p now s out =
+    either_frame (RestWaits s.config.poll_interval) p now s (λ from number. numbered_waits s.state (meaning_of p) (seen now s) out)
+    (λ idle. absurd (not_idle s.state out idle))
+
+-- ---- BUSY
+
+pauses : (o : Outstanding) (s : Session) → o.busies < s.config.busy_limit
+    → hears_busy o s ≡ record { session = record s { state = Pausing (later s.config.busy_wait s) (record o { busies = o.busies + 1 }) }; report = None }
+pauses o s less =
+    let few : nat_lt s.config.busy_limit (o.busies + 1) ≡ false = le-ltb s.config.busy_limit (o.busies + 1) (omega arith) in
+    ap (λ b. if b then loses causes.TooBusy o s
+    else record { session = record s { state = Pausing (later s.config.busy_wait s) (record o { busies = o.busies + 1 }) }; report = None }) few
+
+-- what holds of the machine after a frame, by what was heard
+abbrev HeardDue : ℕ → Machine → Heard → Type 0
+HeardDue wait m h = IsDueAfter wait (record m { session = h.session })
+
+-- ---- a session begins
+
+begins_quiet : (state : State) (now : ℕ) (m : Machine) → is_closed state ≡ true
+    → changed_unless (refused_unless_closed state) m (after_begin now m) ≡ after_begin now m
+begins_quiet Closed now m closed = refl
+begins_quiet (Quiet until) now m closed = cc
+begins_quiet (Idle due) now m closed = cc
+begins_quiet (Waiting until sends o) now m closed = cc
+begins_quiet (Pausing until o) now m closed = cc
+
+pub waits_as_set : (now : ℕ) (m : Machine) → WaitsAsSet now m
+waits_as_set now m = record {
+  reply = λ p sent.
+      let waits = sent_waits m.session.state (seen now m.session) m.waiting (ap (λ (o : Option Packet). is_some o) sent) in
+      due_after m.session.config.reply_wait (after_call (Tick now) m) waits.0 (λ idle. absurd (let other = waits.1 in cc));
+  poll = λ p out idle none.
+      due_after m.session.config.poll_interval (after_call (Hear p now) m) (rest_waits p now m.session out idle) (λ h. none);
+  busy = λ p until sends o is comes number less.
+      let s = seen now m.session in
+      let heard = (frames_in_steps p now m.session).busy until sends o is comes number ∙ pauses o s less in
+      subst (HeardDue m.session.config.busy_wait m) (sym heard)
+      (due_after m.session.config.busy_wait
+      (record m { session = record s { state = Pausing (later s.config.busy_wait s) (record o { busies = o.busies + 1 }) } }) refl (λ h. absurd cc));
+  quiet = λ closed.
+      subst (IsDueAfter m.session.config.quiet_wait) (sym (begins_quiet m.session.state now m closed))
+      (due_after m.session.config.quiet_wait (after_begin now m) refl (λ h. absurd cc));
+}

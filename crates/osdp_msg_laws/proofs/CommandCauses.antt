@@ -1,0 +1,111 @@
+-- Each code of the table of commands is that of some command.
+use Rattle.std.proofs.Common.{◌≡◌, lit<, lit≤, refl, inl, inr, ℕ, [], ◌∷◌, None}
+use Rattle.std.proofs.lemmas.List.Elements.{All-cons, All-nil}
+use Rattle.osdp_msg.specs.declared.command.Command.{Command}
+use Rattle.osdp_msg.specs.declared.command.Command.TheVariants.{Poll, Id, Cap, LocalStatus, InputStatus, OutputStatus, ReaderStatus, Output, Led, Buzzer, Text, Comset, Maker}
+use Rattle.osdp_msg.specs.declared.leds.LedRecord.{LedRecord}
+use Rattle.osdp_msg.specs.declared.outputs.OutputRecord.{OutputRecord}
+use Rattle.osdp_msg.specs.CommandFields.{LedFits, OutputFits}
+use Rattle.osdp_msg.specs.CommandTable.{CommandFits, IsCommand, command_code, command_counts_agree, command_data, command_fault, command_length_allowed}
+use Rattle.osdp_msg.proofs.Bytes.{IsBytes-each, IsBytes-nil}
+use Rattle.osdp_msg.proofs.Commands.{commands}
+use Rattle.osdp_msg.proofs.Table.{by_codes}
+use Rattle.osdp_msg_laws.specs.Faults.{FaultsHaveCauses}
+use Rattle.osdp_msg_laws.proofs.Causes.{IsNoneOrKnown, faults_have_causes}
+
+known : (m : Command) → CommandFits m → ((len : ℕ) → command_length_allowed (command_code m) len ≡ None → ⊥)
+    → IsNoneOrKnown IsCommand command_length_allowed (command_code m)
+known m fits some = inr ((command_data m, (m, record { code_is = refl; data_is = refl; fits = fits })), some)
+
+output : OutputRecord
+output = record { output = 0; control = 0; timer = 0 }
+
+output_fits : OutputFits output
+unfolding output
+output_fits = record { output = lit< tt; control = lit< tt; timer = lit< tt }
+
+led : LedRecord
+led = record {
+  reader = 0;
+  led = 0;
+  temporary_control = 0;
+  temporary_on_time = 0;
+  temporary_off_time = 0;
+  temporary_on_color = 0;
+  temporary_off_color = 0;
+  timer = 0;
+  permanent_control = 0;
+  permanent_on_time = 0;
+  permanent_off_time = 0;
+  permanent_on_color = 0;
+  permanent_off_color = 0;
+}
+
+led_fits : LedFits led
+unfolding led
+led_fits = record {
+  reader = lit< tt;
+  led = lit< tt;
+  temporary_control = lit< tt;
+  temporary_on_time = lit< tt;
+  temporary_off_time = lit< tt;
+  temporary_on_color = lit< tt;
+  temporary_off_color = lit< tt;
+  timer = lit< tt;
+  permanent_control = lit< tt;
+  permanent_on_time = lit< tt;
+  permanent_off_time = lit< tt;
+  permanent_on_color = lit< tt;
+  permanent_off_color = lit< tt;
+}
+
+knows_text : IsNoneOrKnown IsCommand command_length_allowed 0x6B
+knows_text =
+    known (Text (record { reader = 0; command = 0; time = 0; row = 0; column = 0; characters = record { items = [] } }))
+    (record { reader = lit< tt; command = lit< tt; time = lit< tt; row = lit< tt; column = lit< tt; room = lit≤ tt; characters = IsBytes-nil })
+    (λ len e. (cc))
+
+knows_maker : IsNoneOrKnown IsCommand command_length_allowed 0x80
+knows_maker =
+    known (Maker (record { vendor = 0 ∷ 0 ∷ 0 ∷ []; bytes = record { items = [] } }))
+    (record { vendor_length = refl; vendor = IsBytes-each (0 ∷ 0 ∷ 0 ∷ []) (lit< tt, (lit< tt, (lit< tt, tt))); room = lit≤ tt; bytes = IsBytes-nil })
+    (λ len e. (cc))
+
+codes : (code : ℕ) → IsNoneOrKnown IsCommand command_length_allowed code
+codes code =
+    by_codes (IsNoneOrKnown IsCommand command_length_allowed) code (0x60 ∷ 0x61 ∷ 0x62 ∷ 0x64 ∷ 0x65 ∷ 0x66 ∷ 0x67 ∷ 0x68 ∷ 0x69 ∷ 0x6A ∷ 0x6B ∷ 0x6E ∷ 0x80 ∷ []) (
+      known Poll tt (λ len e. (cc)),
+      (
+        known (Id 0) (lit< tt) (λ len e. (cc)),
+        (
+          known (Cap 0) (lit< tt) (λ len e. (cc)),
+          (
+            known LocalStatus tt (λ len e. (cc)),
+            (
+              known InputStatus tt (λ len e. (cc)),
+              (
+                known OutputStatus tt (λ len e. (cc)),
+                (
+                  known ReaderStatus tt (λ len e. (cc)),
+                  (
+                    known (Output (output ∷ [])) (lit< tt, lit≤ tt, All-cons OutputFits output [] output_fits (All-nil OutputFits)) (λ len e. (cc)),
+                    (
+                      known (Led (led ∷ [])) (lit< tt, lit≤ tt, All-cons LedFits led [] led_fits (All-nil LedFits)) (λ len e. (cc)),
+                      (
+                        known (Buzzer (record { reader = 0; tone = 0; on_time = 0; off_time = 0; count = 0 })) (lit< tt, lit< tt, lit< tt, lit< tt, lit< tt) (λ len e. (cc)),
+                        (knows_text, (known (Comset (record { address = 0; baud_rate = 0 })) (lit< tt, lit< tt) (λ len e. (cc)), (knows_maker, tt))),
+                      ),
+                    ),
+                  ),
+                ),
+              ),
+            ),
+          ),
+        ),
+      ),
+    )
+    λ n0 n1 n2 n3 n4 n5 n6 n7 n8 n9 nA nB nC. inl (λ len. rw (n0, n1, n2, n3, n4, n5, n6, n7, n8, n9, nA, nB, nC) refl)
+
+pub command_causes : FaultsHaveCauses IsCommand command_length_allowed command_fault
+unfolding command_fault
+command_causes = faults_have_causes command_length_allowed command_counts_agree commands codes
