@@ -8,7 +8,7 @@ use Rattle.osdp_panel_calls.specs.declared.call.PanelCall.{PanelCall}
 use Rattle.osdp_panel_calls.specs.declared.call.PanelCall.TheVariants.{At, Add, Begin, Submit, Withdraw, Retarget, Bytes, Silence, Tick}
 use Rattle.osdp_panel_calls.specs.Calls.{CallFits, call_words}
 use Rattle.osdp_panel_calls.specs.Lines.{Answers, IsAnswered, refuses}
-use Rattle.osdp_panel_calls.specs.Sessions.{Called, IsDue, Session, answered, ended, told}
+use Rattle.osdp_panel_calls.specs.Sessions.{Called, IsDue, Session, answered, ended}
 use Rattle.osdp_panel_calls.specs.Texts.{due_line, report_line}
 use Rattle.osdp_line_laws.proofs.Lines.{of_all}
 use Rattle.osdp_line_laws.specs.PanelLines.{Calls, Refused, calls_text, ordered}

@@ -9,16 +9,16 @@ use Rattle.osdp_device.specs.declared.status.DeviceStatus.{DeviceStatus}
 use Rattle.osdp_frame.specs.Items.{items}
 use Rattle.osdp_frame.specs.Reading.{RunItem, PacketItem, SkippedItem, RefusedItem}
 use Rattle.osdp_line_streams.specs.Answers.{Speaks}
-use Rattle.osdp_line_streams.specs.Calls.{SaysNothing}
+use Rattle.osdp_line_streams.specs.Calls.{Says, SaysNothing}
 use Rattle.osdp_reader.specs.State.{ReaderState}
 use Rattle.osdp_reader_calls.specs.declared.call.ReaderCall.{ReaderCall}
 use Rattle.osdp_reader_calls.specs.declared.call.ReaderCall.TheVariants.{At, Bytes, Silence, Tick, Event, Busy, Inputs, Outputs, Readers, Local}
 use Rattle.osdp_reader_calls.specs.Calls.{CallFits, call_words}
 use Rattle.osdp_reader_calls.specs.Lines.{Answers, IsAnswered}
-use Rattle.osdp_reader_calls.specs.Sessions.{Called, Session, does}
+use Rattle.osdp_reader_calls.specs.Sessions.{Called, Session, does, submit_text}
 use Rattle.osdp_reader_calls.specs.Texts.{all_lines, said_lines, waiting_line}
 use Rattle.osdp_line_laws.proofs.Lines.{of_all}
-use Rattle.osdp_line_laws.specs.ReaderLines.{Hears, Refused, SetsBusy, SetsStatus, Step, Submits, TakesSteps, after_step, after_steps, step_text, steps_text}
+use Rattle.osdp_line_laws.specs.ReaderLines.{Hears, Refused, Step, TakesSteps, after_step, after_steps, hears_held, hears_packets, hears_with, ordered, step_text, steps_text}
 
 abbrev Reader : Type 0
 Reader = ReaderState DeviceStatus
@@ -41,27 +41,18 @@ lines_more (s ∷ first) more = ap (λ l. said_lines s ++ l) (lines_more first m
 
 -- ---- what was heard: its packets are steps
 
--- the steps that bring a reader to what is heard, and what they tell
-record Comes (r : Reader) (h : Heard DeviceStatus) : Type 0 where
-  steps : List Step
+-- these steps bring a reader to what is heard, and tell it
+record Comes (r : Reader) (steps : List Step) (h : Heard DeviceStatus) : Type 0 where
   reader : h.reader ≡ after_steps steps r
   text : all_lines h.said ≡ steps_text steps r
 
-packets : List RunItem → List Step
-packets [] = []
-packets (PacketItem p ∷ parts) = Hears p ∷ packets parts
-packets (SkippedItem byte ∷ parts) = packets parts
-packets (RefusedItem fault ∷ parts) = packets parts
-
-after_packets : (parts : List RunItem) (r : Reader) → after_items status_answer status_after parts r ≡ after_steps (packets parts) r
-unfolding packets
+after_packets : (parts : List RunItem) (r : Reader) → after_items status_answer status_after parts r ≡ after_steps (hears_packets parts) r
 after_packets [] r = refl
 after_packets (PacketItem p ∷ parts) r = after_packets parts (after_step (Hears p) r)
 after_packets (SkippedItem byte ∷ parts) r = after_packets parts r
 after_packets (RefusedItem fault ∷ parts) r = after_packets parts r
 
-text_packets : (parts : List RunItem) (r : Reader) → all_lines (said_to_all status_answer status_after parts r) ≡ steps_text (packets parts) r
-unfolding packets
+text_packets : (parts : List RunItem) (r : Reader) → all_lines (said_to_all status_answer status_after parts r) ≡ steps_text (hears_packets parts) r
 text_packets [] r = refl
 text_packets (PacketItem p ∷ parts) r =
     lines_more _ (said_to_all status_answer status_after parts (after_step (Hears p) r))
@@ -69,65 +60,77 @@ text_packets (PacketItem p ∷ parts) r =
 text_packets (SkippedItem byte ∷ parts) r = text_packets parts r
 text_packets (RefusedItem fault ∷ parts) r = text_packets parts r
 
-all_read : (r : Reader) (l : Received) → Comes r (reads_all status_answer status_after r l)
-all_read r l = record { steps = packets (items_of l.held); reader = after_packets (items_of l.held) r; text = text_packets (items_of l.held) r }
+all_read : (r : Reader) (l : Received) → Comes r (hears_held l) (reads_all status_answer status_after r l)
+all_read r l = record { reader = after_packets (items_of l.held) r; text = text_packets (items_of l.held) r }
 
-on_read : (bytes : List ℕ) (r : Reader) (l : Received) → Comes r (reads_on status_answer status_after bytes r l)
+-- what the bytes decide after it
+on_packets : List ℕ → Received → List Step
+on_packets bytes l = hears_packets (items false (l.held.bytes ++ bytes))
+
+on_read : (bytes : List ℕ) (r : Reader) (l : Received) → Comes r (on_packets bytes l) (reads_on status_answer status_after bytes r l)
+unfolding on_packets
 on_read bytes r l =
     let parts = items false (l.held.bytes ++ bytes) in
-    record { steps = packets parts; reader = after_packets parts r; text = text_packets parts r }
+    record { reader = after_packets parts r; text = text_packets parts r }
 
-both_read : (bytes : List ℕ) (r : Reader) (h : Heard DeviceStatus) → Comes r h → Comes r (then_reads status_answer status_after bytes h)
-both_read bytes r h first =
+both_read : (bytes : List ℕ) (r : Reader) (steps : List Step) (h : Heard DeviceStatus) → Comes r steps h
+    → Comes r (steps ++ on_packets bytes h.line) (then_reads status_answer status_after bytes h)
+both_read bytes r steps h first =
     let next = on_read bytes h.reader h.line in
+    let more = on_packets bytes h.line in
     let on = reads_on status_answer status_after bytes h.reader h.line in
     record {
-      steps = first.steps ++ next.steps;
-      reader = next.reader ∙ ap (after_steps next.steps) first.reader ∙ sym (after_more first.steps next.steps r);
+      reader = next.reader ∙ ap (after_steps more) first.reader ∙ sym (after_more steps more r);
       text = lines_more h.said on.said ∙ ap (λ t. t ++ all_lines on.said) first.text
-          ∙ ap (λ t. steps_text first.steps r ++ t) (next.text ∙ ap (steps_text next.steps) first.reader)
-          ∙ sym (text_more first.steps next.steps r);
+          ∙ ap (λ t. steps_text steps r ++ t) (next.text ∙ ap (steps_text more) first.reader)
+          ∙ sym (text_more steps more r);
     }
 
-bytes_read : (bytes : List ℕ) (now : ℕ) (r : Reader) (l : Received) → Comes r (hears_bytes status_answer status_after bytes now r l)
+bytes_read : (bytes : List ℕ) (now : ℕ) (r : Reader) (l : Received) → Comes r (hears_with bytes (seen now l)) (hears_bytes status_answer status_after bytes now r l)
+unfolding on_packets
 bytes_read [] now r l = all_read r (seen now l)
-bytes_read (byte ∷ bytes) now r l = both_read (byte ∷ bytes) r (reads_all status_answer status_after r (ends_silent (seen now l))) (all_read r (ends_silent (seen now l)))
+bytes_read (byte ∷ bytes) now r l =
+    let run = ends_silent (seen now l) in
+    both_read (byte ∷ bytes) r (hears_held run) (reads_all status_answer status_after r run) (all_read r run)
 
 -- ---- a call
 
--- the steps of a call, and what they tell, without the count at the end
+-- the steps that a call orders are what it does, and tell what it does, without the count at the end
 record Does (call : ReaderCall) (s : Session) : Type 0 where
-  steps : List Step
-  reader : (does call s).session.reader ≡ after_steps steps s.reader
-  text : (does call s).text ≡ steps_text steps s.reader
+  reader : (does call s).session.reader ≡ after_steps (ordered call s) s.reader
+  text : (does call s).text ≡ steps_text (ordered call s) s.reader
 
-heard_steps : (call : ReaderCall) (s : Session) (h : Heard DeviceStatus) → Comes s.reader h → (does call s).session.reader ≡ h.reader → (does call s).text ≡ all_lines h.said → Does call s
-heard_steps call s h comes reader text = record { steps = comes.steps; reader = reader ∙ comes.reader; text = text ∙ comes.text }
+heard_steps : (call : ReaderCall) (s : Session) (h : Heard DeviceStatus) → Comes s.reader (ordered call s) h
+    → (does call s).session.reader ≡ h.reader → (does call s).text ≡ all_lines h.said → Does call s
+heard_steps call s h comes reader text = record { reader = reader ∙ comes.reader; text = text ∙ comes.text }
 
 call_steps : (call : ReaderCall) (s : Session) → Does call s
-call_steps (At later) s = record { steps = []; reader = refl; text = refl }
+call_steps (At later) s = record { reader = refl; text = refl }
 call_steps (Bytes list) s = heard_steps (Bytes list) s _ (bytes_read list.items s.now s.reader s.line) refl refl
 call_steps Silence s = heard_steps Silence s _ (all_read s.reader (after_silence s.now s.line)) refl refl
 call_steps Tick s = heard_steps Tick s _ (all_read s.reader (after_tick s.now s.line)) refl refl
-call_steps (Event event) s = record { steps = Submits event ∷ []; reader = refl; text = sym (append-nil (step_text (Submits event) s.reader)) }
-call_steps (Busy busy) s = record { steps = SetsBusy busy ∷ []; reader = refl; text = refl }
-call_steps (Inputs list) s = record { steps = SetsStatus (record s.reader.handler { inputs = list }) ∷ []; reader = refl; text = refl }
-call_steps (Outputs list) s = record { steps = SetsStatus (record s.reader.handler { outputs = list }) ∷ []; reader = refl; text = refl }
-call_steps (Readers list) s = record { steps = SetsStatus (record s.reader.handler { readers = list }) ∷ []; reader = refl; text = refl }
-call_steps (Local tamper power) s = record { steps = SetsStatus (record s.reader.handler { tamper = tamper; power = power }) ∷ []; reader = refl; text = refl }
+call_steps (Event event) s = record { reader = refl; text = sym (append-nil (submit_text s.reader)) }
+call_steps (Busy busy) s = record { reader = refl; text = refl }
+call_steps (Inputs list) s = record { reader = refl; text = refl }
+call_steps (Outputs list) s = record { reader = refl; text = refl }
+call_steps (Readers list) s = record { reader = refl; text = refl }
+call_steps (Local tamper power) s = record { reader = refl; text = refl }
 
 pub of_line : (s : Session) (given text : List ℕ) (next : Session) (c : Called) → IsAnswered given s c → text ≡ c.text → next ≡ c.session
-    → TakesSteps s text next ⊎ (SaysNothing call_words CallFits given × Refused s text next)
+    → ((call : ReaderCall) × Says call_words CallFits given call × TakesSteps s (ordered call s) text next) ⊎ (SaysNothing call_words CallFits given × Refused s text next)
 of_line s given text next c (inl (call, says, is)) text_is next_is =
     let d = call_steps call s in
     let next_is_done : next ≡ (does call s).session = next_is ∙ ap (λ (x : Called). x.session) is in
-    inl (record {
-      steps = d.steps;
-      reader = ap (λ (x : Session). x.reader) next_is_done ∙ d.reader;
-      told = text_is ∙ ap (λ (x : Called). x.text) is
-          ∙ ap (λ t. t ++ waiting_line (length (does call s).session.reader.queue.events)) d.text
-          ∙ ap (λ (x : Session). steps_text d.steps s.reader ++ waiting_line (length x.reader.queue.events)) (sym next_is_done);
-    })
+    inl (
+      call,
+      says,
+      record {
+        reader = ap (λ (x : Session). x.reader) next_is_done ∙ d.reader;
+        told = text_is ∙ ap (λ (x : Called). x.text) is
+            ∙ ap (λ t. t ++ waiting_line (length (does call s).session.reader.queue.events)) d.text
+            ∙ ap (λ (x : Session). steps_text (ordered call s) s.reader ++ waiting_line (length x.reader.queue.events)) (sym next_is_done);
+      },
+    )
 of_line s given text next c (inr (nothing, is)) text_is next_is =
     inr (nothing, record { same = next_is ∙ ap (λ (x : Called). x.session) is; told = text_is ∙ ap (λ (x : Called). x.text) is })
 
@@ -135,7 +138,7 @@ of_line s given text next c (inr (nothing, is)) text_is next_is =
 
 steps_of_line : (s : Session) (given text : List ℕ) (next : Session) → Answers s given text next → (steps : List Step) × (next.reader ≡ after_steps steps s.reader)
 steps_of_line s given text next a = elim (of_line s given text next a.called a.is a.text_is a.next_is) as (λ r. (steps : List Step) × (next.reader ≡ after_steps steps s.reader)) [
-  | inl taken ↦ (taken.steps, taken.reader)
+  | inl taken ↦ (ordered taken.0 s, taken.2.reader)
   | inr refused ↦ ([], ap (λ (x : Session). x.reader) refused.1.same)
 ]
 

@@ -18,8 +18,9 @@ pub fn a_panel_comes_of_calls()
     ensures { ComesOfCalls }
 {}
 
-/// A line to a reader's device is packets that the reader hears, an event that is submitted, or what the device sets: what is written is what
-/// the reader's table says to these packets, and how many events wait. A line that is none changes nothing.
+/// A line to a reader's device is the steps that it orders: it hears the packets that the bytes on its line decide, submits an event, sets busy
+/// or a status, or does nothing. What is written is what the reader's table says to these packets, that there is no room for the event, and
+/// how many events wait. A line that is none changes nothing.
 pub fn a_line_is_steps()
     ensures { IsStepsOrNone }
 {}

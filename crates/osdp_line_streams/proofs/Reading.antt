@@ -1,5 +1,5 @@
 -- An input that is read piece by piece, to its end.
-use Rattle.std.proofs.Common.{◌≡◌, ◌≢◌, ℕ, Bool, false, List, [], ◌∷◌, ◌++◌, length, Option, Result, Ok, Err, IsErrAnd, refl, sym, subst, ap, ◌∙◌, arith, append-nil}
+use Rattle.std.proofs.Common.{◌≡◌, ◌≢◌, ℕ, ◌+◌, ◌≤◌, Bool, false, List, [], ◌∷◌, ◌++◌, length, length-append, Option, Result, Ok, Err, IsErrAnd, refl, sym, subst, ap, ◌∙◌, arith, append-nil}
 use Rattle.std.proofs.KnownBytes.{Appends-nil, Appends-trans, Consumes-nil, Consumes-kept, Consumes-trans}
 use Rattle.std.specs.Io.KnownBytes.{Consumes, Keeps}
 use Rattle.osdp_tool_input.specs.Cut.{ended_after, unended_after, ended_lines, last_line, lines_of, unended_line}
@@ -14,14 +14,18 @@ use Rattle.osdp_line_streams.proofs.Stopping.{all_written, follows_none, goes_bo
 
 -- ---- pieces
 
-pub read_more : {M : Type 0} (answers : Answering M) (old mid new : M) (line middle next piece : List ℕ) (ib i1 i2 before between after : Option (List ℕ))
-    → ReadAll answers old line mid middle ib i1 before between → Consumes i1 i2 piece → Goes answers piece mid middle between new next after
-    → ReadAll answers old line new next ib i2 before after
-read_more answers old mid new line middle next piece ib i1 i2 before between after so_far taken goes = record {
-  read = so_far.read ++ piece;
-  taken = Consumes-trans ib i1 i2 so_far.read piece so_far.taken taken;
-  goes = goes_both answers so_far.read piece old mid new line middle next before between after so_far.goes goes;
-}
+pub read_more : {M : Type 0} (answers : Answering M) (old mid new : M) (line middle next piece : List ℕ) (ib i1 i2 before between after : Option (List ℕ)) (count : ℕ)
+    → (so_far : ReadAll answers old line mid middle ib i1 before between) → count ≤ length so_far.read
+    → Consumes i1 i2 piece → 1 ≤ length piece → Goes answers piece mid middle between new next after
+    → (all : ReadAll answers old line new next ib i2 before after) × (count + 1 ≤ length all.read)
+read_more answers old mid new line middle next piece ib i1 i2 before between after count so_far counted taken some goes = (
+  record {
+    read = so_far.read ++ piece;
+    taken = Consumes-trans ib i1 i2 so_far.read piece so_far.taken taken;
+    goes = goes_both answers so_far.read piece old mid new line middle next before between after so_far.goes goes;
+  },
+  omega (arith, length-append so_far.read piece),
+)
 
 pub read_kept : {M : Type 0} (answers : Answering M) (old mid : M) (line middle : List ℕ) (ib i1 i2 before between : Option (List ℕ))
     → ReadAll answers old line mid middle ib i1 before between → Keeps i1 i2 → ReadAll answers old line mid middle ib i2 before between
@@ -86,8 +90,9 @@ some answers old ib ia before after fault r =
 
 pub ends_stopped : {M : Type 0} (answers : Answering M) (old new : M) (next : List ℕ) (ib ia before after : Option (List ℕ)) (input_failed failed : Bool) (fault : ToolFault)
     → Reads answers old [] new next ib ia input_failed before after failed (Err fault) → Ends answers old new ib ia input_failed before after failed (Err fault)
+unfolding ended
 ends_stopped answers old new next ib ia before after input_failed failed ReadFailed r = (ended answers old new next ib ia before after r.0, r.1)
-ends_stopped answers old new next ib ia before after input_failed failed TooLong r = (ended answers old new next ib ia before after r.0, r.1, r.2)
+ends_stopped answers old new next ib ia before after input_failed failed TooLong r = (ended answers old new next ib ia before after r.0, r.1, r.2, r.3)
 ends_stopped answers old new next ib ia before after input_failed failed NoMemory r = (some answers old ib ia before after NoMemory r.0, r.1, r.2)
 ends_stopped answers old new next ib ia before after input_failed failed WriteFailed r = (some answers old ib ia before after WriteFailed r.0, r.1, r.2)
 ends_stopped answers old new next ib ia before after input_failed failed fault r = absurd r

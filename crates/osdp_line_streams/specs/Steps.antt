@@ -1,5 +1,5 @@
 -- How an input of lines is read, byte by byte.
-use Rattle.std.specs.Prelude.{◌≡◌, ℕ, Bool, true, false, List, ◌++◌, take, Option, Result, Ok, Err}
+use Rattle.std.specs.Prelude.{◌≡◌, ℕ, ◌-◌, ◌^◌, ◌≤◌, Bool, true, false, List, ◌++◌, length, take, Option, Result, Ok, Err}
 use Rattle.std.specs.Io.KnownBytes.{Appends, Consumes, IsAtEnd, Keeps}
 use Rattle.osdp_tool_input.specs.Cut.{ended_lines, unended_line}
 use Rattle.osdp_tool_streams.specs.declared.fault.ToolFault.{ToolFault}
@@ -84,6 +84,10 @@ StopsIn {M} answers piece old line before after fault =
 
 -- ---- all pieces
 
+-- how many reads are made at most, of which each brings a byte or more but the last
+abbrev pub most_reads : ℕ
+most_reads = 2 ^ 64 - 1
+
 -- all that was read, at the end of the input
 pub record ReadAll {M : Type 0} (answers : Answering M) (old : M) (line : List ℕ) (new : M) (next : List ℕ)
     (input_before input_after before after : Option (List ℕ)) : Type 0 where
@@ -104,7 +108,8 @@ Reads answers old line new next input_before input_after input_failed before aft
 Reads answers old line new next input_before input_after input_failed before after failed (Err ReadFailed) =
     ReadAll answers old line new next input_before input_after before after × (input_failed ≡ true) × (failed ≡ false)
 Reads answers old line new next input_before input_after input_failed before after failed (Err TooLong) =
-    ReadAll answers old line new next input_before input_after before after × (input_failed ≡ false) × (failed ≡ false)
+    (all : ReadAll answers old line new next input_before input_after before after) × (most_reads ≤ length all.read)
+    × (input_failed ≡ false) × (failed ≡ false)
 Reads answers old line new next input_before input_after input_failed before after failed (Err NoMemory) =
     ReadSome answers old line input_before input_after before after NoMemory × (input_failed ≡ false) × (failed ≡ false)
 Reads answers old line new next input_before input_after input_failed before after failed (Err WriteFailed) =

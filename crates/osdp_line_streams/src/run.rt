@@ -42,7 +42,8 @@ fn read_lines<M: LineMachine, R: Read, W: Write>(
 ///
 /// A line ends at a line feed, or with the input where characters stand before that. Of a longer line its first 8,193 characters are
 /// handed to the machine. Where a stream fails, that is told, and where memory is refused; what was written is then a beginning of the
-/// answers. A stream that has failed before is told, the input first, and nothing is read. TooLong after 2^64 - 1 reads.
+/// answers. A stream that has failed before is told, the input first, and nothing is read. TooLong after 2^64 - 1 reads, each of which gave
+/// a byte or more.
 pub fn answer_lines<M: LineMachine, R: Read, W: Write>(
     alloc: Global,
     machine: &mut M,
