@@ -1,5 +1,10 @@
--- The characters of a line of a script.
-use Rattle.std.specs.Prelude.{ℕ, ◌==◌, not, Bool, true, if◌then◌else◌, List, [], ◌∷◌, filter}
+-- A line of a script, and its characters.
+use Rattle.std.specs.Prelude.{◌≡◌, ◌⊎◌, ℕ, ◌==◌, not, Bool, true, if◌then◌else◌, List, [], ◌∷◌, ◌++◌, filter}
+use Rattle.osdp_tool_input.specs.Cut.{line_feed}
+
+-- the bytes are a line, a line feed and the rest; or they are the line alone, and nothing is left
+abbrev pub BeginsWithLine : List ℕ → List ℕ → List ℕ → Type 0
+BeginsWithLine bytes line rest = (bytes ≡ line ++ line_feed ∷ rest) ⊎ ((bytes ≡ line) × (rest ≡ []))
 
 -- the characters that count: a carriage return is dropped wherever it stands, inside a word too
 abbrev pub characters : List ℕ → List ℕ

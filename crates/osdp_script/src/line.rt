@@ -2,14 +2,15 @@
 
 ghost use Rattle.std.specs.Prelude.{◌≡◌, ◌<◌, ◌∷◌, [], length, IfOk, IfSome, MatchOption};
 ghost use Rattle.osdp_tool_input.specs.Cut.{lines_of};
-ghost use Rattle.osdp_script.specs.Words.{characters, is_passed_over};
+ghost use Rattle.osdp_script.specs.Words.{BeginsWithLine, characters, is_passed_over};
 
 use std::alloc::{AllocError, Global};
 
-/// The first line, without the line feed that ends it, and the bytes after it.
-#[tactic(auto, using(crate::proofs::Cutting::first_cut, crate::proofs::Cutting::last_alone))]
+/// The first line, without the line feed that ends it, and all bytes after that.
+#[tactic(auto, using(crate::proofs::Cutting::bytes_cut, crate::proofs::Cutting::first_cut, crate::proofs::Cutting::last_alone))]
 pub fn first_line(bytes: &[u8]) -> Option<(&[u8], &[u8])>
     ensures line { MatchOption result (lines_of bytes.now ≡ []) (λ cut. lines_of bytes.now ≡ cut.0.now ∷ lines_of cut.1.now) }
+    ensures whole { IfSome result (λ cut. BeginsWithLine bytes.now cut.0.now cut.1.now) }
     ensures shorter { IfSome result (λ cut. length cut.1.now < length bytes.now) }
 {
     if bytes.is_empty() {

@@ -9,7 +9,7 @@ use osdp_sim::{Move, Schedule, SimStep};
 
 /// What of a round without losses is still to come.
 #[derive(Clone, Copy, Debug, PartialEq, Eq)]
-pub enum Phase {
+enum Phase {
     /// Nothing: it is over.
     Over,
     /// The burst to the reader comes through, and then the one to the controller.
@@ -22,11 +22,11 @@ pub enum Phase {
 #[derive(Drop)]
 pub struct ScriptSteps<'a> {
     /// What is left of a round.
-    pub phase: Phase,
+    phase: Phase,
     /// How many rounds follow it.
-    pub rounds: usize,
+    rounds: usize,
     /// The lines after them.
-    pub rest: &'a [ScriptStep],
+    rest: &'a [ScriptStep],
 }
 
 impl Script {
