@@ -121,16 +121,13 @@ pub of_line : (s : Session) (given text : List ℕ) (next : Session) (c : Called
 of_line s given text next c (inl (call, says, is)) text_is next_is =
     let d = call_steps call s in
     let next_is_done : next ≡ (does call s).session = next_is ∙ ap (λ (x : Called). x.session) is in
-    inl (
-      call,
-      says,
-      record {
-        reader = ap (λ (x : Session). x.reader) next_is_done ∙ d.reader;
-        told = text_is ∙ ap (λ (x : Called). x.text) is
-            ∙ ap (λ t. t ++ waiting_line (length (does call s).session.reader.queue.events)) d.text
-            ∙ ap (λ (x : Session). steps_text (ordered call s) s.reader ++ waiting_line (length x.reader.queue.events)) (sym next_is_done);
-      },
-    )
+    let steps : TakesSteps s (ordered call s) text next = record {
+      reader = ap (λ (x : Session). x.reader) next_is_done ∙ d.reader;
+      told = text_is ∙ ap (λ (x : Called). x.text) is
+          ∙ ap (λ t. t ++ waiting_line (length (does call s).session.reader.queue.events)) d.text
+          ∙ ap (λ (x : Session). steps_text (ordered call s) s.reader ++ waiting_line (length x.reader.queue.events)) (sym next_is_done);
+    } in
+    inl (call, says, steps)
 of_line s given text next c (inr (nothing, is)) text_is next_is =
     inr (nothing, record { same = next_is ∙ ap (λ (x : Called). x.session) is; told = text_is ∙ ap (λ (x : Called). x.text) is })
 
