@@ -13,6 +13,7 @@ use Rattle.osdp_msg.specs.declared.reply.Reply.TheVariants as reply
 use Rattle.osdp_msg.specs.declared.reply_fields.PdCap.{PdCap}
 use Rattle.osdp_msg.specs.Events.{event_reply}
 use Rattle.osdp_msg.specs.ReplyTable.{reply_of}
+use Rattle.osdp_msg.specs.Limits.{most_data}
 use Rattle.osdp_reader.specs.declared.fault.ReaderFault.{ReaderFault}
 use Rattle.osdp_reader.specs.declared.fault.ReaderFault.TheVariants.{NoMemory, OutOfRange}
 use Rattle.osdp_reader.specs.State.{ReaderState, after_set_busy, after_set_handler, after_submit, new_reader}
@@ -91,7 +92,7 @@ tells s m = sets (after_set_handler s m.device.reader) m
 
 -- there is room for as many inputs, outputs and readers as a reply tells
 abbrev pub states_of : List ℕ → Option (ArrayVec ℕ)
-states_of states = if nat_le (length states) 1432 then Some (record { items = states }) else None
+states_of states = if nat_le (length states) most_data then Some (record { items = states }) else None
 
 -- the states of its inputs, outputs or readers are others
 abbrev pub with_states : StateList → ArrayVec ℕ → DeviceStatus → DeviceStatus

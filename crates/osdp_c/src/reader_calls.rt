@@ -10,7 +10,7 @@ use osdp_c_handle::ReaderMachine;
 use osdp_c_values::{AnswerStruct, ReaderSettings, Status};
 use osdp_device::{Device, DeviceStatus};
 use osdp_frame::Address;
-use osdp_msg::{Event, MsgFault, PdCap, Reply};
+use osdp_msg::{Event, MAX_DATA, MsgFault, PdCap, Reply};
 use osdp_reader::{Reader, ReaderConfig, ReaderFault};
 use std::alloc::Global;
 
@@ -85,7 +85,7 @@ pub(crate) fn new_box(
 }
 
 /// A list of a state for each input, output or reader. None where there are more than a reply tells.
-fn read_states(states: &[u8]) -> Option<ArrayVec<u8, 1432>>
+fn read_states(states: &[u8]) -> Option<ArrayVec<u8, MAX_DATA>>
     ensures { result ≡ states_of states.now }
 {
     let mut list = ArrayVec::new();

@@ -3,7 +3,7 @@
 ghost use Rattle.std.specs.Prelude.{◌≡◌, ◌≤◌, length};
 ghost use Rattle.osdp_c_values.specs.Structs.{burst_of, filled, sent_items};
 
-use osdp_frame::Burst;
+use osdp_frame::{Burst, MAX_PACKET};
 
 /// Writes bytes to the front of an array; the others stay as they were.
 pub(crate) fn fill(room: &mut [u8], bytes: &[u8])
@@ -20,13 +20,13 @@ pub struct BurstStruct {
     /// How many there are.
     pub length: u32,
     /// The bytes.
-    pub bytes: [u8; 1440],
+    pub bytes: [u8; MAX_PACKET],
 }
 
 impl BurstStruct {
     /// Writes these bytes.
     pub fn set(&mut self, bytes: &[u8])
-        requires { length bytes.now ≤ 1440 }
+        requires { length bytes.now ≤ MAX_PACKET }
         ensures { self.new ≡ burst_of bytes.now self.old }
     {
         self.length = bytes.len() as u32;

@@ -5,7 +5,7 @@ ghost use Rattle.std.specs.Option.{option_copied};
 ghost use Rattle.osdp_c_values.specs.Structs.{command_struct, message_of, no_message, reply_struct, spelled_message};
 
 use crate::arrays::fill;
-use osdp_msg::{Command, Reply};
+use osdp_msg::{Command, MAX_DATA, MAX_MESSAGE, Reply};
 
 /// A command or a reply, where there is one.
 #[repr(C)]
@@ -18,7 +18,7 @@ pub struct MessageStruct {
     /// Its code.
     pub code: u8,
     /// Its data.
-    pub body: [u8; 1432],
+    pub body: [u8; MAX_DATA],
 }
 
 impl MessageStruct {
@@ -33,7 +33,7 @@ impl MessageStruct {
 
     /// The message of this code and data.
     pub fn set(&mut self, code: u8, body: &[u8])
-        requires { length body.now ≤ 1432 }
+        requires { length body.now ≤ MAX_DATA }
         ensures { self.new ≡ message_of code body.now self.old }
     {
         self.length = body.len() as u16;
@@ -45,7 +45,7 @@ impl MessageStruct {
     /// A code, and the data after it.
     fn set_spelled(&mut self, spelled: &[u8])
         requires some { 0 < length spelled.now }
-        requires room { length spelled.now ≤ 1433 }
+        requires room { length spelled.now ≤ MAX_MESSAGE }
         ensures { self.new ≡ spelled_message spelled.now self.old }
     {
         self.set(spelled[0], &spelled[1..]);

@@ -3,4 +3,3 @@ pub mod Asking
 pub mod Choices
 pub mod Keeping
 pub mod Over
-pub mod Told

@@ -5,7 +5,6 @@ use Rattle.osdp_msg.specs.declared.command.Command.{Command}
 use Rattle.osdp_msg.specs.declared.command.Command.TheVariants.{Comset}
 use Rattle.osdp_msg.specs.declared.command_fields.Communication.{Communication}
 use Rattle.osdp_msg.specs.declared.event.Event.{Event as EventOfReader}
-use Rattle.osdp_msg.specs.declared.event.Event.TheVariants as events
 use Rattle.osdp_msg.specs.declared.reply.Reply.{Reply}
 use Rattle.osdp_msg.specs.declared.reply.Reply.TheVariants as replies
 use Rattle.osdp_msg.specs.declared.reply_fields.PdId.{PdId}
@@ -47,17 +46,6 @@ is_from_reader p s = p.reply && p.address == s.config.address && not p.block
 -- it has the number of the exchange; a BUSY may have 0
 abbrev pub is_numbered : ℕ → ReplyMeaning → Session → Bool
 is_numbered number answer s = number == s.number || number == 0 && is_not_taken answer
-
--- the event that a reply tells
-abbrev pub event_in : Reply → Option EventOfReader
-event_in (replies.LocalState s) = Some (events.LocalState s)
-event_in (replies.Inputs states) = Some (events.Inputs states)
-event_in (replies.Outputs states) = Some (events.Outputs states)
-event_in (replies.Readers states) = Some (events.Readers states)
-event_in (replies.Raw r) = Some (events.Raw r)
-event_in (replies.Formatted f) = Some (events.Formatted f)
-event_in (replies.Keypad k) = Some (events.Keypad k)
-event_in _ = None
 
 -- one more BUSY: the exchange pauses, or the session ends where there are more than are allowed
 abbrev pub hears_busy : Outstanding → Session → Heard

@@ -1,6 +1,6 @@
 //! The table of frames.
 
-ghost use Rattle.std.specs.Prelude.{◌≡◌, ◌<◌, [], ◌∷◌, true, false, Option, None, Some, is_none, is_some, IfSome, MatchResult};
+ghost use Rattle.std.specs.Prelude.{◌≡◌, ◌<◌, [], ◌∷◌, true, false, Option, None, Some, is_none, is_some, IfSome};
 ghost use Rattle.osdp_controller.specs.declared.meaning.ReplyMeaning.TheVariants.{Plain, Unreadable};
 ghost use Rattle.osdp_controller.specs.declared.report.Report.TheVariants.{Moved, Settled};
 ghost use Rattle.osdp_msg.specs.declared.reply.Reply.TheVariants.{Ack};
@@ -8,7 +8,8 @@ ghost use Rattle.osdp_msg.specs.declared.command.Command.{Command};
 ghost use Rattle.osdp_controller.specs.declared.state.Stage.TheVariants as stages;
 ghost use Rattle.osdp_controller.specs.Answers.{meaning_of};
 ghost use Rattle.osdp_controller.specs.Exchanges.{submitted_command};
-ghost use Rattle.osdp_controller.specs.Hearing.{answered, answered_unread, com_of, comset_of, event_in, hears, hears_busy, hears_in, is_ack, is_from_reader, is_numbered, loses, moved_by, opening_answered, pausing_hears, pd_id_of, poll_told, rests, waiting_hears};
+ghost use Rattle.osdp_msg.specs.Events.{event_in};
+ghost use Rattle.osdp_controller.specs.Hearing.{answered, answered_unread, com_of, comset_of, hears, hears_busy, hears_in, is_ack, is_from_reader, is_numbered, loses, moved_by, opening_answered, pausing_hears, pd_id_of, poll_told, rests, waiting_hears};
 ghost use Rattle.osdp_controller.specs.Held.{exchange_of, outstanding_in, sends_in, stage_of};
 ghost use Rattle.osdp_controller.specs.Machine.{IsSession, is_outstanding};
 ghost use Rattle.osdp_controller.specs.Private.{HearsReply, acknowledged, is_no_answer, is_no_answer_in, numbered_in};
@@ -20,7 +21,7 @@ use crate::report::{LostCause, Report};
 use crate::session::Session;
 use crate::state::Stage;
 use osdp_frame::{Address, FrameView, Seq};
-use osdp_msg::{Command, Communication, Event, PdId, Reply};
+use osdp_msg::{Command, Communication, PdId, Reply};
 use std::mem;
 
 impl Session {
@@ -372,19 +373,12 @@ fn is_ack(reply: &Reply) -> bool
     matches!(reply, Reply::Ack)
 }
 
-/// The event that a reply tells, or the reply back.
-fn event_in(reply: Reply) -> Result<Event, Reply>
-    ensures { MatchResult result (λ event. event_in reply ≡ Some event) (λ back. (back ≡ reply) × (event_in reply ≡ None)) }
-{
-    reply.to_event()
-}
-
 /// Tells what the answer to a POLL tells.
 fn tell_poll(reply: Reply, report: &mut Option<Report>)
     requires { report.old ≡ None }
     ensures { report.new ≡ poll_told reply (event_in reply) }
 {
-    match event_in(reply) {
+    match reply.to_event() {
         Ok(event) => *report = Some(Report::Event(event)),
         Err(reply) if is_ack(&reply) => {}
         Err(reply) => *report = Some(Report::PollAnswered(reply)),

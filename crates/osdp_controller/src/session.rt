@@ -15,7 +15,7 @@ use crate::state::Held;
 use crate::ticking::first_number;
 use arrayvec::ArrayVec;
 use osdp_frame::{Burst, Frame, FrameView, Seq};
-use osdp_msg::Command;
+use osdp_msg::{Command, MAX_MESSAGE};
 
 /// A session with one reader.
 #[derive(Debug, Drop)]
@@ -60,7 +60,7 @@ impl Session {
     /// The frame with this code and data.
     fn frame_of<'a>(&self, body: &'a [u8]) -> FrameView<'a>
         requires some { 1 ≤ length body.now }
-        requires room { length body.now ≤ 1433 }
+        requires room { length body.now ≤ MAX_MESSAGE }
         ensures { result ≡ packed false self.now.config.address self.now.number self.now.config.check false 0 body.now }
     {
         // The calls bring in that both are in their ranges, without which the frame might be refused.
@@ -106,7 +106,7 @@ impl Session {
     #[inline(never)]
     fn put_body(&self, body: &[u8], frame: &mut Option<Frame>)
         requires some { 1 ≤ length body.now }
-        requires room { length body.now ≤ 1433 }
+        requires room { length body.now ≤ MAX_MESSAGE }
         ensures { frame.new ≡ Some (packed false self.now.config.address self.now.number self.now.config.check false 0 body.now) }
     {
         *frame = Some(self.frame_of(body).to_frame());
@@ -138,7 +138,7 @@ impl Session {
     #[inline(never)]
     fn spell_body(&self, body: &[u8], out: &mut Burst)
         requires some { 1 ≤ length body.now }
-        requires room { length body.now ≤ 1433 }
+        requires room { length body.now ≤ MAX_MESSAGE }
         ensures { Spells (packed false self.now.config.address self.now.number self.now.config.check false 0 body.now) out.new.items }
     {
         self.frame_of(body).encode_to(out);

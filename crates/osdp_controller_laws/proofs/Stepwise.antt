@@ -18,7 +18,8 @@ use Rattle.osdp_controller.specs.declared.session.Session.{Session}
 use Rattle.osdp_controller.specs.declared.state.State.{State}
 use Rattle.osdp_controller.specs.declared.state.State.TheVariants.{Closed, Quiet, Idle, Waiting, Pausing}
 use Rattle.osdp_controller.specs.Answers.{meaning_of, is_not_taken}
-use Rattle.osdp_controller.specs.Hearing.{Heard, answered, answered_unread, com_of, command_answered, comset_of, event_in, hears, hears_in, ignores, is_from_reader, is_numbered, moved_by, poll_told}
+use Rattle.osdp_msg.specs.Events.{event_in}
+use Rattle.osdp_controller.specs.Hearing.{Heard, answered, answered_unread, com_of, command_answered, comset_of, hears, hears_in, ignores, is_from_reader, is_numbered, moved_by, poll_told}
 use Rattle.osdp_controller.specs.Private.{numbered_in}
 use Rattle.osdp_controller_laws.specs.Laws.{Comes, ComesNumbered, IsFromReader, exchange_in}
 use Rattle.osdp_controller.specs.Machine.{Machine, is_outstanding}

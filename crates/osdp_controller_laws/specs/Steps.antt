@@ -16,7 +16,8 @@ use Rattle.osdp_controller.specs.declared.report.Report.TheVariants.{Opened, Set
 use Rattle.osdp_controller.specs.declared.session.Session.{Session}
 use Rattle.osdp_controller.specs.declared.state.State.TheVariants.{Closed, Quiet, Idle, Waiting, Pausing}
 use Rattle.osdp_controller.specs.Answers.{meaning_of, is_not_taken}
-use Rattle.osdp_controller.specs.Hearing.{answered_unread, com_of, comset_of, event_in, hears, hears_busy, ignores, loses, moved_by, poll_told}
+use Rattle.osdp_msg.specs.Events.{event_in}
+use Rattle.osdp_controller.specs.Hearing.{answered_unread, com_of, comset_of, hears, hears_busy, ignores, loses, moved_by, poll_told}
 use Rattle.osdp_controller_laws.specs.Laws.{Comes, ComesNumbered, IsFromReader, exchange_in}
 use Rattle.osdp_controller.specs.Machine.{Machine, is_outstanding}
 use Rattle.osdp_controller_laws.specs.Runs.{Tick, Hear, after_call, after_calls, sent_by, told_by}

@@ -4,7 +4,7 @@ ghost use Rattle.std.specs.Prelude.{◌≡◌};
 ghost use Rattle.osdp_device.specs.Status.{are_there, new_status};
 
 use arrayvec::ArrayVec;
-use osdp_msg::{Command, NakReason, OutputRecord};
+use osdp_msg::{Command, MAX_DATA, NakReason, OutputRecord};
 use osdp_reader::{Answer, Handler};
 
 /// What there is at a device, as its program has set it: by `Reader::handler_mut` between two packets.
@@ -18,11 +18,11 @@ pub struct DeviceStatus {
     /// 1 where its power fails, else 0.
     pub power: u8,
     /// A byte for each input: 1 where it is active, else 0.
-    pub inputs: ArrayVec<u8, 1432>,
+    pub inputs: ArrayVec<u8, MAX_DATA>,
     /// A byte for each output: 1 where it is on, else 0.
-    pub outputs: ArrayVec<u8, 1432>,
+    pub outputs: ArrayVec<u8, MAX_DATA>,
     /// A byte for each reader: 0 where it works.
-    pub readers: ArrayVec<u8, 1432>,
+    pub readers: ArrayVec<u8, MAX_DATA>,
 }
 
 impl DeviceStatus {

@@ -9,7 +9,7 @@ ghost use Rattle.osdp_door.specs.Outputs.{is_on};
 use crate::known::are_known;
 use crate::output::DoorOutput;
 use arrayvec::ArrayVec;
-use osdp_msg::{Command, LedRecord, NakReason, OutputRecord};
+use osdp_msg::{Command, LedRecord, MAX_DATA, NakReason, OutputRecord};
 use osdp_reader::{Answer, Handler, Reader, ReaderConfig, ReaderFault};
 use std::alloc::Global;
 
@@ -123,8 +123,8 @@ fn told(is_so: bool) -> u8
 }
 
 /// For each output the byte that tells whether it is on.
-fn states(outputs: &[DoorOutput]) -> ArrayVec<u8, 1432>
-    requires { length outputs.now ≤ 1432 }
+fn states(outputs: &[DoorOutput]) -> ArrayVec<u8, MAX_DATA>
+    requires { length outputs.now ≤ MAX_DATA }
     ensures { result.items ≡ map (λ o. told (is_on o)) outputs.now }
 {
     let mut states = ArrayVec::new();

@@ -78,7 +78,7 @@ none_ended l ended p b =
 none_unchecked : (l : List ℕ) → (IsChecked l → ⊥) → NoneBegins l
 none_unchecked l wrong p b = wrong (Tells-Begins p l b).checked
 
--- ---- the tests of a byte 53, one after the other
+-- ---- the tests of a byte 0x53, one after the other
 
 some_is : {A : Type 0} (x y : A) → Some x ≡ Some y → x ≡ y
 some_is x y e = cc

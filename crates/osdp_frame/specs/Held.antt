@@ -26,7 +26,7 @@ is_checked rest =
     let checked = count_at rest - check_size (check_at rest) in
     bytes_eq (slice_range rest checked (count_at rest)) (check_of (check_at rest) (take checked rest))
 
--- what a byte 53 begins
+-- what a byte 0x53 begins
 abbrev pub begun : Bool → List ℕ → Option RunItem
 begun ended rest =
     let at_end = if ended then Some (RefusedItem Ended) else None in

@@ -8,7 +8,7 @@ use Rattle.osdp_frame.specs.Check.{check_of, check_size}
 use Rattle.osdp_frame.specs.Packet.{Packet, largest, packet_length}
 use Rattle.osdp_frame.specs.Spelling.{Spells, start_of_message}
 
--- one item of a reading: a packet, a byte that cannot begin one, or a byte 53 that begins none
+-- one item of a reading: a packet, a byte that cannot begin one, or a byte 0x53 that begins none
 pub data RunItem : Type 0 where
   PacketItem : Packet → RunItem
   SkippedItem : ℕ → RunItem
@@ -85,7 +85,7 @@ abbrev pub IsFirst : Bool → List ℕ → RunItem → Type 0
 IsFirst ended bytes part =
     (more : List ℕ) → (IsTrue ended → more ≡ []) → Stands (bytes ++ more) part
 
--- it depends on bytes to come which item is first: there are none, or the run goes on and a byte 53 has
+-- it depends on bytes to come which item is first: there are none, or the run goes on and a byte 0x53 has
 -- fewer than five bytes, or fewer than its count says where the count is well
 abbrev pub IsUndecided : Bool → List ℕ → Type 0
 IsUndecided ended bytes =

@@ -8,7 +8,7 @@ ghost use Rattle.osdp_frame.specs.Check.{check_of, check_size};
 ghost use Rattle.osdp_frame.specs.Running.{IsRunning};
 
 use crate::CheckKind;
-use crate::bytes::are_bytes;
+use crate::bytes::{MAX_PACKET, are_bytes};
 use osdp_check::{Check, Crc16, Sum8};
 use std::marker::Model;
 
@@ -60,7 +60,7 @@ impl Buffer {
     /// The bytes held.
     pub fn bytes(&self) -> &[u8]
         ensures value { result.now ≡ self.now.bytes }
-        ensures room { length self.now.bytes ≤ 1440 }
+        ensures room { length self.now.bytes ≤ MAX_PACKET }
         ensures bytes { AreBytes self.now.bytes }
         ensures run { self.now.run ≤ length self.now.bytes }
     {
@@ -72,7 +72,7 @@ impl Buffer {
     /// How many bytes are held.
     pub fn len(&self) -> usize
         ensures count { result ≡ length self.now.bytes }
-        ensures room { result ≤ 1440 }
+        ensures room { result ≤ MAX_PACKET }
     {
         self.bytes().len()
     }
@@ -86,7 +86,7 @@ impl Buffer {
 
     /// Takes bytes in after those that are held.
     pub fn push(&mut self, bytes: &[u8])
-        requires { length self.old.bytes + length bytes.now ≤ 1440 }
+        requires { length self.old.bytes + length bytes.now ≤ MAX_PACKET }
         ensures { self.new ≡ record self.old { bytes = self.old.bytes ++ bytes.now } }
     {
         let held = self.to - self.from;
@@ -166,7 +166,7 @@ fn make_room(
     requires order { from ≤ ran }
     requires run { ran ≤ to }
     requires within { to ≤ 2880 }
-    requires room { to - from + count ≤ 1440 }
+    requires room { to - from + count ≤ MAX_PACKET }
     ensures bytes { slice_range bytes.new result (result + (to - from)) ≡ slice_range bytes.old from to }
     ensures sums { slice_range sums.new result (result + (ran - from) + 1) ≡ slice_range sums.old from (ran + 1) }
     ensures crcs { slice_range crcs.new result (result + (ran - from) + 1) ≡ slice_range crcs.old from (ran + 1) }

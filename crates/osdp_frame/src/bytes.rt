@@ -15,11 +15,14 @@ pub const START_OF_MESSAGE: u8 = 0x53;
 /// How many bytes stand before the body.
 pub const HEAD: usize = 5;
 
-/// The largest packet that is accepted.
-pub const LARGEST: usize = 1440;
+/// How many bytes the largest packet that is accepted has.
+pub const MAX_PACKET: usize = 1440;
+
+/// How many bytes the largest body has: it stands in a packet with a checksum, which takes one byte.
+pub const MAX_BODY: usize = MAX_PACKET - HEAD - 1;
 
 /// What a burst is made longer by.
-const ZEROS: [u8; LARGEST] = [0; LARGEST];
+const ZEROS: [u8; MAX_PACKET] = [0; MAX_PACKET];
 
 /// What a slice of bytes holds is bytes.
 pub fn are_bytes(bytes: &[u8])
@@ -49,7 +52,7 @@ pub fn check_bytes(check: CheckKind, bytes: &[u8]) -> [u8; 2]
 
 /// As many bytes as are asked for in place of what stands in `out`: those that stand there as far as they go, and zeros.
 pub fn resize(out: &mut Burst, count: usize)
-    requires { count ≤ 1440 }
+    requires { count ≤ MAX_PACKET }
     ensures { length out.new.items ≡ count }
 {
     let held = out.len();

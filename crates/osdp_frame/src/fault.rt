@@ -2,7 +2,7 @@
 
 use thiserror::Error;
 
-/// Why no packet begins at a byte 53. Where several hold it is the first of F1, F2, F4, F3.
+/// Why no packet begins at a byte 0x53. Where several hold it is the first of F1, F2, F4, F3.
 #[derive(Clone, Copy, Debug, PartialEq, Eq, Hash, Error)]
 pub enum FrameFault {
     /// F1: the length is below the smallest packet with its check.

@@ -9,7 +9,7 @@ ghost use Rattle.osdp_frame.specs.Packet.{IsPacket};
 ghost use Rattle.osdp_frame.specs.First.{item_if, FirstFits, PacketFits};
 
 use crate::buffer::Buffer;
-use crate::bytes::{HEAD, LARGEST, START_OF_MESSAGE, check_bytes};
+use crate::bytes::{HEAD, MAX_PACKET, START_OF_MESSAGE, check_bytes};
 use crate::view::Head;
 use crate::{Address, CheckKind, FrameFault, FrameView, Seq};
 use byteorder::{ByteOrder, LittleEndian};
@@ -122,7 +122,7 @@ fn begun(rest: &[u8], held: Option<&Buffer>, ended: bool) -> Option<First>
     if length < HEAD + 1 + check.size() {
         return Some(First::Refused(FrameFault::TooShort));
     }
-    if length > LARGEST {
+    if length > MAX_PACKET {
         return Some(First::Refused(FrameFault::TooLong));
     }
     if rest.len() < length {

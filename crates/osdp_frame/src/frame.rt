@@ -6,19 +6,20 @@ ghost use Rattle.osdp_frame.specs.Packet.{IsPacket};
 ghost use Rattle.osdp_frame.specs.Packed.{packed};
 ghost use Rattle.osdp_frame.specs.Spelling.{Spells};
 
+use crate::bytes::{MAX_BODY, MAX_PACKET};
 use crate::view::Head;
 use crate::{Address, CheckKind, FrameView, Seq};
 use arrayvec::ArrayVec;
 use std::marker::Model;
 
 /// The bytes of one packet.
-pub type Burst = ArrayVec<u8, 1440>;
+pub type Burst = ArrayVec<u8, MAX_PACKET>;
 
 /// A packet with a body of its own: at least one byte, and at most 1440 bytes in the whole packet.
 #[derive(Debug, Drop, PartialEq, Eq)]
 pub struct Frame {
     head: Head,
-    body: ArrayVec<u8, 1434>,
+    body: ArrayVec<u8, MAX_BODY>,
 }
 
 impl Model for Frame {
@@ -56,7 +57,7 @@ impl Frame {
         check: CheckKind,
         block: bool,
         reserved: u8,
-        body: ArrayVec<u8, 1434>,
+        body: ArrayVec<u8, MAX_BODY>,
     ) -> Option<Frame>
         ensures { let packet = packed reply address seq check block reserved body.items in
             SomeIff result (IsPacket packet) packet }

@@ -8,7 +8,7 @@ ghost use Rattle.osdp_frame.specs.Reading.{IsFirst, IsUndecided};
 
 use crate::FrameFault;
 use crate::buffer::Buffer;
-use crate::bytes::{LARGEST, START_OF_MESSAGE, are_bytes};
+use crate::bytes::{MAX_PACKET, START_OF_MESSAGE, are_bytes};
 use crate::first::{First, count, first_item};
 use crate::item::Item;
 use std::marker::Model;
@@ -65,12 +65,12 @@ impl Framer {
     }
 
     /// The next item, where the bytes held decide it. It changes nothing: `advance` takes the item
-    /// off. None where no byte is held, or where bytes to come decide what a byte 53 begins.
+    /// off. None where no byte is held, or where bytes to come decide what a byte 0x53 begins.
     pub fn next(&self) -> Option<Item<'_>>
         ensures shown { option_map item_of result ≡ decided self.now.ended self.now.bytes }
         ensures first { IfSome result (λ item. IsFirst self.now.ended self.now.bytes (item_of item)) }
         ensures none { IsNone result ↔ IsUndecided self.now.ended self.now.bytes }
-        ensures room { length self.now.bytes ≤ 1440 }
+        ensures room { length self.now.bytes ≤ MAX_PACKET }
     {
         let held = self.held.bytes();
         let first = self.first?;
@@ -113,7 +113,7 @@ impl Framer {
             return 0;
         }
         let held = self.held.len();
-        let count = bytes.len().min(LARGEST - held);
+        let count = bytes.len().min(MAX_PACKET - held);
         self.held.push(&bytes[..count]);
         self.first = decided_again(self.first, held, &mut self.held, false);
         count

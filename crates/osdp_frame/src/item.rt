@@ -14,9 +14,9 @@ use crate::{FrameFault, FrameView};
 pub enum Item<'a> {
     /// A packet stands here.
     Packet(FrameView<'a>),
-    /// A byte other than 53, which begins no packet.
+    /// A byte other than 0x53, which begins no packet.
     Skipped(u8),
-    /// A byte 53 at which no packet begins.
+    /// A byte 0x53 at which no packet begins.
     Refused(FrameFault),
 }
 

@@ -19,6 +19,7 @@ mod seq;
 mod view;
 
 pub use address::Address;
+pub use bytes::{MAX_BODY, MAX_PACKET};
 pub use check_kind::CheckKind;
 pub use fault::FrameFault;
 pub use frame::{Burst, Frame};

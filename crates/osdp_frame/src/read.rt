@@ -16,9 +16,9 @@ use crate::{Frame, FrameFault};
 pub enum ReadItem {
     /// A packet stands here.
     Packet(Frame),
-    /// A byte other than 53, which begins no packet.
+    /// A byte other than 0x53, which begins no packet.
     Skipped(u8),
-    /// A byte 53 at which no packet begins.
+    /// A byte 0x53 at which no packet begins.
     Refused(FrameFault),
 }
 

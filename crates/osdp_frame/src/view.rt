@@ -6,7 +6,7 @@ ghost use Rattle.osdp_frame.specs.Packet.{IsPacket};
 ghost use Rattle.osdp_frame.specs.Packed.{headed, packed};
 ghost use Rattle.osdp_frame.specs.Spelling.{Spells, address_byte, control_byte};
 
-use crate::bytes::{HEAD, LARGEST, START_OF_MESSAGE, are_bytes, count_bytes, resize, write_packet};
+use crate::bytes::{HEAD, MAX_PACKET, START_OF_MESSAGE, are_bytes, count_bytes, resize, write_packet};
 use crate::frame::Burst;
 use crate::{Address, CheckKind, Seq};
 use std::marker::Model;
@@ -57,8 +57,8 @@ impl<'a> FrameView<'a> {
     {
         let length = body.len();
         if length == 0
-            || length > LARGEST
-            || HEAD + length + check.size() > LARGEST
+            || length > MAX_PACKET
+            || HEAD + length + check.size() > MAX_PACKET
             || reserved > 15
         {
             return None;

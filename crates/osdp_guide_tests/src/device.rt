@@ -2,13 +2,13 @@
 
 use arrayvec::ArrayVec;
 use osdp_device::{Device, DeviceStatus, taken};
-use osdp_frame::Address;
-use osdp_msg::{Capability, Command, Event, Keypad, OutputRecord, PdCap, PdId, Raw};
+use osdp_frame::{Address, MAX_PACKET};
+use osdp_msg::{Capability, Command, Event, Keypad, MAX_DATA, OutputRecord, PdCap, PdId, Raw};
 use osdp_reader::{Reader, ReaderConfig, Response};
 use std::alloc::Global;
 
 /// What a turn writes, with room for the largest packet.
-pub type Bytes = ArrayVec<u8, 1440>;
+pub type Bytes = ArrayVec<u8, MAX_PACKET>;
 
 /// The strike: it is on until a moment, or off.
 #[derive(Drop)]
@@ -68,7 +68,7 @@ pub fn keys_were_pressed(device: &mut Device<DeviceStatus>, keys: &[u8]) {
 }
 
 /// The states of all inputs: of the door's contact.
-fn inputs_of(is_open: bool) -> ArrayVec<u8, 1432> {
+fn inputs_of(is_open: bool) -> ArrayVec<u8, MAX_DATA> {
     let mut inputs = ArrayVec::new();
     let _ = inputs.try_push(u8::from(is_open));
     inputs

@@ -21,7 +21,8 @@ use Rattle.osdp_controller.specs.declared.session.Session.{Session}
 use Rattle.osdp_controller.specs.declared.state.State.{State}
 use Rattle.osdp_controller.specs.declared.state.State.TheVariants.{Closed, Quiet, Idle, Waiting, Pausing}
 use Rattle.osdp_controller.specs.Answers.{meaning_of}
-use Rattle.osdp_controller.specs.Hearing.{Heard, answered, com_of, command_answered, comset_of, event_in, hears, hears_busy, hears_in, ignores, is_ack, is_from_reader, is_numbered, loses, moved_by, pausing_hears, poll_told, rests, waiting_hears}
+use Rattle.osdp_msg.specs.Events.{event_in}
+use Rattle.osdp_controller.specs.Hearing.{Heard, answered, com_of, command_answered, comset_of, hears, hears_busy, hears_in, ignores, is_ack, is_from_reader, is_numbered, loses, moved_by, pausing_hears, poll_told, rests, waiting_hears}
 use Rattle.osdp_controller.specs.Sessions.{later, seen}
 use Rattle.osdp_link_laws.specs.Link.{Account, told}
 use Rattle.osdp_link_laws.proofs.Lines.{both}

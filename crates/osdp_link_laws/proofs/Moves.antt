@@ -11,7 +11,7 @@ use Rattle.osdp_msg.specs.declared.reply.Reply.{Reply}
 use Rattle.osdp_controller.specs.Answers as packets
 use Rattle.osdp_controller.specs.Answers.{meaning_by_reply}
 use Rattle.osdp_controller.specs.Exchanges.{exchange_command}
-use Rattle.osdp_controller.specs.Hearing.{event_in}
+use Rattle.osdp_msg.specs.Events.{event_in}
 use Rattle.osdp_controller.specs.Ticking.{Ticked, ticks}
 use Rattle.osdp_controller.specs.declared.meaning.ReplyMeaning.TheVariants.{Plain}
 use Rattle.osdp_controller.specs.declared.config.ControllerConfig.{ControllerConfig}

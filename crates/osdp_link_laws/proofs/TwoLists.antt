@@ -10,7 +10,7 @@ use Rattle.osdp_msg.specs.declared.event.Event.{Event}
 use Rattle.osdp_msg.specs.declared.reply.Reply.{Reply}
 use Rattle.osdp_msg.specs.declared.reply.Reply.TheVariants as reply
 use Rattle.osdp_controller.specs.Hearing as controller
-use Rattle.osdp_controller.specs.Hearing.{event_in}
+use Rattle.osdp_msg.specs.Events.{event_in}
 use Rattle.osdp_controller.specs.Machine as controllers
 use Rattle.osdp_controller.specs.Sessions.{seen}
 use Rattle.osdp_controller.specs.Ticking.{begins, gives_up, sends_frame, stays, ticks, ticks_in}

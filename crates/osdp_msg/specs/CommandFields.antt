@@ -3,6 +3,7 @@ use Rattle.std.specs.Prelude.{ℕ, ◌<◌, ◌≤◌, ◌≡◌, ◌^◌, ◌&&
 use Rattle.byteorder.specs.Endian.{little_bytes, little_number}
 use Rattle.hex.specs.Hex.{IsBytes}
 use Rattle.osdp_words.specs.Word.{Word, bytes, number, numbers}
+use Rattle.osdp_msg.specs.Limits.{most_maker_bytes}
 use Rattle.osdp_msg.specs.declared.command_fields.Buzzer.{Buzzer}
 use Rattle.osdp_msg.specs.declared.command_fields.Communication.{Communication}
 use Rattle.osdp_msg.specs.declared.command_fields.MakerMessage.{MakerMessage}
@@ -148,7 +149,7 @@ maker_data m = m.vendor ++ m.bytes.items
 pub record MakerFits (m : MakerMessage) : Type 0 where
   pub vendor_length : length m.vendor ≡ 3
   pub vendor : IsBytes m.vendor
-  pub room : length m.bytes.items ≤ 1429
+  pub room : length m.bytes.items ≤ most_maker_bytes
   pub bytes : IsBytes m.bytes.items
 
 abbrev pub maker_at : List ℕ → MakerMessage

@@ -1,5 +1,5 @@
 -- Events: the seven replies that a reader gives to a POLL when something happened.
-use Rattle.std.specs.Prelude.{ℕ, List}
+use Rattle.std.specs.Prelude.{ℕ, List, Option, Some, None}
 use Rattle.osdp_words.specs.Word.{Word}
 use Rattle.osdp_msg.specs.declared.event.Event.{Event}
 use Rattle.osdp_msg.specs.declared.event.Event.TheVariants as events
@@ -17,6 +17,17 @@ event_reply (events.Readers states) = Readers states
 event_reply (events.Raw r) = Raw r
 event_reply (events.Formatted f) = Formatted f
 event_reply (events.Keypad k) = Keypad k
+
+-- the event that a reply tells
+abbrev pub event_in : Reply → Option Event
+event_in (LocalState s) = Some (events.LocalState s)
+event_in (Inputs states) = Some (events.Inputs states)
+event_in (Outputs states) = Some (events.Outputs states)
+event_in (Readers states) = Some (events.Readers states)
+event_in (Raw r) = Some (events.Raw r)
+event_in (Formatted f) = Some (events.Formatted f)
+event_in (Keypad k) = Some (events.Keypad k)
+event_in _ = None
 
 abbrev pub EventFits : Event → Type 0
 EventFits e = ReplyFits (event_reply e)

@@ -1,3 +1,4 @@
+pub mod Limits
 pub mod OtherReasons
 pub mod NakReasons
 pub mod Raw

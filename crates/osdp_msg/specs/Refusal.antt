@@ -1,5 +1,6 @@
 -- When a code and data are refused: one rule for both tables.
 use Rattle.std.specs.Prelude.{ℕ, Bool, ◌||◌, not, nat_lt, Option, Some, None, Result, Ok, Err, if◌then◌else◌}
+use Rattle.osdp_msg.specs.Limits.{most_data}
 use Rattle.osdp_msg.specs.declared.fault.MsgFault.{MsgFault}
 use Rattle.osdp_msg.specs.declared.fault.MsgFault.TheVariants.{UnknownCode, Length, Count}
 
@@ -8,7 +9,7 @@ use Rattle.osdp_msg.specs.declared.fault.MsgFault.TheVariants.{UnknownCode, Leng
 abbrev pub refusal : Option Bool → ℕ → Bool → Option MsgFault
 refusal None len agree = Some UnknownCode
 refusal (Some allowed) len agree =
-    if nat_lt 1432 len || not allowed then Some Length else (if agree then None else Some Count)
+    if nat_lt most_data len || not allowed then Some Length else (if agree then None else Some Count)
 
 -- the value, where there is no fault
 abbrev pub unless_fault : {A : Type 0} → Option MsgFault → A → Result A MsgFault

@@ -3,6 +3,7 @@ use Rattle.std.specs.Prelude.{ℕ, ◌<◌, ◌≤◌, ◌≡◌, ◌^◌, ◌+�
 use Rattle.byteorder.specs.Endian.{little_bytes, little_number}
 use Rattle.hex.specs.Hex.{IsBytes}
 use Rattle.osdp_words.specs.Word.{Word, bytes, number, numbers}
+use Rattle.osdp_msg.specs.Limits.{most_card_bytes, most_detail}
 use Rattle.osdp_msg.specs.declared.capability.Capability.{Capability}
 use Rattle.osdp_msg.specs.declared.reply_fields.Formatted.{Formatted}
 use Rattle.osdp_msg.specs.declared.reply_fields.Keypad.{Keypad}
@@ -19,7 +20,7 @@ nak_data n = reason_number n.reason ∷ n.detail.items
 
 pub record NakFits (n : Nak) : Type 0 where
   pub reason : ReasonFits n.reason
-  pub room : length n.detail.items ≤ 1431
+  pub room : length n.detail.items ≤ most_detail
   pub detail : IsBytes n.detail.items
 
 abbrev pub nak_at : List ℕ → Nak
@@ -103,7 +104,7 @@ pub record RawFits (r : RawCard) : Type 0 where
   pub format : r.format < 256
   pub bits : r.bits < 2 ^ 16
   pub needed : length r.bytes ≡ (r.bits + 7) / 8
-  pub room : length r.bytes ≤ 1428
+  pub room : length r.bytes ≤ most_card_bytes
   pub bytes : IsBytes r.bytes
 
 abbrev pub raw_at : List ℕ → RawCard

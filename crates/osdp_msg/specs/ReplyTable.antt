@@ -3,6 +3,7 @@ use Rattle.std.specs.Prelude.{◌≡◌, ◌≤◌, ℕ, ◌+◌, ◌-◌, ◌/�
 use Rattle.std.specs.List.{All, flat_map}
 use Rattle.byteorder.specs.Endian.{little_number}
 use Rattle.hex.specs.Hex.{IsBytes}
+use Rattle.osdp_msg.specs.Limits.{most_data}
 use Rattle.osdp_msg.specs.declared.reply.Reply.{Reply}
 use Rattle.osdp_msg.specs.declared.reply.Reply.TheVariants.{Ack, Nak, PdId, PdCap, LocalState, Inputs, Outputs, Readers, Raw, Formatted, Keypad, Com, Busy, MakerReply}
 use Rattle.osdp_msg.specs.declared.fault.MsgFault.{MsgFault}
@@ -45,7 +46,7 @@ reply_data (MakerReply m) = maker_data m
 
 -- one byte for each input, output or reader
 pub record StatesFit (states : List ℕ) : Type 0 where
-  pub room : length states ≤ 1432
+  pub room : length states ≤ most_data
   pub bytes : IsBytes states
 
 -- the numbers of a reply are in the ranges of their fields, and its lists have room

@@ -11,6 +11,7 @@ ghost use Rattle.osdp_msg.specs.ListedCommands.{has_list};
 use crate::command_fields::{Buzzer, Communication, MakerMessage, Text};
 use crate::fault::{BadWords, MsgFault};
 use crate::leds::Leds;
+use crate::limits::MAX_MESSAGE;
 use crate::outputs::Outputs;
 use crate::parsing::{MOST_WORDS, parse_byte};
 use crate::placing::{copy_list, place_list};
@@ -178,7 +179,7 @@ impl Command {
     }
 
     /// The code and the data of the command.
-    pub fn write(&self) -> ArrayVec<u8, 1433>
+    pub fn write(&self) -> ArrayVec<u8, MAX_MESSAGE>
         ensures spelled { result.items ≡ command_code self.now ∷ command_data self.now }
         ensures fits { CommandFits self.now }
     {
@@ -188,7 +189,7 @@ impl Command {
     }
 
     /// Puts the code and the data of the command in place of what stands in `spelling`.
-    pub fn write_into(&self, spelling: &mut ArrayVec<u8, 1433>)
+    pub fn write_into(&self, spelling: &mut ArrayVec<u8, MAX_MESSAGE>)
         ensures spelled { spelling.new.items ≡ command_code self.now ∷ command_data self.now }
         ensures fits { CommandFits self.now }
     {

@@ -7,6 +7,7 @@ ghost use Rattle.osdp_words.specs.Word.{plain, text_of, texts};
 ghost use Rattle.osdp_msg.specs.CommandFields.{BuzzerFits, buzzer_at, buzzer_data, buzzer_words, TextFits, text_at, text_data, text_words, CommunicationFits, communication_at, communication_data, communication_words, MakerFits, maker_at, maker_data, maker_words};
 ghost use Rattle.osdp_msg.specs.ListedCommands.{HasLength};
 
+use crate::limits::{MAX_DATA, MAX_MAKER_BYTES};
 use crate::parsing::{parse_numbers, parse_numbers_and_list};
 use crate::spelling::{
     Spelling, append, append_u32, copy_over, list_of, put_byte, put_bytes, rest,
@@ -243,12 +244,12 @@ pub struct MakerMessage {
     /// The maker's code, three bytes.
     pub vendor: [u8; 3],
     /// What follows it, 0 to 1,429 bytes.
-    pub bytes: ArrayVec<u8, 1429>,
+    pub bytes: ArrayVec<u8, MAX_MAKER_BYTES>,
 }
 
 impl MakerMessage {
     pub(crate) fn read(bytes: &[u8]) -> MakerMessage
-        requires { HasLength 3 1432 bytes.now }
+        requires { HasLength 3 MAX_DATA bytes.now }
         ensures { result ≡ maker_at bytes.now }
     {
         MakerMessage {
@@ -267,7 +268,7 @@ impl MakerMessage {
 
     /// Puts the message that the bytes are in place of this.
     pub(crate) fn read_over(&mut self, bytes: &[u8])
-        requires { HasLength 3 1432 bytes.now }
+        requires { HasLength 3 MAX_DATA bytes.now }
         ensures { self.new ≡ maker_at bytes.now }
     {
         self.vendor = [bytes[0], bytes[1], bytes[2]];

@@ -1,10 +1,11 @@
 //! Events: what a reader tells when it is polled.
 
-ghost use Rattle.std.specs.Prelude.{◌≡◌, Some, Ok, IfOk, IfErr};
+ghost use Rattle.std.specs.Prelude.{◌≡◌, Some, None, Ok, IfOk, IfErr, MatchResult};
 ghost use Rattle.osdp_words.specs.Word.{AllStandFor, texts, words_in};
-ghost use Rattle.osdp_msg.specs.Events.{EventFits, event_reply, event_text, event_words};
+ghost use Rattle.osdp_msg.specs.Events.{EventFits, event_in, event_reply, event_text, event_words};
 
 use crate::fault::BadWords;
+use crate::limits::MAX_DATA;
 use crate::raw::Raw;
 use crate::reply::Reply;
 use crate::reply_fields::{Formatted, Keypad, LocalState};
@@ -18,11 +19,11 @@ pub enum Event {
     /// The state of the device itself.
     LocalState(LocalState),
     /// A byte for each input.
-    Inputs(ArrayVec<u8, 1432>),
+    Inputs(ArrayVec<u8, MAX_DATA>),
     /// A byte for each output.
-    Outputs(ArrayVec<u8, 1432>),
+    Outputs(ArrayVec<u8, MAX_DATA>),
     /// A byte for each reader.
-    Readers(ArrayVec<u8, 1432>),
+    Readers(ArrayVec<u8, MAX_DATA>),
     /// A card's bits.
     Raw(Raw),
     /// A card as the reader formatted it.
@@ -80,6 +81,7 @@ impl Event {
 impl Reply {
     /// The event that the reply tells, or the reply itself where it tells none.
     pub fn to_event(self) -> Result<Event, Reply>
+        ensures told { MatchResult result (λ e. event_in self ≡ Some e) (λ reply. (reply ≡ self) × (event_in self ≡ None)) }
         ensures event { IfOk result (λ e. self ≡ event_reply e) }
         ensures only { (e : Event) → self ≡ event_reply e → result ≡ Ok e }
         ensures back { IfErr result (λ reply. reply ≡ self) }

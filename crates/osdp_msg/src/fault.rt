@@ -3,6 +3,7 @@
 ghost use Rattle.std.specs.Prelude.{◌≡◌, true};
 ghost use Rattle.osdp_msg.specs.Refusal.{refusal};
 
+use crate::limits::MAX_DATA;
 use thiserror::Error;
 
 /// Why a code and data are no message of the table, the first of these that holds.
@@ -31,7 +32,7 @@ pub(crate) fn length_fault(allowed: Option<bool>, len: usize) -> Option<MsgFault
 {
     match allowed {
         None => Some(MsgFault::UnknownCode),
-        Some(allowed) if len > 1432 || !allowed => Some(MsgFault::Length),
+        Some(allowed) if len > MAX_DATA || !allowed => Some(MsgFault::Length),
         Some(_) => None,
     }
 }

@@ -7,6 +7,7 @@ ghost use Rattle.osdp_words.specs.Reading.{ReadsWords};
 ghost use Rattle.osdp_words.specs.Word.{bytes, number, texts};
 ghost use Rattle.osdp_msg.specs.ReplyTable.{StatesFit};
 
+use crate::limits::MAX_DATA;
 use crate::records::Record;
 use arrayvec::ArrayVec;
 use osdp_words::Fields;
@@ -45,7 +46,7 @@ pub(crate) fn parse_numbers_and_list<const N: usize, const ROOM: usize>(
 }
 
 /// A byte for each input, output or reader.
-pub(crate) fn parse_states(words: &[&str]) -> Option<ArrayVec<u8, 1432>>
+pub(crate) fn parse_states(words: &[&str]) -> Option<ArrayVec<u8, MAX_DATA>>
     ensures { ReadsWords (λ states. bytes states.items ∷ []) (λ states. StatesFit states.items) (texts words.now) result }
 {
     let mut fields = Fields::new(words);

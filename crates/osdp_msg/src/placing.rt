@@ -190,13 +190,14 @@ impl Listed for Text {
 impl Listed for MakerMessage {
     ghost use Rattle.osdp_msg.specs.declared.command.Command.TheVariants.{Maker};
     ghost use Rattle.osdp_msg.specs.CommandFields.{maker_at};
+    ghost use Rattle.osdp_msg.specs.Limits.{most_data};
     ghost use Rattle.osdp_msg.specs.ListedCommands.{HasLength, has_code};
 
     ghost within = { Maker };
 
     ghost is_within = { has_code 0x80 };
 
-    ghost are_data = { HasLength 3 1432 };
+    ghost are_data = { HasLength 3 most_data };
 
     ghost at = { maker_at };
 

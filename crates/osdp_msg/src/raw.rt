@@ -9,6 +9,7 @@ ghost use Rattle.osdp_words.specs.Word.{plain, text_of, texts};
 ghost use Rattle.osdp_msg.specs.Raw.{raw_card};
 ghost use Rattle.osdp_msg.specs.ReplyFields.{RawFits, raw_at, raw_data, raw_words};
 
+use crate::limits::{MAX_CARD_BYTES, MAX_DATA};
 use crate::spelling::{Spelling, append, append_u16, list_of, put_bytes, rest};
 use arrayvec::ArrayVec;
 use byteorder::{ByteOrder, LittleEndian};
@@ -22,7 +23,7 @@ pub struct Raw {
     reader: u8,
     format: u8,
     bits: u16,
-    bytes: ArrayVec<u8, 1428>,
+    bytes: ArrayVec<u8, MAX_CARD_BYTES>,
 }
 
 impl Model for Raw {
@@ -43,7 +44,7 @@ impl Raw {
     pub fn new(reader: u8, format: u8, bits: u16, bytes: &[u8]) -> Option<Raw>
         ensures { result ≡ raw_card reader format bits bytes.now }
     {
-        if bytes.len() > 1428 || bytes.len() != (usize::from(bits) + 7) / 8 {
+        if bytes.len() > MAX_CARD_BYTES || bytes.len() != (usize::from(bits) + 7) / 8 {
             return None;
         }
         Some(Raw {
@@ -79,14 +80,14 @@ impl Raw {
     pub fn bytes(&self) -> &[u8]
         ensures value { result.now ≡ self.now.bytes }
         ensures len { length self.now.bytes ≡ (self.now.bits + 7) / 8 }
-        ensures room { length self.now.bytes ≤ 1428 }
+        ensures room { length self.now.bytes ≤ MAX_CARD_BYTES }
     {
         self.bytes.as_slice()
     }
 
     pub(crate) fn read(bytes: &[u8]) -> Raw
         requires some { 4 ≤ length bytes.now }
-        requires room { length bytes.now ≤ 1432 }
+        requires room { length bytes.now ≤ MAX_DATA }
         requires needed { (little_number 2 (drop 2 bytes.now) + 7) / 8 ≡ length bytes.now - 4 }
         ensures { result ≡ raw_at bytes.now }
     {
@@ -134,7 +135,7 @@ impl Raw {
         let mut fields = Fields::new(words);
         let [reader, format] = fields.numbers_u8::<2>()?;
         let bits = fields.number_u16()?;
-        let bytes: ArrayVec<u8, 1428> = fields.byte_list()?;
+        let bytes: ArrayVec<u8, MAX_CARD_BYTES> = fields.byte_list()?;
         if !fields.is_empty() {
             return None;
         }

@@ -7,6 +7,7 @@ ghost use Rattle.osdp_words.specs.Reading.{Reads};
 ghost use Rattle.osdp_words.specs.Word.{Word, printed};
 ghost use Rattle.osdp_msg.specs.Records.{records_at};
 
+use crate::limits::{MAX_DATA, MAX_MESSAGE};
 use crate::spelling::{Spelling, put_code, rest};
 use arrayvec::ArrayVec;
 use std::fmt;
@@ -33,7 +34,7 @@ pub(crate) trait Record: Copy + Default + Drop + fmt::Display {
 
     /// Appends the bytes of the record.
     fn append_to(self, spelling: &mut Spelling)
-        requires { array_vec_len spelling.old + SIZE ≤ 1433 }
+        requires { array_vec_len spelling.old + SIZE ≤ MAX_MESSAGE }
         ensures appended { spelling.new.items ≡ spelling.old.items ++ spelled self }
         ensures fits { fits self };
 
@@ -78,7 +79,7 @@ pub(crate) fn read_records_over<R: Record, const N: usize>(
 
 /// Puts a message of records in place of what stands in `spelling`.
 pub(crate) fn put_records<R: Record>(spelling: &mut Spelling, code: u8, records: &[R])
-    requires { R.SIZE * length records.now ≤ 1432 }
+    requires { R.SIZE * length records.now ≤ MAX_DATA }
     ensures spelled { spelling.new.items ≡ code ∷ flat_map R.spelled records.now }
     ensures fits { All R.fits records.now }
 {

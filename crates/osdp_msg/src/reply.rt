@@ -8,6 +8,7 @@ ghost use Rattle.osdp_msg.specs.ReplyText.{reply_words, reply_text};
 
 use crate::command_fields::{Communication, MakerMessage};
 use crate::fault::{BadWords, MsgFault};
+use crate::limits::{MAX_DATA, MAX_MESSAGE};
 use crate::parsing::{MOST_WORDS, parse_records, parse_states};
 use crate::printing::{print_bytes, print_records};
 use crate::raw::Raw;
@@ -34,11 +35,11 @@ pub enum Reply {
     /// The state of the device itself.
     LocalState(LocalState),
     /// A byte for each input.
-    Inputs(ArrayVec<u8, 1432>),
+    Inputs(ArrayVec<u8, MAX_DATA>),
     /// A byte for each output.
-    Outputs(ArrayVec<u8, 1432>),
+    Outputs(ArrayVec<u8, MAX_DATA>),
     /// A byte for each reader.
-    Readers(ArrayVec<u8, 1432>),
+    Readers(ArrayVec<u8, MAX_DATA>),
     /// A card's bits.
     Raw(Raw),
     /// A card as the reader formatted it.
@@ -171,7 +172,7 @@ impl Reply {
     }
 
     /// The code and the data of the reply.
-    pub fn write(&self) -> ArrayVec<u8, 1433>
+    pub fn write(&self) -> ArrayVec<u8, MAX_MESSAGE>
         ensures spelled { result.items ≡ reply_code self.now ∷ reply_data self.now }
         ensures fits { ReplyFits self.now }
     {
@@ -181,7 +182,7 @@ impl Reply {
     }
 
     /// Puts the code and the data of the reply in place of what stands in `spelling`.
-    pub fn write_into(&self, spelling: &mut ArrayVec<u8, 1433>)
+    pub fn write_into(&self, spelling: &mut ArrayVec<u8, MAX_MESSAGE>)
         ensures spelled { spelling.new.items ≡ reply_code self.now ∷ reply_data self.now }
         ensures fits { ReplyFits self.now }
     {

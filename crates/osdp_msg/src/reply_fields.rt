@@ -8,6 +8,7 @@ ghost use Rattle.osdp_msg.specs.ListedCommands.{HasLength};
 ghost use Rattle.osdp_msg.specs.ReplyFields.{NakFits, nak_at, nak_data, nak_words, PdIdFits, pd_id_at, pd_id_data, pd_id_words, LocalStateFits, local_state_at, local_state_data, local_state_words, FormattedFits, formatted_at, formatted_data, formatted_words, KeypadFits, keypad_at, keypad_data, keypad_words};
 
 use crate::capability::Capability;
+use crate::limits::{MAX_DATA, MAX_DETAIL};
 use crate::nak::NakReason;
 use crate::parsing::{parse_numbers, parse_numbers_and_list};
 use crate::spelling::{Spelling, append, append_u32, list_of, put_byte, put_bytes, rest};
@@ -22,12 +23,12 @@ pub struct Nak {
     /// Why the command was not acted on.
     pub reason: NakReason,
     /// What follows the reason, 0 to 1,431 bytes.
-    pub detail: ArrayVec<u8, 1431>,
+    pub detail: ArrayVec<u8, MAX_DETAIL>,
 }
 
 impl Nak {
     pub(crate) fn read(bytes: &[u8]) -> Nak
-        requires { HasLength 1 1432 bytes.now }
+        requires { HasLength 1 MAX_DATA bytes.now }
         ensures { result ≡ nak_at bytes.now }
     {
         Nak {
@@ -78,7 +79,7 @@ impl Nak {
                 detail: ArrayVec::new(),
             });
         }
-        let detail: ArrayVec<u8, 1431> = fields.byte_list()?;
+        let detail: ArrayVec<u8, MAX_DETAIL> = fields.byte_list()?;
         if !fields.is_empty() {
             return None;
         }

@@ -5,10 +5,11 @@ ghost use Rattle.arrayvec.specs.ArrayVec.{array_vec_len};
 ghost use Rattle.byteorder.specs.Endian.{little_bytes};
 ghost use Rattle.hex.specs.Hex.{IsBytes};
 
+use crate::limits::{MAX_DATA, MAX_MESSAGE};
 use arrayvec::ArrayVec;
 
 /// A message's code and data.
-pub(crate) type Spelling = ArrayVec<u8, 1433>;
+pub(crate) type Spelling = ArrayVec<u8, MAX_MESSAGE>;
 
 /// The bytes from place `from` on.
 pub(crate) fn rest(bytes: &[u8], from: usize) -> &[u8]
@@ -59,7 +60,7 @@ pub(crate) fn put_byte(spelling: &mut Spelling, code: u8, byte: u8)
 
 /// Puts a message of some bytes in place of what stands in `spelling`.
 pub(crate) fn put_bytes(spelling: &mut Spelling, code: u8, bytes: &[u8])
-    requires { length bytes.now ≤ 1432 }
+    requires { length bytes.now ≤ MAX_DATA }
     ensures spelled { spelling.new.items ≡ code ∷ bytes.now }
     ensures fits { IsBytes bytes.now }
 {
@@ -69,7 +70,7 @@ pub(crate) fn put_bytes(spelling: &mut Spelling, code: u8, bytes: &[u8])
 
 /// Appends some bytes.
 pub(crate) fn append(spelling: &mut Spelling, bytes: &[u8])
-    requires { array_vec_len spelling.old + length bytes.now ≤ 1433 }
+    requires { array_vec_len spelling.old + length bytes.now ≤ MAX_MESSAGE }
     ensures appended { spelling.new.items ≡ spelling.old.items ++ bytes.now }
     ensures fits { IsBytes bytes.now }
 {
@@ -78,7 +79,7 @@ pub(crate) fn append(spelling: &mut Spelling, bytes: &[u8])
 
 /// Appends a number as two bytes, low byte first.
 pub(crate) fn append_u16(spelling: &mut Spelling, number: u16)
-    requires { array_vec_len spelling.old + 2 ≤ 1433 }
+    requires { array_vec_len spelling.old + 2 ≤ MAX_MESSAGE }
     ensures appended { spelling.new.items ≡ spelling.old.items ++ little_bytes 2 number }
     ensures fits { number < 2 ^ 16 }
 {
@@ -87,7 +88,7 @@ pub(crate) fn append_u16(spelling: &mut Spelling, number: u16)
 
 /// Appends a number as four bytes, low byte first.
 pub(crate) fn append_u32(spelling: &mut Spelling, number: u32)
-    requires { array_vec_len spelling.old + 4 ≤ 1433 }
+    requires { array_vec_len spelling.old + 4 ≤ MAX_MESSAGE }
     ensures appended { spelling.new.items ≡ spelling.old.items ++ little_bytes 4 number }
     ensures fits { number < 2 ^ 32 }
 {

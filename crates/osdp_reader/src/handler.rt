@@ -3,7 +3,7 @@
 ghost use Rattle.std.specs.Prelude.{◌≡◌, ◌≤◌, length};
 
 use arrayvec::ArrayVec;
-use osdp_msg::{Command, NakReason};
+use osdp_msg::{Command, MAX_DATA, MAX_MAKER_BYTES, NakReason};
 
 /// What a handler answers to a command. An answer that doesn't belong to the command is told as NAK 9.
 #[derive(Debug, Drop, PartialEq)]
@@ -13,11 +13,11 @@ pub enum Answer {
     /// The state of the device itself, tamper and power: of LSTAT.
     Local(u8, u8),
     /// A byte for each input, output or reader: of ISTAT, OSTAT and RSTAT.
-    List(ArrayVec<u8, 1432>),
+    List(ArrayVec<u8, MAX_DATA>),
     /// It isn't done. Reasons 2, 3 and 9 are told as they are, all others as 9.
     Refuse(NakReason),
     /// The maker's own reply, vendor and bytes: of MFG.
-    Maker([u8; 3], ArrayVec<u8, 1429>),
+    Maker([u8; 3], ArrayVec<u8, MAX_MAKER_BYTES>),
 }
 
 impl Answer {
@@ -25,7 +25,7 @@ impl Answer {
 
     /// A byte for each input, output or reader, of a slice of at most 1,432 of them.
     pub fn list(states: &[u8]) -> Answer
-        requires { length states.now ≤ 1432 }
+        requires { length states.now ≤ MAX_DATA }
         ensures { result ≡ answer.List (record { items = states.now }) }
     {
         Answer::List(ArrayVec::try_from(states).unwrap())

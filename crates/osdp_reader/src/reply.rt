@@ -16,7 +16,8 @@ use crate::handler::{Answer, Handler};
 use arrayvec::ArrayVec;
 use osdp_frame::{Address, Burst, FrameView, Seq};
 use osdp_msg::{
-    Command, Communication, Event, LocalState, MakerMessage, MsgFault, Nak, NakReason, Reply,
+    Command, Communication, Event, LocalState, MAX_DATA, MAX_MAKER_BYTES, MAX_MESSAGE,
+    MakerMessage, MsgFault, Nak, NakReason, Reply,
 };
 
 /// A NAK with this reason.
@@ -84,7 +85,7 @@ fn spell_local(
 
 /// The reply where the handler tells a byte for each input, output or reader.
 #[inline(never)]
-fn list(command: &Command, states: ArrayVec<u8, 1432>) -> Reply
+fn list(command: &Command, states: ArrayVec<u8, MAX_DATA>) -> Reply
     ensures { result ≡ list_reply command.now states.items }
 {
     match command {
@@ -97,7 +98,7 @@ fn list(command: &Command, states: ArrayVec<u8, 1432>) -> Reply
 
 /// The reply where the handler gives the maker's own.
 #[inline(never)]
-fn maker(command: &Command, vendor: [u8; 3], bytes: ArrayVec<u8, 1429>) -> Reply
+fn maker(command: &Command, vendor: [u8; 3], bytes: ArrayVec<u8, MAX_MAKER_BYTES>) -> Reply
     ensures { result ≡ maker_reply command.now vendor bytes.items }
 {
     if let Command::Maker(_) = command {
@@ -131,7 +132,7 @@ fn spell_list(
     packet: &FrameView,
     seq: Seq,
     command: &Command,
-    states: ArrayVec<u8, 1432>,
+    states: ArrayVec<u8, MAX_DATA>,
     out: &mut Burst,
 )
     ensures spelled { Spells (reply_packet packet.now seq (list_reply command.now states.items)) out.new.items }
@@ -147,7 +148,7 @@ fn spell_maker(
     seq: Seq,
     command: &Command,
     vendor: [u8; 3],
-    bytes: ArrayVec<u8, 1429>,
+    bytes: ArrayVec<u8, MAX_MAKER_BYTES>,
     out: &mut Burst,
 )
     ensures spelled { Spells (reply_packet packet.now seq (maker_reply command.now vendor bytes.items)) out.new.items }
@@ -180,7 +181,7 @@ fn are_bytes(bytes: &[u8])
 /// Puts the bytes of a reply with this code and data to a packet, with this number, in place of what stands in `out`.
 fn spell_body(packet: &FrameView, seq: Seq, body: &[u8], out: &mut Burst)
     requires code { 0 < length body.now }
-    requires room { length body.now ≤ 1433 }
+    requires room { length body.now ≤ MAX_MESSAGE }
     ensures { Spells (packed true packet.now.address seq packet.now.check false 0 body.now) out.new.items }
 {
     are_bytes(body);

@@ -2,6 +2,7 @@
 use Rattle.std.specs.Prelude.{ℕ, ◌≤◌, ◌<◌, ◌^◌, Bool, true, false, List, [], ◌∷◌, codes, length}
 use Rattle.hex.specs.Hex.{IsBytes}
 use Rattle.osdp_msg.specs.Events.{EventFits, event_words}
+use Rattle.osdp_msg.specs.Limits.{most_data}
 use Rattle.osdp_words.specs.Word.{Word, plain, bytes, number}
 use Rattle.osdp_reader_calls.specs.declared.call.ReaderCall.{ReaderCall}
 use Rattle.osdp_reader_calls.specs.declared.call.ReaderCall.TheVariants.{At, Bytes, Silence, Tick, Event, Busy, Inputs, Outputs, Readers, Local}
@@ -43,7 +44,7 @@ abbrev pub IsLong : List ℕ → Type 0
 IsLong list = (length list ≤ 4096) × IsBytes list
 
 abbrev pub AreStates : List ℕ → Type 0
-AreStates list = (length list ≤ 1432) × IsBytes list
+AreStates list = (length list ≤ most_data) × IsBytes list
 
 abbrev pub CallFits : ReaderCall → Type 0
 CallFits (At now) = now < 2 ^ 64

@@ -7,6 +7,7 @@ ghost use Rattle.osdp_words.specs.Word.{bytes, number, texts};
 ghost use Rattle.osdp_reader_calls.specs.Calls.{AreStates, CallFits, IsLong, call_words, switch_word};
 
 use arrayvec::ArrayVec;
+use osdp_msg::MAX_DATA;
 use osdp_words::{byte_list, number_u8, number_u64};
 
 /// What a line orders.
@@ -25,11 +26,11 @@ pub enum ReaderCall {
     /// Whether the reader is busy from now on.
     Busy(bool),
     /// A byte for each input, from now on.
-    Inputs(ArrayVec<u8, 1432>),
+    Inputs(ArrayVec<u8, MAX_DATA>),
     /// A byte for each output, from now on.
-    Outputs(ArrayVec<u8, 1432>),
+    Outputs(ArrayVec<u8, MAX_DATA>),
     /// A byte for each reader, from now on.
-    Readers(ArrayVec<u8, 1432>),
+    Readers(ArrayVec<u8, MAX_DATA>),
     /// Tamper and power, from now on.
     Local(u8, u8),
 }
@@ -59,7 +60,7 @@ fn parse_bytes(words: &[&str]) -> Option<ArrayVec<u8, 4096>>
 }
 
 /// One word, and no other: a byte for each input, output or reader.
-fn parse_states(words: &[&str]) -> Option<ArrayVec<u8, 1432>>
+fn parse_states(words: &[&str]) -> Option<ArrayVec<u8, MAX_DATA>>
     ensures { ReadsWords (λ list. bytes list.items ∷ []) (λ list. AreStates list.items) (texts words.now) result }
 {
     byte_list(one_word(words)?)

@@ -2,6 +2,7 @@
 use Rattle.std.specs.Prelude.{◌≢◌, ℕ, ◌≤◌, Bool, true, false, List, [], ◌∷◌, codes, length}
 use Rattle.hex.specs.Hex.{IsBytes}
 use Rattle.osdp_frame.specs.Check.{check_name}
+use Rattle.osdp_frame.specs.Packet.{largest}
 use Rattle.osdp_msg.specs.declared.command.Command.{Command}
 use Rattle.osdp_msg.specs.declared.command.Command.TheVariants.{Poll}
 use Rattle.osdp_msg.specs.declared.event.Event.{Event}
@@ -91,7 +92,7 @@ abbrev pub MoveFits : Move → Type 0
 MoveFits Deliver = Unit {0}
 MoveFits Drop = Unit {0}
 MoveFits Repeat = Unit {0}
-MoveFits (Damage burst) = (length burst.items ≤ 1440) × IsBytes burst.items
+MoveFits (Damage burst) = (length burst.items ≤ largest) × IsBytes burst.items
 
 -- with so many readers
 abbrev pub StepFits : ℕ → SimStep → Type 0

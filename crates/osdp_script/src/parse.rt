@@ -9,7 +9,7 @@ ghost use Rattle.osdp_words.specs.Word.{number, plain, texts};
 ghost use Rattle.osdp_script.specs.Lines.{IsHappening, IsOrder, IsReader, IsSetting, LineFits, MoveFits, line_words, move_words, switch_word};
 
 use crate::script::ScriptLine;
-use osdp_frame::{Address, CheckKind};
+use osdp_frame::{Address, CheckKind, MAX_PACKET};
 use osdp_msg::{Command, Event};
 use osdp_sim::{Move, SimStep};
 use osdp_words::{byte_list, number_u8, number_u32};
@@ -142,7 +142,7 @@ fn parse_move(words: &[&str]) -> Option<Move>
             let [bytes] = rest else {
                 return None;
             };
-            Some(Move::Damage(byte_list::<1440>(bytes)?))
+            Some(Move::Damage(byte_list::<MAX_PACKET>(bytes)?))
         }
         _ => None,
     }

@@ -8,8 +8,8 @@ ghost use Rattle.osdp_frame.specs.Check.{check_name};
 ghost use Rattle.osdp_tool_make.specs.PacketOrder.{MessageFits, OrderFits, message_body, message_is_reply, message_words, order_packet, order_words};
 
 use arrayvec::ArrayVec;
-use osdp_frame::{Address, CheckKind, Frame, Seq};
-use osdp_msg::{Command, Reply};
+use osdp_frame::{Address, CheckKind, Frame, MAX_BODY, Seq};
+use osdp_msg::{Command, MAX_MESSAGE, Reply};
 use osdp_words::number_u8;
 
 /// What a packet carries.
@@ -49,7 +49,7 @@ impl Message {
     }
 
     /// The code and the data.
-    fn body(&self) -> ArrayVec<u8, 1433>
+    fn body(&self) -> ArrayVec<u8, MAX_MESSAGE>
         ensures body { result.items ≡ message_body self.now }
         ensures fits { MessageFits self.now }
     {
@@ -124,8 +124,8 @@ impl PacketOrder {
 }
 
 /// The same bytes with room for one more.
-fn with_room(bytes: &[u8]) -> ArrayVec<u8, 1434>
-    requires { length bytes.now ≤ 1433 }
+fn with_room(bytes: &[u8]) -> ArrayVec<u8, MAX_BODY>
+    requires { length bytes.now ≤ MAX_MESSAGE }
     ensures bytes { result.items ≡ bytes.now }
     ensures are_bytes { AreBytes bytes.now }
 {

@@ -15,7 +15,7 @@ ghost use Rattle.osdp_tool_show.specs.Written.{StopsWithin};
 
 use crate::report::Report;
 use memchr::memchr;
-use osdp_frame::{Framer, Item, whole_item};
+use osdp_frame::{Framer, Item, MAX_PACKET, whole_item};
 use osdp_tool_streams::{ToolFault, Watched};
 use std::io::Write;
 
@@ -24,9 +24,6 @@ const TRIES: u8 = 8;
 
 /// So many bytes stand before the body of a packet, and tell its count.
 const HEAD: usize = 5;
-
-/// The largest packet that is accepted.
-const LARGEST: usize = 1440;
 
 /// Tells of the items that the held bytes decide, and takes them off.
 #[inline(never)]
@@ -51,7 +48,7 @@ fn drain<W: Write>(
     Ok(())
 }
 
-/// How many bytes stand before the first 53.
+/// How many bytes stand before the first 0x53.
 fn skipped_count(bytes: &[u8]) -> usize
     ensures within { result ≤ length bytes.now }
     ensures skipped { AllByRecursion (λ b. b ≢ start_of_message) (take result bytes.now) }
@@ -175,7 +172,7 @@ fn first_count(bytes: &[u8]) -> usize
         [_, _, low, high, ..] => usize::from(u16::from_le_bytes([*low, *high])),
         _ => 0,
     };
-    let told = if count <= LARGEST { count } else { 0 };
+    let told = if count <= MAX_PACKET { count } else { 0 };
     told.max(HEAD).min(bytes.len())
 }
 
