@@ -6,7 +6,9 @@ ghost use Rattle.osdp_frame.specs.Packet.{IsPacket};
 ghost use Rattle.osdp_frame.specs.Packed.{headed, packed};
 ghost use Rattle.osdp_frame.specs.Spelling.{Spells, address_byte, control_byte};
 
-use crate::bytes::{HEAD, MAX_PACKET, START_OF_MESSAGE, are_bytes, count_bytes, resize, write_packet};
+use crate::bytes::{
+    HEAD, MAX_PACKET, START_OF_MESSAGE, are_bytes, count_bytes, resize, write_packet,
+};
 use crate::frame::Burst;
 use crate::{Address, CheckKind, Seq};
 use std::marker::Model;
