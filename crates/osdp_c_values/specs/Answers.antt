@@ -3,6 +3,8 @@ use Rattle.std.specs.Prelude.{ℕ, ◌==◌, Bool, true, false, List, [], slice_
 use Rattle.osdp_device.specs.Saying.{Said, again_by, taken_by}
 use Rattle.osdp_msg.specs.declared.command.Command.{Command}
 use Rattle.osdp_msg.specs.declared.command_fields.Communication.{Communication}
+use Rattle.osdp_msg.specs.declared.reply.Reply.{Reply}
+use Rattle.osdp_msg.specs.declared.reply.Reply.TheVariants as reply
 use Rattle.osdp_reader.specs.Responses.{accepted_comset}
 use Rattle.osdp_reader.specs.declared.kind.Kind.{Kind}
 use Rattle.osdp_reader.specs.declared.kind.Kind.TheVariants.{Silent, Secured, Zero, Repeat, Taken, Busy, Wrong}
@@ -26,6 +28,11 @@ moves (Some setting) a = record a { moved = 1; address = setting.address; baud_r
 -- whether what is sent back is a NAK, by which a command is refused: the code of a reply is its sixth byte
 abbrev pub is_nak : List ℕ → Bool
 is_nak bytes = slice_index bytes 5 == 0x41
+
+-- whether a reply is one
+abbrev pub is_refusal : Reply → Bool
+is_refusal (reply.Nak n) = true
+is_refusal _ = false
 
 -- a command, and the number of what the device is to do with it
 abbrev pub ordered : ℕ → Option Command → AnswerStruct → AnswerStruct
