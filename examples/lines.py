@@ -34,7 +34,12 @@ def set_rate(port, rate):
 
 
 def open_port(path, rate):
-    port = os.open(path, os.O_RDWR | os.O_NOCTTY)
+    try:
+        port = os.open(path, os.O_RDWR | os.O_NOCTTY)
+    except OSError:
+        stop("the port can't be opened")
+    if not os.isatty(port):
+        stop("the port is no serial port")
     set_rate(port, rate)
     return port
 

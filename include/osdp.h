@@ -407,19 +407,19 @@ enum {
 enum {
     /* Nothing: a POLL, a command that couldn't be read, or none. */
     OSDP_ORDER_NONE = 0,
-    /* The command came with a number that had its turn: do it, once, but not where `burst.bytes[5] == 0x41`. There the reader has refused the
-     * command by a NAK, and nothing of it is to be done. */
+    /* The command came with a number that had its turn: do it, once. */
     OSDP_ORDER_TAKEN = 1,
-    /* The command came with number 0, where the same order may come again: do what may be done twice, but nothing where
-     * `burst.bytes[5] == 0x41`, as above. */
-    OSDP_ORDER_AGAIN = 2
+    /* The command came with number 0, where the same order may come again: do what may be done twice. */
+    OSDP_ORDER_AGAIN = 2,
+    /* The command was acted on, with either number, and the reader has refused it: the burst is a NAK. Nothing of it is to be done. */
+    OSDP_ORDER_REFUSED = 3
 };
 
 /* What a reader says to a packet. 2,900 bytes. */
 struct osdp_answer {
     /* OSDP_SAID_NONE to OSDP_SAID_WRONG. */
     uint32_t kind;
-    /* OSDP_ORDER_NONE, OSDP_ORDER_TAKEN or OSDP_ORDER_AGAIN. */
+    /* OSDP_ORDER_NONE to OSDP_ORDER_REFUSED. */
     uint32_t order;
     /* 1 where a COMSET was accepted, else 0: the burst is still written at the old rate, and the port is set to the new one after it. */
     uint32_t moved;
@@ -443,7 +443,7 @@ struct osdp_answer {
  *     while (osdp_reader_step(&reader, bytes + at, length - at, now, &taken, &answer) == OSDP_OK) {
  *         at += taken;
  *         .. answer.burst is written ..
- *         if (answer.order == OSDP_ORDER_TAKEN && answer.burst.bytes[5] != 0x41) {
+ *         if (answer.order == OSDP_ORDER_TAKEN) {
  *             .. answer.command is done ..
  *         }
  *         if (at == length && answer.kind == OSDP_SAID_NONE) {

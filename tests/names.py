@@ -27,14 +27,15 @@ NUMBERED = (
     ("Reports", r"^report_struct (?P<name>None) r = tells (?P<number>\d+) ", "OSDP_REPORT_"),
     ("Reports", r"^cause_number (?P<name>\w+) = (?P<number>\d+)$", "OSDP_LOST_"),
     ("Answers", r"^kind_number (?P<name>\w+) = (?P<number>\d+)$", "OSDP_SAID_"),
-    ("Answers", r"^orders_of (?P<name>.*) a = record a \{ order = (?P<number>\d+)[ ;]", "OSDP_ORDER_"),
+    ("Answers", r"^orders_of (?P<name>.*) a = ordered (?P<number>\d+) ", "OSDP_ORDER_"),
 )
 # What a constant calls otherwise than its definition does
 OTHERWISE = {
     "Done": "OK", "message.Length": "BAD_LENGTH", "message.Count": "BAD_COUNT", "bus.NoMemory": "PANEL_NO_MEMORY",
     "bus.OutOfRange": "PANEL_OUT_OF_RANGE", "bus.Full": "COMMANDS_FULL", "reader.NoMemory": "READER_NO_MEMORY",
     "reader.OutOfRange": "READER_OUT_OF_RANGE", "check": "CRC", "PollAnswered": "ANSWERED", "Silent": "NONE",
-    "(Some command) again": "TAKEN", "None (Some command)": "AGAIN", "None None": "NONE",
+    "refused None None": "NONE", "false (Some command) again": "TAKEN", "false None (Some command)": "AGAIN",
+    "true (Some command) again": "REFUSED", "true None (Some command)": "REFUSED",
 }
 faults = []
 

@@ -51,6 +51,9 @@ int open_port(const char *path, uint32_t rate)
     if (port < 0) {
         stop(BAD_PORT, "the port can't be opened");
     }
+    if (!isatty(port)) {
+        stop(BAD_PORT, "the port is no serial port");
+    }
     set_rate(port, rate);
     return port;
 }

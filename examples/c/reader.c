@@ -14,7 +14,6 @@
 
 #define TURN 10 /* how long a read waits, in milliseconds */
 #define OUTPUTS 8
-#define NAK 0x41 /* the code of a reply that says that nothing was done */
 
 /* An output: whether it is on for good, and whether it is on for a time, which counts until a moment. */
 struct output {
@@ -65,9 +64,9 @@ static void act(const struct osdp_answer *answer, uint64_t now)
 {
     write_all(port, &answer->burst);
     if (answer->order != OSDP_ORDER_NONE) {
-        tell("%s %s\n", answer->order == OSDP_ORDER_TAKEN ? "taken" : "again", command_text(&answer->command));
+        tell("%s %s\n", answer->kind == OSDP_SAID_TAKEN ? "taken" : "again", command_text(&answer->command));
     }
-    if (answer->order == OSDP_ORDER_TAKEN && answer->command.code == 0x68 && answer->burst.bytes[5] != NAK) {
+    if (answer->order == OSDP_ORDER_TAKEN && answer->command.code == 0x68) {
         switch_outputs(&answer->command, now);
     }
     if (answer->moved) {

@@ -36,9 +36,7 @@ fn reader_hears(reader: &mut Reader, mut bytes: &[u8], now: u64, line: &mut Line
         if let Some(burst) = &answer.burst {
             line.carry(burst);
         }
-        if let Some(Order::Taken(command)) = &answer.order
-            && !answer.is_refused()
-        {
+        if let Some(Order::Taken(command)) = &answer.order {
             opened += usize::from(command.to_string() == OPEN);
         }
     }

@@ -7,9 +7,6 @@ use crate::panel::{no_burst, no_message};
 use crate::sys;
 use core::ptr::null_mut;
 
-/// The code of a reply that refuses a command. The code is byte 5 of an answer.
-const NAK: u8 = 0x41;
-
 /// What a reader is.
 #[derive(Clone, Debug, PartialEq, Eq)]
 pub struct ReaderConfig<'a> {
@@ -55,11 +52,12 @@ numbered! {
 #[derive(Clone, Debug, PartialEq, Eq)]
 #[allow(clippy::large_enum_variant)]
 pub enum Order {
-    /// The command came with a number that had its turn: do it, once, but not where `Answer::is_refused`. There the reader has refused the
-    /// command by a NAK (`burst.bytes[5] == 0x41`), and nothing of it is to be done.
+    /// The command came with a number that had its turn: do it, once.
     Taken(Command),
-    /// The command came with number 0, where the same order may come again: do what may be done twice, but nothing where `Answer::is_refused`.
+    /// The command came with number 0, where the same order may come again: do what may be done twice.
     Again(Command),
+    /// The command was acted on, with either number, and the reader has refused it: the burst is a NAK. Nothing of it is to be done.
+    Refused(Command),
 }
 
 /// Where a COMSET put the device: the answer still goes out at the old rate.
@@ -76,19 +74,12 @@ pub struct Moved {
 pub struct Answer {
     /// How the packet was answered.
     pub said: Said,
-    /// What the device is to do, after the burst has gone out, unless `is_refused`.
+    /// What the device is to do, after the burst has gone out.
     pub order: Option<Order>,
     /// What a COMSET that was accepted has set.
     pub moved: Option<Moved>,
     /// What is to be written to the line.
     pub burst: Option<Burst>,
-}
-
-impl Answer {
-    /// Whether the reader has refused the command by a NAK: nothing of it is to be done then.
-    pub fn is_refused(&self) -> bool {
-        self.burst.as_deref().and_then(|bytes| bytes.get(5)) == Some(&NAK)
-    }
 }
 
 fn answer_of(raw: &sys::osdp_answer) -> Option<Answer> {
@@ -98,6 +89,7 @@ fn answer_of(raw: &sys::osdp_answer) -> Option<Answer> {
         order: match raw.order {
             sys::OSDP_ORDER_TAKEN => command.map(Order::Taken),
             sys::OSDP_ORDER_AGAIN => command.map(Order::Again),
+            sys::OSDP_ORDER_REFUSED => command.map(Order::Refused),
             _ => None,
         },
         moved: (raw.moved != 0).then_some(Moved {
@@ -259,9 +251,7 @@ impl Reader {
     ///     if let Some(burst) = &answer.burst {
     ///         write(burst);
     ///     }
-    ///     if let Some(Order::Taken(command)) = &answer.order
-    ///         && !answer.is_refused()
-    ///     {
+    ///     if let Some(Order::Taken(command)) = &answer.order {
     ///         act(command);
     ///     }
     /// }

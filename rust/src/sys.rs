@@ -54,6 +54,7 @@ pub const OSDP_SAID_WRONG: u32 = 6;
 pub const OSDP_ORDER_NONE: u32 = 0;
 pub const OSDP_ORDER_TAKEN: u32 = 1;
 pub const OSDP_ORDER_AGAIN: u32 = 2;
+pub const OSDP_ORDER_REFUSED: u32 = 3;
 
 #[repr(C)]
 #[derive(Clone, Copy)]

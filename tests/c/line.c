@@ -118,6 +118,21 @@ static void judge_kind(int i, const struct osdp_answer *answer)
     }
 }
 
+/* What a reader is to do is called so. */
+static const char *const orders[] = { "nothing", "taken", "again", "refused" };
+
+/* A command that was acted on is told refused exactly where the answer is a NAK, and else by its number. */
+static void judge_order(const struct osdp_answer *answer)
+{
+    demand((answer->order != OSDP_ORDER_NONE) == answer->command.present);
+    demand(answer->order <= OSDP_ORDER_REFUSED);
+    if (answer->order != OSDP_ORDER_NONE) {
+        uint32_t wanted = answer->kind == OSDP_SAID_ZERO ? OSDP_ORDER_AGAIN : OSDP_ORDER_TAKEN;
+        demand(answer->kind == OSDP_SAID_ZERO || answer->kind == OSDP_SAID_TAKEN);
+        demand(answer->order == (answer->burst.bytes[5] == 0x41 ? OSDP_ORDER_REFUSED : wanted));
+    }
+}
+
 /* The first of some answers BUSY, or NAK 4, is noted. */
 static void note_kind(int i, uint32_t kind)
 {
@@ -140,11 +155,11 @@ static void hear_answer(int i, const struct osdp_answer *answer)
         memcpy(line + on_line, answer->burst.bytes, answer->burst.length);
         on_line += answer->burst.length;
     }
-    demand((answer->order != OSDP_ORDER_NONE) == answer->command.present);
+    judge_order(answer);
     bool same = answer->order == OSDP_ORDER_AGAIN && order_before[i] == OSDP_ORDER_AGAIN;
     if (answer->order != OSDP_ORDER_NONE && !same) { /* what came with number 0 comes again where its answer was lost */
         order_before[i] = answer->order;
-        note(&done[i], "%s", answer->order == OSDP_ORDER_TAKEN ? "taken" : "again");
+        note(&done[i], "%s", orders[answer->order]);
         note_text(&done[i], osdp_command_text, &answer->command);
         note(&done[i], "\n");
     }

@@ -138,6 +138,20 @@ static void secured(void)
     demand(osdp_reader_step(&readers[0], poll, 0, now, &taken, &answer) == OSDP_OK && answer.kind == OSDP_SAID_NONE);
 }
 
+/* An OUT of an output that isn't there is refused with number 0 too: NAK 9. Both packets are worked by hand. */
+static void refused_at_zero(void)
+{
+    static struct osdp_answer answer;
+    const uint8_t out[] = { 0x53, 0x05, 0x0B, 0x00, 0x00, 0x68, 0x09, 0x02, 0x00, 0x00, 0x2A };
+    const uint8_t nak[] = { 0x53, 0x85, 0x08, 0x00, 0x00, 0x41, 0x09, 0xD6 };
+    size_t taken = 0;
+    demand(osdp_reader_step(&readers[0], out, sizeof out, now, &taken, &answer) == OSDP_OK && taken == sizeof out);
+    demand(answer.kind == OSDP_SAID_ZERO && answer.order == OSDP_ORDER_REFUSED && answer.moved == 0);
+    demand(answer.command.code == 0x68 && answer.command.length == 4 && memcmp(answer.command.data, out + 6, 4) == 0);
+    demand(answer.burst.length == sizeof nak && memcmp(answer.burst.bytes, nak, sizeof nak) == 0);
+    demand(osdp_reader_step(&readers[0], out, 0, now, &taken, &answer) == OSDP_OK && answer.kind == OSDP_SAID_NONE);
+}
+
 static void queue_events(void)
 {
     const uint8_t keys[] = { 0, 1, '4' };
@@ -242,7 +256,7 @@ static const char *const must_be_done[READERS] = {
     "again ID 0\n"
     "taken OUT 0:2:0\n"
     "taken ISTAT\n"
-    "taken OUT 9:2:0\n"
+    "refused OUT 9:2:0\n"
     "taken LSTAT\n",
     "again ID 0\n"
     "taken BUZ 0 2 5 5 1\n"
@@ -285,6 +299,7 @@ static void session(void)
     new_machines();
     refusals();
     secured();
+    refused_at_zero();
     queue_events();
     settle();
     fall_silent();

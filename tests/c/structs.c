@@ -303,7 +303,7 @@ static void largest(struct osdp_panel *panel, struct osdp_reader *reader)
     struct osdp_burst *burst = burst_of(panel, 1500);
     demand(burst->length == 1440 && is_burst(burst, 5, 1, 0x80, data, 1432));
     struct osdp_answer *answer = answer_of(reader, burst, 1500);
-    demand(answer->kind == OSDP_SAID_TAKEN && answer->order == OSDP_ORDER_TAKEN && answer->moved == 0);
+    demand(answer->kind == OSDP_SAID_TAKEN && answer->order == OSDP_ORDER_REFUSED && answer->moved == 0);
     demand(is_message(&answer->command, 0x80, data, 1432) && is_burst(&answer->burst, 0x85, 1, 0x41, refused, 1));
     to_panel(panel, &answer->burst, 1510);
     struct osdp_report *report = report_of(panel);

@@ -4,7 +4,7 @@ ghost use Rattle.std.specs.Prelude.{◌≡◌};
 ghost use Rattle.std.specs.Option.{option_copied, option_map};
 ghost use Rattle.osdp_device.specs.Saying.{said_in};
 ghost use Rattle.osdp_reader.specs.Responses.{response_bytes};
-ghost use Rattle.osdp_c_values.specs.Answers.{answer_struct, kind_number, moves, orders, says, says_nothing, sends};
+ghost use Rattle.osdp_c_values.specs.Answers.{answer_struct, is_nak, kind_number, moves, orders, says, says_nothing, sends};
 
 use crate::arrays::BurstStruct;
 use crate::message::MessageStruct;
@@ -18,7 +18,7 @@ use osdp_reader::{Kind, Response};
 pub struct AnswerStruct {
     /// The line of the reader's table: 0 nothing is said, 1 secured, 2 zero, 3 repeat, 4 taken, 5 busy, 6 wrong.
     pub kind: u32,
-    /// What the device is to do with the command: 0 nothing, 1 to do it, 2 it was acted on once more.
+    /// What the device is to do with the command: 0 there is none, 1 to do it, 2 it was acted on once more, 3 nothing, as it was refused.
     pub order: u32,
     /// 1 where a COMSET was accepted, else 0.
     pub moved: u32,
@@ -26,7 +26,7 @@ pub struct AnswerStruct {
     pub address: u32,
     /// The rate that it set.
     pub baud_rate: u32,
-    /// The command that the device is to do.
+    /// The command that `order` is about.
     pub command: MessageStruct,
     /// What is to be sent.
     pub burst: BurstStruct,
@@ -45,6 +45,13 @@ fn kind_number(kind: Kind) -> u32
         Kind::Busy => 5,
         Kind::Wrong => 6,
     }
+}
+
+/// Whether what is sent back refuses a command: the code of a reply is its sixth byte, and 0x41 is that of a NAK.
+fn is_nak(bytes: &[u8]) -> bool
+    ensures { result ≡ is_nak bytes.now }
+{
+    bytes.len() > 5 && bytes[5] == 0x41
 }
 
 impl AnswerStruct {
@@ -70,11 +77,12 @@ impl AnswerStruct {
     fn set_order(&mut self, response: &Response)
         ensures { self.new ≡ orders (said_in response.now) self.old }
     {
+        let refused = is_nak(response.bytes());
         if let Some(command) = taken(response) {
-            self.order = 1;
+            self.order = if refused { 3 } else { 1 };
             self.command.set_command(Some(command));
         } else if let Some(command) = again(response) {
-            self.order = 2;
+            self.order = if refused { 3 } else { 2 };
             self.command.set_command(Some(command));
         } else {
             self.order = 0;

@@ -6,6 +6,7 @@
 
 mod answer;
 mod arrays;
+pub mod laws;
 mod message;
 mod moment;
 mod report;
