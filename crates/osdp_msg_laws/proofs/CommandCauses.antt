@@ -1,5 +1,7 @@
 -- Each code of the table of commands is that of some command.
-use Rattle.std.proofs.Common.{◌≡◌, lit<, lit≤, refl, inl, inr, ℕ, [], ◌∷◌, None}
+use Rattle.std.proofs.Common.{◌≡◌, ◌∙◌, ◌+◌, lit<, lit≤, refl, inl, inr, ℕ, [], ◌∷◌, length, None}
+use Rattle.std.specs.Prelude.{slice_index}
+use Rattle.std.proofs.lemmas.Bool.{eqb-false, leb-true}
 use Rattle.std.proofs.lemmas.List.Elements.{All-cons, All-nil}
 use Rattle.osdp_msg.specs.declared.command.Command.{Command}
 use Rattle.osdp_msg.specs.declared.command.Command.TheVariants.{Poll, Id, Cap, LocalStatus, InputStatus, OutputStatus, ReaderStatus, Output, Led, Buzzer, Text, Comset, Maker}
@@ -9,9 +11,9 @@ use Rattle.osdp_msg.specs.CommandFields.{LedFits, OutputFits}
 use Rattle.osdp_msg.specs.CommandTable.{CommandFits, IsCommand, command_code, command_counts_agree, command_data, command_fault, command_length_allowed}
 use Rattle.osdp_msg.proofs.Bytes.{IsBytes-each, IsBytes-nil}
 use Rattle.osdp_msg.proofs.Commands.{commands}
-use Rattle.osdp_msg.proofs.Table.{by_codes}
-use Rattle.osdp_msg_laws.specs.Faults.{FaultsHaveCauses}
-use Rattle.osdp_msg_laws.proofs.Causes.{IsNoneOrKnown, faults_have_causes}
+use Rattle.osdp_msg.proofs.Table.{by_codes, some_is}
+use Rattle.osdp_msg_laws.specs.Faults.{CommandCounts, FaultsHaveCauses}
+use Rattle.osdp_msg_laws.proofs.Causes.{IsNoneOrKnown, Miscounts, faults_have_causes, miscounted, never_agree}
 
 known : (m : Command) → CommandFits m → ((len : ℕ) → command_length_allowed (command_code m) len ≡ None → ⊥)
     → IsNoneOrKnown IsCommand command_length_allowed (command_code m)
@@ -106,6 +108,19 @@ codes code =
     )
     λ n0 n1 n2 n3 n4 n5 n6 n7 n8 n9 nA nB nC. inl (λ len. rw (n0, n1, n2, n3, n4, n5, n6, n7, n8, n9, nA, nB, nC) refl)
 
-pub command_causes : FaultsHaveCauses IsCommand command_length_allowed command_fault
+counts_text : Miscounts command_length_allowed command_counts_agree CommandCounts 0x6B
+counts_text bytes may =
+    let m = miscounted 6 (length bytes) (slice_index bytes 5) (leb-true 6 (length bytes) (some_is _ _ may)) in
+    (λ e. (6 + slice_index bytes 5, ((refl, refl), m.0 e)), λ wrong. m.1 (λ same. wrong.1.1 (wrong.1.0.1 ∙ same)))
+
+counts : (code : ℕ) → Miscounts command_length_allowed command_counts_agree CommandCounts code
+counts code =
+    by_codes (Miscounts command_length_allowed command_counts_agree CommandCounts) code (0x6B ∷ []) (counts_text, tt)
+    λ n0 bytes may. (
+      λ e. absurd (never_agree (command_counts_agree code bytes) (rw n0 refl) e),
+      λ wrong. absurd (eqb-false code 0x6B n0 wrong.1.0.0),
+    )
+
+pub command_causes : FaultsHaveCauses IsCommand command_length_allowed CommandCounts command_fault
 unfolding command_fault
-command_causes = faults_have_causes command_length_allowed command_counts_agree commands codes
+command_causes = faults_have_causes command_length_allowed command_counts_agree CommandCounts commands codes counts

@@ -1,6 +1,9 @@
 -- Each code of the table of replies is that of some reply.
-use Rattle.std.proofs.Common.{◌≡◌, lit<, lit≤, refl, inl, inr, ℕ, [], ◌∷◌, None}
+use Rattle.std.proofs.Common.{◌≡◌, ◌∙◌, ◌+◌, ◌/◌, lit<, lit≤, refl, inl, inr, arith, ℕ, [], ◌∷◌, drop, length, None}
+use Rattle.std.specs.Prelude.{slice_index}
+use Rattle.std.proofs.lemmas.Bool.{eqb-false, leb-true}
 use Rattle.std.proofs.lemmas.List.Elements.{All-nil}
+use Rattle.byteorder.specs.Endian.{little_number}
 use Rattle.osdp_msg.specs.declared.nak.NakReason.TheVariants.{CheckCharacters}
 use Rattle.osdp_msg.specs.declared.reply.Reply.{Reply}
 use Rattle.osdp_msg.specs.declared.reply.Reply.TheVariants.{Ack, Nak, PdId, PdCap, LocalState, Inputs, Outputs, Readers, Raw, Formatted, Keypad, Com, Busy, MakerReply}
@@ -8,9 +11,9 @@ use Rattle.osdp_msg.specs.ReplyFields.{CapabilityFits}
 use Rattle.osdp_msg.specs.ReplyTable.{IsReply, ReplyFits, StatesFit, reply_code, reply_counts_agree, reply_data, reply_fault, reply_length_allowed}
 use Rattle.osdp_msg.proofs.Bytes.{IsBytes-each, IsBytes-nil}
 use Rattle.osdp_msg.proofs.Replies.{replies}
-use Rattle.osdp_msg.proofs.Table.{by_codes}
-use Rattle.osdp_msg_laws.specs.Faults.{FaultsHaveCauses}
-use Rattle.osdp_msg_laws.proofs.Causes.{IsNoneOrKnown, faults_have_causes}
+use Rattle.osdp_msg.proofs.Table.{by_codes, some_is}
+use Rattle.osdp_msg_laws.specs.Faults.{FaultsHaveCauses, ReplyCounts}
+use Rattle.osdp_msg_laws.proofs.Causes.{IsNoneOrKnown, Miscounts, faults_have_causes, miscounted, never_agree}
 
 known : (m : Reply) → ReplyFits m → ((len : ℕ) → reply_length_allowed (reply_code m) len ≡ None → ⊥)
     → IsNoneOrKnown IsReply reply_length_allowed (reply_code m)
@@ -92,6 +95,50 @@ codes code =
     )
     λ n0 n1 n2 n3 n4 n5 n6 n7 n8 n9 nA nB nC nD. inl (λ len. rw (n0, n1, n2, n3, n4, n5, n6, n7, n8, n9, nA, nB, nC, nD) refl)
 
-pub reply_causes : FaultsHaveCauses IsReply reply_length_allowed reply_fault
+counts_raw : Miscounts reply_length_allowed reply_counts_agree ReplyCounts 0x50
+counts_raw bytes may =
+    let count = (little_number 2 (drop 2 bytes) + 7) / 8 in
+    let m = miscounted 4 (length bytes) count (leb-true 4 (length bytes) (some_is _ _ may)) in (
+      λ e. (4 + count, (inl (refl, refl), m.0 e)),
+      λ wrong. m.1 λ same. elim wrong.1.0 [
+        | inl here ↦ wrong.1.1 (here.1 ∙ same)
+        | inr elsewhere ↦ elim elsewhere [ inl other ↦ omega (arith, other.0) | inr other ↦ omega (arith, other.0) ]
+      ],
+    )
+
+counts_formatted : Miscounts reply_length_allowed reply_counts_agree ReplyCounts 0x51
+counts_formatted bytes may =
+    let count = slice_index bytes 2 in
+    let m = miscounted 3 (length bytes) count (leb-true 3 (length bytes) (some_is _ _ may)) in (
+      λ e. (3 + count, (inr (inl (refl, refl)), m.0 e)),
+      λ wrong. m.1 λ same. elim wrong.1.0 [
+        | inl other ↦ omega (arith, other.0)
+        | inr elsewhere ↦ elim elsewhere [ inl here ↦ wrong.1.1 (here.1 ∙ same) | inr other ↦ omega (arith, other.0) ]
+      ],
+    )
+
+counts_keypad : Miscounts reply_length_allowed reply_counts_agree ReplyCounts 0x53
+counts_keypad bytes may =
+    let count = slice_index bytes 1 in
+    let m = miscounted 2 (length bytes) count (leb-true 2 (length bytes) (some_is _ _ may)) in (
+      λ e. (2 + count, (inr (inr (refl, refl)), m.0 e)),
+      λ wrong. m.1 λ same. elim wrong.1.0 [
+        | inl other ↦ omega (arith, other.0)
+        | inr elsewhere ↦ elim elsewhere [ inl other ↦ omega (arith, other.0) | inr here ↦ wrong.1.1 (here.1 ∙ same) ]
+      ],
+    )
+
+counts : (code : ℕ) → Miscounts reply_length_allowed reply_counts_agree ReplyCounts code
+counts code =
+    by_codes (Miscounts reply_length_allowed reply_counts_agree ReplyCounts) code (0x50 ∷ 0x51 ∷ 0x53 ∷ []) (counts_raw, (counts_formatted, (counts_keypad, tt)))
+    λ n0 n1 n2 bytes may. (
+      λ e. absurd (never_agree (reply_counts_agree code bytes) (rw (n0, n1, n2) refl) e),
+      λ wrong. absurd (elim wrong.1.0 [
+        | inl raw ↦ eqb-false code 0x50 n0 raw.0
+        | inr others ↦ elim others [ inl formatted ↦ eqb-false code 0x51 n1 formatted.0 | inr keypad ↦ eqb-false code 0x53 n2 keypad.0 ]
+      ]),
+    )
+
+pub reply_causes : FaultsHaveCauses IsReply reply_length_allowed ReplyCounts reply_fault
 unfolding reply_fault
-reply_causes = faults_have_causes reply_length_allowed reply_counts_agree replies codes
+reply_causes = faults_have_causes reply_length_allowed reply_counts_agree ReplyCounts replies codes counts

@@ -7,7 +7,7 @@ ghost use Rattle.osdp_msg.specs.CommandText.{command_text, command_words};
 ghost use Rattle.osdp_msg.specs.Events.{EventFits, event_words};
 ghost use Rattle.osdp_msg.specs.ReplyTable.{ReplyFits, IsReply, reply_fault, reply_length_allowed, reply_of};
 ghost use Rattle.osdp_msg.specs.ReplyText.{reply_text, reply_words};
-ghost use Rattle.osdp_msg_laws.specs.Faults.{FaultsHaveCauses};
+ghost use Rattle.osdp_msg_laws.specs.Faults.{CommandCounts, FaultsHaveCauses, ReplyCounts};
 ghost use Rattle.osdp_msg_laws.specs.Laws.{ReadsTheTable, ReadsTheFaults, HasOneValue, HasOneSpelling, FitsAPacket, JoinsItsWords, HasOneMeaning, HasOneText, HasPlainWords, HasOneNumber, HasLowByteFirst, FitsByKind};
 
 /// Reading a code and data as a command follows the table of commands, and its refusals.
@@ -16,10 +16,11 @@ pub fn command_of_reads_the_table()
     ensures faults { ReadsTheFaults command_fault command_of }
 {}
 
-/// Why a code and data are no command: M1 exactly where no command has the code; M2 only where some has it, and none of these has so many
-/// data bytes; M3 only where the table allows so many, and a packet has room for them.
+/// Why a code and data are no command: M1 exactly where no command has the code; M2 exactly where some has it, and a packet has no room for so
+/// many data bytes or the table doesn't allow so many, and then no command with the code has so many; M3 exactly where some has it, a packet
+/// has room for so many, the table allows so many, and a count inside them says otherwise.
 pub fn command_faults_have_causes()
-    ensures { FaultsHaveCauses IsCommand command_length_allowed command_fault }
+    ensures { FaultsHaveCauses IsCommand command_length_allowed CommandCounts command_fault }
 {}
 
 /// A code and data stand for one command at most, and a command has one code and data.
@@ -52,10 +53,11 @@ pub fn reply_of_reads_the_table()
     ensures faults { ReadsTheFaults reply_fault reply_of }
 {}
 
-/// Why a code and data are no reply: M1 exactly where no reply has the code; M2 only where some has it, and none of these has so many data
-/// bytes; M3 only where the table allows so many, and a packet has room for them.
+/// Why a code and data are no reply: M1 exactly where no reply has the code; M2 exactly where some has it, and a packet has no room for so
+/// many data bytes or the table doesn't allow so many, and then no reply with the code has so many; M3 exactly where some has it, a packet
+/// has room for so many, the table allows so many, and a count inside them says otherwise.
 pub fn reply_faults_have_causes()
-    ensures { FaultsHaveCauses IsReply reply_length_allowed reply_fault }
+    ensures { FaultsHaveCauses IsReply reply_length_allowed ReplyCounts reply_fault }
 {}
 
 /// A code and data stand for one reply at most, and a reply has one code and data.
