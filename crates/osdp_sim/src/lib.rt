@@ -35,6 +35,6 @@ mod step;
 pub use account::{Account, End, Lengths};
 pub use config::SimConfig;
 pub use fault::{Cause, Fault};
-pub use schedule::{Listed, Schedule};
+pub use schedule::Schedule;
 pub use session::{run_schedule, run_session};
 pub use step::{Move, SimStep};

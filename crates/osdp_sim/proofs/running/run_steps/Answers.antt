@@ -6,7 +6,7 @@ pub steps-preserved : goal.steps-preserved
 steps-preserved g c =
     let line = g.L.SimulatedLine in
     let well = c.in_default-try_step.ensures.ok in
-    let cut = c.in-Some.ensures in
+    let cut = c.in-Some.ensures.step in
     record {
       come = goes_on line.after_step line.fault_of line.StepFits
           (g.S.Schedule.left c.args.schedule) c.steps.at c.in-Some.step (g.S.Schedule.left c.steps.schedule) (g.S.Schedule.left c.next.new.self)
