@@ -2,6 +2,7 @@ pub mod Calls
 pub mod Addresses
 pub mod Exchanges
 pub mod Packets
+pub mod Silences
 pub mod Turns
 pub mod Fairness
 pub mod Sending

@@ -12,6 +12,7 @@ ghost use Rattle.osdp_bus_laws.specs.Refusals.{RefusesInOrder};
 ghost use Rattle.osdp_bus_laws.specs.Reports.{TellsEachOnce};
 ghost use Rattle.osdp_bus_laws.specs.Resending.{HoldersSendTheSame};
 ghost use Rattle.osdp_bus_laws.specs.Sending.{HoldersSendTheirFrame, SessionsBeginAlone};
+ghost use Rattle.osdp_bus_laws.specs.Silences.{SilencesEndRuns};
 ghost use Rattle.osdp_bus_laws.specs.Turns.{TakesTurns};
 
 /// No address is that of, or reserved for, two entries.
@@ -55,6 +56,13 @@ pub fn packets_go_to_their_address()
 /// Bytes in any cut, at one moment, come to the same.
 pub fn cuts_change_nothing()
     ensures { Always CutsChangeNothing }
+{}
+
+/// A run is over once the line has been silent for the gap, to the millisecond: bytes that come earlier after the last ones go on with it,
+/// and bytes that come then or later begin another. So it is where a tick looks who holds the line. Where nobody holds it, a tick ends
+/// the run at once and waits for no silence. A moment before the greatest one seen counts as that one.
+pub fn silences_end_runs()
+    ensures { Always SilencesEndRuns }
 {}
 
 /// Where nobody holds the line and no report waits, the first in turn that is due begins an exchange: its own frame goes out, all other

@@ -1,4 +1,5 @@
 pub mod Receipt
+pub mod Silences
 pub mod Sayings
 pub mod Taking
 pub mod Turning

@@ -1,4 +1,5 @@
 pub mod Receiving
+pub mod Silences
 pub mod Saying
 pub mod Telling
 pub mod Hearing

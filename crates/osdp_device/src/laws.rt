@@ -1,5 +1,5 @@
-//! What a device comes to whose user asks it again and again. The functions do nothing: their contracts are laws, and hold
-//! whatever the handler does.
+//! What a device comes to whose user asks it again and again, and how long a silence ends a run. The functions do nothing: their
+//! contracts are laws, and hold whatever the handler does.
 
 ghost use Rattle.std.specs.Prelude.{◌≡◌, ℕ, ◌<◌, ◌≤◌, List, [], ◌++◌, length};
 ghost use Rattle.osdp_frame.specs.Bytes.{AreBytes};
@@ -7,6 +7,7 @@ ghost use Rattle.osdp_frame.specs.Held.{Held};
 ghost use Rattle.osdp_reader.specs.State.{ReaderState};
 ghost use Rattle.osdp_device.specs.Hearing.{IsAllRead, NeedsFewerTurns, TakesInTurn, hears_bytes, reads_all, then_hears};
 ghost use Rattle.osdp_device.specs.Receiving.{IsReceived, Received};
+ghost use Rattle.osdp_device.specs.Silences.{SilencesEndRuns};
 ghost use Rattle.osdp_device.specs.Telling.{TellsInTurn, next_told};
 
 use osdp_reader::Handler;
@@ -43,4 +44,11 @@ pub fn hears_nothing_in_no_bytes<H: Handler>()
     ensures { (bytes : List ℕ) (before now : ℕ) (r : ReaderState H) (l : Received) → before ≤ now → IsAllRead l
         → then_hears H.answer_of H.after bytes now (hears_bytes H.answer_of H.after [] before r l)
         ≡ hears_bytes H.answer_of H.after bytes now r l }
+{}
+
+/// A run is over once the line has been silent for the gap, to the millisecond: bytes that come earlier after the last ones go
+/// on with it, and bytes or a tick that come then or later find it over. A moment before the greatest one seen counts as that
+/// one.
+pub fn silences_end_runs()
+    ensures { (l : Received) → IsReceived l → SilencesEndRuns l }
 {}
