@@ -20,6 +20,7 @@ use Rattle.osdp_controller.specs.declared.report.Report.TheVariants.{Opened, Set
 use Rattle.osdp_controller.specs.declared.session.Session.{Session}
 use Rattle.osdp_controller.specs.declared.state.State.{State}
 use Rattle.osdp_controller.specs.declared.state.State.TheVariants.{Closed, Quiet, Idle, Waiting, Pausing}
+use Rattle.osdp_msg.specs.Events.{event_in}
 use Rattle.osdp_controller.specs.Answers.{meaning_of, is_not_taken}
 use Rattle.osdp_controller.specs.Sessions.{at_rest, closed, later, lost, seen}
 
