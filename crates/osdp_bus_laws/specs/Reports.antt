@@ -1,5 +1,5 @@
 -- What the controllers tell, and what is taken.
-use Rattle.std.specs.Prelude.{◌≡◌, ℕ, true, false, not, ◌||◌, if◌then◌else◌, List, [], ◌∷◌, ◌++◌, Option, Some, None, option_to_list, slice_get}
+use Rattle.std.specs.Prelude.{◌≡◌, ℕ, true, false, if◌then◌else◌, List, [], ◌∷◌, ◌++◌, Option, Some, None, option_to_list, slice_get}
 use Rattle.osdp_frame.specs.Items.{items}
 use Rattle.osdp_frame.specs.Packet.{Packet}
 use Rattle.osdp_frame.specs.Reading.{RunItem, PacketItem, SkippedItem, RefusedItem}
@@ -10,7 +10,7 @@ use Rattle.osdp_bus.specs.Buses.{BusState, Devices, device_of, has_report, holde
 use Rattle.osdp_bus.specs.Devices.{first_from, is_at, step_of, told_of}
 use Rattle.osdp_bus.specs.Hearing.{ends_run, ends_silent, hears_item}
 use Rattle.osdp_bus.specs.Settings.{IsBusConfig}
-use Rattle.osdp_bus.specs.Ticking.{is_due_at, is_held_and_due, next_due}
+use Rattle.osdp_bus.specs.Ticking.{asks_free, asks_holder, is_due_at}
 use Rattle.osdp_bus_laws.specs.Calls.{Call, OnBytes, OnSilence, Tick, NextReport, after_call, after_calls}
 
 -- what the controller of an entry tells, with the entry
@@ -62,11 +62,9 @@ told_by_ticking (Some entry) b = told_by_device entry (device_of entry b) b
 -- by who holds the line: the end of the run, then the device
 abbrev pub told_by_holder : Option ℕ → BusState → List (ℕ × Report)
 told_by_holder None b =
-    told_by_end b ++ (if has_report (ends_run b) then [] else told_by_ticking (next_due (ends_run b)) (ends_run b))
+    told_by_end b ++ asks_free [] (λ entry. told_by_ticking entry (ends_run b)) (ends_run b)
 told_by_holder (Some entry) b =
-    if is_due_at entry b then told_by_end b
-    ++ (if has_report (ends_run b) || not (is_held_and_due entry (ends_run b)) then [] else told_by_ticking (Some entry) (ends_run b))
-    else []
+    if is_due_at entry b then told_by_end b ++ asks_holder [] (λ asked. told_by_ticking asked (ends_run b)) entry (ends_run b) else []
 
 abbrev pub told_by_tick : ℕ → BusState → List (ℕ × Report)
 told_by_tick now b =
