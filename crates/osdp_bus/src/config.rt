@@ -1,7 +1,6 @@
 //! The settings of a bus.
 
 ghost use Rattle.std.specs.Prelude.{◌≡◌, ◌↔◌, IsTrue};
-ghost use Rattle.osdp_controller.specs.Settings.{IsTime};
 ghost use Rattle.osdp_bus.specs.Settings.{IsBusConfig, controller_config, default_config};
 
 use osdp_controller::ControllerConfig;
@@ -35,14 +34,15 @@ impl BusConfig {
     pub fn new(check: CheckKind, capacity: usize) -> BusConfig
         ensures { result ≡ default_config check capacity }
     {
+        let times = ControllerConfig::new(first_address(), check);
         BusConfig {
             check,
-            reply_wait: 200,
-            poll_interval: 50,
-            sends: 3,
-            busy_wait: 50,
-            busy_limit: 20,
-            quiet_wait: 400,
+            reply_wait: times.reply_wait,
+            poll_interval: times.poll_interval,
+            sends: times.sends,
+            busy_wait: times.busy_wait,
+            busy_limit: times.busy_limit,
+            quiet_wait: times.quiet_wait,
             gap: 20,
             capacity,
         }
@@ -68,22 +68,15 @@ impl BusConfig {
     pub(crate) fn is_in_range(&self) -> bool
         ensures { IsTrue result ↔ IsBusConfig self.now }
     {
-        // Reading it brings in that a `u8` is at most 255, which the range of it says.
-        let _range = self.busy_limit;
-        is_time(self.reply_wait)
-            && is_time(self.poll_interval)
-            && is_time(self.busy_wait)
-            && is_time(self.quiet_wait)
-            && self.sends >= 1
-            && is_time(self.gap)
-            && self.capacity >= 1
-            && self.capacity <= 1024
+        self.of_controller(first_address())
+            .is_in_range(self.capacity)
+            && ControllerConfig::is_time(self.gap)
     }
 }
 
-/// Whether a setting may be this long.
-fn is_time(wait: u32) -> bool
-    ensures { IsTrue result ↔ IsTime wait }
+/// The first address that a device may have. The settings of a bus are those of a controller at any of them.
+fn first_address() -> Address
+    ensures { result ≡ 0 }
 {
-    1 <= wait && wait <= ControllerConfig::LONGEST
+    Address::new(0).unwrap()
 }

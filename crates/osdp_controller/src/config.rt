@@ -1,6 +1,7 @@
 //! The settings of a controller.
 
 ghost use Rattle.std.specs.Prelude.{◌≡◌, ◌↔◌, IsTrue};
+ghost use Rattle.osdp_controller.specs.Machine.{AreSettings};
 ghost use Rattle.osdp_controller.specs.Settings.{IsConfig, IsTime, default_config};
 
 use osdp_frame::{Address, CheckKind};
@@ -48,24 +49,32 @@ impl ControllerConfig {
         }
     }
 
+    /// Whether a setting may be this long: 1 to 3,600,000 ms.
+    pub fn is_time(wait: u32) -> bool
+        ensures { IsTrue result ↔ IsTime wait }
+    {
+        1 <= wait && wait <= ControllerConfig::LONGEST
+    }
+
+    /// Whether a controller may have these settings and room for so many waiting commands: each setting is in its range, and
+    /// the room is 1 to 1024.
+    pub fn is_in_range(&self, capacity: usize) -> bool
+        ensures { IsTrue result ↔ AreSettings self.now capacity }
+    {
+        self.is_set_in_range() && capacity >= 1 && capacity <= 1024
+    }
+
     /// Whether each setting is in its range.
-    pub(crate) fn is_in_range(&self) -> bool
+    fn is_set_in_range(&self) -> bool
         ensures { IsTrue result ↔ IsConfig self.now }
     {
         // Reading it brings in that a `u8` is at most 255, which `IsConfig` says of it.
         let _range = self.busy_limit;
         self.address.is_device()
-            && is_time(self.reply_wait)
-            && is_time(self.poll_interval)
-            && is_time(self.busy_wait)
-            && is_time(self.quiet_wait)
+            && ControllerConfig::is_time(self.reply_wait)
+            && ControllerConfig::is_time(self.poll_interval)
+            && ControllerConfig::is_time(self.busy_wait)
+            && ControllerConfig::is_time(self.quiet_wait)
             && self.sends >= 1
     }
-}
-
-/// Whether a setting may be this long.
-fn is_time(wait: u32) -> bool
-    ensures { IsTrue result ↔ IsTime wait }
-{
-    1 <= wait && wait <= ControllerConfig::LONGEST
 }

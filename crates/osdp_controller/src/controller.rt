@@ -58,7 +58,7 @@ impl Controller {
     ) -> Result<Controller, ControllerFault>
         ensures { NewEnds config capacity result }
     {
-        if !config.is_in_range() || capacity < 1 || capacity > 1024 {
+        if !config.is_in_range(capacity) {
             return Err(ControllerFault::OutOfRange);
         }
         match HeapCircularBuffer::with_capacity(alloc, capacity) {
