@@ -9,6 +9,7 @@ use Rattle.osdp_link_laws.proofs.Lines.{each_all, each_append, each_of}
 use Rattle.osdp_link_laws.proofs.Stages.{Each}
 use Rattle.osdp_sim.proofs.Schedules.{runs_on}
 use Rattle.osdp_sim.specs.Account.{Account}
+use Rattle.osdp_sim.specs.Rounds.{rounds}
 use Rattle.osdp_sim.specs.declared.step.SimStep.{SimStep}
 use Rattle.osdp_sim.specs.declared.step.SimStep.TheVariants.{Busy}
 use Rattle.osdp_sim_bus.specs.Laws.{HasAnAccountEach}
@@ -17,7 +18,7 @@ use Rattle.osdp_sim_bus.specs.Runs.{lists_of_all}
 use Rattle.osdp_sim_bus.specs.State.{LineState, Site, accounts, set_up}
 use Rattle.osdp_sim_bus.specs.Steps.{after_step}
 use Rattle.osdp_sim_laws.specs.Accounts.{IsInSession}
-use Rattle.osdp_sim_laws.specs.Progress.{done, losses, rounds}
+use Rattle.osdp_sim_laws.specs.Progress.{done, losses}
 use Rattle.osdp_sim_laws.proofs.Accepting.{IsNoOrder}
 use Rattle.osdp_sim_laws.proofs.Answered.{all_done}
 use Rattle.osdp_sim_laws.proofs.Coming.{rounds_within}

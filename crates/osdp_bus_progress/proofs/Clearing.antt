@@ -16,6 +16,7 @@ use Rattle.osdp_link_laws.proofs.Lines.{each_all}
 use Rattle.osdp_sim.proofs.Schedules.{holds_on, runs_on, well_on}
 use Rattle.osdp_sim.specs.Account.{Account}
 use Rattle.osdp_sim.specs.Line.{handed, left, packets_in}
+use Rattle.osdp_sim.specs.Rounds.{rounds}
 use Rattle.osdp_sim.specs.declared.step.Move.TheVariants.{Drop}
 use Rattle.osdp_sim.specs.declared.step.SimStep.{SimStep}
 use Rattle.osdp_sim.specs.declared.step.SimStep.TheVariants.{Busy, ToController, ToReader}
@@ -24,7 +25,7 @@ use Rattle.osdp_sim_bus.specs.Runs as simulation
 use Rattle.osdp_sim_bus.specs.State.{LineState, Site, accounts, set_up}
 use Rattle.osdp_sim_bus.specs.Steps.{StepFits, after_step, all_hear_each, changed_site, fault_of, hears_run, site_is_busy, takes_report, told}
 use Rattle.osdp_sim_laws.specs.Accounts.{IsInSession}
-use Rattle.osdp_sim_laws.specs.Progress.{losses, rounds}
+use Rattle.osdp_sim_laws.specs.Progress.{losses}
 use Rattle.osdp_sim_laws.proofs.Clearing.{losses_within}
 use Rattle.osdp_sim_bus_laws.specs.Moves.{OneBus, SchedulesAreMoves}
 use Rattle.osdp_bus_progress.specs.Progress.{EachComesOn, EachComesThrough, EachRecovers, IsClear, IsReady, NoneMoves, all_ready, clear}

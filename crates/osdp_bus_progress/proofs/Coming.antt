@@ -31,6 +31,7 @@ use Rattle.osdp_multidrop.proofs.Running.{holds_all, holds_first}
 use Rattle.osdp_bus_links.specs.Links.{device_of, packets_on}
 use Rattle.osdp_bus_links.proofs.Telling.{EndsAreTold}
 use Rattle.osdp_sim.specs.Account.{Account}
+use Rattle.osdp_sim.specs.Rounds.{rounds}
 use Rattle.osdp_sim.specs.declared.step.SimStep.{SimStep}
 use Rattle.osdp_sim_bus.specs.Laws.{HasAnAccountEach}
 use Rattle.osdp_sim_bus.specs.Runs as simulation
@@ -38,7 +39,6 @@ use Rattle.osdp_sim_bus.specs.Runs.{FitAlong}
 use Rattle.osdp_sim_bus.specs.State.{Given, LineState, Site, accounts, set_up}
 use Rattle.osdp_sim_bus.specs.Steps.{StepFits, after_step, fault_of}
 use Rattle.osdp_sim_laws.specs.Accounts.{IsInSession, IsOf}
-use Rattle.osdp_sim_laws.specs.Progress.{rounds}
 use Rattle.osdp_sim_laws.proofs.Coming.{rounds_within}
 use Rattle.osdp_sim.proofs.Schedules.{holds_on, runs_on, well_on}
 use Rattle.osdp_sim_bus_laws.specs.Moves.{Done, Follows, OneBus, SchedulesAreMoves, SitesOf}

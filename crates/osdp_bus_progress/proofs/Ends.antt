@@ -11,13 +11,13 @@ use Rattle.osdp_link_laws.proofs.Stages.{Each}
 use Rattle.osdp_multidrop.specs.Line as line
 use Rattle.osdp_multidrop.specs.Line.{Net, site_at}
 use Rattle.osdp_sim.specs.Account.{Account, with_report}
+use Rattle.osdp_sim.specs.Rounds.{rounds}
 use Rattle.osdp_sim.specs.declared.step.SimStep.{SimStep}
 use Rattle.osdp_sim_bus.specs.Runs as simulation
 use Rattle.osdp_sim_bus.specs.State.{LineState, Site}
 use Rattle.osdp_sim_bus.specs.Steps.{after_step}
 use Rattle.osdp_sim_laws.proofs.Accepting.{IsNoOrder}
 use Rattle.osdp_sim_laws.proofs.Accounts.{some_begun}
-use Rattle.osdp_sim_laws.specs.Progress.{rounds}
 use Rattle.osdp_sim_bus_laws.specs.Moves.{Follows, count}
 use Rattle.osdp_sim_bus_laws.proofs.Idling.{IsIdle, idle_sites}
 use Rattle.osdp_sim_bus_laws.proofs.Places.{StaysAt, stays_all, stays_then}

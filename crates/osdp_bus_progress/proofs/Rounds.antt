@@ -38,6 +38,7 @@ use Rattle.osdp_bus_links.specs.Links.{device_of}
 use Rattle.osdp_bus_links.proofs.Devices.{get_device, get_none}
 use Rattle.osdp_bus_links.proofs.Telling.{EndsAreTold}
 use Rattle.osdp_sim.specs.Line.{handed, packets_in}
+use Rattle.osdp_sim.specs.Rounds.{rounds}
 use Rattle.osdp_sim.specs.Steps.{SaysFit, moment_after}
 use Rattle.osdp_sim.specs.declared.step.Move.TheVariants.{Deliver}
 use Rattle.osdp_sim.specs.declared.step.SimStep.TheVariants as step
@@ -45,7 +46,6 @@ use Rattle.osdp_sim_bus.specs.Runs as simulation
 use Rattle.osdp_sim_bus.specs.Runs.{FitAlong}
 use Rattle.osdp_sim_bus.specs.State.{LineState, Site}
 use Rattle.osdp_sim_bus.specs.Steps.{after_step, waited}
-use Rattle.osdp_sim_laws.specs.Progress.{rounds}
 use Rattle.osdp_sim_bus_laws.specs.Moves.{Follows, OneBus}
 use Rattle.osdp_bus_progress.proofs.Along.{BusAt, DeviceAt, step_at}
 use Rattle.osdp_bus_progress.proofs.BusRounds.{bus_follows, first_from_bus, heard_bus, heard_clock, readers_follow, tick_follows, told_bus, told_clock}

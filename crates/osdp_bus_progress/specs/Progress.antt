@@ -10,6 +10,7 @@ use Rattle.osdp_bus.specs.Settings.{controller_config}
 use Rattle.osdp_bus.specs.declared.config.BusConfig.{BusConfig}
 use Rattle.osdp_link_laws.specs.Progress.{SetsNoAddress}
 use Rattle.osdp_sim.specs.Account.{Account}
+use Rattle.osdp_sim.specs.Rounds.{rounds}
 use Rattle.osdp_sim.specs.declared.account.Account as declared
 use Rattle.osdp_sim.specs.declared.step.SimStep.{SimStep}
 use Rattle.osdp_sim.specs.declared.step.SimStep.TheVariants.{Busy}
@@ -17,7 +18,7 @@ use Rattle.osdp_sim_bus.specs.Runs.{AreSettings, FitAlong, is_well, lists_of_all
 use Rattle.osdp_sim_bus.specs.State.{Given, LineState, Site, accounts, set_up}
 use Rattle.osdp_sim_laws.specs.Accounts.{IsInSession}
 use Rattle.osdp_sim_bus_laws.specs.Accounts.{EachMeets, IsAnswer}
-use Rattle.osdp_sim_laws.specs.Progress.{HasComeThrough, done, losses, rounds}
+use Rattle.osdp_sim_laws.specs.Progress.{HasComeThrough, done, losses}
 
 -- m rounds are m / readers for each reader, rounded down. After them as many more of its commands and events but one are settled and
 -- reported, or all are.

@@ -4,6 +4,5 @@ pub mod Script
 pub mod Reading
 pub mod Schedule
 pub mod Drafts
-pub mod Rounds
 pub mod Laws
 pub mod Settings

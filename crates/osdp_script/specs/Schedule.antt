@@ -3,7 +3,7 @@ use Rattle.std.specs.Prelude.{List, [], ◌∷◌, ◌++◌, map}
 use Rattle.osdp_sim.specs.declared.step.Move.TheVariants.{Deliver}
 use Rattle.osdp_sim.specs.declared.step.SimStep.{SimStep}
 use Rattle.osdp_sim.specs.declared.step.SimStep.TheVariants as steps
-use Rattle.osdp_script.specs.Rounds.{rounds}
+use Rattle.osdp_sim.specs.Rounds.{rounds}
 use Rattle.osdp_script.specs.declared.schedule.Phase.{Phase}
 use Rattle.osdp_script.specs.declared.schedule.Phase.TheVariants.{Over, ToReader, ToController}
 use Rattle.osdp_script.specs.declared.schedule.ScriptSteps.{ScriptSteps}

@@ -7,7 +7,7 @@ use Rattle.osdp_sim.specs.declared.step.Move.{Move}
 use Rattle.osdp_sim.specs.declared.step.Move.TheVariants as moves
 use Rattle.osdp_sim.specs.declared.step.SimStep.{SimStep}
 use Rattle.osdp_sim.specs.declared.step.SimStep.TheVariants as steps
-use Rattle.osdp_script.specs.Rounds.{clean}
+use Rattle.osdp_sim.specs.Rounds.{clean}
 use Rattle.osdp_script.specs.declared.script.Script.{Script}
 use Rattle.osdp_script.specs.declared.script.ScriptLine.{ScriptLine}
 use Rattle.osdp_script.specs.declared.script.ScriptLine.TheVariants.{Check, Reader, Step, Clean}

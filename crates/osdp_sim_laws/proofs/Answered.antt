@@ -10,9 +10,10 @@ use Rattle.osdp_link_laws.specs.Headline.{with_answers}
 use Rattle.osdp_link_laws.specs.Progress.{SetsNoAddress}
 use Rattle.osdp_link_laws.proofs.Lines.{each_all, each_append, each_of}
 use Rattle.osdp_sim.specs.Account.{Account, lists_of}
+use Rattle.osdp_sim.specs.Rounds.{rounds}
 use Rattle.osdp_sim.specs.declared.step.SimStep.{SimStep}
 use Rattle.osdp_sim_laws.specs.Accounts.{HoldsOnce, IsInSession, IsOnce}
-use Rattle.osdp_sim_laws.specs.Progress.{AnswerRecovers, IsDone, Recovers, clear, done, rounds}
+use Rattle.osdp_sim_laws.specs.Progress.{AnswerRecovers, IsDone, Recovers, clear, done}
 use Rattle.osdp_sim_laws.proofs.Clearing.{losses_within}
 use Rattle.osdp_sim_laws.proofs.Coming.{rounds_within}
 

@@ -24,6 +24,7 @@ use Rattle.osdp_link_laws.proofs.Lines.{each_all, each_append, each_front, each_
 use Rattle.osdp_link_laws.proofs.Stages.{Each}
 use Rattle.osdp_link_laws.specs.Ends.{count}
 use Rattle.osdp_sim.specs.Account.{Account, lists_of}
+use Rattle.osdp_sim.specs.Rounds.{clean as clean_rounds, rounds}
 use Rattle.osdp_sim.specs.Runs.{AreSettings, FitAlong, Stops, is_well, run}
 use Rattle.osdp_sim.specs.Schedules.{first_fault}
 use Rattle.osdp_sim.specs.State.{SimState, set_up}
@@ -36,10 +37,10 @@ use Rattle.osdp_sim.specs.declared.step.SimStep.{SimStep}
 use Rattle.osdp_sim.specs.declared.step.SimStep.TheVariants.{Issue, Queue, Busy, Wait, ToReader, ToController, Reopen}
 use Rattle.osdp_sim_laws.specs.Accepted.{commands_of, events_of}
 use Rattle.osdp_sim_laws.specs.Accounts.{AreOver, IsInSession, all_in}
-use Rattle.osdp_sim_laws.specs.Clean.{GoesInTurn, IsInTurn, IsOrder, clean as clean_rounds}
+use Rattle.osdp_sim_laws.specs.Clean.{GoesInTurn, IsInTurn, IsOrder}
 use Rattle.osdp_sim_laws.specs.Moves.{clock_after, first_link, in_bytes, moves_of}
 use Rattle.osdp_sim_laws.specs.OneLink.{OneLink}
-use Rattle.osdp_sim_laws.specs.Progress.{IsRun, rounds}
+use Rattle.osdp_sim_laws.specs.Progress.{IsRun}
 use Rattle.osdp_sim_laws.proofs.Accepting.{Accepts, among_few, accepts_commands, accepts_events, submit_is}
 use Rattle.osdp_sim_laws.proofs.Coming.{count_of, moments_of, round_in_time, rounds_are, rounds_within, steps_in_time}
 use Rattle.osdp_sim_laws.proofs.Ends.{HaveEnded, run_ended}

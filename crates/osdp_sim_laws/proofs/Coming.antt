@@ -21,6 +21,7 @@ use Rattle.osdp_link_laws.proofs.Lines.{each_all, each_append, each_front, each_
 use Rattle.osdp_link_laws.proofs.Stages.{Each}
 use Rattle.osdp_link_laws.specs.Ends.{count}
 use Rattle.osdp_sim.specs.Account.{Account}
+use Rattle.osdp_sim.specs.Rounds.{rounds}
 use Rattle.osdp_sim.specs.Runs.{FitAlong, is_well, run}
 use Rattle.osdp_sim.specs.State.{SimState, set_up}
 use Rattle.osdp_sim.specs.Steps.{StepFits, after_step, fault_of, moment_after}
@@ -30,7 +31,7 @@ use Rattle.osdp_sim.specs.declared.step.SimStep.TheVariants.{Issue, Queue, Busy,
 use Rattle.osdp_sim_laws.specs.Accounts.{IsInSession, all_in}
 use Rattle.osdp_sim_laws.specs.Moves.{clock_after, step_clock, delivery, first_link, in_bytes, move_of, moves_of}
 use Rattle.osdp_sim_laws.specs.OneLink.{OneLink}
-use Rattle.osdp_sim_laws.specs.Progress.{ComesOn, ComesThrough, IsClear, IsRun, Recovers, clear, rounds}
+use Rattle.osdp_sim_laws.specs.Progress.{ComesOn, ComesThrough, IsClear, IsRun, Recovers, clear}
 use Rattle.osdp_sim_laws.proofs.Clearing.{AtMost, Cleared, clears, losses_within, steps_few}
 use Rattle.osdp_sim_laws.proofs.Accounts.{some_begun}
 use Rattle.osdp_sim.proofs.Schedules.{holds_on, runs_on, well_on}

@@ -5,6 +5,7 @@ use Rattle.osdp_reader.specs.declared.handler.Answer.{Answer}
 use Rattle.osdp_link_laws.specs.Headline.{with_answers}
 use Rattle.osdp_link_laws.specs.Progress.{SetsNoAddress}
 use Rattle.osdp_sim.specs.Account.{Account, lists_of}
+use Rattle.osdp_sim.specs.Rounds.{clean}
 use Rattle.osdp_sim.specs.Runs.{AreSettings}
 use Rattle.osdp_sim.specs.declared.account.Account as declared
 use Rattle.osdp_sim.specs.declared.config.SimConfig.{SimConfig}
@@ -14,11 +15,6 @@ use Rattle.osdp_sim.specs.declared.step.SimStep.{SimStep}
 use Rattle.osdp_sim.specs.declared.step.SimStep.TheVariants.{Busy, Issue, Queue, Reopen, ToController, ToReader, Wait}
 use Rattle.osdp_sim_laws.specs.Accepted.{commands_of, events_of}
 use Rattle.osdp_sim_laws.specs.Accounts.{IsAnswer, account_in}
-use Rattle.osdp_sim_laws.specs.Progress.{round, rounds}
-
--- the opening, and n rounds after it, in which nothing is lost
-abbrev pub clean : ℕ → List SimStep
-clean n = round 400 ++ rounds n 50
 
 -- a command that is issued, or an event that is queued
 abbrev pub IsOrder : SimStep → Type 0

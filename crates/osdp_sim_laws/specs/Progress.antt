@@ -1,5 +1,5 @@
 -- Something comes through: after m rounds that lose nothing m - 1 more commands and events, or all of them, are settled and reported.
-use Rattle.std.specs.Prelude.{◌≡◌, ◌≤◌, ◌<◌, ℕ, zero, suc, ◌+◌, ◌-◌, min, true, false, All, List, [], ◌∷◌, ◌++◌, length, Ok}
+use Rattle.std.specs.Prelude.{◌≡◌, ◌≤◌, ◌<◌, ℕ, ◌+◌, ◌-◌, min, true, false, All, List, [], ◌∷◌, ◌++◌, length, Ok}
 use Rattle.osdp_msg.specs.declared.command.Command.{Command}
 use Rattle.osdp_controller_laws.specs.Calls.{longest_wait}
 use Rattle.osdp_reader.specs.declared.config.ReaderConfig.{ReaderConfig}
@@ -7,22 +7,15 @@ use Rattle.osdp_reader.specs.declared.handler.Answer.{Answer}
 use Rattle.osdp_link_laws.specs.Headline.{with_answers}
 use Rattle.osdp_link_laws.specs.Progress.{AreClear, SetsNoAddress}
 use Rattle.osdp_sim.specs.Account.{Account, lists_of}
+use Rattle.osdp_sim.specs.Rounds.{rounds}
 use Rattle.osdp_sim.specs.Runs.{AreSettings, FitAlong, is_well, run}
 use Rattle.osdp_sim.specs.State.{SimState, set_up}
 use Rattle.osdp_sim.specs.declared.account.Account as declared
 use Rattle.osdp_sim.specs.declared.config.SimConfig.{SimConfig}
-use Rattle.osdp_sim.specs.declared.step.Move.TheVariants.{Deliver, Drop}
+use Rattle.osdp_sim.specs.declared.step.Move.TheVariants.{Drop}
 use Rattle.osdp_sim.specs.declared.step.SimStep.{SimStep}
-use Rattle.osdp_sim.specs.declared.step.SimStep.TheVariants.{Busy, ToController, ToReader, Wait}
+use Rattle.osdp_sim.specs.declared.step.SimStep.TheVariants.{Busy, ToController, ToReader}
 use Rattle.osdp_sim_laws.specs.Accounts.{IsAnswer, IsInSession}
-
--- a round that loses nothing: time passes, then the burst to the reader comes through, and the one to the controller
-abbrev pub round : ℕ → List SimStep
-round wait = Wait wait ∷ ToReader Deliver ∷ ToController Deliver ∷ []
-
-abbrev pub rounds : ℕ → ℕ → List SimStep
-rounds zero wait = []
-rounds (suc m) wait = round wait ++ rounds m wait
 
 -- the reader isn't busy any more, and what is on the line is lost: no more than a burst in each direction for each of these steps
 abbrev pub losses : List SimStep → List SimStep

@@ -6,7 +6,7 @@ use Rattle.osdp_script.specs.declared.script.ScriptLine.{ScriptLine}
 use Rattle.osdp_script.specs.declared.script.ScriptLine.TheVariants.{Check, Reader, Step, Clean}
 use Rattle.osdp_script.specs.Lines.{LineFits}
 use Rattle.osdp_script.specs.Reading.{AreRead, IsRead, IsScriptOf}
-use Rattle.osdp_script.specs.Rounds.{rounds}
+use Rattle.osdp_sim.specs.Rounds.{rounds}
 use Rattle.osdp_script.specs.Script.{Plan, line_steps, lines_steps, steps_of, with_line}
 
 -- ---- lines
