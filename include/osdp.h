@@ -411,7 +411,7 @@ enum {
     OSDP_ORDER_TAKEN = 1,
     /* The command came with number 0, where the same order may come again: do what may be done twice. */
     OSDP_ORDER_AGAIN = 2,
-    /* The command was acted on, with either number, and the reader has refused it: the burst is a NAK. Nothing of it is to be done. */
+    /* The command came with either number, and the reader has refused it: the burst is a NAK. Nothing of it is to be done. */
     OSDP_ORDER_REFUSED = 3
 };
 

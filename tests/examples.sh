@@ -1,5 +1,6 @@
 #!/usr/bin/env bash
-# Runs each script of examples/ and compares its account, and the picture of turns. Looks at how the examples in Python end on a port that isn't there.
+# Runs each script of examples/ and compares its account, and the picture of turns. Looks at how the examples in Python
+# end on a port that isn't there, and on a file that is no serial port.
 # Takes the path of the program.
 set -uo pipefail
 program=$1

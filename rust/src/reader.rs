@@ -56,7 +56,7 @@ pub enum Order {
     Taken(Command),
     /// The command came with number 0, where the same order may come again: do what may be done twice.
     Again(Command),
-    /// The command was acted on, with either number, and the reader has refused it: the burst is a NAK. Nothing of it is to be done.
+    /// The command came with either number, and the reader has refused it: the burst is a NAK. Nothing of it is to be done.
     Refused(Command),
 }
 
@@ -74,7 +74,7 @@ pub struct Moved {
 pub struct Answer {
     /// How the packet was answered.
     pub said: Said,
-    /// What the device is to do, after the burst has gone out.
+    /// What came of a command: whether the device is to do it, after the burst has gone out, or the reader has refused it.
     pub order: Option<Order>,
     /// What a COMSET that was accepted has set.
     pub moved: Option<Moved>,

@@ -118,10 +118,10 @@ static void judge_kind(int i, const struct osdp_answer *answer)
     }
 }
 
-/* What a reader is to do is called so. */
+/* What is noted of each order. */
 static const char *const orders[] = { "nothing", "taken", "again", "refused" };
 
-/* A command that was acted on is told refused exactly where the answer is a NAK, and else by its number. */
+/* A command that is told is told refused exactly where the answer is a NAK, and else by its number. */
 static void judge_order(const struct osdp_answer *answer)
 {
     demand((answer->order != OSDP_ORDER_NONE) == answer->command.present);

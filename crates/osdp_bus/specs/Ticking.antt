@@ -45,15 +45,15 @@ is_held_and_due entry b = option_map_or holds (device_of entry b) false && is_du
 abbrev pub next_due : BusState → Option ℕ
 next_due b = first_around b.first (is_device_due b.greatest) b.devices.entries
 
--- what comes of that, and what does where a report waits
+-- what the first in turn that is due comes to, or what rests where a report waits
 abbrev pub asks_free : {A : Type 0} → A → (Option ℕ → A) → BusState → A
 asks_free rests ticks b = if has_report b then rests else ticks (next_due b)
 
 abbrev pub ticks_free : BusState → BusTicked
 ticks_free b = asks_free (stays b) (λ entry. ticks_at entry b) b
 
--- a due holder, once the run has ended: it ticks where its exchange still stands and is still due. What comes of that, and
--- what does where it doesn't tick or a report waits
+-- a due holder, once the run has ended: what its tick comes to where its exchange still stands and is still due, or what rests
+-- where that is not so or a report waits
 abbrev pub asks_holder : {A : Type 0} → A → (Option ℕ → A) → ℕ → BusState → A
 asks_holder rests ticks entry b = if has_report b || not (is_held_and_due entry b) then rests else ticks (Some entry)
 

@@ -74,7 +74,7 @@ impl BusConfig {
     }
 }
 
-/// The first address that a device may have. The settings of a bus are those of a controller at any of them.
+/// The first address that a device may have. The ranges and defaults of the other settings are the same at each.
 fn first_address() -> Address
     ensures { result ≡ 0 }
 {

@@ -1,4 +1,4 @@
--- How long a silence ends a run, and that a free line waits for none. Moments are in milliseconds.
+-- After how long a silence a run is over, and that a free line waits for none. Moments are in milliseconds.
 use Rattle.std.specs.Prelude.{◌≡◌, ℕ, ◌+◌, ◌<◌, ◌≤◌, false, max, List, ◌∷◌, None}
 use Rattle.osdp_bus.specs.Buses.{BusState, has_report, holder, seen}
 use Rattle.osdp_bus.specs.Hearing.{after_bytes, ends_run, hears_bytes}

@@ -59,8 +59,9 @@ pub fn cuts_change_nothing()
 {}
 
 /// A run is over once the line has been silent for the gap, to the millisecond: bytes that come earlier after the last ones go on with it,
-/// and bytes that come then or later begin another. So it is where a tick looks who holds the line. Where nobody holds it, a tick ends
-/// the run at once and waits for no silence. A moment before the greatest one seen counts as that one.
+/// and bytes that come then or later begin another. So it is where a tick looks who holds the line, which it does while no report waits.
+/// Where nobody holds it, such a tick ends the run at once and waits for no silence. A moment before the greatest one seen counts as that
+/// one.
 pub fn silences_end_runs()
     ensures { Always SilencesEndRuns }
 {}

@@ -38,7 +38,7 @@ is_refusal _ = false
 abbrev pub ordered : ℕ → Option Command → AnswerStruct → AnswerStruct
 ordered number command a = record a { order = number; command = command_struct command a.command }
 
--- a command that the device does once, or that was acted on once more, or one of both that was refused, or none
+-- no command; one that the device does once; one that came with number 0 and may come again; one of both that the reader has refused
 abbrev pub orders_of : Bool → Option Command → Option Command → AnswerStruct → AnswerStruct
 orders_of refused None None a = ordered 0 None a
 orders_of false (Some command) again a = ordered 1 (Some command) a

@@ -18,7 +18,8 @@ use osdp_reader::{Kind, Response};
 pub struct AnswerStruct {
     /// The line of the reader's table: 0 nothing is said, 1 secured, 2 zero, 3 repeat, 4 taken, 5 busy, 6 wrong.
     pub kind: u32,
-    /// What the device is to do with the command: 0 there is none, 1 to do it, 2 it was acted on once more, 3 nothing, as it was refused.
+    /// What came of the command: 0 there is none, 1 the device does it once, 2 it came with number 0 and may come again, 3 the reader has
+    /// refused it.
     pub order: u32,
     /// 1 where a COMSET was accepted, else 0.
     pub moved: u32,

@@ -1,4 +1,4 @@
--- How long a silence ends a run. Moments are in milliseconds.
+-- After how long a silence a run is over. Moments are in milliseconds.
 use Rattle.std.specs.Prelude.{◌≡◌, ℕ, ◌+◌, ◌<◌, ◌≤◌, max, List, [], ◌∷◌}
 use Rattle.osdp_device.specs.Receiving.{Received, after_silence, after_take, after_tick, comes_in, ends_run, seen}
 

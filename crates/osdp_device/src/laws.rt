@@ -1,5 +1,5 @@
-//! What a device comes to whose user asks it again and again, and how long a silence ends a run. The functions do nothing: their
-//! contracts are laws, and hold whatever the handler does.
+//! What a device comes to whose user asks it again and again, and after how long a silence a run is over. The functions do
+//! nothing: their contracts are laws, and hold whatever the handler does.
 
 ghost use Rattle.std.specs.Prelude.{◌≡◌, ℕ, ◌<◌, ◌≤◌, List, [], ◌++◌, length};
 ghost use Rattle.osdp_frame.specs.Bytes.{AreBytes};

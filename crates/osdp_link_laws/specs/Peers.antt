@@ -2,14 +2,13 @@
 use Rattle.std.specs.Prelude.{◌≡◌, ◌⊎◌, ℕ, Some, Ok}
 use Rattle.osdp_frame.specs.Packet.{Packet}
 use Rattle.osdp_msg.specs.CommandTable.{CommandFits}
-use Rattle.osdp_msg.specs.Events.{event_reply}
+use Rattle.osdp_msg.specs.Events.{event_in, event_reply}
 use Rattle.osdp_msg.specs.ReplyTable.{ReplyFits}
 use Rattle.osdp_msg.specs.declared.command.Command.{Command}
 use Rattle.osdp_msg.specs.declared.event.Event.{Event}
 use Rattle.osdp_msg.specs.declared.reply.Reply.{Reply}
 use Rattle.osdp_controller.specs.Answers.{meaning_by_reply, meaning_of}
 use Rattle.osdp_controller.specs.Exchanges.{exchange_command}
-use Rattle.osdp_msg.specs.Events.{event_in}
 use Rattle.osdp_controller.specs.Sessions.{frame_of}
 use Rattle.osdp_controller.specs.declared.meaning.ReplyMeaning.TheVariants.{NotTaken, Plain}
 use Rattle.osdp_controller.specs.declared.exchange.Exchange.{Exchange}

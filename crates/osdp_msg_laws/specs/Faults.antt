@@ -29,12 +29,12 @@ CountIsWrong Counts code bytes = (total : ℕ) × (Counts code bytes total × (t
 pub record FaultHasCause {M : Type 0} (Is : ℕ → List ℕ → M → Type 0) (allowed : ℕ → ℕ → Option Bool) (Counts : ℕ → List ℕ → ℕ → Type 0) (fault : ℕ → List ℕ → Option MsgFault) (code : ℕ) (bytes : List ℕ) : Type 0 where
   -- M1 exactly where no message has the code
   pub unknown_code : (fault code bytes ≡ Some UnknownCode) ↔ (IsKnown Is code → ⊥)
-  -- M2 exactly where some message has the code, and a packet has no room for so many data bytes or the table doesn't allow so many
+  -- M2 exactly where some message has the code, and there are more than 1432 data bytes or the table doesn't allow so many
   pub wrong_length : (fault code bytes ≡ Some Length) ↔ (IsKnown Is code × ((1432 < length bytes) ⊎ (allowed code (length bytes) ≢ Some true)))
   -- and then no message that has the code has so many
   pub none_so_long : fault code bytes ≡ Some Length → (others : List ℕ) (m : M) → Is code others m → length others ≢ length bytes
-  -- M3 exactly where some message has the code, a packet has room for so many data bytes, the table allows so many, and a count inside them
-  -- says otherwise
+  -- M3 exactly where some message has the code, there are 1432 data bytes at most, the table allows so many, and a count inside them says
+  -- otherwise
   pub wrong_count : (fault code bytes ≡ Some Count)
       ↔ (IsKnown Is code × (length bytes ≤ 1432) × (allowed code (length bytes) ≡ Some true) × CountIsWrong Counts code bytes)
 

@@ -6,6 +6,6 @@
 pub use osdp_tool_input::Form;
 pub use osdp_tool_job::{Job, Mode, job};
 pub use osdp_tool_make::make;
-pub use osdp_tool_show::{LIMIT, check, command, show};
+pub use osdp_tool_show::{check, command, show};
 pub use osdp_tool_sim::sim;
-pub use osdp_tool_streams::{ToolFault, Watched};
+pub use osdp_tool_streams::{LIMIT, ToolFault, Watched};

@@ -9,4 +9,3 @@ mod report;
 mod runs;
 
 pub use commands::{check, command, show};
-pub use osdp_tool_streams::LIMIT;
