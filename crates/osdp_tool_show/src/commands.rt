@@ -10,12 +10,9 @@ ghost use Rattle.osdp_tool_show.specs.Works.{Works};
 use crate::capture::Capture;
 use osdp_tool_input::Form;
 use osdp_tool_job::Mode;
-use osdp_tool_streams::{ToolFault, Watched, finish};
+use osdp_tool_streams::{LIMIT, ToolFault, Watched, finish};
 use std::alloc::Global;
 use std::io::{Read, Write};
-
-/// What an input holds after so many bytes is not shown. One byte of it is read to tell.
-pub const LIMIT: usize = 67_108_864;
 
 /// How the input of a mode stands in runs.
 fn form_of(mode: Mode) -> Form

@@ -1,10 +1,7 @@
 //! What is printed, in the words of captures. The functions have no code: each states a law for all inputs,
 //! and its proof is the law's.
 
-ghost use Rattle.std.specs.Prelude.{◌≡◌};
 ghost use Rattle.osdp_tool_show.specs.Told.{ShowsReadings, ShowsDecided, TellsRuns};
-
-use crate::commands::LIMIT;
 
 /// The text of an input is that of the readings of its runs, each item one line with the number of its run and
 /// its place; in `check` the refusals alone, and the counts.
@@ -15,11 +12,6 @@ pub fn shows_readings()
 /// The text of an input that is cut off is that of the items which its bytes decide.
 pub fn shows_decided()
     ensures { ShowsDecided }
-{}
-
-/// The limit of an input is 67,108,864 bytes. One more is read to tell that an input is longer.
-pub fn reads_64_mebibytes()
-    ensures { LIMIT ≡ 67108864 }
 {}
 
 /// What `show` prints tells the runs that it read, and of raw bytes each byte: other runs have another text.

@@ -8,4 +8,5 @@ mod reading;
 mod report;
 mod runs;
 
-pub use commands::{LIMIT, check, command, show};
+pub use commands::{check, command, show};
+pub use osdp_tool_streams::LIMIT;

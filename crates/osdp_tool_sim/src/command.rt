@@ -7,12 +7,9 @@ ghost use Rattle.osdp_tool_sim.specs.Ending.{AreFailed, Ends, EndsWhole, Says, S
 use crate::reading::read_all;
 use crate::run::run_script;
 use crate::told::Told;
-use osdp_tool_streams::{ToolFault, Watched, finish, write_out};
+use osdp_tool_streams::{LIMIT, ToolFault, Watched, finish, write_out};
 use std::alloc::Global;
 use std::io::{Read, Write};
-
-/// What an input holds past so many bytes is not read, but for one byte.
-pub const LIMIT: usize = 67_108_864;
 
 /// Prints what is told of a script, and answers how it ended.
 fn print<W: Write>(told: Told<String>, output: &mut Watched<W>) -> Result<(), ToolFault>

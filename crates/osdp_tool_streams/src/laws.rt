@@ -1,13 +1,14 @@
 //! What the crate's definitions say, in the subject's words. The functions have no code: each
 //! states a law for all values, and its proof is the law's.
 
-ghost use Rattle.std.specs.Prelude.{List};
+ghost use Rattle.std.specs.Prelude.{◌≡◌, List};
 ghost use Rattle.osdp_tool_streams.specs.FinalAnswer.{TellsTruly, TellsStreamsFirst};
 ghost use Rattle.osdp_tool_streams.specs.ToolFault.{StatusTellsCause};
 ghost use Rattle.osdp_tool_streams.specs.Watched.{Call, FailedBySomeCall, WentThrough};
 ghost use Rattle.osdp_tool_streams.specs.declared.watch.Watched.{Watched};
 
 use crate::fault::ToolFault;
+use crate::piece::LIMIT;
 
 /// A status is 2, 3 or 4: 3 exactly at a failed read or write, 4 exactly where memory ran out.
 pub fn status_tells_cause(fault: ToolFault)
@@ -31,4 +32,9 @@ pub fn final_answer_tells_streams_first<T: Drop>(
 )
     ensures { TellsTruly input_failed output_failed answer
         → TellsStreamsFirst input_failed output_failed answer }
+{}
+
+/// The limit of an input is 67,108,864 bytes. One more is read to tell that an input is longer.
+pub fn reads_64_mebibytes()
+    ensures { LIMIT ≡ 67108864 }
 {}

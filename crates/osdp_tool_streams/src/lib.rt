@@ -10,6 +10,6 @@ mod watch;
 
 pub use answer::{final_answer, finish};
 pub use fault::ToolFault;
-pub use piece::{Piece, read_piece};
+pub use piece::{LIMIT, Piece, read_piece};
 pub use transfer::{flush_out, read_some, write_out};
 pub use watch::Watched;

@@ -10,6 +10,9 @@ use crate::transfer::read_some;
 use crate::watch::Watched;
 use std::io::Read;
 
+/// The longest input of a command, in bytes. What it holds past so many bytes is not read, but for one byte, which tells that it is longer.
+pub const LIMIT: usize = 67_108_864;
+
 /// What one read of an input with a limit gave.
 #[derive(Clone, Copy, Debug, PartialEq, Eq)]
 pub enum Piece {

@@ -14,10 +14,10 @@ returns-clause-ends g c =
     let after = g.W.Write.contents (inner_of c.finish.new.output) in
     let input = has_failed c.work-answer.new.input in
     let failed = has_failed c.finish.new.output in
-    subst (λ r. Ends 67108864 ib ia input before after failed r)
+    subst (λ r. Ends _ ib ia input before after failed r)
     (sym (c.finish.ensures.answer ∙ ap (λ f. final_answer_of f failed c.work-answer.result) c.failed-3.ensures))
-    (ends_final 67108864 ib ia before middle after input (has_failed c.work-answer.new.output) failed c.work-answer.result
+    (ends_final _ ib ia before middle after input (has_failed c.work-answer.new.output) failed c.work-answer.result
     c.work-answer.ensures.says c.work-answer.ensures.failed c.finish.ensures.bytes (λ ill. ap has_failed (c.finish.ensures.kept ill) ∙ ill))
 
 pub returns-clause-whole : goal.returns-clause-whole
-returns-clause-whole g c = ends_whole 67108864 _ _ _ _ _ _ _ (returns-clause-ends g c)
+returns-clause-whole g c = ends_whole _ _ _ _ _ _ _ _ (returns-clause-ends g c)
