@@ -1,7 +1,10 @@
 //! Memory: what a panel and a reader take is given back when they are dropped, and each block that is refused is told.
 //!
 //! It is a program of one thread, since the allocator counts what the whole program takes.
-use osdp::{Error, Panel, PanelConfig, Reader, ReaderConfig};
+mod settings;
+
+use osdp::{Error, Panel, PanelConfig, Reader};
+use settings::READER;
 use std::alloc::{GlobalAlloc, Layout, System};
 use std::ptr::null_mut;
 use std::sync::atomic::{AtomicUsize, Ordering::SeqCst};
@@ -36,17 +39,7 @@ static ALLOCATOR: Counted = Counted;
 fn both() -> Result<(Panel, Reader), Error> {
     let mut panel = Panel::new(&PanelConfig::default())?;
     panel.add(5)?;
-    let reader = Reader::new(&ReaderConfig {
-        address: 5,
-        capacity: 4,
-        gap: 20,
-        vendor: [1, 2, 3],
-        model: 1,
-        version: 1,
-        serial: 1,
-        firmware: [1, 0, 0],
-        capabilities: &[],
-    })?;
+    let reader = Reader::new(&READER)?;
     Ok((panel, reader))
 }
 

@@ -1,23 +1,15 @@
 //! What a reader's program is told of a command: that it is to be done, or that the reader has refused it.
-use osdp::{Answer, Order, Reader, ReaderConfig, Said};
+mod settings;
+
+use osdp::{Answer, Order, Reader, Said};
+use settings::READER;
 
 /// `OUT 0:2:0` and `OUT 9:2:0` with number 0, worked by hand: the reader has the first of both outputs alone.
 const OUT: [u8; 11] = [0x53, 0x05, 0x0B, 0, 0, 0x68, 0, 2, 0, 0, 0x33];
 const OUT_OF_NONE: [u8; 11] = [0x53, 0x05, 0x0B, 0, 0, 0x68, 9, 2, 0, 0, 0x2A];
 
 fn answer_to(packet: &[u8]) -> Option<Answer> {
-    let mut reader = Reader::new(&ReaderConfig {
-        address: 5,
-        capacity: 4,
-        gap: 20,
-        vendor: [1, 2, 3],
-        model: 1,
-        version: 1,
-        serial: 1,
-        firmware: [1, 0, 0],
-        capabilities: &[],
-    })
-    .ok()?;
+    let mut reader = Reader::new(&READER).ok()?;
     reader.set_outputs(&[0]).ok()?;
     reader.step(packet, 0).1
 }

@@ -165,19 +165,21 @@ impl Maker<'_> {
 
 #[derive(Clone, Copy, Debug, PartialEq, Eq)]
 pub enum Command<'a> {
+    // Without data, or with a byte that says what is asked for.
     Poll,
-    Id(u8),
-    Cap(u8),
     LocalStatus,
     InputStatus,
     OutputStatus,
     ReaderStatus,
-    Output(Outputs<'a>),
-    Led(Leds<'a>),
+    Id(u8),
+    Cap(u8),
+    // With data of their own.
     Buzzer(Buzzer),
-    Text(Text<'a>),
     Comset(Communication),
+    Led(Leds<'a>),
     Maker(Maker<'a>),
+    Output(Outputs<'a>),
+    Text(Text<'a>),
 }
 
 impl<'a> Command<'a> {

@@ -20,10 +20,10 @@ pub record SilencesEndRuns (b : BusState) : Type 0 where
   -- the last bytes came at the moment of their call, and no other call moves that moment
   pub came : (byte now : ℕ) (bytes : List ℕ) → (after_bytes (byte ∷ bytes) now b).last ≡ max b.greatest now
   pub kept : (call : Call) → BringsNoByte call → (after_call call b).last ≡ b.last
-  -- up to one millisecond before the gap has passed, bytes go on with the run that is held; from then on it is over
-  -- before they come
+  -- up to one millisecond before the gap has passed, bytes go on with the run that is held
   pub goes_on : (byte now : ℕ) (bytes : List ℕ) → IsWithinGap now b
       → after_bytes (byte ∷ bytes) now b ≡ hears_bytes (byte ∷ bytes) (seen now b)
+  -- from then on it is over before they come
   pub is_over : (byte now : ℕ) (bytes : List ℕ) → IsPastGap now b
       → after_bytes (byte ∷ bytes) now b ≡ hears_bytes (byte ∷ bytes) (ends_run (seen now b))
   -- so it is where a tick looks who holds the line, and what is due

@@ -60,13 +60,8 @@ module _ {H : Type 0} where
 
   pub told_begins : (answers : List Answer) (l : Link H) → Begins l → Begins (told_link answers l)
   told_begins answers l b = record {
-    quiet = b.quiet;
-    address = b.address;
-    waiting = b.waiting;
-    to_reader = b.to_reader;
-    to_controller = b.to_controller;
-    account = b.account;
-    earlier = b.earlier;
+    quiet = b.quiet; address = b.address; waiting = b.waiting; to_reader = b.to_reader; to_controller = b.to_controller;
+    account = b.account; earlier = b.earlier;
   }
 
   submits_told : (refusal : Option ControllerFault) (c : Command) (l : Link H) (more : List Answer)
