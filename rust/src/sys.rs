@@ -176,10 +176,22 @@ const _: () = assert!(size_of::<osdp_reader_config>() == 24);
 const _: () = assert!(size_of::<osdp_answer>() == 2900);
 
 unsafe extern "C" {
-    #[rustfmt::skip]
-    pub fn osdp_command_text(code: u8, data: *const u8, length: usize, text: *mut c_char, room: usize, text_length: *mut usize) -> osdp_status;
-    #[rustfmt::skip]
-    pub fn osdp_reply_text(code: u8, data: *const u8, length: usize, text: *mut c_char, room: usize, text_length: *mut usize) -> osdp_status;
+    pub fn osdp_command_text(
+        code: u8,
+        data: *const u8,
+        length: usize,
+        text: *mut c_char,
+        room: usize,
+        text_length: *mut usize,
+    ) -> osdp_status;
+    pub fn osdp_reply_text(
+        code: u8,
+        data: *const u8,
+        length: usize,
+        text: *mut c_char,
+        room: usize,
+        text_length: *mut usize,
+    ) -> osdp_status;
 
     pub fn osdp_panel_defaults(config: *mut osdp_panel_config);
     pub fn osdp_panel_new(panel: *mut osdp_panel, config: *const osdp_panel_config) -> osdp_status;

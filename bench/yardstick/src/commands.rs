@@ -165,21 +165,19 @@ impl Maker<'_> {
 
 #[derive(Clone, Copy, Debug, PartialEq, Eq)]
 pub enum Command<'a> {
-    // Without data, or with a byte that says what is asked for.
     Poll,
+    Id(u8),
+    Cap(u8),
     LocalStatus,
     InputStatus,
     OutputStatus,
     ReaderStatus,
-    Id(u8),
-    Cap(u8),
-    // With data of their own.
-    Buzzer(Buzzer),
-    Comset(Communication),
-    Led(Leds<'a>),
-    Maker(Maker<'a>),
     Output(Outputs<'a>),
+    Led(Leds<'a>),
+    Buzzer(Buzzer),
     Text(Text<'a>),
+    Comset(Communication),
+    Maker(Maker<'a>),
 }
 
 impl<'a> Command<'a> {
