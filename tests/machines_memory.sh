@@ -24,17 +24,17 @@ ended() {
 
 # These make one machine and need it.
 tests=(
-  reader::an_event_is_told_until_the_next_number
-  reader::damage::no_changed_byte_stops_a_reader
-  controller::a_session
-  controller::numbers_take_turns
-  controller::another_address
+  tests::reader::an_event_is_told_until_the_next_number
+  tests::reader::damage::no_changed_byte_stops_a_reader
+  tests::controller::a_session
+  tests::controller::numbers_take_turns
+  tests::controller::another_address
 )
 
 first=$(rt try --test --fail-alloc 1 2>&1)
 second=$(rt try --test --fail-alloc 2 2>&1)
 for machine in reader controller; do
-  grep -q "test $machine::out_of_memory_is_told ... ok" <<<"$first" || fail "$machine: out of memory was not told"
+  grep -q "test tests::$machine::out_of_memory_is_told ... ok" <<<"$first" || fail "$machine: out of memory was not told"
 done
 for name in "${tests[@]}"; do
   grep -q "test $name ... FAILED" <<<"$first" || fail "$name: no allocation was refused"

@@ -6,7 +6,8 @@ use Rattle.std.specs.Option.{option_map_or, option_or}
 use Rattle.std.proofs.lemmas.Bool.{leb-true, leb-false, le-leb, lt-leb, ne_eqb}
 use Rattle.std.proofs.lemmas.List.{nil_from_length, take_more}
 use Rattle.osdp_frame.specs.Items.{items}
-use Rattle.osdp_frame_laws.proofs.Readings.{decided_nothing, items_undecided}
+use Rattle.osdp_frame.specs.Silence.{is_silent_for}
+use Rattle.osdp_frame_laws.proofs.LeftOver.{items_nothing}
 use Rattle.osdp_controller.specs.Machine.{IsDeadline as IsDeadlineOf, Machine, is_due}
 use Rattle.osdp_controller.specs.declared.report.Report.{Report}
 use Rattle.osdp_bus.specs.declared.config.BusConfig.{BusConfig}
@@ -177,19 +178,18 @@ ticked_acts c ds first last greatest n old d there due =
     ∙ ap (λ t. t || is_run_ended old (ticks_with n (Some d) (bus c ds first last [] greatest)).bus)
     (ap (λ t. is_some (step_of greatest d).frame || t) (told_some n (step_of greatest d).report) ∙ due)
 
-no_items : items true [] ≡ []
-no_items = items_undecided true [] (decided_nothing true)
-
 -- where nothing is held, the end of a run changes nothing
-ends_nothing : (c : BusConfig) (ds : List Device) (first last greatest : ℕ) → ends_run (bus c ds first last [] greatest) ≡ bus c ds first last [] greatest
-ends_nothing c ds first last greatest =
-    ap (λ parts. record (bus c ds first last [] greatest) { devices = hears_items greatest parts (record { entries = ds; report = None }) }) no_items
+pub nothing_ends : (b : BusState) → b.held ≡ [] → ends_run b ≡ b
+nothing_ends b held =
+    ap (λ (l : List ℕ). record b { devices = hears_items b.greatest (items true l) b.devices; held = [] }) held
+    ∙ ap (λ parts. record b { devices = hears_items b.greatest parts b.devices; held = [] }) (items_nothing true)
+    ∙ ap (λ (l : List ℕ). record b { held = l }) (sym held)
 
-silent_nothing : (c : BusConfig) (ds : List Device) (first last greatest : ℕ) → ends_silent (bus c ds first last [] greatest) ≡ bus c ds first last [] greatest
-silent_nothing c ds first last greatest = by_test (is_silent (bus c ds first last [] greatest))
+pub nothing_silent : (b : BusState) → b.held ≡ [] → ends_silent b ≡ b
+nothing_silent b held = by_test (is_silent b)
   where
-    by_test : (b : Bool) → cond b (ends_run (bus c ds first last [] greatest)) (bus c ds first last [] greatest) ≡ bus c ds first last [] greatest
-    by_test true = ends_nothing c ds first last greatest
+    by_test : (silent : Bool) → cond silent (ends_run b) b ≡ b
+    by_test true = nothing_ends b held
     by_test false = refl
 
 -- nobody holds the line and nothing is held: it does something where a device is due
@@ -199,9 +199,9 @@ free_acts c ds first last greatest now nobody =
     let g = max greatest now in
     let b = bus c ds first last [] g in
     let old = bus c ds first last [] greatest in
-    ap (λ s. has_acted old (ticks_on s)) (silent_nothing c ds first last g)
+    ap (λ s. has_acted old (ticks_on s)) (nothing_silent (bus c ds first last [] g) refl)
     ∙ ap (λ o. has_acted old (ticks_by o b)) nobody
-    ∙ ap (λ s. has_acted old (ticks_free s)) (ends_nothing c ds first last g)
+    ∙ ap (λ s. has_acted old (ticks_free s)) (nothing_ends (bus c ds first last [] g) refl)
     ∙ by_next (next_due b) (around (is_device_due g) first ds)
   where
     by_next : (o : Option ℕ) → IsAround (is_device_due (max greatest now)) ds o
@@ -218,7 +218,7 @@ held_acts c ds first last greatest now n d holder_is there stands =
     let g = max greatest now in
     let b = bus c ds first last [] g in
     let old = bus c ds first last [] greatest in
-    ap (λ s. has_acted old (ticks_on s)) (silent_nothing c ds first last g)
+    ap (λ s. has_acted old (ticks_on s)) (nothing_silent (bus c ds first last [] g) refl)
     ∙ ap (λ o. has_acted old (ticks_by o b)) holder_is
     ∙ ap (λ o. has_acted old (cond (option_map_or (is_device_due g) o false) (ticks_held n (ends_run b)) (stays b))) there
     ∙ by_due (is_device_due g d) refl
@@ -230,7 +230,7 @@ held_acts c ds first last greatest now n d holder_is there stands =
         let g = max greatest now in
         let b = bus c ds first last [] g in
         let old = bus c ds first last [] greatest in
-        ap (λ s. has_acted old (ticks_held n s)) (ends_nothing c ds first last g)
+        ap (λ s. has_acted old (ticks_held n s)) (nothing_ends (bus c ds first last [] g) refl)
         ∙ ap (λ o. has_acted old (cond (not (option_map_or holds o false && option_map_or (is_device_due g) o false)) (stays b) (ticks_at (Some n) b))) there
         ∙ ap (λ t. has_acted old (cond (not (t && is_device_due g d)) (stays b) (ticks_at (Some n) b))) stands
         ∙ ap (λ t. has_acted old (cond (not t) (stays b) (ticks_at (Some n) b))) is
@@ -287,9 +287,9 @@ free_ends c ds first last greatest now byte bytes nobody = by_silent (is_silent 
 -- a device holds the line and bytes are held: their run ends where the line was silent long enough, or where this device is due
 pub held_ends : (c : BusConfig) (ds : List Device) (first last greatest now byte n : ℕ) (bytes : List ℕ) (d : Device) → first_from 0 holds ds ≡ Some n
     → slice_get ds n ≡ Some d
-    → acts now (bus c ds first last (byte ∷ bytes) greatest) ≡ (is_device_due (max greatest now) d || nat_le c.gap (max greatest now - last))
+    → acts now (bus c ds first last (byte ∷ bytes) greatest) ≡ (is_device_due (max greatest now) d || is_silent_for c.gap last (max greatest now))
 held_ends c ds first last greatest now byte n bytes d holder_is there =
-    by_silent (nat_le c.gap (max greatest now - last))
+    by_silent (is_silent_for c.gap last (max greatest now))
   where
     by_due : (due : Bool) → has_acted (bus c ds first last (byte ∷ bytes) greatest)
         (cond due (ticks_held n (ends_run (bus c ds first last (byte ∷ bytes) (max greatest now)))) (stays (bus c ds first last (byte ∷ bytes) (max greatest now))))
@@ -367,15 +367,15 @@ deadline_held b n moment none holder_is fits due =
         ∙ held_acts b.config b.devices.entries b.first b.last b.greatest now n d holder_is there stands)
         (subst (λ (l : List ℕ). IsHolderDeadline (length l == 0) b d moment) is from)
     by_held d there stands (byte ∷ bytes) is from =
-        as_deadline b (λ at. is_device_due at d || nat_le b.config.gap (at - b.last)) moment none fits
+        as_deadline b (λ at. is_device_due at d || is_silent_for b.config.gap b.last at) moment none fits
         (λ now. ap (acts now) (plain b (byte ∷ bytes) (none_of b.devices.report none) is)
         ∙ held_ends b.config b.devices.entries b.first b.last b.greatest now byte n bytes d holder_is there)
         (subst (λ t. IsHolderDeadline t b d moment) (ap (λ l. length l == 0) is ∙ ne_eqb (length (byte ∷ bytes)) 0 (λ h. omega arith)) from)
 
 -- the line's own silence
-pub silent_from : (gap last greatest : ℕ) → last ≤ greatest → IsDueFrom (λ at. nat_le gap (at - last)) greatest (Some (max (last + gap) greatest))
+pub silent_from : (gap last greatest : ℕ) → last ≤ greatest → IsDueFrom (is_silent_for gap last) greatest (Some (max (last + gap) greatest))
 silent_from gap last greatest order =
     (omega arith, λ at le lt. same_tests gap (at - last) (max (last + gap) greatest) at (λ h. omega arith) (λ h. omega arith))
 
-pub never_silent : (gap last greatest : ℕ) → last ≤ greatest → 2 ^ 64 ≤ last + gap → IsDueFrom (λ at. nat_le gap (at - last)) greatest None
+pub never_silent : (gap last greatest : ℕ) → last ≤ greatest → 2 ^ 64 ≤ last + gap → IsDueFrom (is_silent_for gap last) greatest None
 never_silent gap last greatest order late = λ at le lt. lt-leb gap (at - last) (omega arith)

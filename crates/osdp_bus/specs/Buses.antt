@@ -1,6 +1,7 @@
 -- What a bus is.
-use Rattle.std.specs.Prelude.{ℕ, ◌-◌, Bool, max, nat_le, List, [], Option, Some, None, is_some, slice_get}
+use Rattle.std.specs.Prelude.{ℕ, Bool, max, List, [], Option, Some, None, is_some, slice_get}
 use Rattle.osdp_controller.specs.declared.report.Report.{Report}
+use Rattle.osdp_frame.specs.Silence.{is_silent_for}
 use Rattle.osdp_bus.specs.declared.config.BusConfig.{BusConfig}
 use Rattle.osdp_bus.specs.declared.device.Device.{Device}
 use Rattle.osdp_bus.specs.Devices.{first_from, holds}
@@ -47,7 +48,7 @@ has_report b = is_some b.devices.report
 
 -- the line has been silent long enough for a run to be over
 abbrev pub is_silent : BusState → Bool
-is_silent b = nat_le b.config.gap (b.greatest - b.last)
+is_silent b = is_silent_for b.config.gap b.last b.greatest
 
 abbrev pub device_of : ℕ → BusState → Option Device
 device_of entry b = slice_get b.devices.entries entry

@@ -1,6 +1,7 @@
 -- How long a bus may wait. No row of a table and no law speaks of these.
-use Rattle.std.specs.Prelude.{◌≡◌, ℕ, ◌-◌, ◌≤◌, ◌<◌, ◌^◌, ◌||◌, Bool, true, false, nat_le, min, List, Option, Some, None}
+use Rattle.std.specs.Prelude.{◌≡◌, ℕ, ◌≤◌, ◌<◌, ◌^◌, ◌||◌, Bool, true, false, nat_le, min, List, Option, Some, None}
 use Rattle.std.specs.List.{list_any}
+use Rattle.osdp_frame.specs.Silence.{is_silent_for}
 use Rattle.osdp_bus.specs.declared.device.Device.{Device}
 use Rattle.osdp_bus.specs.Buses.{BusState}
 use Rattle.osdp_bus.specs.Devices.{is_device_due}
@@ -24,4 +25,4 @@ any_due devices at = list_any (is_device_due at) devices
 abbrev pub IsHolderDeadline : Bool → BusState → Device → Option ℕ → Type 0
 IsHolderDeadline true b d moment = IsDueFrom (λ at. is_device_due at d) b.greatest moment
 IsHolderDeadline false b d moment =
-    IsDueFrom (λ at. is_device_due at d || nat_le b.config.gap (at - b.last)) b.greatest moment
+    IsDueFrom (λ at. is_device_due at d || is_silent_for b.config.gap b.last at) b.greatest moment

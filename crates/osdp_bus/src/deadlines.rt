@@ -1,6 +1,7 @@
 //! How long a bus may wait.
 
-ghost use Rattle.std.specs.Prelude.{◌≡◌, ◌==◌, ◌-◌, ◌≤◌, ℕ, Some, length, nat_le, slice_get};
+ghost use Rattle.std.specs.Prelude.{◌≡◌, ◌==◌, ◌≤◌, ℕ, Some, length, slice_get};
+ghost use Rattle.osdp_frame.specs.Silence.{is_silent_for};
 ghost use Rattle.osdp_bus.specs.declared.device.Device.{Device};
 ghost use Rattle.osdp_bus.specs.Deadlines.{IsDeadline};
 ghost use Rattle.osdp_bus.specs.Private.{IsLine, state_of};
@@ -14,7 +15,7 @@ impl Line {
     /// From when on the line has been silent long enough for a run to be over. None where no moment is that late.
     fn silence(&self) -> Option<u64>
         requires { self.now.last ≤ self.now.greatest }
-        ensures { IsDueFrom (λ at. nat_le self.now.config.gap (at - self.now.last)) self.now.greatest result }
+        ensures { IsDueFrom (λ at. is_silent_for self.now.config.gap self.now.last at) self.now.greatest result }
     {
         let moment = self.last.checked_add(u64::from(self.config.gap))?;
         Some(moment.max(self.greatest))

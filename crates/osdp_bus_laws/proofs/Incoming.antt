@@ -1,10 +1,11 @@
 -- Packets go to the device of their address, and cuts change nothing.
 use Rattle.std.proofs.Common.{◌≡◌, ◌∙◌, ap, sym, subst, inl, ℕ, ◌-◌, ◌≤◌, Bool, true, false, max, List, [], ◌∷◌, ◌++◌, Option, Some, None, refl, arith, append_assoc, append-nil}
-use Rattle.std.specs.Prelude.{◌≢◌, if◌then◌else◌, nat_le, slice_get}
+use Rattle.std.specs.Prelude.{◌≢◌, if◌then◌else◌, slice_get}
 use Rattle.std.proofs.lemmas.Bool.{eqb-true, eq-eqb, lt-leb}
 use Rattle.osdp_frame.specs.Bytes.{AreBytes}
 use Rattle.osdp_frame.specs.Items.{items, left_over}
 use Rattle.osdp_frame.specs.Packet.{Packet}
+use Rattle.osdp_frame.specs.Silence.{is_silent_for}
 use Rattle.osdp_frame_laws.proofs.Readings.{items-append}
 use Rattle.osdp_frame_laws.proofs.LawsOfSpellings.{AreBytes-append}
 use Rattle.osdp_bus.specs.declared.config.BusConfig.{BusConfig}
@@ -115,7 +116,7 @@ on_and_on front back e held fits =
     sym (left_over-append (e.held ++ front) back all) ∙ ap left_over (append_assoc e.held front back) in
     (λ i. record e { devices = heard i; held = left i; last = e.greatest })
 
-no_gap : (gap n : ℕ) → 1 ≤ gap → nat_le gap (n - n) ≡ false
+no_gap : (gap n : ℕ) → 1 ≤ gap → is_silent_for gap n n ≡ false
 no_gap gap n some = lt-leb gap (n - n) (omega arith)
 
 -- bytes that come at the moment of the last ones: the run goes on

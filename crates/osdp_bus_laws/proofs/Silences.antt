@@ -1,10 +1,10 @@
 -- A run is over once the line has been silent for the gap.
-use Rattle.std.proofs.Common.{◌≡◌, ◌∙◌, ap, subst, ℕ, ◌-◌, ◌≤◌, true, false, max, [], ◌∷◌, Option, Some, None, refl, arith}
+use Rattle.std.proofs.Common.{◌≡◌, ◌∙◌, ap, subst, ℕ, ◌≤◌, true, false, max, [], ◌∷◌, Option, Some, None, refl}
 use Rattle.std.specs.Prelude.{if◌then◌else◌, slice_set}
 use Rattle.std.specs.Option.{option_map_or}
-use Rattle.std.proofs.lemmas.Bool.{le-leb, lt-leb}
 use Rattle.osdp_frame.specs.Items.{items}
 use Rattle.osdp_frame_laws.proofs.LeftOver.{items_nothing}
+use Rattle.osdp_frame_laws.proofs.Silences.{change_of, changes_at_gap}
 use Rattle.osdp_bus.specs.declared.device.Device.{Device}
 use Rattle.osdp_bus.specs.declared.fault.BusFault.{BusFault}
 use Rattle.osdp_bus.specs.Buses.{BusState, device_of, has_report, holder, is_silent, seen}
@@ -15,7 +15,7 @@ use Rattle.osdp_bus.specs.Ticking.{BusTicked, bus_ticks, is_due_at, next_due, st
 use Rattle.osdp_bus.proofs.Waiting.{IsFound, found}
 use Rattle.osdp_controller.proofs.Choices.{either_way}
 use Rattle.osdp_bus_laws.specs.Calls.{Call, Add, Begin, Submit, Withdraw, Retarget, OnBytes, OnSilence, Tick, NextReport, after_call}
-use Rattle.osdp_bus_laws.specs.Silences.{BringsNoByte, IsPastGap, IsWithinGap, SilencesEndRuns}
+use Rattle.osdp_bus_laws.specs.Silences.{BringsNoByte, Changes, SilencesEndRuns}
 use Rattle.osdp_bus_laws.proofs.Sound.{IsNobody, SoundBus, either_held, nobody, still_nobody}
 
 -- ---- the moment of the last bytes
@@ -86,15 +86,14 @@ greatest_kept b = either_way (λ (e : BusState). e.greatest ≡ b.greatest) (is_
 
 -- ---- within the gap and past it
 
-within : (now : ℕ) (b : BusState) → 1 ≤ b.config.gap → IsWithinGap now b → ends_silent (seen now b) ≡ seen now b
-within now b some less =
-    let s = seen now b in
-    ap (λ t. if t then ends_run s else s) (lt-leb b.config.gap (max b.greatest now - b.last) (omega arith))
+ends_by_gap : (now : ℕ) (b : BusState) → 1 ≤ b.config.gap → Changes now b (ends_silent (seen now b)) (seen now b) (ends_run (seen now b))
+ends_by_gap now b some = changes_at_gap b.config.gap b.last (max b.greatest now) (seen now b) (ends_run (seen now b)) some
 
-past : (now : ℕ) (b : BusState) → IsPastGap now b → ends_silent (seen now b) ≡ ends_run (seen now b)
-past now b long =
-    let s = seen now b in
-    ap (λ t. if t then ends_run s else s) (le-leb b.config.gap (max b.greatest now - b.last) (omega arith))
+-- what comes of the bus whose silent run has ended
+by_gap : {A : Type 0} (f : BusState → A) (now : ℕ) (b : BusState) (so : A) → 1 ≤ b.config.gap → so ≡ f (ends_silent (seen now b))
+    → Changes now b so (f (seen now b)) (f (ends_run (seen now b)))
+by_gap f now b so some is =
+    change_of f b.config.gap b.last (max b.greatest now) (ends_silent (seen now b)) (seen now b) (ends_run (seen now b)) so is (ends_by_gap now b some)
 
 ticks_unless : (now : ℕ) (b : BusState) → has_report b ≡ false → bus_ticks now b ≡ ticks_on (ends_silent (seen now b))
 ticks_unless now b none = ap (λ t. if t then stays (seen now b) else ticks_on (ends_silent (seen now b))) none
@@ -126,9 +125,7 @@ pub silences_end_runs : (b : BusState) → SoundBus b → SilencesEndRuns b
 silences_end_runs b is = record {
   came = λ byte now bytes. greatest_kept (seen now b);
   kept = λ call none. kept_call call b none;
-  goes_on = λ byte now bytes less. ap (hears_bytes (byte ∷ bytes)) (within now b is.config.gap.0 less);
-  is_over = λ byte now bytes long. ap (hears_bytes (byte ∷ bytes)) (past now b long);
-  stands = λ now none less. ticks_unless now b none ∙ ap ticks_on (within now b is.config.gap.0 less);
-  ends = λ now none long. ticks_unless now b none ∙ ap ticks_on (past now b long);
+  bytes = λ byte now bytes. by_gap (hears_bytes (byte ∷ bytes)) now b _ is.config.gap.0 refl;
+  ticks = λ now none. by_gap ticks_on now b _ is.config.gap.0 (ticks_unless now b none);
   at_once = λ now none free. ticks_unless now b none ∙ free_either (seen now b) free;
 }

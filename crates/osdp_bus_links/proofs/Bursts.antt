@@ -13,6 +13,7 @@ use Rattle.osdp_bus.specs.Buses.{BusState, Devices, seen, waiting_after}
 use Rattle.osdp_bus.specs.Devices as devices
 use Rattle.osdp_bus.specs.Devices.{first_from, is_at}
 use Rattle.osdp_bus.specs.Hearing.{after_silence, hears_at, hears_bytes, hears_items, hears_packet, hears_with}
+use Rattle.osdp_bus.proofs.Waiting.{nothing_silent}
 use Rattle.osdp_bus.proofs.Runs.{hears_items-append}
 use Rattle.osdp_link_laws.specs.Peers.{IsPlainlySaid}
 use Rattle.osdp_link_laws.proofs.Lines.{each_of}
@@ -23,7 +24,6 @@ use Rattle.osdp_sim.specs.Line.{packets_in, whole_packets}
 use Rattle.osdp_bus_links.specs.Links.{HearsAsAMove, IsHeard, IsNoRefusalOf, TellsEach, device_of, heard}
 use Rattle.osdp_bus_links.proofs.Devices.{freed_same, get_device, set_device}
 use Rattle.osdp_bus_links.proofs.Telling.{EndsAreTold, refuses_none, told_nothing, told_one}
-use Rattle.osdp_bus_links.proofs.Ticks.{nothing_silent}
 
 -- ---- the packets among items
 

@@ -2,7 +2,6 @@
 use Rattle.std.proofs.Common.{◌≡◌, ◌||◌, ℕ, not, Bool, true, false, if◌then◌else◌, List, [], ◌∷◌, ◌++◌, map, Option, Some, None, refl, sym, subst, ap, ◌∙◌}
 use Rattle.std.proofs.lemmas.List.{append-nil, map-append}
 use Rattle.std.specs.Prelude.{slice_get, slice_set, option_to_list}
-use Rattle.osdp_frame.specs.Items.{items}
 use Rattle.osdp_frame.specs.Packet.{Packet}
 use Rattle.osdp_msg.specs.declared.command.Command.{Command}
 use Rattle.osdp_controller.specs.Machine as controllers
@@ -14,31 +13,13 @@ use Rattle.osdp_bus.specs.Devices as devices
 use Rattle.osdp_bus.specs.Hearing.{ends_run, ends_silent, hears_items}
 use Rattle.osdp_bus.specs.Machine.{after_next_report}
 use Rattle.osdp_bus.specs.Ticking.{BusTicked, bus_ticks, is_due_at, is_held_and_due, next_due, stays, ticks_at, ticks_by, ticks_free, ticks_held, ticks_on, ticks_with}
+use Rattle.osdp_bus.proofs.Waiting.{nothing_ends, nothing_silent}
 use Rattle.osdp_link_laws.proofs.Reports.{tick_so}
 use Rattle.osdp_multidrop.specs.Line as line
 use Rattle.osdp_multidrop.specs.Line.{Net, NetMove, Site, Tick, changed, run, site_at, tagged, ticks_of}
 use Rattle.osdp_bus_links.specs.Links.{IsBusOf, IsNoRefusalOf, IsTickAt, TellsEach, TicksAsAMove, device_of, packets_on}
 use Rattle.osdp_bus_links.proofs.Devices.{freed_same, get_device, get_none, set_device}
 use Rattle.osdp_bus_links.proofs.Telling.{EndsAreTold, told_nothing, told_one}
-
--- ---- nothing is held
-
-pub no_items : (ended : Bool) → items ended [] ≡ []
-unfolding items
-no_items ended = refl
-
-pub nothing_ends : (b : BusState) → b.held ≡ [] → ends_run b ≡ b
-nothing_ends b held =
-    ap (λ (l : List ℕ). record b { devices = hears_items b.greatest (items true l) b.devices; held = [] }) held
-    ∙ ap (λ parts. record b { devices = hears_items b.greatest parts b.devices; held = [] }) (no_items true)
-    ∙ ap (λ (l : List ℕ). record b { held = l }) (sym held)
-
-pub nothing_silent : (b : BusState) → b.held ≡ [] → ends_silent b ≡ b
-nothing_silent b held = by_test (is_silent b)
-  where
-    by_test : (silent : Bool) → (if silent then ends_run b else b) ≡ b
-    by_test true = nothing_ends b held
-    by_test false = refl
 
 module _ (P : BusTicked → Type 0) where
   either : (c : Bool) (t u : BusTicked) → P t → P u → P (if c then t else u)

@@ -15,7 +15,7 @@ use Rattle.osdp_bus_laws.proofs.Exchanging.{has_exchange}
 use Rattle.osdp_bus_laws.proofs.Sound.{nobody}
 use Rattle.osdp_bus_laws.proofs.Turning.{due_is_next, none_is_due, strictly}
 use Rattle.osdp_bus_laws.specs.Turns.{IsBefore, IsDueEntry}
-use Rattle.osdp_bus_links.proofs.Ticks.{nothing_ends, nothing_silent}
+use Rattle.osdp_bus.proofs.Waiting.{nothing_ends, nothing_silent}
 use Rattle.osdp_bus_progress.proofs.Along.{AllAre, OneHolds}
 
 -- the entry that is asked first: around, where the number is past the last

@@ -10,3 +10,4 @@ pub mod Held
 pub mod Lent
 pub mod Private
 pub mod Machine
+pub mod Causes

@@ -1,5 +1,8 @@
 //! What a controller tells its caller.
 
+ghost use Rattle.std.specs.Prelude.{◌≡◌};
+ghost use Rattle.osdp_controller.specs.Causes.{cause_name};
+
 use osdp_msg::{Command, Communication, Event, PdId, Reply};
 
 /// Why a session ended with its exchange unsettled.
@@ -11,6 +14,19 @@ pub enum LostCause {
     TooBusy,
     /// The reader did not expect the sequence number: NAK 4.
     NumberRefused,
+}
+
+impl LostCause {
+    /// The cause in one word: `no-reply`, `too-busy` or `number-refused`. Accounts and the lines of a panel tell it so.
+    pub fn name(self) -> &'static str
+        ensures { result.now ≡ cause_name self }
+    {
+        match self {
+            LostCause::NoReply => "no-reply",
+            LostCause::TooBusy => "too-busy",
+            LostCause::NumberRefused => "number-refused",
+        }
+    }
 }
 
 /// What happened. Each report comes once.

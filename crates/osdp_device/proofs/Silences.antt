@@ -1,18 +1,11 @@
 -- A run is over once the line has been silent for the gap.
-use Rattle.std.proofs.Common.{◌≡◌, ap, ℕ, ◌-◌, ◌≤◌, Bool, true, false, cond, max, ◌∷◌, refl, arith}
-use Rattle.std.proofs.lemmas.Bool.{le-leb, lt-leb}
+use Rattle.std.proofs.Common.{◌≡◌, ℕ, ◌≤◌, Bool, true, false, cond, max, ◌∷◌, refl}
+use Rattle.osdp_frame_laws.proofs.Silences.{change_of, changes_at_gap}
 use Rattle.osdp_device.specs.Receiving.{IsReceived, Received, comes_in, ends_run, ends_silent, is_silent, seen}
-use Rattle.osdp_device.specs.Silences.{IsPastGap, IsWithinGap, SilencesEndRuns}
+use Rattle.osdp_device.specs.Silences.{Changes, SilencesEndRuns}
 
-within : (now : ℕ) (l : Received) → 1 ≤ l.gap → IsWithinGap now l → ends_silent (seen now l) ≡ seen now l
-within now l some less =
-    let s = seen now l in
-    ap (λ t. cond t (ends_run s) s) (lt-leb l.gap (max l.greatest now - l.last) (omega arith))
-
-past : (now : ℕ) (l : Received) → IsPastGap now l → ends_silent (seen now l) ≡ ends_run (seen now l)
-past now l long =
-    let s = seen now l in
-    ap (λ t. cond t (ends_run s) s) (le-leb l.gap (max l.greatest now - l.last) (omega arith))
+ends_by_gap : (now : ℕ) (l : Received) → 1 ≤ l.gap → Changes now l (ends_silent (seen now l)) (seen now l) (ends_run (seen now l))
+ends_by_gap now l some = changes_at_gap l.gap l.last (max l.greatest now) (seen now l) (ends_run (seen now l)) some
 
 -- the moments stay as a run ends
 record Stays (l e : Received) : Type 0 where
@@ -32,8 +25,8 @@ silences_end_runs l is = record {
   none_came = λ now. refl;
   ticked = λ now. (stays_silent (seen now l)).last;
   was_silent = λ now. refl;
-  goes_on = λ byte now bytes less. ap (comes_in (byte ∷ bytes)) (within now l is.gap less);
-  is_over = λ byte now bytes long. ap (comes_in (byte ∷ bytes)) (past now l long);
-  stands = λ now less. within now l is.gap less;
-  ends = λ now long. past now l long;
+  bytes = λ byte now bytes.
+      change_of (comes_in (byte ∷ bytes)) l.gap l.last (max l.greatest now) (ends_silent (seen now l)) (seen now l) (ends_run (seen now l)) _ refl
+      (ends_by_gap now l is.gap);
+  ticks = λ now. ends_by_gap now l is.gap;
 }

@@ -1,7 +1,8 @@
 -- What has come on the line, and when. Moments are in milliseconds.
-use Rattle.std.specs.Prelude.{◌≡◌, ℕ, ◌-◌, ◌≤◌, ◌<◌, Bool, true, nat_le, if◌then◌else◌, max, List, [], ◌∷◌, length}
+use Rattle.std.specs.Prelude.{◌≡◌, ℕ, ◌≤◌, ◌<◌, Bool, true, if◌then◌else◌, max, List, [], ◌∷◌, length}
 use Rattle.osdp_frame.specs.Bytes.{AreBytes}
 use Rattle.osdp_frame.specs.Held.{Held, after_gap, after_push, new_run, taken_count}
+use Rattle.osdp_frame.specs.Silence.{is_silent_for}
 
 pub record Received : Type 0 where
   -- after how long a silence a run is over
@@ -35,7 +36,7 @@ seen now l = record l { greatest = max l.greatest now }
 
 -- the line has been silent long enough for a run to be over
 abbrev pub is_silent : Received → Bool
-is_silent l = nat_le l.gap (l.greatest - l.last)
+is_silent l = is_silent_for l.gap l.last l.greatest
 
 abbrev pub ends_run : Received → Received
 ends_run l = record l { held = after_gap l.held }

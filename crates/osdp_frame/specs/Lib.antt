@@ -11,3 +11,4 @@ pub mod Shown
 pub mod Running
 pub mod Buffered
 pub mod Framed
+pub mod Silence

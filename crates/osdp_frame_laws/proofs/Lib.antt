@@ -3,3 +3,4 @@ pub mod OneByOne
 pub mod Readings
 pub mod LeftOver
 pub mod Calls
+pub mod Silences

@@ -11,10 +11,24 @@ ghost use Rattle.osdp_frame.specs.Reading.{IsFirst, IsReading, IsUndecided, RunI
 ghost use Rattle.osdp_frame_laws.specs.Calls.{Call, IsAfter, IsOfBytes, ReadsEachRun, ReadsOn, Run, after_call, empty_run};
 ghost use Rattle.osdp_frame.specs.Held.{Held, after_advance, after_push, decided, new_run, taken_count};
 ghost use Rattle.osdp_frame.specs.Items.{Drains, items, left_over, reading};
+ghost use Rattle.osdp_frame.specs.Silence.{ChangesAtGap, is_silent_for};
+
+use osdp_frame::{MAX_BODY, MAX_PACKET};
 
 /// A packet has one spelling, and what is no packet has none.
 pub fn one_spelling()
     ensures { (p : Packet) (bytes : List ℕ) → Spells p bytes ↔ (IsPacket p × (bytes ≡ spelling p)) }
+{}
+
+/// No packet is spelled in more than 1440 bytes, and none has a body of more than 1434. Each list of 1 to 1434 bytes is the body of some
+/// packet.
+pub fn bodies_fit_a_packet()
+    ensures packet { (MAX_PACKET ≡ 1440) × (largest ≡ MAX_PACKET) }
+    ensures body { MAX_BODY ≡ 1434 }
+    ensures long { (p : Packet) (bytes : List ℕ) → Spells p bytes → length bytes ≤ MAX_PACKET }
+    ensures most { (p : Packet) → IsPacket p → length p.body ≤ MAX_BODY }
+    ensures all { (body : List ℕ) → AreBytes body → 0 < length body → length body ≤ MAX_BODY
+        → (p : Packet) × IsPacket p × (p.body ≡ body) }
 {}
 
 /// A spelling is a list of bytes.
@@ -129,4 +143,10 @@ pub fn takes_what_fits()
         → taken_count held given < length given → length (after_push held given).bytes ≡ largest }
     ensures some { (held : Held) (run : Run) (b : ℕ) (given : List ℕ) → IsAfter held run → AreBytes run.bytes
         → decided held.ended held.bytes ≡ None → 0 < taken_count held (b ∷ given) }
+{}
+
+/// The gap is 1 millisecond or more. Up to one millisecond before the gap has passed since the last bytes, the line counts as not silent for
+/// it. From then on it counts as silent.
+pub fn silences_last_a_gap()
+    ensures { (gap last now : ℕ) → 1 ≤ gap → ChangesAtGap gap last now (is_silent_for gap last now) false true }
 {}

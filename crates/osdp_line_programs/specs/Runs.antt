@@ -1,5 +1,5 @@
 -- How the programs end.
-use Rattle.std.specs.Prelude.{◌≡◌, ◌⊎◌, ℕ, List, codes, Option, Result, Err}
+use Rattle.std.specs.Prelude.{◌≡◌, ◌⊎◌, ℕ, false, List, codes, Option, Result, Err}
 use Rattle.std.specs.Io.KnownBytes.{Keeps}
 use Rattle.osdp_line_streams.specs.Answers.{Answering}
 use Rattle.osdp_line_streams.specs.Ending.{Ends}
@@ -19,6 +19,10 @@ use Rattle.osdp_line_programs.specs.ReaderSettings.{AreOfReader}
 -- the words are settings, and the machine is that of these settings
 abbrev pub SetBy : {C M : Type 0} → (List (List ℕ) → C → Type 0) → (C → M) → List (List ℕ) → M → Type 0
 SetBy {C} AreSettings new given machine = (config : C) × AreSettings given config × (machine ≡ new config)
+
+-- no call on its streams has failed yet
+abbrev pub HasNotFailed : {I O : Type 0} → LineRun I O → Type 0
+HasNotFailed run = (has_failed run.input ≡ false) × (has_failed run.output ≡ false)
 
 -- what may be so of a run: what its streams know before and after it, and how it ends
 abbrev pub OfRuns : Type 0 → Type 0 → Type 1

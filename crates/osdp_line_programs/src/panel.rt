@@ -1,10 +1,9 @@
 //! The settings of a panel, and the panel that they make.
 
-ghost use Rattle.std.specs.Prelude.{◌≡◌, ◌∷◌, [], ⊤, IfSome};
+ghost use Rattle.std.specs.Prelude.{◌≡◌, ◌∷◌, [], IfSome};
 ghost use Rattle.osdp_bus.specs.Settings.{IsBusConfig};
-ghost use Rattle.osdp_frame.specs.Check.{check_name};
-ghost use Rattle.osdp_words.specs.Reading.{Reads, ReadsWords};
-ghost use Rattle.osdp_words.specs.Word.{plain, texts};
+ghost use Rattle.osdp_words.specs.Reading.{ReadsWords};
+ghost use Rattle.osdp_words.specs.Word.{texts};
 ghost use Rattle.osdp_line_programs.specs.PanelSettings.{ReadsPanel, entry, with_setting};
 ghost use Rattle.osdp_line_programs.specs.Runs.{IsPanelOf};
 ghost use Rattle.osdp_line_programs.specs.Settings.{SettingFits, setting_words};
@@ -41,24 +40,13 @@ pub enum PanelSetting {
     Capacity(usize),
 }
 
-/// The check of this name.
-fn check(word: &str) -> Option<CheckKind>
-    ensures { Reads (λ kind. plain (check_name kind)) (λ _. ⊤) word.now result }
-{
-    match word {
-        "sum" => Some(CheckKind::Sum),
-        "crc" => Some(CheckKind::Crc),
-        _ => None,
-    }
-}
-
 impl PanelSetting {
     /// The setting of this name with this value.
     pub fn parse(name: &str, value: &str) -> Option<PanelSetting>
         ensures { ReadsWords (setting_words entry) (SettingFits entry) (name.now ∷ value.now ∷ []) result }
     {
         match name {
-            "check" => Some(PanelSetting::Check(check(value)?)),
+            "check" => Some(PanelSetting::Check(CheckKind::named(value)?)),
             "reply-wait" => Some(PanelSetting::ReplyWait(time(value)?)),
             "poll-interval" => Some(PanelSetting::PollInterval(time(value)?)),
             "sends" => Some(PanelSetting::Sends(sends(value)?)),

@@ -1,9 +1,8 @@
 //! The programs' runs.
 
-ghost use Rattle.std.specs.Prelude.{◌≡◌, ℕ, List, IfErr, IfOk, false};
-ghost use Rattle.osdp_tool_streams.specs.Watched.{has_failed};
+ghost use Rattle.std.specs.Prelude.{◌≡◌, ℕ, List, IfErr, IfOk};
 ghost use Rattle.osdp_words.specs.Word.{texts};
-ghost use Rattle.osdp_line_programs.specs.Runs.{Runs, RunsPanel, RunsReader, SetsNone, fault_text};
+ghost use Rattle.osdp_line_programs.specs.Runs.{HasNotFailed, Runs, RunsPanel, RunsReader, SetsNone, fault_text};
 
 use osdp_line_streams::{LineMachine, answer_lines};
 use osdp_panel_calls::LinePanel;
@@ -44,8 +43,7 @@ pub trait LineProgram: LineMachine + Drop + Sized {
 pub fn run_lines<P: LineProgram, R: Read, W: Write>(
     run: &mut LineRun<'_, R, W>,
 ) -> Result<(), ToolFault>
-    requires input { has_failed run.old.input ≡ false }
-    requires output { has_failed run.old.output ≡ false }
+    requires unfailed { HasNotFailed run.old }
     ensures run { Runs P.is_set_by P.answers R.remaining W.contents run.old run.new result }
     ensures words { run.new.words ≡ run.old.words }
 {
@@ -55,8 +53,7 @@ pub fn run_lines<P: LineProgram, R: Read, W: Write>(
 
 /// The run of a panel without devices.
 pub fn panel_lines<R: Read, W: Write>(run: &mut LineRun<'_, R, W>) -> Result<(), ToolFault>
-    requires input { has_failed run.old.input ≡ false }
-    requires output { has_failed run.old.output ≡ false }
+    requires unfailed { HasNotFailed run.old }
     ensures run { RunsPanel R.remaining W.contents run.old run.new result }
     ensures words { run.new.words ≡ run.old.words }
 {
@@ -65,8 +62,7 @@ pub fn panel_lines<R: Read, W: Write>(run: &mut LineRun<'_, R, W>) -> Result<(),
 
 /// The run of a reader's device.
 pub fn reader_lines<R: Read, W: Write>(run: &mut LineRun<'_, R, W>) -> Result<(), ToolFault>
-    requires input { has_failed run.old.input ≡ false }
-    requires output { has_failed run.old.output ≡ false }
+    requires unfailed { HasNotFailed run.old }
     ensures run { RunsReader R.remaining W.contents run.old run.new result }
     ensures words { run.new.words ≡ run.old.words }
 {

@@ -59,8 +59,15 @@ module _ {H : Type 0} where
   told answers s = record { link = told_link answers s.link; given = s.given; withdrawn = s.withdrawn; before = s.before }
 
   pub told_begins : (answers : List Answer) (l : Link H) → Begins l → Begins (told_link answers l)
-  told_begins answers l b =
-      record { quiet = b.quiet; address = b.address; waiting = b.waiting; to_reader = b.to_reader; to_controller = b.to_controller; account = b.account; earlier = b.earlier }
+  told_begins answers l b = record {
+    quiet = b.quiet;
+    address = b.address;
+    waiting = b.waiting;
+    to_reader = b.to_reader;
+    to_controller = b.to_controller;
+    account = b.account;
+    earlier = b.earlier;
+  }
 
   submits_told : (refusal : Option ControllerFault) (c : Command) (l : Link H) (more : List Answer)
       → link.submits refusal c (told_link more l) ≡ told_link more (link.submits refusal c l)

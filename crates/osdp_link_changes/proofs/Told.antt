@@ -26,8 +26,14 @@ other_answers (answer ∷ answers) command = answers
 module _ {H : Type 0} where
   -- the same reader, with answers from a list
   abbrev pub told_reader : List Answer → ReaderState H → ReaderState (List Answer)
-  told_reader answers r =
-      record { config = r.config; last = r.last; stored = r.stored; queue = r.queue; busy = r.busy; handler = answers }
+  told_reader answers r = record {
+    config = r.config;
+    last = r.last;
+    stored = r.stored;
+    queue = r.queue;
+    busy = r.busy;
+    handler = answers;
+  }
 
   abbrev pub told_outcome : List Answer → Outcome H → Outcome (List Answer)
   told_outcome answers o =

@@ -4,18 +4,4 @@
 #![tactic(auto)]
 
 #[cfg(test)]
-mod comset;
-#[cfg(test)]
-mod controller;
-#[cfg(test)]
-mod damage;
-#[cfg(test)]
-mod door;
-#[cfg(test)]
-mod identity;
-#[cfg(test)]
-mod link;
-#[cfg(test)]
-mod reader;
-#[cfg(test)]
-mod responses;
+mod tests;

@@ -1,6 +1,6 @@
 //! Events: what a reader tells when it is polled.
 
-ghost use Rattle.std.specs.Prelude.{◌≡◌, Some, None, Ok, IfOk, IfErr, MatchResult};
+ghost use Rattle.std.specs.Prelude.{◌≡◌, Some, None, Ok, IfOk, MatchResult};
 ghost use Rattle.osdp_words.specs.Word.{AllStandFor, texts, words_in};
 ghost use Rattle.osdp_msg.specs.Events.{EventFits, event_in, event_reply, event_text, event_words};
 
@@ -84,7 +84,6 @@ impl Reply {
         ensures told { MatchResult result (λ e. event_in self ≡ Some e) (λ reply. (reply ≡ self) × (event_in self ≡ None)) }
         ensures event { IfOk result (λ e. self ≡ event_reply e) }
         ensures only { (e : Event) → self ≡ event_reply e → result ≡ Ok e }
-        ensures back { IfErr result (λ reply. reply ≡ self) }
     {
         match self {
             Reply::LocalState(state) => Ok(Event::LocalState(state)),

@@ -78,6 +78,15 @@ miscounted n len count some = (
   λ apart. false_from_ne_true (eqb count (len - n)) λ e. let same = eqb-true count (len - n) e in apart (omega (arith, same, some)),
 )
 
+-- the same for a code whose data, by a count inside them, are n bytes and as many more as the count says
+pub counted : (Counts : ℕ → List ℕ → ℕ → Type 0) (code n count : ℕ) (bytes : List ℕ) → n ≤ length bytes
+    → ((total : ℕ) → Counts code bytes total ↔ (total ≡ n + count)) → (eqb count (length bytes - n) ≡ false) ↔ CountIsWrong Counts code bytes
+counted Counts code n count bytes some says =
+    let m = miscounted n (length bytes) count some in (
+      λ e. (n + count, ((says (n + count)).1 refl, m.0 e)),
+      λ wrong. m.1 λ same. wrong.1.1 ((says wrong.0).0 wrong.1.0 ∙ same),
+    )
+
 pub never_agree : (agree : Bool) → agree ≡ true → agree ≡ false → ⊥
 never_agree agree same other = true≢false (sym same ∙ other)
 

@@ -1,5 +1,5 @@
 -- Each code of the table of commands is that of some command.
-use Rattle.std.proofs.Common.{◌≡◌, ◌∙◌, ◌+◌, lit<, lit≤, refl, inl, inr, ℕ, [], ◌∷◌, length, None}
+use Rattle.std.proofs.Common.{◌≡◌, lit<, lit≤, refl, inl, inr, ℕ, [], ◌∷◌, length, None}
 use Rattle.std.specs.Prelude.{slice_index}
 use Rattle.std.proofs.lemmas.Bool.{eqb-false, leb-true}
 use Rattle.std.proofs.lemmas.List.Elements.{All-cons, All-nil}
@@ -13,7 +13,7 @@ use Rattle.osdp_msg.proofs.Bytes.{IsBytes-each, IsBytes-nil}
 use Rattle.osdp_msg.proofs.Commands.{commands}
 use Rattle.osdp_msg.proofs.Table.{by_codes, some_is}
 use Rattle.osdp_msg_laws.specs.Faults.{CommandCounts, FaultsHaveCauses}
-use Rattle.osdp_msg_laws.proofs.Causes.{IsNoneOrKnown, Miscounts, faults_have_causes, miscounted, never_agree}
+use Rattle.osdp_msg_laws.proofs.Causes.{IsNoneOrKnown, Miscounts, counted, faults_have_causes, never_agree}
 
 known : (m : Command) → CommandFits m → ((len : ℕ) → command_length_allowed (command_code m) len ≡ None → ⊥)
     → IsNoneOrKnown IsCommand command_length_allowed (command_code m)
@@ -110,8 +110,7 @@ codes code =
 
 counts_text : Miscounts command_length_allowed command_counts_agree CommandCounts 0x6B
 counts_text bytes may =
-    let m = miscounted 6 (length bytes) (slice_index bytes 5) (leb-true 6 (length bytes) (some_is _ _ may)) in
-    (λ e. (6 + slice_index bytes 5, ((refl, refl), m.0 e)), λ wrong. m.1 (λ same. wrong.1.1 (wrong.1.0.1 ∙ same)))
+    counted CommandCounts 0x6B 6 (slice_index bytes 5) bytes (leb-true 6 (length bytes) (some_is _ _ may)) λ total. (λ is. is.1, λ e. (refl, e))
 
 counts : (code : ℕ) → Miscounts command_length_allowed command_counts_agree CommandCounts code
 counts code =

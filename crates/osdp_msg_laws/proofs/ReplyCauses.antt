@@ -1,5 +1,5 @@
 -- Each code of the table of replies is that of some reply.
-use Rattle.std.proofs.Common.{◌≡◌, ◌∙◌, ◌+◌, ◌/◌, lit<, lit≤, refl, inl, inr, arith, ℕ, [], ◌∷◌, drop, length, None}
+use Rattle.std.proofs.Common.{◌≡◌, ◌+◌, ◌/◌, lit<, lit≤, refl, inl, inr, arith, ℕ, List, [], ◌∷◌, drop, length, None}
 use Rattle.std.specs.Prelude.{slice_index}
 use Rattle.std.proofs.lemmas.Bool.{eqb-false, leb-true}
 use Rattle.std.proofs.lemmas.List.Elements.{All-nil}
@@ -13,7 +13,7 @@ use Rattle.osdp_msg.proofs.Bytes.{IsBytes-each, IsBytes-nil}
 use Rattle.osdp_msg.proofs.Replies.{replies}
 use Rattle.osdp_msg.proofs.Table.{by_codes, some_is}
 use Rattle.osdp_msg_laws.specs.Faults.{FaultsHaveCauses, ReplyCounts}
-use Rattle.osdp_msg_laws.proofs.Causes.{IsNoneOrKnown, Miscounts, faults_have_causes, miscounted, never_agree}
+use Rattle.osdp_msg_laws.proofs.Causes.{IsNoneOrKnown, Miscounts, counted, faults_have_causes, never_agree}
 
 known : (m : Reply) → ReplyFits m → ((len : ℕ) → reply_length_allowed (reply_code m) len ≡ None → ⊥)
     → IsNoneOrKnown IsReply reply_length_allowed (reply_code m)
@@ -95,38 +95,30 @@ codes code =
     )
     λ n0 n1 n2 n3 n4 n5 n6 n7 n8 n9 nA nB nC nD. inl (λ len. rw (n0, n1, n2, n3, n4, n5, n6, n7, n8, n9, nA, nB, nC, nD) refl)
 
+-- which of the three counts a code has
+is_raw : (bytes : List ℕ) (total : ℕ) → ReplyCounts 0x50 bytes total → total ≡ 4 + (little_number 2 (drop 2 bytes) + 7) / 8
+is_raw bytes total is = elim is [ inl raw ↦ raw.1 | inr others ↦ elim others [ inl f ↦ omega (arith, f.0) | inr k ↦ omega (arith, k.0) ] ]
+
+is_formatted : (bytes : List ℕ) (total : ℕ) → ReplyCounts 0x51 bytes total → total ≡ 3 + slice_index bytes 2
+is_formatted bytes total is = elim is [ inl r ↦ omega (arith, r.0) | inr others ↦ elim others [ inl formatted ↦ formatted.1 | inr k ↦ omega (arith, k.0) ] ]
+
+is_keypad : (bytes : List ℕ) (total : ℕ) → ReplyCounts 0x53 bytes total → total ≡ 2 + slice_index bytes 1
+is_keypad bytes total is = elim is [ inl r ↦ omega (arith, r.0) | inr others ↦ elim others [ inl f ↦ omega (arith, f.0) | inr keypad ↦ keypad.1 ] ]
+
 counts_raw : Miscounts reply_length_allowed reply_counts_agree ReplyCounts 0x50
 counts_raw bytes may =
-    let count = (little_number 2 (drop 2 bytes) + 7) / 8 in
-    let m = miscounted 4 (length bytes) count (leb-true 4 (length bytes) (some_is _ _ may)) in (
-      λ e. (4 + count, (inl (refl, refl), m.0 e)),
-      λ wrong. m.1 λ same. elim wrong.1.0 [
-        | inl here ↦ wrong.1.1 (here.1 ∙ same)
-        | inr elsewhere ↦ elim elsewhere [ inl other ↦ omega (arith, other.0) | inr other ↦ omega (arith, other.0) ]
-      ],
-    )
+    counted ReplyCounts 0x50 4 ((little_number 2 (drop 2 bytes) + 7) / 8) bytes (leb-true 4 (length bytes) (some_is _ _ may))
+    λ total. (is_raw bytes total, λ e. inl (refl, e))
 
 counts_formatted : Miscounts reply_length_allowed reply_counts_agree ReplyCounts 0x51
 counts_formatted bytes may =
-    let count = slice_index bytes 2 in
-    let m = miscounted 3 (length bytes) count (leb-true 3 (length bytes) (some_is _ _ may)) in (
-      λ e. (3 + count, (inr (inl (refl, refl)), m.0 e)),
-      λ wrong. m.1 λ same. elim wrong.1.0 [
-        | inl other ↦ omega (arith, other.0)
-        | inr elsewhere ↦ elim elsewhere [ inl here ↦ wrong.1.1 (here.1 ∙ same) | inr other ↦ omega (arith, other.0) ]
-      ],
-    )
+    counted ReplyCounts 0x51 3 (slice_index bytes 2) bytes (leb-true 3 (length bytes) (some_is _ _ may))
+    λ total. (is_formatted bytes total, λ e. inr (inl (refl, e)))
 
 counts_keypad : Miscounts reply_length_allowed reply_counts_agree ReplyCounts 0x53
 counts_keypad bytes may =
-    let count = slice_index bytes 1 in
-    let m = miscounted 2 (length bytes) count (leb-true 2 (length bytes) (some_is _ _ may)) in (
-      λ e. (2 + count, (inr (inr (refl, refl)), m.0 e)),
-      λ wrong. m.1 λ same. elim wrong.1.0 [
-        | inl other ↦ omega (arith, other.0)
-        | inr elsewhere ↦ elim elsewhere [ inl other ↦ omega (arith, other.0) | inr here ↦ wrong.1.1 (here.1 ∙ same) ]
-      ],
-    )
+    counted ReplyCounts 0x53 2 (slice_index bytes 1) bytes (leb-true 2 (length bytes) (some_is _ _ may))
+    λ total. (is_keypad bytes total, λ e. inr (inr (refl, e)))
 
 counts : (code : ℕ) → Miscounts reply_length_allowed reply_counts_agree ReplyCounts code
 counts code =

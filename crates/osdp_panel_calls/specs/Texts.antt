@@ -3,8 +3,7 @@ use Rattle.std.specs.Prelude.{ℕ, ◌+◌, List, [], ◌∷◌, ◌++◌, codes
 use Rattle.std.specs.Fmt.{decimal}
 use Rattle.osdp_bus.specs.declared.fault.BusFault.{BusFault}
 use Rattle.osdp_bus.specs.declared.fault.BusFault.TheVariants.{NoMemory, TooMany, AddressTaken, NoEntry, OutOfRange, Full, PollSubmitted, NotClosed}
-use Rattle.osdp_controller.specs.declared.report.LostCause.{LostCause}
-use Rattle.osdp_controller.specs.declared.report.LostCause.TheVariants.{NoReply, TooBusy, NumberRefused}
+use Rattle.osdp_controller.specs.Causes.{cause_name}
 use Rattle.osdp_controller.specs.declared.report.Report.{Report}
 use Rattle.osdp_controller.specs.declared.report.Report.TheVariants.{Opened, Settled, Moved, Event, PollAnswered, Unread, Lost}
 use Rattle.osdp_frame.specs.Packet.{Packet}
@@ -34,11 +33,6 @@ answered_text command reply = command_text command ++ (codes " = " ++ reply_text
 abbrev pub with_command : List ℕ → Option Command → List ℕ
 with_command text None = text
 with_command text (Some command) = text ++ (codes " " ++ command_text command)
-
-abbrev pub cause_name : LostCause → List ℕ
-cause_name NoReply = codes "no-reply"
-cause_name TooBusy = codes "too-busy"
-cause_name NumberRefused = codes "number-refused"
 
 abbrev pub code_text : ℕ → List ℕ
 code_text code = codes "code " ++ printed (bytes (code ∷ []))

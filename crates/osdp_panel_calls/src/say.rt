@@ -3,10 +3,10 @@
 ghost use Rattle.std.specs.Prelude.{◌≡◌, ◌<◌, ◌^◌, ◌++◌, [], IfSome, OnOk, Option, Some, codes, string_bytes};
 ghost use Rattle.osdp_bus.specs.Sending.{IsSentAs};
 ghost use Rattle.osdp_frame.specs.Packet.{Packet};
-ghost use Rattle.osdp_panel_calls.specs.Texts.{cause_name, due_line, fault_name, refusal_line, report_line, send_line, told_line, with_command, withdrawal_line};
+ghost use Rattle.osdp_panel_calls.specs.Texts.{due_line, fault_name, refusal_line, report_line, send_line, told_line, with_command, withdrawal_line};
 
 use osdp_bus::{BusFault, Entry};
-use osdp_controller::{LostCause, Report};
+use osdp_controller::Report;
 use osdp_frame::Burst;
 use osdp_msg::{Command, Reply};
 use osdp_words::ByteList;
@@ -20,17 +20,6 @@ pub(crate) fn push_sent(text: &mut String, burst: Option<Burst>) -> Result<(), A
         return Ok(());
     };
     writeln!(text, "send {}", ByteList(burst.as_slice()))
-}
-
-/// Why a session was lost, in one word.
-fn cause_name(cause: LostCause) -> &'static str
-    ensures { result.now ≡ cause_name cause }
-{
-    match cause {
-        LostCause::NoReply => "no-reply",
-        LostCause::TooBusy => "too-busy",
-        LostCause::NumberRefused => "number-refused",
-    }
 }
 
 /// Ends a line with the command that it tells of, where there is one.
@@ -66,7 +55,7 @@ fn push_told(text: &mut String, entry: Entry, report: Report) -> Result<(), Allo
             push_command(text, command)
         }
         Report::Lost(cause, command) => {
-            let cause = cause_name(cause);
+            let cause = cause.name();
             write!(text, "lost {number} {cause}")?;
             push_command(text, command)
         }

@@ -70,11 +70,7 @@ fn parse_check(words: &[&str]) -> Option<CheckKind>
     let [word] = words else {
         return None;
     };
-    match *word {
-        "sum" => Some(CheckKind::Sum),
-        "crc" => Some(CheckKind::Crc),
-        _ => None,
-    }
+    CheckKind::named(word)
 }
 
 /// A reader's address, and its room for events.

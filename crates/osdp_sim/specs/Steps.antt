@@ -33,6 +33,13 @@ abbrev pub damage_fault : Move → Option Cause
 damage_fault (Damage bytes) = if holds_packet bytes.items then Some HoldsPacket else None
 damage_fault _ = None
 
+-- why a step is refused, where it is told whether a session may not begin again yet
+abbrev pub fault_by : {S : Type 0} → (ℕ → S → Bool) → SimStep → S → Option Cause
+fault_by refuses_reopen (ToReader move) s = damage_fault move
+fault_by refuses_reopen (ToController move) s = damage_fault move
+fault_by refuses_reopen (Reopen number) s = if refuses_reopen number s then Some NotQuiet else None
+fault_by refuses_reopen _ s = None
+
 module _ {H : Type 0} where
   -- the reader counts from 1, and there is one
   abbrev pub where_there : ℕ → SimState H → SimState H → SimState H
@@ -77,12 +84,13 @@ module _ {H : Type 0} where
   abbrev pub is_quiet : SimState H → Bool
   is_quiet s = length s.to_reader == 0 && length s.to_controller == 0 && is_closed s.controller.session.state
 
+  -- it is the reader that there is, and its session may not begin again yet
+  abbrev pub refuses_reopen : ℕ → SimState H → Bool
+  refuses_reopen number s = number == 1 && not (is_quiet s)
+
   -- why a step is refused
   abbrev pub fault_of : SimStep → SimState H → Option Cause
-  fault_of (ToReader move) s = damage_fault move
-  fault_of (ToController move) s = damage_fault move
-  fault_of (Reopen number) s = if number == 1 && not (is_quiet s) then Some NotQuiet else None
-  fault_of _ s = None
+  fault_of = fault_by refuses_reopen
 
   module _ (answer_of : H → Command → Answer) (after : H → Command → H) where
     -- the reader hears these packets, one after the other, and each answer goes out

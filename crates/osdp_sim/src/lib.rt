@@ -31,6 +31,7 @@ mod schedule;
 mod session;
 mod simulation;
 mod step;
+pub mod steps;
 
 pub use account::{Account, End, Lengths};
 pub use config::SimConfig;

@@ -1,23 +1,22 @@
 //! Both ends and the line between them.
 
-ghost use Rattle.std.specs.Prelude.{◌≡◌, ◌↔◌, IsTrue, IfOk, IfErr, None};
-ghost use Rattle.osdp_msg.specs.CommandTable.{CommandFits};
+ghost use Rattle.std.specs.Prelude.{◌≡◌, ◌↔◌, IsTrue, IfOk, IfErr};
 ghost use Rattle.osdp_controller.specs.Machine as controllers;
 ghost use Rattle.osdp_sim.specs.Account as account;
 ghost use Rattle.osdp_sim.specs.Account.{lists_of};
 ghost use Rattle.osdp_sim.specs.Room.{HasRoom, state_of};
 ghost use Rattle.osdp_sim.specs.Runs.{AreSettings, IsControllerCause, IsSetUpCause, ReaderInRange};
 ghost use Rattle.osdp_sim.specs.State.{AreSent, SimState, set_up};
-ghost use Rattle.osdp_sim.specs.Steps.{StepFits, after_step, damage_fault, fault_of, is_quiet};
-ghost use Rattle.osdp_sim.specs.declared.step.SimStep.TheVariants.{Issue, Queue, Reopen, ToController, ToReader, Wait};
+ghost use Rattle.osdp_sim.specs.Steps.{StepFits, after_step, fault_of, is_quiet, refuses_reopen};
 
 use crate::account::Account;
 use crate::config::SimConfig;
 use crate::fault::Cause;
 use crate::hearing::hear;
-use crate::line::{damage_fault, handed_packet, move_on, send};
+use crate::line::{handed_packet, move_on, send};
 use crate::running::SimulatedLine;
 use crate::step::{Move, SimStep};
+use crate::steps::StepTaker;
 use osdp_controller::{Controller, ControllerFault, Report};
 use osdp_frame::Burst;
 use osdp_msg::{Command, Event};
@@ -114,36 +113,26 @@ impl<H: Handler> Simulation<H> {
     {
         self.to_reader.is_empty() && self.to_controller.is_empty() && self.controller.is_closed()
     }
+}
 
-    /// Does what a step says.
-    fn change(&mut self, step: &SimStep)
-        requires well { fault_of step.now (state_of self.old) ≡ None }
-        requires room { HasRoom self.old }
-        requires sent { AreSent (state_of self.old) }
-        ensures state { state_of self.new ≡ after_step H.answer_of H.after step.now (state_of self.old) }
-        ensures fits { StepFits H.answer_of H.after step.now (state_of self.old) }
-    {
-        match step {
-            SimStep::Issue(number, command) => self.issue(*number, command),
-            SimStep::Queue(number, event) => self.queue(*number, event),
-            SimStep::Busy(number, busy) => {
-                if *number == 1 {
-                    self.reader.set_busy(*busy);
-                }
-            }
-            SimStep::Wait(wait) => self.wait(*wait),
-            SimStep::ToReader(way) => self.to_reader(way),
-            SimStep::ToController(way) => self.to_controller(way),
-            SimStep::Reopen(number) => self.reopen(*number),
-        }
+impl<H: Handler> StepTaker for Simulation<H> {
+    ghost State = { SimState H };
+
+    ghost state_of = { state_of };
+
+    ghost after_step = { after_step H.answer_of H.after };
+
+    ghost refuses_reopen = { refuses_reopen };
+
+    ghost StepFits = { StepFits H.answer_of H.after };
+
+    ghost IsPrepared = { λ s. AreSent (state_of s) × HasRoom s };
+
+    fn refuses_reopen(&self, number: usize) -> bool {
+        number == 1 && !self.is_quiet()
     }
 
-    /// The controller's user submits a command; a refused one is dropped.
-    fn issue(&mut self, number: usize, command: &Command)
-        requires room { HasRoom self.old }
-        ensures state { state_of self.new ≡ after_step H.answer_of H.after (Issue number command.now) (state_of self.old) }
-        ensures fits { CommandFits command.now }
-    {
+    fn issue(&mut self, number: usize, command: &Command) {
         // Writing it brings in that its fields are in their ranges.
         let _ = command.write();
         if number != 1 {
@@ -154,11 +143,7 @@ impl<H: Handler> Simulation<H> {
         }
     }
 
-    /// The device submits an event; a refused one is dropped.
-    fn queue(&mut self, number: usize, event: &Event)
-        requires room { HasRoom self.old }
-        ensures state { state_of self.new ≡ after_step H.answer_of H.after (Queue number event.now) (state_of self.old) }
-    {
+    fn queue(&mut self, number: usize, event: &Event) {
         if number != 1 {
             return;
         }
@@ -167,12 +152,13 @@ impl<H: Handler> Simulation<H> {
         }
     }
 
-    /// Time passes, and what is due goes out.
-    fn wait(&mut self, wait: u64)
-        requires room { HasRoom self.old }
-        ensures state { state_of self.new ≡ after_step H.answer_of H.after (Wait wait) (state_of self.old) }
-        ensures fits { StepFits H.answer_of H.after (Wait wait) (state_of self.old) }
-    {
+    fn set_busy(&mut self, number: usize, busy: bool) {
+        if number == 1 {
+            self.reader.set_busy(busy);
+        }
+    }
+
+    fn wait(&mut self, wait: u64) {
         osdp_frame_laws::one_spelling();
         self.clock = self.clock.saturating_add(wait);
         if self
@@ -184,26 +170,7 @@ impl<H: Handler> Simulation<H> {
         self.account.tell_any(&mut self.report);
     }
 
-    /// The session begins again.
-    fn reopen(&mut self, number: usize)
-        requires room { HasRoom self.old }
-        requires well { fault_of (Reopen number) (state_of self.old) ≡ None }
-        ensures state { state_of self.new ≡ after_step H.answer_of H.after (Reopen number) (state_of self.old) }
-    {
-        if number == 1 {
-            let _ = self.controller.begin(self.clock);
-            self.account.begin();
-        }
-    }
-
-    /// The line moves on towards the reader, which hears the packet that comes through, and its answer goes out.
-    fn to_reader(&mut self, way: &Move)
-        requires room { HasRoom self.old }
-        requires well { damage_fault way.now ≡ None }
-        requires sent { AreSent (state_of self.old) }
-        ensures state { state_of self.new ≡ after_step H.answer_of H.after (ToReader way.now) (state_of self.old) }
-        ensures fits { StepFits H.answer_of H.after (ToReader way.now) (state_of self.old) }
-    {
+    fn to_reader(&mut self, way: &Move) {
         if let Some(packet) = handed_packet(&self.to_reader, way) {
             hear(
                 &mut self.reader,
@@ -216,18 +183,19 @@ impl<H: Handler> Simulation<H> {
         move_on(&mut self.to_reader, way);
     }
 
-    /// The line moves on towards the controller, which hears the packet that comes through.
-    fn to_controller(&mut self, way: &Move)
-        requires room { HasRoom self.old }
-        requires well { damage_fault way.now ≡ None }
-        requires sent { AreSent (state_of self.old) }
-        ensures state { state_of self.new ≡ after_step H.answer_of H.after (ToController way.now) (state_of self.old) }
-    {
+    fn to_controller(&mut self, way: &Move) {
         if let Some(packet) = handed_packet(&self.to_controller, way) {
             self.controller.hear(&packet, self.clock, &mut self.report);
             self.account.tell_any(&mut self.report);
         }
         move_on(&mut self.to_controller, way);
+    }
+
+    fn reopen(&mut self, number: usize) {
+        if number == 1 {
+            let _ = self.controller.begin(self.clock);
+            self.account.begin();
+        }
     }
 }
 
@@ -255,17 +223,7 @@ impl<H: Handler> SimulatedLine for Simulation<H> {
     ghost HasRoom = { HasRoom };
 
     fn fault(&self, step: &SimStep) -> Option<Cause> {
-        match step {
-            SimStep::ToReader(way) | SimStep::ToController(way) => damage_fault(way),
-            SimStep::Reopen(number) => {
-                if *number == 1 && !self.is_quiet() {
-                    Some(Cause::NotQuiet)
-                } else {
-                    None
-                }
-            }
-            SimStep::Issue(..) | SimStep::Queue(..) | SimStep::Busy(..) | SimStep::Wait(_) => None,
-        }
+        self.refusal(step)
     }
 
     fn grow(&mut self) -> Result<(), AllocError> {

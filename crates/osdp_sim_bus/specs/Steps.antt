@@ -19,9 +19,8 @@ use Rattle.osdp_bus.specs.Ticking.{BusTicked, bus_ticks}
 use Rattle.osdp_bus.specs.declared.fault.BusFault.{BusFault}
 use Rattle.osdp_sim.specs.Account.{taken_by, with_issued, with_queued, with_report, with_session, with_taken}
 use Rattle.osdp_sim.specs.Line.{handed, left, packets_in, sent}
-use Rattle.osdp_sim.specs.Steps.{SaysFit, damage_fault, moment_after}
+use Rattle.osdp_sim.specs.Steps.{SaysFit, fault_by, moment_after}
 use Rattle.osdp_sim.specs.declared.fault.Cause.{Cause}
-use Rattle.osdp_sim.specs.declared.fault.Cause.TheVariants.{NotQuiet}
 use Rattle.osdp_sim.specs.declared.step.Move.{Move}
 use Rattle.osdp_sim.specs.declared.step.Move.TheVariants.{Damage}
 use Rattle.osdp_sim.specs.declared.step.SimStep.{SimStep}
@@ -112,12 +111,13 @@ module _ {H : Type 0} where
   abbrev pub is_quiet : ℕ → LineState H → Bool
   is_quiet place s = length s.to_readers == 0 && length s.to_bus == 0 && is_ended place s.bus
 
+  -- there is a reader with this number, and its session may not begin again yet
+  abbrev pub refuses_reopen : ℕ → LineState H → Bool
+  refuses_reopen number s = is_there number s && not (is_quiet (number - 1) s)
+
   -- why a step is refused
   abbrev pub fault_of : SimStep → LineState H → Option Cause
-  fault_of (ToReader move) s = damage_fault move
-  fault_of (ToController move) s = damage_fault move
-  fault_of (Reopen number) s = if is_there number s && not (is_quiet (number - 1) s) then Some NotQuiet else None
-  fault_of _ s = None
+  fault_of = fault_by refuses_reopen
 
   module _ (answer_of : H → Command → Answer) (after : H → Command → H) where
     -- a reader hears a packet ..

@@ -18,6 +18,7 @@ use osdp_bus::{Bus, BusConfig, BusFault};
 use osdp_frame::{Address, Burst};
 use osdp_reader::{Handler, Heard, ReaderConfig};
 use osdp_sim::running::{SimulatedLine, run_listed, run_steps};
+use osdp_sim::steps::StepTaker;
 use osdp_sim::{Account, Cause, Fault, Schedule, SimStep};
 use std::alloc::{AllocError, Global};
 use std::collections::VecDeque;
@@ -88,7 +89,7 @@ impl<H: Handler> SimulatedLine for Run<H> {
     ghost HasRoom = { λ r. HasRoom r.simulation };
 
     fn fault(&self, step: &SimStep) -> Option<Cause> {
-        self.simulation.fault(step)
+        self.simulation.refusal(step)
     }
 
     fn grow(&mut self) -> Result<(), AllocError> {
@@ -96,7 +97,8 @@ impl<H: Handler> SimulatedLine for Run<H> {
     }
 
     fn take(&mut self, step: &SimStep) {
-        self.simulation.take(step);
+        osdp_frame_laws::one_spelling();
+        self.simulation.change(step);
     }
 
     fn told(self) -> Vec<Account> {

@@ -1,14 +1,10 @@
 //! The bus, the readers and the line between them.
 
-ghost use Rattle.std.specs.Prelude.{◌≡◌, All, IfSome, None, OnOk};
+ghost use Rattle.std.specs.Prelude.{◌≡◌, All, OnOk};
 ghost use Rattle.osdp_frame.specs.Bytes.{AreBytes};
-ghost use Rattle.osdp_msg.specs.CommandTable.{CommandFits};
-ghost use Rattle.osdp_sim.specs.Schedules.{IsCause};
-ghost use Rattle.osdp_sim.specs.Steps.{damage_fault};
-ghost use Rattle.osdp_sim.specs.declared.step.SimStep.TheVariants.{Issue, Queue, Busy, Wait, ToReader, ToController, Reopen};
 ghost use Rattle.osdp_sim_bus.specs.Room.{HasPlace, HasRoom, state_of};
-ghost use Rattle.osdp_sim_bus.specs.State.{AreSent};
-ghost use Rattle.osdp_sim_bus.specs.Steps.{DamageIsBytes, StepFits, after_step, fault_of, is_quiet, is_there, takes_report};
+ghost use Rattle.osdp_sim_bus.specs.State.{AreSent, LineState};
+ghost use Rattle.osdp_sim_bus.specs.Steps.{DamageIsBytes, StepFits, after_step, is_quiet, is_there, refuses_reopen, takes_report};
 
 use crate::line::{grow_all, hand_in, handed, hear_all};
 use crate::site::Site;
@@ -16,8 +12,9 @@ use osdp_bus::Bus;
 use osdp_frame::Burst;
 use osdp_msg::{Command, Event};
 use osdp_reader::{Handler, Heard};
-use osdp_sim::line::{damage_fault, handed_packet, move_on, send};
-use osdp_sim::{Cause, Move, SimStep};
+use osdp_sim::Move;
+use osdp_sim::line::{handed_packet, move_on, send};
+use osdp_sim::steps::StepTaker;
 use std::alloc::AllocError;
 use std::collections::VecDeque;
 
@@ -67,103 +64,6 @@ impl<H: Handler> Simulation<H> {
             && matches!(self.bus.is_closed(place), Some(true))
     }
 
-    /// Why a step is refused.
-    pub fn fault(&self, step: &SimStep) -> Option<Cause>
-        ensures fault { result ≡ fault_of step.now (state_of self.now) }
-        ensures cause { IfSome result (λ cause. IsCause cause result) }
-    {
-        match step {
-            SimStep::ToReader(way) | SimStep::ToController(way) => damage_fault(way),
-            SimStep::Reopen(number) => {
-                if self.is_there(*number) && !self.is_quiet(*number - 1) {
-                    Some(Cause::NotQuiet)
-                } else {
-                    None
-                }
-            }
-            SimStep::Issue(..) | SimStep::Queue(..) | SimStep::Busy(..) | SimStep::Wait(_) => None,
-        }
-    }
-
-    /// Takes a step that isn't refused.
-    pub fn take(&mut self, step: &SimStep)
-        requires well { fault_of step.now (state_of self.old) ≡ None }
-        requires room { HasRoom self.old }
-        requires sent { AreSent (state_of self.old) }
-        ensures state { state_of self.new ≡ after_step H.answer_of H.after step.now (state_of self.old) }
-        ensures sent { AreSent (state_of self.new) }
-        ensures fits { StepFits H.answer_of H.after step.now (state_of self.old) }
-    {
-        osdp_frame_laws::one_spelling();
-        self.change(step);
-    }
-
-    /// Does what a step says.
-    fn change(&mut self, step: &SimStep)
-        requires well { fault_of step.now (state_of self.old) ≡ None }
-        requires room { HasRoom self.old }
-        requires sent { AreSent (state_of self.old) }
-        ensures state { state_of self.new ≡ after_step H.answer_of H.after step.now (state_of self.old) }
-        ensures fits { StepFits H.answer_of H.after step.now (state_of self.old) }
-    {
-        match step {
-            SimStep::Issue(number, command) => self.issue(*number, command),
-            SimStep::Queue(number, event) => self.queue(*number, event),
-            SimStep::Busy(number, busy) => self.set_busy(*number, *busy),
-            SimStep::Wait(wait) => self.wait(*wait),
-            SimStep::ToReader(way) => self.to_readers(way),
-            SimStep::ToController(way) => self.to_bus(way),
-            SimStep::Reopen(number) => self.reopen(*number),
-        }
-    }
-
-    /// The bus's user submits a command for a reader; a refused one is dropped.
-    fn issue(&mut self, number: usize, command: &Command)
-        requires room { All HasPlace self.old.sites.items }
-        ensures state { state_of self.new ≡ after_step H.answer_of H.after (Issue number command.now) (state_of self.old) }
-        ensures fits { CommandFits command.now }
-    {
-        // Writing it brings in that its fields are in their ranges.
-        let _ = command.write();
-        if !self.is_there(number) {
-            return;
-        }
-        if self.bus.submit(number - 1, command.copy()).is_ok() {
-            self.sites[number - 1].account.issue(command);
-        }
-    }
-
-    /// A reader's device submits an event.
-    fn queue(&mut self, number: usize, event: &Event)
-        requires room { All HasPlace self.old.sites.items }
-        ensures state { state_of self.new ≡ after_step H.answer_of H.after (Queue number event.now) (state_of self.old) }
-    {
-        if self.is_there(number) {
-            self.sites[number - 1].queue(event);
-        }
-    }
-
-    /// A reader is busy from now on, or it isn't any more.
-    fn set_busy(&mut self, number: usize, busy: bool)
-        ensures state { state_of self.new ≡ after_step H.answer_of H.after (Busy number busy) (state_of self.old) }
-    {
-        if self.is_there(number) {
-            self.sites[number - 1].reader.set_busy(busy);
-        }
-    }
-
-    /// The session with a reader begins again.
-    fn reopen(&mut self, number: usize)
-        requires room { All HasPlace self.old.sites.items }
-        requires well { fault_of (Reopen number) (state_of self.old) ≡ None }
-        ensures state { state_of self.new ≡ after_step H.answer_of H.after (Reopen number) (state_of self.old) }
-    {
-        if self.is_there(number) {
-            let _ = self.bus.begin(number - 1, self.clock);
-            self.sites[number - 1].account.begin();
-        }
-    }
-
     /// The report that waits, if any, goes to the account of its entry's reader.
     fn take_report(&mut self)
         requires room { All HasPlace self.old.sites.items }
@@ -176,13 +76,49 @@ impl<H: Handler> Simulation<H> {
             self.sites[entry].account.tell(Some(report));
         }
     }
+}
 
-    /// Time passes, and what is due goes out.
-    fn wait(&mut self, wait: u64)
-        requires room { HasRoom self.old }
-        ensures state { state_of self.new ≡ after_step H.answer_of H.after (Wait wait) (state_of self.old) }
-        ensures fits { StepFits H.answer_of H.after (Wait wait) (state_of self.old) }
-    {
+impl<H: Handler> StepTaker for Simulation<H> {
+    ghost State = { LineState H };
+
+    ghost state_of = { state_of };
+
+    ghost after_step = { after_step H.answer_of H.after };
+
+    ghost refuses_reopen = { refuses_reopen };
+
+    ghost StepFits = { StepFits H.answer_of H.after };
+
+    ghost IsPrepared = { λ s. AreSent (state_of s) × HasRoom s };
+
+    fn refuses_reopen(&self, number: usize) -> bool {
+        self.is_there(number) && !self.is_quiet(number - 1)
+    }
+
+    fn issue(&mut self, number: usize, command: &Command) {
+        // Writing it brings in that its fields are in their ranges.
+        let _ = command.write();
+        if !self.is_there(number) {
+            return;
+        }
+        if self.bus.submit(number - 1, command.copy()).is_ok() {
+            self.sites[number - 1].account.issue(command);
+        }
+    }
+
+    fn queue(&mut self, number: usize, event: &Event) {
+        if self.is_there(number) {
+            self.sites[number - 1].queue(event);
+        }
+    }
+
+    fn set_busy(&mut self, number: usize, busy: bool) {
+        if self.is_there(number) {
+            self.sites[number - 1].reader.set_busy(busy);
+        }
+    }
+
+    fn wait(&mut self, wait: u64) {
         osdp_frame_laws::one_spelling();
         self.clock = self.clock.saturating_add(wait);
         if self.bus.tick_into(self.clock, &mut self.out) {
@@ -191,30 +127,25 @@ impl<H: Handler> Simulation<H> {
         self.take_report();
     }
 
-    /// The line moves on towards the readers.
-    fn to_readers(&mut self, way: &Move)
-        requires room { HasRoom self.old }
-        requires well { damage_fault way.now ≡ None }
-        requires sent { AreSent (state_of self.old) }
-        ensures state { state_of self.new ≡ after_step H.answer_of H.after (ToReader way.now) (state_of self.old) }
-        ensures fits { StepFits H.answer_of H.after (ToReader way.now) (state_of self.old) }
-    {
+    fn to_reader(&mut self, way: &Move) {
         if let Some(packet) = handed_packet(&self.to_readers, way) {
             hear_all(&mut self.sites, &packet, &mut self.heard, &mut self.to_bus);
         }
         move_on(&mut self.to_readers, way);
     }
 
-    /// The line moves on towards the bus.
-    fn to_bus(&mut self, way: &Move)
-        requires room { HasRoom self.old }
-        ensures state { state_of self.new ≡ after_step H.answer_of H.after (ToController way.now) (state_of self.old) }
-        ensures fits { DamageIsBytes way.now }
-    {
+    fn to_controller(&mut self, way: &Move) {
         see_damage(way);
         hand_in(&mut self.bus, handed(&self.to_bus, way), self.clock);
         move_on(&mut self.to_bus, way);
         self.take_report();
+    }
+
+    fn reopen(&mut self, number: usize) {
+        if self.is_there(number) {
+            let _ = self.bus.begin(number - 1, self.clock);
+            self.sites[number - 1].account.begin();
+        }
     }
 }
 

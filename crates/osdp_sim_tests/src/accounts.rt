@@ -1,6 +1,5 @@
 //! Accounts as text.
 
-use osdp_controller::LostCause;
 use osdp_sim::{Account, End};
 use std::alloc::Global;
 use std::fmt::Write;
@@ -8,9 +7,7 @@ use std::process::Abort;
 
 fn end(end: End) -> &'static str {
     match end {
-        End::Lost(LostCause::NoReply) => "no-reply",
-        End::Lost(LostCause::TooBusy) => "too-busy",
-        End::Lost(LostCause::NumberRefused) => "number-refused",
+        End::Lost(cause) => cause.name(),
         End::Moved => "moved",
     }
 }

@@ -1,6 +1,6 @@
 -- The text of an account: lines, each of which is a list of words.
 use Rattle.std.specs.Prelude.{ℕ, ◌+◌, List, [], ◌∷◌, ◌++◌, codes, length, map}
-use Rattle.osdp_controller.specs.declared.report.LostCause.TheVariants.{NoReply, TooBusy, NumberRefused}
+use Rattle.osdp_controller.specs.Causes.{cause_name}
 use Rattle.osdp_msg.specs.declared.command.Command.{Command}
 use Rattle.osdp_msg.specs.declared.event.Event.{Event}
 use Rattle.osdp_msg.specs.declared.reply.Reply.{Reply}
@@ -32,9 +32,7 @@ abbrev pub reported_line : Event → List Word
 reported_line event = plain (codes "reported") ∷ event_words event
 
 abbrev pub end_name : End → List ℕ
-end_name (Lost NoReply) = codes "no-reply"
-end_name (Lost TooBusy) = codes "too-busy"
-end_name (Lost NumberRefused) = codes "number-refused"
+end_name (Lost cause) = cause_name cause
 end_name Moved = codes "moved"
 
 abbrev pub ended_line : End → List Word

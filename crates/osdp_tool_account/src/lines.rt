@@ -7,7 +7,6 @@ ghost use Rattle.osdp_msg.specs.ReplyText.{reply_words};
 ghost use Rattle.osdp_words.specs.Word.{Word, plain};
 ghost use Rattle.osdp_tool_account.specs.AccountText.{end_name, lines_text, line_text};
 
-use osdp_controller::LostCause;
 use osdp_msg::{Command, Event, Reply};
 use osdp_sim::End;
 use std::alloc::AllocError;
@@ -54,9 +53,7 @@ fn end_name(end: End) -> &'static str
     ensures { result.now ≡ end_name end }
 {
     match end {
-        End::Lost(LostCause::NoReply) => "no-reply",
-        End::Lost(LostCause::TooBusy) => "too-busy",
-        End::Lost(LostCause::NumberRefused) => "number-refused",
+        End::Lost(cause) => cause.name(),
         End::Moved => "moved",
     }
 }

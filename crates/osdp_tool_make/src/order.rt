@@ -1,10 +1,9 @@
 //! The words of `make`, and the packet that they order.
 
-ghost use Rattle.std.specs.Prelude.{◌≡◌, ◌≤◌, ◌∷◌, [], ⊤, length};
+ghost use Rattle.std.specs.Prelude.{◌≡◌, ◌≤◌, length};
 ghost use Rattle.osdp_frame.specs.Bytes.{AreBytes};
 ghost use Rattle.osdp_words.specs.Reading.{ReadsWords};
-ghost use Rattle.osdp_words.specs.Word.{plain, texts};
-ghost use Rattle.osdp_frame.specs.Check.{check_name};
+ghost use Rattle.osdp_words.specs.Word.{texts};
 ghost use Rattle.osdp_tool_make.specs.PacketOrder.{MessageFits, OrderFits, message_body, message_is_reply, message_words, order_packet, order_words};
 
 use arrayvec::ArrayVec;
@@ -70,17 +69,6 @@ impl Message {
     }
 }
 
-/// The check of this name.
-fn parse_check(word: &str) -> Option<CheckKind>
-    ensures { ReadsWords (λ kind. plain (check_name kind) ∷ []) (λ _. ⊤) (word.now ∷ []) result }
-{
-    match word {
-        "sum" => Some(CheckKind::Sum),
-        "crc" => Some(CheckKind::Crc),
-        _ => None,
-    }
-}
-
 impl PacketOrder {
     /// The packet that the words order: an address from 0 to 127, a sequence number from 0 to 3, `sum` or
     /// `crc`, and the text of a command or a reply. None where they are anything else.
@@ -92,7 +80,7 @@ impl PacketOrder {
         };
         let address = Address::new(number_u8(address)?)?;
         let seq = Seq::new(number_u8(seq)?)?;
-        let check = parse_check(check)?;
+        let check = CheckKind::named(check)?;
         let message = Message::parse(message)?;
         Some(PacketOrder {
             address,

@@ -5,6 +5,8 @@ use Rattle.osdp_tool_input.specs.declared.form.Form.{Form}
 use Rattle.osdp_tool_input.specs.Runs.{first_bad, first_bad_ended}
 use Rattle.osdp_tool_streams.specs.declared.fault.ToolFault.{ToolFault}
 use Rattle.osdp_tool_streams.specs.declared.fault.ToolFault.TheVariants.{NotHex, TooLong, ReadFailed, WriteFailed, NoMemory}
+use Rattle.osdp_tool_streams.specs.declared.watch.Watched.{Watched}
+use Rattle.osdp_tool_streams.specs.Watched.{has_failed, inner_of}
 use Rattle.osdp_tool_show.specs.Shown.{shown, shown_so_far, is_refused_input, limited_text, limited_answer}
 use Rattle.osdp_tool_show.specs.Written.{StopsWithin}
 
@@ -17,6 +19,10 @@ pub record Stream : Type 0 where
 
 abbrev pub streamed : Option (List ℕ) → Option (List ℕ) → Bool → Stream
 streamed before after failed = record { before = before; after = after; failed = failed }
+
+-- a watched stream before and after a call; `bytes` tells what bytes a stream has
+abbrev pub watched : {S : Type 0} → (S → Option (List ℕ)) → Watched S → Watched S → Stream
+watched bytes old new = streamed (bytes (inner_of old)) (bytes (inner_of new)) (has_failed new)
 
 -- at most so many bytes are asked for at once
 abbrev pub piece_size : ℕ

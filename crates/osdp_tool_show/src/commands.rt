@@ -2,8 +2,8 @@
 
 ghost use Rattle.std.specs.Prelude.{◌≡◌, ◌<◌, ◌^◌, true, false};
 ghost use Rattle.std.specs.Io.KnownBytes.{Keeps};
-ghost use Rattle.osdp_tool_streams.specs.Watched.{inner_of, has_failed};
-ghost use Rattle.osdp_tool_show.specs.Ending.{streamed, Ends, EndsWhole};
+ghost use Rattle.osdp_tool_streams.specs.Watched.{has_failed};
+ghost use Rattle.osdp_tool_show.specs.Ending.{watched, Ends, EndsWhole};
 ghost use Rattle.osdp_tool_show.specs.Shown.{form_of};
 ghost use Rattle.osdp_tool_show.specs.Works.{Works};
 
@@ -36,9 +36,7 @@ fn work<R: Read, W: Write>(
     requires limit { limit < 2 ^ 40 }
     requires input { has_failed input.old ≡ false }
     requires output { has_failed output.old ≡ false }
-    ensures { Works full form limit
-        (streamed (R.remaining (inner_of input.old)) (R.remaining (inner_of input.new)) (has_failed input.new))
-        (streamed (W.contents (inner_of output.old)) (W.contents (inner_of output.new)) (has_failed output.new)) result }
+    ensures { Works full form limit (watched R.remaining input.old input.new) (watched W.contents output.old output.new) result }
 {
     let mut capture = Capture::new(alloc, full, form)?;
     capture.read(limit, input, output)
@@ -57,12 +55,8 @@ pub fn command<R: Read, W: Write>(
     output: &mut Watched<W>,
 ) -> Result<bool, ToolFault>
     requires { limit < 2 ^ 40 }
-    ensures ends { Ends full form limit
-        (streamed (R.remaining (inner_of input.old)) (R.remaining (inner_of input.new)) (has_failed input.new))
-        (streamed (W.contents (inner_of output.old)) (W.contents (inner_of output.new)) (has_failed output.new)) result }
-    ensures whole { EndsWhole full form limit
-        (streamed (R.remaining (inner_of input.old)) (R.remaining (inner_of input.new)) (has_failed input.new))
-        (streamed (W.contents (inner_of output.old)) (W.contents (inner_of output.new)) (has_failed output.new)) result }
+    ensures ends { Ends full form limit (watched R.remaining input.old input.new) (watched W.contents output.old output.new) result }
+    ensures whole { EndsWhole full form limit (watched R.remaining input.old input.new) (watched W.contents output.old output.new) result }
 {
     if input.failed() {
         return Err(ToolFault::ReadFailed);
@@ -88,12 +82,8 @@ pub fn show<R: Read, W: Write>(
     input: &mut Watched<R>,
     output: &mut Watched<W>,
 ) -> Result<bool, ToolFault>
-    ensures ends { Ends true (form_of mode) LIMIT
-        (streamed (R.remaining (inner_of input.old)) (R.remaining (inner_of input.new)) (has_failed input.new))
-        (streamed (W.contents (inner_of output.old)) (W.contents (inner_of output.new)) (has_failed output.new)) result }
-    ensures whole { EndsWhole true (form_of mode) LIMIT
-        (streamed (R.remaining (inner_of input.old)) (R.remaining (inner_of input.new)) (has_failed input.new))
-        (streamed (W.contents (inner_of output.old)) (W.contents (inner_of output.new)) (has_failed output.new)) result }
+    ensures ends { Ends true (form_of mode) LIMIT (watched R.remaining input.old input.new) (watched W.contents output.old output.new) result }
+    ensures whole { EndsWhole true (form_of mode) LIMIT (watched R.remaining input.old input.new) (watched W.contents output.old output.new) result }
 {
     command(alloc, true, form_of(mode), LIMIT, input, output)
 }
@@ -108,12 +98,8 @@ pub fn check<R: Read, W: Write>(
     input: &mut Watched<R>,
     output: &mut Watched<W>,
 ) -> Result<bool, ToolFault>
-    ensures ends { Ends false (form_of mode) LIMIT
-        (streamed (R.remaining (inner_of input.old)) (R.remaining (inner_of input.new)) (has_failed input.new))
-        (streamed (W.contents (inner_of output.old)) (W.contents (inner_of output.new)) (has_failed output.new)) result }
-    ensures whole { EndsWhole false (form_of mode) LIMIT
-        (streamed (R.remaining (inner_of input.old)) (R.remaining (inner_of input.new)) (has_failed input.new))
-        (streamed (W.contents (inner_of output.old)) (W.contents (inner_of output.new)) (has_failed output.new)) result }
+    ensures ends { Ends false (form_of mode) LIMIT (watched R.remaining input.old input.new) (watched W.contents output.old output.new) result }
+    ensures whole { EndsWhole false (form_of mode) LIMIT (watched R.remaining input.old input.new) (watched W.contents output.old output.new) result }
 {
     command(alloc, false, form_of(mode), LIMIT, input, output)
 }

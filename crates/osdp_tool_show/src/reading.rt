@@ -23,7 +23,7 @@ pub enum Ending {
 
 impl Capture {
     ghost use Rattle.osdp_tool_show.specs.Capture.{load, Follows};
-    ghost use Rattle.osdp_tool_show.specs.Ending.{streamed};
+    ghost use Rattle.osdp_tool_show.specs.Ending.{streamed, watched};
     ghost use Rattle.osdp_tool_show.specs.Works.{ReadTo, ReadPart, Works, Answered};
 
     /// Reads to the end of the input, a bad line, the limit or a failed read.
@@ -79,7 +79,7 @@ impl Capture {
         ensures { (full : Bool) (form : Form) (start : Option (List ℕ))
             → Follows full form start [] self.old (told (W.contents (inner_of output.old)) self.old.report)
             → Works full form limit
-            (streamed (R.remaining (inner_of input.old)) (R.remaining (inner_of input.new)) (has_failed input.new))
+            (watched R.remaining input.old input.new)
             (streamed start (W.contents (inner_of output.new)) (has_failed output.new)) result }
     {
         match self.read_all(limit, input, output)? {

@@ -1,3 +1,5 @@
+ghost use Rattle.std.specs.Prelude.{◌≤◌};
+
 use osdp_words::{
     ByteList, Fields, Record, byte_list, number_u8, number_u16, number_u32, record, vendor,
 };
@@ -79,38 +81,26 @@ fn long_word(rt: &impl Abort, alloc: Global, count: usize) -> String {
     word
 }
 
-/// The room of digits.
-#[test]
-fn fills_a_small_room(rt: HostRuntime) {
-    let word = long_word(&rt, rt.alloc(), 255);
-    let list = byte_list::<255>(word.as_str()).expect(&rt, "digits");
-    assert_eq!(rt; list.len(), 255);
-    let longer = long_word(&rt, rt.alloc(), 256);
-    assert!(rt; byte_list::<255>(longer.as_str()).is_none());
+/// A list with room for `N` bytes reads a word of `N` bytes, and refuses one of a byte more.
+fn fills_room<const N: usize>(rt: &impl Abort, alloc: Global)
+    requires { N ≤ 1432 }
+{
+    let mut word = long_word(rt, alloc, N);
+    let list = byte_list::<N>(word.as_str()).expect(rt, "a list of the word's bytes");
+    assert_eq!(rt; list.len(), N);
+    word.push_str("fE")
+        .ok()
+        .expect(rt, "memory for a byte more");
+    assert!(rt; byte_list::<N>(word.as_str()).is_none());
 }
 
-/// The room of a maker's data.
+/// The rooms of digits, of a maker's data, of a detail and of states.
 #[test]
-fn fills_a_large_room(rt: HostRuntime) {
-    let word = long_word(&rt, rt.alloc(), 1429);
-    let list = byte_list::<1429>(word.as_str()).expect(&rt, "a maker's data");
-    assert_eq!(rt; list.len(), 1429);
-    let longer = long_word(&rt, rt.alloc(), 1430);
-    assert!(rt; byte_list::<1429>(longer.as_str()).is_none());
-}
-
-/// The rooms of a detail and of states.
-#[test]
-fn fills_the_largest_rooms(rt: HostRuntime) {
-    let word = long_word(&rt, rt.alloc(), 1431);
-    let list = byte_list::<1431>(word.as_str()).expect(&rt, "a detail");
-    assert_eq!(rt; list.len(), 1431);
-    let longer = long_word(&rt, rt.alloc(), 1432);
-    assert!(rt; byte_list::<1431>(longer.as_str()).is_none());
-    let list = byte_list::<1432>(longer.as_str()).expect(&rt, "states");
-    assert_eq!(rt; list.len(), 1432);
-    let longest = long_word(&rt, rt.alloc(), 1433);
-    assert!(rt; byte_list::<1432>(longest.as_str()).is_none());
+fn fills_each_room(rt: HostRuntime) {
+    fills_room::<255>(&rt, rt.alloc());
+    fills_room::<1429>(&rt, rt.alloc());
+    fills_room::<1431>(&rt, rt.alloc());
+    fills_room::<1432>(&rt, rt.alloc());
 }
 
 #[test]

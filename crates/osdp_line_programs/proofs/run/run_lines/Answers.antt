@@ -13,7 +13,7 @@ returns-in_err-machine-clause-run g c =
     let run = c.args.run.now in
     let fault = c.in_err-machine.field-0.0 in
     on_err (λ r. Runs is_set_by answers remaining contents run run r) c.from_residual.result fault c.from_residual.ensures.1
-    (unset is_set_by answers remaining contents run fault c.in_err-machine.ensures.none c.requires.input c.requires.output)
+    (unset is_set_by answers remaining contents run fault c.in_err-machine.ensures.none c.requires.unfailed)
 
 pub returns-clause-run : goal.returns-clause-run
 returns-clause-run g c = inr (record {

@@ -3,7 +3,7 @@ use Rattle.osdp_sim_bus.specs.Room.{sites_of}
 use Rattle.osdp_sim_bus.specs.Steps.{changed_site, site_is_busy}
 use Rattle.osdp_sim_bus.specs.declared.site.Site.{Site}
 use Rattle.osdp_sim_bus.proofs.Places.{changed_there, there_within}
-use Rattle.osdp_sim_bus.proofs.simulation.Simulation.set_busy.Goals as goal
+use Rattle.osdp_sim_bus.proofs.simulation.SimulationStepTaker.set_busy.Goals as goal
 
 pub returns-then-is_there : goal.returns-then-is_there
 returns-then-is_there g c =

@@ -1,7 +1,7 @@
 //! The rate that a device changes to, by packets.
 
-use crate::door::new_door;
-use crate::responses::response_to_digits;
+use crate::tests::door::new_door;
+use crate::tests::responses::response_to_digits;
 use osdp_door::Door;
 use osdp_msg::Communication;
 use osdp_reader::Reader;

@@ -3,7 +3,7 @@
 mod damage;
 mod withdrawing;
 
-use crate::identity::config_at;
+use crate::tests::identity::config_at;
 use osdp_controller::*;
 use osdp_frame::{Address, CheckKind, Framer, Item};
 use osdp_msg::{Command, Reply};

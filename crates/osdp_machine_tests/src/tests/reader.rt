@@ -6,8 +6,8 @@
 mod answers;
 mod damage;
 
-use crate::identity::config_at;
-use crate::responses::{response_to, response_to_digits};
+use crate::tests::identity::config_at;
+use crate::tests::responses::{response_to, response_to_digits};
 use arrayvec::ArrayVec;
 use osdp_frame::{Framer, Item};
 use osdp_msg::{Event, Keypad, NakReason};

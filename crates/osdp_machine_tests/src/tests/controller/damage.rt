@@ -1,7 +1,7 @@
 //! Packets with one byte changed.
 
 use super::*;
-use crate::damage::{changed, checked_count};
+use crate::tests::damage::{changed, checked_count};
 use osdp_frame::FrameView;
 use osdp_msg::NakReason;
 use osdp_test_packets::{PACKETS, check_anew};

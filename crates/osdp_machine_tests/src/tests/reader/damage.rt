@@ -1,7 +1,7 @@
 //! Damaged packets.
 
 use super::*;
-use crate::damage::{changed, checked_count};
+use crate::tests::damage::{changed, checked_count};
 use osdp_test_packets::{PACKETS, check_anew};
 
 /// Hands the packets in a run to a reader, and answers how many there were and the last answer.

@@ -2,8 +2,8 @@
 //!
 //! A row has a command and what it is answered, or says what the device sees by itself: what changes, or how much time passes.
 
-use crate::identity::config_at;
-use crate::responses::response_to_digits;
+use crate::tests::identity::config_at;
+use crate::tests::responses::response_to_digits;
 use osdp_door::*;
 use osdp_reader::Reader;
 use osdp_test_packets::is_spelled;
