@@ -1,5 +1,6 @@
 -- A bus, seen as the controllers of several links on one line: what its calls are to them.
 use Rattle.std.specs.Prelude.{◌≡◌, ◌||◌, ℕ, suc, max, true, false, All, ◌==◌, if◌then◌else◌, List, [], ◌∷◌, ◌++◌, map, Option, Some, None, option_to_list}
+use Rattle.osdp_frame.specs.Items.{packets_in}
 use Rattle.osdp_frame.specs.Bytes.{AreBytes}
 use Rattle.osdp_frame.specs.Packet.{Packet}
 use Rattle.osdp_msg.specs.declared.command.Command.{Command}
@@ -17,7 +18,6 @@ use Rattle.osdp_link_laws.specs.Link.{told}
 use Rattle.osdp_link_laws.specs.Peers.{IsPlainlySaid}
 use Rattle.osdp_link_laws.specs.Refusals.{IsNoRefusal}
 use Rattle.osdp_multidrop.specs.Line.{Net, NetMove, Reopen, Site, Submit, Tick, after_net, changed, first_gets, run, site_at, submits}
-use Rattle.osdp_sim.specs.Line.{packets_in}
 
 -- the packets on the line, whoever sent them
 abbrev pub packets_on : List (ℕ × Packet) → List Packet

@@ -3,7 +3,7 @@ use Rattle.std.proofs.Common.{◌≡◌, ◌≤◌, ◌+◌, ◌-◌, ℕ, zero,
 use Rattle.std.proofs.lemmas.List.{length-append}
 use Rattle.std.specs.List.{flat_map}
 use Rattle.std.specs.Prelude.{◌⊎◌, ◌<◌}
-use Rattle.osdp_frame.specs.Items.{reading}
+use Rattle.osdp_frame.specs.Items.{packets_in, reading}
 use Rattle.osdp_frame.specs.Packet.{IsPacket, Packet}
 use Rattle.osdp_frame.specs.Spelling.{spelling}
 use Rattle.osdp_msg.specs.declared.command.Command.{Command}
@@ -27,7 +27,7 @@ use Rattle.osdp_multidrop.proofs.Running.{by_own, holds_all, holds_first}
 use Rattle.osdp_bus_links.specs.Links.{packets_on}
 use Rattle.osdp_sim.proofs.Bursts.{no_packets}
 use Rattle.osdp_sim.proofs.Schedules.{HasCome, begins, first_well, goes_on}
-use Rattle.osdp_sim.specs.Line.{handed, left, packets_in, sent}
+use Rattle.osdp_sim.specs.Line.{handed, left, sent}
 use Rattle.osdp_sim.specs.Steps.{damage_fault, moment_after}
 use Rattle.osdp_sim.specs.declared.step.Move as way
 use Rattle.osdp_sim.specs.declared.step.Move.TheVariants.{Deliver, Drop, Repeat, Damage}

@@ -1,5 +1,6 @@
 -- A round of a bus is a round of the sites whose controllers it has.
 use Rattle.std.proofs.Common.{◌≡◌, ℕ, max, Bool, true, false, if◌then◌else◌, List, [], ◌∷◌, ◌++◌, map, All, Option, Some, None, IfSome, refl, sym, subst, ap, ◌∙◌}
+use Rattle.osdp_frame.specs.Items.{packets_in}
 use Rattle.osdp_frame.specs.Bytes.{AreBytes}
 use Rattle.osdp_frame.specs.Packet.{IsPacket, Packet}
 use Rattle.osdp_frame.specs.Spelling.{spelling}
@@ -20,7 +21,7 @@ use Rattle.osdp_multidrop.specs.Runs.{NetMoveFits, in_front}
 use Rattle.osdp_bus_links.specs.Links.{HearsAsAMove, device_of, packets_on}
 use Rattle.osdp_bus_links.proofs.Telling.{EndsAreTold}
 use Rattle.osdp_bus_links.proofs.Ticks.{Ends, one_ticked}
-use Rattle.osdp_sim.specs.Line.{handed, left, packets_in, sent}
+use Rattle.osdp_sim.specs.Line.{handed, left, sent}
 use Rattle.osdp_sim.specs.Steps.{SaysFit}
 use Rattle.osdp_sim.specs.declared.step.Move.TheVariants.{Deliver}
 use Rattle.osdp_sim.specs.declared.step.SimStep.TheVariants as step

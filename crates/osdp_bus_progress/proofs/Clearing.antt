@@ -6,6 +6,7 @@ use Rattle.std.specs.Option.{option_map_or}
 use Rattle.std.proofs.lemmas.Bool.{le-leb}
 use Rattle.std.proofs.lemmas.List.{length-map}
 use Rattle.std.proofs.lemmas.List.Elements.{All-append, All-cons, All-head, All-nil, All-tail}
+use Rattle.osdp_frame.specs.Items.{packets_in}
 use Rattle.osdp_msg.specs.declared.command.Command.{Command}
 use Rattle.osdp_reader.specs.declared.handler.Answer.{Answer}
 use Rattle.osdp_bus.specs.Machine.{after_next_report}
@@ -15,7 +16,7 @@ use Rattle.osdp_link_laws.specs.Progress.{SetsNoAddress}
 use Rattle.osdp_link_laws.proofs.Lines.{each_all}
 use Rattle.osdp_sim.proofs.Schedules.{holds_on, runs_on, well_on}
 use Rattle.osdp_sim.specs.Account.{Account}
-use Rattle.osdp_sim.specs.Line.{handed, left, packets_in}
+use Rattle.osdp_sim.specs.Line.{handed, left}
 use Rattle.osdp_sim.specs.Rounds.{rounds}
 use Rattle.osdp_sim.specs.declared.step.Move.TheVariants.{Drop}
 use Rattle.osdp_sim.specs.declared.step.SimStep.{SimStep}

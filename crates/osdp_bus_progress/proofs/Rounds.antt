@@ -3,6 +3,7 @@ use Rattle.std.proofs.Common.{◌≡◌, ◌≤◌, ◌<◌, ◌+◌, ◌-◌, �
 use Rattle.std.proofs.lemmas.Bool.Decides.{eqb_tells}
 use Rattle.std.proofs.lemmas.List.{length-map}
 use Rattle.std.specs.Prelude.{slice_get}
+use Rattle.osdp_frame.specs.Items.{packets_in}
 use Rattle.osdp_frame.specs.Packet.{Packet}
 use Rattle.osdp_msg.specs.declared.command.Command.{Command}
 use Rattle.osdp_controller.specs.Machine.{is_due, is_outstanding}
@@ -37,7 +38,7 @@ use Rattle.osdp_multidrop.proofs.Running.{Holds, holds_after}
 use Rattle.osdp_bus_links.specs.Links.{device_of}
 use Rattle.osdp_bus_links.proofs.Devices.{get_device, get_none}
 use Rattle.osdp_bus_links.proofs.Telling.{EndsAreTold}
-use Rattle.osdp_sim.specs.Line.{handed, packets_in}
+use Rattle.osdp_sim.specs.Line.{handed}
 use Rattle.osdp_sim.specs.Rounds.{rounds}
 use Rattle.osdp_sim.specs.Steps.{SaysFit, moment_after}
 use Rattle.osdp_sim.specs.declared.step.Move.TheVariants.{Deliver}

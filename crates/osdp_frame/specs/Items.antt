@@ -1,7 +1,8 @@
 -- The items that bytes decide, one after the other.
 use Rattle.std.specs.Prelude.{ℕ, zero, suc, Bool, true, false, List, [], ◌∷◌, length, drop}
 use Rattle.std.specs.Option.{option_map_or}
-use Rattle.osdp_frame.specs.Reading.{RunItem, item_size, total_size, IsFirst, IsUndecided}
+use Rattle.osdp_frame.specs.Packet.{Packet}
+use Rattle.osdp_frame.specs.Reading.{RunItem, PacketItem, SkippedItem, RefusedItem, item_size, total_size, IsFirst, IsUndecided}
 use Rattle.osdp_frame.specs.Held.{decided}
 
 -- at most `most` of them
@@ -17,6 +18,17 @@ items ended bytes = items_within (length bytes) ended bytes
 -- the reading of a run, as a function of it
 abbrev pub reading : List ℕ → List RunItem
 reading run = items true run
+
+-- the packets among the items of a reading, in their order
+abbrev pub whole_packets : List RunItem → List Packet
+whole_packets [] = []
+whole_packets (PacketItem p ∷ parts) = p ∷ whole_packets parts
+whole_packets (SkippedItem b ∷ parts) = whole_packets parts
+whole_packets (RefusedItem fault ∷ parts) = whole_packets parts
+
+-- the packets in a run of bytes
+abbrev pub packets_in : List ℕ → List Packet
+packets_in run = whole_packets (reading run)
 
 -- what is left after the items that bytes decide in a run that goes on
 unfoldable pub left_over : List ℕ → List ℕ

@@ -10,7 +10,7 @@ ghost use Rattle.osdp_frame.specs.Spelling.{Spells, spelling};
 ghost use Rattle.osdp_frame.specs.Reading.{IsFirst, IsReading, IsUndecided, RunItem, Stands, PacketItem, total_size};
 ghost use Rattle.osdp_frame_laws.specs.Calls.{Call, IsAfter, IsOfBytes, ReadsEachRun, ReadsOn, Run, after_call, empty_run};
 ghost use Rattle.osdp_frame.specs.Held.{Held, after_advance, after_push, decided, new_run, taken_count};
-ghost use Rattle.osdp_frame.specs.Items.{Drains, items, left_over, reading};
+ghost use Rattle.osdp_frame.specs.Items.{Drains, items, left_over, packets_in, reading};
 ghost use Rattle.osdp_frame.specs.Silence.{ChangesAtGap, is_silent_for};
 
 use osdp_frame::{MAX_BODY, MAX_PACKET};
@@ -77,6 +77,16 @@ pub fn rest_of_reading()
 pub fn reading_of_spelling()
     ensures { (p : Packet) (bytes : List ℕ) → Spells p bytes → IsReading bytes (PacketItem p ∷ []) }
 {}
+
+/// A run that spells a packet holds this packet alone, and no bytes hold none.
+pub fn reads_packets()
+    ensures none { packets_in [] ≡ [] }
+    ensures one { (p : Packet) (bytes : List ℕ) → Spells p bytes → packets_in bytes ≡ p ∷ [] }
+{
+    one_reading();
+    reading_of_spelling();
+    spelling_of_bytes();
+}
 
 /// Bytes decide the first item exactly where it stands first in every run that begins with them, or in
 /// the run that is them; else it depends on bytes to come.

@@ -5,7 +5,7 @@ use Rattle.std.proofs.lemmas.List.{take_all}
 use Rattle.std.specs.Prelude.{option_map}
 use Rattle.arrayvec.specs.ArrayVec.{ArrayVec}
 use Rattle.osdp_frame.specs.Held.{after_gap, after_push, by_itself, decided, new_run}
-use Rattle.osdp_frame.specs.Items.{items, reading}
+use Rattle.osdp_frame.specs.Items.{items, packets_in, reading, whole_packets}
 use Rattle.osdp_frame.specs.Packet.{Packet, largest}
 use Rattle.osdp_frame.specs.Reading.{RunItem, PacketItem, SkippedItem, RefusedItem, IsFirst}
 use Rattle.osdp_frame.specs.Shown.{item_of}
@@ -14,7 +14,7 @@ use Rattle.osdp_frame.specs.declared.fault.FrameFault.{FrameFault}
 use Rattle.osdp_frame.specs.declared.item.Item.{Item}
 use Rattle.osdp_frame.specs.declared.item.Item.TheVariants as shown
 use Rattle.osdp_reader.specs.Spelled.{IsSpelled}
-use Rattle.osdp_sim.specs.Line.{bytes_of, handed, has_packet, packets_in, sent, whole_packets}
+use Rattle.osdp_sim.specs.Line.{bytes_of, handed, has_packet, sent}
 use Rattle.osdp_sim.specs.Steps.{damage_fault}
 use Rattle.osdp_sim.specs.declared.fault.Cause.TheVariants.{HoldsPacket}
 use Rattle.osdp_sim.specs.declared.step.Move.{Move}

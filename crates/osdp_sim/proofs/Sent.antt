@@ -1,6 +1,7 @@
 -- What is on the line is sent by an end, whatever step comes.
 use Rattle.std.proofs.Common.{ℕ, Bool, true, false, ◌==◌, if◌then◌else◌, All, List, [], ◌∷◌, length, Option, Some, None, IfSome}
 use Rattle.std.proofs.lemmas.List.Elements.{All-append, All-cons, All-nil, All-tail}
+use Rattle.osdp_frame.specs.Items.{packets_in}
 use Rattle.osdp_frame.specs.Packet.{IsPacket, Packet}
 use Rattle.osdp_frame.specs.Spelling.{Spells, spelling}
 use Rattle.osdp_msg.specs.declared.command.Command.{Command}
@@ -14,7 +15,7 @@ use Rattle.osdp_sim.specs.declared.step.Move.{Move}
 use Rattle.osdp_sim.specs.declared.step.Move.TheVariants.{Deliver, Drop, Repeat, Damage}
 use Rattle.osdp_sim.specs.declared.step.SimStep.{SimStep}
 use Rattle.osdp_sim.specs.declared.step.SimStep.TheVariants.{Issue, Queue, Busy, Wait, ToReader, ToController, Reopen}
-use Rattle.osdp_sim.specs.Line.{IsSent, handed, left, packets_in, sent}
+use Rattle.osdp_sim.specs.Line.{IsSent, handed, left, sent}
 use Rattle.osdp_sim.specs.State.{AreSent, SimState}
 use Rattle.osdp_sim.specs.Steps.{SaysFit, StepFits, after_step, controller_hears, issued, moment_after, queued, reader_hears}
 

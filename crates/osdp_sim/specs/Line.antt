@@ -8,17 +8,6 @@ use Rattle.osdp_frame.specs.Spelling.{Spells, spelling}
 use Rattle.osdp_sim.specs.declared.step.Move.{Move}
 use Rattle.osdp_sim.specs.declared.step.Move.TheVariants.{Deliver, Drop, Repeat, Damage}
 
--- the packets among the items of a reading, in their order
-abbrev pub whole_packets : List RunItem → List Packet
-whole_packets [] = []
-whole_packets (PacketItem p ∷ parts) = p ∷ whole_packets parts
-whole_packets (SkippedItem b ∷ parts) = whole_packets parts
-whole_packets (RefusedItem fault ∷ parts) = whole_packets parts
-
--- the packets in a run of bytes
-abbrev pub packets_in : List ℕ → List Packet
-packets_in run = whole_packets (reading run)
-
 -- whether a packet is among the items
 abbrev pub has_packet : List RunItem → Bool
 has_packet [] = false

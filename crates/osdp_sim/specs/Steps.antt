@@ -1,5 +1,6 @@
 -- The steps of a schedule.
 use Rattle.std.specs.Prelude.{ℕ, ◌+◌, ◌-◌, ◌^◌, ◌==◌, min, Bool, true, false, not, ◌&&◌, List, [], ◌∷◌, ◌++◌, length, Option, Some, None, IfSome, if◌then◌else◌}
+use Rattle.osdp_frame.specs.Items.{packets_in}
 use Rattle.osdp_frame.specs.Packet.{IsPacket, Packet}
 use Rattle.osdp_msg.specs.CommandTable.{CommandFits}
 use Rattle.osdp_msg.specs.ReplyTable.{ReplyFits}
@@ -21,7 +22,7 @@ use Rattle.osdp_sim.specs.declared.step.Move.TheVariants.{Damage}
 use Rattle.osdp_sim.specs.declared.step.SimStep.{SimStep}
 use Rattle.osdp_sim.specs.declared.step.SimStep.TheVariants.{Issue, Queue, Busy, Wait, ToReader, ToController, Reopen}
 use Rattle.osdp_sim.specs.Account.{taken_by, with_issued, with_queued, with_report, with_session, with_taken}
-use Rattle.osdp_sim.specs.Line.{handed, holds_packet, left, packets_in, sent}
+use Rattle.osdp_sim.specs.Line.{handed, holds_packet, left, sent}
 use Rattle.osdp_sim.specs.State.{SimState}
 
 -- so much later, and the last moment that there is where it would lie after that

@@ -24,7 +24,6 @@ mod account;
 mod config;
 mod fault;
 pub mod hearing;
-pub mod laws;
 pub mod line;
 pub mod running;
 mod schedule;

@@ -2,13 +2,13 @@
 
 ghost use Rattle.std.specs.Prelude.{◌≡◌, ◌<◌, ◌≤◌, ◌+◌, ◌++◌, ◌∷◌, All, [], IfSome, None, option_to_list};
 ghost use Rattle.std.specs.VecDeque.{deque_capacity, deque_len};
+ghost use Rattle.osdp_frame.specs.Items.{packets_in};
 ghost use Rattle.osdp_frame.specs.Spelling.{Spells};
-ghost use Rattle.osdp_sim.specs.Line.{IsSent, bytes_of, handed, holds_packet, left, packets_in};
+ghost use Rattle.osdp_sim.specs.Line.{IsSent, bytes_of, handed, holds_packet, left};
 ghost use Rattle.osdp_sim.specs.Steps.{damage_fault};
 ghost use Rattle.osdp_sim.specs.declared.fault.Cause.TheVariants.{HoldsPacket};
 
 use crate::fault::Cause;
-use crate::laws::reads_packets;
 use crate::step::Move;
 use osdp_frame::{Burst, FrameView, Framer, Item, whole_item};
 use std::collections::VecDeque;
@@ -70,7 +70,7 @@ pub fn handed_packet<'a>(line: &'a VecDeque<Burst>, way: &Move) -> Option<FrameV
     requires sent { All IsSent (bytes_of line.now.items) }
     ensures { packets_in (handed way.now (bytes_of line.now.items)) ≡ option_to_list result }
 {
-    reads_packets();
+    osdp_frame_laws::reads_packets();
     match way {
         Move::Deliver | Move::Repeat => {
             let burst = line.front()?;

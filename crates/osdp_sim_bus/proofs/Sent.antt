@@ -3,6 +3,7 @@ use Rattle.std.proofs.Common.{ℕ, ◌-◌, Bool, true, false, if◌then◌else�
 use Rattle.std.proofs.lemmas.List.Elements.{All-append, All-cons, All-head, All-nil, All-tail}
 use Rattle.std.proofs.lemmas.List.Concat.{flat_map-cons}
 use Rattle.std.specs.List.{flat_map}
+use Rattle.osdp_frame.specs.Items.{packets_in}
 use Rattle.osdp_frame.specs.Packet.{Packet}
 use Rattle.osdp_msg.specs.declared.command.Command.{Command}
 use Rattle.osdp_controller.specs.declared.report.Report.{Report}
@@ -11,7 +12,7 @@ use Rattle.osdp_reader.specs.Table as reader
 use Rattle.osdp_bus.specs.Machine.{after_next_report, submit_refusal_at}
 use Rattle.osdp_bus.specs.Ticking.{bus_ticks}
 use Rattle.osdp_bus.specs.declared.fault.BusFault.{BusFault}
-use Rattle.osdp_sim.specs.Line.{IsSent, handed, left, packets_in, sent}
+use Rattle.osdp_sim.specs.Line.{IsSent, handed, left, sent}
 use Rattle.osdp_sim.specs.Steps.{SaysFit, moment_after}
 use Rattle.osdp_sim.specs.declared.step.SimStep.{SimStep}
 use Rattle.osdp_sim.specs.declared.step.SimStep.TheVariants.{Issue, Queue, Busy, Wait, ToReader, ToController, Reopen}

@@ -11,7 +11,8 @@ use Rattle.osdp_bus.specs.Machine.{after_next_report, device_begins, device_subm
 use Rattle.osdp_bus.specs.declared.device.Device.{Device}
 use Rattle.osdp_bus.specs.declared.fault.BusFault.{BusFault}
 use Rattle.std.specs.Prelude.{max}
-use Rattle.osdp_sim.specs.Line.{handed, left, packets_in}
+use Rattle.osdp_frame.specs.Items.{packets_in}
+use Rattle.osdp_sim.specs.Line.{handed, left}
 use Rattle.osdp_sim.specs.Steps.{moment_after}
 use Rattle.osdp_sim.specs.declared.step.SimStep.{SimStep}
 use Rattle.osdp_sim.specs.declared.step.SimStep.TheVariants.{Issue, Queue, Busy, Wait, ToReader, ToController, Reopen}

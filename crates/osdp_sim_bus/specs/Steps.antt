@@ -2,6 +2,7 @@
 use Rattle.std.specs.Prelude.{ℕ, ◌-◌, ◌==◌, nat_le, Bool, true, false, not, ◌&&◌, All, List, [], ◌∷◌, ◌++◌, length, map, Option, Some, None, IfSome, slice_get, slice_set, if◌then◌else◌}
 use Rattle.std.specs.List.{flat_map}
 use Rattle.std.specs.Option.{option_map_or}
+use Rattle.osdp_frame.specs.Items.{packets_in}
 use Rattle.osdp_frame.specs.Bytes.{AreBytes}
 use Rattle.osdp_frame.specs.Packet.{IsPacket, Packet}
 use Rattle.osdp_msg.specs.CommandTable.{CommandFits}
@@ -18,7 +19,7 @@ use Rattle.osdp_bus.specs.Machine.{after_begin_at, after_next_report, after_subm
 use Rattle.osdp_bus.specs.Ticking.{BusTicked, bus_ticks}
 use Rattle.osdp_bus.specs.declared.fault.BusFault.{BusFault}
 use Rattle.osdp_sim.specs.Account.{taken_by, with_issued, with_queued, with_report, with_session, with_taken}
-use Rattle.osdp_sim.specs.Line.{handed, left, packets_in, sent}
+use Rattle.osdp_sim.specs.Line.{handed, left, sent}
 use Rattle.osdp_sim.specs.Steps.{SaysFit, fault_by, moment_after}
 use Rattle.osdp_sim.specs.declared.fault.Cause.{Cause}
 use Rattle.osdp_sim.specs.declared.step.Move.{Move}

@@ -19,7 +19,7 @@ pub fn schedules_are_moves<H: Handler>()
     ensures schedules { SchedulesAreMoves H.answer_of H.after }
     ensures set_up { BeginsAsSites H }
 {
-    osdp_sim::laws::reads_packets();
+    osdp_frame_laws::reads_packets();
     osdp_frame_laws::one_spelling();
     osdp_frame_laws::spelling_of_bytes();
     osdp_bus_links::calls_are_moves::<H>();

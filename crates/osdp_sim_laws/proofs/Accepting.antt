@@ -3,6 +3,7 @@ use Rattle.std.proofs.Common.{◌≡◌, ◌⊎◌, ◌≤◌, ◌+◌, ◌-◌,
 use Rattle.std.proofs.lemmas.Bool.{lt-ltb}
 use Rattle.std.proofs.lemmas.Bool.Decides.{eqb_tells, leb_tells}
 use Rattle.std.proofs.lemmas.List.{append-nil, length-append, take_all}
+use Rattle.osdp_frame.specs.Items.{packets_in}
 use Rattle.osdp_frame.specs.Packet.{Packet, next_sequence}
 use Rattle.osdp_msg.specs.declared.command.Command.{Command}
 use Rattle.osdp_msg.specs.declared.command.Command.TheVariants as command
@@ -27,7 +28,7 @@ use Rattle.osdp_reader.specs.declared.kind.Kind.TheVariants as kind
 use Rattle.osdp_link_laws.specs.Headline.{IsBeginning}
 use Rattle.osdp_link_laws.proofs.Lines.{both}
 use Rattle.osdp_sim.specs.Account.{Account}
-use Rattle.osdp_sim.specs.Line.{handed, left, packets_in}
+use Rattle.osdp_sim.specs.Line.{handed, left}
 use Rattle.osdp_sim.specs.Runs.{Stops, run}
 use Rattle.osdp_sim.specs.State.{SimState, set_up}
 use Rattle.osdp_sim.specs.Steps as steps

@@ -1,6 +1,7 @@
 -- Each session that has ended has one end.
 use Rattle.std.proofs.Common.{◌≡◌, ◌+◌, Bool, true, false, not, ◌&&◌, ◌||◌, ◌==◌, if◌then◌else◌, arith, List, [], ◌∷◌, length, Option, Some, None, refl, ap, ◌∙◌}
 use Rattle.std.proofs.lemmas.List.{length-append}
+use Rattle.osdp_frame.specs.Items.{packets_in}
 use Rattle.osdp_frame.specs.Packet.{Packet}
 use Rattle.osdp_msg.specs.declared.command.Command.{Command}
 use Rattle.osdp_msg.specs.declared.event.Event.{Event}
@@ -19,7 +20,7 @@ use Rattle.osdp_reader.specs.declared.handler.Answer.{Answer as HandlerAnswer}
 use Rattle.osdp_link_laws.specs.Ends.{count}
 use Rattle.osdp_sim.proofs.Schedules.{first_well}
 use Rattle.osdp_sim.specs.Account.{Account, lengths_of, with_report}
-use Rattle.osdp_sim.specs.Line.{handed, packets_in}
+use Rattle.osdp_sim.specs.Line.{handed}
 use Rattle.osdp_sim.specs.Runs.{is_well, run}
 use Rattle.osdp_sim.specs.State.{SimState}
 use Rattle.osdp_sim.specs.Steps as steps

@@ -1,5 +1,6 @@
 -- What the laws of accounts stand on: how packets are read, and the theory of one link.
 use Rattle.std.specs.Prelude.{◌≡◌, ℕ, [], ◌∷◌}
+use Rattle.osdp_frame.specs.Items.{packets_in}
 use Rattle.osdp_frame.specs.Packet.{IsPacket, Packet}
 use Rattle.osdp_frame.specs.Spelling.{spelling}
 use Rattle.osdp_msg.specs.declared.command.Command.{Command}
@@ -9,7 +10,6 @@ use Rattle.osdp_reader.specs.declared.handler.Answer.{Answer}
 use Rattle.osdp_link_laws.specs.Headline.{HoldsOnce}
 use Rattle.osdp_link_laws.specs.Refusals.{RefusesNoNumber}
 use Rattle.osdp_link_laws.specs.Sessions.{CommandsHavePlaces, EventsHavePlaces, LastOneLasts, StayInARow}
-use Rattle.osdp_sim.specs.Line.{packets_in}
 
 -- a packet that goes over the line is read as it is, and where nothing comes through nothing is read
 pub record ReadsPackets : Type 0 where

@@ -14,7 +14,7 @@ use osdp_reader::Handler;
 fn stands_on_one_link<H: Handler>()
     ensures { OneLink H.answer_of H.after }
 {
-    osdp_sim::laws::reads_packets();
+    osdp_frame_laws::reads_packets();
     osdp_frame_laws::one_spelling();
     osdp_link_laws::holds_once::<H>();
     osdp_link_laws::sessions_in_a_row::<H>();

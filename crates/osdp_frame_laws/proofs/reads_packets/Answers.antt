@@ -1,12 +1,11 @@
-use Rattle.std.proofs.Common.{[], ◌∷◌, ap}
-use Rattle.osdp_frame.specs.Items.{reading}
+use Rattle.std.proofs.Common.{[], ◌∷◌, ap, refl}
+use Rattle.osdp_frame.specs.Items.{items, reading, whole_packets}
 use Rattle.osdp_frame.specs.Reading.{PacketItem}
-use Rattle.osdp_sim.specs.Line.{whole_packets}
-use Rattle.osdp_sim.proofs.Bursts.{no_bytes}
-use Rattle.osdp_sim.proofs.laws.reads_packets.Goals as goal
+use Rattle.osdp_frame_laws.proofs.reads_packets.Goals as goal
 
 pub returns-clause-none : goal.returns-clause-none
-returns-clause-none c = no_bytes
+unfolding items
+returns-clause-none c = refl
 
 pub returns-clause-one : goal.returns-clause-one
 returns-clause-one c p bytes spells =
