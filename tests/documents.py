@@ -4,18 +4,18 @@
 - Each call, law, clause, definition and file that the tables of docs/PROOFS.md name stands in the crates that the section's heading names.
 - Each public law stands in the section of its crate. A law is a public function that gives nothing and changes nothing.
 - Each path that README names is there, and a law that stands in one row with a path is a law of that file.
-- docs/ARCHITECTURE.md has a row for each crate of crates.txt. Each file of a crate that its tables name is there, and each definition.
-  Each file of src/ and specs/ is named once.
+- docs/ARCHITECTURE.md has the picture and the table that tools/map makes of crates.txt. Each definition that it names is there.
+  Each file of src/ and specs/, but for tests, says at its head what it holds.
 - Each block of code of README and of docs/GUIDE.md is text of the file that the line above it names. Each topic that docs/PROFILE.md names is one of
   docs/PROTOCOL.md, and each topic there that has a choice of our own is named.
 - docs/PROFILE.md calls whole those codes that docs/PROTOCOL.md has in its tables of messages, and gives no code two rows.
-- The picture of docs/ARCHITECTURE.md has each crate but those of tests, and its arrows are those of crates.txt. Each picture of an exchange in
-  docs/PROTOCOL.md has the steps of the script named above it, whose account examples.sh compares with a run, and tells that account.
+- Each picture of an exchange in docs/PROTOCOL.md has the steps of the script named above it, whose account examples.sh compares with a run, and tells that account.
 - docs/PROTOCOL.md and man/osdp.1 have each text that the program prints on standard error.
 - Each crate, script and folder that any page names is there; a name with `osdp_` may be one of the header for C too.
 - No page, manual page or script says "behind" or "want of memory".
-- README has at most 120 lines of at most 120 characters, docs/DEVELOPING.md at most 200 lines, and no row of a table more than 200 characters."""
+- README has at most 120 lines of at most 120 characters, docs/DEVELOPING.md at most 120, docs/ARCHITECTURE.md at most 300, and no row of a table more than 200 characters."""
 import re
+import runpy
 import sys
 from pathlib import Path
 
@@ -24,7 +24,6 @@ LAW = re.compile(r"^pub fn (\w+)(.*?)(?=^    (?:ensures|requires)|^{)", re.M | r
 NAMED = re.compile(r"(laws?|clauses?)?\s*`([^`]+)`")
 WORD = re.compile(r"\w+")
 faults = []
-named_files = []
 
 
 def crates():
@@ -77,30 +76,6 @@ def judge_row(heading, cell, known_laws, words, files):
             faults.append(f"docs/PROOFS.md, {heading}: there is no law {name}")
         elif not all(word in words for word in WORD.findall(name)):
             faults.append(f"docs/PROOFS.md, {heading}: {name} is not in {', '.join(files)}")
-
-
-def uses():
-    """The crates that each crate of crates.txt uses, by itself or by what it uses."""
-    lines = [line.split("#")[0] for line in (TOP / "crates.txt").read_text().splitlines()]
-    below = {line.split(":")[0].split()[0]: set(line.split(":")[1].split()) for line in lines if ":" in line}
-    for _ in below:
-        for used in below.values():
-            used.update(*(below.get(one, ()) for one in list(used)))
-    return {crate: used & below.keys() for crate, used in below.items()}
-
-
-def judge_layers():
-    """docs/ARCHITECTURE.md: the picture of the crates has each crate but those of tests, and an arrow wherever no other crate stands between."""
-    below = {crate: used for crate, used in uses().items() if not crate.endswith("_tests")}
-    wanted = {
-        (crate, used) for crate in below for used in below[crate] if not any(used in below[between] for between in below[crate])
-    }
-    text = (TOP / "docs/ARCHITECTURE.md").read_text()
-    picture = re.search(r"```mermaid\n(flowchart.*?)```", text, re.S)
-    drawn = set(re.findall(r"(\w+) --> (\w+)", picture[1])) if picture else set()
-    for crate, used in sorted(wanted ^ drawn):
-        is_missing = (crate, used) in wanted
-        faults.append(f"docs/ARCHITECTURE.md: the picture {'lacks' if is_missing else 'has'} {crate} --> {used}")
 
 
 def moves_drawn(picture):
@@ -170,70 +145,30 @@ def judge_readme():
                     faults.append(f"README.md: {name} is not in {path}")
 
 
-def stems(crate, folder):
-    """The names of a crate's files in this folder."""
-    return {file.stem for file in (TOP / "crates" / crate / folder).rglob("*.antt")}
-
-
-def judge_files(crate, folder, cell):
-    """Looks up the files of a crate that a cell names."""
-    known = stems(crate, folder)
-    for name in re.findall(r"`(\w+)`", cell):
-        named_files.append((crate, folder, name))
-        if name not in known:
-            faults.append(f"docs/ARCHITECTURE.md: {crate} has no file {name} in {folder}/")
-
-
-def judge_map(heading, body):
-    """Looks up the files that the part of one crate names, or of several crates, one a row."""
-    crate, folder = (re.findall(r"`(\w+)`", heading) or [None])[0], None
-    for cells in rows(body):
-        named = re.search(r"File of `(\w+)/`", " ".join(cells[:2]))
-        if named:
-            folder = named[1]
-        elif folder and crate:
-            judge_files(crate, folder, cells[0])
-        elif folder:
-            judge_files(cells[0].strip("`"), folder, cells[1])
-    for name in re.findall(r"`(\w+)` of `specs/` s", body):
-        judge_files(crate, "specs", f"`{name}`")
-    for name in re.findall(r"`proofs/(\w+)`", body):
-        judge_files(crate, "proofs", f"`{name}`")
-
-
-def judge_coverage(all_crates, text):
-    """docs/ARCHITECTURE.md: each file of specs/, but for the lists of modules, and each file of src/ is named once."""
-    part = text[text.index("## Files of `src/`"):] if "## Files of `src/`" in text else ""
-    told = [(cells[0].strip("`"), "src", cells[1].strip("`").removeprefix("src/")) for cells in rows(part)][1:]
-    told += [file for file in named_files if file[1] == "specs"]
-    there = set()
-    for crate in all_crates:
-        source = TOP / "crates" / crate / "src"
-        there |= {(crate, "src", str(file.relative_to(source))) for file in source.rglob("*.rt")}
-        there |= {(crate, "specs", stem) for stem in stems(crate, "specs") - {"Lib"}}
-    for file in sorted(there | set(told)):
-        if told.count(file) != (file in there):
-            faults.append(f"docs/ARCHITECTURE.md: {' '.join(file)} is named {told.count(file)} times")
-
-
 def judge_architecture(all_crates):
-    """docs/ARCHITECTURE.md: a row for each crate; its files and definitions are there."""
+    """docs/ARCHITECTURE.md: the picture and the table of the crates are those of the tree; the definitions that it names are there."""
     text = (TOP / "docs/ARCHITECTURE.md").read_text()
-    firsts = " ".join(cells[0] for cells in rows(text))
-    for crate in all_crates:
-        if f"`{crate}`" not in firsts:
-            faults.append(f"docs/ARCHITECTURE.md: no row for {crate}")
-    for part in re.split(r"^### ", text, flags=re.M)[1:]:
-        heading, _, body = part.split("\n## ")[0].partition("\n")
-        judge_map(heading, body)
-    judge_coverage(all_crates, text)
+    tool = runpy.run_path(str(TOP / "tools/map"))
+    if tool["page_text"]() != text:
+        faults.append("docs/ARCHITECTURE.md: the picture or the table of the crates is an old one (tools/map --write)")
     for cells in rows(text):
         if len(cells) == 4:
             named = [crate for crate in re.findall(r"`(\w+)`", cells[0]) if crate in all_crates]
-            known = {name for crate in named for name in WORD.findall(sources(crate, "specs")) + list(stems(crate, "specs"))}
+            stems = [file.stem for crate in named for file in (TOP / "crates" / crate / "specs").rglob("*.antt")]
+            known = {name for crate in named for name in WORD.findall(sources(crate, "specs")) + stems}
             for name in re.findall(r"`(\w+)`", cells[3]):
                 if name not in known:
                     faults.append(f"docs/ARCHITECTURE.md: {name} is no definition of {', '.join(named)}")
+
+
+def judge_heads(all_crates):
+    """Each file of src/ and specs/, but for tests, begins with a sentence that says what it holds, which `tools/map CRATE` prints."""
+    tool = runpy.run_path(str(TOP / "tools/map"))
+    for crate in [name for name in all_crates if not name.endswith("_tests")]:
+        for file in sorted((TOP / "crates" / crate).rglob("*")):
+            folder = file.relative_to(TOP / "crates" / crate).parts[0]
+            if folder in ("src", "specs") and file.suffix in (".rt", ".antt") and file.stem != "Lib" and not tool["head"](file):
+                faults.append(f"{file.relative_to(TOP)}: its head doesn't say what it holds")
 
 
 def judge_protocol():
@@ -340,8 +275,9 @@ def judge_lengths():
     readme = (TOP / "README.md").read_text().splitlines()
     if len(readme) > 120 or max(map(len, readme)) > 120:
         faults.append("README.md: more than 120 lines, or a line of more than 120 characters")
-    if len((TOP / "docs/DEVELOPING.md").read_text().splitlines()) > 200:
-        faults.append("docs/DEVELOPING.md: more than 200 lines")
+    for page, most in (("docs/DEVELOPING.md", 120), ("docs/ARCHITECTURE.md", 300)):
+        if len((TOP / page).read_text().splitlines()) > most:
+            faults.append(f"{page}: more than {most} lines")
 
 
 if __name__ == "__main__":
@@ -349,7 +285,7 @@ if __name__ == "__main__":
     judge_proofs(every)
     judge_readme()
     judge_architecture(every)
-    judge_layers()
+    judge_heads(every)
     judge_exchanges()
     judge_protocol()
     judge_code("README.md")

@@ -1,5 +1,4 @@
-//! Tests of `osdp_sim_bus`: schedules over a line with several readers, each with the accounts that were worked out by hand, and readers
-//! that are refused.
+//! Tests of `osdp_sim_bus`: schedules over a line with several readers, with accounts worked out by hand, and readers that are refused.
 #![tactic(auto)]
 
 #[cfg(test)]
