@@ -103,13 +103,15 @@ def judge_exchanges():
     for name, picture in named:
         if "participant" in picture:
             continue  # of several readers: `turns.py` holds it to a run
-        steps = (TOP / f"examples/{name}.script").read_text().split("clean 0\n")[1].splitlines()
+        lines = (TOP / f"examples/{name}.script").read_text().splitlines()
+        begins = lines.index("clean 0") + 1 if "clean 0" in lines else next(at for at, line in enumerate(lines) if line.startswith("wait"))
+        steps = lines[begins:]
         account = (TOP / f"examples/{name}.account").read_text().splitlines()[1:]
         if moves_drawn(picture) != steps:
             faults.append(f"docs/PROTOCOL.md: the picture of {name} shows other steps")
-        if re.findall(r"Note over \w+: ((?:taken|settled|unsettled|reported) .*)", picture) != account:
+        if re.findall(r"Note over \w+: ((?:taken|settled|unsettled|reported|ended) .*)", picture) != account:
             faults.append(f"docs/PROTOCOL.md: the picture of {name} tells another account")
-    if len(named) < 2:
+    if len(named) < 5:
         faults.append("docs/PROTOCOL.md: pictures of exchanges are not there")
 
 
