@@ -1,0 +1,5 @@
+pub mod Known
+pub mod Saying
+pub mod Panel
+pub mod Reader
+pub mod Line
