@@ -1,8 +1,5 @@
 -- The rules over a whole line: what is known after each item, and what is found in it.
-use Rattle.std.specs.Prelude.{ℕ, ◌==◌, ◌+◌, Bool, true, false, ◌||◌, nat_lt, if◌then◌else◌, List, [], ◌∷◌, Option, None, Some}
-use Rattle.osdp_controller.specs.Answers.{meaning_of}
-use Rattle.osdp_controller.specs.declared.meaning.ReplyMeaning.{ReplyMeaning}
-use Rattle.osdp_controller.specs.declared.meaning.ReplyMeaning.TheVariants.{NumberRefused}
+use Rattle.std.specs.Prelude.{ℕ, ◌==◌, ◌+◌, Bool, ◌||◌, nat_lt, if◌then◌else◌, List, [], ◌∷◌, Option, None, Some}
 use Rattle.osdp_frame.specs.Packet.{Packet}
 use Rattle.osdp_frame.specs.declared.check_kind.CheckKind.TheVariants.{Sum}
 use Rattle.osdp_frame.specs.Reading.{RunItem, PacketItem, SkippedItem, RefusedItem, smallest}
@@ -14,7 +11,7 @@ use Rattle.osdp_monitor.specs.declared.found.Notice.TheVariants.{Opened, Moved, 
 use Rattle.osdp_monitor.specs.Known.{Known, nothing_known}
 use Rattle.osdp_monitor.specs.Panel.{after_sent, is_missed, panel_accused}
 use Rattle.osdp_monitor.specs.Reader.{after_reply, is_opening, reader_accused}
-use Rattle.osdp_monitor.specs.Saying.{asked, is_foreign, moved_by, told}
+use Rattle.osdp_monitor.specs.Saying.{asked, is_foreign, is_refusal, moved_by, said, told}
 
 -- what is known of each address, and how many bytes in a row were no packet: fewer than the smallest packet has
 pub record Knowledge : Type 0 where
@@ -91,14 +88,10 @@ abbrev pub found_in_sent : Known → Packet → Found
 found_in_sent k p =
     record { accusation = panel_accused k.last k p; notice = notice_if (is_missed k.last k) Unanswered }
 
-abbrev pub is_restart : ReplyMeaning → Bool
-is_restart NumberRefused = true
-is_restart _ = false
-
 abbrev pub reply_notice : Option ℕ → Known → Packet → Packet → Option Notice
 reply_notice (Some moved) k p r = Some (Moved moved)
 reply_notice None k p r =
-    if is_restart (meaning_of r) then Some Restarted else notice_if (is_opening k p r) Opened
+    if is_refusal (said r) then Some Restarted else notice_if (is_opening k p r) Opened
 
 abbrev pub found_in_reply : Option Packet → Known → Packet → Found
 found_in_reply None k r = nothing_found

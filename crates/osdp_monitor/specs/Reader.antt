@@ -1,8 +1,5 @@
 -- The rules of the reader: how the last packet to its address may be answered.
 use Rattle.std.specs.Prelude.{ℕ, ◌==◌, Bool, true, false, ◌&&◌, ◌||◌, not, is_some, if◌then◌else◌, Option, None, Some, Result, Ok, Err}
-use Rattle.osdp_controller.specs.Answers.{meaning_of}
-use Rattle.osdp_controller.specs.declared.meaning.ReplyMeaning.{ReplyMeaning}
-use Rattle.osdp_controller.specs.declared.meaning.ReplyMeaning.TheVariants.{NotTaken, Damaged, NumberRefused, Plain, Unreadable}
 use Rattle.osdp_frame.specs.Packet.{Packet, next_sequence}
 use Rattle.osdp_msg.specs.declared.command.Command.{Command}
 use Rattle.osdp_msg.specs.declared.command.Command.TheVariants.{Poll}
@@ -13,7 +10,9 @@ use Rattle.osdp_msg.specs.Fitting.{reply_fits}
 use Rattle.osdp_monitor.specs.declared.accusation.Accusation.{Accusation}
 use Rattle.osdp_monitor.specs.declared.accusation.Accusation.TheVariants.{SecondReply, AnotherNumber, AnotherCheck, BusyToRepeat, RefusedZero, AnotherReply, TakenOutOfTurn, UnreadReply, UnfitReply, EventAtZero}
 use Rattle.osdp_monitor.specs.Known.{Known, is_number, same_check, same_packet}
-use Rattle.osdp_monitor.specs.Saying.{answers, asked}
+use Rattle.osdp_monitor.specs.declared.said.Said.{Said}
+use Rattle.osdp_monitor.specs.declared.said.Said.TheVariants.{Busy, Damage, Refusal, Answer}
+use Rattle.osdp_monitor.specs.Saying.{asked, is_answer, is_damage, said, told}
 
 -- the reply that the packet must have, where it is known to be a repeat: it has the number taken last, which isn't 0
 abbrev pub repeat_reply : Known → Packet → Option Packet
@@ -53,45 +52,38 @@ fit_accused (Ok command) reply sequence =
     else if is_event_at_zero command reply sequence then Some EventAtZero
     else None
 
-abbrev pub reading_accused : ReplyMeaning → Packet → Option Accusation
-reading_accused (Plain reply) p = fit_accused (asked p) reply p.sequence
-reading_accused (Unreadable code) p = Some UnreadReply
-reading_accused _ p = None
+abbrev pub reading_accused : Result Reply MsgFault → Packet → Option Accusation
+reading_accused (Ok reply) p = fit_accused (asked p) reply p.sequence
+reading_accused (Err fault) p = Some UnreadReply
 
 -- the packet was taken now, as a new one
-abbrev pub taken_accused : ReplyMeaning → Packet → Packet → Option Accusation
-taken_accused said p r = if same_check r.check p.check then reading_accused said p else Some AnotherCheck
+abbrev pub taken_accused : Packet → Packet → Option Accusation
+taken_accused p r = if same_check r.check p.check then reading_accused (told r) p else Some AnotherCheck
 
 -- by the number taken last: number 0 and the next number are taken, and a third one isn't; where it is unknown no more is judged
-abbrev pub turn_accused : Option ℕ → ReplyMeaning → Packet → Packet → Option Accusation
-turn_accused None said p r = if p.sequence == 0 then taken_accused said p r else None
-turn_accused (Some taken) said p r =
-    if p.sequence == 0 || p.sequence == next_sequence taken then taken_accused said p r
+abbrev pub turn_accused : Option ℕ → Packet → Packet → Option Accusation
+turn_accused None p r = if p.sequence == 0 then taken_accused p r else None
+turn_accused (Some taken) p r =
+    if p.sequence == 0 || p.sequence == next_sequence taken then taken_accused p r
     else if p.sequence == taken then None
     else Some TakenOutOfTurn
 
 -- a known repeat has the stored reply byte for byte, and nothing else is asked of it
-abbrev pub answer_accused : Option Packet → Known → ReplyMeaning → Packet → Packet → Option Accusation
-answer_accused (Some stored) k said p r = if same_packet stored r then None else Some AnotherReply
-answer_accused None k said p r =
-    if r.sequence == p.sequence then turn_accused k.taken said p r else Some AnotherNumber
+abbrev pub answer_accused : Option Packet → Known → Packet → Packet → Option Accusation
+answer_accused (Some stored) k p r = if same_packet stored r then None else Some AnotherReply
+answer_accused None k p r = if r.sequence == p.sequence then turn_accused k.taken p r else Some AnotherNumber
 
 -- by what the reply says; NAK 1 is never judged
-abbrev pub reply_accused : ReplyMeaning → Known → Packet → Packet → Option Accusation
-reply_accused NotTaken k p r = busy_accused k p r
-reply_accused Damaged k p r = None
-reply_accused NumberRefused k p r = refusal_accused p r
-reply_accused (Plain reply) k p r = answer_accused (repeat_reply k p) k (Plain reply) p r
-reply_accused (Unreadable code) k p r = answer_accused (repeat_reply k p) k (Unreadable code) p r
-
-abbrev pub is_damage_told : ReplyMeaning → Bool
-is_damage_told Damaged = true
-is_damage_told _ = false
+abbrev pub reply_accused : Said → Known → Packet → Packet → Option Accusation
+reply_accused Busy k p r = busy_accused k p r
+reply_accused Damage k p r = None
+reply_accused Refusal k p r = refusal_accused p r
+reply_accused Answer k p r = answer_accused (repeat_reply k p) k p r
 
 -- one reply to one copy
 abbrev pub reader_accused : Known → Packet → Packet → Option Accusation
 reader_accused k p r =
-    if k.replied && not (is_damage_told (meaning_of r)) then Some SecondReply else reply_accused (meaning_of r) k p r
+    if k.replied && not (is_damage (said r)) then Some SecondReply else reply_accused (said r) k p r
 
 -- a reply that takes the number, but for a known repeat, whose stored reply stays
 abbrev pub after_answer : Option Packet → Known → Packet → Packet → Known
@@ -104,16 +96,15 @@ after_answer None k p r = record k {
 }
 
 -- after a NAK 4 the last number is unknown: a restart
-abbrev pub after_reply_of : ReplyMeaning → Known → Packet → Packet → Known
-after_reply_of NotTaken k p r = record k { replied = true }
-after_reply_of Damaged k p r = k
-after_reply_of NumberRefused k p r = record k { replied = true; taken = None; stored = None }
-after_reply_of (Plain reply) k p r = after_answer (repeat_reply k p) k p r
-after_reply_of (Unreadable code) k p r = after_answer (repeat_reply k p) k p r
+abbrev pub after_reply_of : Said → Known → Packet → Packet → Known
+after_reply_of Busy k p r = record k { replied = true }
+after_reply_of Damage k p r = k
+after_reply_of Refusal k p r = record k { replied = true; taken = None; stored = None }
+after_reply_of Answer k p r = after_answer (repeat_reply k p) k p r
 
 abbrev pub after_reply : Known → Packet → Packet → Known
-after_reply k p r = after_reply_of (meaning_of r) k p r
+after_reply k p r = after_reply_of (said r) k p r
 
 -- the packet with number 0 is answered for the first time
 abbrev pub is_opening : Known → Packet → Packet → Bool
-is_opening k p r = p.sequence == 0 && r.sequence == 0 && not k.answered && answers (meaning_of r)
+is_opening k p r = p.sequence == 0 && r.sequence == 0 && not k.answered && is_answer (said r)

@@ -1,5 +1,6 @@
 -- What a packet says to somebody who listens.
 use Rattle.std.specs.Prelude.{ℕ, ◌==◌, Bool, true, false, ◌&&◌, ◌||◌, not, nat_le, if◌then◌else◌, drop, slice_index, Option, None, Some, Result, Ok, Err}
+use Rattle.osdp_controller.specs.Answers.{meaning_of}
 use Rattle.osdp_controller.specs.declared.meaning.ReplyMeaning.{ReplyMeaning}
 use Rattle.osdp_controller.specs.declared.meaning.ReplyMeaning.TheVariants.{NotTaken, Damaged, NumberRefused, Plain, Unreadable}
 use Rattle.osdp_frame.specs.Packet.{Packet}
@@ -8,6 +9,8 @@ use Rattle.osdp_msg.specs.declared.command.Command.{Command}
 use Rattle.osdp_msg.specs.declared.command.Command.TheVariants.{Comset}
 use Rattle.osdp_msg.specs.declared.fault.MsgFault.{MsgFault}
 use Rattle.osdp_msg.specs.declared.fault.MsgFault.TheVariants.{UnknownCode}
+use Rattle.osdp_monitor.specs.declared.said.Said.{Said}
+use Rattle.osdp_monitor.specs.declared.said.Said.TheVariants.{Busy, Damage, Refusal, Answer}
 use Rattle.osdp_msg.specs.declared.reply.Reply.{Reply}
 use Rattle.osdp_msg.specs.declared.reply.Reply.TheVariants.{Com}
 use Rattle.osdp_msg.specs.ReplyTable.{reply_of}
@@ -30,13 +33,34 @@ is_unknown (Err _) = false
 abbrev pub is_foreign : Packet → Bool
 is_foreign p = p.block || (if p.reply then is_unknown (told p) else is_unknown (asked p))
 
--- a reply that answers its packet, where it has the number: any but BUSY, NAK 1 and NAK 4
-abbrev pub answers : ReplyMeaning → Bool
-answers NotTaken = false
-answers Damaged = false
-answers NumberRefused = false
-answers (Plain reply) = true
-answers (Unreadable code) = true
+-- by what the controller makes of a reply: only what it takes as an answer is one, and it takes that also where it can't be read
+abbrev pub said_by : ReplyMeaning → Said
+said_by NotTaken = Busy
+said_by Damaged = Damage
+said_by NumberRefused = Refusal
+said_by (Plain reply) = Answer
+said_by (Unreadable code) = Answer
+
+abbrev pub said : Packet → Said
+said r = said_by (meaning_of r)
+
+abbrev pub is_answer : Said → Bool
+is_answer Busy = false
+is_answer Damage = false
+is_answer Refusal = false
+is_answer Answer = true
+
+abbrev pub is_damage : Said → Bool
+is_damage Busy = false
+is_damage Damage = true
+is_damage Refusal = false
+is_damage Answer = false
+
+abbrev pub is_refusal : Said → Bool
+is_refusal Busy = false
+is_refusal Damage = false
+is_refusal Refusal = true
+is_refusal Answer = false
 
 -- the address that a COM names which answers a COMSET, where it is another one and that of a device
 abbrev pub moved_by : Result Command MsgFault → Result Reply MsgFault → ℕ → Option ℕ

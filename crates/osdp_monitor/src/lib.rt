@@ -6,6 +6,7 @@
 
 mod accusation;
 mod found;
+mod said;
 
 pub use accusation::Accusation;
 pub use found::{Found, Notice};
