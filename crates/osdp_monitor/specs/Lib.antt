@@ -3,3 +3,4 @@ pub mod Saying
 pub mod Panel
 pub mod Reader
 pub mod Line
+pub mod Private

@@ -6,6 +6,9 @@
 
 mod accusation;
 mod found;
+mod kept;
+mod panel;
+mod reader;
 mod said;
 
 pub use accusation::Accusation;
