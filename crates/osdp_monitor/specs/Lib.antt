@@ -4,3 +4,4 @@ pub mod Panel
 pub mod Reader
 pub mod Line
 pub mod Private
+pub mod Monitors

@@ -81,7 +81,15 @@ impl KeptPacket {
             return None;
         }
         let body = self.body.as_slice();
-        FrameView::new(self.reply, self.address, self.seq, self.check, self.block, self.reserved, body)
+        FrameView::new(
+            self.reply,
+            self.address,
+            self.seq,
+            self.check,
+            self.block,
+            self.reserved,
+            body,
+        )
     }
 }
 

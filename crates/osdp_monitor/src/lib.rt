@@ -5,11 +5,15 @@
 #![tactic(auto)]
 
 mod accusation;
+mod device;
+mod devices;
 mod found;
 mod kept;
+mod monitor;
 mod panel;
 mod reader;
 mod said;
 
 pub use accusation::Accusation;
 pub use found::{Found, Notice};
+pub use monitor::Monitor;

@@ -20,9 +20,17 @@ pub(crate) fn sent_after(
     if number == 0 {
         None
     } else if number == last.seq().get() {
-        if same_packet(last, packet) { None } else { Some(Accusation::AnotherPacket) }
+        if same_packet(last, packet) {
+            None
+        } else {
+            Some(Accusation::AnotherPacket)
+        }
     } else if number == last.seq().next().get() {
-        if answered { None } else { Some(Accusation::NotAnswered) }
+        if answered {
+            None
+        } else {
+            Some(Accusation::NotAnswered)
+        }
     } else {
         Some(Accusation::SentOutOfTurn)
     }

@@ -1,7 +1,6 @@
 //! The rules of the reader: what it is accused of for a reply to the last packet to its address.
 
 ghost use Rattle.std.specs.Prelude.{◌≡◌, is_some};
-
 ghost use Rattle.osdp_monitor.specs.Known.{Known};
 ghost use Rattle.osdp_monitor.specs.Reader.{answer_accused, busy_accused, fit_accused, is_event_at_zero, is_plain, reading_accused, refusal_accused, repeat_reply, taken_accused, turn_accused};
 ghost use Rattle.osdp_monitor.specs.Saying.{told};
@@ -63,11 +62,7 @@ fn is_event_at_zero(command: &Command, reply: &Reply, number: u8) -> bool
 }
 
 /// A reply that can be read fits the command, where that can be read.
-fn fit_accused(
-    command: &Result<Command, MsgFault>,
-    reply: &Reply,
-    number: u8,
-) -> Option<Accusation>
+fn fit_accused(command: &Result<Command, MsgFault>, reply: &Reply, number: u8) -> Option<Accusation>
     ensures { result ≡ fit_accused command.now reply.now number }
 {
     let Ok(command) = command else {
@@ -112,7 +107,11 @@ fn turn_accused(
 {
     let number = packet.seq().get();
     let Some(taken) = taken else {
-        return if number == 0 { taken_accused(packet, reply, read) } else { None };
+        return if number == 0 {
+            taken_accused(packet, reply, read)
+        } else {
+            None
+        };
     };
     if number == 0 || number == taken.next().get() {
         taken_accused(packet, reply, read)
@@ -135,7 +134,11 @@ pub(crate) fn answer_accused(
     ensures { (k : Known) → k.taken ≡ taken → result ≡ answer_accused stored.now k packet.now reply.now }
 {
     if let Some(stored) = stored {
-        return if same_packet(stored, reply) { None } else { Some(Accusation::AnotherReply) };
+        return if same_packet(stored, reply) {
+            None
+        } else {
+            Some(Accusation::AnotherReply)
+        };
     }
     if reply.seq().get() != packet.seq().get() {
         return Some(Accusation::AnotherNumber);
