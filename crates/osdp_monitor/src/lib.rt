@@ -9,6 +9,7 @@ mod device;
 mod devices;
 mod found;
 mod kept;
+pub mod laws;
 mod monitor;
 mod panel;
 mod reader;
