@@ -10,3 +10,5 @@ pub mod Resending
 pub mod Holding
 pub mod Refusals
 pub mod Reports
+pub mod Moments
+pub mod Retargeting

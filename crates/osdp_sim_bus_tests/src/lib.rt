@@ -1,4 +1,5 @@
-//! Tests of `osdp_sim_bus`: schedules over a line with several readers, with accounts worked out by hand, and readers that are refused.
+//! Tests of `osdp_sim_bus`, by `run_bus` of `osdp_session`, which calls it: schedules over a line with several readers, with accounts worked out by
+//! hand, and readers and memory that are refused.
 #![tactic(auto)]
 
 #[cfg(test)]
@@ -7,5 +8,7 @@ mod accounts;
 mod faults;
 #[cfg(test)]
 mod readers;
+#[cfg(test)]
+mod refusals;
 #[cfg(test)]
 mod steps;
