@@ -12,3 +12,4 @@ pub mod Refusals
 pub mod Reports
 pub mod Moments
 pub mod Retargeting
+pub mod Settings

@@ -14,6 +14,7 @@ ghost use Rattle.osdp_bus_laws.specs.Reports.{TellsEachOnce};
 ghost use Rattle.osdp_bus_laws.specs.Resending.{HoldersSendTheSame};
 ghost use Rattle.osdp_bus_laws.specs.Retargeting.{RetargetsSetTheAddress};
 ghost use Rattle.osdp_bus_laws.specs.Sending.{HoldersSendTheirFrame, SessionsBeginAlone};
+ghost use Rattle.osdp_bus_laws.specs.Settings.{DefaultsAreThese, DevicesAreSetAsTheBus};
 ghost use Rattle.osdp_bus_laws.specs.Silences.{SilencesEndRuns};
 ghost use Rattle.osdp_bus_laws.specs.Turns.{TakesTurns};
 
@@ -121,4 +122,15 @@ pub fn sessions_begin_alone()
 /// Each refusal comes exactly where its cause holds and no cause that is judged before it does, and nothing has changed then.
 pub fn refusals_come_in_order()
     ensures { Always RefusesInOrder }
+{}
+
+/// A new device at an address has each setting of its bus under the same name, and room for as many commands.
+pub fn devices_are_set_as_the_bus()
+    ensures { DevicesAreSetAsTheBus }
+{}
+
+/// By default an answer is waited for 200 ms, a POLL follows after 50, a frame is sent three times, a BUSY is waited for 50 and borne 20 times, a
+/// session opens after 400 of quiet, and a run is over after 20.
+pub fn defaults_are_these()
+    ensures { DefaultsAreThese }
 {}

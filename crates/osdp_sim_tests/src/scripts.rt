@@ -40,3 +40,12 @@ fn memory_is_needed(rt: HostRuntime) {
     let script = read_script(rt.alloc(), SCRIPT.as_bytes());
     is_read(&rt, &script.ok().expect(&rt, "a script"));
 }
+
+/// Where no line says which, the controllers' packets end with a CRC.
+#[test]
+fn no_check_is_a_crc(rt: HostRuntime) {
+    let script = read_script(rt.alloc(), "reader 126 1\n".as_bytes());
+    let script = script.ok().expect(&rt, "a script");
+    assert_eq!(rt; script.check, CheckKind::Crc);
+    assert_eq!(rt; (script.readers.len(), script.steps.len()), (1, 0));
+}
