@@ -59,10 +59,10 @@ done
 for test in a_session numbers_take_turns another_address; do
   refuse_each $machines tests::controller::out_of_memory_is_told 1 "tests::controller::$test" 1
 done
-# A bus asks as it is made, twice, and once for each device.
-refuse_each osdp_bus_tests reservations::out_of_memory_is_told 4 turns::runs_end '1|2'
+# A bus asks as it is made, and once for each device.
+refuse_each osdp_bus_tests reservations::out_of_memory_is_told 3 turns::runs_end '1|2'
 for test in turns::two_devices_take_turns turns::a_pause_holds_the_line; do
-  refuse_each osdp_bus_tests reservations::out_of_memory_is_told 4 $test '1|2|3'
+  refuse_each osdp_bus_tests reservations::out_of_memory_is_told 3 $test '1|2|3'
 done
 # Ten requests to set up; three that ask beforehand for the room that the commands may take, without which it goes on; four by the steps.
 refuse_each osdp_sim_tests refusals::out_of_memory_is_told 17 refusals::memory_is_needed '[1-9]|10|14|15|16|17'

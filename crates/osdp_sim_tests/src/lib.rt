@@ -1,5 +1,4 @@
-//! Tests of `osdp_sim` and of `osdp_script`: schedules over a simulated line, each with the account that was worked out by hand, and a script that is
-//! read.
+//! Tests of `osdp_sim` and `osdp_script`: schedules over a simulated line, with accounts worked out by hand, and a script that is read.
 #![tactic(auto)]
 
 #[cfg(test)]
