@@ -278,6 +278,7 @@ def refused_rate(words):
         asks(device.until(panel, has(panel, *told)), "refusing: the COMSETs aren't told")
         device.asked.clear()
         device.until(panel, lambda: False, 1.5)
+        asks("out of reach 1 at 19200" in panel.lines, "refusing: the moved reader isn't told out of reach")
         asks(set(device.asked) == {6} and len(device.asked) > 10, f"refusing: asked are {set(device.asked)}")
         asks(not any(each.startswith(("rate ", "lost 2")) for each in panel.lines), "refusing: the other session or the rate didn't stay")
 
