@@ -59,10 +59,11 @@ for heap in malloc pool; do
 done
 build structs tests/c/structs.c c/heap_malloc.c "$archive" && passes "$work/structs"
 build structs_checked tests/c/structs.c c/heap_malloc.c "$archive" "${checked[@]}" && passes "$work/structs_checked"
+build limits tests/c/limits.c c/heap_malloc.c "$archive" "${checked[@]}" && passes "$work/limits"
 
 for heap in malloc pool; do
   build "session_$heap" "${session[@]}" "c/heap_$heap.c" "${counted[@]}" "$archive" && passes "$work/session_$heap"
-  [ "$heap" = pool ] && wanted="0 blocks" || wanted="10 blocks"
+  [ "$heap" = pool ] && wanted="0 blocks" || wanted="11 blocks"
   grep -q "^session: $wanted, each refused once$" "$work/said" || fail "session_$heap: not $wanted"
 done
 build session_checked "${session[@]}" c/heap_malloc.c "${counted[@]}" "$archive" "${checked[@]}" && passes "$work/session_checked"
