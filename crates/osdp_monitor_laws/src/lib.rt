@@ -1,0 +1,18 @@
+//! What the rules of the monitor come to, said apart from them: whom they never accuse, and what they never miss. The functions do nothing:
+//! their contracts are laws.
+#![tactic(auto)]
+
+ghost use Rattle.osdp_monitor_laws.specs.ReaderLine.{AccusesNoReader};
+
+use osdp_reader::Handler;
+
+/// Where no other device answers at its address, nothing that a reader answers is accused, whatever is said to it, whatever its handler does,
+/// whatever events come, and however often it is busy or starts anew.
+pub fn accuses_no_reader<H: Handler>()
+    ensures { AccusesNoReader H.answer_of H.after }
+{
+    osdp_msg_laws::reply_of_reads_the_table();
+    osdp_msg_laws::replies_fit_a_packet();
+    osdp_reader_laws::replies_fit::<H>();
+    osdp_reader_laws::answers_plainly::<H>();
+}
