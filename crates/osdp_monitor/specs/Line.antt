@@ -37,14 +37,19 @@ abbrev pub after_answered : Option ℕ → ℕ → Known → (ℕ → Known) →
 after_answered None address k devices = known_at address k devices
 after_answered (Some moved) address k devices = forgotten_at (Some moved) (known_at address nothing_known devices)
 
-abbrev pub moves_to : Packet → Packet → Option ℕ
-moves_to p r = moved_by (asked p) (told r) r.address
-
 -- a reply belongs to the last packet to its address, where that is known
-abbrev pub devices_after_reply : Option Packet → Packet → (ℕ → Known) → ℕ → Known
-devices_after_reply None r devices = devices
-devices_after_reply (Some p) r devices =
-    after_answered (moves_to p r) r.address (after_reply (devices r.address) p r) devices
+abbrev pub moves_to : Option Packet → Packet → Option ℕ
+moves_to None r = None
+moves_to (Some p) r = moved_by (asked p) (told r) r.address
+
+abbrev pub after_reply_if : Option Packet → Known → Packet → Known
+after_reply_if None k r = k
+after_reply_if (Some p) k r = after_reply k p r
+
+abbrev pub devices_after_reply : Packet → (ℕ → Known) → ℕ → Known
+devices_after_reply r devices =
+    let k = devices r.address in
+    after_answered (moves_to k.last r) r.address (after_reply_if k.last k r) devices
 
 abbrev pub devices_after_sent : Packet → (ℕ → Known) → ℕ → Known
 devices_after_sent p devices =
@@ -55,7 +60,7 @@ abbrev pub devices_after : Packet → (ℕ → Known) → ℕ → Known
 devices_after p devices =
     if p.address == 127 then no_knowledge.devices
     else if is_foreign p then known_at p.address nothing_known devices
-    else if p.reply then devices_after_reply (devices p.address).last p devices
+    else if p.reply then devices_after_reply p devices
     else devices_after_sent p devices
 
 abbrev pub after_packet : Knowledge → Packet → Knowledge
@@ -96,7 +101,7 @@ reply_notice None k p r =
 abbrev pub found_in_reply : Option Packet → Known → Packet → Found
 found_in_reply None k r = nothing_found
 found_in_reply (Some p) k r =
-    record { accusation = reader_accused k p r; notice = reply_notice (moves_to p r) k p r }
+    record { accusation = reader_accused k p r; notice = reply_notice (moves_to (Some p) r) k p r }
 
 abbrev pub found_in : Knowledge → Packet → Found
 found_in line p =
@@ -111,9 +116,9 @@ expected_by k AnotherPacket = k.last
 expected_by k AnotherReply = k.stored
 expected_by k _ = None
 
+abbrev pub expected_if : Known → Option Accusation → Option Packet
+expected_if k None = None
+expected_if k (Some accusation) = expected_by k accusation
+
 abbrev pub expected_in : Knowledge → Packet → Option Packet
 expected_in line p = expected_if (line.devices p.address) (found_in line p).accusation
-  where
-    expected_if : Known → Option Accusation → Option Packet
-    expected_if k None = None
-    expected_if k (Some accusation) = expected_by k accusation

@@ -85,14 +85,13 @@ abbrev pub reader_accused : Known → Packet → Packet → Option Accusation
 reader_accused k p r =
     if k.replied && not (is_damage (said r)) then Some SecondReply else reply_accused (said r) k p r
 
--- a reply that takes the number, but for a known repeat, whose stored reply stays
-abbrev pub after_answer : Option Packet → Known → Packet → Packet → Known
-after_answer (Some stored) k p r = record k { replied = true; answered = k.answered || r.sequence == p.sequence }
-after_answer None k p r = record k {
+-- a reply to this number takes it, but to a known repeat, whose stored reply stays
+abbrev pub after_answer : Bool → ℕ → Known → Packet → Known
+after_answer is_repeat number k r = record k {
   replied = true;
-  answered = k.answered || r.sequence == p.sequence;
-  taken = Some p.sequence;
-  stored = if p.sequence == 0 then None else Some r;
+  answered = k.answered || r.sequence == number;
+  taken = if is_repeat then k.taken else Some number;
+  stored = if is_repeat then k.stored else (if number == 0 then None else Some r);
 }
 
 -- after a NAK 4 the last number is unknown: a restart
@@ -100,7 +99,7 @@ abbrev pub after_reply_of : Said → Known → Packet → Packet → Known
 after_reply_of Busy k p r = record k { replied = true }
 after_reply_of Damage k p r = k
 after_reply_of Refusal k p r = record k { replied = true; taken = None; stored = None }
-after_reply_of Answer k p r = after_answer (repeat_reply k p) k p r
+after_reply_of Answer k p r = after_answer (is_some (repeat_reply k p)) p.sequence k r
 
 abbrev pub after_reply : Known → Packet → Packet → Known
 after_reply k p r = after_reply_of (said r) k p r

@@ -5,8 +5,17 @@
 #![tactic(auto)]
 
 mod accusation;
+mod device;
+mod devices;
 mod found;
+mod kept;
+pub mod laws;
+mod monitor;
+mod panel;
+mod reader;
 mod said;
 
 pub use accusation::Accusation;
 pub use found::{Found, Notice};
+pub use monitor::Monitor;
+pub use said::Said;
