@@ -6,3 +6,5 @@ pub mod Replying
 pub mod Saying
 pub mod Hearing
 pub mod ReaderLines
+pub mod PanelFits
+pub mod PanelLines

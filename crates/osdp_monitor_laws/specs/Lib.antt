@@ -1,1 +1,2 @@
 pub mod ReaderLine
+pub mod PanelLine

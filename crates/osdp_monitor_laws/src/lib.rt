@@ -2,6 +2,7 @@
 //! their contracts are laws.
 #![tactic(auto)]
 
+ghost use Rattle.osdp_monitor_laws.specs.PanelLine.{AccusesNoPanel};
 ghost use Rattle.osdp_monitor_laws.specs.ReaderLine.{AccusesNoReader};
 
 use osdp_reader::Handler;
@@ -16,3 +17,9 @@ pub fn accuses_no_reader<H: Handler>()
     osdp_reader_laws::replies_fit::<H>();
     osdp_reader_laws::answers_plainly::<H>();
 }
+
+/// Where no other panel speaks to its device, nothing that a panel sends is accused, whatever is called at whatever moments, whatever
+/// replies come, and however often it starts anew.
+pub fn accuses_no_panel()
+    ensures { AccusesNoPanel }
+{}
