@@ -1,18 +1,16 @@
 -- What is known of a reader's address agrees with the reader: what each packet and each reply make of it.
-use Rattle.std.proofs.Common.{◌≡◌, ◌≢◌, ◌⊎◌, inl, inr, ℕ, Bool, true, false, cond, eqb, ◌&&◌, ◌||◌, not, Option, Some, None, refl, sym, subst, ap, ◌∙◌}
-use Rattle.std.proofs.lemmas.Bool.{and_left, and_parts, and_right, cond-false, cond-true, cond_both, cases_Bool, eq-eqb, eqb-true, false≢true, ne_eqb, not-true, not_from_true, or_cases, or_from, or_left, or_right}
+use Rattle.std.proofs.Common.{◌≡◌, ◌≢◌, ◌⊎◌, inl, inr, ℕ, Bool, true, false, eqb, not, Option, Some, None, refl, sym, subst, ap, ◌∙◌}
+use Rattle.std.proofs.lemmas.Bool.{and_parts, cond_both, eq-eqb, eqb-true, false≢true, not-true, or_cases}
 use Rattle.std.specs.Prelude.{is_some}
 use Rattle.osdp_frame.specs.Packet.{Packet, next_sequence}
-use Rattle.osdp_monitor.specs.declared.accusation.Accusation.{Accusation}
-use Rattle.osdp_monitor.specs.declared.accusation.Accusation.TheVariants.{AnotherNumber, AnotherReply, SecondReply, TakenOutOfTurn}
 use Rattle.osdp_monitor.specs.declared.said.Said.{Said}
 use Rattle.osdp_monitor.specs.declared.said.Said.TheVariants.{Busy, Damage, Refusal, Answer}
-use Rattle.osdp_monitor.specs.Known.{Known, is_number, nothing_known, same_packet}
+use Rattle.osdp_monitor.specs.Known.{Known, is_number, same_packet}
 use Rattle.osdp_monitor.specs.Panel.{after_another, after_copy, after_sent, keeps_number}
-use Rattle.osdp_monitor.specs.Reader.{after_answer, after_reply, after_reply_of, answer_accused, busy_accused, reader_accused, refusal_accused, repeat_reply, reply_accused, taken_accused, turn_accused}
-use Rattle.osdp_monitor.specs.Saying.{is_damage, said}
-use Rattle.osdp_monitor_laws.proofs.Numbers.{next_above_zero, next_differs}
-use Rattle.osdp_monitor_laws.proofs.Same.{is_packet, packet_is}
+use Rattle.osdp_monitor.specs.Reader.{after_answer, after_reply, after_reply_of, repeat_reply, taken_accused}
+use Rattle.osdp_monitor.specs.Saying.{said}
+use Rattle.osdp_monitor_laws.proofs.Numbers.{next_differs}
+use Rattle.osdp_monitor_laws.proofs.Same.{packet_is}
 
 pub same_some : {A : Type 0} (x y : A) → Some x ≡ Some y → x ≡ y
 same_some x y e = cc
@@ -58,10 +56,17 @@ zero_untaken k none p n last zero taken = absurd cc
 module _ (last : Option ℕ) (stored : Option Packet) where
   copy_agrees : (k : Known) → Agrees k last stored → Agrees (after_copy k) last stored
   copy_agrees k agrees n m taken is = elim (agrees n m taken is) [
-      inl level ↦ inl (record { same = level.same; keeps = level.keeps })
+    | inl level ↦ inl (record { same = level.same; keeps = level.keeps })
     | inr u ↦ inr (record {
-        replied = refl; packet = u.packet; last = u.last; number = u.number; next = u.next; reply = u.reply; kept = u.kept; fine = u.fine;
-      })
+      replied = refl;
+      packet = u.packet;
+      last = u.last;
+      number = u.number;
+      next = u.next;
+      reply = u.reply;
+      kept = u.kept;
+      fine = u.fine;
+    })
   ]
 
   -- where the last number stays known, the last packet was answered, or was no new one
@@ -77,7 +82,7 @@ module _ (last : Option ℕ) (stored : Option Packet) where
       → Agrees (after_another keeps k p) last stored
   another_agrees old k p false before is agrees = λ n m taken has. absurd (none_some n taken)
   another_agrees old k p true before is agrees = λ n m taken has. elim (agrees n m taken has) [
-      inl level ↦ inl (record { same = level.same; keeps = level.keeps })
+    | inl level ↦ inl (record { same = level.same; keeps = level.keeps })
     | inr u ↦ absurd (not_unheard old k p n m before taken u (or_cases k.replied (is_number k.taken old.sequence) (and_parts (not (eqb p.sequence 0)) _ is).1))
   ]
 

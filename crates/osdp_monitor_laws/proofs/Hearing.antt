@@ -1,5 +1,5 @@
 -- What a reader answers to a packet, beside what is known of its address.
-use Rattle.std.proofs.Common.{◌≡◌, ◌≢◌, ◌⊎◌, inl, inr, ℕ, Bool, true, false, cond, eqb, ◌||◌, not, Option, Some, None, Result, Ok, Err, refl, sym, subst, ap, ◌∙◌}
+use Rattle.std.proofs.Common.{◌≡◌, ◌≢◌, ◌⊎◌, inl, inr, ℕ, Bool, true, false, cond, eqb, Option, Some, None, Result, Ok, Err, refl, sym, subst, ap, ◌∙◌}
 use Rattle.std.proofs.lemmas.Bool.{cond_both, eqb-false, eqb-true, false≢true}
 use Rattle.std.specs.Prelude.{IfSome}
 use Rattle.osdp_frame.specs.Packet.{Packet, next_sequence}
@@ -13,7 +13,7 @@ use Rattle.osdp_msg.specs.declared.reply.Reply.{Reply}
 use Rattle.osdp_msg.specs.declared.reply.Reply.TheVariants as reply
 use Rattle.osdp_monitor.specs.declared.said.Said.TheVariants.{Answer}
 use Rattle.osdp_monitor.specs.Known.{Known}
-use Rattle.osdp_monitor.specs.Reader.{after_reply, is_event_at_zero, is_plain}
+use Rattle.osdp_monitor.specs.Reader.{after_reply, is_plain}
 use Rattle.osdp_monitor.specs.Saying.{said}
 use Rattle.osdp_reader.specs.declared.handler.Answer.{Answer as AnswerOfHandler}
 use Rattle.osdp_reader.specs.declared.kind.Kind.{Kind}

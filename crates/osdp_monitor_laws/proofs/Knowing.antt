@@ -1,17 +1,17 @@
 -- What a packet does to what is known of an address.
-use Rattle.std.proofs.Common.{◌≡◌, ◌≢◌, ℕ, Bool, true, false, cond, ◌||◌, eqb, Option, Some, None, refl, sym, subst, ap}
+use Rattle.std.proofs.Common.{◌≡◌, ◌≢◌, ℕ, true, false, cond, ◌||◌, eqb, Option, Some, None, refl, sym, subst, ap}
 use Rattle.std.proofs.lemmas.Bool.{cond-true, cond_both, eq-eqb, eqb-false, eqb-true, or_left}
 use Rattle.osdp_frame.specs.Packet.{Packet}
 use Rattle.osdp_monitor.specs.declared.accusation.Accusation.{Accusation}
 use Rattle.osdp_monitor.specs.declared.found.Found.{Found}
 use Rattle.osdp_monitor.specs.Known.{Known, nothing_known}
-use Rattle.osdp_monitor.specs.Line.{Knowledge, after_answered, after_packet, after_reply_if, devices_after, devices_after_reply, devices_after_sent, found_in, found_in_reply, found_in_sent, known_at, moves_to, no_knowledge, nothing_found}
+use Rattle.osdp_monitor.specs.Line.{Knowledge, after_answered, after_packet, after_reply_if, devices_after_reply, devices_after_sent, found_in, found_in_reply, found_in_sent, known_at, moves_to, no_knowledge, nothing_found}
 use Rattle.osdp_monitor.specs.Panel.{after_sent, panel_accused}
 use Rattle.osdp_monitor.specs.Reader.{after_reply, reader_accused}
 use Rattle.osdp_monitor.specs.Saying.{is_foreign}
 
 module _ (Q : Known → Type 0) where
-  at_known : (address a : ℕ) (k : Known) (devices : ℕ → Known) → (address ≡ a → Q k) → (address ≢ a → Q (devices a))
+  pub at_known : (address a : ℕ) (k : Known) (devices : ℕ → Known) → (address ≡ a → Q k) → (address ≢ a → Q (devices a))
       → Q (known_at address k devices a)
   at_known address a k devices here there =
       cond_both (eqb a address) k (devices a) Q (λ e. here (sym (eqb-true a address e))) (λ e. there (λ s. eqb-false a address e (sym s)))
@@ -23,7 +23,7 @@ module _ (Q : Known → Type 0) where
       at_known moved a nothing_known (known_at address nothing_known devices) (λ _. nothing)
       (λ _. at_known address a nothing_known devices (λ _. nothing) there)
 
-  at_last : (k : Known) (p : Packet) (last : Option Packet) → k.last ≡ last → (k.last ≡ None → Q k)
+  pub at_last : (k : Known) (p : Packet) (last : Option Packet) → k.last ≡ last → (k.last ≡ None → Q k)
       → ((old : Packet) → k.last ≡ Some old → Q (after_reply k old p)) → Q (after_reply_if last k p)
   at_last k p None is unknown replied = unknown is
   at_last k p (Some old) is unknown replied = replied old is
@@ -40,17 +40,17 @@ module _ (Q : Known → Type 0) where
   at_address line p a nothing other unknown sent replied =
       let devices = line.devices in
       cond_both (eqb p.address 127) no_knowledge.devices
-          (cond (is_foreign p) (known_at p.address nothing_known devices) (cond p.reply (devices_after_reply p devices) (devices_after_sent p devices)))
-          (λ d. Q (d a)) (λ _. nothing)
-          (λ _. cond_both (is_foreign p) (known_at p.address nothing_known devices) (cond p.reply (devices_after_reply p devices) (devices_after_sent p devices))
-          (λ d. Q (d a)) (λ _. at_known p.address a nothing_known devices (λ _. nothing) other)
-          (λ known. cond_both p.reply (devices_after_reply p devices) (devices_after_sent p devices) (λ d. Q (d a))
-          (λ reply. at_answered (moves_to (devices p.address).last p) p.address a (after_reply_if (devices p.address).last (devices p.address) p) devices nothing
-          (λ here. subst (λ b. Q (after_reply_if (devices b).last (devices b) p)) (sym here)
-          (at_last (devices a) p (devices a).last refl (unknown here reply) (replied here reply)))
-          other)
-          (λ command. at_known p.address a (after_sent (devices p.address).last (devices p.address) p) devices
-          (λ here. subst (λ b. Q (after_sent (devices b).last (devices b) p)) (sym here) (sent here command known)) other)))
+      (cond (is_foreign p) (known_at p.address nothing_known devices) (cond p.reply (devices_after_reply p devices) (devices_after_sent p devices)))
+      (λ d. Q (d a)) (λ _. nothing)
+      (λ _. cond_both (is_foreign p) (known_at p.address nothing_known devices) (cond p.reply (devices_after_reply p devices) (devices_after_sent p devices))
+      (λ d. Q (d a)) (λ _. at_known p.address a nothing_known devices (λ _. nothing) other)
+      (λ known. cond_both p.reply (devices_after_reply p devices) (devices_after_sent p devices) (λ d. Q (d a))
+      (λ reply. at_answered (moves_to (devices p.address).last p) p.address a (after_reply_if (devices p.address).last (devices p.address) p) devices nothing
+      (λ here. subst (λ b. Q (after_reply_if (devices b).last (devices b) p)) (sym here)
+      (at_last (devices a) p (devices a).last refl (unknown here reply) (replied here reply)))
+      other)
+      (λ command. at_known p.address a (after_sent (devices p.address).last (devices p.address) p) devices
+      (λ here. subst (λ b. Q (after_sent (devices b).last (devices b) p)) (sym here) (sent here command known)) other)))
 
 -- a packet to or from 127 forgets everything
 pub at_all : (line : Knowledge) (p : Packet) → p.address ≡ 127 → (after_packet line p).devices ≡ no_knowledge.devices

@@ -8,3 +8,5 @@ pub mod Hearing
 pub mod ReaderLines
 pub mod PanelFits
 pub mod PanelLines
+pub mod Remembering
+pub mod Missing

@@ -1,6 +1,6 @@
 -- What is known of the address of a panel's device fits the panel, whatever it sends and hears.
-use Rattle.std.proofs.Common.{◌≡◌, ◌≢◌, ◌⊎◌, inl, inr, ℕ, ◌+◌, Bool, true, false, cond, eqb, leb, ltb, ◌&&◌, ◌||◌, not, List, [], ◌∷◌, Option, Some, None, refl, sym, subst, ap, ◌∙◌}
-use Rattle.std.proofs.lemmas.Bool.{and_parts, cond-false, cond-true, cond_both, eq-eqb, eqb-true, false≢true, ne_eqb, or_cases, or_right}
+use Rattle.std.proofs.Common.{◌≡◌, ◌⊎◌, inl, inr, ℕ, ◌+◌, Bool, true, false, cond, eqb, ◌&&◌, List, [], ◌∷◌, Option, Some, None, refl, sym, subst, ap, ◌∙◌}
+use Rattle.std.proofs.lemmas.Bool.{and_parts, cond-false, cond-true, cond_both, eq-eqb, eqb-true, false≢true, ne_eqb, or_cases}
 use Rattle.std.specs.Prelude.{nat_le, nat_lt}
 use Rattle.osdp_controller.specs.Answers.{is_not_taken, meaning_of}
 use Rattle.osdp_controller.specs.declared.config.ControllerConfig.{ControllerConfig}
@@ -14,7 +14,7 @@ use Rattle.osdp_controller.specs.declared.session.Session.{Session}
 use Rattle.osdp_controller.specs.declared.state.State.{State}
 use Rattle.osdp_controller.specs.declared.state.State.TheVariants.{Closed, Quiet, Idle, Waiting, Pausing}
 use Rattle.osdp_controller.specs.Exchanges.{exchange_body}
-use Rattle.osdp_controller.specs.Hearing.{Heard, answered, answered_unread, command_answered, com_of, comset_of, hears, hears_busy, hears_in, ignores, is_from_reader, is_numbered, loses, moved_by, opening_answered, pausing_hears, pd_id_of, waiting_hears}
+use Rattle.osdp_controller.specs.Hearing.{Heard, answered, answered_unread, command_answered, com_of, comset_of, hears, hears_in, ignores, is_from_reader, is_numbered, loses, moved_by, opening_answered, pausing_hears, pd_id_of, waiting_hears}
 use Rattle.osdp_controller.specs.Sessions.{later, seen}
 use Rattle.osdp_controller.specs.Ticking.{Ticked, begins, gives_up, idle_ticks, sends_frame, stays, ticks, ticks_in, tries_again}
 use Rattle.osdp_frame.specs.Packed.{packed}
@@ -23,13 +23,11 @@ use Rattle.osdp_msg.specs.declared.command.Command.{Command}
 use Rattle.osdp_msg.specs.declared.command_fields.Communication.{Communication}
 use Rattle.osdp_msg.specs.declared.reply.Reply.{Reply}
 use Rattle.osdp_msg.specs.declared.reply_fields.PdId.{PdId}
-use Rattle.osdp_monitor.specs.declared.accusation.Accusation.{Accusation}
 use Rattle.osdp_monitor.specs.declared.accusation.Accusation.TheVariants.{AnotherPacket, NotAnswered, SentOutOfTurn}
 use Rattle.osdp_monitor.specs.declared.said.Said.TheVariants.{Answer}
 use Rattle.osdp_monitor.specs.Known.{Known, same_packet}
 use Rattle.osdp_monitor.specs.Panel.{panel_accused, sent_after}
 use Rattle.osdp_monitor.specs.Saying.{said, said_by}
-use Rattle.osdp_monitor_laws.proofs.Agreeing.{none_some}
 use Rattle.osdp_monitor_laws.proofs.Numbers.{next_above_zero, next_differs}
 use Rattle.osdp_monitor_laws.proofs.Same.{is_packet}
 
@@ -196,8 +194,8 @@ module _ (reached : Bool) (k : Known) where
   numbered : (p : Packet) (s : Session) (answer : ReplyMeaning) → is_not_taken answer ≡ false → is_numbered p.sequence answer s ≡ true → p.sequence ≡ s.number
   numbered p s answer taken is =
       elim (or_cases (eqb p.sequence s.number) (eqb p.sequence 0 && is_not_taken answer) is) [
-        inl same ↦ eqb-true p.sequence s.number same
-      | inr busy ↦ absurd (false≢true (sym taken ∙ (and_parts (eqb p.sequence 0) (is_not_taken answer) busy).1))
+        | inl same ↦ eqb-true p.sequence s.number same
+        | inr busy ↦ absurd (false≢true (sym taken ∙ (and_parts (eqb p.sequence 0) (is_not_taken answer) busy).1))
       ]
 
   module _ (p : Packet) (s : Session) (fits : Fits s reached k) where

@@ -1,5 +1,5 @@
 -- A panel and a listener on two wires: what the listener knows fits the panel, whatever happens.
-use Rattle.std.proofs.Common.{◌≡◌, ◌≢◌, ◌⊎◌, inl, inr, ℕ, ◌+◌, Bool, true, false, cond, eqb, ◌&&◌, ◌||◌, not, List, [], ◌∷◌, ◌++◌, Option, Some, None, refl, sym, subst, ap, ◌∙◌}
+use Rattle.std.proofs.Common.{◌≡◌, inl, inr, ℕ, ◌+◌, Bool, true, false, eqb, ◌&&◌, not, List, [], ◌∷◌, ◌++◌, Option, Some, None, refl, sym, subst, ap, ◌∙◌}
 use Rattle.std.proofs.lemmas.Bool.{cond_both, eq-eqb, eqb-true, false≢true, or_left, or_right}
 use Rattle.std.specs.Prelude.{nat_lt, option_to_list}
 use Rattle.osdp_controller.specs.declared.config.ControllerConfig.{ControllerConfig}
@@ -11,13 +11,11 @@ use Rattle.osdp_controller.specs.declared.state.State.TheVariants.{Closed, Quiet
 use Rattle.osdp_controller.specs.Hearing.{hears, is_from_reader}
 use Rattle.osdp_controller.specs.Machine.{Machine, after_begin, after_retarget, after_submit, begin_refusal, changed_unless, or_no_device, refused_unless_closed, retarget_refusal, submit_refusal}
 use Rattle.osdp_controller.specs.Sessions.{seen}
-use Rattle.osdp_controller.specs.Ticking.{Ticked, ticks}
 use Rattle.osdp_controller_laws.specs.Runs as call
 use Rattle.osdp_controller_laws.specs.Runs.{after_call, sent_by}
 use Rattle.osdp_frame.specs.declared.check_kind.CheckKind.TheVariants.{Sum}
 use Rattle.osdp_frame.specs.Packet.{Packet}
 use Rattle.osdp_frame.specs.Reading.{smallest}
-use Rattle.osdp_msg.specs.declared.command.Command.{Command}
 use Rattle.osdp_monitor.specs.declared.said.Said.{Said}
 use Rattle.osdp_monitor.specs.declared.said.Said.TheVariants.{Busy, Damage, Refusal, Answer}
 use Rattle.osdp_monitor.specs.Known.{Known, nothing_known}
@@ -26,12 +24,12 @@ use Rattle.osdp_monitor.specs.Reader.{after_reply, after_reply_of}
 use Rattle.osdp_monitor.specs.Saying.{said}
 use Rattle.osdp_monitor_laws.proofs.Agreeing.{none_some, same_some, sent_asked}
 use Rattle.osdp_monitor_laws.proofs.Knowing.{at_address, sent_in_order}
-use Rattle.osdp_monitor_laws.proofs.PanelFits.{Fits, FitsIn, IsAtRest, IsOut, IsTaken, MaySend, Sends, Stays, TickFits, frame, hear_fits, tick_fits}
+use Rattle.osdp_monitor_laws.proofs.PanelFits.{Fits, FitsIn, IsOut, IsTaken, MaySend, Sends, TickFits, frame, hear_fits, tick_fits}
 use Rattle.osdp_monitor_laws.specs.PanelLine.{AccusesNoPanel, ADeviceAlone, AreAllowed, Begin, Both, Forget, IsAllowed, ListenerAlone, MaySay, Nobody, PanelAlone, PanelLine, PanelMove, Reaches, Reads, Restart, Retarget, Say, Skip, Submit, TheListener, Tick, Withdraw, accused_of, after_move, after_said, after_sent, new_line, panel_accusations, panel_accused_by}
 
 -- ---- what a reply leaves
 
-last_by : (s : Said) (k : Known) (p q : Packet) → (after_reply_of s k p q).last ≡ k.last
+pub last_by : (s : Said) (k : Known) (p q : Packet) → (after_reply_of s k p q).last ≡ k.last
 last_by Busy k p q = refl
 last_by Damage k p q = refl
 last_by Refusal k p q = refl
@@ -130,9 +128,12 @@ taken_of p l may from x out =
     let parts = from_parts p.reply (eqb p.address s.config.address) (not p.block) from in
     let here = eqb-true p.address s.config.address parts.1 in
     elim out [
-      inl same ↦ λ q last. (same q last, λ number says.
-          answers_last l.known p s.config.address parts.0 here q last (number ∙ sym (ap (λ y. y.sequence) (same q last))) says)
-    | inr free ↦ absurd (false≢true (sym free.0 ∙ may.asked parts.0 here))
+      | inl same ↦ λ q last. (
+        same q last,
+        λ number says.
+            answers_last l.known p s.config.address parts.0 here q last (number ∙ sym (ap (λ y. y.sequence) (same q last))) says,
+      )
+      | inr free ↦ absurd (false≢true (sym free.0 ∙ may.asked parts.0 here))
     ]
 
 said_holds : (p : Packet) (now : ℕ) (reads : Reads) (l : PanelLine) → Holds l → MaySay p l → Holds (after_said p now reads l)
@@ -141,8 +142,8 @@ said_holds p now Both l holds may =
     let known = after_packet l.known p in
     let heard = hears p now s in
     elim (hear_fits l.reached (known.devices s.config.address) p now s (said_fits p l holds may) (taken_of p l may)) [
-      inl stays ↦ subst (λ (c : ControllerConfig). Fits heard.session l.reached (known.devices c.address)) (sym stays.0) stays.1
-    | inr closed ↦ subst (λ state. FitsIn state heard.session.number heard.session.config l.reached (known.devices heard.session.config.address)) (sym closed) tt
+      | inl stays ↦ subst (λ (c : ControllerConfig). Fits heard.session l.reached (known.devices c.address)) (sym stays.0) stays.1
+      | inr closed ↦ subst (λ state. FitsIn state heard.session.number heard.session.config l.reached (known.devices heard.session.config.address)) (sym closed) tt
     ]
 said_holds p now PanelAlone l holds may = forgotten (after_call (call.Hear p now) l.panel) l.reached
 said_holds p now ListenerAlone l holds may = said_fits p l holds may

@@ -1,25 +1,21 @@
 -- A reader and a listener on two wires: what the listener knows agrees with the reader, whatever happens.
-use Rattle.std.proofs.Common.{◌≡◌, ◌≢◌, ◌⊎◌, inl, inr, ℕ, ◌+◌, Bool, true, false, cond, eqb, ◌||◌, not, List, [], ◌∷◌, ◌++◌, Option, Some, None, refl, sym, subst, ap, ◌∙◌}
-use Rattle.std.proofs.lemmas.Bool.{cases_Bool, cond-true, cond_both, eq-eqb, eqb-true, false≢true, not-false, or_cases, or_left, or_parts}
+use Rattle.std.proofs.Common.{◌≡◌, ◌⊎◌, inl, inr, ℕ, ◌+◌, true, false, eqb, ◌||◌, not, List, [], ◌∷◌, ◌++◌, Option, Some, None, refl, sym, subst, ap, ◌∙◌}
+use Rattle.std.proofs.lemmas.Bool.{cases_Bool, cond-true, cond_both, eqb-true, false≢true, not-false, or_cases, or_parts}
 use Rattle.std.specs.Prelude.{IfSome, nat_lt, option_to_list}
 use Rattle.osdp_frame.specs.Packet.{Packet}
 use Rattle.osdp_frame.specs.declared.check_kind.CheckKind.TheVariants.{Sum}
 use Rattle.osdp_frame.specs.Reading.{smallest}
 use Rattle.osdp_msg.specs.ReplyTable.{ReplyFits}
 use Rattle.osdp_msg.specs.declared.command.Command.{Command}
-use Rattle.osdp_monitor.specs.declared.accusation.Accusation.{Accusation}
-use Rattle.osdp_monitor.specs.Known.{Known, nothing_known}
-use Rattle.osdp_monitor.specs.Line.{Knowledge, after_item, after_packet, found_in, found_in_reply, found_in_sent, no_knowledge, nothing_found}
-use Rattle.osdp_monitor.specs.Panel.{after_sent}
+use Rattle.osdp_monitor.specs.Known.{nothing_known}
+use Rattle.osdp_monitor.specs.Line.{Knowledge, after_packet, found_in, no_knowledge}
 use Rattle.osdp_monitor.specs.Reader.{after_reply, reader_accused}
-use Rattle.osdp_monitor.specs.Saying.{is_foreign}
-use Rattle.osdp_reader.specs.declared.config.ReaderConfig.{ReaderConfig}
 use Rattle.osdp_reader.specs.declared.handler.Answer.{Answer}
 use Rattle.osdp_reader.specs.declared.kind.Kind.TheVariants.{Silent}
 use Rattle.osdp_reader.specs.State.{ReaderState, new_reader}
-use Rattle.osdp_reader.specs.Table.{Outcome, hears, is_for_another, kind_of, outcome, unchanged}
+use Rattle.osdp_reader.specs.Table.{Outcome, hears, is_for_another, kind_of, outcome}
 use Rattle.osdp_monitor_laws.proofs.Agreeing.{Agrees, IsAsked, TakesZero, agrees_new, agrees_untaken, none_some, reply_zero, same_some, sent_agrees, sent_asked, sent_zero, zero_untaken}
-use Rattle.osdp_monitor_laws.proofs.Hearing.{Comes, Given, IsSaid, Sends, Stores, comes, sends, stores_new}
+use Rattle.osdp_monitor_laws.proofs.Hearing.{Given, IsSaid, Stores, comes, sends, stores_new}
 use Rattle.osdp_monitor_laws.proofs.Knowing.{all_in_order, at_address, at_all, reply_in_order}
 use Rattle.osdp_monitor_laws.specs.ReaderLine.{AccusesNoReader, AreAllowed, Both, IsAllowed, ListenerAlone, MaySay, ReaderAlone, ReaderLine, ReaderMove, Reads, accused_in, after_move, after_said, known_after, new_line, reader_accusations, reader_accused_by, Restart, Queue, SetBusy, SetHandler, Say, AnswerComes, Skip, Forget}
 
@@ -38,14 +34,14 @@ coming_of : (known : Knowledge) (a : ℕ) (q : Packet) (last : Option ℕ) (stor
 coming_of known a q last stored said fine lost came own place = record {
   reply = said.reply;
   fine = elim said.address [
-      inl here ↦ reply_in_order known q said.reply (subst (λ b. (old : Packet) → (known.devices b).last ≡ Some old → reader_accused (known.devices b) old q ≡ None) (sym here) fine)
+    | inl here ↦ reply_in_order known q said.reply (subst (λ b. (old : Packet) → (known.devices b).last ≡ Some old → reader_accused (known.devices b) old q ≡ None) (sym here) fine)
     | inr all ↦ all_in_order known q all
   ];
   after = elim place [
-      inl none ↦ agrees_new ((after_packet known q).devices own) last stored none
+    | inl none ↦ agrees_new ((after_packet known q).devices own) last stored none
     | inr here ↦ subst (λ b. Agrees ((after_packet known q).devices b) last stored) (sym here)
-      (at_address (λ k. Agrees k last stored) known q a (agrees_untaken nothing_known last stored refl) (λ _. lost) (λ _ _ _. lost)
-      (λ _ command. absurd (false≢true (sym command ∙ said.reply))) (λ _ _ old is. came old is))
+        (at_address (λ k. Agrees k last stored) known q a (agrees_untaken nothing_known last stored refl) (λ _. lost) (λ _ _ _. lost)
+        (λ _ command. absurd (false≢true (sym command ∙ said.reply))) (λ _ _ old is. came old is))
   ];
 }
 
@@ -150,11 +146,11 @@ module _ {H : Type 0} where
         let o = hears answer_of after r p in
         let sent = sends answer_of after given r p holds.stores here fits in
         let lost : Agrees (known.devices r.config.address) o.reader.last o.reader.stored =
-            agrees_untaken (known.devices r.config.address) o.reader.last o.reader.stored (ap (λ k. k.taken) nothing) in
+        agrees_untaken (known.devices r.config.address) o.reader.last o.reader.stored (ap (λ k. k.taken) nothing) in
         record {
           zero = zero;
           agrees = elim sent.place [
-              inl none ↦ agrees_new (known.devices o.reader.config.address) o.reader.last o.reader.stored none
+            | inl none ↦ agrees_new (known.devices o.reader.config.address) o.reader.last o.reader.stored none
             | inr same ↦ subst (λ b. Agrees (known.devices b) o.reader.last o.reader.stored) (sym same) lost
           ];
           stores = sent.stores;
@@ -170,7 +166,7 @@ module _ {H : Type 0} where
         record {
           zero = zero;
           agrees = elim sent.place [
-              inl none ↦ agrees_new (known.devices o.reader.config.address) o.reader.last o.reader.stored none
+            | inl none ↦ agrees_new (known.devices o.reader.config.address) o.reader.last o.reader.stored none
             | inr same ↦ subst (λ b. Agrees (known.devices b) o.reader.last o.reader.stored) (sym same) c.lost
           ];
           stores = sent.stores;
@@ -195,8 +191,8 @@ module _ {H : Type 0} where
         let parts = or_parts p.reply (not (eqb p.address r.config.address || eqb p.address 127)) own in (
           parts.0,
           elim (or_cases (eqb p.address r.config.address) (eqb p.address 127) (not-false (eqb p.address r.config.address || eqb p.address 127) parts.1)) [
-            inl here ↦ inl (eqb-true p.address r.config.address here)
-          | inr all ↦ inr (eqb-true p.address 127 all)
+            | inl here ↦ inl (eqb-true p.address r.config.address here)
+            | inr all ↦ inr (eqb-true p.address 127 all)
           ],
         )
 

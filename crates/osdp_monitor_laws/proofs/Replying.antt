@@ -1,14 +1,13 @@
 -- How a reader may answer that agrees with what is known: it is not accused, and agrees then, whether or not the reply comes.
 use Rattle.std.proofs.Common.{◌≡◌, ◌≢◌, ◌⊎◌, inl, inr, ℕ, Bool, true, false, cond, eqb, ◌&&◌, ◌||◌, not, Option, Some, None, refl, sym, subst, ap, ◌∙◌}
-use Rattle.std.proofs.lemmas.Bool.{and_from, and_left, and_right, cond-false, cond-true, cond_both, eq-eqb, eqb-true, false≢true, ne_eqb, not_from_false, not_from_true, or_from, or_left, or_right}
+use Rattle.std.proofs.lemmas.Bool.{and_from, and_left, and_right, cond-false, cond-true, cond_both, eq-eqb, false≢true, ne_eqb, not_from_false, not_from_true, or_from, or_left, or_right}
 use Rattle.std.specs.Prelude.{is_some}
 use Rattle.osdp_frame.specs.Packet.{Packet, next_sequence}
-use Rattle.osdp_monitor.specs.declared.accusation.Accusation.{Accusation}
 use Rattle.osdp_monitor.specs.declared.accusation.Accusation.TheVariants.{AnotherCheck, AnotherNumber, AnotherReply, BusyToRepeat, RefusedZero, SecondReply, TakenOutOfTurn}
 use Rattle.osdp_monitor.specs.declared.said.Said.{Said}
-use Rattle.osdp_monitor.specs.declared.said.Said.TheVariants.{Busy, Damage, Refusal, Answer}
+use Rattle.osdp_monitor.specs.declared.said.Said.TheVariants.{Busy, Refusal, Answer}
 use Rattle.osdp_monitor.specs.Known.{Known, is_number, same_check, same_packet}
-use Rattle.osdp_monitor.specs.Reader.{after_answer, after_reply, after_reply_of, answer_accused, busy_accused, reader_accused, refusal_accused, repeat_reply, reply_accused, taken_accused, turn_accused}
+use Rattle.osdp_monitor.specs.Reader.{after_answer, after_reply, after_reply_of, answer_accused, reader_accused, repeat_reply, reply_accused, taken_accused, turn_accused}
 use Rattle.osdp_monitor.specs.Saying.{is_damage, said}
 use Rattle.osdp_monitor_laws.proofs.Agreeing.{Agrees, IsAsked, Level, TakesZero, Unheard, none_some, same_some}
 use Rattle.osdp_monitor_laws.proofs.Numbers.{next_above_zero, next_differs}
@@ -42,7 +41,7 @@ IsNext last number = (number ≡ 0) ⊎ ((m : ℕ) × (last ≡ Some m) × (numb
 known_next : (k : Known) (p : Packet) (last : Option ℕ) (stored : Option Packet) → IsAsked k p → Agrees k last stored
     → (m : ℕ) → last ≡ Some m → p.sequence ≡ next_sequence m → (n : ℕ) → k.taken ≡ Some n → m ≡ n
 known_next k p last stored asked agrees m has next n taken = elim (agrees n m taken has) [
-    inl level ↦ level.same
+  | inl level ↦ level.same
   | inr u ↦ absurd (next_differs m (sym next ∙ ap (λ x. x.sequence) (same_some p u.packet (sym asked.last ∙ u.last)) ∙ u.number))
 ]
 
@@ -137,12 +136,12 @@ module _ (k : Known) (p : Packet) (last : Option ℕ) (stored : Option Packet) (
   -- BUSY, with number 0
   busy_agrees : IsNext last p.sequence → Agrees (after_reply_of Busy k p p) last stored
   busy_agrees next n m taken has = elim (agrees n m taken has) [
-      inl level ↦ inl (record { same = level.same; keeps = level.keeps })
+    | inl level ↦ inl (record { same = level.same; keeps = level.keeps })
     | inr u ↦
         let number : p.sequence ≡ m = ap (λ x. x.sequence) (same_some p u.packet (sym asked.last ∙ u.last)) ∙ u.number in
         absurd (elim next [
-          inl zero ↦ next_above_zero n (sym u.next ∙ sym number ∙ zero)
-        | inr after ↦ next_differs after.0 (sym after.2 ∙ number ∙ same_some m after.0 (sym has ∙ after.1))
+          | inl zero ↦ next_above_zero n (sym u.next ∙ sym number ∙ zero)
+          | inr after ↦ next_differs after.0 (sym after.2 ∙ number ∙ same_some m after.0 (sym has ∙ after.1))
         ])
   ]
 
@@ -182,7 +181,7 @@ module _ (k : Known) (p : Packet) (last : Option ℕ) (stored : Option Packet) (
         → answer_accused (repeat_reply k p) k p q ≡ None
     known_again n taken (inl level) =
         let known : is_number k.taken p.sequence ≡ true =
-            subst (λ o. is_number o p.sequence ≡ true) (sym taken) (eq-eqb n p.sequence (sym level.same)) in
+        subst (λ o. is_number o p.sequence ≡ true) (sym taken) (eq-eqb n p.sequence (sym level.same)) in
         ap (λ o. answer_accused o k p q) (cond-true (not (eqb p.sequence 0) && is_number k.taken p.sequence) k.stored None
         (and_from (not (eqb p.sequence 0)) (is_number k.taken p.sequence) (not_from_false (eqb p.sequence 0) (ne_eqb p.sequence 0 above)) known))
         ∙ by_stored k.stored refl n taken level
@@ -202,12 +201,12 @@ module _ (k : Known) (p : Packet) (last : Option ℕ) (stored : Option Packet) (
 
     agrees_again : (repeat : Bool) → is_some (repeat_reply k p) ≡ repeat → Agrees (after_answer repeat p.sequence k q) last stored
     agrees_again true is = λ n m taken other. elim (agrees n m taken other) [
-          inl level ↦ inl (record { same = level.same; keeps = level.keeps })
-        | inr u ↦
-            let same : p.sequence ≡ m = same_some p.sequence m (sym has ∙ other) in
-            absurd (false≢true (sym (ap is_some (no_repeat k p (inr (not_taken k.taken p.sequence
-            (λ j known number. next_differs n (sym u.next ∙ sym same ∙ number ∙ same_some j n (sym known ∙ taken))))))) ∙ is))
-      ]
+      | inl level ↦ inl (record { same = level.same; keeps = level.keeps })
+      | inr u ↦
+          let same : p.sequence ≡ m = same_some p.sequence m (sym has ∙ other) in
+          absurd (false≢true (sym (ap is_some (no_repeat k p (inr (not_taken k.taken p.sequence
+          (λ j known number. next_differs n (sym u.next ∙ sym same ∙ number ∙ same_some j n (sym known ∙ taken))))))) ∙ is))
+    ]
     agrees_again false is =
         subst (λ o. Agrees (after_answer false p.sequence k q) o stored) (sym has) (taking_agrees k p q stored (λ _. kept))
 

@@ -1,6 +1,6 @@
 -- A packet that is the same byte for byte is the same packet.
-use Rattle.std.proofs.Common.{◌≡◌, ℕ, Bool, true, false, ◌&&◌, eqb, List, refl, arith}
-use Rattle.std.proofs.lemmas.Bool.{and_from, and_parts, eq-eqb, eqb-true, false≢true, true≢false}
+use Rattle.std.proofs.Common.{◌≡◌, Bool, true, false, ◌&&◌, eqb, refl}
+use Rattle.std.proofs.lemmas.Bool.{eq-eqb, eqb-true, false≢true}
 use Rattle.std.proofs.lemmas.Slice.Eq.{bytes_eq-Decides}
 use Rattle.std.specs.Bool.{beq}
 use Rattle.std.specs.Str.{bytes_eq}
@@ -55,10 +55,10 @@ all_seven true true true true true true false all = absurd (false≢true all)
 pub packet_is : (p q : Packet) → same_packet p q ≡ true → p ≡ q
 packet_is p q same =
     let parts = all_seven (beq p.reply q.reply) (eqb p.address q.address) (eqb p.sequence q.sequence) (same_check p.check q.check)
-        (beq p.block q.block) (eqb p.reserved q.reserved) (bytes_eq p.body q.body) same in
+    (beq p.block q.block) (eqb p.reserved q.reserved) (bytes_eq p.body q.body) same in
     same_fields p q (same_bool p.reply q.reply parts.0) (eqb-true p.address q.address parts.1) (eqb-true p.sequence q.sequence parts.2)
-        (same_kind p.check q.check parts.3) (same_bool p.block q.block parts.4) (eqb-true p.reserved q.reserved parts.5)
-        ((bytes_eq-Decides p.body q.body).0 parts.6)
+    (same_kind p.check q.check parts.3) (same_bool p.block q.block parts.4) (eqb-true p.reserved q.reserved parts.5)
+    ((bytes_eq-Decides p.body q.body).0 parts.6)
 
 seven : (a b c d e f g : Bool) → a ≡ true → b ≡ true → c ≡ true → d ≡ true → e ≡ true → f ≡ true → g ≡ true
     → (a && b && c && d && e && f && g) ≡ true
@@ -67,6 +67,6 @@ seven a b c d e f g ta tb tc td te tf tg = cc
 pub is_packet : (p : Packet) → same_packet p p ≡ true
 is_packet p =
     seven (beq p.reply p.reply) (eqb p.address p.address) (eqb p.sequence p.sequence) (same_check p.check p.check)
-        (beq p.block p.block) (eqb p.reserved p.reserved) (bytes_eq p.body p.body)
-        (bool_same p.reply) (eq-eqb p.address p.address refl) (eq-eqb p.sequence p.sequence refl) (check_same p.check)
-        (bool_same p.block) (eq-eqb p.reserved p.reserved refl) ((bytes_eq-Decides p.body p.body).1 refl)
+    (beq p.block p.block) (eqb p.reserved p.reserved) (bytes_eq p.body p.body)
+    (bool_same p.reply) (eq-eqb p.address p.address refl) (eq-eqb p.sequence p.sequence refl) (check_same p.check)
+    (bool_same p.block) (eq-eqb p.reserved p.reserved refl) ((bytes_eq-Decides p.body p.body).1 refl)

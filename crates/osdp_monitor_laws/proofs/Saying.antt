@@ -1,5 +1,5 @@
 -- What a reader says anew, as a listener reads it.
-use Rattle.std.proofs.Common.{◌≡◌, ◌≢◌, ◌⊎◌, inl, inr, ℕ, suc, Bool, true, false, cond, eqb, ◌&&◌, not, List, Option, Some, None, Result, Ok, Err, refl, sym, subst, ap, ◌∙◌}
+use Rattle.std.proofs.Common.{◌≡◌, ◌≢◌, ℕ, suc, true, false, cond, eqb, not, Some, None, Result, Ok, Err, refl, sym, subst, ap, ◌∙◌}
 use Rattle.std.proofs.lemmas.Bool.{and_left, and_right, cond-false, cond-true, ne_eqb, not_from_true}
 use Rattle.std.specs.Prelude.{IfSome}
 use Rattle.osdp_controller.specs.Answers.{meaning_by_reading, meaning_by_reason, meaning_by_reply}
@@ -16,12 +16,11 @@ use Rattle.osdp_msg.specs.declared.reply.Reply.{Reply}
 use Rattle.osdp_msg.specs.declared.reply.Reply.TheVariants as reply
 use Rattle.osdp_msg.specs.declared.reply_fields.Nak.{Nak as NakData}
 use Rattle.osdp_msg_laws.specs.Laws.{FitsAPacket, ReadsTheTable}
-use Rattle.osdp_monitor.specs.declared.accusation.Accusation.{Accusation}
 use Rattle.osdp_monitor.specs.declared.accusation.Accusation.TheVariants.{AnotherCheck, EventAtZero, UnfitReply}
 use Rattle.osdp_monitor.specs.declared.said.Said.TheVariants.{Answer}
 use Rattle.osdp_monitor.specs.Known.{same_check}
 use Rattle.osdp_monitor.specs.Reader.{fit_accused, is_event_at_zero, is_plain, reading_accused, taken_accused}
-use Rattle.osdp_monitor.specs.Saying.{asked, said, said_by, told}
+use Rattle.osdp_monitor.specs.Saying.{said, said_by, told}
 use Rattle.osdp_reader.specs.Replies.{reply_packet}
 use Rattle.osdp_reader.specs.Table.{Outcome, command_in}
 use Rattle.osdp_reader_laws.specs.Laws.{IsPlain}

@@ -2,6 +2,7 @@
 //! their contracts are laws.
 #![tactic(auto)]
 
+ghost use Rattle.osdp_monitor_laws.specs.Misses.{MissesNoOtherPacket, MissesNoOtherReply, MissesNoUnanswered};
 ghost use Rattle.osdp_monitor_laws.specs.PanelLine.{AccusesNoPanel};
 ghost use Rattle.osdp_monitor_laws.specs.ReaderLine.{AccusesNoReader};
 
@@ -22,4 +23,19 @@ pub fn accuses_no_reader<H: Handler>()
 /// replies come, and however often it starts anew.
 pub fn accuses_no_panel()
     ensures { AccusesNoPanel }
+{}
+
+/// Where nothing was forgotten since, another packet with the number of the last, which isn't 0, is accused.
+pub fn misses_no_other_packet()
+    ensures { MissesNoOtherPacket }
+{}
+
+/// Where nothing was forgotten since, the next number is accused while no reply has answered the last packet since its first copy.
+pub fn misses_no_unanswered()
+    ensures { MissesNoUnanswered }
+{}
+
+/// Where nothing was forgotten since, whatever answers a repeat, but the reply that its number had, NAK 1 and NAK 4, is accused.
+pub fn misses_no_other_reply()
+    ensures { MissesNoOtherReply }
 {}
