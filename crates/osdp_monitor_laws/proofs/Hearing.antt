@@ -6,29 +6,35 @@ use Rattle.osdp_frame.specs.Packet.{Packet, next_sequence}
 use Rattle.osdp_msg.specs.Fitting.{reply_fits}
 use Rattle.osdp_msg.specs.ReplyTable.{ReplyFits}
 use Rattle.osdp_msg.specs.declared.command.Command.{Command}
-use Rattle.osdp_msg.specs.declared.command.Command.TheVariants as command
 use Rattle.osdp_msg.specs.declared.fault.MsgFault.{MsgFault}
 use Rattle.osdp_msg.specs.declared.nak.NakReason.TheVariants.{UnexpectedSequence}
-use Rattle.osdp_msg.specs.declared.reply.Reply.{Reply}
 use Rattle.osdp_msg.specs.declared.reply.Reply.TheVariants as reply
 use Rattle.osdp_monitor.specs.declared.said.Said.TheVariants.{Answer}
 use Rattle.osdp_monitor.specs.Known.{Known}
-use Rattle.osdp_monitor.specs.Reader.{after_reply, is_plain}
+use Rattle.osdp_monitor.specs.Reader.{after_reply, is_event_at_zero, is_plain}
 use Rattle.osdp_monitor.specs.Saying.{said}
 use Rattle.osdp_reader.specs.declared.handler.Answer.{Answer as AnswerOfHandler}
 use Rattle.osdp_reader.specs.declared.kind.Kind.{Kind}
 use Rattle.osdp_reader.specs.declared.kind.Kind.TheVariants.{Silent, Secured, Zero, Repeat, Taken, Busy, Wrong}
 use Rattle.osdp_reader.specs.Queue.{event_for, offering, released, withdrawn}
-use Rattle.osdp_reader.specs.Replies.{refused, reply_packet}
+use Rattle.osdp_reader.specs.Replies.{refused, reply_packet, unread_reason}
 use Rattle.osdp_reader.specs.State.{ReaderState}
 use Rattle.osdp_reader.specs.Table.{Outcome, answer_to, begun, command_in, event_or_answer, hears, is_for_another, kind_by_number, kind_of, moved, new_address, outcome, taken}
-use Rattle.osdp_reader_laws.specs.Laws.{AnswersPlainly, IsPlain}
-use Rattle.osdp_reader_laws.specs.Steps.{SaysWhatFits}
 use Rattle.osdp_monitor_laws.proofs.Agreeing.{Agrees, IsAsked, TakesZero, agrees_new, none_some, same_some}
+use Rattle.osdp_monitor_laws.proofs.FittingReplies.{answer_suits, event_or_answer_suits, unread_answers}
 use Rattle.osdp_monitor_laws.proofs.Numbers.{next_above_zero}
 use Rattle.osdp_monitor_laws.proofs.Replying.{IsNext, Replies, acting, busy, refusing, repeating}
 use Rattle.osdp_monitor_laws.proofs.Same.{check_same}
 use Rattle.osdp_monitor_laws.proofs.Saying.{IsActedOn, IsOwnReply, ReadsReplies, no_event_above, no_event_of, own_reply_of, said_is}
+
+abbrev ok : Command → Result Command MsgFault
+ok c = Ok c
+
+same_ok : (c d : Command) → ok c ≡ Ok d → c ≡ d
+same_ok c d e = cc
+
+unread : (fault : MsgFault) (c : Command) → Err fault ≡ Ok c → ⊥
+unread fault c e = cc
 
 -- what each line of the table says of the packet
 abbrev pub IsOfKind : Packet → Option ℕ → Kind → Type 0
@@ -126,34 +132,54 @@ module _ {H : Type 0} where
         } in
         ends_as r (moved (new_address c) s) s p.sequence refl refl (move_ends (new_address c) s)
 
-    pub record Given : Type 0 where
-      pub reads : ReadsReplies
-      pub plainly : AnswersPlainly answer_of after
-      pub fit : SaysWhatFits answer_of after
-
     abbrev pub Fits : Outcome H → Type 0
     Fits o = IfSome o.said ReplyFits
 
-    acted_zero : Given → (r : ReaderState H) (p : Packet) → kind_of r p ≡ Zero → p.sequence ≡ 0 → Fits (begun answer_of after (command_in p) r p)
-        → IsActedOn p (begun answer_of after (command_in p) r p)
-    acted_zero given r p kind zero fits = record {
-      plain = subst (λ k. (x : Reply) × ((outcome answer_of after k r p).said ≡ Some x) × ((outcome answer_of after k r p).reply ≡ Some (reply_packet p p.sequence x)) × IsPlain x) kind (given.plainly r p (inl kind));
-      fits = fits;
-      fitting = λ c is. subst (λ k. (x : Reply) × ((outcome answer_of after k r p).said ≡ Some x) × (reply_fits c x ≡ true)) kind (given.fit r p c (inl kind) is);
-      no_event = λ c x is says. no_event_of c x p.sequence (λ poll.
-          let read : command_in p ≡ Ok command.Poll = is ∙ ap Ok poll in
-          let ack : Some reply.Ack ≡ Some x = ap (λ t. (begun answer_of after t r p).said) (sym read) ∙ says in
-          subst (λ y. is_plain y ≡ true) (same_some reply.Ack x ack) refl);
+    -- number 0 tells no event
+    acted_zero : (read : Result Command MsgFault) (r : ReaderState H) (p : Packet) → command_in p ≡ read → p.sequence ≡ 0
+        → IsActedOn p (begun answer_of after read r p)
+    acted_zero (Err fault) r p is zero = record {
+      said = refused (unread_reason fault);
+      says = refl;
+      sent = ap (λ n. Some (reply_packet p n (refused (unread_reason fault)))) (sym zero);
+      answers = unread_answers fault;
+      fitting = λ c read. absurd (unread fault c (sym is ∙ read));
     }
+    acted_zero (Ok c) r p is zero =
+        let a = answer_to answer_of after r.config r.handler c in
+        let suits = answer_suits answer_of after r.config r.handler c in
+        record {
+          said = a.reply;
+          says = refl;
+          sent = ap (λ n. Some (reply_packet p n a.reply)) (sym zero);
+          answers = suits.0;
+          fitting = λ d read. subst (λ e. (reply_fits e a.reply ≡ true) × (is_event_at_zero e a.reply p.sequence ≡ false)) (same_ok c d (sym is ∙ read)) (
+            suits.1,
+            no_event_of c a.reply p.sequence
+                (λ poll. subst (λ e. is_plain (answer_to answer_of after r.config r.handler e).reply ≡ true) (sym poll) refl),
+          );
+        }
 
-    acted_taken : Given → (r : ReaderState H) (p : Packet) → kind_of r p ≡ Taken → p.sequence ≢ 0 → Fits (taken answer_of after (command_in p) r p)
-        → IsActedOn p (taken answer_of after (command_in p) r p)
-    acted_taken given r p kind above fits = record {
-      plain = subst (λ k. (x : Reply) × ((outcome answer_of after k r p).said ≡ Some x) × ((outcome answer_of after k r p).reply ≡ Some (reply_packet p p.sequence x)) × IsPlain x) kind (given.plainly r p (inr kind));
-      fits = fits;
-      fitting = λ c is. subst (λ k. (x : Reply) × ((outcome answer_of after k r p).said ≡ Some x) × (reply_fits c x ≡ true)) kind (given.fit r p c (inr kind) is);
-      no_event = λ c x is says. no_event_above c x p.sequence above;
+    acted_taken : (read : Result Command MsgFault) (r : ReaderState H) (p : Packet) → command_in p ≡ read → p.sequence ≢ 0
+        → IsActedOn p (taken answer_of after read r p)
+    acted_taken (Err fault) r p is above = record {
+      said = refused (unread_reason fault);
+      says = refl;
+      sent = refl;
+      answers = unread_answers fault;
+      fitting = λ c read. absurd (unread fault c (sym is ∙ read));
     }
+    acted_taken (Ok c) r p is above =
+        let a = event_or_answer answer_of after (event_for c (released r.queue).events) r.config r.handler c in
+        let suits = event_or_answer_suits answer_of after r.config r.handler c (released r.queue).events in
+        record {
+          said = a.reply;
+          says = refl;
+          sent = refl;
+          answers = suits.0;
+          fitting = λ d read. subst (λ e. (reply_fits e a.reply ≡ true) × (is_event_at_zero e a.reply p.sequence ≡ false)) (same_ok c d (sym is ∙ read))
+              (suits.1, no_event_above c a.reply p.sequence above);
+        }
 
     -- ---- what it sends and keeps
 
@@ -167,7 +193,7 @@ module _ {H : Type 0} where
     place_of r s number stored (inl none) = inl none
     place_of r s number stored (inr ends) = inr ends.2
 
-    module _ (given : Given) (r : ReaderState H) (p : Packet) (stores : Stores r) (here : (p.address ≡ r.config.address) ⊎ (p.address ≡ 127)) where
+    module _ (reads : ReadsReplies) (r : ReaderState H) (p : Packet) (stores : Stores r) (here : (p.address ≡ r.config.address) ⊎ (p.address ≡ 127)) where
       said_here : (q : Packet) → q.reply ≡ true → q.address ≡ p.address → IsSaid r.config.address q
       said_here q is same = record { reply = is; address = elim here [ inl own ↦ inl (same ∙ own) | inr all ↦ inr (same ∙ all) ] }
 
@@ -204,20 +230,20 @@ module _ {H : Type 0} where
         place = inr refl;
       }
       sends_kind Zero is of fits =
-          let acted = acted_zero given r p is of fits in
+          let acted = acted_zero (command_in p) r p refl of in
           let o = begun answer_of after (command_in p) r p in
           record {
-            sent = λ q same. own_here q (own_reply_of given.reads p o acted q same);
+            sent = λ q same. own_here q (own_reply_of reads p o acted fits q same);
             stores = zero_stores o.reader (zero_ends (command_in p) r p);
             place = place_of r o.reader 0 r.stored (zero_ends (command_in p) r p);
           }
       sends_kind Taken is of fits =
-          let acted = acted_taken given r p is (λ zero. next_above_zero of.0 (sym of.2 ∙ zero)) fits in
+          let acted = acted_taken (command_in p) r p refl (λ zero. next_above_zero of.0 (sym of.2 ∙ zero)) in
           let o = taken answer_of after (command_in p) r p in
-          let own = own_reply_of given.reads p o acted in
+          let own = own_reply_of reads p o acted fits in
           record {
             sent = λ q same. own_here q (own q same);
-            stores = taken_stores o.reader o.reply own (reply_packet p p.sequence acted.plain.0) acted.plain.2 (taken_ends (command_in p) r p);
+            stores = taken_stores o.reader o.reply own (reply_packet p p.sequence acted.said) acted.sent (taken_ends (command_in p) r p);
             place = place_of r o.reader p.sequence o.reply (taken_ends (command_in p) r p);
           }
 
@@ -250,11 +276,11 @@ module _ {H : Type 0} where
         comes_kind Busy is of fits =
             let x = reply_packet p 0 reply.Busy in
             comes_if (outcome answer_of after Busy r p) x refl (unchanging x
-            (busy k p r.last r.stored asked agrees takes x of (said_is given.reads p 0 reply.Busy tt) refl (check_same p.check)))
+            (busy k p r.last r.stored asked agrees takes x of (said_is reads p 0 reply.Busy tt) refl (check_same p.check)))
         comes_kind Wrong is of fits =
             let x = reply_packet p p.sequence (refused UnexpectedSequence) in
             comes_if (outcome answer_of after Wrong r p) x refl (unchanging x
-            (refusing k p r.last r.stored asked agrees takes x of (said_is given.reads p p.sequence (refused UnexpectedSequence) fits) refl (check_same p.check)))
+            (refusing k p r.last r.stored asked agrees takes x of (said_is reads p p.sequence (refused UnexpectedSequence) fits) refl (check_same p.check)))
         comes_kind Repeat is of fits =
             let kept = stores p.sequence of.1 of.0 in
             record {
@@ -263,18 +289,18 @@ module _ {H : Type 0} where
                   (repeating k p r.last r.stored asked agrees takes kept.packet of.1 of.0 kept.stored kept.number kept.says) q (sym kept.stored ∙ same);
             }
         comes_kind Zero is of fits =
-            let acted = acted_zero given r p is of fits in
+            let acted = acted_zero (command_in p) r p refl of in
             let o = begun answer_of after (command_in p) r p in
-            comes_if o (reply_packet p p.sequence acted.plain.0) acted.plain.2 (λ q same.
-            let own = own_reply_of given.reads p o acted q same in
+            comes_if o (reply_packet p p.sequence acted.said) acted.sent (λ q same.
+            let own = own_reply_of reads p o acted fits q same in
             after_end q o.reader 0 r.stored r.stored of refl
             (acting k p r.last r.stored asked agrees takes q r.stored (inl of) own.says own.number own.fine (λ above. absurd (above of)))
             (zero_ends (command_in p) r p))
         comes_kind Taken is of fits =
-            let acted = acted_taken given r p is (λ zero. next_above_zero of.0 (sym of.2 ∙ zero)) fits in
+            let acted = acted_taken (command_in p) r p refl (λ zero. next_above_zero of.0 (sym of.2 ∙ zero)) in
             let o = taken answer_of after (command_in p) r p in
-            comes_if o (reply_packet p p.sequence acted.plain.0) acted.plain.2 (λ q same.
-            let own = own_reply_of given.reads p o acted q same in
+            comes_if o (reply_packet p p.sequence acted.said) acted.sent (λ q same.
+            let own = own_reply_of reads p o acted fits q same in
             after_end q o.reader p.sequence (Some q) o.reply refl same
             (acting k p r.last r.stored asked agrees takes q (Some q) (inr of) own.says own.number own.fine (λ above. refl))
             (taken_ends (command_in p) r p))

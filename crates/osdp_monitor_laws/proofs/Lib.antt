@@ -10,3 +10,4 @@ pub mod PanelFits
 pub mod PanelLines
 pub mod Remembering
 pub mod Missing
+pub mod FittingReplies

@@ -9,10 +9,8 @@ use Rattle.osdp_controller.specs.declared.session.Session.{Session}
 use Rattle.osdp_controller.specs.declared.state.State.{State}
 use Rattle.osdp_controller.specs.declared.state.State.TheVariants.{Closed, Quiet, Idle, Waiting, Pausing}
 use Rattle.osdp_controller.specs.Hearing.{hears, is_from_reader}
-use Rattle.osdp_controller.specs.Machine.{Machine, after_begin, after_retarget, after_submit, begin_refusal, changed_unless, or_no_device, refused_unless_closed, retarget_refusal, submit_refusal}
+use Rattle.osdp_controller.specs.Machine.{Machine, after_begin, after_frame, after_retarget, after_submit, after_tick, begin_refusal, changed_unless, or_no_device, refused_unless_closed, retarget_refusal, submit_refusal}
 use Rattle.osdp_controller.specs.Sessions.{seen}
-use Rattle.osdp_controller_laws.specs.Runs as call
-use Rattle.osdp_controller_laws.specs.Runs.{after_call, sent_by}
 use Rattle.osdp_frame.specs.declared.check_kind.CheckKind.TheVariants.{Sum}
 use Rattle.osdp_frame.specs.Packet.{Packet}
 use Rattle.osdp_frame.specs.Reading.{smallest}
@@ -25,7 +23,7 @@ use Rattle.osdp_monitor.specs.Saying.{said}
 use Rattle.osdp_monitor_laws.proofs.Agreeing.{none_some, same_some, sent_asked}
 use Rattle.osdp_monitor_laws.proofs.Knowing.{at_address, sent_in_order}
 use Rattle.osdp_monitor_laws.proofs.PanelFits.{Fits, FitsIn, IsOut, IsTaken, MaySend, Sends, TickFits, frame, hear_fits, tick_fits}
-use Rattle.osdp_monitor_laws.specs.PanelLine.{AccusesNoPanel, ADeviceAlone, AreAllowed, Begin, Both, Forget, IsAllowed, ListenerAlone, MaySay, Nobody, PanelAlone, PanelLine, PanelMove, Reaches, Reads, Restart, Retarget, Say, Skip, Submit, TheListener, Tick, Withdraw, accused_of, after_move, after_said, after_sent, new_line, panel_accusations, panel_accused_by}
+use Rattle.osdp_monitor_laws.specs.PanelLine.{AccusesNoPanel, ADeviceAlone, AreAllowed, Begin, Both, Forget, IsAllowed, ListenerAlone, MaySay, Nobody, PanelAlone, PanelLine, PanelMove, Reaches, Reads, Restart, Retarget, Say, Skip, Submit, TheListener, Tick, Withdraw, accused_of, after_move, after_said, after_sent, new_line, panel_accusations, panel_accused_by, sent_at}
 
 -- ---- what a reply leaves
 
@@ -145,7 +143,7 @@ said_holds p now Both l holds may =
       | inl stays ↦ subst (λ (c : ControllerConfig). Fits heard.session l.reached (known.devices c.address)) (sym stays.0) stays.1
       | inr closed ↦ subst (λ state. FitsIn state heard.session.number heard.session.config l.reached (known.devices heard.session.config.address)) (sym closed) tt
     ]
-said_holds p now PanelAlone l holds may = forgotten (after_call (call.Hear p now) l.panel) l.reached
+said_holds p now PanelAlone l holds may = forgotten (after_frame p now l.panel) l.reached
 said_holds p now ListenerAlone l holds may = said_fits p l holds may
 
 -- ---- a tick
@@ -155,7 +153,7 @@ module _ (l : PanelLine) (now : ℕ) where
   s = l.panel.session
 
   abbrev ticked : PanelLine
-  ticked = record l { panel = after_call (call.Tick now) l.panel }
+  ticked = record l { panel = after_tick now l.panel }
 
   abbrev t : Session
   t = ticked.panel.session
@@ -201,7 +199,7 @@ move_holds (Retarget address) l holds allowed =
     unless (retarget_refusal address l.panel) l.panel (after_retarget address l.panel) l.reached l.known holds
     (retargeted l.panel.session.state address l.panel.session.number (record l.panel.session.config { address = address }) l.reached (l.known.devices address))
 move_holds (Tick now reaches) l holds allowed =
-    tick_by l now (sent_by (call.Tick now) l.panel) reaches (tick_fits l.reached (before l now) now l.panel.session l.panel.waiting holds)
+    tick_by l now (sent_at now l.panel) reaches (tick_fits l.reached (before l now) now l.panel.session l.panel.waiting holds)
 move_holds (Say p now reads) l holds allowed = said_holds p now reads l holds allowed
 move_holds (Skip b) l holds allowed =
     cond_both (nat_lt (l.known.skipped + 1) (smallest Sum)) (record l.known { skipped = l.known.skipped + 1 }) no_knowledge
@@ -210,7 +208,7 @@ move_holds Forget l holds allowed = forgotten l.panel l.reached
 
 move_innocent : (move : PanelMove) (l : PanelLine) → Holds l → panel_accused_by move l ≡ None
 move_innocent (Tick now reaches) l holds =
-    innocent_by l now (sent_by (call.Tick now) l.panel) reaches (tick_fits l.reached (before l now) now l.panel.session l.panel.waiting holds)
+    innocent_by l now (sent_at now l.panel) reaches (tick_fits l.reached (before l now) now l.panel.session l.panel.waiting holds)
 move_innocent move l holds = refl
 
 all_innocent : (moves : List PanelMove) (l : PanelLine) → Holds l → AreAllowed moves l → panel_accusations moves l ≡ []

@@ -15,8 +15,9 @@ use Rattle.osdp_reader.specs.declared.kind.Kind.TheVariants.{Silent}
 use Rattle.osdp_reader.specs.State.{ReaderState, new_reader}
 use Rattle.osdp_reader.specs.Table.{Outcome, hears, is_for_another, kind_of, outcome}
 use Rattle.osdp_monitor_laws.proofs.Agreeing.{Agrees, IsAsked, TakesZero, agrees_new, agrees_untaken, none_some, reply_zero, same_some, sent_agrees, sent_asked, sent_zero, zero_untaken}
-use Rattle.osdp_monitor_laws.proofs.Hearing.{Given, IsSaid, Stores, comes, sends, stores_new}
+use Rattle.osdp_monitor_laws.proofs.Hearing.{IsSaid, Stores, comes, sends, stores_new}
 use Rattle.osdp_monitor_laws.proofs.Knowing.{all_in_order, at_address, at_all, reply_in_order}
+use Rattle.osdp_monitor_laws.proofs.Saying.{ReadsReplies}
 use Rattle.osdp_monitor_laws.specs.ReaderLine.{AccusesNoReader, AreAllowed, Both, IsAllowed, ListenerAlone, MaySay, ReaderAlone, ReaderLine, ReaderMove, Reads, accused_in, after_move, after_said, known_after, new_line, reader_accusations, reader_accused_by, Restart, Queue, SetBusy, SetHandler, Say, AnswerComes, Skip, Forget}
 
 -- the answer that is on its way: it is not accused, and what is known agrees with the reader when it has come
@@ -133,7 +134,7 @@ module _ {H : Type 0} where
       let k = known.devices r.config.address in
       (k ≡ nothing_known) ⊎ (IsAsked k p × (p.block ≡ false) × Agrees k r.last r.stored)
 
-  module _ (answer_of : H → Command → Answer) (after : H → Command → H) (given : Given answer_of after) where
+  module _ (answer_of : H → Command → Answer) (after : H → Command → H) (reading : ReadsReplies) where
     abbrev hearing : ReaderLine H → Outcome H → Knowledge → ReaderLine H
     hearing l o known = record l { reader = o.reader; answer = o.reply; known = known }
 
@@ -144,7 +145,7 @@ module _ {H : Type 0} where
     heard_holds l p known holds here fits zero (inl nothing) =
         let r = l.reader in
         let o = hears answer_of after r p in
-        let sent = sends answer_of after given r p holds.stores here fits in
+        let sent = sends answer_of after reading r p holds.stores here fits in
         let lost : Agrees (known.devices r.config.address) o.reader.last o.reader.stored =
         agrees_untaken (known.devices r.config.address) o.reader.last o.reader.stored (ap (λ k. k.taken) nothing) in
         record {
@@ -160,8 +161,8 @@ module _ {H : Type 0} where
         let r = l.reader in
         let o = hears answer_of after r p in
         let k = known.devices r.config.address in
-        let sent = sends answer_of after given r p holds.stores here fits in
-        let c = comes answer_of after given r p holds.stores here k asked.0 asked.2 (zero r.config.address) asked.1 fits in
+        let sent = sends answer_of after reading r p holds.stores here fits in
+        let c = comes answer_of after reading r p holds.stores here k asked.0 asked.2 (zero r.config.address) asked.1 fits in
         let is_last : (old : Packet) → k.last ≡ Some old → p ≡ old = λ old is. same_some p old (sym asked.0.last ∙ is) in
         record {
           zero = zero;

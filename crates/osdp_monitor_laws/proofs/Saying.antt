@@ -2,19 +2,14 @@
 use Rattle.std.proofs.Common.{◌≡◌, ◌≢◌, ℕ, suc, true, false, cond, eqb, not, Some, None, Result, Ok, Err, refl, sym, subst, ap, ◌∙◌}
 use Rattle.std.proofs.lemmas.Bool.{and_left, and_right, cond-false, cond-true, ne_eqb, not_from_true}
 use Rattle.std.specs.Prelude.{IfSome}
-use Rattle.osdp_controller.specs.Answers.{meaning_by_reading, meaning_by_reason, meaning_by_reply}
+use Rattle.osdp_controller.specs.Answers.{meaning_by_reading, meaning_by_reply}
 use Rattle.osdp_frame.specs.Packet.{Packet}
 use Rattle.osdp_msg.specs.Fitting.{reply_fits}
 use Rattle.osdp_msg.specs.ReplyTable.{IsReply, ReplyFits, reply_code, reply_data, reply_of}
 use Rattle.osdp_msg.specs.declared.command.Command.{Command}
 use Rattle.osdp_msg.specs.declared.command.Command.TheVariants as command
 use Rattle.osdp_msg.specs.declared.fault.MsgFault.{MsgFault}
-use Rattle.osdp_msg.specs.NakReasons.{reason_number}
-use Rattle.osdp_msg.specs.declared.nak.NakReason.{NakReason}
-use Rattle.osdp_msg.specs.declared.nak.NakReason.TheVariants.{CheckCharacters, UnexpectedSequence}
 use Rattle.osdp_msg.specs.declared.reply.Reply.{Reply}
-use Rattle.osdp_msg.specs.declared.reply.Reply.TheVariants as reply
-use Rattle.osdp_msg.specs.declared.reply_fields.Nak.{Nak as NakData}
 use Rattle.osdp_msg_laws.specs.Laws.{FitsAPacket, ReadsTheTable}
 use Rattle.osdp_monitor.specs.declared.accusation.Accusation.TheVariants.{AnotherCheck, EventAtZero, UnfitReply}
 use Rattle.osdp_monitor.specs.declared.said.Said.TheVariants.{Answer}
@@ -23,8 +18,8 @@ use Rattle.osdp_monitor.specs.Reader.{fit_accused, is_event_at_zero, is_plain, r
 use Rattle.osdp_monitor.specs.Saying.{said, said_by, told}
 use Rattle.osdp_reader.specs.Replies.{reply_packet}
 use Rattle.osdp_reader.specs.Table.{Outcome, command_in}
-use Rattle.osdp_reader_laws.specs.Laws.{IsPlain}
 use Rattle.osdp_monitor_laws.proofs.Agreeing.{same_some}
+use Rattle.osdp_monitor_laws.proofs.FittingReplies.{IsAnswer}
 use Rattle.osdp_monitor_laws.proofs.Same.{check_same}
 
 -- a reply is read from its code and data
@@ -39,16 +34,6 @@ reads_replies reads room x fits =
 pub said_is : ReadsReplies → (p : Packet) (number : ℕ) (x : Reply) → ReplyFits x
     → said (reply_packet p number x) ≡ said_by (meaning_by_reply x)
 said_is reads p number x fits = ap (λ t. said_by (meaning_by_reading (reply_code x) t)) (reads x fits)
-
-by_reason : (reason : NakReason) (n : NakData) → (reason_number reason ≢ 1) × (reason_number reason ≢ 4) → said_by (meaning_by_reason reason n) ≡ Answer
-by_reason CheckCharacters n plain = absurd (plain.0 refl)
-by_reason UnexpectedSequence n plain = absurd (plain.1 refl)
-by_reason reason n plain = refl
-
-plain_is_answer : (x : Reply) → IsPlain x → said_by (meaning_by_reply x) ≡ Answer
-plain_is_answer reply.Busy plain = absurd plain
-plain_is_answer (reply.Nak n) plain = by_reason n.reason n plain
-plain_is_answer x plain = refl
 
 -- a POLL at number 0 is told no event
 pub no_event_of : (c : Command) (x : Reply) (number : ℕ) → (c ≡ command.Poll → is_plain x ≡ true) → is_event_at_zero c x number ≡ false
@@ -78,10 +63,11 @@ taken_in_order reads p number x fits fitting =
 
 -- what a packet that is acted on is answered
 pub record IsActedOn {H : Type 0} (p : Packet) (o : Outcome H) : Type 0 where
-  pub plain : (x : Reply) × (o.said ≡ Some x) × (o.reply ≡ Some (reply_packet p p.sequence x)) × IsPlain x
-  pub fits : IfSome o.said ReplyFits
-  pub fitting : (c : Command) → command_in p ≡ Ok c → (x : Reply) × (o.said ≡ Some x) × (reply_fits c x ≡ true)
-  pub no_event : (c : Command) (x : Reply) → command_in p ≡ Ok c → o.said ≡ Some x → is_event_at_zero c x p.sequence ≡ false
+  pub said : Reply
+  pub says : o.said ≡ Some said
+  pub sent : o.reply ≡ Some (reply_packet p p.sequence said)
+  pub answers : IsAnswer said
+  pub fitting : (c : Command) → command_in p ≡ Ok c → (reply_fits c said ≡ true) × (is_event_at_zero c said p.sequence ≡ false)
 
 -- .. and how a listener takes it
 pub record IsOwnReply (p q : Packet) : Type 0 where
@@ -91,17 +77,16 @@ pub record IsOwnReply (p q : Packet) : Type 0 where
   pub says : said q ≡ Answer
   pub fine : taken_accused p q ≡ None
 
-pub own_reply_of : {H : Type 0} → ReadsReplies → (p : Packet) (o : Outcome H) → IsActedOn p o → (q : Packet) → o.reply ≡ Some q → IsOwnReply p q
-own_reply_of reads p o acted q sent =
-    let x = acted.plain.0 in
-    let same : reply_packet p p.sequence x ≡ q = same_some (reply_packet p p.sequence x) q (sym acted.plain.2 ∙ sent) in
-    let fits : ReplyFits x = subst (λ t. IfSome t ReplyFits) acted.plain.1 acted.fits in
+pub own_reply_of : {H : Type 0} → ReadsReplies → (p : Packet) (o : Outcome H) → IsActedOn p o → IfSome o.said ReplyFits → (q : Packet) → o.reply ≡ Some q
+    → IsOwnReply p q
+own_reply_of reads p o acted fitting q sent =
+    let x = acted.said in
+    let same : reply_packet p p.sequence x ≡ q = same_some (reply_packet p p.sequence x) q (sym acted.sent ∙ sent) in
+    let fits : ReplyFits x = subst (λ t. IfSome t ReplyFits) acted.says fitting in
     subst (IsOwnReply p) same (record {
       reply = refl;
       address = refl;
       number = refl;
-      says = said_is reads p p.sequence x fits ∙ plain_is_answer x acted.plain.3;
-      fine = taken_in_order reads p p.sequence x fits (λ c is.
-          let y = acted.fitting c is in
-          (subst (λ z. reply_fits c z ≡ true) (same_some y.0 x (sym y.1 ∙ acted.plain.1)) y.2, acted.no_event c x is acted.plain.1));
+      says = said_is reads p p.sequence x fits ∙ acted.answers;
+      fine = taken_in_order reads p p.sequence x fits acted.fitting;
     })

@@ -1,9 +1,8 @@
 -- A panel on two wires, and somebody who listens there: what may happen, and whom the listener accuses.
 use Rattle.std.specs.Prelude.{◌≡◌, ◌≢◌, ℕ, Bool, true, false, List, [], ◌∷◌, ◌++◌, Option, Some, None, option_to_list}
 use Rattle.osdp_controller.specs.declared.config.ControllerConfig.{ControllerConfig}
-use Rattle.osdp_controller.specs.Machine.{Machine, new_machine}
-use Rattle.osdp_controller_laws.specs.Runs as call
-use Rattle.osdp_controller_laws.specs.Runs.{after_call, sent_by}
+use Rattle.osdp_controller.specs.Machine.{Machine, after_begin, after_frame, after_retarget, after_submit, after_tick, after_withdraw, begin_refusal, changed_unless, new_machine, retarget_refusal, submit_refusal}
+use Rattle.osdp_controller.specs.Ticking.{ticks}
 use Rattle.osdp_frame.specs.Packet.{Packet}
 use Rattle.osdp_frame.specs.Reading.{PacketItem, SkippedItem}
 use Rattle.osdp_msg.specs.declared.command.Command.{Command}
@@ -55,18 +54,24 @@ after_sent (Some p) Nobody l = record l { reached = false }
 -- .. and so does what the panel alone reads
 abbrev pub after_said : Packet → ℕ → Reads → PanelLine → PanelLine
 after_said p now Both l =
-    record l { panel = after_call (call.Hear p now) l.panel; known = after_item l.known (PacketItem p) }
-after_said p now PanelAlone l = record l { panel = after_call (call.Hear p now) l.panel; known = no_knowledge }
+    record l { panel = after_frame p now l.panel; known = after_item l.known (PacketItem p) }
+after_said p now PanelAlone l = record l { panel = after_frame p now l.panel; known = no_knowledge }
 after_said p now ListenerAlone l = record l { known = after_item l.known (PacketItem p) }
+
+-- the packet that a tick sends
+abbrev pub sent_at : ℕ → Machine → Option Packet
+sent_at now m = (ticks now m.session m.waiting).step.frame
 
 abbrev pub after_move : PanelMove → PanelLine → PanelLine
 after_move (Restart config capacity) l = record l { panel = new_machine config capacity }
-after_move (Submit command) l = record l { panel = after_call (call.Submit command) l.panel }
-after_move Withdraw l = record l { panel = after_call call.Withdraw l.panel }
-after_move (Begin now) l = record l { panel = after_call (call.Begin now) l.panel }
-after_move (Retarget address) l = record l { panel = after_call (call.Retarget address) l.panel }
+after_move (Submit command) l =
+    record l { panel = changed_unless (submit_refusal command l.panel) l.panel (after_submit command l.panel) }
+after_move Withdraw l = record l { panel = after_withdraw l.panel }
+after_move (Begin now) l = record l { panel = changed_unless (begin_refusal l.panel) l.panel (after_begin now l.panel) }
+after_move (Retarget address) l =
+    record l { panel = changed_unless (retarget_refusal address l.panel) l.panel (after_retarget address l.panel) }
 after_move (Tick now reaches) l =
-    after_sent (sent_by (call.Tick now) l.panel) reaches (record l { panel = after_call (call.Tick now) l.panel })
+    after_sent (sent_at now l.panel) reaches (record l { panel = after_tick now l.panel })
 after_move (Say p now reads) l = after_said p now reads l
 after_move (Skip b) l = record l { known = after_item l.known (SkippedItem b) }
 after_move Forget l = record l { known = no_knowledge }
@@ -91,7 +96,7 @@ accused_of (Some p) TheListener known = (found_in known p).accusation
 accused_of _ _ known = None
 
 abbrev pub panel_accused_by : PanelMove → PanelLine → Option Accusation
-panel_accused_by (Tick now reaches) l = accused_of (sent_by (call.Tick now) l.panel) reaches l.known
+panel_accused_by (Tick now reaches) l = accused_of (sent_at now l.panel) reaches l.known
 panel_accused_by _ l = None
 
 -- all that the panel is accused of

@@ -15,8 +15,6 @@ pub fn accuses_no_reader<H: Handler>()
 {
     osdp_msg_laws::reply_of_reads_the_table();
     osdp_msg_laws::replies_fit_a_packet();
-    osdp_reader_laws::replies_fit::<H>();
-    osdp_reader_laws::answers_plainly::<H>();
 }
 
 /// Where no other panel speaks to its device, nothing that a panel sends is accused, whatever is called at whatever moments, whatever
