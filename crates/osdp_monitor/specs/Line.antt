@@ -1,5 +1,5 @@
 -- The rules over a whole line: what is known after each item, and what is found in it.
-use Rattle.std.specs.Prelude.{ℕ, ◌==◌, ◌+◌, Bool, ◌||◌, nat_lt, if◌then◌else◌, List, [], ◌∷◌, Option, None, Some}
+use Rattle.std.specs.Prelude.{ℕ, ◌==◌, ◌+◌, Bool, false, ◌||◌, nat_lt, if◌then◌else◌, List, [], ◌∷◌, Option, None, Some}
 use Rattle.osdp_frame.specs.Packet.{Packet}
 use Rattle.osdp_frame.specs.declared.check_kind.CheckKind.TheVariants.{Sum}
 use Rattle.osdp_frame.specs.Reading.{RunItem, PacketItem, SkippedItem, RefusedItem, smallest}
@@ -8,7 +8,7 @@ use Rattle.osdp_monitor.specs.declared.accusation.Accusation.TheVariants.{Anothe
 use Rattle.osdp_monitor.specs.declared.found.Found.{Found}
 use Rattle.osdp_monitor.specs.declared.found.Notice.{Notice}
 use Rattle.osdp_monitor.specs.declared.found.Notice.TheVariants.{Opened, Moved, Restarted, Unanswered}
-use Rattle.osdp_monitor.specs.Known.{Known, nothing_known}
+use Rattle.osdp_monitor.specs.Known.{Known, nothing_known, same_packet}
 use Rattle.osdp_monitor.specs.Panel.{after_sent, is_missed, panel_accused}
 use Rattle.osdp_monitor.specs.Reader.{after_reply, is_opening, reader_accused}
 use Rattle.osdp_monitor.specs.Saying.{asked, is_foreign, is_refusal, moved_by, said, told}
@@ -122,3 +122,11 @@ expected_if k (Some accusation) = expected_by k accusation
 
 abbrev pub expected_in : Knowledge → Packet → Option Packet
 expected_in line p = expected_if (line.devices p.address) (found_in line p).accusation
+
+-- a packet to a device that is the last one once more
+abbrev pub is_last : Option Packet → Packet → Bool
+is_last None p = false
+is_last (Some last) p = same_packet last p
+
+abbrev pub copies_last : Knowledge → Packet → Bool
+copies_last line p = is_last (line.devices p.address).last p

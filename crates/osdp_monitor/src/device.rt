@@ -2,7 +2,7 @@
 
 ghost use Rattle.std.specs.Prelude.{◌≡◌, []};
 ghost use Rattle.osdp_monitor.specs.Known.{nothing_known};
-ghost use Rattle.osdp_monitor.specs.Line.{after_reply_if, expected_if, found_in_reply, found_in_sent, moves_to, reply_notice};
+ghost use Rattle.osdp_monitor.specs.Line.{after_reply_if, expected_if, found_in_reply, found_in_sent, is_last, moves_to, reply_notice};
 ghost use Rattle.osdp_monitor.specs.Panel.{after_another, after_sent};
 ghost use Rattle.osdp_monitor.specs.Private.{IsSpelledIf};
 ghost use Rattle.osdp_monitor.specs.Reader.{after_answer, reader_accused, repeat_reply};
@@ -82,6 +82,16 @@ impl Device {
             } else {
                 None
             },
+        }
+    }
+
+    /// Whether a packet is the last one once more.
+    pub fn is_last(&self, packet: &FrameView<'_>) -> bool
+        ensures { result ≡ is_last self.now.last packet.now }
+    {
+        match self.last.view() {
+            Some(last) => same_packet(&last, packet),
+            None => false,
         }
     }
 
@@ -175,7 +185,7 @@ impl Device {
         ensures { result ≡ reply_notice moved self.now last.now reply.now }
     {
         if let Some(address) = moved {
-            return Some(Notice::Moved(address));
+            return Some(Notice::Moved(address.get()));
         }
         if matches!(meant, Said::Refusal) {
             return Some(Notice::Restarted);

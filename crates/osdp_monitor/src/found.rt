@@ -1,7 +1,6 @@
 //! What is found in a packet.
 
 use crate::accusation::Accusation;
-use osdp_frame::Address;
 
 /// What is worth a look and breaks no rule.
 #[derive(Clone, Copy, Debug, PartialEq, Eq)]
@@ -9,7 +8,7 @@ pub enum Notice {
     /// A packet with number 0 was answered for the first time: a session is open.
     Opened,
     /// The device has gone to this address.
-    Moved(Address),
+    Moved(u8),
     /// NAK 4: the device has no last number, as after a restart.
     Restarted,
     /// The packet before this one had no reply, and it is the first in a row.

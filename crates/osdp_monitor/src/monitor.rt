@@ -1,7 +1,7 @@
 //! The listener.
 
 ghost use Rattle.std.specs.Prelude.{◌≡◌, ◌<◌, true, false, [], IfOk, OnErr, OnOk};
-ghost use Rattle.osdp_monitor.specs.Line.{after_packet, after_skipped, expected_in, found_in, no_knowledge};
+ghost use Rattle.osdp_monitor.specs.Line.{after_packet, after_skipped, copies_last, expected_in, found_in, no_knowledge};
 ghost use Rattle.osdp_monitor.specs.Private.{IsSpelledIf};
 ghost use Rattle.osdp_monitor.specs.Saying.{is_foreign};
 
@@ -70,6 +70,16 @@ impl Monitor {
             return Ok(self.hear_reply(packet, expected));
         }
         self.hear_sent(packet, expected)
+    }
+
+    /// Whether a packet to a device is the last one to its address once more, as far as that is known.
+    pub fn copies_last(&self, packet: &FrameView<'_>) -> bool
+        ensures { result ≡ copies_last (knowledge_of self.now) packet.now }
+    {
+        match self.devices.get(packet.address()) {
+            Some(device) => device.is_last(packet),
+            None => false,
+        }
     }
 
     /// Takes a packet with a security block, or with a code that the tables don't have: nothing is known of its address any more.
