@@ -55,7 +55,7 @@ checked=(-fsanitize=address,undefined -fno-sanitize-recover=all)
 export ASAN_OPTIONS=detect_leaks=1:allocator_may_return_null=1
 
 for heap in malloc pool; do
-  build "heap_$heap" tests/c/heap.c "c/heap_$heap.c" "${checked[@]}" && passes "$work/heap_$heap" "$heap"
+  build "heap_$heap" tests/c/heap.c "c/heap_$heap.c" -DOSDP_POOL=131072 "${checked[@]}" && passes "$work/heap_$heap" "$heap"
 done
 build structs tests/c/structs.c c/heap_malloc.c "$archive" && passes "$work/structs"
 build structs_checked tests/c/structs.c c/heap_malloc.c "$archive" "${checked[@]}" && passes "$work/structs_checked"
