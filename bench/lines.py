@@ -1,7 +1,7 @@
 #!/usr/bin/env python3
-"""How long a POLL exchange takes through both programs that speak lines: `bench/lines.py [EXCHANGES]`, 20000 if left out.
+"""How long a POLL exchange takes through both commands that speak lines: `bench/lines.py [EXCHANGES]`, 20000 if left out.
 
-A panel and a reader are joined here, without a port, at moments that are made up. An exchange is three calls of each end's program
+A panel and a reader are joined here, without a port, at moments that are made up. An exchange is three calls of each end
 or fewer: the panel's `at` and `tick`, which send the POLL; the reader's `at` and `bytes`, which answer it; and the panel's `bytes`.
 It prints the median and the 99th percentile of the time from the first write to the last answer, in microseconds."""
 import os
@@ -10,15 +10,14 @@ import sys
 import time
 from pathlib import Path
 
-CRATES = Path(__file__).resolve().parent.parent / "crates"
+OSDP = Path(__file__).resolve().parent.parent / "crates/osdp/out/osdp"
 
 
 class Program:
-    def __init__(self, name, *words):
-        path = CRATES / name / "out" / name
-        if not os.access(path, os.X_OK):
-            sys.exit(f"no program at {path}: run `rt run` in crates/{name} first")
-        self.process = subprocess.Popen([path, *words], stdin=subprocess.PIPE, stdout=subprocess.PIPE, bufsize=0)
+    def __init__(self, *words):
+        if not os.access(OSDP, os.X_OK):
+            sys.exit(f"no program at {OSDP}: run `rt run` in crates/osdp first")
+        self.process = subprocess.Popen([OSDP, *words], stdin=subprocess.PIPE, stdout=subprocess.PIPE, bufsize=0)
         self.to, self.back = self.process.stdin.fileno(), self.process.stdout.fileno()
 
     def call(self, lines, ends):
@@ -43,8 +42,8 @@ def exchange(panel, reader, now):
 
 def main():
     count = int(sys.argv[1]) if len(sys.argv) > 1 else 20000
-    panel = Program("osdp_panel_lines", "check", "crc", "poll-interval", "50")
-    reader = Program("osdp_reader_lines", "address", "5")
+    panel = Program("panel", "check", "crc", "poll-interval", "50")
+    reader = Program("reader", "address", "5")
     panel.call(b"add 5\nbegin 1\n", 2)
     exchange(panel, reader, 400)
     spent = []

@@ -6,7 +6,7 @@ import subprocess
 import sys
 import time
 
-PROGRAMS = {"panel": ["osdp_panel_lines"], "reader": ["osdp_reader_lines"]}  # what is run, before the settings
+PROGRAMS = {"panel": ["osdp", "panel"], "reader": ["osdp", "reader"]}  # what is run, before the settings
 START = time.monotonic()
 LONGEST = 8192  # how many characters a line has at most
 BAD_WORDS, FAILED, NO_PROGRAM = 2, 3, 127  # statuses

@@ -34,6 +34,9 @@
 #ifndef OSDP_H
 #define OSDP_H
 
+/* The product's version. */
+#define OSDP_VERSION "0.1.0"
+
 #include <stdbool.h>
 #include <stddef.h>
 #include <stdint.h>

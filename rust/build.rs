@@ -1,4 +1,5 @@
-//! Links `libosdp_c.a`: from the folder that `OSDP_C_LIB_DIR` names, or else from where `rt lib` leaves it in this repository.
+//! Links `libosdp_c.a`: from the folder that `OSDP_C_LIB_DIR` names, or else from `lib` beside this file, where `./install` puts it, or else
+//! from where `rt lib` leaves it in this repository.
 use std::env;
 use std::path::PathBuf;
 use std::process::exit;
@@ -9,7 +10,11 @@ fn main() {
         Some(folder) => PathBuf::from(folder),
         None => {
             let here = env::var_os("CARGO_MANIFEST_DIR").expect("cargo sets this");
-            PathBuf::from(here).join("../crates/osdp_c/out")
+            let here = PathBuf::from(here);
+            match here.join("lib/libosdp_c.a").exists() {
+                true => here.join("lib"),
+                false => here.join("../crates/osdp_c/out"),
+            }
         }
     };
     let archive = folder.join("libosdp_c.a");

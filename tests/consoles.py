@@ -1,5 +1,5 @@
 #!/usr/bin/env python3
-"""Runs what the pages show of the programs. Takes the path of `osdp`; the others stand beside it, as crates/NAME/out/NAME.
+"""Runs what the pages show of the program. Takes the path of `osdp`.
 
 A block of a page that is marked `console` is a run at the top of the repository: a line that begins with "$ " is a command, and the lines after
 it are what it prints. Its status is 1 where these lines show a refusal of `show` or `check`, 2 to 4 where they show a fault, and 0 else. A page's
@@ -56,8 +56,7 @@ def judge_page(page, environment):
 
 if __name__ == "__main__":
     folder = Path(sys.argv[1]).resolve().parent
-    folders = [folder] + [folder.parent.parent / name / "out" for name in ("osdp_panel_lines", "osdp_reader_lines")]
-    paths = {**os.environ, "PATH": ":".join([*map(str, folders), os.environ["PATH"]])}
+    paths = {**os.environ, "PATH": f"{folder}:{os.environ['PATH']}"}
     pages = ["README.md"] + sorted(str(file.relative_to(TOP)) for file in (TOP / "docs").glob("*.md"))
     run = sum(judge_page(page, paths) for page in pages)
     print(f"consoles: {run} commands, {faults} faults")

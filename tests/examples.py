@@ -1,6 +1,6 @@
 """The examples, by what a user sees: orders that aren't done later, a COMSET that cuts no reader off, the trace, and how they end.
 
-Takes the path of the program osdp, the folder `crates`, with the programs, and the folder of the examples in C, where those are to run. Each part runs a panel, readers, or both, on
+Takes the path of the program, and the folder of the examples in C, where those are to run. Each part runs a panel, readers, or both, on
 pseudo terminals. A line hands a burst on only between terminals of the same rate.
 """
 import os
@@ -436,8 +436,8 @@ def ends_without_a_word(words):
                 asks(found == wanted, f"{what}: {script.process.args} ends with {found}")
 
 
-def main(osdp, crates, built=None):
-    words = list(commands(TOP, crates, built))
+def main(osdp, built=None):
+    words = list(commands(TOP, osdp, built))
     begun = time.monotonic()
     stale_orders(words)
     several_stale_orders(words)

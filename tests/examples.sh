@@ -1,8 +1,8 @@
 #!/usr/bin/env bash
 # Runs each script of examples/ and compares its account, and the picture of turns. Runs the examples of a panel and of a reader, in Python and in C over
-# the archive that `c.sh` has built, by what their users see (`examples.py`). Takes the path of the program osdp; the other programs stand beside it.
+# the archive that `c.sh` has built, by what their users see (`examples.py`). Takes the path of the program.
 set -uo pipefail
-program=$1
+program=$(cd "$(dirname "$1")" && pwd)/$(basename "$1")
 failed=0
 cd "$(dirname "$0")/../examples" || exit 1
 
@@ -15,10 +15,9 @@ done
 
 python3 ../tests/turns.py "$program" || failed=1
 
-crates=$(cd "$(dirname "$program")/../.." && pwd)
 work=$(mktemp -d)
 trap 'rm -rf "$work"' EXIT
-timeout 120 python3 ../tests/examples.py "$program" "$crates" || failed=1
-{ c/build "$work" -Werror && timeout 120 python3 ../tests/examples.py "$program" "$crates" "$work"; } || failed=1
+timeout 120 python3 ../tests/examples.py "$program" || failed=1
+{ c/build "$work" -Werror && timeout 120 python3 ../tests/examples.py "$program" "$work"; } || failed=1
 
 exit "$failed"

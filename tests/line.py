@@ -1,6 +1,6 @@
 """A panel and three readers on one line that loses, damages and repeats bursts.
 
-Takes the folder `crates`, with the programs, a seed, if not 1, and the folder of the examples in C, where those are to run. The relay opens every
+Takes the path of the program, a seed, if not 1, and the folder of the examples in C, where those are to run. The relay opens every
 terminal itself and keeps it open. It cuts
 bursts by their length field and keeps their order; each of the panel's goes to all readers. In each direction 5 % of all bursts are
 lost, the last byte of 5 % is changed, and 5 % come twice: a seeded generator decides, burst by burst. From the 50th order on each
@@ -192,8 +192,8 @@ def judge_port(name, words, rest, speak):
     judge_end(f"{name}: the port hangs up", process, "the port can't be read")
 
 
-def judge_alone(crates, built):
-    (panel, panel_program), (reader, reader_program) = commands(TOP, crates, built)
+def judge_alone(osdp, built):
+    (panel, panel_program), (reader, reader_program) = commands(TOP, osdp, built)
     judge_port("panel", panel, ["5", *panel_program, "quiet-wait", 50], Terminal.next_burst)
     judge_port("reader", reader, [*reader_program, "address", 5], judge_outputs)
 
@@ -235,11 +235,11 @@ def run(relay, panel, readers, begun):
             return
 
 
-def main(crates, seed="1", built=None):
-    judge_alone(crates, built)
+def main(osdp, seed="1", built=None):
+    judge_alone(osdp, built)
     begun = time.monotonic()
     relay = Relay(seed)
-    (panel_example, panel_program), (reader_example, reader_program) = commands(TOP, crates, built)
+    (panel_example, panel_program), (reader_example, reader_program) = commands(TOP, osdp, built)
     readers = [
         Script(*reader_example, terminal.path, 9600, *reader_program, "address", address,
                "vendor", "53494D", "serial", address, "room", 256, "gap", 15)

@@ -1,10 +1,9 @@
 #!/usr/bin/env bash
-# The programs that speak lines: their statuses and standard error, and each request for memory, each read and each write refused in
-# turn, by libraries preloaded into them. Whichever is refused, the program ends with its status, 4 or 3, and all that it has printed is a
-# beginning of what it prints else. Takes the path of the program osdp; the others stand beside it, as crates/NAME/out/NAME. They are linked
-# with the C library as a shared one; needs a C compiler.
+# The commands that speak lines: their statuses and standard error, and each request for memory, each read and each write refused in
+# turn, by libraries preloaded into the program. Whichever is refused, it ends with its status, 4 or 3, and all that it has printed is a
+# beginning of what it prints else. Takes the path of the program, which is linked with the C library as a shared one; needs a C compiler.
 set -u
-crates=$(cd "$(dirname "$1")/../.." && pwd)
+program=$(cd "$(dirname "$1")" && pwd)/$(basename "$1")
 work=$(mktemp -d)
 trap 'rm -rf "$work"' EXIT
 folder=$(cd "$(dirname "$0")" && pwd)
@@ -19,19 +18,19 @@ fault() {
   failed=1
 }
 
-# $1: what is tried; $2: the status that is wanted; $3: standard output; $4: standard error; then the program and its words.
+# $1: what is tried; $2: the status that is wanted; $3: standard output; $4: standard error; then the words of the program.
 # Standard input is the caller's.
 expect() {
-  local name=$1 status=$2 out=$3 err=$4 program=$5
-  shift 5
-  "$crates/$program/out/$program" "$@" >"$work/out" 2>"$work/err"
+  local name=$1 status=$2 out=$3 err=$4
+  shift 4
+  "$program" "$@" >"$work/out" 2>"$work/err"
   local got=$?
   [ "$got" -eq "$status" ] || fault "$name: status $got, wanted $status"
   printf '%s' "$out" | cmp -s - "$work/out" || fault "$name: other text on standard output: $(head -c 200 "$work/out")"
   printf '%s' "$err" | cmp -s - "$work/err" || fault "$name: other text on standard error: $(head -c 200 "$work/err")"
 }
 
-# $1: what is tried; then the program and its words. Standard input is a table: a row is a line of the program's input, ` > `, and its answer,
+# $1: what is tried; then the words of the program. Standard input is a table: a row is a line of its input, ` > `, and its answer,
 # whose lines are parted by `;`.
 answers() {
   local name=$1
@@ -40,48 +39,47 @@ answers() {
   expect "$name" 0 "$(sed 's/.* > //' "$work/table" | tr ';' '\n')"$'\n' '' "$@" < <(sed 's/ > .*//' "$work/table")
 }
 
-bad_panel=$'osdp_panel_lines: bad words\n'
-bad_reader=$'osdp_reader_lines: bad words\n'
-expect 'a panel that is told nothing' 0 '' '' osdp_panel_lines </dev/null
-expect 'a name without a value' 2 '' "$bad_panel" osdp_panel_lines check </dev/null
-expect 'a check that is none' 2 '' "$bad_panel" osdp_panel_lines check md5 </dev/null
-expect 'a time of none' 2 '' "$bad_panel" osdp_panel_lines reply-wait 0 </dev/null
-expect 'an hour' 0 '' '' osdp_panel_lines reply-wait 3600000 poll-interval 3600000 busy-wait 3600000 quiet-wait 3600000 gap 3600000 </dev/null
-expect 'more than an hour' 2 '' "$bad_panel" osdp_panel_lines gap 3600001 </dev/null
-expect 'no sends' 2 '' "$bad_panel" osdp_panel_lines sends 0 </dev/null
-expect 'many sends' 0 '' '' osdp_panel_lines sends 255 busy-limit 255 capacity 1024 </dev/null
-expect 'too many sends' 2 '' "$bad_panel" osdp_panel_lines sends 256 </dev/null
-expect 'too many may wait' 2 '' "$bad_panel" osdp_panel_lines capacity 1025 </dev/null
-expect 'a setting of the other program' 2 '' "$bad_panel" osdp_panel_lines address 5 </dev/null
-expect 'a word that is no text' 2 '' "$bad_panel" osdp_panel_lines check $'\xff' </dev/null
-expect 'the later of two' 0 $'due none\ndue none\nrefused C3\ndue none\n' '' osdp_panel_lines capacity 2 capacity 1 \
+bad=$'osdp: bad words\n'
+expect 'a panel that is told nothing' 0 '' '' panel </dev/null
+expect 'a name without a value' 2 '' "$bad" panel check </dev/null
+expect 'a check that is none' 2 '' "$bad" panel check md5 </dev/null
+expect 'a time of none' 2 '' "$bad" panel reply-wait 0 </dev/null
+expect 'an hour' 0 '' '' panel reply-wait 3600000 poll-interval 3600000 busy-wait 3600000 quiet-wait 3600000 gap 3600000 </dev/null
+expect 'more than an hour' 2 '' "$bad" panel gap 3600001 </dev/null
+expect 'no sends' 2 '' "$bad" panel sends 0 </dev/null
+expect 'many sends' 0 '' '' panel sends 255 busy-limit 255 capacity 1024 </dev/null
+expect 'too many sends' 2 '' "$bad" panel sends 256 </dev/null
+expect 'too many may wait' 2 '' "$bad" panel capacity 1025 </dev/null
+expect 'a setting of the other program' 2 '' "$bad" panel address 5 </dev/null
+expect 'a word that is no text' 2 '' "$bad" panel check $'\xff' </dev/null
+expect 'the later of two' 0 $'due none\ndue none\nrefused C3\ndue none\n' '' panel capacity 2 capacity 1 \
   < <(printf 'add 5\nsubmit 1 ID 0\nsubmit 1 ID 0\n')
-expect 'the last address' 0 '' '' osdp_reader_lines address 126 </dev/null
-expect 'the configuration address' 2 '' "$bad_reader" osdp_reader_lines address 127 </dev/null
-expect 'a vendor of two bytes' 2 '' "$bad_reader" osdp_reader_lines vendor 5349 </dev/null
-expect 'firmware of two numbers' 2 '' "$bad_reader" osdp_reader_lines firmware 1:2 </dev/null
-expect 'a capability too great' 2 '' "$bad_reader" osdp_reader_lines cap 1:1:256 </dev/null
-expect 'no room' 2 '' "$bad_reader" osdp_reader_lines room 0 </dev/null
+expect 'the last address' 0 '' '' reader address 126 </dev/null
+expect 'the configuration address' 2 '' "$bad" reader address 127 </dev/null
+expect 'a vendor of two bytes' 2 '' "$bad" reader vendor 5349 </dev/null
+expect 'firmware of two numbers' 2 '' "$bad" reader firmware 1:2 </dev/null
+expect 'a capability too great' 2 '' "$bad" reader cap 1:1:256 </dev/null
+expect 'no room' 2 '' "$bad" reader room 0 </dev/null
 caps() { for ((i = 0; i < $1; i++)); do printf 'cap 1:1:8 '; done; }
-expect 'as many capabilities as there may be' 0 '' '' osdp_reader_lines $(caps 477) </dev/null
-expect 'one capability more' 2 '' "$bad_reader" osdp_reader_lines $(caps 478) </dev/null
+expect 'as many capabilities as there may be' 0 '' '' reader $(caps 477) </dev/null
+expect 'one capability more' 2 '' "$bad" reader $(caps 478) </dev/null
 
 long=$(printf 'tick%08188d' 0 | tr 0 ' ')
-expect 'a line of 8,192 characters' 0 $'waiting 0\n' '' osdp_reader_lines <<<"$long"
-expect 'a line above that' 0 $'refused line\nwaiting 0\nwaiting 0\n' '' osdp_reader_lines < <(printf '%s \ntick\n' "$long")
-expect 'a line of a megabyte' 0 $'refused line\ndue none\ndue none\n' '' osdp_panel_lines < <(head -c 1000000 /dev/zero | tr '\0' 'a'; printf '\ntick\n')
-expect 'a line that is no text' 0 $'refused line\ndue none\n' '' osdp_panel_lines < <(printf 'tick\xff\n')
-expect 'a last line without a line feed' 0 $'due none\n' '' osdp_panel_lines < <(printf 'tick')
+expect 'a line of 8,192 characters' 0 $'waiting 0\n' '' reader <<<"$long"
+expect 'a line above that' 0 $'refused line\nwaiting 0\nwaiting 0\n' '' reader < <(printf '%s \ntick\n' "$long")
+expect 'a line of a megabyte' 0 $'refused line\ndue none\ndue none\n' '' panel < <(head -c 1000000 /dev/zero | tr '\0' 'a'; printf '\ntick\n')
+expect 'a line that is no text' 0 $'refused line\ndue none\n' '' panel < <(printf 'tick\xff\n')
+expect 'a last line without a line feed' 0 $'due none\n' '' panel < <(printf 'tick')
 
 for which in panel reader; do
-  expect 'a directory as input' 3 '' "osdp_${which}_lines: read failed"$'\n' "osdp_${which}_lines" </
-  expect 'a closed input' 3 '' "osdp_${which}_lines: read failed"$'\n' "osdp_${which}_lines" <&-
-  "$crates/osdp_${which}_lines/out/osdp_${which}_lines" <<<tick >/dev/full 2>"$work/err"
+  expect 'a directory as input' 3 '' "osdp: read failed"$'\n' "$which" </
+  expect 'a closed input' 3 '' "osdp: read failed"$'\n' "$which" <&-
+  "$program" "$which" <<<tick >/dev/full 2>"$work/err"
   [ $? -eq 3 ] || fault "$which: a full device ends it with another status"
-  echo "osdp_${which}_lines: write failed" | cmp -s - "$work/err" || fault "$which: a full device: other text on standard error"
+  echo 'osdp: write failed' | cmp -s - "$work/err" || fault "$which: a full device: other text on standard error"
 done
 
-answers 'a session opens, a command is settled, an event is told, and it is lost with a command' osdp_panel_lines check sum capacity 1 <<'TABLE'
+answers 'a session opens, a command is settled, an event is told, and it is lost with a command' panel check sum capacity 1 <<'TABLE'
 add 5 > due none
 begin 1 > due 400
 submit 1 OUT 0:2:0 > due 400
@@ -100,7 +98,51 @@ submit 1 ID 0 > due 480
 tick > send 530508000361003C;due 680
 bytes 53850800034104D8 > lost 1 number-refused ID 0;due none
 TABLE
-answers 'a command that waits is taken back, and a device goes to another address' osdp_panel_lines check sum capacity 1 <<'TABLE'
+answers 'what a device that demands Secure Channel answers is told, until its session opens' panel check sum <<'TABLE'
+add 5 > due none
+add 6 > due none
+bytes 53850800004106D9 > passed over 1 NAK 6;due none
+begin 1 > due 400
+at 400 > due 400
+tick > send 530508000061003F;due 600
+at 410 > due 600
+bytes 5385080000 > due 430
+bytes 4106D9 > passed over 1 NAK 6;due 600
+bytes 5386090000410600D7 > passed over 2 NAK 6 00;due 600
+bytes 538507000342DC > passed over 1 code 42;due 600
+bytes 530507000000A1 > due 600
+bytes 5387090000410600D6 > due 600
+bytes 53850800004104DB > lost 1 number-refused;due none
+begin 1 > due 810
+TABLE
+answers 'an open session tells nothing of it, a lost one does again, and a run that is over is read to its end' panel check sum <<'TABLE'
+add 5 > due none
+begin 1 > due 400
+at 400 > due 400
+tick > send 530508000061003F;due 600
+bytes 538507000079A8 > due 450
+at 450 > due 450
+tick > send 530508000061003F;due 650
+bytes 53851300004553494D010101000000010000E3 > opened 1 PDID 53494D 1 1 1 1 0 0;due 500
+bytes 53850800004106D9 > due 500
+at 500 > due 500
+tick > send 53050700016040;due 700
+bytes 53850800014104DA > lost 1 number-refused;due none
+bytes 53850800004106D9 > passed over 1 NAK 6;due none
+bytes 53850A000802154106B8 > passed over 1 block 02154106;due none
+bytes 5385FF0053850800004106D9 > due 500
+silence > passed over 1 NAK 6;due none
+bytes 5385FF0053850800004106D9 > due 500
+at 519 > due 500
+tick > due none
+at 520 > due none
+tick > passed over 1 NAK 6;due none
+bytes 5385FF0053850800004106D9 > due 520
+at 540 > due 520
+bytes none > due 540
+bytes 00 > passed over 1 NAK 6;due none
+TABLE
+answers 'a command that waits is taken back, and a device goes to another address' panel check sum capacity 1 <<'TABLE'
 add 5 > due none
 submit 1 COMSET 7 9600 > due none
 retarget 1 6 > refused B3;due none
@@ -109,7 +151,7 @@ withdraw 1 > due none
 retarget 1 6 > due none
 add 6 > refused B3;due none
 TABLE
-answers 'each refusal, and lines that are none' osdp_panel_lines check sum capacity 1 <<'TABLE'
+answers 'each refusal, and lines that are none' panel check sum capacity 1 <<'TABLE'
 add 127 > refused B5;due none
 add 5 > due none
 add 5 > refused B3;due none
@@ -129,7 +171,7 @@ submit 1 NOTHING > refused line;due 400
 at 007 > refused line;due 400
 silence > due 400
 TABLE
-answers 'an ID with number 0 is answered, and told as acted on' osdp_reader_lines address 5 vendor 53494D model 1 version 1 serial 1 firmware 1:0:0 <<'TABLE'
+answers 'an ID with number 0 is answered, and told as acted on' reader address 5 vendor 53494D model 1 version 1 serial 1 firmware 1:0:0 <<'TABLE'
 bytes 530508000061003F > send 53851300004553494D010101000000010000E3;again ID 0;waiting 0
 TABLE
 
@@ -138,7 +180,7 @@ TABLE
 # Runs the program with its streams, or its memory, as the words say, each a name, = and a value. Standard input is $work/in.
 run_with() {
   rm -f "$work/mark"
-  env REFUSED_MARK="$work/mark" FAILED_MARK="$work/mark" AT_MOST=$most "$@" "$crates/$program/out/$program" "${words[@]}" \
+  env REFUSED_MARK="$work/mark" FAILED_MARK="$work/mark" AT_MOST=$most "$@" "$program" "${words[@]}" \
     <"$work/in" >"$work/out" 2>"$work/err"
 }
 
@@ -151,17 +193,17 @@ fail_each() {
     run_with LD_PRELOAD="$work/$library.so" "$variable=$number$after" "$@"
     got=$?
     [ -e "$work/mark" ] || break
-    [ "$got" -eq "$status" ] || fault "$program: $variable=$number$after: status $got, wanted $status"
-    [ "$(cat "$work/err")" = "$program: $text" ] || fault "$program: $variable=$number$after: other text on standard error"
-    head -c "$(stat -c %s "$work/out")" "$work/right" | cmp -s - "$work/out" || fault "$program: $variable=$number$after: other text on standard output"
+    [ "$got" -eq "$status" ] || fault "${words[0]}: $variable=$number$after: status $got, wanted $status"
+    [ "$(cat "$work/err")" = "osdp: $text" ] || fault "${words[0]}: $variable=$number$after: other text on standard error"
+    head -c "$(stat -c %s "$work/out")" "$work/right" | cmp -s - "$work/out" || fault "${words[0]}: $variable=$number$after: other text on standard output"
   done
-  [ "$got" -eq 0 ] && cmp -s "$work/right" "$work/out" || fault "$program: nothing fails, and the answer is another one"
-  [ "$number" -gt "$fewest" ] || fault "$program: $variable: only $((number - 1)) failed"
-  echo "$program: $variable: $((number - 1)) refused in turn"
+  [ "$got" -eq 0 ] && cmp -s "$work/right" "$work/out" || fault "${words[0]}: nothing fails, and the answer is another one"
+  [ "$number" -gt "$fewest" ] || fault "${words[0]}: $variable: only $((number - 1)) failed"
+  echo "${words[0]}: $variable: $((number - 1)) refused in turn"
 }
 
 fail_all() {
-  "$crates/$program/out/$program" "${words[@]}" <"$work/in" >"$work/right" 2>"$work/err" || fault "$program: status $?"
+  "$program" "${words[@]}" <"$work/in" >"$work/right" 2>"$work/err" || fault "${words[0]}: status $?"
   local after with
   for after in '' '+'; do
     fail_each refuse REFUSED_REQUEST "$after" 4 'no memory' 20
@@ -173,16 +215,14 @@ fail_all() {
   done
 }
 
-program=osdp_panel_lines
-words=(check crc capacity 2)
+words=(panel check crc capacity 2)
 {
   printf 'add 5\nadd 6\nadd 5\nbegin 1\nbegin 2\nsubmit 1 OUT 0:2:0\nsubmit 1 TEXT 0 1 0 1 1 48\nsubmit 1 ID 0\nwithdraw 1\n'
   printf 'at 400\ntick\nbytes 53\nat 700\ntick\nat 900\ntick\nat 1100\ntick\nretarget 1 9\nno call\n'
 } >"$work/in"
 fail_all
 
-program=osdp_reader_lines
-words=(address 5 vendor 53494D cap 1:1:8 room 2)
+words=(reader address 5 vendor 53494D cap 1:1:8 room 2)
 {
   printf 'inputs 00\noutputs 0000\nreaders 00\nlocal 0 0\nbytes 530508000061003F\nbytes 5305\nat 40\ntick\n'
   printf 'event KEYPAD 0 31\nevent RAW 0 0 26 12345640\nevent KEYPAD 0 32\nbusy on\nbusy off\nsilence\nno call\n'

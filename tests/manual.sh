@@ -1,8 +1,7 @@
 #!/usr/bin/env bash
-# The manual pages: each is formatted without a warning, and its examples print what it says. Takes the path of the program osdp;
-# the other programs stand beside it, as crates/NAME/out/NAME.
+# The manual pages: each is formatted without a warning, and its examples print what it says. Takes the path of the program osdp.
 set -u
-crates=$(cd "$(dirname "$1")/../.." && pwd)
+PATH="$(cd "$(dirname "$1")" && pwd):$PATH"
 work=$(mktemp -d)
 trap 'rm -rf "$work"' EXIT
 failed=0
@@ -15,7 +14,6 @@ for page in *.1; do
     cat "$work/warnings"
     failed=1
   fi
-  PATH="$crates/${page%.1}/out:$PATH"
   # an example is a line that begins with "$ " between .EX and .EE, and the lines after it are what it prints
   awk '/^\.EX/ { on = 1; next } /^\.EE/ { on = 0 } on && /^\$ / { asked = 1 } on && asked' "$page" |
     sed 's/\\e/\\/g; s/\\-/-/g' >"$work/wanted"

@@ -47,6 +47,13 @@ expect 'unknown word' 2 '' "$bad" shows </dev/null
 expect 'unknown option' 2 '' "$bad" show --all </dev/null
 expect 'an option twice' 2 '' "$bad" show --raw --raw </dev/null
 expect 'a word that is no text' 2 '' "$bad" show $'\xff' </dev/null
+expect 'the version' 0 $'osdp 0.1.0\n' '' --version </dev/null
+expect 'the version and more' 2 '' "$bad" --version show </dev/null
+expect 'help of a word that is no command' 2 '' "$bad" help nothing </dev/null
+expect 'help of two commands' 2 '' "$bad" help show check </dev/null
+expect 'help and more' 2 '' "$bad" --help show </dev/null
+expect 'help after a command' 2 '' "$bad" show --help </dev/null
+expect 'short help and more' 2 '' "$bad" -h -h </dev/null
 
 expect 'a packet made' 0 $'53050C000568000200005183\n' '' make 5 1 crc OUT 0:2:0 </dev/null
 expect 'no packet' 2 '' "$bad" make 5 4 sum POLL </dev/null
@@ -95,6 +102,8 @@ write_failed=$'osdp: write failed\n'
 expect_status 'a full device' 3 "$write_failed" show <<<'53000700006046' >/dev/full
 expect_status 'a full device, counted' 3 "$write_failed" check </dev/null >/dev/full
 expect_status 'a full device for a packet' 3 "$write_failed" make 5 0 sum BUSY </dev/null >/dev/full
+expect_status 'a full device for a help' 3 "$write_failed" help show >/dev/full
+expect_status 'a full device for the version' 3 "$write_failed" --version >/dev/full
 expect_status 'a full device for many lines' 3 "$write_failed" show < <(yes 53000700006046 | head -n 100000) >/dev/full
 expect_status 'a closed output' 3 "$write_failed" show <<<'53000700006046' >&-
 expect_status 'a closed output that is not written to' 0 '' show </dev/null >&-

@@ -81,10 +81,10 @@ def packet(address, number, code, data=b""):
     return whole + bytes([-sum(whole) % 256])
 
 
-def commands(top, crates, built):
+def commands(top, osdp, built):
     """Of the panel and of a reader, what stands before the port and what before the settings: an example in Python with its program, or one in C."""
     for name in ("panel", "reader"):
         if built is None:
-            yield [sys.executable, "-B", top / f"examples/{name}.py"], [f"{crates}/osdp_{name}_lines/out/osdp_{name}_lines"]
+            yield [sys.executable, "-B", top / f"examples/{name}.py"], [str(osdp)]
         else:
             yield [f"{built}/{name}"], []

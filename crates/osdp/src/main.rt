@@ -1,17 +1,37 @@
-//! The program `osdp`: it reads captures of an OSDP line and prints what stands in them, and runs scripts of schedules.
+//! The program `osdp`: it shows, checks and makes packets of an OSDP line, runs scripts of schedules, and runs a panel or a reader by lines of text.
 #![tactic(auto)]
 
-use osdp_arguments::{arguments, lent};
+use osdp_arguments::{Choice, VERSION, arguments, choose, help_text, lent};
+use osdp_line_commands::{LineCommand, LineRun, run_lines};
+use osdp_panel_calls::LinePanel;
+use osdp_reader_calls::LineDevice;
 use osdp_tool::{Job, ToolFault, Watched, check, job, make, show, sim};
+use osdp_tool_streams::{flush_out, write_out};
 use std::process::ExitCode;
 
-/// Does what the words ask for. True where a refusal was met.
-fn run(rt: &HostRuntime) -> Result<bool, ToolFault> {
-    let arguments = arguments(rt)?;
-    let words = lent(rt.alloc(), &arguments)?;
+/// Prints a text.
+fn print(rt: &HostRuntime, text: &str) -> Result<(), ToolFault> {
+    let mut output = Watched::new(rt.stdout());
+    write_out(&mut output, text.as_bytes())?;
+    flush_out(&mut output)
+}
+
+/// Answers the lines of standard input, with the settings that the words after the command's name give.
+fn run_machine<P: LineCommand>(rt: &HostRuntime, words: &[&str]) -> Result<(), ToolFault> {
+    let mut run = LineRun {
+        alloc: rt.alloc(),
+        words: words.get(1..).unwrap_or(&[]),
+        input: Watched::new(rt.stdin()),
+        output: Watched::new(rt.stdout()),
+    };
+    run_lines::<P, _, _>(&mut run)
+}
+
+/// Does the job that the words choose. True where a refusal was met.
+fn run_job(rt: &HostRuntime, words: &[&str]) -> Result<bool, ToolFault> {
     let mut input = Watched::new(rt.stdin());
     let mut output = Watched::new(rt.stdout());
-    match job(rt.alloc(), &words)? {
+    match job(rt.alloc(), words)? {
         Job::Show(mode) => show(rt.alloc(), mode, &mut input, &mut output),
         Job::Check(mode) => check(rt.alloc(), mode, &mut input, &mut output),
         Job::Make => {
@@ -23,6 +43,20 @@ fn run(rt: &HostRuntime) -> Result<bool, ToolFault> {
             Ok(false)
         }
     }
+}
+
+/// Does what the words ask for. True where a refusal was met.
+fn run(rt: &HostRuntime) -> Result<bool, ToolFault> {
+    let arguments = arguments(rt)?;
+    let words = lent(rt.alloc(), &arguments)?;
+    match choose(&words) {
+        Choice::Help(topic) => print(rt, help_text(topic))?,
+        Choice::Version => print(rt, VERSION)?,
+        Choice::Panel => run_machine::<LinePanel>(rt, &words)?,
+        Choice::Reader => run_machine::<LineDevice>(rt, &words)?,
+        Choice::Job => return run_job(rt, &words),
+    }
+    Ok(false)
 }
 
 fn main(rt: HostRuntime) -> ExitCode {

@@ -1,36 +1,11 @@
-//! The words of a program's command line.
+//! The words of the program's command line: as texts, what they choose, and the help that they ask for.
 #![tactic(auto)]
 
-ghost use Rattle.std.specs.Prelude.{◌≡◌, ◌⊎◌, IfErr, IfOk, map, string_bytes};
+mod choice;
+mod help;
+pub mod laws;
+mod words;
 
-use osdp_tool_streams::ToolFault;
-use std::alloc::Global;
-use std::env::{self, Env};
-use std::io::ErrorKind;
-
-/// The words after the program's name. BadWords where one is no text; NoMemory where there is none for them.
-pub fn arguments<R: Env + AllocGlobal>(rt: &R) -> Result<Vec<String>, ToolFault>
-    ensures { IfErr result (λ fault. (fault ≡ ToolFault.BadWords) ⊎ (fault ≡ ToolFault.NoMemory)) }
-{
-    let all = env::args(rt).map_err(|error| match error.kind() {
-        ErrorKind::OutOfMemory => ToolFault::NoMemory,
-        _ => ToolFault::BadWords,
-    })?;
-    let mut words = Vec::new(rt.alloc());
-    for word in all.skip(1) {
-        words.push(word).map_err(|_| ToolFault::NoMemory)?;
-    }
-    Ok(words)
-}
-
-/// These words, lent.
-pub fn lent<'a>(alloc: Global, words: &'a [String]) -> Result<Vec<&'a str>, ToolFault>
-    ensures lent { IfOk result (λ texts. map (λ text. text.now) texts.items ≡ map string_bytes words.now) }
-    ensures fault { IfErr result (λ fault. fault ≡ ToolFault.NoMemory) }
-{
-    let mut texts = Vec::new(alloc);
-    for word in words {
-        texts.push(word.as_str()).map_err(|_| ToolFault::NoMemory)?;
-    }
-    Ok(texts)
-}
+pub use choice::{Choice, Topic, choose};
+pub use help::{VERSION, help_text};
+pub use words::{arguments, lent};

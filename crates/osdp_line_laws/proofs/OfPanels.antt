@@ -8,15 +8,15 @@ use Rattle.osdp_panel_calls.specs.declared.call.PanelCall.{PanelCall}
 use Rattle.osdp_panel_calls.specs.declared.call.PanelCall.TheVariants.{At, Add, Begin, Submit, Withdraw, Retarget, Bytes, Silence, Tick}
 use Rattle.osdp_panel_calls.specs.Calls.{CallFits, call_words}
 use Rattle.osdp_panel_calls.specs.Lines.{Answers, IsAnswered, refuses}
-use Rattle.osdp_panel_calls.specs.Sessions.{Called, IsDue, Session, answered, ended}
+use Rattle.osdp_panel_calls.specs.Sessions.{Called, IsDue, Session, answered, does, ended, overhears, told}
 use Rattle.osdp_panel_calls.specs.Texts.{due_line, report_line}
 use Rattle.osdp_line_laws.proofs.Lines.{of_all}
 use Rattle.osdp_line_laws.specs.PanelLines.{Calls, Refused, calls_text, ordered}
 
--- the calls of a line, and what they tell, without the moment at the end
+-- the calls of a line, and what they tell, without what is passed over and without the moment at the end
 pub record Made (call : PanelCall) (s : Session) : Type 0 where
   pub bus : (answered call s).session.bus ≡ after_calls (ordered call s.now ++ NextReport ∷ []) s.bus
-  pub text : (answered call s).text ≡ calls_text (ordered call s.now ++ NextReport ∷ []) s.bus
+  pub text : (told (does call (record s { listening = (overhears call s).after }))).text ≡ calls_text (ordered call s.now ++ NextReport ∷ []) s.bus
 
 -- what one call tells, and the report after it
 with_report : (a b : List ℕ) → a ++ b ≡ a ++ (b ++ [])
@@ -34,7 +34,7 @@ made Silence s = record { bus = refl; text = sym (append-nil _) }
 made Tick s = record { bus = refl; text = with_report _ _ }
 
 pub of_line : (s : Session) (given text : List ℕ) (next : Session) (c : Called) → IsAnswered given s c → text ≡ c.text → next ≡ c.session
-    → ((call : PanelCall) × Says call_words CallFits given call × Calls s (ordered call s.now ++ NextReport ∷ []) text next) ⊎ (SaysNothing call_words CallFits given × Refused s text next)
+    → ((call : PanelCall) × Says call_words CallFits given call × Calls s (overhears call s).text (ordered call s.now ++ NextReport ∷ []) text next) ⊎ (SaysNothing call_words CallFits given × Refused s text next)
 of_line s given text next c (inl (call, says, ends)) text_is next_is =
     let m = made call s in
     let due = ends.0 in
@@ -47,7 +47,7 @@ of_line s given text next c (inl (call, says, ends)) text_is next_is =
         bus = ap (λ (x : Session). x.bus) next_is_answered ∙ m.bus;
         due = due;
         is_due = subst (λ (x : Session). IsDue x due) (sym next_is_answered) ends.1;
-        told = text_is ∙ ap (λ (x : Called). x.text) is ∙ ap (λ l. l ++ due_line due) m.text;
+        told = text_is ∙ ap (λ (x : Called). x.text) is ∙ ap (λ l. ((overhears call s).text ++ l) ++ due_line due) m.text;
       },
     )
 of_line s given text next c (inr (nothing, ends)) text_is next_is =

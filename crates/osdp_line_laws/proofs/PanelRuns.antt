@@ -5,7 +5,7 @@ use Rattle.osdp_line_streams.specs.Answers.{Speaks, heard}
 use Rattle.osdp_panel_calls.specs.declared.call.PanelCall.{PanelCall}
 use Rattle.osdp_panel_calls.specs.declared.call.PanelCall.TheVariants.{At, Add, Begin, Submit, Withdraw, Retarget, Bytes, Silence, Tick}
 use Rattle.osdp_panel_calls.specs.Lines.{Answers, IsAnswered, refuses}
-use Rattle.osdp_panel_calls.specs.Sessions.{Called, IsDue, Session, answered, ended}
+use Rattle.osdp_panel_calls.specs.Sessions.{Called, IsDue, Session, answered, ended, overhears}
 use Rattle.osdp_panel_calls.specs.Texts.{due_line}
 use Rattle.osdp_line_laws.proofs.OfPanels.{made}
 use Rattle.osdp_line_laws.specs.PanelRuns.{AreSaid, IsSaid, RunsAreCalls, Tells, after_said, said_text}
@@ -42,7 +42,7 @@ one line s text next c (inl (call, says, ends)) text_is next_is =
       after = next_is ∙ ap (λ (x : Called). x.session) is ∙ whole call s;
       due = due;
       is_due = subst (λ (x : Session). IsDue x due) (whole call s) ends.1;
-      told = text_is ∙ ap (λ (x : Called). x.text) is ∙ ap (λ l. l ++ due_line due) (made call s).text;
+      told = text_is ∙ ap (λ (x : Called). x.text) is ∙ ap (λ l. ((overhears call s).text ++ l) ++ due_line due) (made call s).text;
     }
 one line s text next c (inr (nothing, ends)) text_is next_is =
     let due = ends.0 in

@@ -11,7 +11,7 @@ use Rattle.osdp_panel_calls.specs.declared.call.PanelCall.{PanelCall}
 use Rattle.osdp_panel_calls.specs.declared.call.PanelCall.TheVariants as line
 use Rattle.osdp_panel_calls.specs.Calls.{CallFits, call_words}
 use Rattle.osdp_panel_calls.specs.Lines.{Answers}
-use Rattle.osdp_panel_calls.specs.Sessions.{IsDue, Session, new_session}
+use Rattle.osdp_panel_calls.specs.Sessions.{IsDue, Session, new_session, overhears}
 use Rattle.osdp_panel_calls.specs.Texts.{due_line, no_line, refusal_line, report_line, send_line, withdrawal_line}
 
 -- the call of the bus that a line orders, at the moment of the session; a moment is none
@@ -43,12 +43,12 @@ abbrev pub calls_text : List Call → BusState → List ℕ
 calls_text [] b = []
 calls_text (call ∷ calls) b = call_text call b ++ calls_text calls (after_call call b)
 
--- these calls were made, and what they told is the answer, with the moment of the next tick after it
-pub record Calls (s : Session) (calls : List Call) (text : List ℕ) (next : Session) : Type 0 where
+-- these calls were made; the answer is what was passed over, what they told, and the moment of the next tick
+pub record Calls (s : Session) (passed : List ℕ) (calls : List Call) (text : List ℕ) (next : Session) : Type 0 where
   pub bus : next.bus ≡ after_calls calls s.bus
   pub due : Option ℕ
   pub is_due : IsDue next due
-  pub told : text ≡ calls_text calls s.bus ++ due_line due
+  pub told : text ≡ (passed ++ calls_text calls s.bus) ++ due_line due
 
 -- a line that is none changes nothing
 pub record Refused (s : Session) (text : List ℕ) (next : Session) : Type 0 where
@@ -57,10 +57,11 @@ pub record Refused (s : Session) (text : List ℕ) (next : Session) : Type 0 whe
   pub is_due : IsDue s due
   pub told : text ≡ no_line ++ due_line due
 
--- a line is the call of the bus that it orders, and the taking of the report that waits then; or it is none
+-- a line is the call of the bus that it orders, and the taking of the report that waits then, after the lines of what it lets be heard beside
+-- the bus; or it is none
 abbrev pub IsCallOrNone : Type 0
 IsCallOrNone = (s : Session) (given text : List ℕ) (next : Session) → Answers s given text next
-    → ((call : PanelCall) × Says call_words CallFits given call × Calls s (ordered call s.now ++ NextReport ∷ []) text next)
+    → ((call : PanelCall) × Says call_words CallFits given call × Calls s (overhears call s).text (ordered call s.now ++ NextReport ∷ []) text next)
     ⊎ (SaysNothing call_words CallFits given × Refused s text next)
 
 -- lines to a new panel come to a list of calls of a new bus, so what holds after every list of calls holds after any lines

@@ -7,7 +7,8 @@ use Rattle.osdp_panel_calls.specs.declared.call.PanelCall.{PanelCall}
 use Rattle.osdp_panel_calls.specs.declared.call.PanelCall.TheVariants as line
 use Rattle.osdp_panel_calls.specs.Calls.{CallFits, call_words}
 use Rattle.osdp_panel_calls.specs.Lines.{Answers}
-use Rattle.osdp_panel_calls.specs.Sessions.{IsDue, Session}
+use Rattle.osdp_panel_calls.specs.Passing.{Listening, opened_by}
+use Rattle.osdp_panel_calls.specs.Sessions.{IsDue, Session, overhears}
 use Rattle.osdp_panel_calls.specs.Texts.{due_line, no_line}
 use Rattle.osdp_line_laws.specs.PanelLines.{calls_text, ordered}
 
@@ -30,13 +31,23 @@ moment_after _ now = now
 abbrev pub calls_of : PanelCall → ℕ → List Call
 calls_of call now = ordered call now ++ NextReport ∷ []
 
--- the whole panel after a line, and what is told of it
+-- what is heard beside the bus after a line; the report that waits then may say that a session is open, or isn't any more
+abbrev pub listening_after : PanelCall → Session → Listening
+listening_after call s =
+    let heard = (overhears call s).after in
+    record heard { opened = opened_by (after_calls (ordered call s.now) s.bus).devices.report heard.opened }
+
+-- the whole panel after a line, and what is told of it: first what is passed over
 abbrev pub after_said : Option PanelCall → Session → Session
-after_said (Some call) s = record { bus = after_calls (calls_of call s.now) s.bus; now = moment_after call s.now }
+after_said (Some call) s = record {
+  bus = after_calls (calls_of call s.now) s.bus;
+  now = moment_after call s.now;
+  listening = listening_after call s;
+}
 after_said None s = s
 
 abbrev pub said_text : Option PanelCall → Session → List ℕ
-said_text (Some call) s = calls_text (calls_of call s.now) s.bus
+said_text (Some call) s = (overhears call s).text ++ calls_text (calls_of call s.now) s.bus
 said_text None s = no_line
 
 -- one line after the other, each as those before it have left the panel; each answer ends with the moment of the next tick then

@@ -10,7 +10,7 @@ ghost use Rattle.osdp_line_laws.specs.ReaderLines.{ComesOfSteps, IsStepsOrNone};
 ghost use Rattle.osdp_line_laws.specs.ReaderRuns.{RunsAreCalls as ReaderRunsAreCalls};
 
 /// A line to a panel is one call of its bus at most, and then the taking of the report that waits: what is written is what the bus refuses,
-/// sends and reports by that, and the moment of the next tick. A line that is none changes nothing.
+/// sends and reports by that, after what it lets be heard beside the bus, and the moment of the next tick. A line that is none changes nothing.
 pub fn a_line_is_a_call()
     ensures { IsCallOrNone }
 {}
@@ -32,8 +32,8 @@ pub fn a_device_comes_of_steps()
     ensures { ComesOfSteps }
 {}
 
-/// What a panel writes to a run of lines is what is told of the calls that these lines are, from the first to the last, each as those before it
-/// have left the panel, with the moment of the next tick after each. After them it is the panel that these calls leave, and its calls to come
+/// What a panel writes to a run of lines is what each lets be heard beside the bus and what is told of the calls that these lines are, from the
+/// first to the last, each as those before it have left the panel, with the moment of the next tick after each. After them it is the panel that these calls leave, and its calls to come
 /// have the moment of the last line of one.
 pub fn a_panels_run_is_its_calls()
     ensures { PanelRunsAreCalls }

@@ -3,7 +3,7 @@ use Rattle.std.proofs.Common.{◌≡◌, List, ◌++◌, ℕ, ◌<◌, ◌^◌, 
 use Rattle.std.specs.Prelude.{IfSome, OnOk}
 use Rattle.osdp_bus.specs.Deadlines.{IsDeadline}
 use Rattle.osdp_panel_calls.specs.Lines.{Ends}
-use Rattle.osdp_panel_calls.specs.Sessions.{Called, Comes, IsDue, Session, ended}
+use Rattle.osdp_panel_calls.specs.Sessions.{Called, Comes, IsDue, Session, after_text, ended}
 use Rattle.osdp_panel_calls.specs.Texts.{due_line}
 
 module _ {A E : Type 0} where
@@ -26,3 +26,10 @@ module _ {A E : Type 0} where
         },
       )
   due_written (Err e) before t0 t1 s done due writes deadline range = tt
+
+-- what was passed over was written before
+pub heard_first : (t0 t1 t2 : List ℕ) (s : Session) (heard : List ℕ) (c : Called) → t1 ≡ t0 ++ heard → Comes t1 t2 s c → Comes t0 t2 s (after_text heard c)
+heard_first t0 t1 t2 s heard c is comes = record {
+  text = comes.text ∙ ap (λ t. t ++ c.text) is ∙ append_assoc t0 heard c.text;
+  session = comes.session;
+}

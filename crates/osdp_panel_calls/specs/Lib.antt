@@ -1,4 +1,6 @@
 pub mod Calls
 pub mod Texts
+pub mod Passing
+pub mod PassingLaws
 pub mod Sessions
 pub mod Lines

@@ -10,19 +10,21 @@ use Rattle.osdp_bus.specs.Ticking.{BusTicked, bus_ticks}
 use Rattle.osdp_reader_calls.specs.LineAnswers.{CalledIn}
 use Rattle.osdp_panel_calls.specs.declared.call.PanelCall.{PanelCall}
 use Rattle.osdp_panel_calls.specs.declared.call.PanelCall.TheVariants as call
+use Rattle.osdp_panel_calls.specs.Passing.{Listening, Overheard, hears_bytes, hears_end, hears_nothing, hears_silence, new_listening, opened_by}
 use Rattle.osdp_panel_calls.specs.Texts.{due_line, refusal_line, report_line, send_line, withdrawal_line}
 
--- a bus, and the moment of the calls to come
+-- a bus, the moment of the calls to come, and what is heard beside the bus
 pub record Session : Type 0 where
   pub bus : BusState
   pub now : ℕ
+  pub listening : Listening
 
 abbrev pub Called : Type 0
 Called = CalledIn Session
 
 -- a bus without devices, at moment 0
 abbrev pub new_session : BusConfig → Session
-new_session config = record { bus = new_bus config; now = 0 }
+new_session config = record { bus = new_bus config; now = 0; listening = new_listening config.gap }
 
 -- these lines are written, and the bus is another
 abbrev pub writes : List ℕ → BusState → Session → Called
@@ -48,15 +50,31 @@ does (call.Bytes list) s = writes [] (after_bytes list.items s.now s.bus) s
 does call.Silence s = writes [] (after_silence s.now s.bus) s
 does call.Tick s = sends (bus_ticks s.now s.bus) s
 
--- the report that waits then is taken and told
+-- the report that waits then is taken and told; it may say that a session is open, or isn't any more
 abbrev pub told : Called → Called
 told c = record {
   text = c.text ++ report_line c.session.bus.devices.report;
-  session = record c.session { bus = after_next_report c.session.bus };
+  session = record c.session {
+    bus = after_next_report c.session.bus;
+    listening = record c.session.listening { opened = opened_by c.session.bus.devices.report c.session.listening.opened };
+  };
 }
 
+-- what a call lets be heard beside the bus, before it is done
+abbrev pub overhears : PanelCall → Session → Overheard
+overhears (call.Bytes list) s = hears_bytes s.bus.devices.entries list.items s.now s.listening
+overhears call.Silence s = hears_end s.bus.devices.entries s.listening
+overhears call.Tick s = hears_silence s.bus.devices.entries s.now s.listening
+overhears _ s = hears_nothing s.listening
+
+-- the lines of what was passed over come first
+abbrev pub after_text : List ℕ → Called → Called
+after_text text c = record c { text = text ++ c.text }
+
 abbrev pub answered : PanelCall → Session → Called
-answered call s = told (does call s)
+answered call s =
+    let heard = overhears call s in
+    after_text heard.text (told (does call (record s { listening = heard.after })))
 
 -- each answer ends with the moment of the next tick
 abbrev pub ended : Option ℕ → Called → Called

@@ -13,7 +13,10 @@
 #![tactic(auto)]
 
 mod call;
+pub mod laws;
+mod listener;
 mod machine;
+mod passing;
 mod say;
 mod session;
 

@@ -5,27 +5,29 @@ ghost use Rattle.osdp_bus.specs.Machine.{NewEnds, add_refusal, after_add, after_
 ghost use Rattle.osdp_bus.specs.Settings.{IsBusConfig};
 ghost use Rattle.osdp_bus.specs.Ticking.{bus_ticks};
 ghost use Rattle.osdp_panel_calls.specs.Lines.{Ends, refuses};
-ghost use Rattle.osdp_panel_calls.specs.Sessions.{Called, Comes, Session, answered, does, new_session, told};
+ghost use Rattle.osdp_panel_calls.specs.Sessions.{Called, Comes, Session, answered, does, new_session, overhears, told};
 ghost use Rattle.osdp_panel_calls.specs.Texts.{refusal_line, send_line, withdrawal_line};
 
 use crate::call::PanelCall;
+use crate::listener::Listener;
 use crate::say::{push_due, push_refusal, push_report, push_sent, push_withdrawal};
 use osdp_bus::{Bus, BusConfig, BusFault, Entry};
 use osdp_frame::Address;
 use std::alloc::{AllocError, Global};
 use std::marker::Model;
 
-/// A panel's bus, and the moment of the calls to come.
+/// A panel's bus, the moment of the calls to come, and what is heard beside the bus.
 #[derive(Drop)]
 pub struct LinePanel {
     bus: Bus,
     now: u64,
+    listener: Listener,
 }
 
 impl Model for LinePanel {
     ghost Value = { Session };
 
-    ghost view = { λ p. record { bus = p.bus; now = p.now } };
+    ghost view = { λ p. record { bus = p.bus; now = p.now; listening = p.listener } };
 }
 
 /// Adds a device, or writes why the call is refused.
@@ -67,12 +69,38 @@ impl LinePanel {
         ensures range { IfOk result (λ p. IsBusConfig config) }
         ensures refused { IfErr result (λ fault. NewEnds config (Err fault)) }
     {
+        let listener = Listener::new(config.gap);
         let bus = Bus::new(alloc, config)?;
-        Ok(LinePanel { bus, now: 0 })
+        Ok(LinePanel {
+            bus,
+            now: 0,
+            listener,
+        })
     }
 }
 
 impl LinePanel {
+    /// Writes what a call lets be heard beside the bus: a reply that a session passes over while it isn't open.
+    fn listen(&mut self, call: &PanelCall, text: &mut String) -> Result<(), AllocError>
+        ensures text { OnOk result (string_bytes text.new ≡ string_bytes text.old ++ (overhears call.now self.old).text) }
+        ensures session { OnOk result (self.new ≡ record self.old { listening = (overhears call.now self.old).after }) }
+    {
+        match call {
+            PanelCall::Bytes(list) => {
+                self.listener
+                    .hear_bytes(&self.bus, list.as_slice(), self.now, text)
+            }
+            PanelCall::Silence => self.listener.hear_end(&self.bus, text),
+            PanelCall::Tick => self.listener.hear_silence(&self.bus, self.now, text),
+            PanelCall::At(_)
+            | PanelCall::Add(_)
+            | PanelCall::Begin(_)
+            | PanelCall::Submit(..)
+            | PanelCall::Withdraw(_)
+            | PanelCall::Retarget(..) => Ok(()),
+        }
+    }
+
     /// Does what a call orders, and writes what comes of it at once.
     fn call(&mut self, call: PanelCall, text: &mut String) -> Result<(), AllocError>
         ensures { OnOk result (Comes (string_bytes text.old) (string_bytes text.new) self.new (does call self.old)) }
@@ -108,6 +136,7 @@ impl LinePanel {
         ensures { (before : List ℕ) (c : Called) → OnOk result (Comes before (string_bytes text.old) self.old c → Comes before (string_bytes text.new) self.new (told c)) }
     {
         let report = self.bus.next_report();
+        self.listener.hear_report(&report);
         push_report(text, report)
     }
 
@@ -120,13 +149,14 @@ impl LinePanel {
         push_due(text, due)
     }
 
-    /// Answers a call: does what it orders, writes the lines that tell what came of it, and the one that ends the answer.
+    /// Answers a call: writes what is passed over, does what it orders, writes the lines that tell what came of it, and the one that ends the answer.
     ///
     /// After an error, which is one of memory, the text has a beginning of the answer; what the call changed stays so, and a report that was
     /// taken is lost.
     pub fn answer(&mut self, call: PanelCall, text: &mut String) -> Result<(), AllocError>
         ensures { OnOk result ((c : Called) × Ends (answered call self.old) c × Comes (string_bytes text.old) (string_bytes text.new) self.new c) }
     {
+        self.listen(&call, text)?;
         self.call(call, text)?;
         self.tell(text)?;
         self.end(text)

@@ -1,9 +1,16 @@
-use Rattle.std.proofs.Common.{string_bytes}
-use Rattle.osdp_panel_calls.specs.Sessions.{answered, does}
-use Rattle.osdp_panel_calls.proofs.Calls.{on_this}
+use Rattle.std.proofs.Common.{string_bytes, subst}
+use Rattle.osdp_panel_calls.specs.Sessions.{Comes, Session, answered, does, overhears, told}
+use Rattle.osdp_panel_calls.proofs.Calls.{heard_first, on_this}
 use Rattle.osdp_panel_calls.proofs.session.LinePanel.answer.Goals as goal
 
 pub returns : goal.returns
 returns c =
-    on_this _ _ _ (c.end.ensures (string_bytes c.args.text.now) (answered c.args.call c.args.self.now))
-    (c.in_ok-tell.ensures (string_bytes c.args.text.now) (does c.args.call c.args.self.now) c.in_ok-call.ensures)
+    let t0 = string_bytes c.args.text.now in
+    let t1 = string_bytes c.listen.new.text in
+    let call = c.args.call in
+    let s = c.args.self.now in
+    let heard = overhears call s in
+    let is_told = c.in_ok-tell.ensures t1 (does call c.listen.new.self) c.in_ok-call.ensures in
+    let is_told_there = subst (λ (x : Session). Comes t1 (string_bytes c.tell.new.text) c.tell.new.self (told (does call x))) c.in_ok-listen.ensures.session is_told in
+    on_this _ _ _ (c.end.ensures t0 (answered call s))
+    (heard_first t0 t1 (string_bytes c.tell.new.text) c.tell.new.self heard.text (told (does call (record s { listening = heard.after }))) c.in_ok-listen.ensures.text is_told_there)

@@ -1,6 +1,0 @@
-use Rattle.std.proofs.Common.{refl}
-use Rattle.osdp_line_programs.specs.Runs.{new_device}
-use Rattle.osdp_line_programs.proofs.reader.LineDeviceLineProgram.of_words.Goals as goal
-
-pub returns-in-Err-clause-none : goal.returns-in-Err-clause-none
-returns-in-Err-clause-none c = (new_device c.in-Some.settings, (c.in-Some.settings, c.in-Some.ensures.reads.value, refl))

@@ -1,0 +1,74 @@
+#!/usr/bin/env bash
+# Installs what the gate has proved into a temporary folder, and looks at what is there: the program, its pages, the library for C, with which a program
+# is compiled by pkg-config and run, the examples, and the crate for Rust, whose example is run. Installs a second time, and into a folder where nothing
+# may be written. From a tree in which nothing is proved nothing is put in place. Takes the path of the program; the archive is that which `c.sh` has built.
+set -u
+cd "$(dirname "$0")/.." || exit 1
+CC=${CC:-cc}
+work=$(mktemp -d)
+trap 'rm -rf "$work"' EXIT
+failed=0
+
+fail() {
+  echo "install.sh: $1"
+  failed=1
+}
+
+# The rest: a command that must end well.
+passes() {
+  "$@" >"$work/said" 2>&1 && return
+  cat "$work/said"
+  fail "${*//$work\//} has failed"
+  return 1
+}
+
+there=$work/there
+passes ./install --check
+passes ./install --proved --prefix "$there"
+passes ./install --proved --prefix "$there"
+grep -qF "export PATH=$there/bin:" "$work/said" || fail 'it does not say that PATH lacks the folder'
+
+[ "$("$there/bin/osdp" --version)" = 'osdp 0.1.0' ] || fail 'another version, or no program'
+cmp -s "$there/bin/osdp" "$1" || fail 'another program than the one that is proved'
+for page in osdp osdp-panel osdp-reader; do
+  MANPATH=$there/share/man man "$page" 2>/dev/null | grep -q SYNOPSIS || fail "man $page finds no page"
+done
+[ "$(find "$there" -name '*.new' -o -name __pycache__ -o -name target | wc -l)" -eq 0 ] || fail 'work of a build was put in place'
+
+export PKG_CONFIG_PATH=$there/lib/pkgconfig
+[ "$(pkg-config --modversion osdp)" = 0.1.0 ] || fail 'osdp.pc has another version'
+if passes "$CC" -std=c11 -Wall -Wextra -Werror -o "$work/installed" tests/c/installed.c $(pkg-config --cflags --libs osdp); then
+  # the packet is that of docs/GUIDE.md: an ID with number 0 to address 5, with a CRC
+  [ "$("$work/installed")" = '0.1.0 53050900046100C125' ] || fail 'the program in C prints something else'
+fi
+for name in panel reader; do
+  [ "$name" = panel ] && other=reader || other=panel
+  passes "$CC" -std=c11 -o "$work/$name" $(find "$there/share/osdp/examples/c" -name '*.c' ! -name "$other.c") $(pkg-config --cflags --libs osdp)
+done
+# a heap of the program's own takes the place of the one in the library
+passes "$CC" -std=c11 -o "$work/pool" tests/c/installed.c "$there/share/osdp/c/heap_pool.c" $(pkg-config --cflags --libs osdp) && passes "$work/pool"
+
+env -u OSDP_C_LIB_DIR cargo run --quiet --offline --locked --manifest-path "$there/share/osdp/rust/Cargo.toml" --target-dir "$work/target" --example session \
+  >"$work/said" 2>&1 || { cat "$work/said"; fail 'the example in Rust has failed'; }
+
+for file in panel.py reader.py lines.py door.hex; do
+  cmp -s "examples/$file" "$there/share/osdp/examples/$file" || fail "share/osdp/examples has another $file"
+done
+[ -x "$there/share/osdp/examples/panel.py" ] || fail 'panel.py is no program'
+
+touch "$work/file"
+./install --proved --prefix "$work/file/below" >"$work/said" 2>&1
+{ [ $? -eq 1 ] && [ "$(wc -l <"$work/said")" -eq 1 ]; } || { cat "$work/said"; fail 'a folder that cannot be made: not one line and status 1'; }
+
+mkdir -p "$work/tree/include" && cp install crates.txt "$work/tree/" && cp include/osdp.h "$work/tree/include/"
+"$work/tree/install" --proved --prefix "$work/nothing" >"$work/said" 2>&1
+{ [ $? -eq 1 ] && [ ! -e "$work/nothing" ]; } || fail 'from a tree in which nothing is proved something was put in place'
+
+python=$(python3 -c 'import sys; print(sys.executable)')
+PATH=$work "$python" ./install --check >"$work/said" 2>&1
+[ $? -eq 1 ] || fail 'on a machine without tools --check ends well'
+for package in gcc binutils man-db pkgconf cargo; do
+  grep -q "Debian package $package\$" "$work/said" || fail "--check does not name the package $package"
+done
+
+exit "$failed"
