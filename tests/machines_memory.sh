@@ -68,5 +68,5 @@ done
 refuse_each osdp_sim_tests refusals::out_of_memory_is_told 17 refusals::memory_is_needed '[1-9]|10|14|15|16|17'
 refuse_each osdp_sim_tests scripts::out_of_memory_is_told 27 scripts::memory_is_needed '.*'
 # The first request is the test's own, for the list of readers.
-refuse_each osdp_sim_bus_tests refusals::out_of_memory_is_told 30 refusals::memory_is_needed '.*'
+refuse_each osdp_sim_bus_tests refusals::out_of_memory_is_told 34 refusals::memory_is_needed '.*'
 exit "$failed"
