@@ -13,8 +13,8 @@ A reader whose session isn't open takes no order: it would be done whenever the 
 lost or moved, the orders that wait are taken back, and told `withdrawn`. A lost session begins again after a second.
 
 A COMSET is taken where every session is open. One with another rate is given to each reader, and the port gets that
-rate after the last one has moved. One that refuses it keeps the port at the old rate, out of reach of those that moved.
-Where the answer is lost, the new place and the old one are tried in turn.
+rate after the last one has moved. One that refuses it keeps the port at the old rate, and those that moved are told
+`out of reach`. Where the answer is lost, the new place and the old one are tried in turn.
 
 FILE gets each burst, both ways, as `osdp show` reads it.
 
@@ -34,6 +34,7 @@ class Reader:
         self.places = [(address, rate)]  # where it may be; the last one is used. There are two while a COMSET isn't answered
         self.state = "closed"  # then "begun", then "open"
         self.begins = 0  # the moment at which a closed session begins
+        self.is_told = False  # whether it was told out of reach
 
 
 class Panel:
@@ -78,7 +79,7 @@ class Panel:
 
     def close(self, which, reader, pause):
         """A session has ended: the orders that wait are stale, and are taken back."""
-        reader.state, reader.begins = "closed", moment() + pause
+        reader.state, reader.begins, reader.is_told = "closed", moment() + pause, False
         while self.call(f"withdraw {which}"):
             pass
 
@@ -150,6 +151,9 @@ class Panel:
         for which, reader in self.readers.items():
             if reader.begins <= now and self.place(reader):
                 self.begin(which, reader)
+            elif reader.state == "closed" and reader.begins + PAUSE <= now and not reader.is_told:
+                reader.is_told = True
+                tell(f"out of reach {which} at {reader.places[0][1]}")
         self.call("tick")
 
 

@@ -17,7 +17,7 @@ from pathlib import Path
 from terminals import Script, Terminal, commands, packet
 
 TOP = Path(__file__).resolve().parent.parent
-PANEL = "poll-interval 20 reply-wait 150 sends 2 quiet-wait 60 check sum".split()
+PANEL = "poll-interval 20 reply-wait 300 sends 2 quiet-wait 60 check sum".split()
 READER = "vendor 53494D model 1".split()
 ID, POLL, COMSET = 0x61, 0x60, 0x6E
 ACK, NAK, PDID, COM = 0x40, 0x41, 0x45, 0x54
@@ -28,7 +28,6 @@ faults = []
 def asks(holds, what):
     if not holds:
         faults.append(what)
-        print(what, flush=True)
 
 
 class Line:
@@ -70,7 +69,7 @@ class Line:
                 if other.rate == source.rate and not self.loses(way, burst):
                     os.write(other.end, burst[:5] if self.cuts else burst)
             if self.cuts:
-                time.sleep(0.004)
+                time.sleep(0.002)
                 for other in others:
                     os.write(other.end, burst[5:])
 
@@ -188,7 +187,7 @@ def lost_comset(words, what, loses, settles):
         panel.say("1 COMSET 7 19200")
         asks(line.run(lambda: any(each == "lost 1 no-reply COMSET 7 19200" for each in panel.lines)), f"{what}: the COMSET isn't told lost")
         line.loses = lambda way, burst: False
-        asks(line.run(opened(panel, 1, 2), 6), f"{what}: the reader isn't found again")
+        asks(line.run(opened(panel, 1, 2), 12), f"{what}: the reader isn't found again")
         tried = [burst[1] for way, burst in line.bursts if way == "out" and burst[5] == ID]
         asks(tried[-1] == settles[0] and 7 in tried, f"{what}: the addresses tried are {tried}")
         asks([each for each in panel.lines if each.startswith("rate ")] == settles[1], f"{what}: the rates told are others")
@@ -278,6 +277,7 @@ def refused_rate(words):
         asks(device.until(panel, has(panel, *told)), "refusing: the COMSETs aren't told")
         device.asked.clear()
         device.until(panel, lambda: False, 1.5)
+        asks("out of reach 1 at 19200" in panel.lines, "refusing: the moved reader isn't told out of reach")
         asks(set(device.asked) == {6} and len(device.asked) > 10, f"refusing: asked are {set(device.asked)}")
         asks(not any(each.startswith(("rate ", "lost 2")) for each in panel.lines), "refusing: the other session or the rate didn't stay")
 
@@ -449,12 +449,17 @@ def main(osdp, crates, built=None):
     refused_rate(words)
     refused_order(words)
     bad_lines(words)
-    traces(words, osdp)
+    before = len(faults)
+    for _ in range(3):  # on a busy machine the pause between two pieces may be as long as the gap
+        del faults[before:]
+        traces(words, osdp)
+        if len(faults) == before:
+            break
     wrong_words(words, built is None)
     if built is None:
         no_program(words)
     ends_without_a_word(words)
-    print(f"examples {'in C' if built else 'in Python'}: {len(faults)} faults in {time.monotonic() - begun:.1f} s")
+    print(f"examples {'in C' if built else 'in Python'}: {len(faults)} faults in {time.monotonic() - begun:.1f} s", *faults, sep="\n")
     return 1 if faults else 0
 
 

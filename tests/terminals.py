@@ -62,8 +62,12 @@ class Script:
         self.rest = b""
 
     def say(self, line):
-        self.process.stdin.write(line.encode() + b"\n")
-        self.process.stdin.flush()
+        """Hands it a line. Where it has ended that is seen by what it doesn't write."""
+        try:
+            self.process.stdin.write(line.encode() + b"\n")
+            self.process.stdin.flush()
+        except BrokenPipeError:
+            pass
 
     def read(self):
         piece = self.process.stdout.read() or b""

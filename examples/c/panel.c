@@ -17,8 +17,8 @@ static const char usage[] =
     "A reader whose session isn't open takes no order. Where a session is lost or moved, the orders that wait are taken\n"
     "back, and told `withdrawn`. A lost session begins again after a second.\n"
     "A COMSET is taken where every session is open. One with another rate is given to each reader, and the port gets that\n"
-    "rate after the last one has moved. One that refuses it keeps the port at the old rate, out of reach of those that moved.\n"
-    "Where the answer is lost, the new place and the old one are tried in turn.\n"
+    "rate after the last one has moved. One that refuses it keeps the port at the old rate, and those that moved are told\n"
+    "`out of reach`. Where the answer is lost, the new place and the old one are tried in turn.\n"
     "FILE gets each burst, both ways, as `osdp show` reads it.\n"
     "\n"
     "Settings: check sum or crc; reply-wait, poll-interval, busy-wait, quiet-wait and gap in milliseconds; sends,\n"
@@ -114,6 +114,9 @@ static void begin_sessions(uint64_t now)
         const struct place *place = next_place(reader, rate);
         if (place != NULL && reader->begins <= now) {
             begin(i, reader, *place, now);
+        } else if (reader->state == CLOSED && reader->begins + PAUSE <= now && !reader->is_told) {
+            reader->is_told = true;
+            tell("out of reach %zu at %u\n", i + 1, (unsigned)reader->places[0].rate);
         }
     }
 }

@@ -44,6 +44,7 @@ void reader_closed(struct known *reader, uint64_t begins)
 {
     reader->state = CLOSED;
     reader->begins = begins;
+    reader->is_told = false;
 }
 
 const char *comset_refusal(void)

@@ -18,6 +18,7 @@ struct known {
     size_t count;
     enum state state;
     uint64_t begins; /* the moment at which a closed session begins */
+    bool is_told;    /* whether it was told out of reach */
 };
 
 /* A reader joins those that are known, at this place. */

@@ -9,7 +9,7 @@ use osdp_msg::{Command, MsgFault, Nak, NakReason, Reply};
 
 /// What a reply says to somebody who listens.
 #[derive(Clone, Copy, Debug, PartialEq, Eq)]
-pub(crate) enum Said {
+pub enum Said {
     /// A BUSY that can be read: this copy wasn't taken.
     Busy,
     /// NAK 1: this copy came damaged.
