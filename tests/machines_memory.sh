@@ -1,6 +1,6 @@
 #!/usr/bin/env bash
 # Refuses each request for memory of the calls that take any, in turn and by themselves: of a new reader, a new controller, a new bus and its devices, of
-# a script that is read, and of a schedule that is run over one reader. It runs one test at a time, by the programs of the tests that `rt ci`
+# a script that is read, and of schedules that are run over one reader and over two. It runs one test at a time, by the programs of the tests that `rt ci`
 # leaves, with a library preloaded that refuses a request (`refuse.c`). A test that is told of out of memory passes with each request refused, and compares
 # the account then with that of the steps before; one that needs the memory fails, but where a row says that it goes on without it. Needs a C compiler.
 set -u
@@ -67,4 +67,6 @@ done
 # Ten requests to set up; three that ask beforehand for the room that the commands may take, without which it goes on; four by the steps.
 refuse_each osdp_sim_tests refusals::out_of_memory_is_told 17 refusals::memory_is_needed '[1-9]|10|14|15|16|17'
 refuse_each osdp_sim_tests scripts::out_of_memory_is_told 27 scripts::memory_is_needed '.*'
+# The first request is the test's own, for the list of readers.
+refuse_each osdp_sim_bus_tests refusals::out_of_memory_is_told 34 refusals::memory_is_needed '.*'
 exit "$failed"

@@ -3,8 +3,8 @@
 
 use crate::readers::{config, readers};
 use crate::steps::steps;
+use osdp_session::run_bus;
 use osdp_sim::{Account, Cause, Fault};
-use osdp_sim_bus::run_bus;
 use osdp_tool_account::account_text;
 use std::alloc::Global;
 use std::process::Abort;

@@ -1,4 +1,6 @@
-//! Tests of `osdp_sim_bus`: schedules over a line with several readers, with accounts worked out by hand, and readers that are refused.
+//! Tests of `osdp_sim_bus`: schedules over a line with several readers, accounts worked out by hand, and refusals.
+//!
+//! They call `run_bus` of `osdp_session`, which is that of `osdp_sim_bus` with the headline in its contract.
 #![tactic(auto)]
 
 #[cfg(test)]
@@ -7,5 +9,7 @@ mod accounts;
 mod faults;
 #[cfg(test)]
 mod readers;
+#[cfg(test)]
+mod refusals;
 #[cfg(test)]
 mod steps;

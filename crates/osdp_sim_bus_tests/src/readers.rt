@@ -4,8 +4,8 @@ use osdp_bus::BusConfig;
 use osdp_frame::{Address, CheckKind};
 use osdp_reader::ReaderConfig;
 use osdp_script_reader::{ScriptReader, script_config};
+use osdp_session::run_bus;
 use osdp_sim::{Account, Cause, Fault};
-use osdp_sim_bus::run_bus;
 use std::alloc::Global;
 use std::process::Abort;
 
