@@ -1,0 +1,13 @@
+pub mod Same
+pub mod Numbers
+pub mod Knowing
+pub mod Agreeing
+pub mod Replying
+pub mod Saying
+pub mod Hearing
+pub mod ReaderLines
+pub mod PanelFits
+pub mod PanelLines
+pub mod Remembering
+pub mod Missing
+pub mod FittingReplies

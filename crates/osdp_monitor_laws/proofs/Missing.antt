@@ -1,0 +1,324 @@
+-- What the rules never miss.
+use Rattle.std.proofs.Common.{◌≡◌, ◌≢◌, ◌⊎◌, inl, inr, ℕ, Bool, true, false, cond, eqb, ◌&&◌, ◌||◌, not, ◌∷◌, ◌++◌, Option, Some, None, refl, sym, subst, ap, ◌∙◌}
+use Rattle.std.proofs.lemmas.Bool.{and_from, and_right, cond-false, cond-true, cond_both, eq-eqb, false≢true, false_from_ne_true, ne_eqb, not_from_false, or_from, or_right}
+use Rattle.std.specs.Prelude.{is_some}
+use Rattle.osdp_frame.specs.Packet.{Packet, next_sequence}
+use Rattle.osdp_frame.specs.Reading.{PacketItem}
+use Rattle.osdp_monitor.specs.declared.accusation.Accusation.{Accusation}
+use Rattle.osdp_monitor.specs.declared.accusation.Accusation.TheVariants.{AnotherCheck, AnotherNumber, AnotherPacket, AnotherReply, BusyToRepeat, NotAnswered, SecondReply, SentOutOfTurn}
+use Rattle.osdp_monitor.specs.declared.said.Said.{Said}
+use Rattle.osdp_monitor.specs.declared.said.Said.TheVariants.{Busy, Damage, Refusal, Answer}
+use Rattle.osdp_monitor.specs.Known.{Known, is_number, same_check, same_packet}
+use Rattle.osdp_monitor.specs.Line.{Knowledge, after_items, after_packet, found_in, found_in_reply, found_in_sent, nothing_found}
+use Rattle.osdp_monitor.specs.Panel.{after_another, after_copy, after_sent, keeps_number, panel_accused, sent_after}
+use Rattle.osdp_monitor.specs.Reader.{after_answer, after_reply_of, answer_accused, reader_accused, repeat_reply, reply_accused}
+use Rattle.osdp_monitor.specs.Saying.{is_damage, is_foreign, said}
+use Rattle.osdp_monitor_laws.proofs.Agreeing.{none_some, same_some, sent_asked}
+use Rattle.osdp_monitor_laws.proofs.Numbers.{next_above_zero, next_differs}
+use Rattle.osdp_monitor_laws.proofs.PanelLines.{last_by}
+use Rattle.osdp_monitor_laws.proofs.Remembering.{after_append, after_one, at_remembered, forgotten_append, items_keep}
+use Rattle.osdp_monitor_laws.proofs.Same.{packet_is}
+use Rattle.osdp_monitor_laws.specs.Misses.{IsCopyOrReply, IsFrom, IsRemembered, IsTo, LeavesUnanswered, MissesNoOtherPacket, MissesNoOtherReply, MissesNoUnanswered, RefusesNothing, TakesNothing}
+
+-- ---- what is found, where the packet is judged
+
+sent_found : (line : Knowledge) (a : ℕ) (q : Packet) (accusation : Option Accusation) → IsTo a q → a ≢ 127 → is_foreign q ≡ false
+    → panel_accused (line.devices a).last (line.devices a) q ≡ accusation → (found_in line q).accusation ≡ accusation
+sent_found line a q accusation to device plain accused =
+    let k = line.devices q.address in
+    ap (λ f. f.accusation) (cond-false (eqb q.address 127 || is_foreign q) nothing_found (cond q.reply (found_in_reply k.last k q) (found_in_sent k q))
+    (or_from (eqb q.address 127) (is_foreign q) (ne_eqb q.address 127 (λ all. device (sym to.1 ∙ all))) plain))
+    ∙ ap (λ f. f.accusation) (cond-false q.reply (found_in_reply k.last k q) (found_in_sent k q) to.0)
+    ∙ subst (λ b. panel_accused (line.devices b).last (line.devices b) q ≡ accusation) (sym to.1) accused
+
+reply_found : (line : Knowledge) (a : ℕ) (s p : Packet) (accusation : Accusation) → IsFrom a s → a ≢ 127 → is_foreign s ≡ false
+    → (line.devices a).last ≡ Some p → reader_accused (line.devices a) p s ≡ Some accusation → (found_in line s).accusation ≡ Some accusation
+reply_found line a s p accusation from device plain last accused =
+    let k = line.devices s.address in
+    ap (λ f. f.accusation) (cond-false (eqb s.address 127 || is_foreign s) nothing_found (cond s.reply (found_in_reply k.last k s) (found_in_sent k s))
+    (or_from (eqb s.address 127) (is_foreign s) (ne_eqb s.address 127 (λ all. device (sym from.1 ∙ all))) plain))
+    ∙ ap (λ f. f.accusation) (cond-true s.reply (found_in_reply k.last k s) (found_in_sent k s) from.0)
+    ∙ subst (λ b. (found_in_reply (line.devices b).last (line.devices b) s).accusation ≡ Some accusation) (sym from.1)
+    (ap (λ o. (found_in_reply o (line.devices a) s).accusation) last ∙ accused)
+
+-- the address is that of a device
+device_of : (line : Knowledge) (a : ℕ) (p : Packet) → p.address ≡ a → IsRemembered a (PacketItem p) line → a ≢ 127
+device_of line a p here is all = is.0 (here ∙ all)
+
+-- ---- another packet with the number of the last
+
+abbrev IsLast : Packet → Known → Type 0
+IsLast p k = k.last ≡ Some p
+
+last_step : (a : ℕ) (p : Packet) (line : Knowledge) (x : Packet) → IsLast p (line.devices a) → (x.address ≡ a → IsCopyOrReply p x)
+    → IsRemembered a (PacketItem x) line → IsLast p ((after_packet line x).devices a)
+last_step a p line x known each is =
+    at_remembered a (IsLast p) line x is (λ _. known) (λ _ _ _. known)
+    (λ here command. elim (each here) [
+      | inl same ↦ (sent_asked (line.devices a) x).last ∙ ap Some same
+      | inr reply ↦ absurd (false≢true (sym command ∙ reply))
+    ])
+    (λ _ _ last _. last_by (said x) (line.devices a) last x ∙ known)
+
+first_last : (a : ℕ) (line : Knowledge) (p : Packet) → IsTo a p → IsRemembered a (PacketItem p) line → IsLast p ((after_packet line p).devices a)
+first_last a line p to is =
+    at_remembered a (IsLast p) line p is (λ other. absurd (other to.1)) (λ _ reply. absurd (false≢true (sym to.0 ∙ reply)))
+    (λ _ _. (sent_asked (line.devices a) p).last) (λ _ reply. absurd (false≢true (sym to.0 ∙ reply)))
+
+another_accused : (p q : Packet) (answered : Bool) → p.sequence ≢ 0 → q.sequence ≡ p.sequence → q ≢ p → sent_after p answered q ≡ Some AnotherPacket
+another_accused p q answered above number other =
+    cond-false (eqb q.sequence 0) None (cond (eqb q.sequence p.sequence) (cond (same_packet p q) None (Some AnotherPacket)) (cond (eqb q.sequence (next_sequence p.sequence)) (cond answered None (Some NotAnswered)) (Some SentOutOfTurn)))
+    (ne_eqb q.sequence 0 (λ zero. above (sym number ∙ zero)))
+    ∙ cond-true (eqb q.sequence p.sequence) (cond (same_packet p q) None (Some AnotherPacket)) (cond (eqb q.sequence (next_sequence p.sequence)) (cond answered None (Some NotAnswered)) (Some SentOutOfTurn))
+    (eq-eqb q.sequence p.sequence number)
+    ∙ cond-false (same_packet p q) None (Some AnotherPacket) (false_from_ne_true (same_packet p q) (λ same. other (sym (packet_is p q same))))
+
+pub misses_no_other_packet : MissesNoOtherPacket
+misses_no_other_packet line a p items q to above nothing each next plain number other =
+    let last = items_keep a (IsLast p) (IsCopyOrReply p) (last_step a p) items (after_packet line p) (first_last a line p to nothing.0) nothing.1 each in
+    ap (λ (known : Knowledge). (found_in known q).accusation) (after_one line (PacketItem p) items)
+    ∙ sent_found (after_items (after_packet line p) items) a q (Some AnotherPacket) next (device_of line a p to.1 nothing.0) plain
+    (ap (λ o. panel_accused o ((after_items (after_packet line p) items).devices a) q) last
+    ∙ another_accused p q ((after_items (after_packet line p) items).devices a).answered above number other)
+
+-- ---- the next number, but the last packet was not answered
+
+abbrev IsUnanswered : Packet → Known → Type 0
+IsUnanswered p k = (k.last ≡ Some p) × (k.answered ≡ false)
+
+copy_unanswered : (k : Known) (p : Packet) (o : Option Packet) → k.last ≡ o → o ≡ Some p → k.answered ≡ false → (after_sent o k p).answered ≡ false
+copy_unanswered k p None is last none = refl
+copy_unanswered k p (Some old) is last none =
+    cond_both (same_packet old p) (after_copy k) (after_another (keeps_number old k p) k p) (λ j. j.answered ≡ false) (λ _. none) (λ _. refl)
+
+first_unanswered : (k : Known) (p : Packet) (o : Option Packet) → o ≢ Some p → (after_sent o k p).answered ≡ false
+first_unanswered k p None first = refl
+first_unanswered k p (Some old) first =
+    cond_both (same_packet old p) (after_copy k) (after_another (keeps_number old k p) k p) (λ j. j.answered ≡ false)
+    (λ same. absurd (first (ap Some (packet_is old p same)))) (λ _. refl)
+
+reply_unanswered : (s : Said) (k : Known) (p x : Packet) → k.answered ≡ false → (x.sequence ≢ p.sequence) ⊎ (s ≢ Answer)
+    → (after_reply_of s k p x).answered ≡ false
+reply_unanswered Busy k p x none other = none
+reply_unanswered Damage k p x none other = none
+reply_unanswered Refusal k p x none other = none
+reply_unanswered Answer k p x none (inl other) = or_from k.answered (eqb x.sequence p.sequence) none (ne_eqb x.sequence p.sequence other)
+reply_unanswered Answer k p x none (inr other) = absurd (other refl)
+
+unanswered_step : (a : ℕ) (p : Packet) → p.reply ≡ false → (line : Knowledge) (x : Packet) → IsUnanswered p (line.devices a)
+    → (x.address ≡ a → LeavesUnanswered p x) → IsRemembered a (PacketItem x) line → IsUnanswered p ((after_packet line x).devices a)
+unanswered_step a p command line x known each is =
+    let k = line.devices a in
+    at_remembered a (IsUnanswered p) line x is (λ _. known) (λ _ _ _. known)
+    (λ here sent. elim (each here) [
+      | inl same ↦ ((sent_asked k x).last ∙ ap Some same, copy_unanswered k x k.last refl (known.0 ∙ ap Some (sym same)) known.1)
+      | inr by ↦ absurd (false≢true (sym sent ∙ by.0))
+    ])
+    (λ here reply last before. elim (each here) [
+      | inl same ↦ absurd (false≢true (sym command ∙ sym (ap (λ (y : Packet). y.reply) same) ∙ reply))
+      | inr by ↦ (
+        last_by (said x) k last x ∙ known.0,
+        reply_unanswered (said x) k last x known.1
+            (subst (λ y. (x.sequence ≢ y.sequence) ⊎ (said x ≢ Answer)) (same_some p last (sym known.0 ∙ before)) by.1),
+      )
+    ])
+
+first_is_unanswered : (a : ℕ) (line : Knowledge) (p : Packet) → IsTo a p → (line.devices a).last ≢ Some p → IsRemembered a (PacketItem p) line
+    → IsUnanswered p ((after_packet line p).devices a)
+first_is_unanswered a line p to first is =
+    let k = line.devices a in
+    at_remembered a (IsUnanswered p) line p is (λ other. absurd (other to.1)) (λ _ reply. absurd (false≢true (sym to.0 ∙ reply)))
+    (λ _ _. ((sent_asked k p).last, first_unanswered k p k.last first)) (λ _ reply. absurd (false≢true (sym to.0 ∙ reply)))
+
+next_accused : (p q : Packet) (answered : Bool) → answered ≡ false → q.sequence ≡ next_sequence p.sequence → sent_after p answered q ≡ Some NotAnswered
+next_accused p q answered none next =
+    let turn = cond (eqb q.sequence (next_sequence p.sequence)) (cond answered None (Some NotAnswered)) (Some SentOutOfTurn) in
+    cond-false (eqb q.sequence 0) None (cond (eqb q.sequence p.sequence) (cond (same_packet p q) None (Some AnotherPacket)) turn)
+    (ne_eqb q.sequence 0 (λ zero. next_above_zero p.sequence (sym next ∙ zero)))
+    ∙ cond-false (eqb q.sequence p.sequence) (cond (same_packet p q) None (Some AnotherPacket)) turn
+    (ne_eqb q.sequence p.sequence (λ same. next_differs p.sequence (sym next ∙ same)))
+    ∙ cond-true (eqb q.sequence (next_sequence p.sequence)) (cond answered None (Some NotAnswered)) (Some SentOutOfTurn)
+    (eq-eqb q.sequence (next_sequence p.sequence) next)
+    ∙ cond-false answered None (Some NotAnswered) none
+
+pub misses_no_unanswered : MissesNoUnanswered
+misses_no_unanswered line a p items q to first nothing each next plain number =
+    let known = items_keep a (IsUnanswered p) (LeavesUnanswered p) (unanswered_step a p to.0) items (after_packet line p)
+    (first_is_unanswered a line p to first nothing.0) nothing.1 each in
+    let k = (after_items (after_packet line p) items).devices a in
+    ap (λ (known : Knowledge). (found_in known q).accusation) (after_one line (PacketItem p) items)
+    ∙ sent_found (after_items (after_packet line p) items) a q (Some NotAnswered) next (device_of line a p to.1 nothing.0) plain
+    (ap (λ o. panel_accused o k q) known.0 ∙ next_accused p q k.answered known.1 number)
+
+-- ---- a repeat that is answered by something else
+
+-- the last packet has this number
+abbrev HasNumber : ℕ → Known → Type 0
+HasNumber n k = (q : Packet) × (k.last ≡ Some q) × (q.sequence ≡ n)
+
+abbrev IsPending : ℕ → Known → Type 0
+IsPending n k = HasNumber n k × (k.taken ≢ Some n)
+
+untaken_sent : (n : ℕ) (k : Known) (p : Packet) (o : Option Packet) → k.taken ≢ Some n → (after_sent o k p).taken ≢ Some n
+untaken_sent n k p None untaken = none_some n
+untaken_sent n k p (Some old) untaken =
+    cond_both (same_packet old p) (after_copy k) (after_another (keeps_number old k p) k p) (λ j. j.taken ≢ Some n) (λ _. untaken)
+    (λ _. cond_both (keeps_number old k p) k.taken None (λ t. t ≢ Some n) (λ _. untaken) (λ _. none_some n))
+
+untaken_reply : (s : Said) (n : ℕ) (k : Known) (p x : Packet) → k.taken ≢ Some n → s ≢ Answer → (after_reply_of s k p x).taken ≢ Some n
+untaken_reply Busy n k p x untaken other = untaken
+untaken_reply Damage n k p x untaken other = untaken
+untaken_reply Refusal n k p x untaken other = none_some n
+untaken_reply Answer n k p x untaken other = absurd (other refl)
+
+pending_step : (a n : ℕ) (line : Knowledge) (x : Packet) → IsPending n (line.devices a) → (x.address ≡ a → TakesNothing n x)
+    → IsRemembered a (PacketItem x) line → IsPending n ((after_packet line x).devices a)
+pending_step a n line x known each is =
+    let k = line.devices a in
+    at_remembered a (IsPending n) line x is (λ _. known) (λ _ _ _. known)
+    (λ here sent. elim (each here) [
+      | inl same ↦ ((x, (sent_asked k x).last, same.1), untaken_sent n k x k.last known.1)
+      | inr by ↦ absurd (false≢true (sym sent ∙ by.0))
+    ])
+    (λ here reply last before. elim (each here) [
+      | inl sent ↦ absurd (false≢true (sym sent.0 ∙ reply))
+      | inr by ↦ (
+        (known.0.0, last_by (said x) k last x ∙ known.0.1, known.0.2),
+        untaken_reply (said x) n k last x known.1 by.1,
+      )
+    ])
+
+first_pending : (a : ℕ) (line : Knowledge) (p : Packet) → IsTo a p → (line.devices a).taken ≢ Some p.sequence → IsRemembered a (PacketItem p) line
+    → IsPending p.sequence ((after_packet line p).devices a)
+first_pending a line p to untaken is =
+    let k = line.devices a in
+    at_remembered a (IsPending p.sequence) line p is (λ other. absurd (other to.1)) (λ _ reply. absurd (false≢true (sym to.0 ∙ reply)))
+    (λ _ _. ((p, (sent_asked k p).last, refl), untaken_sent p.sequence k p k.last untaken)) (λ _ reply. absurd (false≢true (sym to.0 ∙ reply)))
+
+-- the reply that a packet with this number must have
+abbrev IsStored : ℕ → Packet → Known → Type 0
+IsStored n r k = HasNumber n k × (k.taken ≡ Some n) × (k.stored ≡ Some r)
+
+not_number : (o : Option ℕ) (n : ℕ) → o ≢ Some n → is_number o n ≡ false
+not_number None n other = refl
+not_number (Some t) n other = ne_eqb t n (λ same. other (ap Some same))
+
+new_repeat : (k : Known) (q : Packet) (n : ℕ) → q.sequence ≡ n → k.taken ≢ Some n → repeat_reply k q ≡ None
+new_repeat k q n number untaken =
+    cond-false (not (eqb q.sequence 0) && is_number k.taken q.sequence) k.stored None
+    (and_right (not (eqb q.sequence 0)) (is_number k.taken q.sequence) (subst (λ m. is_number k.taken m ≡ false) (sym number) (not_number k.taken n untaken)))
+
+old_repeat : (k : Known) (q : Packet) (n : ℕ) → n ≢ 0 → q.sequence ≡ n → k.taken ≡ Some n → repeat_reply k q ≡ k.stored
+old_repeat k q n above number taken =
+    cond-true (not (eqb q.sequence 0) && is_number k.taken q.sequence) k.stored None
+    (and_from (not (eqb q.sequence 0)) (is_number k.taken q.sequence)
+    (not_from_false (eqb q.sequence 0) (ne_eqb q.sequence 0 (λ zero. above (sym number ∙ zero))))
+    (subst (λ o. is_number o q.sequence ≡ true) (sym taken) (eq-eqb n q.sequence (sym number))))
+
+-- the reply that takes the number
+answer_stored : (n : ℕ) (k : Known) (q r : Packet) → n ≢ 0 → q.sequence ≡ n → k.last ≡ Some q → repeat_reply k q ≡ None
+    → IsStored n r (after_answer (is_some (repeat_reply k q)) q.sequence k r)
+answer_stored n k q r above number last new =
+    subst (λ o. IsStored n r (after_answer (is_some o) q.sequence k r)) (sym new) (
+      (q, last, number),
+      ap Some number,
+      cond-false (eqb q.sequence 0) None (Some r) (ne_eqb q.sequence 0 (λ zero. above (sym number ∙ zero))),
+    )
+
+taken_stored : (a n : ℕ) (line : Knowledge) (r : Packet) → n ≢ 0 → IsPending n (line.devices a) → IsFrom a r → said r ≡ Answer
+    → IsRemembered a (PacketItem r) line → IsStored n r ((after_packet line r).devices a)
+taken_stored a n line r above known from says is =
+    let k = line.devices a in
+    at_remembered a (IsStored n r) line r is (λ other. absurd (other from.1))
+    (λ _ _ none. absurd (none_some known.0.0 (sym none ∙ known.0.1))) (λ _ sent. absurd (false≢true (sym sent ∙ from.0)))
+    (λ _ _ last before.
+    let same : known.0.0 ≡ last = same_some known.0.0 last (sym known.0.1 ∙ before) in
+    let number : last.sequence ≡ n = sym (ap (λ (y : Packet). y.sequence) same) ∙ known.0.2 in
+    subst (λ s. IsStored n r (after_reply_of s k last r)) (sym says)
+    (answer_stored n k last r above number before (new_repeat k last n number known.1)))
+
+-- another packet with this number, and a copy
+stored_sent : (n : ℕ) (r : Packet) (k : Known) (x : Packet) (o : Option Packet) → n ≢ 0 → k.last ≡ o → x.sequence ≡ n → IsStored n r k
+    → ((after_sent o k x).taken ≡ Some n) × ((after_sent o k x).stored ≡ Some r)
+stored_sent n r k x None above last number known = absurd (none_some known.0.0 (sym last ∙ known.0.1))
+stored_sent n r k x (Some old) above last number known =
+    let same : known.0.0 ≡ old = same_some known.0.0 old (sym known.0.1 ∙ last) in
+    let keeps : keeps_number old k x ≡ true =
+    and_from (not (eqb x.sequence 0)) (k.replied || is_number k.taken old.sequence)
+    (not_from_false (eqb x.sequence 0) (ne_eqb x.sequence 0 (λ zero. above (sym number ∙ zero))))
+    (or_right k.replied (is_number k.taken old.sequence) (subst (λ t. is_number t old.sequence ≡ true) (sym known.1)
+    (eq-eqb n old.sequence (sym known.0.2 ∙ ap (λ (y : Packet). y.sequence) same)))) in
+    cond_both (same_packet old x) (after_copy k) (after_another (keeps_number old k x) k x) (λ j. (j.taken ≡ Some n) × (j.stored ≡ Some r))
+    (λ _. (known.1, known.2))
+    (λ _. (cond-true (keeps_number old k x) k.taken None keeps ∙ known.1, cond-true (keeps_number old k x) k.stored None keeps ∙ known.2))
+
+stored_reply : (s : Said) (n : ℕ) (r : Packet) (k : Known) (q x : Packet) → n ≢ 0 → k.last ≡ Some q → q.sequence ≡ n → s ≢ Refusal → IsStored n r k
+    → ((after_reply_of s k q x).taken ≡ Some n) × ((after_reply_of s k q x).stored ≡ Some r)
+stored_reply Busy n r k q x above last number other known = (known.1, known.2)
+stored_reply Damage n r k q x above last number other known = (known.1, known.2)
+stored_reply Refusal n r k q x above last number other known = absurd (other refl)
+stored_reply Answer n r k q x above last number other known =
+    subst (λ o. ((after_answer (is_some o) q.sequence k x).taken ≡ Some n) × ((after_answer (is_some o) q.sequence k x).stored ≡ Some r))
+    (sym (old_repeat k q n above number known.1 ∙ known.2)) (known.1, known.2)
+
+stored_step : (a n : ℕ) (r : Packet) → n ≢ 0 → (line : Knowledge) (x : Packet) → IsStored n r (line.devices a) → (x.address ≡ a → RefusesNothing n x)
+    → IsRemembered a (PacketItem x) line → IsStored n r ((after_packet line x).devices a)
+stored_step a n r above line x known each is =
+    let k = line.devices a in
+    at_remembered a (IsStored n r) line x is (λ _. known) (λ _ _ _. known)
+    (λ here sent. elim (each here) [
+      | inl same ↦
+          let kept = stored_sent n r k x k.last above refl same.1 known in
+          ((x, (sent_asked k x).last, same.1), kept.0, kept.1)
+      | inr by ↦ absurd (false≢true (sym sent ∙ by.0))
+    ])
+    (λ here reply last before. elim (each here) [
+      | inl sent ↦ absurd (false≢true (sym sent.0 ∙ reply))
+      | inr by ↦
+          let same : known.0.0 ≡ last = same_some known.0.0 last (sym known.0.1 ∙ before) in
+          let kept = stored_reply (said x) n r k last x above before (sym (ap (λ (y : Packet). y.sequence) same) ∙ known.0.2) by.1 known in
+          ((known.0.0, last_by (said x) k last x ∙ known.0.1, known.0.2), kept.0, kept.1)
+    ])
+
+-- whatever else comes is accused
+abbrev IsAccused : Option Accusation → Type 0
+IsAccused o = (accusation : Accusation) × (o ≡ Some accusation)
+
+other_accused : (n : ℕ) (r : Packet) (k : Known) (q s : Packet) → n ≢ 0 → k.last ≡ Some q → q.sequence ≡ n → IsStored n r k
+    → (said s ≡ Answer) ⊎ (said s ≡ Busy) → s ≢ r → IsAccused (reader_accused k q s)
+other_accused n r k q s above last number known says other =
+    let stored : repeat_reply k q ≡ Some r = old_repeat k q n above number known.1 ∙ known.2 in
+    cond_both (k.replied && not (is_damage (said s))) (Some SecondReply) (reply_accused (said s) k q s) IsAccused (λ _. (SecondReply, refl))
+    (λ _. elim says [
+      | inl answer ↦ (
+        AnotherReply,
+        ap (λ t. reply_accused t k q s) answer ∙ ap (λ o. answer_accused o k q s) stored
+            ∙ cond-false (same_packet r s) None (Some AnotherReply) (false_from_ne_true (same_packet r s) (λ same. other (sym (packet_is r s same)))),
+      )
+      | inr busy ↦ subst (λ t. IsAccused (reply_accused t k q s)) (sym busy)
+          (cond_both (not (eqb s.sequence q.sequence || eqb s.sequence 0)) (Some AnotherNumber) (cond (not (same_check s.check q.check)) (Some AnotherCheck) (cond (is_some (repeat_reply k q)) (Some BusyToRepeat) None))
+          IsAccused (λ _. (AnotherNumber, refl))
+          (λ _. cond_both (not (same_check s.check q.check)) (Some AnotherCheck) (cond (is_some (repeat_reply k q)) (Some BusyToRepeat) None)
+          IsAccused (λ _. (AnotherCheck, refl)) (λ _. (BusyToRepeat, ap (λ o. cond (is_some o) (Some BusyToRepeat) None) stored))))
+    ])
+
+pub misses_no_other_reply : MissesNoOtherReply
+misses_no_other_reply line a p before r since s to above untaken each_before from answer each_since nothing reply plain says other =
+    let n = p.sequence in
+    let line0 = after_packet line p in
+    let line1 = after_items line0 before in
+    let line2 = after_packet line1 r in
+    let line3 = after_items line2 since in
+    let rest = forgotten_append a line0 before (PacketItem r ∷ since) nothing.1 in
+    let pending : IsPending n (line1.devices a) =
+    items_keep a (IsPending n) (TakesNothing n) (pending_step a n) before line0 (first_pending a line p to untaken nothing.0) rest.0 each_before in
+    let stored : IsStored n r (line3.devices a) =
+    items_keep a (IsStored n r) (RefusesNothing n) (stored_step a n r above) since line2
+    (taken_stored a n line1 r above pending from answer rest.1.0) rest.1.1 each_since in
+    let accused = other_accused n r (line3.devices a) stored.0.0 s above stored.0.1 stored.0.2 stored says other in
+    let whole : after_items line (PacketItem p ∷ before ++ PacketItem r ∷ since) ≡ line3 =
+    after_one line (PacketItem p) (before ++ PacketItem r ∷ since) ∙ after_append line0 before (PacketItem r ∷ since) ∙ after_one line1 (PacketItem r) since in (
+      accused.0,
+      ap (λ (known : Knowledge). (found_in known s).accusation) whole
+          ∙ reply_found line3 a s stored.0.0 accused.0 reply (device_of line a p to.1 nothing.0) plain stored.0.1 accused.1,
+    )

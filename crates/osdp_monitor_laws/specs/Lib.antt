@@ -1,0 +1,3 @@
+pub mod ReaderLine
+pub mod PanelLine
+pub mod Misses
