@@ -1,0 +1,141 @@
+-- What is counted of each address, and the table of it.
+use Rattle.std.specs.Prelude.{ℕ, ◌+◌, ◌-◌, ◌^◌, ◌==◌, ◌&&◌, not, nat_lt, Bool, true, false, if◌then◌else◌, List, [], ◌∷◌, ◌++◌, codes, length, replicate, slice_index_or, slice_set, is_some, Option, Some, Result, Ok}
+use Rattle.std.specs.Fmt.{decimal}
+use Rattle.osdp_frame.specs.Packet.{Packet}
+use Rattle.osdp_monitor.specs.declared.found.Found.{Found}
+use Rattle.osdp_monitor.specs.declared.found.Notice.{Notice}
+use Rattle.osdp_monitor.specs.declared.found.Notice.TheVariants.{Opened, Moved}
+use Rattle.osdp_monitor.specs.Saying.{asked, told}
+use Rattle.osdp_msg.specs.declared.command.Command.{Command}
+use Rattle.osdp_msg.specs.declared.command.Command.TheVariants.{Poll}
+use Rattle.osdp_msg.specs.declared.fault.MsgFault.{MsgFault}
+use Rattle.osdp_msg.specs.declared.reply.Reply.{Reply}
+use Rattle.osdp_msg.specs.declared.reply.Reply.TheVariants as reply
+use Rattle.osdp_tool_lines.specs.declared.tally.Tally.{Tally}
+use Rattle.osdp_tool_monitor.specs.declared.counts.Counts.{Counts}
+use Rattle.osdp_tool_monitor.specs.declared.counts.ReplyKind.{ReplyKind}
+use Rattle.osdp_tool_monitor.specs.declared.counts.ReplyKind.TheVariants.{Busy, Refused, Event, Other}
+
+-- one more, where the test holds; a count stays at the greatest number of 64 bits
+abbrev pub more_if : Bool → ℕ → ℕ
+more_if test count = if test && nat_lt count (2 ^ 64 - 1) then count + 1 else count
+
+-- a command that is a POLL
+abbrev pub is_poll : Result Command MsgFault → Bool
+is_poll (Ok Poll) = true
+is_poll _ = false
+
+-- a reply, as it is counted: a card or keys are events
+abbrev pub kind_of_reply : Result Reply MsgFault → ReplyKind
+kind_of_reply (Ok reply.Busy) = Busy
+kind_of_reply (Ok (reply.Nak n)) = Refused
+kind_of_reply (Ok (reply.Raw r)) = Event
+kind_of_reply (Ok (reply.Formatted f)) = Event
+kind_of_reply (Ok (reply.Keypad k)) = Event
+kind_of_reply _ = Other
+
+abbrev pub is_busy : ReplyKind → Bool
+is_busy Busy = true
+is_busy _ = false
+
+abbrev pub is_refused : ReplyKind → Bool
+is_refused Refused = true
+is_refused _ = false
+
+abbrev pub is_event : ReplyKind → Bool
+is_event Event = true
+is_event _ = false
+
+abbrev pub is_opened : Option Notice → Bool
+is_opened (Some Opened) = true
+is_opened _ = false
+
+abbrev pub is_moved : Option Notice → Bool
+is_moved (Some (Moved address)) = true
+is_moved _ = false
+
+-- after a packet to a device; `copy` where it is the last one once more
+abbrev pub after_sent : Packet → Bool → Found → Counts → Counts
+after_sent p copy found c = record c {
+  asked = more_if true c.asked;
+  polls = more_if (is_poll (asked p)) c.polls;
+  repeats = more_if copy c.repeats;
+  accused = more_if (is_some found.accusation) c.accused;
+}
+
+-- after a reply
+abbrev pub after_reply : ReplyKind → Found → Counts → Counts
+after_reply kind found c = record c {
+  answered = more_if (not (is_busy kind) && not (is_refused kind)) c.answered;
+  busy = more_if (is_busy kind) c.busy;
+  nak = more_if (is_refused kind) c.nak;
+  events = more_if (is_event kind) c.events;
+  opened = more_if (is_opened found.notice) c.opened;
+  moved = more_if (is_moved found.notice) c.moved;
+  accused = more_if (is_some found.accusation) c.accused;
+}
+
+abbrev pub after_packet : Packet → Bool → Found → Counts → Counts
+after_packet p copy found c =
+    if p.reply then after_reply (kind_of_reply (told p)) found c else after_sent p copy found c
+
+abbrev pub no_counts : Counts
+no_counts = record {
+  asked = 0;
+  polls = 0;
+  repeats = 0;
+  answered = 0;
+  busy = 0;
+  nak = 0;
+  events = 0;
+  opened = 0;
+  moved = 0;
+  accused = 0;
+}
+
+-- those of each address, from 0 on
+abbrev pub counts_after : Packet → Bool → Found → List Counts → List Counts
+counts_after p copy found counts =
+    slice_set counts p.address (after_packet p copy found (slice_index_or counts p.address no_counts))
+
+-- ---- the table
+
+-- digits to the right of a column
+abbrev pub column : ℕ → ℕ → List ℕ
+column width count = replicate (width - length (decimal count)) 32 ++ decimal count
+
+unfoldable pub heading : List ℕ
+heading = codes "device  asked  polls repeats  answered  busy  nak  events  opened  moved  accused\n"
+
+-- a line for each address to which or from which something came: what was asked, what was answered, and the rest
+abbrev pub asked_columns : ℕ → Counts → List ℕ
+asked_columns address c = column 6 address ++ (column 7 c.asked ++ (column 7 c.polls ++ column 8 c.repeats))
+
+abbrev pub answered_columns : Counts → List ℕ
+answered_columns c = column 10 c.answered ++ (column 6 c.busy ++ (column 5 c.nak ++ column 8 c.events))
+
+abbrev pub other_columns : Counts → List ℕ
+other_columns c = column 8 c.opened ++ (column 7 c.moved ++ (column 9 c.accused ++ codes "\n"))
+
+abbrev pub row : ℕ → Counts → List ℕ
+row address c = asked_columns address c ++ (answered_columns c ++ other_columns c)
+
+abbrev pub is_silent : Counts → Bool
+is_silent c = c.asked == 0 && c.answered == 0 && c.busy == 0 && c.nak == 0
+
+abbrev pub row_if : ℕ → Counts → List ℕ
+row_if address c = if is_silent c then [] else row address c
+
+unfoldable pub rows_from : ℕ → List Counts → List ℕ
+rows_from address [] = []
+rows_from address (c ∷ counts) = row_if address c ++ rows_from (address + 1) counts
+
+-- the line of counts
+abbrev pub counts_line : Tally → ℕ → List ℕ
+counts_line tally accused =
+    codes "runs " ++ (decimal tally.runs ++ (codes " packets " ++ (decimal tally.packets ++ (codes " skipped "
+    ++ (decimal tally.skipped ++ (codes " refused " ++ (decimal tally.refused ++ (codes " accused " ++ (decimal accused ++ codes "\n")))))))))
+
+-- the table, with that line after it
+abbrev pub table_of : Tally → List Counts → ℕ → List ℕ
+table_of tally counts accused = heading ++ (rows_from 0 counts ++ counts_line tally accused)

@@ -1,0 +1,121 @@
+-- What has been heard of a line so far, and what is printed of it, item by item.
+use Rattle.std.specs.Prelude.{◌≡◌, ℕ, ◌+◌, ◌==◌, not, ◌&&◌, Bool, is_some, List, [], ◌∷◌, ◌++◌, replicate}
+use Rattle.osdp_frame.specs.Items.{reading}
+use Rattle.osdp_frame.specs.Reading.{RunItem, PacketItem, SkippedItem, RefusedItem, Stands, item_size}
+use Rattle.osdp_monitor.specs.Monitors.{knowledge_of}
+use Rattle.osdp_monitor.specs.Line.{Knowledge, after_item, copies_last, expected_in, found_in, no_knowledge}
+use Rattle.osdp_tool_lines.specs.declared.tally.Tally.{Tally}
+use Rattle.osdp_tool_lines.specs.Tally.{after_run, no_tally, tally_after}
+use Rattle.osdp_tool_lines.specs.Told.{shown_line}
+use Rattle.osdp_tool_monitor.specs.declared.counts.Counts.{Counts}
+use Rattle.osdp_tool_monitor.specs.declared.listener.Listener.{Listener}
+use Rattle.osdp_tool_monitor.specs.Counts.{counts_after, more_if, no_counts, table_of}
+use Rattle.osdp_tool_monitor.specs.Text.{expected_bytes, found_text}
+
+pub record Listening : Type 0 where
+  -- what is known of the line
+  pub knowledge : Knowledge
+  -- where the next item stands, and how many there were of each kind
+  pub tally : Tally
+  -- what is counted of each address
+  pub counts : List Counts
+  -- how many accusations there were
+  pub accused : ℕ
+
+abbrev pub nothing_heard : Listening
+nothing_heard = record { knowledge = no_knowledge; tally = no_tally; counts = replicate 128 no_counts; accused = 0 }
+
+-- what is counted of an item
+abbrev pub counts_of : Listening → RunItem → List Counts
+counts_of l (PacketItem p) = counts_after p (copies_last l.knowledge p) (found_in l.knowledge p) l.counts
+counts_of l (SkippedItem b) = l.counts
+counts_of l (RefusedItem fault) = l.counts
+
+abbrev pub accused_of : Listening → RunItem → ℕ
+accused_of l (PacketItem p) = more_if (is_some (found_in l.knowledge p).accusation) l.accused
+accused_of l (SkippedItem b) = l.accused
+accused_of l (RefusedItem fault) = l.accused
+
+-- after an item
+abbrev pub heard_item : Listening → RunItem → Listening
+heard_item l part = record {
+  knowledge = after_item l.knowledge part;
+  tally = tally_after l.tally part;
+  counts = counts_of l part;
+  accused = accused_of l part;
+}
+
+-- what is found in an item
+abbrev pub item_found : Listening → RunItem → List ℕ
+item_found l (PacketItem p) =
+    found_text (l.tally.runs + 1) l.tally.place p (found_in l.knowledge p) (expected_bytes (expected_in l.knowledge p))
+item_found l (SkippedItem b) = []
+item_found l (RefusedItem fault) = []
+
+-- its line, as `show` prints it where all are wanted, and as `check` does else; and then what is found in it
+abbrev pub item_report : Bool → Listening → RunItem → List ℕ
+item_report packets l part = shown_line packets l.tally part ++ item_found l part
+
+-- after items, one after the other
+unfoldable pub heard_items : Listening → List RunItem → Listening
+heard_items l [] = l
+heard_items l (part ∷ parts) = heard_items (heard_item l part) parts
+
+unfoldable pub items_report : Bool → Listening → List RunItem → List ℕ
+items_report packets l [] = []
+items_report packets l (part ∷ parts) = item_report packets l part ++ items_report packets (heard_item l part) parts
+
+-- the run has ended
+abbrev pub ended : Listening → Listening
+ended l = record l { tally = after_run l.tally }
+
+-- after a whole run
+abbrev pub heard_run : Listening → List ℕ → Listening
+heard_run l run = ended (heard_items l (reading run))
+
+abbrev pub run_report : Bool → Listening → List ℕ → List ℕ
+run_report packets l run = items_report packets l (reading run)
+
+-- after whole runs
+unfoldable pub heard_runs : Listening → List (List ℕ) → Listening
+heard_runs l [] = l
+heard_runs l (run ∷ runs) = heard_runs (heard_run l run) runs
+
+unfoldable pub runs_report : Bool → Listening → List (List ℕ) → List ℕ
+runs_report packets l [] = []
+runs_report packets l (run ∷ runs) = run_report packets l run ++ runs_report packets (heard_run l run) runs
+
+abbrev pub table : Listening → List ℕ
+table l = table_of l.tally l.counts l.accused
+
+-- somebody was accused, or something refused
+abbrev pub is_wrong : Listening → Bool
+is_wrong l = not (l.accused == 0 && l.tally.refused == 0)
+
+-- ---- a listener
+
+abbrev pub listening_of : Listener → Listening
+listening_of l = record { knowledge = knowledge_of l.monitor; tally = l.tally; counts = l.counts.items; accused = l.accused }
+
+-- all items are printed
+abbrev pub tells_all : Listener → Bool
+tells_all l = l.packets
+
+-- it went on by an item
+pub record HearsItem (part : RunItem) (old new : Listener) (before after : List ℕ) : Type 0 where
+  pub tells : tells_all new ≡ tells_all old
+  pub heard : listening_of new ≡ heard_item (listening_of old) part
+  pub text : after ≡ before ++ item_report (tells_all old) (listening_of old) part
+
+-- it went on by the item that stands first in the rest of a run, which has so many bytes
+pub record HearsFirst (rest : List ℕ) (old new : Listener) (before after : List ℕ) (size : ℕ) : Type 0 where
+  pub part : RunItem
+  pub stands : Stands rest part
+  pub size_is : size ≡ item_size part
+  pub hears : HearsItem part old new before after
+
+-- it went on by a run
+pub record HearsRun (run : List ℕ) (old new : Listener) (before after : List ℕ) : Type 0 where
+  pub tells : tells_all new ≡ tells_all old
+  pub heard : listening_of new ≡ heard_run (listening_of old) run
+  pub text : after ≡ before ++ run_report (tells_all old) (listening_of old) run

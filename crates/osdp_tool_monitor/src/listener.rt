@@ -1,0 +1,211 @@
+//! A listener that prints what it finds.
+
+ghost use Rattle.std.specs.Prelude.{◌≡◌, ◌++◌, ◌+◌, ◌<◌, ◌^◌, Ok, true, length, drop, is_some, IfOk, OnOk, string_bytes};
+ghost use Rattle.osdp_frame.specs.Bytes.{AreBytes};
+ghost use Rattle.osdp_frame.specs.Reading.{item_size};
+ghost use Rattle.osdp_frame.specs.Shown.{item_of, item_read};
+ghost use Rattle.osdp_tool_lines.specs.Tally.{counted};
+
+use crate::counts::{Counts, more_if};
+use crate::table::push_table;
+use crate::text::push_found;
+use osdp_frame::{Burst, FrameView, Item, MAX_PACKET, ReadItem, read_at, whole_item};
+use osdp_monitor::Monitor;
+use osdp_tool_lines::{Tally, tell};
+use osdp_tool_streams::ToolFault;
+use std::alloc::{AllocError, Global};
+
+/// So many addresses there are.
+const ADDRESSES: usize = 128;
+
+/// As much as is counted of each kind at most: then the input is too long.
+const MOST: u64 = 1_152_921_504_606_846_976;
+
+/// A listener that prints what it finds, and counts it.
+#[derive(Drop)]
+pub struct Listener {
+    packets: bool,
+    monitor: Monitor,
+    tally: Tally,
+    counts: Vec<Counts>,
+    accused: u64,
+    expected: Burst,
+    ghost addresses: { length counts.items ≡ 128 },
+}
+
+impl Listener {
+    ghost use Rattle.osdp_monitor.specs.Line.{after_packet, copies_last, expected_in, found_in};
+    ghost use Rattle.osdp_monitor.specs.Monitors.{knowledge_of};
+    ghost use Rattle.osdp_tool_monitor.specs.Counts.{counts_after, more_if};
+    ghost use Rattle.osdp_tool_monitor.specs.Listening.{HearsFirst, HearsItem, HearsRun, ended, is_wrong, listening_of, nothing_heard, table, tells_all};
+    ghost use Rattle.osdp_tool_monitor.specs.Text.{expected_bytes, found_text};
+
+    /// A listener that has heard nothing. It prints each item of the line, or refusals and what it finds alone.
+    pub fn new(alloc: Global, packets: bool) -> Result<Listener, ToolFault>
+        ensures heard { IfOk result (λ l. listening_of l ≡ nothing_heard) }
+        ensures tells { IfOk result (λ l. tells_all l ≡ packets) }
+    {
+        let monitor = told(Monitor::new(alloc))?;
+        let counts = told(vec![in alloc; Counts::NONE; ADDRESSES])?;
+        Ok(Listener {
+            packets,
+            monitor,
+            tally: Tally::new(),
+            counts,
+            accused: 0,
+            expected: Burst::new(),
+        })
+    }
+
+    /// Takes a packet that stands at this place of this run.
+    fn hear_packet(
+        &mut self,
+        packet: &FrameView<'_>,
+        run: u64,
+        place: u64,
+        text: &mut String,
+    ) -> Result<(), ToolFault>
+        ensures tells { OnOk result (tells_all self.new ≡ tells_all self.old) }
+        ensures tally { OnOk result (self.new.tally ≡ self.old.tally) }
+        ensures knowledge { OnOk result (knowledge_of self.new.monitor ≡ after_packet (knowledge_of self.old.monitor) packet.now) }
+        ensures counts { OnOk result (let k = knowledge_of self.old.monitor in
+            self.new.counts.items ≡ counts_after packet.now (copies_last k packet.now) (found_in k packet.now) self.old.counts.items) }
+        ensures accused { OnOk result (self.new.accused ≡ more_if (is_some (found_in (knowledge_of self.old.monitor) packet.now).accusation) self.old.accused) }
+        ensures text { OnOk result (let k = knowledge_of self.old.monitor in string_bytes text.new
+            ≡ string_bytes text.old ++ found_text run place packet.now (found_in k packet.now) (expected_bytes (expected_in k packet.now))) }
+    {
+        let copy = self.monitor.copies_last(packet);
+        let found = match self.monitor.hear(packet, &mut self.expected) {
+            Ok(found) => found,
+            Err(_) => return Err(ToolFault::NoMemory),
+        };
+        let counts = &mut self.counts[usize::from(packet.address().get())];
+        counts.count(packet, copy, &found);
+        self.accused = more_if(found.accusation.is_some(), self.accused);
+        let expected = self.expected.as_slice();
+        match push_found(text, run, place, packet, &found, expected) {
+            Ok(()) => Ok(()),
+            Err(_) => Err(ToolFault::NoMemory),
+        }
+    }
+
+    /// Takes an item.
+    fn hear_item(&mut self, item: &Item<'_>, text: &mut String) -> Result<(), ToolFault>
+        ensures { OnOk result (HearsItem (item_of item.now) self.old self.new (string_bytes text.old) (string_bytes text.new)) }
+    {
+        if !has_room(&self.tally, item.size()) {
+            return Err(ToolFault::TooLong);
+        }
+        let run = self.tally.runs + 1;
+        let place = self.tally.place;
+        match tell(text, self.packets, &mut self.tally, item) {
+            Ok(()) => {}
+            Err(_) => return Err(ToolFault::NoMemory),
+        }
+        match item {
+            Item::Packet(packet) => return self.hear_packet(packet, run, place, text),
+            Item::Skipped(_) => self.monitor.skip(),
+            Item::Refused(_) => self.monitor.forget(),
+        }
+        Ok(())
+    }
+
+    /// Takes an item that has a packet of its own, and gives how many bytes it has.
+    fn hear_owned(&mut self, item: &ReadItem, text: &mut String) -> Result<usize, ToolFault>
+        ensures hears { OnOk result (HearsItem (item_read item.now) self.old self.new (string_bytes text.old) (string_bytes text.new)) }
+        ensures size { IfOk result (λ size. size ≡ item_size (item_read item.now)) }
+    {
+        let lent = match item {
+            ReadItem::Packet(frame) => Item::Packet(frame.view()),
+            ReadItem::Skipped(byte) => Item::Skipped(*byte),
+            ReadItem::Refused(fault) => Item::Refused(*fault),
+        };
+        self.hear_item(&lent, text)?;
+        Ok(lent.size())
+    }
+
+    /// Takes the item of a run at a place, where the reading has come to it, and gives how many bytes it has.
+    fn hear_next(&mut self, run: &[u8], at: usize, text: &mut String) -> Result<usize, ToolFault>
+        requires { at < length run.now }
+        ensures { IfOk result (λ size. HearsFirst (drop at run.now) self.old self.new (string_bytes text.old) (string_bytes text.new) size) }
+    {
+        let rest = &run[at..];
+        let Some(item) = whole_item(rest) else {
+            return self.hear_owned(&read_at(run, at), text);
+        };
+        self.hear_item(&item, text)?;
+        Ok(item.size())
+    }
+
+    /// Takes a whole run.
+    pub fn hear_run(&mut self, run: &[u8], text: &mut String) -> Result<(), ToolFault>
+        ensures { OnOk result (HearsRun run.now self.old self.new (string_bytes text.old) (string_bytes text.new)) }
+    {
+        are_bytes(run);
+        let mut at = 0;
+        'items: while at < run.len() {
+            at += self.hear_next(run, at, text)?;
+        }
+        self.end_run()?;
+        Ok(())
+    }
+
+    /// The run has ended.
+    fn end_run(&mut self) -> Result<(), ToolFault>
+        ensures tells { OnOk result (tells_all self.new ≡ tells_all self.old) }
+        ensures heard { OnOk result (listening_of self.new ≡ ended (listening_of self.old)) }
+    {
+        if !has_room(&self.tally, 0) {
+            return Err(ToolFault::TooLong);
+        }
+        self.tally.end_run();
+        Ok(())
+    }
+
+    /// Writes the table of what was heard.
+    pub fn push_table(&self, text: &mut String) -> Result<(), ToolFault>
+        ensures { OnOk result (string_bytes text.new ≡ string_bytes text.old ++ table (listening_of self.now)) }
+    {
+        match push_table(text, &self.tally, &self.counts, self.accused) {
+            Ok(()) => Ok(()),
+            Err(_) => Err(ToolFault::NoMemory),
+        }
+    }
+
+    /// Whether somebody was accused, or something refused.
+    pub fn is_wrong(&self) -> bool
+        ensures { result ≡ is_wrong (listening_of self.now) }
+    {
+        !(self.accused == 0 && self.tally.refused == 0)
+    }
+}
+
+/// Whether more may be counted.
+fn has_room(tally: &Tally, size: usize) -> bool
+    ensures counts { result ≡ true → counted tally.now + size < 2 ^ 63 }
+    ensures runs { result ≡ true → tally.now.runs + 1 < 2 ^ 64 }
+{
+    size < MAX_PACKET + 1
+        && tally.runs < MOST
+        && tally.place < MOST
+        && tally.packets < MOST
+        && tally.skipped < MOST
+        && tally.refused < MOST
+}
+
+/// Without memory nothing more is told.
+fn told<T: Drop>(done: Result<T, AllocError>) -> Result<T, ToolFault>
+    ensures { (x : T) → result ≡ Ok x → done ≡ Ok x }
+{
+    match done {
+        Ok(value) => Ok(value),
+        Err(_) => Err(ToolFault::NoMemory),
+    }
+}
+
+/// What a slice of bytes holds is bytes.
+fn are_bytes(bytes: &[u8])
+    ensures { AreBytes bytes.now }
+{
+    let _ = bytes;
+}

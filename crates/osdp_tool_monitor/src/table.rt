@@ -1,0 +1,136 @@
+//! The table of what was counted.
+
+ghost use Rattle.std.specs.Prelude.{◌≡◌, ◌++◌, ◌-◌, ◌<◌, ◌≤◌, OnOk, Some, slice_get, length, replicate, string_bytes};
+ghost use Rattle.osdp_tool_monitor.specs.Counts.{answered_columns, asked_columns, column, counts_line, heading, other_columns, row, row_if, rows_from, table_of};
+
+use crate::counts::Counts;
+use itoa::Buffer;
+use osdp_tool_lines::Tally;
+use std::alloc::AllocError;
+
+/// Writes spaces up to a width, and then digits.
+fn push_padded(text: &mut String, width: usize, digits: &str) -> Result<(), AllocError>
+    ensures { OnOk result (string_bytes text.new ≡ string_bytes text.old ++ (replicate (width - length digits.now) 32 ++ digits.now)) }
+{
+    'spaces: for _ in 0..width.saturating_sub(digits.len()) {
+        text.push(' ')?;
+    }
+    text.push_str(digits)
+}
+
+/// Writes a number to the right of a column.
+fn push_column(text: &mut String, width: usize, count: u64) -> Result<(), AllocError>
+    ensures { OnOk result (string_bytes text.new ≡ string_bytes text.old ++ column width count) }
+{
+    let mut buffer = Buffer::new();
+    push_padded(text, width, buffer.format(count))
+}
+
+/// Writes what was asked of an address.
+fn push_asked(text: &mut String, address: u64, counts: &Counts) -> Result<(), AllocError>
+    ensures { OnOk result (string_bytes text.new ≡ string_bytes text.old ++ asked_columns address counts.now) }
+{
+    push_column(text, 6, address)?;
+    push_column(text, 7, counts.asked)?;
+    push_column(text, 7, counts.polls)?;
+    push_column(text, 8, counts.repeats)
+}
+
+/// Writes what it answered.
+fn push_answered(text: &mut String, counts: &Counts) -> Result<(), AllocError>
+    ensures { OnOk result (string_bytes text.new ≡ string_bytes text.old ++ answered_columns counts.now) }
+{
+    push_column(text, 10, counts.answered)?;
+    push_column(text, 6, counts.busy)?;
+    push_column(text, 5, counts.nak)?;
+    push_column(text, 8, counts.events)
+}
+
+/// Writes what was found of it, and the end of the line.
+fn push_others(text: &mut String, counts: &Counts) -> Result<(), AllocError>
+    ensures { OnOk result (string_bytes text.new ≡ string_bytes text.old ++ other_columns counts.now) }
+{
+    push_column(text, 8, counts.opened)?;
+    push_column(text, 7, counts.moved)?;
+    push_column(text, 9, counts.accused)?;
+    text.push_str("\n")
+}
+
+/// Writes the line of an address.
+fn push_row(text: &mut String, address: u64, counts: &Counts) -> Result<(), AllocError>
+    ensures { OnOk result (string_bytes text.new ≡ string_bytes text.old ++ row address counts.now) }
+{
+    push_asked(text, address, counts)?;
+    push_answered(text, counts)?;
+    push_others(text, counts)
+}
+
+/// Writes the line of an address, where something came to it or from it.
+fn push_row_if(text: &mut String, address: u64, counts: &Counts) -> Result<(), AllocError>
+    ensures { OnOk result (string_bytes text.new ≡ string_bytes text.old ++ row_if address counts.now) }
+{
+    if counts.is_silent() {
+        return Ok(());
+    }
+    push_row(text, address, counts)
+}
+
+/// What was counted of an address.
+fn row_at(counts: &[Counts], address: usize) -> Counts
+    requires { address < length counts.now }
+    ensures { slice_get counts.now address ≡ Some result }
+{
+    counts[address]
+}
+
+/// Writes the lines of all addresses, from 0 on.
+pub(crate) fn push_rows(text: &mut String, counts: &[Counts]) -> Result<(), AllocError>
+    requires { length counts.now ≤ 128 }
+    ensures { OnOk result (string_bytes text.new ≡ string_bytes text.old ++ rows_from 0 counts.now) }
+{
+    'rows: for address in 0..counts.len() {
+        let row = row_at(counts, address);
+        push_row_if(text, address as u64, &row)?;
+    }
+    Ok(())
+}
+
+/// Writes the line of counts.
+fn push_counts(text: &mut String, tally: &Tally, accused: u64) -> Result<(), AllocError>
+    ensures { OnOk result (string_bytes text.new ≡ string_bytes text.old ++ counts_line tally.now accused) }
+{
+    let runs = tally.runs;
+    let packets = tally.packets;
+    let skipped = tally.skipped;
+    let refused = tally.refused;
+    write!(
+        text,
+        "runs {runs} packets {packets} skipped {skipped} refused {refused} accused {accused}\n"
+    )
+}
+
+/// Writes the heading of the table.
+#[tactic(auto, unfolding(crate::specs::Counts::heading))]
+fn push_heading(text: &mut String) -> Result<(), AllocError>
+    ensures { OnOk result (string_bytes text.new ≡ string_bytes text.old ++ heading) }
+{
+    text.push_str(
+        "device  asked  polls repeats  answered  busy  nak  events  opened  moved  accused\n",
+    )
+}
+
+/// Writes the table, and the line of counts.
+pub(crate) fn push_table(
+    text: &mut String,
+    tally: &Tally,
+    counts: &[Counts],
+    accused: u64,
+) -> Result<(), AllocError>
+    requires { length counts.now ≤ 128 }
+    ensures { OnOk result (string_bytes text.new ≡ string_bytes text.old ++ table_of tally.now counts.now accused) }
+{
+    push_heading(text)?;
+    push_rows(text, counts)?;
+    push_counts(text, tally, accused)?;
+    Ok(())
+}

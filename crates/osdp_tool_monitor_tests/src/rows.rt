@@ -1,0 +1,50 @@
+//! What is printed of runs, and the table after them.
+
+use osdp_test_packets::bytes_of;
+use osdp_tool_monitor::Listener;
+use std::process::Abort;
+
+/// Each line is a run. The reader answers a repeat anew, and the panel goes on without an answer.
+const RUNS: &str = "\
+53050700006041
+538507000040E1
+53050700016040
+53850A00015300013198
+53050700016040
+538507000140E0
+5305070002603F
+5305070003603E
+FF
+";
+
+/// What is printed of them, worked out by hand from the rules.
+const REPORT: &str = "\
+2:0 device 5: opened
+6:0 reader 5: a repeat is answered by something else
+     expected 53850A00015300013198
+     seen     538507000140E0
+8:0 device 5: unanswered
+8:0 panel to 5: the next number, but the last one was not answered
+device  asked  polls repeats  answered  busy  nak  events  opened  moved  accused
+     5      5      5       1         3     0    0       1       1      0        2
+runs 9 packets 8 skipped 1 refused 0 accused 2
+";
+
+/// A run comes.
+fn hears(rt: &impl Abort, listener: &mut Listener, digits: &str, text: &mut String) {
+    let mut buffer = [0; 32];
+    let run = bytes_of(digits, &mut buffer).expect(rt, digits);
+    listener.hear_run(run, text).expect(rt, digits);
+}
+
+#[test]
+fn prints_what_it_finds(rt: HostRuntime) {
+    let mut listener = Listener::new(rt.alloc(), false).expect(&rt, "memory");
+    let mut text = String::new(rt.alloc());
+    for digits in RUNS.lines() {
+        hears(&rt, &mut listener, digits, &mut text);
+    }
+    listener.push_table(&mut text).expect(&rt, "memory");
+    assert_eq!(rt; text.as_str(), REPORT);
+    assert!(rt; listener.is_wrong());
+}
