@@ -1,6 +1,7 @@
 pub mod Peers
 pub mod Link
 pub mod Headline
+pub mod OneHandler
 pub mod Sessions
 pub mod Progress
 pub mod Refusals

@@ -6,7 +6,7 @@ use Rattle.osdp_msg.specs.declared.command_fields.Communication.{Communication}
 use Rattle.osdp_msg.specs.declared.reply.Reply.TheVariants as reply
 use Rattle.osdp_controller.specs.Answers.{meaning_of as said_by}
 use Rattle.osdp_controller.specs.Hearing.{comset_of}
-use Rattle.osdp_controller.specs.Machine.{submit_refusal}
+use Rattle.osdp_controller.specs.Machine.{retarget_refusal, submit_refusal, withdrawn_in}
 use Rattle.osdp_controller.specs.declared.meaning.ReplyMeaning.TheVariants.{Plain}
 use Rattle.osdp_controller.specs.declared.fault.ControllerFault.{ControllerFault}
 use Rattle.osdp_controller.specs.declared.report.Report.{Report}
@@ -14,7 +14,7 @@ use Rattle.osdp_controller.specs.declared.report.Report.TheVariants as report
 use Rattle.osdp_reader.specs.Table.{command_in, new_address}
 use Rattle.osdp_reader.specs.declared.handler.Answer.{Answer}
 use Rattle.osdp_link_laws.specs.Headline.{MovesFit, Begins}
-use Rattle.osdp_link_laws.specs.Link.{Link, Move, Submit, after_move, run}
+use Rattle.osdp_link_laws.specs.Link.{Link, Move, RestartController, RestartReader, Retarget, Submit, Withdraw, after_move, run}
 use Rattle.osdp_link_laws.specs.Progress.{NoComset}
 use Rattle.osdp_link_laws.specs.Refusals.{reports, told_by}
 
@@ -85,18 +85,44 @@ abbrev pub MayAsk : Option Communication → Option ℕ → Type 0
 MayAsk None reserved = Unit {0}
 MayAsk (Some asked) reserved = reserved ≡ None
 
-abbrev pub MayMove : Move → Option ℕ → Type 0
-MayMove (Submit command) reserved = MayAsk (comset_of command) reserved
-MayMove _ reserved = Unit {0}
+-- a COMSET that is withdrawn was never sent
+abbrev pub freed_without : Option Command → Option ℕ → Option ℕ
+freed_without None reserved = reserved
+freed_without (Some command) reserved = freed_for (comset_of command) reserved
+
+-- an address that is set is the only one
+abbrev pub freed_unless : Option ControllerFault → Option ℕ → Option ℕ
+freed_unless None reserved = None
+freed_unless (Some fault) reserved = reserved
 
 -- an address of this link: its controller's, or that of the COMSET
 abbrev pub IsName : ℕ → Option ℕ → ℕ → Type 0
 IsName here reserved address = (address ≡ here) ⊎ (reserved ≡ Some address)
 
 module _ {H : Type 0} where
-  abbrev pub reserved_after : Move → Link H → Option ℕ → Option ℕ
+  abbrev pub reserved_after : Move H → Link H → Option ℕ → Option ℕ
   reserved_after (Submit command) l reserved = accepted_for (submit_refusal command l.controller) command reserved
+  reserved_after Withdraw l reserved = freed_without (withdrawn_in l.controller.session.state l.controller.waiting) reserved
+  reserved_after (Retarget address) l reserved = freed_unless (retarget_refusal address l.controller) reserved
+  reserved_after (RestartController config room) l reserved = None
   reserved_after move l reserved = freed_by (told_by move l) reserved
+
+  -- the reader is at this address, and nothing on the line sends an end to another
+  pub record IsSettledAt (address : ℕ) (l : Link H) : Type 0 where
+    pub reader : l.reader.config.address ≡ address
+    pub commands : All (λ p. (to : ℕ) → MovesReader to p → ⊥) l.to_reader
+    pub replies : All (λ p. (to : ℕ) → MovesController to p → ⊥) l.to_controller
+
+  -- no second COMSET is submitted; the controller's address is set only to the one where the reader is and stays; and the reader restarts where
+  -- it is, or at an address of its link where no COM is on its way
+  abbrev pub MayMove : Move H → Link H → Option ℕ → Type 0
+  MayMove (Submit command) l reserved = MayAsk (comset_of command) reserved
+  MayMove (Retarget address) l reserved = IsSettledAt address l × All NoComset l.controller.waiting
+  MayMove (RestartReader address handler room) l reserved =
+      (address ≡ l.reader.config.address)
+      ⊎ (IsName l.controller.session.config.address reserved address × All (λ p. (to : ℕ) → MovesController to p → ⊥) l.to_controller)
+  MayMove (RestartController config room) l reserved = IsSettledAt config.address l
+  MayMove _ l reserved = Unit {0}
 
   -- the reader is at an address of its link, and no packet on the line can send an end to any other
   pub record KeepsToNames (reserved : Option ℕ) (l : Link H) : Type 0 where
@@ -114,22 +140,22 @@ module _ {H : Type 0} where
     pub waiting : All NoComset l.controller.waiting
 
   module _ (answer_of : H → Command → Answer) (after : H → Command → H) where
-    abbrev pub reserved_after_moves : List Move → Link H → Option ℕ → Option ℕ
+    abbrev pub reserved_after_moves : List (Move H) → Link H → Option ℕ → Option ℕ
     reserved_after_moves [] l reserved = reserved
     reserved_after_moves (move ∷ moves) l reserved = reserved_after_moves moves (after_move answer_of after move l) (reserved_after move l reserved)
 
-    abbrev pub MayMoves : List Move → Link H → Option ℕ → Type 0
+    abbrev pub MayMoves : List (Move H) → Link H → Option ℕ → Type 0
     MayMoves [] l reserved = Unit {0}
-    MayMoves (move ∷ moves) l reserved = MayMove move reserved × MayMoves moves (after_move answer_of after move l) (reserved_after move l reserved)
+    MayMoves (move ∷ moves) l reserved = MayMove move l reserved × MayMoves moves (after_move answer_of after move l) (reserved_after move l reserved)
 
     abbrev pub NameOneDevice : Type 0
-    NameOneDevice = (l : Link H) (moves : List Move) → Begins l → MovesFit answer_of after moves l
+    NameOneDevice = (l : Link H) (moves : List (Move H)) → Begins l → MovesFit answer_of after moves l
         → let last = run answer_of after moves l in
         (device : ℕ) × NamesOne device last.to_reader last.to_controller
 
     abbrev pub TellAsAsked : Type 0
-    TellAsAsked = (l : Link H) (moves : List Move) → Begins l → MovesFit answer_of after moves l → All IsToldAsAsked (reports answer_of after moves l)
+    TellAsAsked = (l : Link H) (moves : List (Move H)) → Begins l → MovesFit answer_of after moves l → All IsToldAsAsked (reports answer_of after moves l)
 
     abbrev pub KeepToNames : Type 0
-    KeepToNames = (l : Link H) (moves : List Move) → BeginsTogether l → MovesFit answer_of after moves l → MayMoves moves l None
+    KeepToNames = (l : Link H) (moves : List (Move H)) → BeginsTogether l → MovesFit answer_of after moves l → MayMoves moves l None
         → KeepsToNames (reserved_after_moves moves l None) (run answer_of after moves l)

@@ -13,10 +13,10 @@ use Rattle.osdp_link_laws.specs.Headline.{MovesFit, Begins}
 use Rattle.osdp_link_laws.specs.Link.{Account, Delivered, Link, Move, Tick, ToController, ToReader, run}
 
 -- a round that loses nothing: a tick, then the packet to the reader, then the one to the controller
-abbrev pub round : ℕ → List Move
+abbrev pub round : {H : Type 0} → ℕ → List (Move H)
 round now = Tick now ∷ ToReader Delivered ∷ ToController Delivered now ∷ []
 
-abbrev pub rounds : List ℕ → List Move
+abbrev pub rounds : {H : Type 0} → List ℕ → List (Move H)
 rounds [] = []
 rounds (now ∷ later) = round now ++ rounds later
 
@@ -28,10 +28,11 @@ NoComset command = comset_of command ≡ None
 abbrev pub SetsNoAddress : Command → Type 0
 SetsNoAddress command = new_address command ≡ None
 
--- after so many rounds as many more commands and events but one are settled and reported, or all are
+-- after so many rounds as many more commands and events but one are settled and reported, or all are but the events that a restart threw
+-- away
 abbrev pub ComeOn : List ℕ → Account → Account → Type 0
 ComeOn moments before t =
-    min (length before.settled + length before.reported + (length moments - 1)) (length t.issued + length t.queued)
+    min (length before.settled + length before.reported + (length moments - 1)) (length t.issued + length t.kept)
     ≤ length t.settled + length t.reported
 
 module _ {H : Type 0} where
@@ -54,7 +55,7 @@ module _ {H : Type 0} where
     AreDue (now ∷ later) l = (is_due now l.controller ≡ true) × AreDue later (run answer_of after (round now) l)
 
     abbrev pub ComesThrough : Type 0
-    ComesThrough = (l : Link H) (moves : List Move) (moments : List ℕ) → Begins l → MovesFit answer_of after moves l
+    ComesThrough = (l : Link H) (moves : List (Move H)) (moments : List ℕ) → Begins l → MovesFit answer_of after moves l
         → let later = run answer_of after moves l in
         IsClear later → AreDue moments later → MovesFit answer_of after (rounds moments) later
         → ComeOn moments later.account (run answer_of after (rounds moments) later).account
@@ -67,7 +68,7 @@ module _ {H : Type 0} where
 
     -- then the session has ended, or the same comes through
     abbrev pub ComesThroughInTime : Type 0
-    ComesThroughInTime = (l : Link H) (moves : List Move) (moments : List ℕ) → Begins l → IsInRange l.controller.session
+    ComesThroughInTime = (l : Link H) (moves : List (Move H)) (moments : List ℕ) → Begins l → IsInRange l.controller.session
         → MovesFit answer_of after moves l
         → let later = run answer_of after moves l in
         IsClear later → AreLate moments later → MovesFit answer_of after (rounds moments) later
