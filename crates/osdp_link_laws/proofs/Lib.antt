@@ -22,3 +22,8 @@ pub mod Devices
 pub mod Sessions
 pub mod Taken
 pub mod InARow
+pub mod Ordinary
+pub mod Kept
+pub mod OneHandler
+pub mod Reports
+pub mod Refusals
