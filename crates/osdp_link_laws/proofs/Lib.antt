@@ -27,3 +27,5 @@ pub mod Kept
 pub mod OneHandler
 pub mod Reports
 pub mod Refusals
+pub mod TwoLists
+pub mod Endings
