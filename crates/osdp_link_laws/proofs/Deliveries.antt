@@ -37,7 +37,7 @@ use Rattle.osdp_link_laws.proofs.Since.{events_moved, events_same, past_same}
 use Rattle.osdp_link_laws.proofs.Taking.{heard_again, shows_none}
 
 -- a refused number is of the table of replies
-refusal_fits : ReplyFits (refused UnexpectedSequence)
+pub refusal_fits : ReplyFits (refused UnexpectedSequence)
 refusal_fits = record { reason = tt; room = omega arith; detail = λ k. omega arith }
 
 -- a reply that was said is plain

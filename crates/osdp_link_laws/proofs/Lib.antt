@@ -29,3 +29,11 @@ pub mod Reports
 pub mod Refusals
 pub mod TwoLists
 pub mod Endings
+pub mod Due
+pub mod Settling
+pub mod Answering
+pub mod Round
+pub mod Exchanges
+pub mod Rounds
+pub mod Through
+pub mod InTime

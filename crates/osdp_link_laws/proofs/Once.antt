@@ -150,6 +150,14 @@ module _ (fixed : ControllerConfig) {H : Type 0} (answer_of : H → Command → 
       (subst (λ f. HoldsAt (as_if [] (l.account.unsettled ++ f) l)) (sym forgotten)
       (subst (λ u. HoldsAt (as_if [] u l)) (sym (append-nil l.account.unsettled)) h))
 
+  -- .. and so it is where the session lasts
+  pub going_bare : (l : Link H) → Goes l → (l.controller.session.state ≡ Closed → ⊥) → HoldsAt l
+  going_bare l h lasts = by_quiet h.quiet
+    where
+      by_quiet : IsQuiet l → HoldsAt l
+      by_quiet (inl (removed, forgotten)) = bare l removed forgotten h.holds
+      by_quiet (inr closed) = absurd (lasts closed)
+
   going_inside : Premises fixed answer_of after settings → (move : Move H) (l : Link H) → IsInside move → MoveFits answer_of after move l → Goes l
       → Goes (after_move answer_of after move l)
   going_inside given move l on fits h =

@@ -1,0 +1,241 @@
+-- A whole exchange without losses: what it does, and what both ends are after it.
+use Rattle.std.proofs.Common.{◌≡◌, ◌≤◌, ℕ, arith, leb, cond, List, [], ◌∷◌, ◌++◌, drop, take, Some, refl, sym, subst, ap, ◌∙◌}
+use Rattle.std.proofs.lemmas.Bool.{le-leb}
+use Rattle.std.proofs.lemmas.List.{append-nil}
+use Rattle.std.specs.Prelude.{max, false}
+use Rattle.osdp_frame.specs.Packed.{packed}
+use Rattle.osdp_frame.specs.Packet.{next_sequence}
+use Rattle.osdp_msg.specs.Events.{event_reply}
+use Rattle.osdp_msg.specs.declared.command.Command.{Command}
+use Rattle.osdp_msg.specs.declared.event.Event.{Event}
+use Rattle.osdp_msg.specs.declared.reply.Reply.{Reply}
+use Rattle.osdp_msg.specs.declared.reply.Reply.TheVariants as reply
+use Rattle.osdp_controller.specs.Exchanges.{exchange_body, exchange_command}
+use Rattle.osdp_controller.specs.Hearing.{poll_told}
+use Rattle.osdp_controller.specs.Sessions.{at_rest, frame_of, later, seen}
+use Rattle.osdp_controller.specs.Ticking.{begins, stays, ticks, ticks_in}
+use Rattle.osdp_controller.specs.declared.config.ControllerConfig.{ControllerConfig}
+use Rattle.osdp_controller.specs.declared.exchange.Exchange.{Exchange}
+use Rattle.osdp_controller.specs.declared.exchange.Exchange.TheVariants.{Opening, Polling}
+use Rattle.osdp_controller.specs.declared.report.Report.TheVariants as report
+use Rattle.osdp_controller.specs.declared.session.Session.{Session}
+use Rattle.osdp_controller.specs.declared.state.State.{State}
+use Rattle.osdp_controller.specs.declared.state.State.TheVariants.{Idle, Quiet}
+use Rattle.osdp_reader.specs.Queue.{event_for, offering, released, withdrawn}
+use Rattle.osdp_reader.specs.State.{ReaderState}
+use Rattle.osdp_reader.specs.Table.{Outcome, answer_to, begun, event_or_answer, hears, kind_of, moved, outcome}
+use Rattle.osdp_reader.specs.declared.config.ReaderConfig.{ReaderConfig}
+use Rattle.osdp_reader.specs.declared.handler.Answer.{Answer}
+use Rattle.osdp_reader.specs.declared.kind.Kind.{Kind}
+use Rattle.osdp_reader.specs.declared.kind.Kind.TheVariants.{Busy, Taken, Zero}
+use Rattle.osdp_link_laws.specs.Headline.{MaySubmit, SaysWhatFits}
+use Rattle.osdp_link_laws.specs.Link as link
+use Rattle.osdp_link_laws.specs.Link.{Account, Link, told}
+use Rattle.osdp_link_laws.specs.Peers.{TellsItsEvent}
+use Rattle.osdp_link_laws.specs.Progress.{SetsNoAddress}
+use Rattle.osdp_link_laws.proofs.Acting.{kind_next, kind_zero, no_event, taken_is}
+use Rattle.osdp_link_laws.proofs.Answering.{Replies, SaysFit, no_address, opening, taken_answer, taken_hears, taking}
+use Rattle.osdp_link_laws.proofs.Due.{Acts, next_exchange, stays_rests}
+use Rattle.osdp_link_laws.proofs.Lines.{chosen, each_rest}
+use Rattle.osdp_link_laws.proofs.Moves.{Premises}
+use Rattle.osdp_link_laws.proofs.Parts.{At}
+use Rattle.osdp_link_laws.proofs.Round.{IsStill, answered_link, at_tick, come_through, delivered, goes}
+use Rattle.osdp_link_laws.proofs.Settling.{MovesNone, report_of, settles_now}
+use Rattle.osdp_link_laws.proofs.Since.{Hears, has_acted}
+use Rattle.osdp_link_laws.proofs.Stages.{After, Each, IsAsked, IsOpen, Rest, Restarted, answer, frame}
+
+-- where a controller at rest acts, the exchange that is next begins
+pub begins_next : (due : ℕ) (s : Session) (waiting : List Command) → Acts (ticks_in (Idle due) s waiting)
+    → ticks_in (Idle due) s waiting ≡ begins (next_exchange waiting) (next_sequence s.number) s (drop 1 waiting)
+begins_next due s [] does =
+    chosen Acts (λ t. t ≡ begins Polling (next_sequence s.number) s []) (leb due s.greatest) (begins Polling (next_sequence s.number) s []) (stays s [])
+    (λ e. refl) (λ e. stays_rests s [] e) does
+begins_next due s (c ∷ rest) does = refl
+
+pub begins_next_at : (state : State) (due : ℕ) (s : Session) (waiting : List Command) → state ≡ Idle due → Acts (ticks_in state s waiting)
+    → ticks_in state s waiting ≡ begins (next_exchange waiting) (next_sequence s.number) s (drop 1 waiting)
+begins_next_at state due s waiting is =
+    subst (λ st. Acts (ticks_in st s waiting) → ticks_in st s waiting ≡ begins (next_exchange waiting) (next_sequence s.number) s (drop 1 waiting))
+    (sym is) (begins_next due s waiting)
+
+module _ {H : Type 0} (answer_of : H → Command → Answer) (after : H → Command → H) where
+  -- the account after an exchange from rest: the first of the commands that wait is taken and settled, with the answer that the reader
+  -- gives; where none waits the first of these events is offered and reported; where there is none either nothing happens
+  abbrev pub accounted : List Command → List Event → ReaderState H → Account → Account
+  accounted (c ∷ waiting) events r t = record t {
+    taken = t.taken ++ c ∷ [];
+    given = t.given ++ (c, (answer_to answer_of after r.config r.handler c).reply) ∷ [];
+    settled = t.settled ++ (c, (answer_to answer_of after r.config r.handler c).reply) ∷ [];
+  }
+  accounted [] (e ∷ events) r t = record t { offered = t.offered ++ e ∷ []; reported = t.reported ++ e ∷ [] }
+  accounted [] [] r t = t
+
+module _ (fixed : ControllerConfig) {H : Type 0} (answer_of : H → Command → Answer) (after : H → Command → H) (settings : ReaderConfig) where
+  abbrev Given : Type 0
+  Given = Premises fixed answer_of after settings
+
+  abbrev Still : Link H → Type 0
+  Still l = IsStill fixed answer_of after settings l
+
+  -- ---- the exchange begins, and both packets come through
+
+  -- an exchange begins, with this number
+  abbrev begun_link : ℕ → Exchange → ℕ → List Command → Link H → Link H
+  begun_link now x n rest l = link.ticked (begins x n (seen now l.controller.session) rest) l
+
+  abbrev ended_link : ℕ → Exchange → ℕ → Reply → List Command → Link H → Link H
+  ended_link now x n a rest l = answered_link fixed answer_of after settings now (frame fixed x n) x a (begun_link now x n rest l)
+
+  begun_line : (now : ℕ) (x : Exchange) (n : ℕ) (rest : List Command) (l : Link H) → Still l → l.controller.session.config ≡ fixed
+      → (begun_link now x n rest l).to_reader ≡ frame fixed x n ∷ []
+  begun_line now x n rest l still config =
+      ap (λ ps. ps ++ frame_of x (record (seen now l.controller.session) { number = n }) ∷ []) still.to_reader
+      ∙ ap (λ (c : ControllerConfig). packed false c.address n c.check false 0 (exchange_body x) ∷ []) config
+
+  whole : Given → (now : ℕ) (x : Exchange) (n : ℕ) (a : Reply) (rest : List Command) (l : Link H) → Still l → l.controller.session.config ≡ fixed
+      → MovesNone x → ticks now l.controller.session l.controller.waiting ≡ begins x n (seen now l.controller.session) rest
+      → Replies fixed answer_of after settings x n l.reader a → goes answer_of after now l ≡ ended_link now x n a rest l
+  whole given now x n a rest l still config none starts replies =
+      let m = begun_link now x n rest l in
+      let s = record (seen now l.controller.session) { number = n } in
+      let says = given.hears n a replies.acted.0.fits ∙ given.plain a replies.acted.0.plain in
+      let settles = settles_now fixed settings.id x n a now m.controller.session (later s.config.reply_wait s, 1, record { exchange = x; busies = 0; sent = 1 }, refl, refl)
+      (config, refl) none replies.acted.1 says in
+      ap (λ t. delivered answer_of after now (link.ticked t l)) starts
+      ∙ come_through fixed answer_of after settings now x n a m (begun_line now x n rest l still config) still.to_controller replies.sent settles
+
+  -- what the reader says fits, where what it says to the frame on the line does
+  fits_there : (now : ℕ) (x : Exchange) (n : ℕ) (rest : List Command) (l : Link H) → Still l → l.controller.session.config ≡ fixed
+      → ticks now l.controller.session l.controller.waiting ≡ begins x n (seen now l.controller.session) rest
+      → SaysWhatFits answer_of after (at_tick now l).to_reader l.reader → SaysFit fixed answer_of after settings (frame fixed x n) l.reader
+  fits_there now x n rest l still config starts fits =
+      subst (λ ps. SaysWhatFits answer_of after ps l.reader)
+      (ap (λ t. (link.ticked t l).to_reader) starts ∙ begun_line now x n rest l still config) fits
+
+  -- the link after both packets, by the line of the reader's table and by what comes of the frame
+  abbrev ended_by : ℕ → Exchange → ℕ → Reply → List Command → Kind → Outcome H → Link H → Link H
+  ended_by now x n a rest kind o l = record l {
+    controller = record l.controller { session = at_rest (seen now (record (seen now l.controller.session) { number = n })); waiting = rest };
+    reader = o.reader;
+    to_reader = [];
+    to_controller = [];
+    account = told (report_of x a) (link.taken kind o.command o.said (link.front_of l.reader) l.account);
+  }
+
+  -- ---- the opening
+
+  -- the session is open, no event counts as offered, and the account is as it was
+  abbrev pub opened_link : ℕ → Link H → Link H
+  opened_link now l = record l {
+    controller = record l.controller { session = at_rest (seen now (record (seen now l.controller.session) { number = 0 })) };
+    reader = record l.reader { last = Some 0; queue = withdrawn l.reader.queue };
+    to_reader = [];
+    to_controller = [];
+  }
+
+  opens_at : (until now : ℕ) (s : Session) (waiting : List Command) → s.state ≡ Quiet until → until ≤ max s.greatest now
+      → ticks now s waiting ≡ begins Opening 0 (seen now s) waiting
+  opens_at until now s waiting is reached =
+      ap (λ st. ticks_in st (seen now s) waiting) is
+      ∙ ap (λ b. cond b (begins Opening 0 (seen now s) waiting) (stays (seen now s) waiting)) (le-leb until (max s.greatest now) reached)
+
+  pub opening_exchange : Given → (until now : ℕ) (l : Link H) → Still l → l.controller.session.config ≡ fixed → l.reader.config.id ≡ settings.id
+      → l.controller.session.state ≡ Quiet until → until ≤ max l.controller.session.greatest now
+      → SaysWhatFits answer_of after (at_tick now l).to_reader l.reader → goes answer_of after now l ≡ opened_link now l
+  opening_exchange given until now l still config id is reached fits =
+      let w = l.controller.waiting in
+      let p = frame fixed Opening 0 in
+      let r = l.reader in
+      let a = reply.PdId r.config.id in
+      let starts = opens_at until now l.controller.session w is reached in
+      let said = fits_there now Opening 0 w l still config starts fits in
+      let kind : kind_of r p ≡ Zero = kind_zero fixed r Opening still.ready.here ∙ ap (λ b. cond b Busy Zero) still.ready.ready in
+      let replies = opening fixed answer_of after settings given r still.ready id said in
+      whole given now Opening 0 a w l still config tt starts replies
+      ∙ ap (λ k. ended_by now Opening 0 a w k (outcome answer_of after k r p) l) kind
+      ∙ ap (λ c. ended_by now Opening 0 a w Zero (begun answer_of after c r p) l) (given.reads Opening 0 (omega arith))
+
+  -- ---- from rest
+
+  -- what is told of the next exchange, and what the reader took, come to this account
+  account_is : TellsItsEvent → (waiting : List Command) (events : List Event) (r : ReaderState H) (t : Account) → Each MaySubmit waiting
+      → let x = next_exchange waiting in
+      let c = exchange_command x in
+      let a = event_or_answer answer_of after (event_for c events) r.config r.handler c in
+      told (report_of x a.reply) (link.taken_command c (Some a.reply) (take 1 events) t)
+      ≡ accounted answer_of after waiting events r t
+  account_is tells [] [] r t may = ap (λ es. record t { offered = es }) (append-nil t.offered)
+  account_is tells [] (e ∷ events) r t may =
+      ap (λ o. told (poll_told (event_reply e) o) (record t { offered = t.offered ++ e ∷ [] })) (tells e)
+  account_is tells (c ∷ waiting) events r t may =
+      let a = answer_to answer_of after r.config r.handler c in
+      ap (λ o. let b = event_or_answer answer_of after o r.config r.handler c in
+      told (Some (report.Settled c b.reply)) (link.taken_command c (Some b.reply) (take 1 events) t)) (no_event c events may.0.no_poll)
+      ∙ ap (told (Some (report.Settled c a.reply))) (taken_is c (Some a.reply) (take 1 events) t may.0.no_poll)
+
+  -- the link after an exchange from rest: its command has gone, the reader has acted on it and stores its answer, and the next POLL is
+  -- due after the interval
+  abbrev pub rested_link : ℕ → Link H → Link H
+  rested_link now l =
+      let n = next_sequence l.controller.session.number in
+      let c = exchange_command (next_exchange l.controller.waiting) in
+      let queue = released l.reader.queue in
+      let event = event_for c queue.events in
+      let a = event_or_answer answer_of after event l.reader.config l.reader.handler c in
+      record l {
+        controller = record l.controller {
+          session = at_rest (seen now (record (seen now l.controller.session) { number = n }));
+          waiting = drop 1 l.controller.waiting;
+        };
+        reader = record l.reader { last = Some n; stored = Some (answer fixed n a.reply); queue = offering event queue; handler = a.handler };
+        to_reader = [];
+        to_controller = [];
+        account = accounted answer_of after l.controller.waiting queue.events l.reader l.account;
+      }
+
+  -- the next exchange is asked after the one before, and moves no reader
+  next_asked : (n : ℕ) (y : Exchange) (b : Reply) (waiting : List Command) → Each MaySubmit waiting → IsAsked (After n y b) (next_exchange waiting)
+  next_asked n y b [] may = tt
+  next_asked n y b (c ∷ waiting) may = may.0
+
+  next_moves : (waiting : List Command) → Each SetsNoAddress waiting → MovesNone (next_exchange waiting)
+  next_moves [] none = tt
+  next_moves (c ∷ waiting) none = none.0
+
+  pub exchange_from_rest : Given → (now due : ℕ) (since : Restarted) (n : ℕ) (y : Exchange) (b : Reply) (l : Link H) → Hears since
+      → At fixed answer_of after settings since (Rest n y b) l
+      → l.controller.session.state ≡ Idle due → IsOpen fixed n l.controller.session → Still l
+      → Acts (ticks now l.controller.session l.controller.waiting) → SaysWhatFits answer_of after (at_tick now l).to_reader l.reader
+      → goes answer_of after now l ≡ rested_link now l
+  exchange_from_rest given now due since n y b l hears_it h is opened still does fits =
+      let s = l.controller.session in
+      let w = l.controller.waiting in
+      let r = l.reader in
+      let x = next_exchange w in
+      let k = next_sequence s.number in
+      let p = frame fixed x k in
+      let a = taken_answer fixed answer_of after settings (exchange_command x) r in
+      let last : r.last ≡ Some s.number = ((has_acted fixed since n y b l.reader hears_it h.reader).here still.ready.here).0 ∙ ap (λ m. Some m) (sym opened.1) in
+      let starts = begins_next_at s.state due (seen now s) w is does in
+      let asked = next_asked s.number y b w h.waiting in
+      let none = next_moves w (each_rest SetsNoAddress l.account.taken w (subst (Each SetsNoAddress) h.account.issued still.issued)) in
+      let said = fits_there now x k (drop 1 w) l still opened.0 starts fits in
+      let replies = taking fixed answer_of after settings given s.number y b x r still.ready last asked said in
+      let kind : kind_of r p ≡ Taken = kind_next fixed r x s.number still.ready.here last ∙ ap (λ u. cond u Busy Taken) still.ready.ready in
+      let heard = taken_hears fixed answer_of after settings given s.number y b x r still.ready last asked in
+      whole given now x k a.reply (drop 1 w) l still opened.0 none starts replies
+      ∙ ap (λ kd. ended_by now x k a.reply (drop 1 w) kd (hears answer_of after r p) l) kind
+      ∙ ap (λ o. ended_by now x k a.reply (drop 1 w) Taken o l) heard
+      ∙ ap (λ to. record l {
+        controller = record l.controller { session = at_rest (seen now (record (seen now s) { number = k })); waiting = drop 1 w };
+        reader = moved to (record r {
+          last = Some k;
+          stored = Some (answer fixed k a.reply);
+          queue = offering (event_for (exchange_command x) (released r.queue).events) (released r.queue);
+          handler = a.handler;
+        });
+        to_reader = [];
+        to_controller = [];
+        account = told (report_of x a.reply) (link.taken_command (exchange_command x) (Some a.reply) (link.front_of r) l.account);
+      }) (no_address x none)
+      ∙ ap (λ t. record (rested_link now l) { account = t }) (account_is given.tells w (released r.queue).events r l.account h.waiting)

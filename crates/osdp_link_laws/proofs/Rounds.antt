@@ -1,0 +1,137 @@
+-- Rounds that lose nothing: each but the first settles a command or reports an event, until all are.
+use Rattle.std.proofs.Common.{◌≡◌, ◌⊎◌, ◌≤◌, ◌+◌, ℕ, suc, List, [], ◌∷◌, ◌++◌, length, drop, refl, sym, subst, ap, ◌∙◌, inl, inr, arith}
+use Rattle.std.proofs.lemmas.List.{append-nil, length-append, length-map}
+use Rattle.osdp_msg.specs.declared.command.Command.{Command}
+use Rattle.osdp_msg.specs.declared.event.Event.{Event}
+use Rattle.osdp_controller.specs.Sessions.{later, seen}
+use Rattle.osdp_controller.specs.Ticking.{ticks}
+use Rattle.osdp_controller.specs.declared.config.ControllerConfig.{ControllerConfig}
+use Rattle.osdp_controller.specs.declared.state.State.TheVariants.{Idle}
+use Rattle.osdp_frame.specs.Packet.{next_sequence}
+use Rattle.osdp_reader.specs.declared.config.ReaderConfig.{ReaderConfig}
+use Rattle.osdp_reader.specs.declared.handler.Answer.{Answer}
+use Rattle.osdp_reader.specs.Queue.{released}
+use Rattle.osdp_reader.specs.State.{ReaderState}
+use Rattle.osdp_reader.specs.Table.{answer_to}
+use Rattle.osdp_link_laws.specs.Headline.{SaysWhatFits, asked}
+use Rattle.osdp_link_laws.specs.Link.{Account, Link}
+use Rattle.osdp_link_laws.specs.Progress.{SetsNoAddress}
+use Rattle.osdp_link_laws.specs.Sessions.{settled_commands}
+use Rattle.osdp_link_laws.proofs.Due.{Acts}
+use Rattle.osdp_link_laws.proofs.Exchanges.{accounted, exchange_from_rest, rested_link}
+use Rattle.osdp_link_laws.proofs.Moves.{Premises}
+use Rattle.osdp_link_laws.proofs.Parts.{At, HoldsAtSomeStage}
+use Rattle.osdp_link_laws.proofs.Round.{IsIdle, at_tick, goes}
+use Rattle.osdp_link_laws.proofs.Sessions.{taken_commands}
+use Rattle.osdp_link_laws.proofs.Since.{Hears, events_of}
+use Rattle.osdp_link_laws.proofs.Stages.{Asks, Before, Behind, Each, Fresh, Level, Never, Now, Rest, Restarted, Rests, Stage, Waits, number_after, shown}
+
+abbrev pub counted : Account → ℕ
+counted t = length t.settled + length t.reported
+
+abbrev pub all_of : Account → ℕ
+all_of t = length t.issued + length t.kept
+
+module _ (fixed : ControllerConfig) {H : Type 0} (answer_of : H → Command → Answer) (after : H → Command → H) (settings : ReaderConfig) where
+  abbrev Idles : Link H → Type 0
+  Idles l = IsIdle fixed answer_of after settings l
+
+  -- where no exchange is outstanding, and no command and no event waits, all is settled and reported
+  done_all : (since : Restarted) (at : Stage) (l : Link H) → Hears since → At fixed answer_of after settings since at l → (due : ℕ) → l.controller.session.state ≡ Idle due → l.controller.waiting ≡ []
+      → l.reader.queue.events ≡ [] → all_of l.account ≤ counted l.account
+  done_all since Fresh l hears h due idle none empty = absurd (subst (λ st. Waits fixed st l.controller.session) idle h.controller)
+  done_all since (Behind past x) l hears h due idle none empty =
+      absurd (subst (λ st. Asks fixed st (number_after past) x l.controller.session) idle h.controller)
+  done_all since (Level past x a) l hears h due idle none empty =
+      absurd (subst (λ st. Asks fixed st (number_after past) x l.controller.session) idle h.controller)
+  done_all since (Rest n x a) l hears h due idle none empty =
+      let t = l.account in
+      let commands = taken_commands t [] h.account.answered h.account.settled in
+      let settled : length t.settled ≡ length t.taken =
+      sym (length-map t.settled asked) ∙ ap length (sym (append-nil (settled_commands t)) ∙ commands) in
+      let issued : length t.issued ≡ length t.taken = ap length (h.account.issued ∙ ap (λ ws. t.taken ++ ws) none ∙ append-nil t.taken) in
+      let told = events_of since Before (shown x a) l.reader.queue.events t hears tt h.account.told in
+      let past = told.past in
+      let queued : length t.kept ≡ length past = ap length (told.kept ∙ ap (λ es. past ++ es) empty ∙ append-nil past) in
+      let reported : length t.reported ≡ length past + length (shown x a) = ap length told.reported ∙ length-append past (shown x a) in
+      omega (arith, settled, issued, queued, reported)
+
+  -- one more is settled or reported, or all is
+  abbrev OneMore : Account → Account → Type 0
+  OneMore t u = (suc (counted t) ≤ counted u) ⊎ (all_of u ≤ counted u)
+
+  -- what comes of an exchange from rest counts one more, where a command or an event waits
+  counts : (waiting : List Command) (events : List Event) (r : ReaderState H) (t : Account)
+      → let u = accounted answer_of after waiting events r t in (waiting ≡ [] → events ≡ [] → all_of u ≤ counted u) → OneMore t u
+  counts [] [] r t none = inr (none refl refl)
+  counts [] (e ∷ events) r t none = inl (omega (arith, length-append t.reported (e ∷ [])))
+  counts (c ∷ waiting) events r t none =
+      inl (omega (arith, length-append t.settled ((c, (answer_to answer_of after r.config r.handler c).reply) ∷ [])))
+
+  issues_none : (waiting : List Command) (events : List Event) (r : ReaderState H) (t : Account)
+      → (accounted answer_of after waiting events r t).issued ≡ t.issued
+  issues_none [] [] r t = refl
+  issues_none [] (e ∷ events) r t = refl
+  issues_none (c ∷ waiting) events r t = refl
+
+  abbrev Given : Type 0
+  Given = Premises fixed answer_of after settings
+
+  -- the controller waits for nothing again
+  pub rested_idle : (now : ℕ) (l : Link H) → Idles l → Idles (rested_link fixed answer_of after settings now l)
+  rested_idle now l idle = record {
+    idle = (later l.controller.session.config.poll_interval (seen now (record (seen now l.controller.session) { number = next_sequence l.controller.session.number })), refl);
+    still = record {
+      to_reader = refl;
+      to_controller = refl;
+      ready = record { here = idle.still.ready.here; ready = idle.still.ready.ready };
+      issued = subst (Each SetsNoAddress)
+          (sym (issues_none l.controller.waiting (released l.reader.queue).events l.reader l.account)) idle.still.issued;
+    };
+    known = (next_sequence l.controller.session.number, refl);
+  }
+
+  -- a reader that knows its last number hears
+  hears_known : (since : Restarted) (at : Stage) (l : Link H) → At fixed answer_of after settings since at l → Idles l → Hears since
+  hears_known Never at l h idle = tt
+  hears_known Before at l h idle = tt
+  hears_known Now Fresh l h idle = absurd (subst (λ st. Waits fixed st l.controller.session) idle.idle.1 h.controller)
+  hears_known Now (Behind past x) l h idle = absurd (subst (λ st. Asks fixed st (number_after past) x l.controller.session) idle.idle.1 h.controller)
+  hears_known Now (Level past x a) l h idle = absurd (subst (λ st. Asks fixed st (number_after past) x l.controller.session) idle.idle.1 h.controller)
+  hears_known Now (Rest n x a) l h idle = absurd (let e = sym idle.known.1 ∙ h.reader in cc)
+
+  -- a round from a controller that waits for nothing is an exchange from rest
+  pub idle_exchange : Given → (now : ℕ) (l : Link H) → HoldsAtSomeStage fixed answer_of after settings l → Idles l
+      → Acts (ticks now l.controller.session l.controller.waiting) → SaysWhatFits answer_of after (at_tick now l).to_reader l.reader
+      → goes answer_of after now l ≡ rested_link fixed answer_of after settings now l
+  idle_exchange given now l (since, at, h) idle does fits = by_stage at h
+    where
+      by_stage : (at : Stage) → At fixed answer_of after settings since at l → goes answer_of after now l ≡ rested_link fixed answer_of after settings now l
+      by_stage Fresh h = absurd (subst (λ st. Waits fixed st l.controller.session) idle.idle.1 h.controller)
+      by_stage (Behind past x) h =
+          absurd (subst (λ st. Asks fixed st (number_after past) x l.controller.session) idle.idle.1 h.controller)
+      by_stage (Level past x a) h =
+          absurd (subst (λ st. Asks fixed st (number_after past) x l.controller.session) idle.idle.1 h.controller)
+      by_stage (Rest n y b) h =
+          exchange_from_rest fixed answer_of after settings given now idle.idle.0 since n y b l (hears_known since (Rest n y b) l h idle) h idle.idle.1
+          (subst (λ st. Rests fixed st n l.controller.session) idle.idle.1 h.controller) idle.still does fits
+
+  -- .. which settles or reports one more, unless all is
+  pub idle_round : Given → (now : ℕ) (l : Link H) → HoldsAtSomeStage fixed answer_of after settings l → Idles l
+      → Acts (ticks now l.controller.session l.controller.waiting) → SaysWhatFits answer_of after (at_tick now l).to_reader l.reader
+      → HoldsAtSomeStage fixed answer_of after settings (goes answer_of after now l) → Idles (goes answer_of after now l) × OneMore l.account (goes answer_of after now l).account
+  idle_round given now l held idle does fits afterwards =
+      let is = idle_exchange given now l held idle does fits in
+      let m = goes answer_of after now l in
+      let w = l.controller.waiting in
+      let events = (released l.reader.queue).events in
+      let rested = rested_idle now l idle in (
+        subst Idles (sym is) rested,
+        subst (λ k. OneMore l.account k.account) (sym is)
+            (counts w events l.reader l.account (λ none empty.
+            subst (λ k. all_of k.account ≤ counted k.account) is
+            (done_all afterwards.0 afterwards.1 m (hears_known afterwards.0 afterwards.1 m afterwards.2 (subst Idles (sym is) rested)) afterwards.2
+            (later l.controller.session.config.poll_interval (seen now (record (seen now l.controller.session) { number = next_sequence l.controller.session.number })))
+            (ap (λ k. k.controller.session.state) is)
+            (ap (λ k. k.controller.waiting) is ∙ ap (drop 1) none) (ap (λ k. k.reader.queue.events) is ∙ empty)))),
+      )
