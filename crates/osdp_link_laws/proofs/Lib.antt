@@ -37,3 +37,5 @@ pub mod Exchanges
 pub mod Rounds
 pub mod Through
 pub mod InTime
+pub mod Clean
+pub mod Addresses
