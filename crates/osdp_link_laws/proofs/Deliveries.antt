@@ -36,6 +36,10 @@ use Rattle.osdp_link_laws.proofs.Parts.{At, HoldsAtSomeStage, with_session, with
 use Rattle.osdp_link_laws.proofs.Since.{events_moved, events_same, past_same}
 use Rattle.osdp_link_laws.proofs.Taking.{heard_again, shows_none}
 
+-- BUSY, a reply that settles, or a refused number
+abbrev pub IsRead : Packet → Type 0
+IsRead p = IsPlainlySaid p ⊎ (packets.meaning_of p ≡ NumberRefused)
+
 -- a refused number is of the table of replies
 pub refusal_fits : ReplyFits (refused UnexpectedSequence)
 refusal_fits = record { reason = tt; room = omega arith; detail = λ k. omega arith }
@@ -174,24 +178,31 @@ module _ (fixed : ControllerConfig) {H : Type 0} (answer_of : H → Command → 
   old_is given (After n y b) p now x s acted (inr (inr refused)) asks =
       hears_refused fixed p now (next_sequence n) x s (refused_is given p refused) asks
 
-  -- .. and what stands anywhere on the line, where the reader hasn't restarted
-  said : Assumed → (MayRefuse since → ⊥) → (n : ℕ) (x : Exchange) (a : Reply) → Acted settings.id n x a → (p : Packet) → Says fixed since n a p → IsPlainlySaid p
-  said given never n x a acted p (inl busy) = inl (busy_is given p busy)
-  said given never n x a acted p (inr (inl is)) = inr (a, plain_is given n x a p acted is)
-  said given never n x a acted p (inr (inr (may, refused))) = absurd (never may)
+  -- .. and what stands anywhere on the line
+  module _ (P : Packet → Type 0) (plainly : (p : Packet) → IsPlainlySaid p → P p) (refusing : (p : Packet) → MayRefuse since → packets.meaning_of p ≡ NumberRefused → P p) where
+    said : Assumed → (n : ℕ) (x : Exchange) (a : Reply) → Acted settings.id n x a → (p : Packet) → Says fixed since n a p → P p
+    said given n x a acted p (inl busy) = plainly p (inl (busy_is given p busy))
+    said given n x a acted p (inr (inl is)) = plainly p (inr (a, plain_is given n x a p acted is))
+    said given n x a acted p (inr (inr refuses)) = refusing p refuses.0 (refused_is given p refuses)
 
-  said_before : Assumed → (MayRefuse since → ⊥) → (past : Past) → IsPast settings.id past → (p : Packet) → SaysOld fixed since past p → IsPlainlySaid p
-  said_before given never Start acted p is = inl (busy_is given p is)
-  said_before given never (After n y b) acted p is = said given never n y b acted p is
+    said_before : Assumed → (past : Past) → IsPast settings.id past → (p : Packet) → SaysOld fixed since past p → P p
+    said_before given Start acted p is = plainly p (inl (busy_is given p is))
+    said_before given (After n y b) acted p is = said given n y b acted p is
 
+    all_so : Assumed → (at : Stage) (l : Link H) → AtStage at l → Each P l.to_controller
+    all_so given Fresh l h = subst (Each P) (sym h.to_controller) tt
+    all_so given (Behind past x) l h = each_map (SaysOld fixed since past) P (said_before given past h.stage.0) l.to_controller h.to_controller
+    all_so given (Level past x a) l h =
+        runs_each (SaysOld fixed since past) (Says fixed since (number_after past) a) P (said_before given past h.stage.0)
+        (said given (number_after past) x a h.stage.2) l.to_controller h.to_controller
+    all_so given (Rest n x a) l h = each_map (Says fixed since n a) P (said given n x a h.stage) l.to_controller h.to_controller
+
+  -- where the reader hasn't restarted all is said plainly; else a number may be refused too
   pub all_said : Assumed → (MayRefuse since → ⊥) → (at : Stage) (l : Link H) → AtStage at l → Each IsPlainlySaid l.to_controller
-  all_said given never Fresh l h = subst (Each IsPlainlySaid) (sym h.to_controller) tt
-  all_said given never (Behind past x) l h =
-      each_map (SaysOld fixed since past) IsPlainlySaid (said_before given never past h.stage.0) l.to_controller h.to_controller
-  all_said given never (Level past x a) l h =
-      runs_each (SaysOld fixed since past) (Says fixed since (number_after past) a) IsPlainlySaid (said_before given never past h.stage.0)
-      (said given never (number_after past) x a h.stage.2) l.to_controller h.to_controller
-  all_said given never (Rest n x a) l h = each_map (Says fixed since n a) IsPlainlySaid (said given never n x a h.stage) l.to_controller h.to_controller
+  all_said given never at l h = all_so IsPlainlySaid (λ p is. is) (λ p may refuses. absurd (never may)) given at l h
+
+  pub all_read : Assumed → (at : Stage) (l : Link H) → AtStage at l → Each IsRead l.to_controller
+  all_read given at l h = all_so IsRead (λ p is. inl is) (λ p may refuses. inr refuses) given at l h
 
   -- a packet that settles nothing
   passed_over : (at : Stage) (now : ℕ) (p : Packet) (l : Link H) → let heard = controller.hears p now l.controller.session in

@@ -24,6 +24,7 @@ pub mod Taken
 pub mod InARow
 pub mod Ordinary
 pub mod Kept
+pub mod GivenAnswers
 pub mod OneHandler
 pub mod Reports
 pub mod Refusals
@@ -39,3 +40,10 @@ pub mod Through
 pub mod InTime
 pub mod Clean
 pub mod Addresses
+pub mod OneDevice
+pub mod ToldMoved
+pub mod Reserved
+pub mod ControllerNames
+pub mod ReaderNames
+pub mod Naming
+pub mod NamesKept

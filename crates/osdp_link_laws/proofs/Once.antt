@@ -63,7 +63,7 @@ withdrawn_first (Idle due) ws = refl
 withdrawn_first (Waiting until k o) ws = refl
 withdrawn_first (Pausing until o) ws = refl
 
-target_closed : (state : State) (address : ℕ) → controllers.or_no_device (controllers.refused_unless_closed state) address ≡ None → state ≡ Closed
+pub target_closed : (state : State) (address : ℕ) → controllers.or_no_device (controllers.refused_unless_closed state) address ≡ None → state ≡ Closed
 target_closed Closed address may = refl
 target_closed (Quiet until) address may = absurd cc
 target_closed (Idle due) address may = absurd cc

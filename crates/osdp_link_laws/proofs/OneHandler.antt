@@ -37,6 +37,7 @@ use Rattle.osdp_link_laws.specs.OneHandler.{AreItsAnswers, AreOnce, GivesItsAnsw
 use Rattle.osdp_link_laws.specs.Peers.{ReadEachOther}
 use Rattle.osdp_link_laws.specs.Refusals.{KeepsReader}
 use Rattle.osdp_link_laws.proofs.Acting.{no_event, polled, same_answer, taken_is}
+use Rattle.osdp_link_laws.proofs.GivenAnswers.{poll_or_not}
 use Rattle.osdp_link_laws.proofs.InARow.{Assumed, Stands, all_once, assumed_of, begins, standing}
 use Rattle.osdp_link_laws.proofs.Kept.{KeepAll, all_kept}
 use Rattle.osdp_link_laws.proofs.Removed.{as_waiting}
@@ -45,10 +46,6 @@ use Rattle.osdp_link_laws.proofs.Moves.{Premises}
 use Rattle.osdp_link_laws.proofs.Numbers.{next_above_zero}
 use Rattle.osdp_link_laws.proofs.Parts.{At}
 use Rattle.osdp_link_laws.proofs.Stages.{Acted, After, Answering, Behind, Each, Fresh, IsAsked, IsFrame, IsOldFrame, IsPast, Level, Past, Rest, Restarted, Stage, Start, ToReaderAt, frame, number_after}
-
-poll_or_not : (c : Command) → (c ≡ command.Poll) ⊎ (c ≢ command.Poll)
-poll_or_not command.Poll = inl refl
-poll_or_not c = inr (λ e. absurd cc)
 
 module _ {H : Type 0} (answer_of : H → Command → Answer) (after : H → Command → H) (settings : ReaderConfig) where
   one_more_answer : (h : H) (cs : List Command) (c : Command)

@@ -31,7 +31,7 @@ never_refuses Never count is none may = may
 never_refuses Before count is none may = absurd (omega (arith, is, none))
 never_refuses Now count is none may = absurd (omega (arith, is, none))
 
-one_report : (P : Report → Type 0) (r : Option Report) → IfSome r P → Each P (option_to_list r)
+pub one_report : (P : Report → Type 0) (r : Option Report) → IfSome r P → Each P (option_to_list r)
 one_report P None so = tt
 one_report P (Some r) so = (so, tt)
 

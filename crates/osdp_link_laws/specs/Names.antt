@@ -113,10 +113,15 @@ module _ {H : Type 0} where
     pub commands : All (λ p. (to : ℕ) → MovesReader to p → ⊥) l.to_reader
     pub replies : All (λ p. (to : ℕ) → MovesController to p → ⊥) l.to_controller
 
-  -- no second COMSET is submitted; the controller's address is set only to the one where the reader is and stays; and the reader restarts where
-  -- it is, or at an address of its link where no COM is on its way
+  abbrev pub MayWithdraw : Option Command → Link H → Type 0
+  MayWithdraw None l = Unit {0}
+  MayWithdraw (Some command) l = comset_of command ≢ None → IsSettledAt l.controller.session.config.address l
+
+  -- no second COMSET is submitted; a COMSET is withdrawn, and the controller's address is set, only where the reader is at the controller's
+  -- address then and stays there; and the reader restarts where it is, or at an address of its link where no COM is on its way
   abbrev pub MayMove : Move H → Link H → Option ℕ → Type 0
   MayMove (Submit command) l reserved = MayAsk (comset_of command) reserved
+  MayMove Withdraw l reserved = MayWithdraw (withdrawn_in l.controller.session.state l.controller.waiting) l
   MayMove (Retarget address) l reserved = IsSettledAt address l × All NoComset l.controller.waiting
   MayMove (RestartReader address handler room) l reserved =
       (address ≡ l.reader.config.address)
