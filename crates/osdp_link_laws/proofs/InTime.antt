@@ -10,7 +10,7 @@ use Rattle.osdp_controller.specs.declared.state.State.TheVariants.{Closed, Quiet
 use Rattle.osdp_controller_laws.specs.Calls.{ComesDue, IsInRange, StaysInRange}
 use Rattle.osdp_controller_laws.specs.Runs.{Begin, Hear, Retarget as Target, Tick as TickCall}
 use Rattle.osdp_reader.specs.declared.handler.Answer.{Answer}
-use Rattle.osdp_link_laws.specs.Headline.{MovesFit, Begins}
+use Rattle.osdp_link_laws.specs.Headline.{MovesFit}
 use Rattle.osdp_link_laws.specs.Link.{Delivered, Link, Move, Tick, ToReader, after_move, run}
 use Rattle.osdp_link_laws.specs.Progress.{AreDue, AreLate, ComesThroughInTime, round, rounds}
 use Rattle.osdp_link_laws.proofs.Controllers.{IsKept, IsKeptOutside, moves_keep}

@@ -49,8 +49,7 @@ module _ {H : Type 0} (answer_of : H → Command → Answer) (after : H → Comm
 
   reader_gets_kept : (p : Packet) (l : Link H) → AllKept l → AllKept (link.reader_gets answer_of after p l)
   reader_gets_kept p l (is, before) =
-      let o = reader.hears answer_of after l.reader p in
-      (
+      let o = reader.hears answer_of after l.reader p in (
         subst KeepsEvents (sym (taken_takes (reader.kind_of l.reader p) o.command o.said (link.front_of l.reader) l.account).1)
             (record { kept = is.kept; restarts = is.restarts }),
         before,

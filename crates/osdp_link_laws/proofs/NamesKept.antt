@@ -1,41 +1,30 @@
 -- Over all moves the reader is at an address of its link, and no packet on the line can send an end to any other.
-use Rattle.std.proofs.Common.{◌≡◌, ◌≢◌, ◌⊎◌, ◌<◌, ℕ, Bool, true, false, ◌==◌, List, [], ◌∷◌, ◌++◌, length, Option, Some, None, IfSome, refl, sym, subst, ap, ◌∙◌, inl, inr, arith, append_assoc}
-use Rattle.std.proofs.lemmas.List.{append-nil}
-use Rattle.std.proofs.lemmas.Bool.Decides.{eqb_tells}
-use Rattle.std.specs.Prelude.{option_to_list}
-use Rattle.osdp_frame.specs.Packet.{Packet}
+use Rattle.std.proofs.Common.{◌≡◌, ◌⊎◌, ◌<◌, ℕ, ◌==◌, List, [], ◌∷◌, ◌++◌, length, Option, Some, None, IfSome, refl, sym, subst, ap, ◌∙◌, inl, inr}
 use Rattle.osdp_msg.specs.CommandTable.{CommandFits}
-use Rattle.osdp_msg.specs.ReplyTable.{ReplyFits}
 use Rattle.osdp_msg.specs.declared.command.Command.{Command}
 use Rattle.osdp_msg.specs.declared.command_fields.Communication.{Communication}
-use Rattle.osdp_msg.specs.declared.event.Event.{Event}
-use Rattle.osdp_controller.specs.Answers.{meaning_of as said_by}
-use Rattle.osdp_controller.specs.Hearing.{comset_of, hears}
+use Rattle.osdp_controller.specs.Hearing.{comset_of}
 use Rattle.osdp_controller.specs.Machine as controllers
 use Rattle.osdp_controller.specs.Sessions.{seen}
-use Rattle.osdp_controller.specs.Ticking.{ticks_in}
 use Rattle.osdp_controller.specs.declared.fault.ControllerFault.{ControllerFault}
 use Rattle.osdp_controller.specs.declared.state.State.{State}
 use Rattle.osdp_controller.specs.declared.state.State.TheVariants.{Closed, Quiet, Idle, Waiting, Pausing}
-use Rattle.osdp_controller_laws.proofs.Closed.{was_closed}
-use Rattle.osdp_reader.specs.Table as reader
 use Rattle.osdp_reader.specs.declared.config.ReaderConfig.{ReaderConfig}
 use Rattle.osdp_reader.specs.declared.handler.Answer.{Answer}
-use Rattle.osdp_link_laws.specs.Headline.{MovesFit, MoveFits, MaySubmit, SaysWhatFitsIf}
+use Rattle.osdp_link_laws.specs.Headline.{MovesFit, MoveFits, MaySubmit}
 use Rattle.osdp_link_laws.specs.Link as link
 use Rattle.osdp_link_laws.specs.Link.{Delivered, Delivery, Link, Lost, Move, Queue as QueueEvent, Reopen, Repeated, RestartController, RestartReader, Retarget, SetBusy, SetHandler, Submit, Tick, ToController, ToReader, Withdraw, after_move, run}
-use Rattle.osdp_link_laws.specs.Names.{BeginsTogether, IsCommandTo, IsName, IsReplyFrom, IsSettledAt, KeepToNames, KeepsToNames, MayAsk, MayMove, MayMoves, MayWithdraw, MovesController, MovesReader, NamesOne, accepted_for, asked_for, freed_by, freed_for, freed_unless, freed_without, reserved_after, reserved_after_moves}
+use Rattle.osdp_link_laws.specs.Names.{BeginsTogether, IsCommandTo, IsName, IsReplyFrom, IsSettledAt, KeepToNames, MayMove, MayMoves, MayWithdraw, MovesController, MovesReader, NamesOne, freed_for, freed_unless, freed_without, reserved_after, reserved_after_moves}
 use Rattle.osdp_link_laws.specs.Peers.{ReadEachOther, ReadsWhatIsAnswered, ReadsWhatIsAsked}
 use Rattle.osdp_link_laws.specs.Progress.{NoComset}
-use Rattle.osdp_link_laws.specs.Refusals.{told_by, told_by_front}
-use Rattle.osdp_link_laws.proofs.ControllerNames.{HeardWell, StaysHere, heard_well}
+use Rattle.osdp_link_laws.specs.Refusals.{told_by}
 use Rattle.osdp_link_laws.proofs.GivenAnswers.{AreAnswers, first_given, move_given}
 use Rattle.osdp_link_laws.proofs.InARow.{Assumed, Stands, assumed_of, begins, standing}
-use Rattle.osdp_link_laws.proofs.Lines.{each_all, each_append, each_map, each_of}
+use Rattle.osdp_link_laws.proofs.Lines.{each_all, each_map, each_of}
 use Rattle.osdp_link_laws.proofs.Once.{target_closed}
 use Rattle.osdp_link_laws.proofs.OneDevice.{standing_names}
-use Rattle.osdp_link_laws.proofs.ReaderNames.{IsFrom, IsStill, KeepsStill, ReaderGoes, ReaderStays, reader_well}
-use Rattle.osdp_link_laws.proofs.Reserved.{One, Sends, TickedWell, asked_in, front_is, moves_below, one_accepted, one_of_none, tick_frees_none, ticked_well}
+use Rattle.osdp_link_laws.proofs.ReaderNames.{IsFrom, IsStill}
+use Rattle.osdp_link_laws.proofs.Reserved.{One, asked_in, front_is, one_of_none, tick_frees_none}
 use Rattle.osdp_link_laws.proofs.Stages.{Each}
 use Rattle.osdp_link_laws.proofs.ToldMoved.{ToldAsAsked, move_told}
 use Rattle.osdp_link_laws.proofs.Naming.{CommandNames, Keeps, Names, ReplyNames, if_map, queueing, reopening, submitting, ticking, to_controller_keeps, to_reader_keeps}

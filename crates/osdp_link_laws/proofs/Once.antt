@@ -1,5 +1,5 @@
 -- Within one session: each move keeps what holds, and what holds says that all is once and in order.
-use Rattle.std.proofs.Common.{◌≡◌, ◌≤◌, ℕ, List, [], ◌∷◌, ◌++◌, length, map, drop, Bool, true, false, Option, Some, None, refl, sym, subst, ap, ◌∙◌, inl, inr, arith, append_assoc}
+use Rattle.std.proofs.Common.{◌≡◌, ◌≤◌, ℕ, List, [], ◌∷◌, ◌++◌, length, map, Option, Some, None, refl, sym, subst, ap, ◌∙◌, inl, inr, arith, append_assoc}
 use Rattle.std.proofs.lemmas.List.{append-nil, map-append}
 use Rattle.std.specs.Prelude.{option_to_list}
 use Rattle.osdp_msg.specs.declared.command.Command.{Command}
@@ -8,9 +8,7 @@ use Rattle.osdp_msg.specs.declared.reply.Reply.{Reply}
 use Rattle.osdp_controller.specs.Exchanges.{submitted_command}
 use Rattle.osdp_controller.specs.Machine as controllers
 use Rattle.osdp_controller.specs.Machine.{Machine}
-use Rattle.osdp_controller.specs.Sessions.{new_session, seen}
-use Rattle.osdp_controller.specs.States.{is_closed}
-use Rattle.osdp_controller.specs.Ticking.{ticks}
+use Rattle.osdp_controller.specs.Sessions.{new_session}
 use Rattle.osdp_controller.specs.declared.config.ControllerConfig.{ControllerConfig}
 use Rattle.osdp_controller.specs.declared.exchange.Exchange.{Exchange}
 use Rattle.osdp_controller.specs.declared.exchange.Exchange.TheVariants.{Opening, Polling, Asking}
@@ -26,14 +24,14 @@ use Rattle.osdp_link_laws.specs.Link.{Account, Link, Move, Queue as QueueEvent, 
 use Rattle.osdp_link_laws.specs.Sessions.{removed_command}
 use Rattle.osdp_link_laws.proofs.Growing.{GoesOn, inside_on}
 use Rattle.osdp_link_laws.proofs.Moves.{Premises}
-use Rattle.osdp_link_laws.proofs.Parts.{At, HoldsAtSomeStage, with_session}
+use Rattle.osdp_link_laws.proofs.Parts.{At, HoldsAtSomeStage}
 use Rattle.osdp_link_laws.proofs.Removed.{IsInside, IsQuiet, as_if, as_waiting, closed_inside, given_up_in, gone, moving_inside}
 use Rattle.osdp_link_laws.proofs.Restarts.{front_at}
 use Rattle.osdp_link_laws.proofs.Since.{events_same, past_same}
 use Rattle.osdp_reader.specs.State.{ReaderState}
 use Rattle.osdp_link_laws.proofs.Closing.{closed_same, stays_closed}
-use Rattle.osdp_link_laws.proofs.Stages.{Accounts, Answering, Asks, Behind, Before, ControllerAt, Each, EventsAre, Fresh, IsOpen, Level, Never, Now, PastIs, ReaderAt, Rest, Restarted, Rests, Stage, Waits, given_up, given_up_at, number_after, owed, owed_at, pending, pending_at, shown_at, unreported_at}
-use Rattle.osdp_link_laws.proofs.Without.{without_keeps, without_none}
+use Rattle.osdp_link_laws.proofs.Stages.{Answering, Asks, Behind, Before, ControllerAt, Each, EventsAre, Fresh, Level, Never, Now, ReaderAt, Rest, Restarted, Rests, Stage, Waits, given_up, given_up_at, number_after, owed, owed_at, pending, pending_at, shown_at, unreported_at}
+use Rattle.osdp_link_laws.proofs.Without.{without_keeps}
 
 one_owed : (x : Exchange) (a : Reply) → length (owed x a) ≤ 1
 one_owed Opening a = omega arith

@@ -1,16 +1,13 @@
 -- The answers given where the device has one handler.
-use Rattle.std.proofs.Common.{◌≡◌, ◌≢◌, ◌⊎◌, ◌≤◌, ℕ, zero, suc, Bool, true, false, cond, eqb, List, [], ◌∷◌, ◌++◌, length, All, Option, Some, None, Result, Ok, Err, refl, sym, subst, ap, ◌∙◌, inl, inr, arith}
-use Rattle.std.proofs.lemmas.List.{append-nil}
+use Rattle.std.proofs.Common.{◌≡◌, ℕ, Bool, true, false, cond, eqb, List, [], ◌∷◌, ◌++◌, length, Option, Some, None, Result, Ok, Err, refl, sym, subst, ap, ◌∙◌, inl, inr, arith}
 use Rattle.std.proofs.lemmas.Bool.Decides.{eqb_tells}
 use Rattle.std.specs.Prelude.{◌==◌, ◌||◌, not}
 use Rattle.osdp_frame.specs.Packet.{Packet, next_sequence}
-use Rattle.osdp_msg.specs.CommandTable.{CommandFits}
 use Rattle.osdp_msg.specs.declared.command.Command.{Command}
 use Rattle.osdp_msg.specs.declared.command.Command.TheVariants as command
 use Rattle.osdp_msg.specs.declared.event.Event.{Event}
 use Rattle.osdp_msg.specs.declared.fault.MsgFault.{MsgFault}
 use Rattle.osdp_msg.specs.declared.reply.Reply.{Reply}
-use Rattle.osdp_controller.specs.Exchanges.{exchange_command}
 use Rattle.osdp_controller.specs.Hearing as controller
 use Rattle.osdp_controller.specs.Machine as controllers
 use Rattle.osdp_controller.specs.Ticking.{ticks}
@@ -21,19 +18,18 @@ use Rattle.osdp_controller.specs.declared.fault.ControllerFault.{ControllerFault
 use Rattle.osdp_controller.specs.declared.report.Report.{Report}
 use Rattle.osdp_controller.specs.declared.report.Report.TheVariants as report
 use Rattle.osdp_reader.specs.Queue.{event_for, offering, released}
-use Rattle.osdp_reader.specs.Replies.{own_reply, reply_packet}
+use Rattle.osdp_reader.specs.Replies.{reply_packet}
 use Rattle.osdp_reader.specs.State.{ReaderState}
-use Rattle.osdp_reader.specs.Table as reader
 use Rattle.osdp_reader.specs.Table.{answer_to, begun, command_in, event_or_answer, kind_by_number, kind_of, moved, new_address, outcome, taken}
 use Rattle.osdp_reader.specs.declared.config.ReaderConfig.{ReaderConfig}
 use Rattle.osdp_reader.specs.declared.handler.Answer.{Answer}
 use Rattle.osdp_reader.specs.declared.kind.Kind.{Kind}
 use Rattle.osdp_reader.specs.declared.kind.Kind.TheVariants as kind
 use Rattle.osdp_reader_laws.specs.Answering.{handler_after_commands}
-use Rattle.osdp_link_laws.specs.Headline.{Begins, EachIsOnce, IsBeginning, IsOnce, IsWithout, MoveFits, MovesFit}
+use Rattle.osdp_link_laws.specs.Headline.{EachIsOnce, IsBeginning, MovesFit}
 use Rattle.osdp_link_laws.specs.Link as link
 use Rattle.osdp_link_laws.specs.Link.{Account, Delivered, Delivery, Link, Lost, Move, Queue as QueueEvent, Reopen, Repeated, RestartController, RestartReader, Retarget, SetBusy, SetHandler, Submit, Tick, ToController, ToReader, Withdraw, after_move, run, taken_command, told}
-use Rattle.osdp_link_laws.specs.OneHandler.{AreItsAnswers, AreOnce, GivesItsAnswers, KeepHandler, KeepsDevice, KeepsHandler, Once, OneHandlerHoldsOnce, handler_after, with_answers}
+use Rattle.osdp_link_laws.specs.OneHandler.{AreItsAnswers, AreOnce, GivesItsAnswers, KeepHandler, KeepsDevice, KeepsHandler, OneHandlerHoldsOnce, handler_after, with_answers}
 use Rattle.osdp_link_laws.specs.Peers.{ReadEachOther}
 use Rattle.osdp_link_laws.specs.Refusals.{KeepsReader}
 use Rattle.osdp_link_laws.proofs.Acting.{no_event, polled, same_answer, taken_is}
@@ -45,7 +41,7 @@ use Rattle.osdp_link_laws.proofs.Lines.{both, each_map, each_of}
 use Rattle.osdp_link_laws.proofs.Moves.{Premises}
 use Rattle.osdp_link_laws.proofs.Numbers.{next_above_zero}
 use Rattle.osdp_link_laws.proofs.Parts.{At}
-use Rattle.osdp_link_laws.proofs.Stages.{Acted, After, Answering, Behind, Each, Fresh, IsAsked, IsFrame, IsOldFrame, IsPast, Level, Past, Rest, Restarted, Stage, Start, ToReaderAt, frame, number_after}
+use Rattle.osdp_link_laws.proofs.Stages.{Acted, After, Answering, Behind, Each, Fresh, IsAsked, Level, Past, Rest, Restarted, Stage, Start, ToReaderAt, frame, number_after}
 
 module _ {H : Type 0} (answer_of : H → Command → Answer) (after : H → Command → H) (settings : ReaderConfig) where
   one_more_answer : (h : H) (cs : List Command) (c : Command)
@@ -211,8 +207,7 @@ module _ {H : Type 0} (answer_of : H → Command → Answer) (after : H → Comm
   queues_answered : (start : H) (full : Bool) (e : Event) (l : Link H) → AllAnswered start l → AllAnswered start (link.queues full e l)
   queues_answered start true e l is = is
   queues_answered start false e l (is, before) =
-      let first = handler_after answer_of after settings start l.earlier in
-      (
+      let first = handler_after answer_of after settings start l.earlier in (
         same_answered first l.account (record l.account { queued = l.account.queued ++ e ∷ []; kept = l.account.kept ++ e ∷ [] })
             l.reader.handler l.reader.handler refl refl refl is,
         before,
@@ -289,8 +284,7 @@ module _ {H : Type 0} (answer_of : H → Command → Answer) (after : H → Comm
   gives_its_answers l moves b fits keep =
       let settings = l.reader.config in
       let start = l.reader.handler in
-      let first : AllAnswered answer_of after settings start l =
-      (
+      let first : AllAnswered answer_of after settings start l = (
         subst (λ t. IsAnswered answer_of after settings (handler_after answer_of after settings start l.earlier) t start) (sym b.account)
             (subst (λ ts. IsAnswered answer_of after settings (handler_after answer_of after settings start ts) (link.new_account l.controller.waiting l.reader.queue.events) start)
             (sym b.earlier) (record { given = refl; handler = refl })),

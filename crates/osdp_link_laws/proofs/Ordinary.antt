@@ -1,5 +1,5 @@
 -- Where neither end restarts, nothing is withdrawn and no address is set: no list of such moves grows.
-use Rattle.std.proofs.Common.{◌≡◌, ◌⊎◌, ◌≤◌, ◌+◌, ℕ, Bool, true, false, List, [], ◌∷◌, ◌++◌, length, map, All, Option, Some, None, refl, sym, subst, ap, ◌∙◌, inl, inr, arith, append_assoc}
+use Rattle.std.proofs.Common.{◌≡◌, ◌⊎◌, ◌≤◌, ℕ, Bool, true, false, List, [], ◌∷◌, ◌++◌, length, map, Option, Some, None, refl, sym, subst, ap, ◌∙◌, inl, inr, arith, append_assoc}
 use Rattle.std.proofs.lemmas.List.{append-nil}
 use Rattle.std.specs.Prelude.{◌==◌}
 use Rattle.osdp_frame.specs.Packet.{Packet}
@@ -13,7 +13,7 @@ use Rattle.osdp_controller.specs.declared.report.Report.{Report}
 use Rattle.osdp_controller.specs.declared.report.Report.TheVariants as report
 use Rattle.osdp_reader.specs.Table as reader
 use Rattle.osdp_reader.specs.declared.handler.Answer.{Answer}
-use Rattle.osdp_link_laws.specs.Headline.{Begins, IsBeginning, IsWithout}
+use Rattle.osdp_link_laws.specs.Headline.{IsWithout}
 use Rattle.osdp_link_laws.specs.Link as link
 use Rattle.osdp_link_laws.specs.Link.{Account, Delivered, Delivery, Link, Lost, Move, Queue as QueueEvent, Removal, Reopen, Repeated, RestartController, RestartReader, Retarget, SetBusy, SetHandler, Submit, Tick, ToController, ToReader, Withdraw, after_move, new_account, run, told}
 use Rattle.osdp_link_laws.specs.Ordinary.{AreUndisturbed, HaveLeftUndisturbed, IsOrdinary, IsUndisturbed, LeavesUndisturbed, OrdinaryIsUndisturbed, UndisturbedLeaves}
@@ -56,8 +56,7 @@ module _ {H : Type 0} (answer_of : H → Command → Answer) (after : H → Comm
 
   reader_gets_so : (p : Packet) (l : Link H) → AllSo l → AllSo (link.reader_gets answer_of after p l)
   reader_gets_so p l (so, earlier) =
-      let o = reader.hears answer_of after l.reader p in
-      (
+      let o = reader.hears answer_of after l.reader p in (
         subst IsUndisturbed (sym (taken_takes (reader.kind_of l.reader p) o.command o.said (link.front_of l.reader) l.account).1)
             (record { forgotten = so.forgotten; removed = so.removed; kept = so.kept; thrown_away = so.thrown_away; restarts = so.restarts }),
         earlier,

@@ -1,6 +1,5 @@
 -- What holds of a session, where the commands removed after its end are counted as waiting still, and a forgotten one as told unsettled.
-use Rattle.std.proofs.Common.{◌≡◌, ◌⊎◌, ℕ, Bool, true, false, List, [], ◌∷◌, ◌++◌, drop, map, Option, Some, None, refl, sym, ap, subst, ◌∙◌, inl, inr, append_assoc}
-use Rattle.std.proofs.lemmas.List.{append-nil, map-append}
+use Rattle.std.proofs.Common.{◌≡◌, ◌⊎◌, ℕ, Bool, true, false, List, [], ◌∷◌, ◌++◌, map, Option, Some, None, refl, sym, ap, subst, append_assoc}
 use Rattle.std.specs.Prelude.{◌==◌, length, option_to_list}
 use Rattle.osdp_frame.specs.Packet.{Packet}
 use Rattle.osdp_msg.specs.declared.command.Command.{Command}
@@ -8,20 +7,15 @@ use Rattle.osdp_msg.specs.declared.command.Command.TheVariants as command
 use Rattle.osdp_msg.specs.declared.event.Event.{Event}
 use Rattle.osdp_msg.specs.declared.reply.Reply.{Reply}
 use Rattle.osdp_controller.specs.Answers.{meaning_of as said_by}
-use Rattle.osdp_controller.specs.Exchanges.{submitted_command}
 use Rattle.osdp_controller.specs.Hearing as controller
 use Rattle.osdp_controller.specs.Hearing.{hears_in, ignores, is_from_reader}
-use Rattle.osdp_controller.specs.Machine as controllers
-use Rattle.osdp_controller.specs.Machine.{Machine, submit_refusal}
+use Rattle.osdp_controller.specs.Machine.{submit_refusal}
 use Rattle.osdp_controller.specs.Sessions.{seen}
 use Rattle.osdp_controller.specs.Ticking.{stays, ticks, ticks_in}
 use Rattle.osdp_controller.specs.declared.config.ControllerConfig.{ControllerConfig}
-use Rattle.osdp_controller.specs.declared.exchange.Exchange.{Exchange}
-use Rattle.osdp_controller.specs.declared.exchange.Exchange.TheVariants.{Opening, Polling, Asking}
 use Rattle.osdp_controller.specs.declared.fault.ControllerFault.{ControllerFault}
 use Rattle.osdp_controller.specs.declared.session.Session.{Session}
-use Rattle.osdp_controller.specs.declared.state.State.{State}
-use Rattle.osdp_controller.specs.declared.state.State.TheVariants.{Closed, Quiet, Idle, Waiting, Pausing}
+use Rattle.osdp_controller.specs.declared.state.State.TheVariants.{Closed}
 use Rattle.osdp_reader.specs.declared.config.ReaderConfig.{ReaderConfig}
 use Rattle.osdp_reader.specs.declared.handler.Answer.{Answer}
 use Rattle.osdp_reader.specs.declared.kind.Kind.{Kind}
@@ -34,9 +28,9 @@ use Rattle.osdp_link_laws.specs.Sessions.{removed_command}
 use Rattle.osdp_link_laws.proofs.Deliveries.{coming_to_controller, coming_to_reader}
 use Rattle.osdp_link_laws.proofs.Lines.{both}
 use Rattle.osdp_link_laws.proofs.Moves.{Premises, being_otherwise, not_poll, queueing, submitting, ticking}
-use Rattle.osdp_link_laws.proofs.Parts.{At, HoldsAtSomeStage, with_session}
+use Rattle.osdp_link_laws.proofs.Parts.{At, HoldsAtSomeStage}
 use Rattle.osdp_link_laws.proofs.Restarts.{restarting_reader}
-use Rattle.osdp_link_laws.proofs.Stages.{Asks, Behind, ControllerAt, Fresh, IsOpen, Level, Now, Rest, Restarted, Rests, Stage, Waits, given_up, given_up_at, number_after, pending}
+use Rattle.osdp_link_laws.proofs.Stages.{Now, Restarted, Stage}
 
 -- these commands wait in front of the others, and these were told unsettled
 abbrev pub as_if : {H : Type 0} → List Command → List Command → Link H → Link H

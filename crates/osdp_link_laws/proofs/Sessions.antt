@@ -1,5 +1,5 @@
 -- A session that has ended leaves what the next one begins with.
-use Rattle.std.proofs.Common.{◌≡◌, ◌≤◌, ◌⊎◌, ◌+◌, ℕ, List, [], ◌∷◌, ◌++◌, length, map, Option, Some, None, refl, sym, subst, ap, ◌∙◌, inl, inr, arith, append_assoc}
+use Rattle.std.proofs.Common.{◌≡◌, ◌≤◌, ◌⊎◌, ◌+◌, ℕ, List, [], ◌++◌, length, map, Option, Some, None, refl, sym, subst, ap, ◌∙◌, inl, inr, arith, append_assoc}
 use Rattle.std.proofs.lemmas.List.{append-nil, map-append}
 use Rattle.std.specs.Prelude.{option_to_list}
 use Rattle.osdp_msg.specs.declared.command.Command.{Command}
@@ -14,7 +14,7 @@ use Rattle.osdp_controller.specs.declared.state.State.TheVariants.{Closed, Quiet
 use Rattle.osdp_reader.specs.declared.config.ReaderConfig.{ReaderConfig}
 use Rattle.osdp_reader.specs.declared.handler.Answer.{Answer}
 use Rattle.osdp_reader.specs.State.{ReaderState}
-use Rattle.osdp_link_laws.specs.Headline.{IsBeginning, IsWithout, asked}
+use Rattle.osdp_link_laws.specs.Headline.{IsBeginning, asked}
 use Rattle.osdp_link_laws.specs.Link.{Account, Link}
 use Rattle.osdp_link_laws.specs.Sessions.{LastsOrLeaves, Leaves, LeavesCommands, LeavesEvents, settled_commands}
 use Rattle.osdp_link_laws.proofs.Once.{Goes}

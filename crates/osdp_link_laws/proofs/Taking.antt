@@ -26,7 +26,7 @@ use Rattle.osdp_link_laws.proofs.Acting.{kind_again, kind_away, kind_unknown, ki
 use Rattle.osdp_link_laws.proofs.Lines.{both}
 use Rattle.osdp_link_laws.proofs.Parts.{At, with_to_controller}
 use Rattle.osdp_link_laws.proofs.Since.{line_since}
-use Rattle.osdp_link_laws.proofs.Stages.{Accounts, Acted, After, Before, Behind, Fresh, HasActed, Knows, Level, Never, Now, Past, PastIs, ReaderAt, Rest, Restarted, Says, SaysOld, Stage, Start, ToControllerAt, answer, frame, given_up_at, number_after, owed_at, pending_at, shown, shown_at, unreported_at}
+use Rattle.osdp_link_laws.proofs.Stages.{Accounts, Acted, Before, HasActed, Knows, Never, Now, PastIs, ReaderAt, Restarted, Says, Stage, ToControllerAt, answer, frame, given_up_at, owed_at, pending_at, shown, shown_at, unreported_at}
 
 module _ (fixed : ControllerConfig) {H : Type 0} (answer_of : H → Command → Answer) (after : H → Command → H) (settings : ReaderConfig) (since : Restarted) where
   abbrev AtStage : Stage → Link H → Type 0

@@ -1,5 +1,5 @@
 -- A COMSET to a device's address is only ever told moved.
-use Rattle.std.proofs.Common.{◌≡◌, ◌<◌, ℕ, Bool, true, false, cond, eqb, leb, ltb, List, [], ◌∷◌, ◌++◌, All, Option, Some, None, refl, sym, subst, ap, ◌∙◌, inl, inr, arith, append_assoc}
+use Rattle.std.proofs.Common.{◌≡◌, ◌<◌, ℕ, Bool, true, false, cond, eqb, leb, ltb, List, [], ◌∷◌, ◌++◌, Option, Some, None, refl, sym, subst, ap, ◌∙◌, inl, inr, arith}
 use Rattle.std.proofs.lemmas.Bool.{leb-false, leb-true, lt-ltb}
 use Rattle.std.specs.Prelude.{◌&&◌, IfSome, option_to_list}
 use Rattle.osdp_frame.specs.Packet.{Packet}
@@ -21,7 +21,7 @@ use Rattle.osdp_reader.specs.declared.config.ReaderConfig.{ReaderConfig}
 use Rattle.osdp_reader.specs.declared.handler.Answer.{Answer}
 use Rattle.osdp_reader.specs.Replies.{not_processed}
 use Rattle.osdp_reader.specs.Table.{answer_to}
-use Rattle.osdp_link_laws.specs.Headline.{MovesFit, Begins, IsOnce, MoveFits}
+use Rattle.osdp_link_laws.specs.Headline.{MovesFit, IsOnce, MoveFits}
 use Rattle.osdp_link_laws.specs.Link.{Account, Delivered, Delivery, Link, Move, Queue as QueueEvent, Reopen, Repeated, RestartController, RestartReader, Retarget, SetBusy, SetHandler, Submit, Tick, ToController, ToReader, Withdraw, after_move, told}
 use Rattle.osdp_link_laws.specs.Link as link
 use Rattle.osdp_link_laws.specs.Names.{IsNoDevice, IsToldAsAsked, TellAsAsked}

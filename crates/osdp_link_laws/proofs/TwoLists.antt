@@ -13,7 +13,7 @@ use Rattle.osdp_controller.specs.Hearing as controller
 use Rattle.osdp_msg.specs.Events.{event_in}
 use Rattle.osdp_controller.specs.Machine as controllers
 use Rattle.osdp_controller.specs.Sessions.{seen}
-use Rattle.osdp_controller.specs.Ticking.{begins, gives_up, sends_frame, stays, ticks, ticks_in}
+use Rattle.osdp_controller.specs.Ticking.{begins, gives_up, sends_frame, stays, ticks_in}
 use Rattle.osdp_controller.specs.declared.config.ControllerConfig.{ControllerConfig}
 use Rattle.osdp_controller.specs.declared.exchange.Exchange.{Exchange}
 use Rattle.osdp_controller.specs.declared.exchange.Exchange.TheVariants.{Opening, Polling, Asking}

@@ -3,7 +3,6 @@ use Rattle.std.specs.Prelude.{◌≡◌, ℕ, ◌+◌, Bool, true, false, List, 
 use Rattle.osdp_msg.specs.declared.command.Command.{Command}
 use Rattle.osdp_controller.specs.States.{is_closed}
 use Rattle.osdp_controller.specs.declared.report.Report.{Report}
-use Rattle.osdp_controller.specs.declared.state.State.{State}
 use Rattle.osdp_controller_laws.specs.Commands.{tells_end}
 use Rattle.osdp_reader.specs.declared.handler.Answer.{Answer}
 use Rattle.osdp_link_laws.specs.Headline.{Begins}
