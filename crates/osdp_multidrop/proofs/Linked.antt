@@ -12,7 +12,7 @@ use Rattle.osdp_link_laws.specs.Headline.{MovesFit}
 use Rattle.osdp_link_laws.specs.Link.{Link, Move, run}
 use Rattle.osdp_link_laws.specs.Names.{IsCommandTo, MayMoves, MovesController, MovesReader, NameOneDevice, NamesOne, TellAsAsked}
 use Rattle.osdp_link_laws.specs.Peers.{ReadEachOther}
-use Rattle.osdp_link_laws.specs.Plain.{IsPlainMove}
+use Rattle.osdp_link_laws.specs.Ordinary.{IsOrdinary}
 use Rattle.osdp_link_laws.proofs.Lines.{both, each_map, each_of}
 use Rattle.osdp_multidrop.proofs.Naming.{IsLed, Keeps, keeps_all, led_on}
 use Rattle.osdp_link_laws.proofs.Stages.{Each}
@@ -68,16 +68,16 @@ module _ {H : Type 0} (answer_of : H → Command → Answer) (after : H → Comm
     pub keeps : Keeps s.reserved (view k s n)
 
   pub linked_after : OfALink → (k : ℕ) (s : Site H) (moves : List (Move H)) (n next : Net H) → IsLinked k s n
-      → MovesFit answer_of after moves (view k s n) → MayMoves answer_of after moves (view k s n) s.reserved → Each IsPlainMove moves
+      → MovesFit answer_of after moves (view k s n) → MayMoves answer_of after moves (view k s n) s.reserved → Each IsOrdinary moves
       → (m : IsMoved answer_of after k s moves n next) → IsLinked k m.site next
-  linked_after given k s moves n next h fits may plain m =
+  linked_after given k s moves n next h fits may ordinary m =
       record {
         first = h.first;
         moves = h.moves ++ moves;
-        led = subst (IsLed answer_of after h.first (h.moves ++ moves)) (sym m.moved) (led_on answer_of after h.first h.moves moves (view k s n) h.led fits);
+        led = subst (IsLed answer_of after h.first (h.moves ++ moves)) (sym m.moved) (led_on answer_of after h.first h.moves moves (view k s n) h.led fits ordinary);
         keeps = subst (λ l. Keeps m.site.reserved l) (sym m.moved)
             (subst (λ r. Keeps r (run answer_of after moves (view k s n))) (sym m.reserved)
-            (keeps_all answer_of after given.peers.asked given.peers.answered given.device given.told h.first h.moves moves s.reserved (view k s n) h.led plain fits may h.keeps));
+            (keeps_all answer_of after given.peers.asked given.peers.answered given.device given.told h.first h.moves moves s.reserved (view k s n) h.led ordinary fits may h.keeps));
       }
 
   -- ---- all of them

@@ -8,11 +8,12 @@ use Rattle.osdp_link_laws.specs.Link as link
 use Rattle.osdp_link_laws.specs.Link.{Link, Move}
 use Rattle.osdp_link_laws.specs.Names.{reserved_after, reserved_after_moves}
 use Rattle.osdp_link_laws.specs.OneHandler.{AreOnce, OneHandlerHoldsOnce}
-use Rattle.osdp_link_laws.specs.Plain.{IsPlainAccount, IsPlainMove}
+use Rattle.osdp_link_laws.specs.Ordinary.{AreUndisturbed, IsOrdinary}
 use Rattle.osdp_link_laws.specs.Refusals.{RefusesNoNumberWithoutRestart}
 use Rattle.osdp_link_laws.specs.Sessions.{AreInARow, CommandsHavePlaces, EventsHavePlaces, HaveLeft, LastOneLasts, LastsOrLeaves, StayInARow, all_queued, all_submitted, ended_commands}
 use Rattle.osdp_link_laws.proofs.Lines.{each_all, each_append, each_of}
-use Rattle.osdp_link_laws.proofs.Plain.{keep_device, keep_reader, plain_begins, plain_run}
+use Rattle.osdp_link_laws.proofs.Ordinary.{moves_so}
+use Rattle.osdp_link_laws.proofs.OrdinaryRuns.{begins_so, keep_device, keep_reader}
 use Rattle.osdp_link_laws.proofs.Stages.{Each}
 use Rattle.osdp_multidrop.specs.Line.{Net, NetMove, Site, after_net, run, site_at}
 use Rattle.osdp_multidrop.specs.Runs.{NetMovesFit, EachHoldsOnce, EachIsALink, EachRefusesNoNumber, EachStaysInARow, IsItsLink, moves_at, moves_of}
@@ -51,7 +52,7 @@ module _ {H : Type 0} (answer_of : H → Command → Answer) (after : H → Comm
     is_its_link [] n fits h k s is = record {
       moved = record { site = s; there = is; moved = refl; reserved = refl };
       fits = tt;
-      plain = each_all IsPlainMove [] tt;
+      ordinary = each_all IsOrdinary [] tt;
     }
     is_its_link (move ∷ moves) n fits h k s is =
         let next = after_net answer_of after move n in
@@ -67,8 +68,8 @@ module _ {H : Type 0} (answer_of : H → Command → Answer) (after : H → Comm
               (joined k s ms more n next (run answer_of after moves next) m rest.moved);
           fits = subst (λ l. MovesFit answer_of after l (view k s n)) (sym same)
               (moves_more answer_of after ms more (view k s n) fit.0 (subst (MovesFit answer_of after more) m.moved rest.fits));
-          plain = each_all IsPlainMove (moves_at answer_of after k (site_at k n.sites) move n ++ more)
-              (subst (Each IsPlainMove) (sym same) (each_append IsPlainMove ms more fit.2 (each_of IsPlainMove more rest.plain)));
+          ordinary = each_all IsOrdinary (moves_at answer_of after k (site_at k n.sites) move n ++ more)
+              (subst (Each IsOrdinary) (sym same) (each_append IsOrdinary ms more fit.2 (each_of IsOrdinary more rest.ordinary)));
         }
 
     pub each_is_a_link : EachIsALink answer_of after
@@ -89,13 +90,13 @@ module _ {H : Type 0} (answer_of : H → Command → Answer) (after : H → Comm
       let h = links n moves up fits k s is in
       subst (λ l. AreOnce answer_of after s.reader.config s.reader.handler (l.account ∷ l.earlier)) (sym (viewed n moves k s last h there))
       (once (view k s n) (moves_of answer_of after k moves n) (up.begins k s is).begins h.fits
-      (keep_device (moves_of answer_of after k moves n) (each_of IsPlainMove (moves_of answer_of after k moves n) h.plain)))
+      (keep_device (moves_of answer_of after k moves n) (each_of IsOrdinary (moves_of answer_of after k moves n) h.ordinary)))
 
   pub each_refuses_no_number : EachIsALink answer_of after → RefusesNoNumberWithoutRestart answer_of after → EachRefusesNoNumber answer_of after
   each_refuses_no_number links none n moves up fits k s is =
       let h = links n moves up fits k s is in
       none (view k s n) (moves_of answer_of after k moves n) (up.begins k s is).begins h.fits
-      (keep_reader (moves_of answer_of after k moves n) (each_of IsPlainMove (moves_of answer_of after k moves n) h.plain))
+      (keep_reader (moves_of answer_of after k moves n) (each_of IsOrdinary (moves_of answer_of after k moves n) h.ordinary))
 
   pub each_stays_in_a_row : EachIsALink answer_of after → StayInARow answer_of after → LastOneLasts answer_of after
       → CommandsHavePlaces answer_of after
@@ -106,10 +107,8 @@ module _ {H : Type 0} (answer_of : H → Command → Answer) (after : H → Comm
       let l = view k s n in
       let begins = (up.begins k s is).begins in
       let same = sym (viewed n moves k s last h there) in
-      let plain = plain_run answer_of after ms l (each_of IsPlainMove ms h.plain) (plain_begins answer_of after l begins) in
       record {
-        plain = subst (λ v. All IsPlainAccount (v.account ∷ v.earlier)) same
-            (each_all IsPlainAccount ((link.run answer_of after ms l).account ∷ (link.run answer_of after ms l).earlier) plain);
+        undisturbed = subst (λ v. AreUndisturbed (v.account ∷ v.earlier)) same (moves_so answer_of after ms l (each_of IsOrdinary ms h.ordinary) (begins_so l begins));
         row = subst (λ v. AreInARow v.account v.earlier) same (row l ms begins h.fits);
         lasts = subst (λ v. LastsOrLeaves v.controller.session.state v) same (lasts l ms begins h.fits);
         commands = subst (λ v. s.controller.waiting ++ all_submitted answer_of after ms l ≡ ended_commands v.earlier ++ v.account.issued) same (commands l ms begins h.fits);

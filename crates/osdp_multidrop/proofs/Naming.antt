@@ -24,7 +24,7 @@ use Rattle.osdp_link_laws.specs.Headline.{Begins, MovesFit, MoveFits, MaySubmit,
 use Rattle.osdp_link_laws.specs.Link as link
 use Rattle.osdp_link_laws.specs.Link.{Delivered, Delivery, Link, Lost, Move, Queue as QueueEvent, Reopen, Repeated, RestartController, RestartReader, Retarget, SetBusy, SetHandler, Submit, Tick, ToController, ToReader, Withdraw, after_move, run}
 use Rattle.osdp_link_laws.specs.Names.{BeginsTogether, IsCommandTo, IsName, IsReplyFrom, IsToldAsAsked, MayAsk, MayMove, MayMoves, MovesController, MovesReader, NameOneDevice, NamesOne, TellAsAsked, accepted_for, asked_for, freed_by, reserved_after, reserved_after_moves}
-use Rattle.osdp_link_laws.specs.Plain.{IsPlainMove}
+use Rattle.osdp_link_laws.specs.Ordinary.{IsOrdinary}
 use Rattle.osdp_link_laws.specs.Peers.{ReadsWhatIsAnswered, ReadsWhatIsAsked}
 use Rattle.osdp_link_laws.specs.Progress.{NoComset}
 use Rattle.osdp_link_laws.specs.Refusals.{reports, told_by, told_by_front}
@@ -355,29 +355,29 @@ module _ {H : Type 0} (answer_of : H → Command → Answer) (after : H → Comm
   -- ---- a move, and a list of them
 
   pub keeps_move : ReadsWhatIsAsked → ReadsWhatIsAnswered → (move : Move H) (r : Option ℕ) (l : Link H) (device : ℕ) → NamesOne device l.to_reader l.to_controller
-      → IsPlainMove move → MoveFits answer_of after move l → ToldAsAsked (told_by move l) → MayMove move l r → Keeps r l → Keeps (reserved_after move l r) (after_move answer_of after move l)
-  keeps_move asked answered (Submit c) r l device one plain fits told may h = submitting (controllers.submit_refusal c l.controller) c r l may fits h
-  keeps_move asked answered (QueueEvent e) r l device one plain fits told may h =
+      → IsOrdinary move → MoveFits answer_of after move l → ToldAsAsked (told_by move l) → MayMove move l r → Keeps r l → Keeps (reserved_after move l r) (after_move answer_of after move l)
+  keeps_move asked answered (Submit c) r l device one ordinary fits told may h = submitting (controllers.submit_refusal c l.controller) c r l may fits h
+  keeps_move asked answered (QueueEvent e) r l device one ordinary fits told may h =
       queueing (length l.reader.queue.events == l.reader.queue.capacity) e r l h
-  keeps_move asked answered (SetBusy busy) r l device one plain fits told may h =
+  keeps_move asked answered (SetBusy busy) r l device one ordinary fits told may h =
       record { one = h.one; fits = h.fits; names = h.names }
-  keeps_move asked answered (Tick now) r l device one plain fits told may h =
+  keeps_move asked answered (Tick now) r l device one ordinary fits told may h =
       subst (λ k. Keeps k (after_move answer_of after (Tick now) l))
       (sym (tick_frees_none r l.controller.session.state (seen now l.controller.session) l.controller.waiting))
       (ticking asked now r l h)
-  keeps_move asked answered (ToReader how) r l device one plain fits told may h =
+  keeps_move asked answered (ToReader how) r l device one ordinary fits told may h =
       to_reader_keeps answered how l.to_reader r device l refl one.below (each_of (IsCommandTo device) l.to_reader one.commands)
       (each_of (IsReplyFrom device) l.to_controller one.replies) fits h
-  keeps_move asked answered (ToController how now) r l device one plain fits told may h =
+  keeps_move asked answered (ToController how now) r l device one ordinary fits told may h =
       to_controller_keeps how l.to_controller now r device l refl (each_of (IsCommandTo device) l.to_reader one.commands)
       (each_of (IsReplyFrom device) l.to_controller one.replies) told h
-  keeps_move asked answered (Reopen now) r l device one plain fits told may h =
+  keeps_move asked answered (Reopen now) r l device one ordinary fits told may h =
       reopening (controllers.begin_refusal l.controller) l.to_reader l.to_controller now r l refl h
-  keeps_move asked answered (SetHandler handler) r l device one plain fits told may h = absurd plain
-  keeps_move asked answered Withdraw r l device one plain fits told may h = absurd plain
-  keeps_move asked answered (Retarget address) r l device one plain fits told may h = absurd plain
-  keeps_move asked answered (RestartReader address handler room) r l device one plain fits told may h = absurd plain
-  keeps_move asked answered (RestartController config room) r l device one plain fits told may h = absurd plain
+  keeps_move asked answered (SetHandler handler) r l device one ordinary fits told may h = absurd ordinary
+  keeps_move asked answered Withdraw r l device one ordinary fits told may h = absurd ordinary
+  keeps_move asked answered (Retarget address) r l device one ordinary fits told may h = absurd ordinary
+  keeps_move asked answered (RestartReader address handler room) r l device one ordinary fits told may h = absurd ordinary
+  keeps_move asked answered (RestartController config room) r l device one ordinary fits told may h = absurd ordinary
 
   -- ---- one list of moves after another
 
@@ -405,29 +405,31 @@ module _ {H : Type 0} (answer_of : H → Command → Answer) (after : H → Comm
   pub record IsLed (first : Link H) (moves : List (Move H)) (l : Link H) : Type 0 where
     pub begins : Begins first
     pub fits : MovesFit answer_of after moves first
+    pub ordinary : Each IsOrdinary moves
     pub leads : l ≡ run answer_of after moves first
 
-  pub led_on : (first : Link H) (moves more : List (Move H)) (l : Link H) → IsLed first moves l → MovesFit answer_of after more l
+  pub led_on : (first : Link H) (moves more : List (Move H)) (l : Link H) → IsLed first moves l → MovesFit answer_of after more l → Each IsOrdinary more
       → IsLed first (moves ++ more) (run answer_of after more l)
-  led_on first moves more l led fits = record {
+  led_on first moves more l led fits ordinary = record {
     begins = led.begins;
     fits = moves_more moves more first led.fits (subst (MovesFit answer_of after more) led.leads fits);
+    ordinary = each_append IsOrdinary moves more led.ordinary ordinary;
     leads = ap (run answer_of after more) led.leads ∙ sym (run_more moves more first);
   }
 
   pub keeps_all : ReadsWhatIsAsked → ReadsWhatIsAnswered → NameOneDevice answer_of after → TellAsAsked answer_of after
-      → (first : Link H) (done moves : List (Move H)) (r : Option ℕ) (l : Link H) → IsLed first done l → Each IsPlainMove moves
+      → (first : Link H) (done moves : List (Move H)) (r : Option ℕ) (l : Link H) → IsLed first done l → Each IsOrdinary moves
       → MovesFit answer_of after moves l → MayMoves answer_of after moves l r → Keeps r l
       → Keeps (reserved_after_moves answer_of after moves l r) (run answer_of after moves l)
-  keeps_all asked answered names tells first done [] r l led plain fits may h = h
-  keeps_all asked answered names tells first done (move ∷ moves) r l led plain fits may h =
+  keeps_all asked answered names tells first done [] r l led ordinary fits may h = h
+  keeps_all asked answered names tells first done (move ∷ moves) r l led ordinary fits may h =
       let named : (device : ℕ) × NamesOne device l.to_reader l.to_controller =
       subst (λ k. (device : ℕ) × NamesOne device k.to_reader k.to_controller) (sym led.leads) (names first done led.begins led.fits) in
-      let next = led_on first done (move ∷ []) l led (fits.0, tt) in
+      let next = led_on first done (move ∷ []) l led (fits.0, tt) (ordinary.0, tt) in
       let told = subst (λ k. ToldAsAsked (told_by move k)) (sym led.leads) (told_last done move first
       (each_of IsToldAsAsked (reports answer_of after (done ++ move ∷ []) first) (tells first (done ++ move ∷ []) led.begins next.fits))) in
-      keeps_all asked answered names tells first (done ++ move ∷ []) moves (reserved_after move l r) (after_move answer_of after move l) next plain.1 fits.1 may.1
-      (keeps_move asked answered move r l named.0 named.1 plain.0 fits.0 told may.0 h)
+      keeps_all asked answered names tells first (done ++ move ∷ []) moves (reserved_after move l r) (after_move answer_of after move l) next ordinary.1 fits.1 may.1
+      (keeps_move asked answered move r l named.0 named.1 ordinary.0 fits.0 told may.0 h)
 
   -- both ends begin together
   waiting_fit : (cs : List Command) → Each MaySubmit cs → Each CommandFits cs

@@ -144,7 +144,7 @@ module _ {H : Type 0} (answer_of : H → Command → Answer) (after : H → Comm
         record {
           first = view k s n;
           moves = [];
-          led = record { begins = b.begins; fits = tt; leads = refl };
+          led = record { begins = b.begins; fits = tt; ordinary = tt; leads = refl };
           keeps = subst (λ r. Keeps r (view k s n)) (sym (up.reserved k s is)) (starts answer_of after (view k s n) b);
         };
     apart = record {

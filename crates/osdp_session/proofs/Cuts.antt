@@ -11,10 +11,9 @@ use Rattle.osdp_reader_laws.specs.Answering.{handler_after_commands}
 use Rattle.osdp_link_laws.specs.Headline.{IsBeginning, asked}
 use Rattle.osdp_link_laws.specs.Link as link
 use Rattle.osdp_link_laws.specs.OneHandler.{handler_after}
-use Rattle.osdp_link_laws.specs.Plain.{IsPlainAccount}
+use Rattle.osdp_link_laws.specs.Ordinary.{AreUndisturbed}
 use Rattle.osdp_link_laws.specs.Sessions.{ended_commands, ended_in, settled_commands}
-use Rattle.osdp_link_laws.proofs.Plain.{ended_plain}
-use Rattle.osdp_link_laws.proofs.Stages.{Each}
+use Rattle.osdp_link_laws.proofs.OrdinaryRuns.{ended_so}
 use Rattle.osdp_sim_laws.specs.Accounts.{all_in}
 use Rattle.osdp_session.specs.Sessions.{between}
 
@@ -40,15 +39,15 @@ pub shorter : {A : Type 0} (xs ys zs : List A) → IsBeginning (xs ++ ys) zs →
 shorter xs ys zs (rest, is) = (ys ++ rest, is ∙ append_assoc xs ys rest)
 
 -- as many were settled or told unsettled as were settled, and told unsettled
-pub told_length : (earlier : List link.Account) → Each IsPlainAccount earlier
+pub told_length : (earlier : List link.Account) → AreUndisturbed earlier
     → length (ended_commands earlier) ≡ length (all_in (λ t. t.settled) earlier) + length (all_in (λ t. t.unsettled) earlier)
-told_length [] plain = refl
-told_length (t ∷ earlier) plain =
+told_length [] so = refl
+told_length (t ∷ earlier) so =
     omega (
       arith,
-      told_length earlier plain.1,
+      told_length earlier so.1,
       length-append (ended_commands earlier) (ended_in t),
-      ap length (ended_plain t plain.0),
+      ap length (ended_so t so.0),
       length-append (settled_commands t) t.unsettled,
       length-map t.settled asked,
       length-append (all_in (λ u. u.settled) earlier) t.settled,

@@ -5,10 +5,10 @@ use Rattle.osdp_msg.specs.declared.command.Command.{Command}
 use Rattle.osdp_msg.specs.declared.event.Event.{Event}
 use Rattle.osdp_link_laws.specs.Headline.{IsBeginning, IsWithout}
 use Rattle.osdp_link_laws.specs.Link as link
-use Rattle.osdp_link_laws.specs.Plain.{IsPlainAccount}
+use Rattle.osdp_link_laws.specs.Ordinary.{AreUndisturbed, IsUndisturbed, LeavesUndisturbed}
 use Rattle.osdp_link_laws.specs.Sessions.{AreInARow, IsAmong, ended_commands, ended_in, settled_commands}
-use Rattle.osdp_link_laws.proofs.Plain.{LeavesPlainly, ended_plain, leaves_plainly}
-use Rattle.osdp_link_laws.proofs.Stages.{Each}
+use Rattle.osdp_link_laws.proofs.Ordinary.{undisturbed_leaves}
+use Rattle.osdp_link_laws.proofs.OrdinaryRuns.{ended_so}
 use Rattle.osdp_sim.specs.Account.{Account}
 use Rattle.osdp_sim_laws.specs.Accounts.{IsOf, all_in}
 use Rattle.osdp_session.specs.Taken.{AreTakenOnce}
@@ -56,16 +56,16 @@ record TookAllBut (earlier : List link.Account) : Type 0 where
   pub some : IsAmong out (all_in (λ t. t.unsettled) earlier)
   pub without : IsWithout out (ended_commands earlier) (all_in (λ t. t.taken) earlier)
 
-one_more : (t : link.Account) (waiting : List Command) (events : List Event) (earlier : List link.Account) → IsPlainAccount t → LeavesPlainly t waiting events
+one_more : (t : link.Account) (waiting : List Command) (events : List Event) (earlier : List link.Account) → IsUndisturbed t → LeavesUndisturbed t waiting events
     → TookAllBut earlier → TookAllBut (t ∷ earlier)
-one_more t waiting events earlier plain leaves took = by leaves.taken
+one_more t waiting events earlier so leaves took = by leaves.taken
   where
     by : (t.taken ≡ settled_commands t) ⊎ (t.taken ≡ settled_commands t ++ t.unsettled) → TookAllBut (t ∷ earlier)
     by (inl same) = record {
       out = took.out ++ t.unsettled;
       some = among_both took.out (all_in (λ u. u.unsettled) earlier) t.unsettled t.unsettled took.some (all_among t.unsettled);
       without = without_both took.out (ended_commands earlier) (all_in (λ u. u.taken) earlier) t.unsettled (ended_in t) t.taken took.without
-          (subst (λ all. IsWithout t.unsettled all t.taken) (sym (ended_plain t plain))
+          (subst (λ all. IsWithout t.unsettled all t.taken) (sym (ended_so t so))
           (subst (IsWithout t.unsettled (settled_commands t ++ t.unsettled)) (append-nil (settled_commands t) ∙ sym same)
           (without_both [] (settled_commands t) (settled_commands t) t.unsettled t.unsettled [] (none_out (settled_commands t)) (all_out t.unsettled))));
     }
@@ -75,19 +75,19 @@ one_more t waiting events earlier plain leaves took = by leaves.taken
           (among_both took.out (all_in (λ u. u.unsettled) earlier) [] t.unsettled took.some (none_among t.unsettled));
       without = subst (λ l. IsWithout l (ended_commands (t ∷ earlier)) (all_in (λ u. u.taken) (t ∷ earlier))) (append-nil took.out)
           (without_both took.out (ended_commands earlier) (all_in (λ u. u.taken) earlier) [] (ended_in t) t.taken took.without
-          (subst (IsWithout [] (ended_in t)) (ended_plain t plain ∙ sym more) (none_out (ended_in t))));
+          (subst (IsWithout [] (ended_in t)) (ended_so t so ∙ sym more) (none_out (ended_in t))));
     }
 
-took_all_but : (t : link.Account) (earlier : List link.Account) → Each IsPlainAccount earlier → AreInARow t earlier → TookAllBut earlier
-took_all_but t [] plain row = record { out = []; some = refl; without = (refl, refl) }
-took_all_but t (u ∷ earlier) plain ((waiting, events, leaves, more, waits), row) =
-    one_more u waiting events earlier plain.0 (leaves_plainly u waiting events plain.0 leaves) (took_all_but u earlier plain.1 row)
+took_all_but : (t : link.Account) (earlier : List link.Account) → AreUndisturbed earlier → AreInARow t earlier → TookAllBut earlier
+took_all_but t [] so row = record { out = []; some = refl; without = (refl, refl) }
+took_all_but t (u ∷ earlier) so ((waiting, events, leaves, more, waits), row) =
+    one_more u waiting events earlier so.0 (undisturbed_leaves.one u waiting events so.0 leaves) (took_all_but u earlier so.1 row)
 
 -- the last session has taken a beginning of its own
-pub are_taken_once : (a : Account) (t : link.Account) (earlier : List link.Account) → Each IsPlainAccount earlier → IsOf a t earlier → AreInARow t earlier
+pub are_taken_once : (a : Account) (t : link.Account) (earlier : List link.Account) → AreUndisturbed earlier → IsOf a t earlier → AreInARow t earlier
     → IsBeginning t.taken t.issued → AreTakenOnce a
-are_taken_once a t earlier plain lists row (rest, is) =
-    let before = took_all_but t earlier plain row in
+are_taken_once a t earlier so lists row (rest, is) =
+    let before = took_all_but t earlier so row in
     let taken = all_in (λ u. u.taken) earlier in
     record {
       left_out = before.out;

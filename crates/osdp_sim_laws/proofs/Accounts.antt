@@ -12,11 +12,11 @@ use Rattle.osdp_controller.specs.declared.report.Report.TheVariants as report
 use Rattle.osdp_reader.specs.declared.kind.Kind.{Kind}
 use Rattle.osdp_reader.specs.declared.kind.Kind.TheVariants as kind
 use Rattle.osdp_link_laws.specs.Link as link
-use Rattle.osdp_link_laws.specs.Plain.{IsPlainAccount}
+use Rattle.osdp_link_laws.specs.Ordinary.{IsUndisturbed}
 use Rattle.osdp_link_laws.specs.Refusals as refusals
 use Rattle.osdp_link_laws.specs.Sessions.{Leaves, ended_commands, ended_in}
 use Rattle.osdp_link_laws.proofs.Lines.{each_append}
-use Rattle.osdp_link_laws.proofs.Plain.{leaves_plainly}
+use Rattle.osdp_link_laws.proofs.Ordinary.{undisturbed_leaves}
 use Rattle.osdp_link_laws.proofs.Stages.{Each}
 use Rattle.osdp_sim.specs.Account.{Account, lengths_of, taken_by, taken_command, with_report, with_session, with_taken}
 use Rattle.osdp_sim.specs.declared.account.End.{End}
@@ -164,10 +164,10 @@ tells_queued event a t earlier h = record {
 
 -- a session begins with what the one before has left, which has ended
 pub tells_session : (a : Account) (t : link.Account) (waiting : List Command) (events : List Event) (earlier : List link.Account)
-    → Leaves t waiting events → IsPlainAccount t → length a.ends ≡ length a.sessions → IsOf a t earlier
+    → Leaves t waiting events → IsUndisturbed t → length a.ends ≡ length a.sessions → IsOf a t earlier
     → IsOf (with_session a) (link.new_account waiting events) (t ∷ earlier)
-tells_session a t waiting events earlier all plain ended h =
-    let leaves = leaves_plainly t waiting events plain all in
+tells_session a t waiting events earlier all so ended h =
+    let leaves = undisturbed_leaves.one t waiting events so all in
     let gone = h.queued.0 in
     let left = leaves.reported in
     record {

@@ -18,7 +18,8 @@ use Rattle.osdp_link_laws.specs.Progress.{SetsNoAddress}
 use Rattle.osdp_link_laws.specs.Addresses.{StayWhereTheyAre}
 use Rattle.osdp_link_laws.specs.Sessions.{HaveLeft, all_queued, all_submitted, ended_commands}
 use Rattle.osdp_link_laws.proofs.Lines.{each_all, each_append, each_front, each_of}
-use Rattle.osdp_link_laws.proofs.Plain.{plain_begins, plain_run, set_no_other}
+use Rattle.osdp_link_laws.proofs.Ordinary.{moves_so}
+use Rattle.osdp_link_laws.proofs.OrdinaryRuns.{begins_so, set_no_other}
 use Rattle.osdp_link_laws.proofs.Stages.{Each}
 use Rattle.osdp_link_laws.specs.Ends.{count}
 use Rattle.osdp_sim.specs.Account.{Account}
@@ -151,7 +152,7 @@ module _ {H : Type 0} (answer_of : H → Command → Answer) (after : H → Comm
         reported = ap length (tells.reported ∙ ap (λ e. all_in (λ t. t.reported) (later.account ∷ e)) none);
         issued = carried.issued ∙ given.commands l ms begun follows.moves ∙ ap (λ e. ended_commands e ++ later.account.issued) none;
         queued = ap length (carried.queued ∙ events.2 ∙ ap (λ e. e ++ later.account.queued) gone);
-        kept = (plain_run answer_of after ms l follows.plain (plain_begins answer_of after l begun)).0.kept;
+        kept = (moves_so answer_of after ms l follows.ordinary (begins_so l begun)).0.kept;
       }
 
   -- ---- steps, and more of them, as moves of the link
@@ -278,7 +279,7 @@ module _ {H : Type 0} (answer_of : H → Command → Answer) (after : H → Comm
       let device = is.settings.controller.config_in_range.address in
       let begun = begins config handler device in
       let kept = stays l ms begun first.moves (each_all SetsNoAddress (all_submitted answer_of after ms l) (subst (Each SetsNoAddress) first.carried.issued none_before))
-      (set_no_other l.reader.config.address l.controller.session.config.address ms first.plain) in
+      (set_no_other l.reader.config.address l.controller.session.config.address ms first.ordinary) in
       let middle = link.run answer_of after (moves_of steps 0) l in
       let at_most = steps_few answer_of after 0 steps 0 l (omega arith, omega arith) in
       let few : AtMost (length steps) middle = (omega (arith, at_most.0), omega (arith, at_most.1)) in

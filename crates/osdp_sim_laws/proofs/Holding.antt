@@ -15,11 +15,12 @@ use Rattle.osdp_reader.specs.declared.handler.Answer.{Answer}
 use Rattle.osdp_link_laws.specs.Headline.{Begins, IsBeginning}
 use Rattle.osdp_link_laws.specs.Link as link
 use Rattle.osdp_link_laws.specs.OneHandler.{AreOnce, Once, with_answers}
-use Rattle.osdp_link_laws.specs.Plain.{IsPlainAccount, IsPlainMove}
+use Rattle.osdp_link_laws.specs.Ordinary.{AreUndisturbed, IsUndisturbed}
 use Rattle.osdp_link_laws.specs.Refusals as refusals
 use Rattle.osdp_link_laws.specs.Sessions.{AreInARow, LastsOrLeaves, ended_commands, ended_in, settled_commands}
 use Rattle.osdp_link_laws.proofs.Lines.{each_all, each_append, each_of}
-use Rattle.osdp_link_laws.proofs.Plain.{ArePlain, ended_plain, keep_device, keep_reader, leaves_plainly, plain_begins, plain_run, taken_commands}
+use Rattle.osdp_link_laws.proofs.Ordinary.{moves_so, undisturbed_leaves}
+use Rattle.osdp_link_laws.proofs.OrdinaryRuns.{begins_so, ended_so, keep_device, keep_reader, taken_commands}
 use Rattle.osdp_link_laws.proofs.Stages.{Each}
 use Rattle.osdp_link_laws.specs.Ends.{count}
 use Rattle.osdp_sim.specs.Account.{Account, empty_account, lists_of, with_session}
@@ -73,7 +74,7 @@ module _ {H : Type 0} (answer_of : H → Command → Answer) (after : H → Comm
     tells = tells_nothing;
     ended = refl;
     leave = λ ms moves. given.last (first_link config handler) ms (begins config handler device) moves;
-    plain = plain_begins answer_of after (first_link config handler) (begins config handler device);
+    undisturbed = begins_so (first_link config handler) (begins config handler device);
   }
 
   pub schedule_is_moves : OneLink answer_of after → ScheduleIsMoves answer_of after
@@ -97,28 +98,28 @@ module _ {H : Type 0} (answer_of : H → Command → Answer) (after : H → Comm
   last_one (Pausing until o) a l lasts ended = inl (omega (arith, ended), lasts.0)
 
   -- so it told one unsettled at most, and the commands that it settled or told unsettled are a beginning of its own
-  pub one_unsettled : (a : Account) (t : link.Account) → IsPlainAccount t → LastsOrHasEnded a t → length t.unsettled ≤ 1
-  one_unsettled a t plain (inl (lasts, none)) = omega (arith, ap length none)
-  one_unsettled a t plain (inr (ended, (waiting, events, leaves))) = (leaves_plainly t waiting events plain leaves).unsettled
+  pub one_unsettled : (a : Account) (t : link.Account) → IsUndisturbed t → LastsOrHasEnded a t → length t.unsettled ≤ 1
+  one_unsettled a t so (inl (lasts, none)) = omega (arith, ap length none)
+  one_unsettled a t so (inr (ended, (waiting, events, leaves))) = (undisturbed_leaves.one t waiting events so leaves).unsettled
 
-  pub told_first : (config : ReaderConfig) (handler : H) (a : Account) (t : link.Account) → IsPlainAccount t → Once answer_of after config handler t → LastsOrHasEnded a t
+  pub told_first : (config : ReaderConfig) (handler : H) (a : Account) (t : link.Account) → IsUndisturbed t → Once answer_of after config handler t → LastsOrHasEnded a t
       → IsBeginning (ended_in t) t.issued
-  told_first config handler a t plain once (inr (ended, (waiting, events, leaves))) = (waiting, leaves.of_commands.commands)
-  told_first config handler a t plain once (inl (lasts, none)) =
+  told_first config handler a t so once (inr (ended, (waiting, events, leaves))) = (waiting, leaves.of_commands.commands)
+  told_first config handler a t so once (inl (lasts, none)) =
       let more = map (λ (p : Command × Reply). p.0) once.settled.0 in
       let rest = once.taken.0 in (
         more ++ rest,
         once.taken.1
             ∙ ap (λ cs. cs ++ rest) (sym (taken_commands answer_of after config handler t once.settled.0 (sym once.settled.1)))
             ∙ append_assoc (settled_commands t) more rest
-            ∙ ap (λ cs. cs ++ (more ++ rest)) (sym (ended_plain t plain ∙ ap (λ cs. settled_commands t ++ cs) none ∙ append-nil (settled_commands t))),
+            ∙ ap (λ cs. cs ++ (more ++ rest)) (sym (ended_so t so ∙ ap (λ cs. settled_commands t ++ cs) none ∙ append-nil (settled_commands t))),
       )
 
-  pub each_one : (t : link.Account) (earlier : List link.Account) → length t.unsettled ≤ 1 → Each IsPlainAccount earlier → AreInARow t earlier
+  pub each_one : (t : link.Account) (earlier : List link.Account) → length t.unsettled ≤ 1 → AreUndisturbed earlier → AreInARow t earlier
       → Each (λ u. length u.unsettled ≤ 1) (t ∷ earlier)
-  each_one t [] few plain row = (few, tt)
-  each_one t (u ∷ earlier) few plain ((waiting, events, leaves, commands, waits), row) =
-      (few, each_one u earlier (leaves_plainly u waiting events plain.0 leaves).unsettled plain.1 row)
+  each_one t [] few so row = (few, tt)
+  each_one t (u ∷ earlier) few so ((waiting, events, leaves, commands, waits), row) =
+      (few, each_one u earlier (undisturbed_leaves.one u waiting events so.0 leaves).unsettled so.1 row)
 
   abbrev pub in_a_row : OneLink answer_of after → (config : SimConfig) (handler : H) (steps : List SimStep) → IsRun answer_of after config handler steps
       → IsInARow answer_of after config.reader handler (run answer_of after steps (set_up config handler)).account
@@ -133,19 +134,19 @@ module _ {H : Type 0} (answer_of : H → Command → Answer) (after : H → Comm
       let a = s.account in
       let moves = follows.moves in
       let tells = follows.carried.tells in
-      let plain = plain_run answer_of after ms l follows.plain (plain_begins answer_of after l begun) in
-      let once = given.once l ms begun moves (keep_device ms follows.plain) in
+      let so = moves_so answer_of after ms l follows.ordinary (begins_so l begun) in
+      let once = given.once l ms begun moves (keep_device ms follows.ordinary) in
       let row = given.row l ms begun moves in
       let ended = subst (λ (state : State). length a.ends + 1 ≡ length a.sessions + count (is_closed state))
       (ap (λ (t : SimState H). t.controller.session.state) follows.carried.state)
       (run_ended answer_of after given.told steps (set_up config handler) is.well refl) in
       let last = last_one later.controller.session.state a later (given.last l ms begun moves) ended in
-      let first = told_first config.reader _ a later.account plain.0 once.0 last in
+      let first = told_first config.reader _ a later.account so.0 once.0 last in
       record {
         last = later.account;
         earlier = later.earlier;
         lists = tells;
-        plain = each_all IsPlainAccount (later.account ∷ later.earlier) plain;
+        undisturbed = so;
         once = once;
         row = row;
         told = (
@@ -154,10 +155,10 @@ module _ {H : Type 0} (answer_of : H → Command → Answer) (after : H → Comm
               ∙ sym (append_assoc (ended_commands later.earlier) (ended_in later.account) first.0),
         );
         unsettled = each_all (λ t. length t.unsettled ≤ 1) (later.account ∷ later.earlier)
-            (each_one later.account later.earlier (one_unsettled a later.account plain.0 last) plain.1 row);
+            (each_one later.account later.earlier (one_unsettled a later.account so.0 last) so.1 row);
         ends = last;
         causes = each_all IsNoRefusal a.ends
-            (follows.carried.causes (each_of refusals.IsNoRefusal (refusals.reports answer_of after ms l) (given.causes l ms begun moves (keep_reader ms follows.plain))) tt);
+            (follows.carried.causes (each_of refusals.IsNoRefusal (refusals.reports answer_of after ms l) (given.causes l ms begun moves (keep_reader ms follows.ordinary))) tt);
       }
 
   -- ---- one session

@@ -11,12 +11,12 @@ use Rattle.osdp_reader.specs.declared.handler.Answer.{Answer}
 use Rattle.osdp_link_laws.specs.Headline.{MovesFit}
 use Rattle.osdp_link_laws.specs.Link as link
 use Rattle.osdp_link_laws.specs.Link.{Link, after_move}
-use Rattle.osdp_link_laws.specs.Plain.{IsPlainMove}
+use Rattle.osdp_link_laws.specs.Ordinary.{AreUndisturbed, IsOrdinary}
 use Rattle.osdp_link_laws.specs.Refusals as refusals
 use Rattle.osdp_link_laws.specs.Refusals.{reports, told_by}
 use Rattle.osdp_link_laws.specs.Sessions.{LastsOrLeaves, all_queued, all_submitted, queued, submitted}
 use Rattle.osdp_link_laws.proofs.Lines.{each_append, each_front, each_rest}
-use Rattle.osdp_link_laws.proofs.Plain.{ArePlain, plain_run}
+use Rattle.osdp_link_laws.proofs.Ordinary.{moves_so}
 use Rattle.osdp_link_laws.proofs.Stages.{Each}
 use Rattle.osdp_link_laws.specs.Ends.{count}
 use Rattle.osdp_sim.specs.Account.{Account}
@@ -41,7 +41,7 @@ module _ {H : Type 0} (answer_of : H → Command → Answer) (after : H → Comm
   pub record Follows (s : SimState H) (ms : List (link.Move H)) (l : Link H) (clock : ℕ) (a : Account) : Type 0 where
     pub carried : IsCarried s (link.run answer_of after ms l) clock a (all_submitted answer_of after ms l) (all_queued answer_of after ms l) (reports answer_of after ms l)
     pub moves : MovesFit answer_of after ms l
-    pub plain : Each IsPlainMove ms
+    pub ordinary : Each IsOrdinary ms
 
   -- lists of moves, one after the other
   pub run_both : (ms ns : List (link.Move H)) (l : Link H) → link.run answer_of after (ms ++ ns) l ≡ link.run answer_of after ns (link.run answer_of after ms l)
@@ -68,7 +68,7 @@ module _ {H : Type 0} (answer_of : H → Command → Answer) (after : H → Comm
     pub tells : IsOf a l.account l.earlier
     pub ended : HaveEnded (in_bytes l clock a)
     pub leave : AllLeave l
-    pub plain : ArePlain l
+    pub undisturbed : AreUndisturbed (l.account ∷ l.earlier)
 
   -- .. and where it has come to
   pub goes_from : (s : SimState H) (ms : List (link.Move H)) (l : Link H) (clock later : ℕ) (a : Account) → GoesFrom l clock a → Follows s ms l later a
@@ -78,24 +78,24 @@ module _ {H : Type 0} (answer_of : H → Command → Answer) (after : H → Comm
     tells = follows.carried.tells;
     ended = subst HaveEnded follows.carried.state ended;
     leave = leave_after ms l follows.moves from.leave;
-    plain = plain_run answer_of after ms l follows.plain from.plain;
+    undisturbed = moves_so answer_of after ms l follows.ordinary from.undisturbed;
   }
 
   -- where the controller is closed its session has ended and leaves what the next one begins with
-  has_left : (state : State) (l : Link H) (a : Account) → controllers.refused_unless_closed state ≡ None → LastsOrLeaves state l → ArePlain l
+  has_left : (state : State) (l : Link H) (a : Account) → controllers.refused_unless_closed state ≡ None → LastsOrLeaves state l → AreUndisturbed (l.account ∷ l.earlier)
       → length a.ends + 1 ≡ length a.sessions + count (is_closed state) → HasLeft l a
-  has_left Closed l a may leaves plain ended = record { leaves = leaves; plain = plain.0; ended = omega (arith, ended) }
-  has_left (Quiet until) l a may leaves plain ended = absurd cc
-  has_left (Idle due) l a may leaves plain ended = absurd cc
-  has_left (Waiting until sends o) l a may leaves plain ended = absurd cc
-  has_left (Pausing until o) l a may leaves plain ended = absurd cc
+  has_left Closed l a may leaves so ended = record { leaves = leaves; undisturbed = so.0; ended = omega (arith, ended) }
+  has_left (Quiet until) l a may leaves so ended = absurd cc
+  has_left (Idle due) l a may leaves so ended = absurd cc
+  has_left (Waiting until sends o) l a may leaves so ended = absurd cc
+  has_left (Pausing until o) l a may leaves so ended = absurd cc
 
   -- a step with a reader that is there or isn't
   by_number : (there : Bool) (new : SimState H) (m : link.Move H) (l : Link H) (clock : ℕ) (a : Account) → ArePackets l → IsOf a l.account l.earlier
       → (there ≡ true → Follows new (m ∷ []) l clock a)
       → Follows (if there then new else in_bytes l clock a) (if there then m ∷ [] else []) l clock a
   by_number true new m l clock a packets tells does = does refl
-  by_number false new m l clock a packets tells does = record { carried = nothing l clock a packets tells; moves = tt; plain = tt }
+  by_number false new m l clock a packets tells does = record { carried = nothing l clock a packets tells; moves = tt; ordinary = tt }
 
   -- what is refused nowhere isn't refused where the reader is there
   there_well : (there : Bool) (refused : Bool) (cause : Cause) → (if there && refused then Some cause else None) ≡ None → there ≡ true
@@ -111,45 +111,45 @@ module _ {H : Type 0} (answer_of : H → Command → Answer) (after : H → Comm
       by_number (number == 1) _ (link.Submit command) l clock a from.packets from.tells (λ there. record {
         carried = issuing (controllers.submit_refusal command l.controller) command l clock a from.packets from.tells;
         moves = (fits, tt);
-        plain = (tt, tt);
+        ordinary = (tt, tt);
       })
   step_follows reads (Queue number event) l clock a from well fits =
       by_number (number == 1) _ (link.Queue event) l clock a from.packets from.tells (λ there. record {
         carried = queueing (length l.reader.queue.events == l.reader.queue.capacity) event l clock a from.packets from.tells;
         moves = (tt, tt);
-        plain = (tt, tt);
+        ordinary = (tt, tt);
       })
   step_follows reads (Busy number busy) l clock a from well fits =
       by_number (number == 1) _ (link.SetBusy busy) l clock a from.packets from.tells (λ there. record {
         carried = setting_busy busy l clock a from.packets from.tells;
         moves = (tt, tt);
-        plain = (tt, tt);
+        ordinary = (tt, tt);
       })
   step_follows reads (Wait wait) l clock a from well fits =
       let now = step_clock (Wait wait) clock in
       record {
         carried = ticking (ticks now l.controller.session l.controller.waiting) now l clock a from.packets from.tells fits;
         moves = (tt, tt);
-        plain = (tt, tt);
+        ordinary = (tt, tt);
       }
   step_follows reads (ToReader move) l clock a from well fits = record {
     carried = to_reader answer_of after reads l.to_reader move l clock a refl well fits from.packets from.tells;
     moves = (says_what_fits answer_of after reads l.to_reader move l from.packets.to_reader fits, tt);
-    plain = (tt, tt);
+    ordinary = (tt, tt);
   }
   step_follows reads (ToController move) l clock a from well fits = record {
     carried = to_controller reads l.to_controller move l clock a refl well from.packets from.tells;
     moves = (tt, tt);
-    plain = (tt, tt);
+    ordinary = (tt, tt);
   }
   step_follows reads (Reopen number) l clock a from well fits =
       by_number (number == 1) _ (link.Reopen clock) l clock a from.packets from.tells (λ there.
       let quiet = is_quiet l.to_reader l.to_controller l.controller.session.state (there_well (number == 1) (not (steps.is_quiet (in_bytes l clock a))) NotQuiet well there) in
       record {
         carried = reopening l.to_reader l.to_controller (controllers.begin_refusal l.controller) l clock a quiet.0 quiet.1 quiet.2
-            (has_left l.controller.session.state l a quiet.2 (from.leave [] tt) from.plain from.ended) from.packets from.tells;
+            (has_left l.controller.session.state l a quiet.2 (from.leave [] tt) from.undisturbed from.ended) from.packets from.tells;
         moves = (tt, tt);
-        plain = (tt, tt);
+        ordinary = (tt, tt);
       })
 
   -- ---- more moves
@@ -207,14 +207,14 @@ module _ {H : Type 0} (answer_of : H → Command → Answer) (after : H → Comm
                   (first.carried.causes (each_front refusals.IsNoRefusal (reports answer_of after ms l) (reports answer_of after ns afterwards) all) well);
             });
         moves = moves_both ms ns l first.moves next.moves;
-        plain = each_append IsPlainMove ms ns first.plain next.plain;
+        ordinary = each_append IsOrdinary ms ns first.ordinary next.ordinary;
       }
 
   -- each schedule
   pub schedule_follows : ReadsPackets → EndsAreTold → (steps : List SimStep) (l : Link H) (clock : ℕ) (a : Account) → GoesFrom l clock a
       → is_well answer_of after steps (in_bytes l clock a) ≡ true → FitAlong answer_of after steps (in_bytes l clock a)
       → Follows (run answer_of after steps (in_bytes l clock a)) (moves_of steps clock) l (clock_after steps clock) a
-  schedule_follows reads told [] l clock a from well fits = record { carried = nothing l clock a from.packets from.tells; moves = tt; plain = tt }
+  schedule_follows reads told [] l clock a from well fits = record { carried = nothing l clock a from.packets from.tells; moves = tt; ordinary = tt }
   schedule_follows reads told (step ∷ steps) l clock a from well fits =
       let s = in_bytes l clock a in
       let both = first_well (fault_of step s) _ well in

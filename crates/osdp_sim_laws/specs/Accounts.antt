@@ -8,7 +8,7 @@ use Rattle.osdp_reader.specs.declared.handler.Answer.{Answer}
 use Rattle.osdp_link_laws.specs.Headline.{IsBeginning}
 use Rattle.osdp_link_laws.specs.Link as link
 use Rattle.osdp_link_laws.specs.OneHandler.{AreOnce, with_answers}
-use Rattle.osdp_link_laws.specs.Plain.{IsPlainAccount}
+use Rattle.osdp_link_laws.specs.Ordinary.{AreUndisturbed}
 use Rattle.osdp_link_laws.specs.Refusals.{IsOtherCause}
 use Rattle.osdp_link_laws.specs.Sessions.{AreInARow, Leaves, ended_commands}
 use Rattle.osdp_sim.specs.Account.{Account, lists_of}
@@ -120,7 +120,7 @@ module _ {H : Type 0} (answer_of : H → Command → Answer) (after : H → Comm
     pub last : link.Account
     pub earlier : List link.Account
     pub lists : IsOf a last earlier
-    pub plain : All IsPlainAccount (last ∷ earlier)
+    pub undisturbed : AreUndisturbed (last ∷ earlier)
     pub once : AreOnce answer_of after config handler (last ∷ earlier)
     pub row : AreInARow last earlier
     pub told : IsBeginning (ended_commands (last ∷ earlier)) a.issued
