@@ -34,6 +34,11 @@ runs_each P Q R f g [] runs = tt
 runs_each P Q R f g (p ∷ ps) (inl first) = (f p first.0, runs_each P Q R f g ps first.1)
 runs_each P Q R f g (p ∷ ps) (inr last) = (g p last.0, each_map Q R g ps last.1)
 
+pub runs_map : (P P′ Q Q′ : Packet → Type 0) → ((p : Packet) → P p → P′ p) → ((p : Packet) → Q p → Q′ p) → (ps : List Packet) → Runs P Q ps → Runs P′ Q′ ps
+runs_map P P′ Q Q′ f g [] runs = tt
+runs_map P P′ Q Q′ f g (p ∷ ps) (inl first) = inl (f p first.0, runs_map P P′ Q Q′ f g ps first.1)
+runs_map P P′ Q Q′ f g (p ∷ ps) (inr last) = inr (g p last.0, each_map Q Q′ g ps last.1)
+
 pub runs_append : (P Q : Packet → Type 0) (ps qs : List Packet) → Runs P Q ps → Each Q qs → Runs P Q (ps ++ qs)
 runs_append P Q [] [] runs all = tt
 runs_append P Q [] (q ∷ qs) runs all = inr (all.0, all.1)

@@ -9,4 +9,5 @@ pub mod Addresses
 pub mod TwoLists
 pub mod Names
 pub mod Ends
+pub mod Ordinary
 pub mod Clean

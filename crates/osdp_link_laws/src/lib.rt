@@ -5,6 +5,7 @@
 ghost use Rattle.osdp_link_laws.specs.Peers.{ReadEachOther, ReadsWhatIsAsked, ReadsWhatIsAnswered, TakesPlainReplies, TellsItsEvent};
 ghost use Rattle.osdp_link_laws.specs.Headline.{HoldsOnce};
 ghost use Rattle.osdp_link_laws.specs.OneHandler.{GivesItsAnswers, OneHandlerHoldsOnce};
+ghost use Rattle.osdp_link_laws.specs.Ordinary.{OrdinaryIsUndisturbed, UndisturbedLeaves};
 ghost use Rattle.osdp_link_laws.specs.Addresses.{StayWhereTheyAre};
 ghost use Rattle.osdp_link_laws.specs.Progress.{ComesThrough, ComesThroughInTime};
 ghost use Rattle.osdp_link_laws.specs.Clean.{GoesInTurn};
@@ -66,6 +67,14 @@ pub fn answers_of_one_handler<H: Handler>()
 {
     read_each_other::<H>();
 }
+
+/// Where neither end restarts, no command is withdrawn and no address is set, no command is forgotten or removed and no event is thrown away.
+/// So each session leaves its commands but those settled and the one told unsettled, and its events but those reported, or all but the last of
+/// these.
+pub fn ordinary_runs_are_undisturbed<H: Handler>()
+    ensures accounts { OrdinaryIsUndisturbed H.answer_of H.after }
+    ensures leaves { UndisturbedLeaves }
+{}
 
 /// Over sessions in a row, each begun again on a quiet line: no command that was settled, told unsettled, forgotten, withdrawn or thrown away
 /// in one is one of a later session, so none is taken twice. No event is skipped but those that a restart of the reader threw away, and each
