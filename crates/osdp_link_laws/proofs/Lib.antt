@@ -23,6 +23,7 @@ pub mod Sessions
 pub mod Taken
 pub mod InARow
 pub mod Ordinary
+pub mod OrdinaryRuns
 pub mod Kept
 pub mod OneHandler
 pub mod Reports
@@ -37,3 +38,4 @@ pub mod Exchanges
 pub mod Rounds
 pub mod Through
 pub mod InTime
+pub mod Resting

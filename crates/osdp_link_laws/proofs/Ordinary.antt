@@ -95,7 +95,7 @@ module _ {H : Type 0} (answer_of : H → Command → Answer) (after : H → Comm
   move_so (RestartReader address handler room) l ordinary so = absurd ordinary
   move_so (RestartController config room) l ordinary so = absurd ordinary
 
-  moves_so : (moves : List (Move H)) (l : Link H) → Each IsOrdinary moves → AllSo l → AllSo (run answer_of after moves l)
+  pub moves_so : (moves : List (Move H)) (l : Link H) → Each IsOrdinary moves → AllSo l → AllSo (run answer_of after moves l)
   moves_so [] l ordinary so = so
   moves_so (move ∷ moves) l ordinary so = moves_so moves (after_move answer_of after move l) ordinary.1 (move_so move l ordinary.0 so)
 

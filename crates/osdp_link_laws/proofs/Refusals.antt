@@ -22,7 +22,7 @@ use Rattle.osdp_link_laws.proofs.Stages.{Before, Each, HasRestarted, MayRefuse, 
 abbrev NoRefusal : Option Report → Type 0
 NoRefusal r = IfSome r IsNoRefusal
 
-refuses_none : (r : Option Report) → MayBring r → NoRefusal r
+pub refuses_none : (r : Option Report) → MayBring r → NoRefusal r
 refuses_none (Some (report.Lost cause c)) busy = subst IsOtherCause (sym busy) tt
 refuses_none r may = tt
 
