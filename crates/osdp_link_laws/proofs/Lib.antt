@@ -39,3 +39,5 @@ pub mod Rounds
 pub mod Through
 pub mod InTime
 pub mod Resting
+pub mod OneDevice
+pub mod ToldMoved
