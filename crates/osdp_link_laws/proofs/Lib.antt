@@ -41,3 +41,5 @@ pub mod InTime
 pub mod Resting
 pub mod OneDevice
 pub mod ToldMoved
+pub mod Clean
+pub mod Addresses
