@@ -27,7 +27,8 @@ use Rattle.osdp_controller.specs.declared.report.Report.TheVariants as report
 use Rattle.osdp_controller.specs.declared.session.Session.{Session}
 use Rattle.osdp_controller.specs.declared.state.State.{State}
 use Rattle.osdp_controller.specs.declared.state.State.TheVariants.{Closed, Quiet, Idle, Waiting, Pausing}
-use Rattle.osdp_link_laws.specs.Names.{IsNoDevice, IsToldAsAsked, freed_by, freed_for}
+use Rattle.osdp_link_laws.specs.Names.{IsNoDevice, IsToldAsAsked}
+use Rattle.osdp_multidrop.specs.Names.{freed_by, freed_for}
 use Rattle.osdp_link_laws.proofs.Lines.{both, each_rest}
 use Rattle.osdp_multidrop.proofs.Reserved.{One, asked_in, front_is, one_of_none, one_rest}
 use Rattle.osdp_link_laws.proofs.Stages.{Each, pending}

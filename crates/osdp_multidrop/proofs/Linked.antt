@@ -10,7 +10,8 @@ use Rattle.osdp_controller.specs.declared.state.State.TheVariants.{Closed, Quiet
 use Rattle.osdp_reader.specs.declared.handler.Answer.{Answer}
 use Rattle.osdp_link_laws.specs.Headline.{MovesFit}
 use Rattle.osdp_link_laws.specs.Link.{Link, Move, run}
-use Rattle.osdp_link_laws.specs.Names.{IsCommandTo, MayMoves, MovesController, MovesReader, NameOneDevice, NamesOne, TellAsAsked}
+use Rattle.osdp_link_laws.specs.Names.{IsCommandTo, NameOneDevice, NamesOne, TellAsAsked}
+use Rattle.osdp_multidrop.specs.Names.{MayMoves, MovesController, MovesReader}
 use Rattle.osdp_link_laws.specs.Peers.{ReadEachOther}
 use Rattle.osdp_link_laws.specs.Ordinary.{IsOrdinary}
 use Rattle.osdp_link_laws.proofs.Lines.{both, each_map, each_of}

@@ -6,7 +6,7 @@ use Rattle.osdp_reader.specs.declared.handler.Answer.{Answer}
 use Rattle.osdp_link_laws.specs.Headline.{MovesFit}
 use Rattle.osdp_link_laws.specs.Link as link
 use Rattle.osdp_link_laws.specs.Link.{Link, Move}
-use Rattle.osdp_link_laws.specs.Names.{reserved_after, reserved_after_moves}
+use Rattle.osdp_multidrop.specs.Names.{reserved_after, reserved_after_moves}
 use Rattle.osdp_link_laws.specs.OneHandler.{AreOnce, OneHandlerHoldsOnce}
 use Rattle.osdp_link_laws.specs.Ordinary.{AreUndisturbed, IsOrdinary}
 use Rattle.osdp_link_laws.specs.Refusals.{RefusesNoNumberWithoutRestart}

@@ -13,7 +13,7 @@ use Rattle.osdp_reader.specs.State as readers
 use Rattle.osdp_reader.specs.declared.handler.Answer.{Answer}
 use Rattle.osdp_link_laws.specs.Link as link
 use Rattle.osdp_link_laws.specs.Link.{Delivered, Delivery, Lost, Move, Repeated}
-use Rattle.osdp_link_laws.specs.Names.{accepted_for, freed_by, reserved_after, reserved_after_moves}
+use Rattle.osdp_multidrop.specs.Names.{accepted_for, freed_by, reserved_after, reserved_after_moves}
 use Rattle.osdp_link_laws.specs.Refusals.{told_by_front}
 use Rattle.osdp_link_laws.proofs.Lines.{each_of}
 use Rattle.osdp_link_laws.proofs.Numbers.{is_false, is_true}

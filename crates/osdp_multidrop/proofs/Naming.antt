@@ -23,7 +23,8 @@ use Rattle.osdp_reader.specs.declared.handler.Answer.{Answer}
 use Rattle.osdp_link_laws.specs.Headline.{Begins, MovesFit, MoveFits, MaySubmit, SaysWhatFitsIf}
 use Rattle.osdp_link_laws.specs.Link as link
 use Rattle.osdp_link_laws.specs.Link.{Delivered, Delivery, Link, Lost, Move, Queue as QueueEvent, Reopen, Repeated, RestartController, RestartReader, Retarget, SetBusy, SetHandler, Submit, Tick, ToController, ToReader, Withdraw, after_move, run}
-use Rattle.osdp_link_laws.specs.Names.{BeginsTogether, IsCommandTo, IsName, IsReplyFrom, IsToldAsAsked, MayAsk, MayMove, MayMoves, MovesController, MovesReader, NameOneDevice, NamesOne, TellAsAsked, accepted_for, asked_for, freed_by, reserved_after, reserved_after_moves}
+use Rattle.osdp_link_laws.specs.Names.{IsCommandTo, IsReplyFrom, IsToldAsAsked, NameOneDevice, NamesOne, TellAsAsked}
+use Rattle.osdp_multidrop.specs.Names.{BeginsTogether, IsName, MayAsk, MayMove, MayMoves, MovesController, MovesReader, accepted_for, asked_for, freed_by, reserved_after, reserved_after_moves}
 use Rattle.osdp_link_laws.specs.Ordinary.{IsOrdinary}
 use Rattle.osdp_link_laws.specs.Peers.{ReadsWhatIsAnswered, ReadsWhatIsAsked}
 use Rattle.osdp_link_laws.specs.Progress.{NoComset}
@@ -355,7 +356,7 @@ module _ {H : Type 0} (answer_of : H → Command → Answer) (after : H → Comm
   -- ---- a move, and a list of them
 
   pub keeps_move : ReadsWhatIsAsked → ReadsWhatIsAnswered → (move : Move H) (r : Option ℕ) (l : Link H) (device : ℕ) → NamesOne device l.to_reader l.to_controller
-      → IsOrdinary move → MoveFits answer_of after move l → ToldAsAsked (told_by move l) → MayMove move l r → Keeps r l → Keeps (reserved_after move l r) (after_move answer_of after move l)
+      → IsOrdinary move → MoveFits answer_of after move l → ToldAsAsked (told_by move l) → MayMove move r → Keeps r l → Keeps (reserved_after move l r) (after_move answer_of after move l)
   keeps_move asked answered (Submit c) r l device one ordinary fits told may h = submitting (controllers.submit_refusal c l.controller) c r l may fits h
   keeps_move asked answered (QueueEvent e) r l device one ordinary fits told may h =
       queueing (length l.reader.queue.events == l.reader.queue.capacity) e r l h

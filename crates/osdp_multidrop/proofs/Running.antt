@@ -7,7 +7,7 @@ use Rattle.osdp_reader.specs.State as readers
 use Rattle.osdp_reader.specs.declared.handler.Answer.{Answer}
 use Rattle.osdp_link_laws.specs.Headline.{SaysWhatFitsIf}
 use Rattle.osdp_link_laws.specs.Link.{Delivered, Delivery, Lost, Repeated}
-use Rattle.osdp_link_laws.specs.Names.{IsName, MovesController, MovesReader}
+use Rattle.osdp_multidrop.specs.Names.{IsName, MovesController, MovesReader}
 use Rattle.osdp_link_laws.proofs.Lines.{each_all}
 use Rattle.osdp_multidrop.proofs.Naming.{Keeps, starts}
 use Rattle.osdp_link_laws.proofs.Stages.{Each}

@@ -7,7 +7,7 @@ use Rattle.osdp_msg.specs.declared.event.Event.{Event}
 use Rattle.osdp_reader.specs.declared.handler.Answer.{Answer}
 use Rattle.osdp_link_laws.specs.Headline.{MovesFit, SaysWhatFitsIf}
 use Rattle.osdp_link_laws.specs.Link.{Move}
-use Rattle.osdp_link_laws.specs.Names.{BeginsTogether}
+use Rattle.osdp_multidrop.specs.Names.{BeginsTogether}
 use Rattle.osdp_link_laws.specs.OneHandler.{AreOnce}
 use Rattle.osdp_link_laws.specs.Ordinary.{AreUndisturbed, IsOrdinary}
 use Rattle.osdp_link_laws.specs.Refusals.{IsNoRefusal, reports}

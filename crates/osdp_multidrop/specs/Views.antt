@@ -6,7 +6,7 @@ use Rattle.osdp_controller.specs.Hearing.{comset_of}
 use Rattle.osdp_reader.specs.declared.handler.Answer.{Answer}
 use Rattle.osdp_link_laws.specs.Link as link
 use Rattle.osdp_link_laws.specs.Link.{Delivered, Delivery, Link, Lost, Move, Repeated}
-use Rattle.osdp_link_laws.specs.Names.{reserved_after_moves}
+use Rattle.osdp_multidrop.specs.Names.{reserved_after_moves}
 use Rattle.osdp_multidrop.specs.Line.{Net, NetMove, Site, Submit, Queue, SetBusy, Tick, ToReaders, ToControllers, Reopen, address_of, after_net, is_comset_refused, link_of, site_at}
 
 -- of what is on the line, what this site has sent
