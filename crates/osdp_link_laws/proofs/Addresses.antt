@@ -33,14 +33,14 @@ use Rattle.osdp_reader.specs.declared.kind.Kind.{Kind}
 use Rattle.osdp_reader.specs.declared.kind.Kind.TheVariants as kind
 use Rattle.osdp_link_laws.specs.Headline.{MovesFit, MoveFits, MaySubmit}
 use Rattle.osdp_link_laws.specs.Link as link
-use Rattle.osdp_link_laws.specs.Link.{Delivered, Delivery, Link, Lost, Move, Queue as QueueEvent, Reopen, Repeated, RestartController, RestartReader, Retarget, SetBusy, SetHandler, Submit, Tick, ToController, ToReader, Withdraw, after_move, run}
+use Rattle.osdp_link_laws.specs.Link.{Delivered, Delivery, Link, Lost, Move, Queue as QueueEvent, Reopen, Repeated, RestartController, RestartReader, Retarget, SetBusy, SetHandler, Submit, Tick, ToController, ToReader, Withdraw, after_move, run, LoseToReader, LoseToController, lost_at}
 use Rattle.osdp_link_laws.specs.Peers.{ReadsWhatIsAsked}
 use Rattle.osdp_link_laws.specs.Progress.{SetsNoAddress}
 use Rattle.osdp_link_laws.specs.Addresses.{SetsNoOther, StayWhereTheyAre}
 use Rattle.osdp_link_laws.specs.Sessions as sessions
 use Rattle.osdp_link_laws.specs.Sessions.{all_submitted, submitted}
 use Rattle.osdp_link_laws.proofs.Answering.{no_address}
-use Rattle.osdp_link_laws.proofs.Lines.{both, each_append, each_front, each_of, each_rest}
+use Rattle.osdp_link_laws.proofs.Lines.{both, each_append, each_front, each_of, each_rest, each_lost}
 use Rattle.osdp_link_laws.proofs.Settling.{MovesNone, stays_put}
 use Rattle.osdp_link_laws.proofs.Stages.{Each}
 
@@ -291,6 +291,9 @@ module _ {H : Type 0} (answer_of : H → Command → Answer) (after : H → Comm
     move_keeps (ToReader how) l fits none same h = to_reader_keeps how l.to_reader l refl h
     move_keeps (ToController how now) l fits none same h = to_controller_keeps how now l.to_controller l h
     move_keeps (Reopen now) l fits none same h = begins_keeps (controllers.begin_refusal l.controller) l.to_reader l.to_controller now l h
+    move_keeps (LoseToReader place) l fits none same h =
+        with_line l (lost_at place l.to_reader) (each_lost Carries place l.to_reader h.line) h
+    move_keeps (LoseToController place) l fits none same h = record { waiting = h.waiting; controller = h.controller; line = h.line; reader = h.reader }
     move_keeps (SetHandler handler) l fits none same h = record { waiting = h.waiting; controller = h.controller; line = h.line; reader = h.reader }
     move_keeps Withdraw l fits none same h = record {
       waiting = kept_well l.controller.session.state l.controller.waiting h.waiting;

@@ -24,7 +24,7 @@ use Rattle.osdp_reader.specs.declared.handler.Answer.{Answer}
 use Rattle.osdp_link_laws.specs.Clean.{AreSpaced, GoesInTurn, IsInTurn, IsOrder}
 use Rattle.osdp_link_laws.specs.Headline.{MovesFit, Begins, MaySubmit}
 use Rattle.osdp_link_laws.specs.Link as link
-use Rattle.osdp_link_laws.specs.Link.{Account, Link, Move, Queue as QueueEvent, Reopen, RestartController, RestartReader, Retarget, SetBusy, SetHandler, Submit, Tick, ToController, ToReader, Withdraw, after_move, new_account, run}
+use Rattle.osdp_link_laws.specs.Link.{Account, Link, Move, Queue as QueueEvent, Reopen, RestartController, RestartReader, Retarget, SetBusy, SetHandler, Submit, Tick, ToController, ToReader, Withdraw, after_move, new_account, run, LoseToReader, LoseToController}
 use Rattle.osdp_link_laws.specs.OneHandler.{KeepHandler, KeepsHandler, handler_after, with_answers}
 use Rattle.osdp_link_laws.specs.Peers.{ReadEachOther}
 use Rattle.osdp_link_laws.specs.Progress.{SetsNoAddress, round, rounds}
@@ -264,6 +264,8 @@ module _ (fixed : ControllerConfig) {H : Type 0} (answer_of : H → Command → 
   orders_ready s (ToReader how ∷ orders) l all fits h = absurd all.0
   orders_ready s (ToController how now ∷ orders) l all fits h = absurd all.0
   orders_ready s (Reopen now ∷ orders) l all fits h = absurd all.0
+  orders_ready s ((LoseToReader place) ∷ orders) l all fits h = absurd all.0
+  orders_ready s ((LoseToController place) ∷ orders) l all fits h = absurd all.0
   orders_ready s (SetHandler handler ∷ orders) l all fits h = absurd all.0
   orders_ready s (Withdraw ∷ orders) l all fits h = absurd all.0
   orders_ready s (Retarget address ∷ orders) l all fits h = absurd all.0

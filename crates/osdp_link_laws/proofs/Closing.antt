@@ -12,7 +12,7 @@ use Rattle.osdp_controller.specs.declared.state.State.TheVariants.{Closed}
 use Rattle.osdp_reader.specs.Table as reader
 use Rattle.osdp_reader.specs.declared.handler.Answer.{Answer}
 use Rattle.osdp_link_laws.specs.Link as link
-use Rattle.osdp_link_laws.specs.Link.{Account, Delivered, Delivery, Link, Lost, Move, Queue as QueueEvent, Reopen, Repeated, RestartController, RestartReader, Retarget, SetBusy, SetHandler, Submit, Tick, ToController, ToReader, Withdraw, after_move, told}
+use Rattle.osdp_link_laws.specs.Link.{Account, Delivered, Delivery, Link, Lost, Move, Queue as QueueEvent, Reopen, Repeated, RestartController, RestartReader, Retarget, SetBusy, SetHandler, Submit, Tick, ToController, ToReader, Withdraw, after_move, told, LoseToReader, LoseToController}
 use Rattle.osdp_link_laws.proofs.Growing.{taken_takes}
 use Rattle.osdp_link_laws.proofs.Removed.{IsInside, closed_hears, closed_tick}
 
@@ -64,6 +64,8 @@ module _ {H : Type 0} (answer_of : H → Command → Answer) (after : H → Comm
   inside_over (Tick now) l on closed = tick_over now l closed
   inside_over (ToReader how) l on closed = to_reader_over how l.to_reader l closed
   inside_over (ToController how now) l on closed = to_controller_over how now l.to_controller l closed
+  inside_over (LoseToReader place) l on closed = (refl, closed)
+  inside_over (LoseToController place) l on closed = (refl, closed)
   inside_over (SetHandler handler) l on closed = (refl, closed)
   inside_over (RestartReader address handler room) l on closed = (refl, closed)
   inside_over (Reopen now) l on closed = absurd on

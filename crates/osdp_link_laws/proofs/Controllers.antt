@@ -13,7 +13,7 @@ use Rattle.osdp_controller.specs.declared.fault.ControllerFault.{ControllerFault
 use Rattle.osdp_controller.specs.declared.session.Session.{Session}
 use Rattle.osdp_reader.specs.declared.handler.Answer.{Answer}
 use Rattle.osdp_link_laws.specs.Link as link
-use Rattle.osdp_link_laws.specs.Link.{Delivered, Delivery, Link, Lost, Move, Queue as QueueEvent, Reopen, Repeated, RestartController, RestartReader, Retarget, SetBusy, SetHandler, Submit, Tick, ToController, ToReader, Withdraw, after_move, run}
+use Rattle.osdp_link_laws.specs.Link.{Delivered, Delivery, Link, Lost, Move, Queue as QueueEvent, Reopen, Repeated, RestartController, RestartReader, Retarget, SetBusy, SetHandler, Submit, Tick, ToController, ToReader, Withdraw, after_move, run, LoseToReader, LoseToController}
 use Rattle.osdp_link_laws.specs.Headline.{MoveFits, MovesFit}
 use Rattle.osdp_link_laws.proofs.Removed.{IsInside}
 
@@ -72,6 +72,8 @@ module _ {H : Type 0} (answer_of : H → Command → Answer) (after : H → Comm
   inside_keeps kept (Tick now) l on is = kept.tick now l.controller is
   inside_keeps kept (ToReader how) l on is = to_reader_keeps how l.to_reader l is
   inside_keeps kept (ToController how now) l on is = to_controller_keeps kept how now l.to_controller l is
+  inside_keeps kept (LoseToReader place) l on is = is
+  inside_keeps kept (LoseToController place) l on is = is
   inside_keeps kept (SetHandler handler) l on is = is
   inside_keeps kept (RestartReader address handler room) l on is = is
   inside_keeps kept (Reopen now) l on is = absurd on
@@ -87,6 +89,8 @@ module _ {H : Type 0} (answer_of : H → Command → Answer) (after : H → Comm
   move_keeps kept out (Tick now) l fits is = inside_keeps kept (Tick now) l tt is
   move_keeps kept out (ToReader how) l fits is = inside_keeps kept (ToReader how) l tt is
   move_keeps kept out (ToController how now) l fits is = inside_keeps kept (ToController how now) l tt is
+  move_keeps kept out (LoseToReader place) l fits is = is
+  move_keeps kept out (LoseToController place) l fits is = is
   move_keeps kept out (SetHandler handler) l fits is = is
   move_keeps kept out (RestartReader address handler room) l fits is = is
   move_keeps kept out Withdraw l fits is = is

@@ -24,11 +24,11 @@ use Rattle.osdp_reader.specs.Table as reader
 use Rattle.osdp_reader_laws.specs.Laws.{IsPlain}
 use Rattle.osdp_link_laws.specs.Headline.{SaysWhatFitsIf}
 use Rattle.osdp_link_laws.specs.Link as link
-use Rattle.osdp_link_laws.specs.Link.{Account, Delivered, Delivery, Link, Lost, Repeated, told}
+use Rattle.osdp_link_laws.specs.Link.{Account, Delivered, Delivery, Link, Lost, Repeated, told, lost_at}
 use Rattle.osdp_link_laws.specs.Peers.{IsPlainlySaid}
 use Rattle.osdp_link_laws.proofs.Advancing.{SaysWell, goes_on, opens}
 use Rattle.osdp_link_laws.proofs.Hearing.{Ignored, Settles, hears_answer, hears_other, hears_refused, hears_resting, settled_by}
-use Rattle.osdp_link_laws.proofs.Lines.{each_append, each_map, runs_append, runs_each}
+use Rattle.osdp_link_laws.proofs.Lines.{each_append, each_map, runs_append, runs_each, each_lost, runs_lost}
 use Rattle.osdp_link_laws.proofs.Moves.{Premises, asked_fits, runs_last}
 use Rattle.osdp_link_laws.proofs.Numbers.{next_differs}
 use Rattle.osdp_link_laws.proofs.Stages.{Accounts, Acted, After, Asks, Before, Behind, ControllerAt, Each, EventsAre, Fresh, IsFrame, IsOldFrame, IsPast, Level, MayRefuse, Never, Now, Past, PastIs, Refuses, Rest, Restarted, Says, SaysOld, Stage, Start, ToControllerAt, ToReaderAt, answer, frame, given_up, given_up_at, number_after, owed, shown}
@@ -134,6 +134,17 @@ module _ (fixed : ControllerConfig) {H : Type 0} (answer_of : H → Command → 
   losing_to_reader : (at : Stage) (p : Packet) (ps : List Packet) (l : Link H) → l.to_reader ≡ p ∷ ps → AtStage at l → AtStage at (record l { to_reader = ps })
   losing_to_reader at p ps l is h =
       with_to_reader fixed answer_of after settings since at l ps h (rest_to_reader at p ps (subst (ToReaderAt fixed at) is h.to_reader))
+
+  -- .. out of the middle too
+  less_to_reader : (place : ℕ) (at : Stage) (ps : List Packet) → ToReaderAt fixed at ps → ToReaderAt fixed at (lost_at place ps)
+  less_to_reader place Fresh ps line = ap (lost_at place) line
+  less_to_reader place (Behind past x) ps line = runs_lost (IsOldFrame fixed past) (IsFrame fixed x (number_after past)) place ps line
+  less_to_reader place (Level past x a) ps line = each_lost (IsFrame fixed x (number_after past)) place ps line
+  less_to_reader place (Rest n x a) ps line = each_lost (IsFrame fixed x n) place ps line
+
+  pub missing_to_reader : (place : ℕ) (at : Stage) (l : Link H) → AtStage at l → AtStage at (record l { to_reader = lost_at place l.to_reader })
+  missing_to_reader place at l h =
+      with_to_reader fixed answer_of after settings since at l (lost_at place l.to_reader) h (less_to_reader place at l.to_reader h.to_reader)
 
   pub coming_to_reader : Assumed → (how : Delivery) (ps : List Packet) (l : Link H) → l.to_reader ≡ ps → (at : Stage) → AtStage at l
       → SaysWhatFitsIf answer_of after how ps l.reader → AtSomeStage (link.to_reader answer_of after ps how l)
@@ -325,6 +336,17 @@ module _ (fixed : ControllerConfig) {H : Type 0} (answer_of : H → Command → 
   losing_to_controller at p ps l is h =
       with_to_controller fixed answer_of after settings since at l ps h
       (rest_to_controller at p ps (subst (ToControllerAt fixed since at) is h.to_controller))
+
+  -- .. out of the middle too
+  less_to_controller : (place : ℕ) (at : Stage) (ps : List Packet) → ToControllerAt fixed since at ps → ToControllerAt fixed since at (lost_at place ps)
+  less_to_controller place Fresh ps line = ap (lost_at place) line
+  less_to_controller place (Behind past x) ps line = each_lost (SaysOld fixed since past) place ps line
+  less_to_controller place (Level past x a) ps line = runs_lost (SaysOld fixed since past) (Says fixed since (number_after past) a) place ps line
+  less_to_controller place (Rest n x a) ps line = each_lost (Says fixed since n a) place ps line
+
+  pub missing_to_controller : (place : ℕ) (at : Stage) (l : Link H) → AtStage at l → AtStage at (record l { to_controller = lost_at place l.to_controller })
+  missing_to_controller place at l h =
+      with_to_controller fixed answer_of after settings since at l (lost_at place l.to_controller) h (less_to_controller place at l.to_controller h.to_controller)
 
   pub coming_to_controller : Assumed → (how : Delivery) (now : ℕ) (ps : List Packet) (l : Link H) → l.to_controller ≡ ps → (at : Stage) → AtStage at l
       → Stays (link.to_controller ps how now l)

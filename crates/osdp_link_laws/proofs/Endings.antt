@@ -17,7 +17,7 @@ use Rattle.osdp_controller_laws.proofs.Closed.{silent_frame, silent_tick, was_cl
 use Rattle.osdp_reader.specs.declared.handler.Answer.{Answer as HandlerAnswer}
 use Rattle.osdp_link_laws.specs.Ends.{EndOnce, count, ends_in, lasting, untold, untold_by}
 use Rattle.osdp_link_laws.specs.Link as link
-use Rattle.osdp_link_laws.specs.Link.{Delivered, Delivery, Link, Lost, Move, Queue as QueueEvent, Reopen, Repeated, RestartController, RestartReader, Retarget, SetBusy, SetHandler, Submit, Tick, ToController, ToReader, Withdraw, after_move, run}
+use Rattle.osdp_link_laws.specs.Link.{Delivered, Delivery, Link, Lost, Move, Queue as QueueEvent, Reopen, Repeated, RestartController, RestartReader, Retarget, SetBusy, SetHandler, Submit, Tick, ToController, ToReader, Withdraw, after_move, run, LoseToReader, LoseToController}
 use Rattle.osdp_link_laws.specs.Refusals.{reports, told_by, told_by_front}
 
 -- a session that lasted lasts on, or its end is told
@@ -99,6 +99,8 @@ module _ {H : Type 0} (answer_of : H → Command → HandlerAnswer) (after : H �
     counts (ToReader how) l = to_reader l.to_reader how l
     counts (ToController how now) l = omega (arith, to_controller l.to_controller how now l)
     counts (Reopen now) l = reopening (controllers.begin_refusal l.controller) l.to_reader l.to_controller now l refl
+    counts (LoseToReader place) l = omega arith
+    counts (LoseToController place) l = omega arith
     counts (SetHandler handler) l = omega arith
     counts Withdraw l = omega arith
     counts (Retarget address) l = retargeting (controllers.retarget_refusal address l.controller) address l

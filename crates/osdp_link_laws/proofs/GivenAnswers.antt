@@ -23,7 +23,7 @@ use Rattle.osdp_reader.specs.declared.kind.Kind.{Kind}
 use Rattle.osdp_reader.specs.declared.kind.Kind.TheVariants as kind
 use Rattle.osdp_link_laws.specs.Headline.{Begins}
 use Rattle.osdp_link_laws.specs.Link as link
-use Rattle.osdp_link_laws.specs.Link.{Account, Delivered, Delivery, Link, Lost, Move, Queue as QueueEvent, Reopen, Repeated, RestartController, RestartReader, Retarget, SetBusy, SetHandler, Submit, Tick, ToController, ToReader, Withdraw, after_move, given_to, taken_command, told}
+use Rattle.osdp_link_laws.specs.Link.{Account, Delivered, Delivery, Link, LoseToController, LoseToReader, Lost, Move, Queue as QueueEvent, Reopen, Repeated, RestartController, RestartReader, Retarget, SetBusy, SetHandler, Submit, Tick, ToController, ToReader, Withdraw, after_move, given_to, taken_command, told}
 use Rattle.osdp_link_laws.proofs.Acting.{no_event, taken_is}
 use Rattle.osdp_link_laws.proofs.Lines.{each_append}
 use Rattle.osdp_link_laws.proofs.Stages.{Each}
@@ -112,6 +112,8 @@ module _ {H : Type 0} (answer_of : H → Command → Answer) (after : H → Comm
   move_given (ToController how now) l are = to_controller_given how now l.to_controller l are
   move_given (Reopen now) l are = reopens_given (controllers.begin_refusal l.controller) l.to_reader l.to_controller now l are
   move_given (SetHandler handler) l are = are
+  move_given (LoseToReader place) l are = are
+  move_given (LoseToController place) l are = are
   move_given Withdraw l are = are
   move_given (Retarget address) l are = retargets_given (controllers.retarget_refusal address l.controller) address l are
   move_given (RestartReader address handler room) l are = are

@@ -18,7 +18,7 @@ use Rattle.osdp_reader.specs.declared.kind.Kind.{Kind}
 use Rattle.osdp_reader.specs.declared.kind.Kind.TheVariants as kind
 use Rattle.osdp_reader.specs.Table as reader
 use Rattle.osdp_link_laws.specs.Link as link
-use Rattle.osdp_link_laws.specs.Link.{Account, Delivered, Delivery, Link, Lost, Move, Queue as QueueEvent, Reopen, Repeated, RestartController, RestartReader, Retarget, SetBusy, SetHandler, Submit, Tick, ToController, ToReader, Withdraw, after_move, told}
+use Rattle.osdp_link_laws.specs.Link.{Account, Delivered, Delivery, Link, Lost, Move, Queue as QueueEvent, Reopen, Repeated, RestartController, RestartReader, Retarget, SetBusy, SetHandler, Submit, Tick, ToController, ToReader, Withdraw, after_move, told, LoseToReader, LoseToController}
 use Rattle.osdp_link_laws.specs.Sessions.{accepted, queued, unless_full, submitted}
 use Rattle.osdp_link_laws.proofs.Removed.{IsInside}
 
@@ -110,6 +110,8 @@ module _ {H : Type 0} (answer_of : H → Command → Answer) (after : H → Comm
   inside_on (Tick now) l on = (told_keeps (ticks now l.controller.session l.controller.waiting).step.report l.account, refl)
   inside_on (ToReader how) l on = to_reader_on how l.to_reader l
   inside_on (ToController how now) l on = to_controller_on how now l.to_controller l
+  inside_on (LoseToReader place) l on = (all_before l.account l.account refl refl refl refl, refl)
+  inside_on (LoseToController place) l on = (all_before l.account l.account refl refl refl refl, refl)
   inside_on (SetHandler handler) l on = (all_before l.account l.account refl refl refl refl, refl)
   inside_on (RestartReader address handler room) l on = (all_before l.account (link.reader_restarted l.account) refl refl refl refl, refl)
   inside_on (Reopen now) l on = absurd on
@@ -135,6 +137,8 @@ module _ {H : Type 0} (answer_of : H → Command → Answer) (after : H → Comm
   goes_on (Reopen now) l on = absurd on
   goes_on (Submit c) l on = inside (Submit c) l tt
   goes_on (QueueEvent e) l on = inside (QueueEvent e) l tt
+  goes_on (LoseToReader place) l on = inside (LoseToReader place) l tt
+  goes_on (LoseToController place) l on = inside (LoseToController place) l tt
   goes_on (SetBusy busy) l on = inside (SetBusy busy) l tt
   goes_on (Tick now) l on = inside (Tick now) l tt
   goes_on (ToReader how) l on = inside (ToReader how) l tt

@@ -14,7 +14,7 @@ use Rattle.osdp_reader.specs.Table as reader
 use Rattle.osdp_reader.specs.declared.handler.Answer.{Answer}
 use Rattle.osdp_link_laws.specs.Headline.{Begins}
 use Rattle.osdp_link_laws.specs.Link as link
-use Rattle.osdp_link_laws.specs.Link.{Account, Delivered, Delivery, Link, Lost, Move, Queue as QueueEvent, Reopen, Repeated, RestartController, RestartReader, Retarget, SetBusy, SetHandler, Submit, Tick, ToController, ToReader, Withdraw, after_move, run, told}
+use Rattle.osdp_link_laws.specs.Link.{Account, Delivered, Delivery, Link, Lost, Move, Queue as QueueEvent, Reopen, Repeated, RestartController, RestartReader, Retarget, SetBusy, SetHandler, Submit, Tick, ToController, ToReader, Withdraw, after_move, run, told, LoseToReader, LoseToController}
 use Rattle.osdp_link_laws.specs.Refusals.{KeepsReader}
 use Rattle.osdp_link_laws.proofs.Growing.{taken_takes}
 use Rattle.osdp_link_laws.proofs.Stages.{Each}
@@ -85,6 +85,8 @@ module _ {H : Type 0} (answer_of : H → Command → Answer) (after : H → Comm
   move_kept (ToReader how) l keeps is = to_reader_kept how l.to_reader l is
   move_kept (ToController how now) l keeps is = to_controller_kept how now l.to_controller l is
   move_kept (Reopen now) l keeps is = reopens_kept (controllers.begin_refusal l.controller) l.to_reader l.to_controller now l is
+  move_kept (LoseToReader place) l keeps is = is
+  move_kept (LoseToController place) l keeps is = is
   move_kept (SetHandler handler) l keeps is = is
   move_kept Withdraw l keeps (is, before) = (same_kept l.account (link.withdraws l).account refl refl refl is, before)
   move_kept (Retarget address) l keeps is = retargets_kept (controllers.retarget_refusal address l.controller) address l is

@@ -23,6 +23,7 @@ pub mod Sessions
 pub mod Taken
 pub mod InARow
 pub mod Ordinary
+pub mod OrdinaryRuns
 pub mod Kept
 pub mod GivenAnswers
 pub mod OneHandler
@@ -38,12 +39,8 @@ pub mod Exchanges
 pub mod Rounds
 pub mod Through
 pub mod InTime
-pub mod Clean
-pub mod Addresses
+pub mod Resting
 pub mod OneDevice
 pub mod ToldMoved
-pub mod Reserved
-pub mod ControllerNames
-pub mod ReaderNames
-pub mod Naming
-pub mod NamesKept
+pub mod Clean
+pub mod Addresses

@@ -20,7 +20,7 @@ use Rattle.osdp_reader.specs.declared.config.ReaderConfig.{ReaderConfig}
 use Rattle.osdp_reader.specs.declared.handler.Answer.{Answer}
 use Rattle.osdp_link_laws.specs.Headline.{IsBeginning, IsOnce, IsWithout, MoveFits, MaySubmit}
 use Rattle.osdp_link_laws.specs.Link as link
-use Rattle.osdp_link_laws.specs.Link.{Account, Link, Move, Queue as QueueEvent, Removal, Reopen, RestartController, RestartReader, Retarget, SetBusy, SetHandler, Submit, ThrownAway, Tick, ToController, ToReader, Withdraw, Withdrawn, after_move, new_account, outstanding_command}
+use Rattle.osdp_link_laws.specs.Link.{Account, Link, Move, Queue as QueueEvent, Removal, Reopen, RestartController, RestartReader, Retarget, SetBusy, SetHandler, Submit, ThrownAway, Tick, ToController, ToReader, Withdraw, Withdrawn, after_move, new_account, outstanding_command, LoseToReader, LoseToController}
 use Rattle.osdp_link_laws.specs.Sessions.{removed_command}
 use Rattle.osdp_link_laws.proofs.Growing.{GoesOn, inside_on}
 use Rattle.osdp_link_laws.proofs.Moves.{Premises}
@@ -309,6 +309,8 @@ module _ (fixed : ControllerConfig) {H : Type 0} (answer_of : H → Command → 
   moving given (Reopen now) l on fits h = absurd on
   moving given (Submit c) l on fits h = going_inside given (Submit c) l tt fits h
   moving given (QueueEvent e) l on fits h = going_inside given (QueueEvent e) l tt fits h
+  moving given (LoseToReader place) l on fits h = going_inside given (LoseToReader place) l tt fits h
+  moving given (LoseToController place) l on fits h = going_inside given (LoseToController place) l tt fits h
   moving given (SetBusy busy) l on fits h = going_inside given (SetBusy busy) l tt fits h
   moving given (Tick now) l on fits h = going_inside given (Tick now) l tt fits h
   moving given (ToReader how) l on fits h = going_inside given (ToReader how) l tt fits h

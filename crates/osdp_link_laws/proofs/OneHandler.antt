@@ -28,7 +28,7 @@ use Rattle.osdp_reader.specs.declared.kind.Kind.TheVariants as kind
 use Rattle.osdp_reader_laws.specs.Answering.{handler_after_commands}
 use Rattle.osdp_link_laws.specs.Headline.{EachIsOnce, IsBeginning, MovesFit}
 use Rattle.osdp_link_laws.specs.Link as link
-use Rattle.osdp_link_laws.specs.Link.{Account, Delivered, Delivery, Link, Lost, Move, Queue as QueueEvent, Reopen, Repeated, RestartController, RestartReader, Retarget, SetBusy, SetHandler, Submit, Tick, ToController, ToReader, Withdraw, after_move, run, taken_command, told}
+use Rattle.osdp_link_laws.specs.Link.{Account, Delivered, Delivery, Link, Lost, Move, Queue as QueueEvent, Reopen, Repeated, RestartController, RestartReader, Retarget, SetBusy, SetHandler, Submit, Tick, ToController, ToReader, Withdraw, after_move, run, taken_command, told, LoseToReader, LoseToController}
 use Rattle.osdp_link_laws.specs.OneHandler.{AreItsAnswers, AreOnce, GivesItsAnswers, KeepHandler, KeepsDevice, KeepsHandler, OneHandlerHoldsOnce, handler_after, with_answers}
 use Rattle.osdp_link_laws.specs.Peers.{ReadEachOther}
 use Rattle.osdp_link_laws.specs.Refusals.{KeepsReader}
@@ -255,6 +255,8 @@ module _ {H : Type 0} (answer_of : H → Command → Answer) (after : H → Comm
   move_answered given start (Submit c) l keeps s is = submits_answered start (controllers.submit_refusal c l.controller) c l is
   move_answered given start (QueueEvent e) l keeps s is = queues_answered start (length l.reader.queue.events == l.reader.queue.capacity) e l is
   move_answered given start (SetBusy busy) l keeps s is = is
+  move_answered given start (LoseToReader place) l keeps s is = is
+  move_answered given start (LoseToController place) l keeps s is = is
   move_answered given start (Tick now) l keeps s (is, before) =
       (told_answered (handler_after answer_of after settings start l.earlier) (ticks now l.controller.session l.controller.waiting).step.report l.account l.reader.handler is, before)
   move_answered given start (ToReader how) l keeps s is =

@@ -15,7 +15,7 @@ use Rattle.osdp_reader.specs.Table as reader
 use Rattle.osdp_reader.specs.declared.handler.Answer.{Answer}
 use Rattle.osdp_link_laws.specs.Headline.{IsWithout}
 use Rattle.osdp_link_laws.specs.Link as link
-use Rattle.osdp_link_laws.specs.Link.{Account, Delivered, Delivery, Link, Lost, Move, Queue as QueueEvent, Removal, Reopen, Repeated, RestartController, RestartReader, Retarget, SetBusy, SetHandler, Submit, Tick, ToController, ToReader, Withdraw, after_move, new_account, run, told}
+use Rattle.osdp_link_laws.specs.Link.{Account, Delivered, Delivery, Link, Lost, Move, Queue as QueueEvent, Removal, Reopen, Repeated, RestartController, RestartReader, Retarget, SetBusy, SetHandler, Submit, Tick, ToController, ToReader, Withdraw, after_move, new_account, run, told, LoseToReader, LoseToController}
 use Rattle.osdp_link_laws.specs.Ordinary.{AreUndisturbed, HaveLeftUndisturbed, IsOrdinary, IsUndisturbed, LeavesUndisturbed, OrdinaryIsUndisturbed, UndisturbedLeaves}
 use Rattle.osdp_link_laws.specs.Sessions.{HaveLeft, Leaves, LeavesEvents, removed_command, settled_commands}
 use Rattle.osdp_link_laws.proofs.Growing.{taken_takes}
@@ -88,13 +88,15 @@ module _ {H : Type 0} (answer_of : H → Command → Answer) (after : H → Comm
   move_so (ToReader how) l ordinary so = to_reader_so how l.to_reader l so
   move_so (ToController how now) l ordinary so = to_controller_so how now l.to_controller l so
   move_so (Reopen now) l ordinary so = reopens_so (controllers.begin_refusal l.controller) l.to_reader l.to_controller now l so
+  move_so (LoseToReader place) l ordinary so = absurd ordinary
+  move_so (LoseToController place) l ordinary so = absurd ordinary
   move_so (SetHandler handler) l ordinary so = absurd ordinary
   move_so Withdraw l ordinary so = absurd ordinary
   move_so (Retarget address) l ordinary so = absurd ordinary
   move_so (RestartReader address handler room) l ordinary so = absurd ordinary
   move_so (RestartController config room) l ordinary so = absurd ordinary
 
-  moves_so : (moves : List (Move H)) (l : Link H) → Each IsOrdinary moves → AllSo l → AllSo (run answer_of after moves l)
+  pub moves_so : (moves : List (Move H)) (l : Link H) → Each IsOrdinary moves → AllSo l → AllSo (run answer_of after moves l)
   moves_so [] l ordinary so = so
   moves_so (move ∷ moves) l ordinary so = moves_so moves (after_move answer_of after move l) ordinary.1 (move_so move l ordinary.0 so)
 

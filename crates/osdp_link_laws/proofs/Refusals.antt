@@ -8,7 +8,7 @@ use Rattle.osdp_controller.specs.declared.report.Report.TheVariants as report
 use Rattle.osdp_reader.specs.declared.config.ReaderConfig.{ReaderConfig}
 use Rattle.osdp_reader.specs.declared.handler.Answer.{Answer}
 use Rattle.osdp_link_laws.specs.Headline.{MovesFit}
-use Rattle.osdp_link_laws.specs.Link.{Link, Move, Queue as QueueEvent, Reopen, RestartController, RestartReader, Retarget, SetBusy, SetHandler, Submit, Tick, ToController, ToReader, Withdraw, after_move, run}
+use Rattle.osdp_link_laws.specs.Link.{Link, Move, Queue as QueueEvent, Reopen, RestartController, RestartReader, Retarget, SetBusy, SetHandler, Submit, Tick, ToController, ToReader, Withdraw, after_move, run, LoseToReader, LoseToController}
 use Rattle.osdp_link_laws.specs.Peers.{IsPlainlySaid, ReadEachOther}
 use Rattle.osdp_link_laws.specs.Refusals.{IsNoRefusal, IsOtherCause, KeepsReader, RefusesNoNumber, RefusesNoNumberWithoutRestart, SaysAllPlainly, reports, told_by, told_by_front}
 use Rattle.osdp_link_laws.proofs.Deliveries.{all_said}
@@ -22,7 +22,7 @@ use Rattle.osdp_link_laws.proofs.Stages.{Before, Each, HasRestarted, MayRefuse, 
 abbrev NoRefusal : Option Report → Type 0
 NoRefusal r = IfSome r IsNoRefusal
 
-refuses_none : (r : Option Report) → MayBring r → NoRefusal r
+pub refuses_none : (r : Option Report) → MayBring r → NoRefusal r
 refuses_none (Some (report.Lost cause c)) busy = subst IsOtherCause (sym busy) tt
 refuses_none r may = tt
 
@@ -52,6 +52,8 @@ module _ {H : Type 0} (answer_of : H → Command → Answer) (after : H → Comm
   told_so given (SetBusy busy) l s never = tt
   told_so given (ToReader how) l s never = tt
   told_so given (Reopen now) l s never = tt
+  told_so given (LoseToReader place) l s never = tt
+  told_so given (LoseToController place) l s never = tt
   told_so given (SetHandler handler) l s never = tt
   told_so given Withdraw l s never = tt
   told_so given (Retarget address) l s never = tt

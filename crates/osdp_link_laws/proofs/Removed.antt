@@ -23,9 +23,9 @@ use Rattle.osdp_reader.specs.declared.kind.Kind.TheVariants as kind
 use Rattle.osdp_reader.specs.Table as reader
 use Rattle.osdp_link_laws.specs.Headline.{MoveFits}
 use Rattle.osdp_link_laws.specs.Link as link
-use Rattle.osdp_link_laws.specs.Link.{Account, Delivered, Delivery, Link, Lost, Move, Queue as QueueEvent, Removal, Reopen, Repeated, RestartController, RestartReader, Retarget, SetBusy, SetHandler, Submit, ThrownAway, Tick, ToController, ToReader, Withdraw, Withdrawn, after_move, outstanding_command, told}
+use Rattle.osdp_link_laws.specs.Link.{Account, Delivered, Delivery, Link, Lost, Move, Queue as QueueEvent, Removal, Reopen, Repeated, RestartController, RestartReader, Retarget, SetBusy, SetHandler, Submit, ThrownAway, Tick, ToController, ToReader, Withdraw, Withdrawn, after_move, outstanding_command, told, LoseToReader, LoseToController}
 use Rattle.osdp_link_laws.specs.Sessions.{removed_command}
-use Rattle.osdp_link_laws.proofs.Deliveries.{coming_to_controller, coming_to_reader}
+use Rattle.osdp_link_laws.proofs.Deliveries.{coming_to_controller, coming_to_reader, missing_to_controller, missing_to_reader}
 use Rattle.osdp_link_laws.proofs.Lines.{both}
 use Rattle.osdp_link_laws.proofs.Moves.{Premises, being_otherwise, not_poll, queueing, submitting, ticking}
 use Rattle.osdp_link_laws.proofs.Parts.{At, HoldsAtSomeStage}
@@ -107,6 +107,8 @@ module _ (fixed : ControllerConfig) {H : Type 0} (answer_of : H → Command → 
   moving_inside given (ToReader how) l on fits (s, at, h) = coming_to_reader fixed answer_of after settings s given how l.to_reader l refl at h fits
   moving_inside given (ToController how now) l on fits (s, at, h) =
       staying (coming_to_controller fixed answer_of after settings s given how now l.to_controller l refl at h)
+  moving_inside given (LoseToReader place) l on fits (s, at, h) = (s, at, missing_to_reader fixed answer_of after settings s place at l h)
+  moving_inside given (LoseToController place) l on fits (s, at, h) = (s, at, missing_to_controller fixed answer_of after settings s place at l h)
   moving_inside given (SetHandler handler) l on fits (s, at, h) = (s, at, being_otherwise fixed answer_of after settings s l.reader.busy handler at l h)
   moving_inside given (RestartReader address handler room) l on fits (s, at, h) =
       (Now, at, restarting_reader fixed answer_of after settings address handler room s at l h)
@@ -192,6 +194,8 @@ module _ (fixed : ControllerConfig) {H : Type 0} (answer_of : H → Command → 
       to_reader_as w u how l.to_reader l (moving_inside given (ToReader how) (as_if w u l) tt fits h)
   closed_inside given w u (ToController how now) l on fits closed h =
       to_controller_as w u how now l.to_controller l closed (moving_inside given (ToController how now) (as_if w u l) tt tt h)
+  closed_inside given w u (LoseToReader place) l on fits closed h = moving_inside given (LoseToReader place) (as_if w u l) tt tt h
+  closed_inside given w u (LoseToController place) l on fits closed h = moving_inside given (LoseToController place) (as_if w u l) tt tt h
   closed_inside given w u (SetHandler handler) l on fits closed h = moving_inside given (SetHandler handler) (as_if w u l) tt tt h
   closed_inside given w u (RestartReader address handler room) l on fits closed h =
       moving_inside given (RestartReader address handler room) (as_if w u l) tt fits h

@@ -22,7 +22,7 @@ use Rattle.osdp_reader.specs.declared.handler.Answer.{Answer}
 use Rattle.osdp_reader.specs.Replies.{not_processed}
 use Rattle.osdp_reader.specs.Table.{answer_to}
 use Rattle.osdp_link_laws.specs.Headline.{MovesFit, IsOnce, MoveFits}
-use Rattle.osdp_link_laws.specs.Link.{Account, Delivered, Delivery, Link, Move, Queue as QueueEvent, Reopen, Repeated, RestartController, RestartReader, Retarget, SetBusy, SetHandler, Submit, Tick, ToController, ToReader, Withdraw, after_move, told}
+use Rattle.osdp_link_laws.specs.Link.{Account, Delivered, Delivery, Link, LoseToController, LoseToReader, Move, Queue as QueueEvent, Reopen, Repeated, RestartController, RestartReader, Retarget, SetBusy, SetHandler, Submit, Tick, ToController, ToReader, Withdraw, after_move, told}
 use Rattle.osdp_link_laws.specs.Link as link
 use Rattle.osdp_link_laws.specs.Names.{IsNoDevice, IsToldAsAsked, TellAsAsked}
 use Rattle.osdp_link_laws.specs.Peers.{ReadEachOther}
@@ -124,6 +124,8 @@ module _ {H : Type 0} (answer_of : H → Command → Answer) (after : H → Comm
   move_told given (ToReader how) l fits h are = tt
   move_told given (Reopen now) l fits h are = tt
   move_told given (SetHandler handler) l fits h are = tt
+  move_told given (LoseToReader place) l fits h are = tt
+  move_told given (LoseToController place) l fits h are = tt
   move_told given Withdraw l fits h are = tt
   move_told given (Retarget address) l fits h are = tt
   move_told given (RestartReader address handler room) l fits h are = tt

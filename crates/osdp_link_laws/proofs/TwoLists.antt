@@ -32,7 +32,7 @@ use Rattle.osdp_reader.specs.declared.kind.Kind.{Kind}
 use Rattle.osdp_reader.specs.declared.kind.Kind.TheVariants as kind
 use Rattle.osdp_link_laws.specs.Headline.{MovesFit, Begins, IsBeginning, IsOnce, MoveFits, asked}
 use Rattle.osdp_link_laws.specs.Link as link
-use Rattle.osdp_link_laws.specs.Link.{Account, Delivered, Delivery, Link, Lost, Move, Queue as QueueEvent, Reopen, Repeated, RestartController, RestartReader, Retarget, SetBusy, SetHandler, Submit, Tick, ToController, ToReader, Withdraw, after_move, run, told}
+use Rattle.osdp_link_laws.specs.Link.{Account, Delivered, Delivery, Link, Lost, Move, Queue as QueueEvent, Reopen, Repeated, RestartController, RestartReader, Retarget, SetBusy, SetHandler, Submit, Tick, ToController, ToReader, Withdraw, after_move, run, told, LoseToReader, LoseToController}
 use Rattle.osdp_link_laws.specs.TwoLists.{IsInStep, IsLevel, IsOneOrNone, IsRead, IsReadOff, IsStepOf, Issue, KeepsInStep, May, MovesInStep, Offer, Offers, OffersOnce, Queue, Report as Tell, Settle, Step, Take, ThrowAway, TwoLists, after_step, two_lists}
 use Rattle.osdp_link_laws.specs.Peers.{ReadEachOther}
 use Rattle.osdp_link_laws.proofs.InARow.{all_once, assumed_of, standing, stands}
@@ -317,6 +317,8 @@ module _ {H : Type 0} (answer_of : H → Command → Answer) (after : H → Comm
   one_or_none (ToController how now) l offers before later =
       is_one (ToController how now) l.account (after_move answer_of after (ToController how now) l).account before later (controller_would l.to_controller how now l)
   one_or_none (Reopen now) l offers before later = reopens (controllers.begin_refusal l.controller) l.to_reader l.to_controller now l
+  one_or_none (LoseToReader place) l offers before later = inl refl
+  one_or_none (LoseToController place) l offers before later = inl refl
   one_or_none (SetHandler handler) l offers before later = inl refl
   one_or_none Withdraw l offers before later = inl refl
   one_or_none (Retarget address) l offers before later = inl (retargets_would (controllers.retarget_refusal address l.controller) address l)

@@ -12,7 +12,7 @@ use Rattle.osdp_controller.specs.Machine.{AreSettings}
 use Rattle.osdp_reader.specs.declared.handler.Answer.{Answer}
 use Rattle.osdp_reader.specs.State.{ReaderState}
 use Rattle.osdp_reader.specs.Table.{hears}
-use Rattle.osdp_link_laws.specs.Link.{Account, Delivered, Delivery, Link, Lost, Move, Reopen, Repeated, RestartController, RestartReader, Retarget, SetHandler, Submit, Queue, SetBusy, Tick, ToReader, ToController, Withdraw, after_move, new_account, run}
+use Rattle.osdp_link_laws.specs.Link.{Account, Delivered, Delivery, Link, Lost, Move, Reopen, Repeated, RestartController, RestartReader, Retarget, SetHandler, Submit, Queue, SetBusy, Tick, ToReader, ToController, Withdraw, after_move, new_account, run, LoseToReader, LoseToController}
 
 -- a command that may be submitted: any but POLL, its fields in their ranges
 pub record MaySubmit (command : Command) : Type 0 where
@@ -84,6 +84,8 @@ module _ {H : Type 0} where
     MoveFits (Retarget address) l = Unit {0}
     MoveFits (RestartReader address handler room) l = (address < 127) × (1 ≤ room) × (room ≤ 1024)
     MoveFits (RestartController config room) l = AreSettings config room
+    MoveFits (LoseToReader place) l = Unit {0}
+    MoveFits (LoseToController place) l = Unit {0}
 
     abbrev pub MovesFit : List (Move H) → Link H → Type 0
     MovesFit [] l = Unit {0}

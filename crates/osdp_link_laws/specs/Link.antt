@@ -1,5 +1,5 @@
 -- One link: a controller, a reader, and the packets that are on the way between them.
-use Rattle.std.specs.Prelude.{ℕ, Bool, true, false, ◌==◌, ◌+◌, List, [], ◌∷◌, ◌++◌, drop, length, map, take, Option, Some, None, option_to_list}
+use Rattle.std.specs.Prelude.{ℕ, zero, suc, Bool, true, false, ◌==◌, ◌+◌, List, [], ◌∷◌, ◌++◌, drop, length, map, take, Option, Some, None, option_to_list}
 use Rattle.osdp_frame.specs.Packet.{Packet}
 use Rattle.osdp_msg.specs.declared.command.Command.{Command}
 use Rattle.osdp_msg.specs.declared.command.Command.TheVariants.{Poll}
@@ -89,7 +89,8 @@ pub data Delivery : Type 0 where
 -- what may happen to a link, at any moment. `Reopen`: a session begins again. `SetHandler`: the device has another handler from now on.
 -- `Withdraw`: where the controller is closed, the command that has waited longest is taken back. `Retarget`: where it is closed, its
 -- address is set. `RestartReader`: the reader is new, at this address, with this handler and room for events. `RestartController`: the
--- controller is new, with these settings and room for commands. What is on the line stays on it.
+-- controller is new, with these settings and room for commands. What is on the line stays on it. `LoseToReader`, `LoseToController`: what stands at this place of
+-- the line, the front at 0, is lost, beside what others say on it.
 pub data Move (H : Type 0) : Type 0 where
   Submit : Command → Move H
   Queue : Event → Move H
@@ -103,6 +104,14 @@ pub data Move (H : Type 0) : Type 0 where
   Retarget : ℕ → Move H
   RestartReader : ℕ → H → ℕ → Move H
   RestartController : ControllerConfig → ℕ → Move H
+  LoseToReader : ℕ → Move H
+  LoseToController : ℕ → Move H
+
+-- without what stands at this place, if anything does
+abbrev pub lost_at : {A : Type 0} → ℕ → List A → List A
+lost_at k [] = []
+lost_at zero (x ∷ xs) = xs
+lost_at (suc k) (x ∷ xs) = x ∷ lost_at k xs
 
 -- the account after a report: a COMSET that moves the reader is settled by its COM
 abbrev pub told : Option Report → Account → Account
@@ -256,6 +265,8 @@ module _ {H : Type 0} where
     after_move (Retarget address) l = retargets (controllers.retarget_refusal address l.controller) address l
     after_move (RestartReader address handler room) l = restarts_reader address handler room l
     after_move (RestartController config room) l = restarts_controller config room l
+    after_move (LoseToReader place) l = record l { to_reader = lost_at place l.to_reader }
+    after_move (LoseToController place) l = record l { to_controller = lost_at place l.to_controller }
 
     -- the link after a list of moves
     abbrev pub run : List (Move H) → Link H → Link H

@@ -4,7 +4,7 @@ use Rattle.osdp_msg.specs.declared.command.Command.{Command}
 use Rattle.osdp_msg.specs.declared.event.Event.{Event}
 use Rattle.osdp_reader.specs.declared.handler.Answer.{Answer}
 use Rattle.osdp_link_laws.specs.Headline.{Begins, IsBeginning}
-use Rattle.osdp_link_laws.specs.Link.{Account, Link, Move, RestartController, RestartReader, Retarget, SetHandler, Withdraw, run}
+use Rattle.osdp_link_laws.specs.Link.{Account, Link, Move, RestartController, RestartReader, Retarget, SetHandler, Withdraw, run, LoseToReader, LoseToController}
 use Rattle.osdp_link_laws.specs.Sessions.{HaveLeft, Leaves, settled_commands}
 
 abbrev pub IsOrdinary : {H : Type 0} → Move H → Type 0
@@ -13,6 +13,8 @@ IsOrdinary Withdraw = ⊥
 IsOrdinary (Retarget address) = ⊥
 IsOrdinary (RestartReader address handler room) = ⊥
 IsOrdinary (RestartController config room) = ⊥
+IsOrdinary (LoseToReader place) = ⊥
+IsOrdinary (LoseToController place) = ⊥
 IsOrdinary _ = Unit {0}
 
 -- no command is forgotten or removed, and no event is thrown away

@@ -4,7 +4,7 @@ use Rattle.osdp_msg.specs.declared.command.Command.{Command}
 use Rattle.osdp_controller.specs.Hearing.{comset_of}
 use Rattle.osdp_controller.specs.Machine.{Machine, is_due}
 use Rattle.osdp_controller.specs.Sessions.{later as later_by}
-use Rattle.osdp_controller.specs.declared.state.State.TheVariants.{Closed}
+use Rattle.osdp_controller.specs.declared.state.State.TheVariants.{Closed, Idle}
 use Rattle.osdp_controller_laws.specs.Calls.{IsInRange, longest_wait}
 use Rattle.osdp_reader.specs.declared.handler.Answer.{Answer}
 use Rattle.osdp_reader.specs.State.{ReaderState}
@@ -44,6 +44,10 @@ module _ {H : Type 0} where
     pub ready : r.busy ≡ false
     pub issued : All SetsNoAddress commands
 
+  -- nobody waits for an answer
+  abbrev pub IsAtRest : Link H → Type 0
+  IsAtRest l = (due : ℕ) × (l.controller.session.state ≡ Idle due)
+
   -- the link is
   abbrev pub IsClear : Link H → Type 0
   IsClear l = AreClear l.to_reader l.to_controller l.reader l.controller l.account.issued
@@ -59,6 +63,14 @@ module _ {H : Type 0} where
         → let later = run answer_of after moves l in
         IsClear later → AreDue moments later → MovesFit answer_of after (rounds moments) later
         → ComeOn moments later.account (run answer_of after (rounds moments) later).account
+
+    -- a round from a clear link leaves it clear and at rest, or ends the session
+    abbrev pub ComesToRest : Type 0
+    ComesToRest = (l : Link H) (moves : List (Move H)) (now : ℕ) → Begins l → MovesFit answer_of after moves l
+        → let later = run answer_of after moves l in
+        IsClear later → is_due now later.controller ≡ true → MovesFit answer_of after (round now) later
+        → let last = run answer_of after (round now) later in
+        (last.controller.session.state ≡ Closed) ⊎ (IsClear last × IsAtRest last)
 
     -- each tick comes so much later than the greatest moment seen as the longest of the controller's waits
     abbrev pub AreLate : List ℕ → Link H → Type 0

@@ -7,7 +7,7 @@ ghost use Rattle.osdp_link_laws.specs.Headline.{HoldsOnce};
 ghost use Rattle.osdp_link_laws.specs.OneHandler.{GivesItsAnswers, OneHandlerHoldsOnce};
 ghost use Rattle.osdp_link_laws.specs.Ordinary.{OrdinaryIsUndisturbed, UndisturbedLeaves};
 ghost use Rattle.osdp_link_laws.specs.Addresses.{StayWhereTheyAre};
-ghost use Rattle.osdp_link_laws.specs.Progress.{ComesThrough, ComesThroughInTime};
+ghost use Rattle.osdp_link_laws.specs.Progress.{ComesThrough, ComesThroughInTime, ComesToRest};
 ghost use Rattle.osdp_link_laws.specs.Clean.{GoesInTurn};
 ghost use Rattle.osdp_link_laws.specs.Refusals.{RefusesNoNumber, RefusesNoNumberWithoutRestart, SaysAllPlainly};
 ghost use Rattle.osdp_link_laws.specs.Sessions.{CommandsHavePlaces, EventsHavePlaces, LastOneLasts, StayInARow, TakesNoneTwice};
@@ -109,10 +109,11 @@ pub fn stay_where_they_are<H: Handler>()
 /// From a link with nothing on the line, both ends at one address, the reader not busy and no COMSET to a device's address
 /// issued: after m rounds that lose nothing, each with a tick that is due, m - 1 more commands and events of this session, or all of them, are settled and reported.
 /// With ticks that come as much later than the greatest moment seen as the longest of the controller's waits, that is so or the session
-/// has ended.
+/// has ended. After one such round the link is clear again and nobody waits for an answer, or the session has ended.
 pub fn comes_through<H: Handler>()
     ensures due { ComesThrough H.answer_of H.after }
     ensures in_time { ComesThroughInTime H.answer_of H.after }
+    ensures rest { ComesToRest H.answer_of H.after }
 {
     read_each_other::<H>();
     osdp_controller_laws::stays_in_range();

@@ -1,5 +1,5 @@
 -- After each move the reader is at an address of its link, and no packet on the line can send an end to any other.
-use Rattle.std.proofs.Common.{◌≡◌, ◌≢◌, ◌⊎◌, ◌<◌, ℕ, Bool, true, false, List, [], ◌∷◌, ◌++◌, Option, Some, None, IfSome, refl, sym, subst, ap, ◌∙◌, inl, inr, arith, append_assoc}
+use Rattle.std.proofs.Common.{◌≡◌, ◌≢◌, ◌⊎◌, ◌<◌, ℕ, Bool, true, false, ◌==◌, List, [], ◌∷◌, ◌++◌, length, Option, Some, None, IfSome, refl, sym, subst, ap, ◌∙◌, inl, inr, arith, append_assoc}
 use Rattle.std.proofs.lemmas.List.{append-nil}
 use Rattle.std.proofs.lemmas.Bool.Decides.{eqb_tells}
 use Rattle.std.specs.Prelude.{option_to_list}
@@ -15,28 +15,31 @@ use Rattle.osdp_controller.specs.Machine as controllers
 use Rattle.osdp_controller.specs.Sessions.{seen}
 use Rattle.osdp_controller.specs.Ticking.{ticks_in}
 use Rattle.osdp_controller.specs.declared.fault.ControllerFault.{ControllerFault}
+use Rattle.osdp_controller.specs.declared.report.Report.{Report}
 use Rattle.osdp_controller.specs.declared.state.State.{State}
 use Rattle.osdp_controller_laws.proofs.Closed.{was_closed}
 use Rattle.osdp_reader.specs.Table as reader
 use Rattle.osdp_reader.specs.declared.handler.Answer.{Answer}
-use Rattle.osdp_link_laws.specs.Headline.{SaysWhatFitsIf}
+use Rattle.osdp_link_laws.specs.Headline.{Begins, MovesFit, MoveFits, MaySubmit, SaysWhatFitsIf}
 use Rattle.osdp_link_laws.specs.Link as link
 use Rattle.osdp_link_laws.specs.Link.{Delivered, Delivery, Link, Lost, Move, Queue as QueueEvent, Reopen, Repeated, RestartController, RestartReader, Retarget, SetBusy, SetHandler, Submit, Tick, ToController, ToReader, Withdraw, after_move, run}
-use Rattle.osdp_link_laws.specs.Names.{IsCommandTo, IsName, IsReplyFrom, MayAsk, MovesController, MovesReader, accepted_for, asked_for, freed_by}
+use Rattle.osdp_link_laws.specs.Names.{IsCommandTo, IsReplyFrom, IsToldAsAsked, NameOneDevice, NamesOne, TellAsAsked}
+use Rattle.osdp_multidrop.specs.Names.{BeginsTogether, IsName, MayAsk, MayMove, MayMoves, MovesController, MovesReader, accepted_for, asked_for, freed_by, reserved_after, reserved_after_moves}
+use Rattle.osdp_link_laws.specs.Ordinary.{IsOrdinary}
 use Rattle.osdp_link_laws.specs.Peers.{ReadsWhatIsAnswered, ReadsWhatIsAsked}
-use Rattle.osdp_link_laws.specs.Refusals.{told_by_front}
-use Rattle.osdp_link_laws.proofs.ControllerNames.{HeardWell, StaysHere, heard_well}
-use Rattle.osdp_link_laws.proofs.Lines.{each_append, each_map}
-use Rattle.osdp_link_laws.proofs.ReaderNames.{IsFrom, IsStill, KeepsStill, ReaderGoes, ReaderStays, reader_well}
-use Rattle.osdp_link_laws.proofs.Reserved.{One, Sends, TickedWell, asked_in, moves_below, one_accepted, ticked_well}
+use Rattle.osdp_link_laws.specs.Progress.{NoComset}
+use Rattle.osdp_link_laws.specs.Refusals.{reports, told_by, told_by_front}
+use Rattle.osdp_multidrop.proofs.ControllerNames.{HeardWell, StaysHere, ToldAsAsked, heard_well}
+use Rattle.osdp_link_laws.proofs.Lines.{each_append, each_map, each_of, each_rest}
+use Rattle.osdp_multidrop.proofs.ReaderNames.{IsFrom, IsStill, KeepsStill, ReaderGoes, ReaderStays, reader_well}
+use Rattle.osdp_multidrop.proofs.Reserved.{One, Sends, TickedWell, asked_in, moves_below, one_accepted, one_of_none, tick_frees_none, ticked_well}
 use Rattle.osdp_link_laws.proofs.Stages.{Each}
-use Rattle.osdp_link_laws.proofs.ToldMoved.{ToldAsAsked}
 
 -- what a command on the line, and a reply, may name
-abbrev pub CommandNames : ℕ → Option ℕ → Packet → Type 0
+abbrev CommandNames : ℕ → Option ℕ → Packet → Type 0
 CommandNames here r p = (to : ℕ) → MovesReader to p → IsName here r to
 
-abbrev pub ReplyNames : ℕ → Option ℕ → ℕ → Packet → Type 0
+abbrev ReplyNames : ℕ → Option ℕ → ℕ → Packet → Type 0
 ReplyNames here r there p = (to : ℕ) → MovesController to p → IsName here r to × (there ≡ to)
 
 -- .. with the controller at the one address and the reader at the other
@@ -78,14 +81,14 @@ line_more : (P : Packet → Type 0) (ps : List Packet) (o : Option Packet) → E
 line_more P ps None all more = subst (Each P) (sym (append-nil ps)) all
 line_more P ps (Some p) all more = each_append P ps (p ∷ []) all (more, tt)
 
-pub if_map : {A : Type 0} (P Q : A → Type 0) (o : Option A) → ((x : A) → P x → Q x) → IfSome o P → IfSome o Q
+if_map : {A : Type 0} (P Q : A → Type 0) (o : Option A) → ((x : A) → P x → Q x) → IfSome o P → IfSome o Q
 if_map P Q None f h = tt
 if_map P Q (Some x) f h = f x h
 
 module _ {H : Type 0} (answer_of : H → Command → Answer) (after : H → Command → H) where
   -- ---- calls
 
-  pub submitting : (refusal : Option ControllerFault) (c : Command) (r : Option ℕ) (l : Link H) → MayAsk (comset_of c) r → CommandFits c → Keeps r l
+  submitting : (refusal : Option ControllerFault) (c : Command) (r : Option ℕ) (l : Link H) → MayAsk (comset_of c) r → CommandFits c → Keeps r l
       → Keeps (accepted_for refusal c r) (link.submits refusal c l)
   submitting (Some fault) c r l may fits h = h
   submitting None c r l may fits h =
@@ -109,14 +112,14 @@ module _ {H : Type 0} (answer_of : H → Command → Answer) (after : H → Comm
         };
       }
 
-  pub queueing : (full : Bool) (e : Event) (r : Option ℕ) (l : Link H) → Keeps r l → Keeps r (link.queues full e l)
+  queueing : (full : Bool) (e : Event) (r : Option ℕ) (l : Link H) → Keeps r l → Keeps r (link.queues full e l)
   queueing true e r l h = h
   queueing false e r l h = record { one = h.one; fits = h.fits; names = h.names }
 
   none_asked : (state : State) → controllers.refused_unless_closed state ≡ None → asked_in state ≡ []
   none_asked state e = ap asked_in (was_closed state e)
 
-  pub reopening : (refusal : Option ControllerFault) (ps qs : List Packet) (now : ℕ) (r : Option ℕ) (l : Link H) → controllers.begin_refusal l.controller ≡ refusal
+  reopening : (refusal : Option ControllerFault) (ps qs : List Packet) (now : ℕ) (r : Option ℕ) (l : Link H) → controllers.begin_refusal l.controller ≡ refusal
       → Keeps r l → Keeps r (link.reopens refusal ps qs now l)
   reopening (Some fault) ps qs now r l is h = h
   reopening None (p ∷ ps) qs now r l is h = h
@@ -129,7 +132,7 @@ module _ {H : Type 0} (answer_of : H → Command → Answer) (after : H → Comm
         names = h.names;
       }
 
-  pub ticking : ReadsWhatIsAsked → (now : ℕ) (r : Option ℕ) (l : Link H) → Keeps r l → Keeps r (after_move answer_of after (Tick now) l)
+  ticking : ReadsWhatIsAsked → (now : ℕ) (r : Option ℕ) (l : Link H) → Keeps r l → Keeps r (after_move answer_of after (Tick now) l)
   ticking reads now r l h =
       let here = l.controller.session.config.address in
       let t = ticks_in l.controller.session.state (seen now l.controller.session) l.controller.waiting in
@@ -222,7 +225,7 @@ module _ {H : Type 0} (answer_of : H → Command → Answer) (after : H → Comm
     names = record { device = h.names.device; reader = h.names.reader; commands = commands; replies = replies; stored = h.names.stored };
   }
 
-  pub to_reader_keeps : ReadsWhatIsAnswered → (how : Delivery) (ps : List Packet) (r : Option ℕ) (device : ℕ) (l : Link H) → l.to_reader ≡ ps → device < 127
+  to_reader_keeps : ReadsWhatIsAnswered → (how : Delivery) (ps : List Packet) (r : Option ℕ) (device : ℕ) (l : Link H) → l.to_reader ≡ ps → device < 127
       → Each (IsCommandTo device) ps → Each (IsReplyFrom device) l.to_controller → SaysWhatFitsIf answer_of after how ps l.reader → Keeps r l → Keeps r (link.to_reader answer_of after ps how l)
   to_reader_keeps reads how [] r device l is below to_device from_device fits h = h
   to_reader_keeps reads Delivered (p ∷ ps) r device l is below to_device from_device fits h =
@@ -334,7 +337,7 @@ module _ {H : Type 0} (answer_of : H → Command → Answer) (after : H → Comm
       let left = names_after r device q now l to_device from names told well.0 well.1 h.names in
       record { one = well.0.one; fits = well.0.fits; names = left }
 
-  pub to_controller_keeps : (how : Delivery) (qs : List Packet) (now : ℕ) (r : Option ℕ) (device : ℕ) (l : Link H) → l.to_controller ≡ qs
+  to_controller_keeps : (how : Delivery) (qs : List Packet) (now : ℕ) (r : Option ℕ) (device : ℕ) (l : Link H) → l.to_controller ≡ qs
       → Each (IsCommandTo device) l.to_reader → Each (IsReplyFrom device) qs → ToldAsAsked (told_by_front how qs now l.controller.session) → Keeps r l
       → Keeps (freed_by (told_by_front how qs now l.controller.session) r) (link.to_controller qs how now l)
   to_controller_keeps Delivered [] now r device l is to_device from told h = h
@@ -349,3 +352,103 @@ module _ {H : Type 0} (answer_of : H → Command → Answer) (after : H → Comm
   to_controller_keeps Repeated (q ∷ qs) now r device l is to_device from told h =
       let all = subst (Each (ReplyNames l.controller.session.config.address r l.reader.config.address)) is h.names.replies in
       hearing r device q now l to_device from.0 all.0 told h
+
+  -- ---- a move, and a list of them
+
+  pub keeps_move : ReadsWhatIsAsked → ReadsWhatIsAnswered → (move : Move H) (r : Option ℕ) (l : Link H) (device : ℕ) → NamesOne device l.to_reader l.to_controller
+      → IsOrdinary move → MoveFits answer_of after move l → ToldAsAsked (told_by move l) → MayMove move r → Keeps r l → Keeps (reserved_after move l r) (after_move answer_of after move l)
+  keeps_move asked answered (Submit c) r l device one ordinary fits told may h = submitting (controllers.submit_refusal c l.controller) c r l may fits h
+  keeps_move asked answered (QueueEvent e) r l device one ordinary fits told may h =
+      queueing (length l.reader.queue.events == l.reader.queue.capacity) e r l h
+  keeps_move asked answered (SetBusy busy) r l device one ordinary fits told may h =
+      record { one = h.one; fits = h.fits; names = h.names }
+  keeps_move asked answered (Tick now) r l device one ordinary fits told may h =
+      subst (λ k. Keeps k (after_move answer_of after (Tick now) l))
+      (sym (tick_frees_none r l.controller.session.state (seen now l.controller.session) l.controller.waiting))
+      (ticking asked now r l h)
+  keeps_move asked answered (ToReader how) r l device one ordinary fits told may h =
+      to_reader_keeps answered how l.to_reader r device l refl one.below (each_of (IsCommandTo device) l.to_reader one.commands)
+      (each_of (IsReplyFrom device) l.to_controller one.replies) fits h
+  keeps_move asked answered (ToController how now) r l device one ordinary fits told may h =
+      to_controller_keeps how l.to_controller now r device l refl (each_of (IsCommandTo device) l.to_reader one.commands)
+      (each_of (IsReplyFrom device) l.to_controller one.replies) told h
+  keeps_move asked answered (Reopen now) r l device one ordinary fits told may h =
+      reopening (controllers.begin_refusal l.controller) l.to_reader l.to_controller now r l refl h
+  keeps_move asked answered (SetHandler handler) r l device one ordinary fits told may h = absurd ordinary
+  keeps_move asked answered Withdraw r l device one ordinary fits told may h = absurd ordinary
+  keeps_move asked answered (Retarget address) r l device one ordinary fits told may h = absurd ordinary
+  keeps_move asked answered (RestartReader address handler room) r l device one ordinary fits told may h = absurd ordinary
+  keeps_move asked answered (RestartController config room) r l device one ordinary fits told may h = absurd ordinary
+
+  -- ---- one list of moves after another
+
+  pub run_more : (ms more : List (Move H)) (l : Link H) → run answer_of after (ms ++ more) l ≡ run answer_of after more (run answer_of after ms l)
+  run_more [] more l = refl
+  run_more (m ∷ ms) more l = run_more ms more (after_move answer_of after m l)
+
+  pub moves_more : (ms more : List (Move H)) (l : Link H) → MovesFit answer_of after ms l → MovesFit answer_of after more (run answer_of after ms l)
+      → MovesFit answer_of after (ms ++ more) l
+  moves_more [] more l first last = last
+  moves_more (m ∷ ms) more l first last = (first.0, moves_more ms more (after_move answer_of after m l) first.1 last)
+
+  told_last : (ms : List (Move H)) (m : Move H) (l : Link H) → Each IsToldAsAsked (reports answer_of after (ms ++ m ∷ []) l)
+      → ToldAsAsked (told_by m (run answer_of after ms l))
+  told_last [] m l told = of_option (told_by m l) told
+    where
+      of_option : (o : Option Report) → Each IsToldAsAsked (option_to_list o ++ []) → ToldAsAsked o
+      of_option None told = tt
+      of_option (Some r) told = told.0
+  told_last (n ∷ ms) m l told =
+      let next = after_move answer_of after n l in
+      told_last ms m next (each_rest IsToldAsAsked (option_to_list (told_by n l)) (reports answer_of after (ms ++ m ∷ []) next) told)
+
+  -- a link that a first session has begun on, and moves have led to
+  pub record IsLed (first : Link H) (moves : List (Move H)) (l : Link H) : Type 0 where
+    pub begins : Begins first
+    pub fits : MovesFit answer_of after moves first
+    pub ordinary : Each IsOrdinary moves
+    pub leads : l ≡ run answer_of after moves first
+
+  pub led_on : (first : Link H) (moves more : List (Move H)) (l : Link H) → IsLed first moves l → MovesFit answer_of after more l → Each IsOrdinary more
+      → IsLed first (moves ++ more) (run answer_of after more l)
+  led_on first moves more l led fits ordinary = record {
+    begins = led.begins;
+    fits = moves_more moves more first led.fits (subst (MovesFit answer_of after more) led.leads fits);
+    ordinary = each_append IsOrdinary moves more led.ordinary ordinary;
+    leads = ap (run answer_of after more) led.leads ∙ sym (run_more moves more first);
+  }
+
+  pub keeps_all : ReadsWhatIsAsked → ReadsWhatIsAnswered → NameOneDevice answer_of after → TellAsAsked answer_of after
+      → (first : Link H) (done moves : List (Move H)) (r : Option ℕ) (l : Link H) → IsLed first done l → Each IsOrdinary moves
+      → MovesFit answer_of after moves l → MayMoves answer_of after moves l r → Keeps r l
+      → Keeps (reserved_after_moves answer_of after moves l r) (run answer_of after moves l)
+  keeps_all asked answered names tells first done [] r l led ordinary fits may h = h
+  keeps_all asked answered names tells first done (move ∷ moves) r l led ordinary fits may h =
+      let named : (device : ℕ) × NamesOne device l.to_reader l.to_controller =
+      subst (λ k. (device : ℕ) × NamesOne device k.to_reader k.to_controller) (sym led.leads) (names first done led.begins led.fits) in
+      let next = led_on first done (move ∷ []) l led (fits.0, tt) (ordinary.0, tt) in
+      let told = subst (λ k. ToldAsAsked (told_by move k)) (sym led.leads) (told_last done move first
+      (each_of IsToldAsAsked (reports answer_of after (done ++ move ∷ []) first) (tells first (done ++ move ∷ []) led.begins next.fits))) in
+      keeps_all asked answered names tells first (done ++ move ∷ []) moves (reserved_after move l r) (after_move answer_of after move l) next ordinary.1 fits.1 may.1
+      (keeps_move asked answered move r l named.0 named.1 ordinary.0 fits.0 told may.0 h)
+
+  -- both ends begin together
+  waiting_fit : (cs : List Command) → Each MaySubmit cs → Each CommandFits cs
+  waiting_fit [] may = tt
+  waiting_fit (c ∷ cs) may = (may.0.fits, waiting_fit cs may.1)
+
+  pub starts : (l : Link H) → BeginsTogether l → Keeps None l
+  starts l b =
+      let cs = l.controller.waiting in
+      let here = l.controller.session.config.address in
+      record {
+        one = subst (λ state. One None (asked_in state ++ cs)) (sym b.begins.quiet.1) (one_of_none None cs (each_of NoComset cs b.waiting));
+        fits = subst (λ state. Each CommandFits (asked_in state ++ cs)) (sym b.begins.quiet.1) (waiting_fit cs (each_of MaySubmit cs b.begins.waiting));
+        names = record {
+          device = subst (λ a. a < 127) (sym b.together) b.begins.address;
+          reader = inl b.together;
+          commands = subst (Each (CommandNames here None)) (sym b.begins.to_reader) tt;
+          replies = subst (Each (ReplyNames here None l.reader.config.address)) (sym b.begins.to_controller) tt;
+          stored = subst (λ o. IfSome o (λ q. IsFrom l.reader.config.address q × IsStill q)) (sym b.stored) tt;
+        };
+      }

@@ -15,7 +15,7 @@ use Rattle.osdp_controller.specs.declared.exchange.Outstanding.{Outstanding}
 use Rattle.osdp_controller.specs.declared.session.Session.{Session}
 use Rattle.osdp_controller.specs.declared.state.State.{State}
 use Rattle.osdp_controller.specs.declared.state.State.TheVariants.{Closed, Quiet, Idle, Waiting, Pausing}
-use Rattle.osdp_link_laws.specs.Names.{MovesReader, asked_for, freed_by, MayAsk}
+use Rattle.osdp_multidrop.specs.Names.{MovesReader, asked_for, freed_by, MayAsk}
 use Rattle.osdp_link_laws.specs.Peers.{ReadsWhatIsAsked}
 use Rattle.osdp_link_laws.specs.Progress.{NoComset}
 use Rattle.osdp_link_laws.proofs.Lines.{both, each_append, each_rest}

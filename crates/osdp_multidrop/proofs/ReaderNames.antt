@@ -26,7 +26,7 @@ use Rattle.osdp_reader.specs.declared.handler.Answer.{Answer}
 use Rattle.osdp_reader.specs.declared.handler.Answer.TheVariants as answer
 use Rattle.osdp_reader.specs.declared.kind.Kind.{Kind}
 use Rattle.osdp_reader.specs.declared.kind.Kind.TheVariants as kind
-use Rattle.osdp_link_laws.specs.Names.{MovesController, MovesReader}
+use Rattle.osdp_multidrop.specs.Names.{MovesController, MovesReader}
 use Rattle.osdp_link_laws.specs.Peers.{ReadsWhatIsAnswered}
 
 -- ---- which answers are COM

@@ -1,5 +1,5 @@
 -- What a packet may make of the controller's address, and of the one that is kept for its COMSET.
-use Rattle.std.proofs.Common.{◌≡◌, ◌⊎◌, ◌<◌, ◌+◌, ℕ, Bool, true, false, cond, eqb, ltb, List, [], ◌∷◌, ◌++◌, Option, Some, None, refl, sym, subst, ap, ◌∙◌, inl, inr}
+use Rattle.std.proofs.Common.{◌≡◌, ◌⊎◌, ◌<◌, ◌+◌, ℕ, Bool, true, false, cond, eqb, ltb, List, [], ◌∷◌, ◌++◌, Option, Some, None, IfSome, refl, sym, subst, ap, ◌∙◌, inl, inr}
 use Rattle.std.proofs.lemmas.Bool.{ltb-true}
 use Rattle.std.proofs.lemmas.Bool.Decides.{eqb_tells}
 use Rattle.std.specs.Prelude.{◌&&◌, not}
@@ -22,15 +22,19 @@ use Rattle.osdp_controller.specs.declared.exchange.Exchange.TheVariants.{Opening
 use Rattle.osdp_controller.specs.declared.exchange.Outstanding.{Outstanding}
 use Rattle.osdp_controller.specs.declared.report.LostCause.{LostCause}
 use Rattle.osdp_controller.specs.declared.report.LostCause.TheVariants as causes
+use Rattle.osdp_controller.specs.declared.report.Report.{Report}
 use Rattle.osdp_controller.specs.declared.report.Report.TheVariants as report
 use Rattle.osdp_controller.specs.declared.session.Session.{Session}
 use Rattle.osdp_controller.specs.declared.state.State.{State}
 use Rattle.osdp_controller.specs.declared.state.State.TheVariants.{Closed, Quiet, Idle, Waiting, Pausing}
-use Rattle.osdp_link_laws.specs.Names.{IsNoDevice, freed_by, freed_for}
+use Rattle.osdp_link_laws.specs.Names.{IsNoDevice, IsToldAsAsked}
+use Rattle.osdp_multidrop.specs.Names.{freed_by, freed_for}
 use Rattle.osdp_link_laws.proofs.Lines.{both, each_rest}
-use Rattle.osdp_link_laws.proofs.Reserved.{One, asked_in, front_is, one_of_none, one_rest}
+use Rattle.osdp_multidrop.proofs.Reserved.{One, asked_in, front_is, one_of_none, one_rest}
 use Rattle.osdp_link_laws.proofs.Stages.{Each, pending}
-use Rattle.osdp_link_laws.proofs.ToldMoved.{ToldAsAsked}
+
+abbrev pub ToldAsAsked : Option Report → Type 0
+ToldAsAsked r = IfSome r IsToldAsAsked
 
 com_is : (a : Reply) (d : Communication) → com_of a ≡ Some d → a ≡ reply.Com d
 com_is (reply.Com e) d is = ap reply.Com cc
