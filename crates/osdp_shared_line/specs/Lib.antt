@@ -1,0 +1,4 @@
+pub mod Line
+pub mod Views
+pub mod Addresses
+pub mod Runs
