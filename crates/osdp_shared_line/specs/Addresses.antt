@@ -48,6 +48,13 @@ asked_in (Waiting until sends o) = asked_by o.exchange
 asked_in (Pausing until o) = asked_by o.exchange
 asked_in _ = []
 
+-- what takes the reader of this place to another address stands after all that others said to that address: none of them is left once it
+-- is read
+abbrev pub IsInOrder : ℕ → List (ℕ × Packet) → Type 0
+IsInOrder k [] = Unit {0}
+IsInOrder k (p ∷ ps) =
+    All (λ (q : ℕ × Packet). p.0 ≡ k → q.0 ≢ k → (to : ℕ) → SetsReader to p.1 → q.1.address ≢ to) ps × IsInOrder k ps
+
 -- the packet in front, whoever sent it
 abbrev pub in_front : List (ℕ × Packet) → List Packet
 in_front [] = []
@@ -74,6 +81,12 @@ module _ {H : Type 0} where
   abbrev pub AreApart : List (Site H) → Type 0
   AreApart ss = (j k : ℕ) (s t : Site H) → j ≢ k → site_at j ss ≡ Some s → site_at k ss ≡ Some t
       → (address : ℕ) → IsNameOf address j s → IsNameOf address k t → ⊥
+
+  -- none is an address of two sites; nobody else hears what a site says; and no COMSET takes a reader to where it would
+  pub record IsHeardByNobodyElse (n : Net H) : Type 0 where
+    pub addresses : AreApart n.sites
+    pub heard : HeardByOwn n
+    pub order : (k : ℕ) (s : Site H) → site_at k n.sites ≡ Some s → IsInOrder k s.coming
 
   -- ---- what a program makes sure of
 
@@ -123,19 +136,7 @@ module _ {H : Type 0} where
     NetMovesFit [] n = Unit {0}
     NetMovesFit (move ∷ moves) n = NetMoveFits move n × NetMovesFit moves (after_net answer_of after move n)
 
-    -- ---- nobody else hears
-
-    -- what takes the reader of this place to another address stands after all that others said to that address: none of them is left once
-    -- it is read
-    abbrev pub IsInOrder : ℕ → List (ℕ × Packet) → Type 0
-    IsInOrder k [] = Unit {0}
-    IsInOrder k (p ∷ ps) =
-        All (λ (q : ℕ × Packet). p.0 ≡ k → q.0 ≢ k → (to : ℕ) → SetsReader to p.1 → q.1.address ≢ to) ps × IsInOrder k ps
-
-    pub record IsHeardByNobodyElse (n : Net H) : Type 0 where
-      pub addresses : AreApart n.sites
-      pub heard : HeardByOwn n
-      pub order : (k : ℕ) (s : Site H) → site_at k n.sites ≡ Some s → IsInOrder k s.coming
+    -- ---- nobody else hears, whatever happens
 
     abbrev pub NobodyElseHears : Type 0
     NobodyElseHears = (n : Net H) (moves : List (NetMove H)) → IsSetUp n → NetMovesFit moves n

@@ -37,13 +37,14 @@ module _ {H : Type 0} (answer_of : H → Command → Answer) (after : H → Comm
   -- reported once and in order
   abbrev pub EachHoldsOnce : Type 0
   EachHoldsOnce = (n : Net H) (moves : List (NetMove H)) → IsSetUp n → NetMovesFit answer_of after moves n
-      → (k : ℕ) (last : Site H) → site_at k (run answer_of after moves n).sites ≡ Some last → EachIsOnce (last.account ∷ last.earlier)
+      → (k : ℕ) (first last : Site H) → site_at k n.sites ≡ Some first → site_at k (run answer_of after moves n).sites ≡ Some last
+      → EachIsOnce (last.account ∷ last.earlier)
 
   -- no session of a site in which its reader hasn't restarted ends because the reader refused a number, whatever comes next
   abbrev pub EachRefusesNoNumber : Type 0
   EachRefusesNoNumber = (n : Net H) (moves : List (NetMove H)) → IsSetUp n → NetMovesFit answer_of after moves n
-      → (k : ℕ) (last : Site H) → site_at k (run answer_of after moves n).sites ≡ Some last → last.account.restarts ≡ 0
-      → (move : Move H) → IfSome (told_by move (view k last (run answer_of after moves n))) IsNoRefusal
+      → (k : ℕ) (first last : Site H) → site_at k n.sites ≡ Some first → site_at k (run answer_of after moves n).sites ≡ Some last
+      → last.account.restarts ≡ 0 → (move : Move H) → IfSome (told_by move (view k last (run answer_of after moves n))) IsNoRefusal
 
   -- the sessions of each site are in a row; its commands and events have their places in them; and over all of them no command is taken
   -- twice: those taken are a beginning of those accepted, but for some of those that have ended without being settled
