@@ -1,19 +1,18 @@
 -- Names and lines: what is kept of every site and of the line, so that nobody else hears what a site says.
-use Rattle.std.proofs.Common.{◌≡◌, ◌≢◌, ◌⊎◌, ◌<◌, ℕ, zero, suc, List, [], ◌∷◌, ◌++◌, Option, Some, None, IfSome, refl, sym, subst, ap, ◌∙◌, inl, inr}
-use Rattle.std.proofs.lemmas.Bool.Decides.{eqb_tells}
+use Rattle.std.proofs.Common.{◌≡◌, ◌≢◌, ◌⊎◌, ◌<◌, ℕ, zero, suc, List, [], ◌∷◌, ◌++◌, Some, refl, sym, subst, ap, ◌∙◌, inl, inr}
 use Rattle.osdp_frame.specs.Packet.{Packet}
 use Rattle.osdp_msg.specs.CommandTable.{CommandFits}
 use Rattle.osdp_msg.specs.declared.command.Command.{Command}
 use Rattle.osdp_controller.specs.declared.state.State.TheVariants.{Closed}
 use Rattle.osdp_link_laws.specs.Link.{lost_at}
-use Rattle.osdp_link_laws.proofs.Lines.{each_append, each_map, each_rest}
+use Rattle.osdp_link_laws.proofs.Lines.{each_append, each_map}
 use Rattle.osdp_link_laws.proofs.Stages.{Each}
 use Rattle.osdp_shared_line.specs.Addresses.{AreApart, IsAsked, IsNameOf, IsSaid, IsThere, MayComeTo, Sets, SetsReader, Somewhere, unended}
 use Rattle.osdp_shared_line.specs.Line.{Net, Site, address_of, changed, site_at, tagged}
 use Rattle.osdp_shared_line.proofs.Controllers.{AreLeft}
-use Rattle.osdp_shared_line.proofs.Lists.{each_kept, nowhere, somewhere_front, somewhere_kept, somewhere_map, somewhere_rest, somewhere_split}
+use Rattle.osdp_shared_line.proofs.Lists.{each_kept, somewhere_rest}
 use Rattle.osdp_shared_line.proofs.Readers.{StoresOwn}
-use Rattle.osdp_shared_line.proofs.Sites.{at_changed, at_other, changed_from, some_same}
+use Rattle.osdp_shared_line.proofs.Sites.{changed_from}
 
 -- ---- the order of what is said to a reader
 

@@ -1,8 +1,7 @@
 -- A site changes, and gives up nothing that keeps it apart: what calls, losses and restarts do.
-use Rattle.std.proofs.Common.{◌≡◌, ◌≢◌, ◌⊎◌, ◌<◌, ◌+◌, ℕ, zero, suc, Bool, true, false, cond, leb, ltb, eqb, List, [], ◌∷◌, ◌++◌, length, Option, Some, None, IfSome, refl, sym, subst, ap, ◌∙◌, inl, inr, arith, append_assoc}
+use Rattle.std.proofs.Common.{◌≡◌, ◌≢◌, ◌⊎◌, ◌<◌, ℕ, zero, suc, Bool, true, false, cond, leb, ltb, List, [], ◌∷◌, ◌++◌, Option, Some, None, IfSome, refl, sym, subst, ap, ◌∙◌, inl, inr, append_assoc}
 use Rattle.std.proofs.lemmas.Bool.{ltb-true}
-use Rattle.std.proofs.lemmas.Bool.Decides.{eqb_tells}
-use Rattle.std.specs.Prelude.{◌==◌, ◌||◌, is_some}
+use Rattle.std.specs.Prelude.{◌||◌, is_some}
 use Rattle.osdp_frame.specs.Packet.{Packet}
 use Rattle.osdp_msg.specs.CommandTable.{CommandFits}
 use Rattle.osdp_msg.specs.declared.command.Command.{Command}
@@ -16,22 +15,20 @@ use Rattle.osdp_controller.specs.declared.fault.ControllerFault.{ControllerFault
 use Rattle.osdp_controller.specs.declared.fault.ControllerFault.TheVariants.{OutOfRange}
 use Rattle.osdp_controller.specs.declared.state.State.{State}
 use Rattle.osdp_controller.specs.declared.state.State.TheVariants.{Closed, Quiet, Idle, Waiting, Pausing}
-use Rattle.osdp_reader.specs.Table.{new_address}
 use Rattle.osdp_reader.specs.declared.handler.Answer.{Answer}
 use Rattle.osdp_link_laws.specs.Link as link
 use Rattle.osdp_link_laws.specs.Link.{lost_at}
 use Rattle.osdp_link_laws.proofs.Lines.{each_append, each_map, each_of, each_rest}
 use Rattle.osdp_link_laws.proofs.Numbers.{is_true}
 use Rattle.osdp_link_laws.proofs.Stages.{Each}
-use Rattle.osdp_shared_line.specs.Addresses.{HasNoOther, IsAsked, IsFreeFor, IsNameOf, IsSaid, IsThere, MayComeTo, Sets, Somewhere, asked_in, unended}
+use Rattle.osdp_shared_line.specs.Addresses.{HasNoOther, IsAsked, IsFreeFor, IsNameOf, IsSaid, IsThere, Sets, Somewhere, asked_in, unended}
 use Rattle.osdp_shared_line.specs.Line as line
 use Rattle.osdp_shared_line.specs.Line.{Net, Site, address_of, calls, changed, is_comset_refused, is_reserved, is_retarget_refused, is_taken, is_taken_beside, site_at, takes_up}
 use Rattle.osdp_shared_line.specs.Views.{IsQuiet}
-use Rattle.osdp_shared_line.proofs.Apart.{Apart, IsAway, IsClosed, IsKept, IsToClosed, IsToDevice, NamesGo, Ordered, Stays, all_left, changes_one, each_any, kept_one, names_less, names_one, one_changes, ordered_lost, reader_address}
+use Rattle.osdp_shared_line.proofs.Apart.{Apart, IsAway, IsClosed, IsKept, IsToClosed, IsToDevice, NamesGo, Ordered, all_left, changes_one, kept_one, names_less, names_one, one_changes, ordered_lost, reader_address}
 use Rattle.osdp_shared_line.proofs.Controllers.{AreLeft}
 use Rattle.osdp_shared_line.proofs.Lists.{each_kept, somewhere_kept, somewhere_split}
-use Rattle.osdp_shared_line.proofs.Readers.{StoresOwn}
-use Rattle.osdp_shared_line.proofs.Sites.{changed_from, some_same}
+use Rattle.osdp_shared_line.proofs.Sites.{some_same}
 
 -- ---- tests
 
@@ -196,27 +193,50 @@ module _ {H : Type 0} where
 
     pub queueing : (full : Bool) (e : Event) (s : Site H) → Quietly s (line.left_by s (link.queues full e (line.link_of s [] [])))
     queueing true e s = record {
-      address = refl; left = all_left (unended s); reader = refl; stored = refl; closed = λ is. is; coming = Nothing refl;
+      address = refl;
+      left = all_left (unended s);
+      reader = refl;
+      stored = refl;
+      closed = λ is. is;
+      coming = Nothing refl;
     }
     queueing false e s = record {
-      address = refl; left = all_left (unended s); reader = refl; stored = refl; closed = λ is. is; coming = Nothing refl;
+      address = refl;
+      left = all_left (unended s);
+      reader = refl;
+      stored = refl;
+      closed = λ is. is;
+      coming = Nothing refl;
     }
 
     pub busying : (busy : Bool) (s : Site H) → Quietly s (calls answer_of after (link.SetBusy busy) s)
     busying busy s = record {
-      address = refl; left = all_left (unended s); reader = refl; stored = refl; closed = λ is. is; coming = Nothing refl;
+      address = refl;
+      left = all_left (unended s);
+      reader = refl;
+      stored = refl;
+      closed = λ is. is;
+      coming = Nothing refl;
     }
 
     pub handling : (handler : H) (s : Site H) → Quietly s (calls answer_of after (link.SetHandler handler) s)
     handling handler s = record {
-      address = refl; left = all_left (unended s); reader = refl; stored = refl; closed = λ is. is; coming = Nothing refl;
+      address = refl;
+      left = all_left (unended s);
+      reader = refl;
+      stored = refl;
+      closed = λ is. is;
+      coming = Nothing refl;
     }
 
     pub withdrawing : (s : Site H) → Quietly s (line.withdraws answer_of after s)
     withdrawing s = record {
       address = refl;
       left = left_withdrawn s.controller.session.state s.controller.waiting;
-      reader = refl; stored = refl; closed = λ is. is; coming = Nothing refl;
+      reader = refl;
+      stored = refl;
+      closed = λ is. is;
+      coming = Nothing refl;
     }
 
     -- ---- a command: a COMSET asks for an address that is free
@@ -225,7 +245,12 @@ module _ {H : Type 0} where
         → ((a : ℕ) → Sets a c → (j : ℕ) (u : Site H) → j ≢ i → site_at j n.sites ≡ Some u → IsNameOf a j u → ⊥) → CommandFits c → Apart n
         → Apart (record n { sites = changed i (line.keeping r (line.left_by s (link.submits fault c (line.link_of s [] [])))) n.sites })
     submitted (Some fault) r i c s n at free fits a = quietly i s (line.keeping r s) n at (record {
-      address = refl; left = all_left (unended s); reader = refl; stored = refl; closed = λ is. is; coming = Nothing refl;
+      address = refl;
+      left = all_left (unended s);
+      reader = refl;
+      stored = refl;
+      closed = λ is. is;
+      coming = Nothing refl;
     }) a
     submitted None r i c s n at free fits a = one_changes i s t n at names kept (inr (refl, λ is. is)) a
       where
@@ -285,13 +310,23 @@ module _ {H : Type 0} where
         → ((j : ℕ) (u : Site H) → j ≢ i → site_at j n.sites ≡ Some u → IsNameOf address j u → ⊥) → Apart n
         → Apart (record n { sites = changed i (line.keeping r (line.left_by s (link.retargets fault address (line.link_of s [] [])))) n.sites })
     retargeted (Some fault) r i address s n may at free a = quietly i s (line.keeping r s) n at (record {
-      address = refl; left = all_left (unended s); reader = refl; stored = refl; closed = λ is. is; coming = Nothing refl;
+      address = refl;
+      left = all_left (unended s);
+      reader = refl;
+      stored = refl;
+      closed = λ is. is;
+      coming = Nothing refl;
     }) a
     retargeted None r i address s n may at free a =
         let is = may_retarget address s.controller.session.state may in
         let h = a.kept i s at in
         one_changes i s t n at (names) (record {
-          device = is.1; fits = h.fits; devices = h.devices; away = h.away; order = h.order; stored = h.stored;
+          device = is.1;
+          fits = h.fits;
+          devices = h.devices;
+          away = h.away;
+          order = h.order;
+          stored = h.stored;
         }) (inl is.0) a
       where
         t : Site H
@@ -319,8 +354,12 @@ module _ {H : Type 0} where
     reopened None now i s n may quiet at a = record {
       names = names_one i s t n.sites next at from (λ b name. inl (names b name)) a.names;
       kept = kept_one i t n.sites next from (record {
-        device = h.device; fits = subst (λ q. Each CommandFits (asked_in q ++ s.controller.waiting)) closed h.fits;
-        devices = h.devices; away = h.away; order = h.order; stored = h.stored;
+        device = h.device;
+        fits = subst (λ q. Each CommandFits (asked_in q ++ s.controller.waiting)) closed h.fits;
+        devices = h.devices;
+        away = h.away;
+        order = h.order;
+        stored = h.stored;
       }) a.kept;
       panel = panel n.to_panel a.panel
           (each_of (λ (q : ℕ × Packet). (q.0 ≢ i) × (q.1.address ≢ address_of s)) n.to_panel (quiet refl).to_panel);
@@ -379,7 +418,12 @@ module _ {H : Type 0} where
         restarted s at may =
             let h = a.kept i s at in
             one_changes i s t n at names (record {
-              device = h.device; fits = h.fits; devices = h.devices; away = away may; order = h.order; stored = tt;
+              device = h.device;
+              fits = h.fits;
+              devices = h.devices;
+              away = away may;
+              order = h.order;
+              stored = tt;
             }) (inr (refl, λ is. is)) a
           where
             t : Site H

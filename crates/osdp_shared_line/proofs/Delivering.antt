@@ -1,5 +1,5 @@
 -- What is said and read keeps all sites apart.
-use Rattle.std.proofs.Common.{◌≡◌, ◌≢◌, ◌⊎◌, ◌<◌, ◌+◌, ℕ, zero, suc, Bool, true, false, cond, List, [], ◌∷◌, ◌++◌, Option, Some, None, IfSome, refl, sym, subst, ap, ◌∙◌, inl, inr, arith, append_assoc}
+use Rattle.std.proofs.Common.{◌≡◌, ◌≢◌, ◌⊎◌, ◌<◌, ℕ, suc, Bool, true, false, cond, List, [], ◌∷◌, ◌++◌, Option, Some, None, IfSome, refl, sym, subst, ap, ◌∙◌, inl, inr, append_assoc}
 use Rattle.std.proofs.lemmas.Bool.Decides.{eqb_tells}
 use Rattle.std.proofs.lemmas.List.{append-nil}
 use Rattle.std.specs.Prelude.{◌==◌, map, option_to_list}
@@ -19,10 +19,10 @@ use Rattle.osdp_link_laws.proofs.Stages.{Each}
 use Rattle.osdp_shared_line.specs.Addresses.{IsAsked, IsNameOf, IsSaid, IsThere, MayComeTo, Sets, SetsReader, Somewhere, asked_in, unended}
 use Rattle.osdp_shared_line.specs.Line as line
 use Rattle.osdp_shared_line.specs.Line.{Net, Site, address_of, changed, first_gets, gets, is_told, left_by, link_of, site_at, tagged}
-use Rattle.osdp_shared_line.proofs.Apart.{Apart, IsAfter, IsAway, IsClosed, IsKept, IsOwnComset, IsToClosed, IsToDevice, NamesGo, Ordered, all_left, changes_one, each_any, each_tagged, kept_one, names_one, one_changes, ordered_more, others_ordered, own_ordered, panel_one, reader_address, with_panel}
-use Rattle.osdp_shared_line.proofs.Changing.{IsRead, Nothing, One, Quietly, each_left, fewer, quietly, same, still_ordered}
+use Rattle.osdp_shared_line.proofs.Apart.{Apart, IsAfter, IsAway, IsClosed, IsKept, IsOwnComset, IsToClosed, IsToDevice, NamesGo, Ordered, all_left, each_any, each_tagged, one_changes, ordered_more, others_ordered, own_ordered, reader_address, with_panel}
+use Rattle.osdp_shared_line.proofs.Changing.{Nothing, One, Quietly, fewer, quietly, same}
 use Rattle.osdp_shared_line.proofs.Controllers.{AreLeft, IsSent, hears_well, ticks_well}
-use Rattle.osdp_shared_line.proofs.Hearing.{closed_hears, for_reader, silent}
+use Rattle.osdp_shared_line.proofs.Hearing.{closed_hears, silent}
 use Rattle.osdp_shared_line.proofs.Lists.{nowhere, somewhere_front, somewhere_split}
 use Rattle.osdp_shared_line.proofs.Readers.{ReadsWell, reads_well}
 use Rattle.osdp_shared_line.proofs.Sites.{at_changed, changed_from, map_from, some_same}

@@ -1,5 +1,5 @@
 -- Each site is its link after every list of moves, so each law of a link is one of each site.
-use Rattle.std.proofs.Common.{◌≡◌, ◌≢◌, ℕ, Bool, true, false, cond, eqb, List, [], ◌∷◌, ◌++◌, Option, Some, None, IfSome, refl, sym, subst, ap, ◌∙◌, inl, inr}
+use Rattle.std.proofs.Common.{◌≡◌, ℕ, cond, eqb, List, [], ◌∷◌, ◌++◌, Option, Some, None, IfSome, refl, sym, subst, ap, ◌∙◌, inl, inr}
 use Rattle.std.proofs.lemmas.Bool.Decides.{eqb_tells}
 use Rattle.std.specs.Prelude.{option_map, option_to_list}
 use Rattle.osdp_frame.specs.Packet.{Packet}
@@ -14,7 +14,7 @@ use Rattle.osdp_link_laws.specs.Peers.{ReadsWhatIsAsked}
 use Rattle.osdp_link_laws.specs.Refusals.{IsNoRefusal, RefusesNoNumber, told_by}
 use Rattle.osdp_link_laws.specs.Sessions.{AreInARow, CommandsHavePlaces, EventsHavePlaces, HaveLeft, IsAmong, LastOneLasts, LastsOrLeaves, StayInARow, TakesNoneTwice, all_queued, all_submitted, all_taken, ended_commands, unsettled_in}
 use Rattle.osdp_link_laws.proofs.Lines.{both}
-use Rattle.osdp_shared_line.specs.Addresses.{IsSetUp, NetMoveFits, NetMovesFit, in_front}
+use Rattle.osdp_shared_line.specs.Addresses.{NetMoveFits, NetMovesFit, in_front}
 use Rattle.osdp_shared_line.specs.Line.{LoseToPanel, LoseToReader, Net, NetMove, Queue, Reopen, RestartPanel, RestartReader, Retarget, SetBusy, SetHandler, Site, Submit, Tick, ToPanel, ToReader, Withdraw, address_of, after_net, is_comset_refused, is_retarget_refused, run, site_at}
 use Rattle.osdp_shared_line.specs.Runs.{EachHasSessionsInARow, EachHoldsOnce, EachIsALink, EachRefusesNoNumber, IsItsLink, moves_at, moves_of}
 use Rattle.osdp_shared_line.specs.Views as views

@@ -122,8 +122,8 @@ module _ {H : Type 0} (answer_of : H → Command → Answer) (after : H → Comm
       let q = quiet refl in
       let there = own_none k s.coming (each_of (λ (p : ℕ × Packet). p.0 ≢ k) s.coming q.coming) in
       let back = own_none k n.to_panel (each_map (λ (p : ℕ × Packet). (p.0 ≢ k) × (p.1.address ≢ address_of s)) (λ (p : ℕ × Packet). p.0 ≢ k)
-          (λ p is. is.0) n.to_panel
-          (each_of (λ (p : ℕ × Packet). (p.0 ≢ k) × (p.1.address ≢ address_of s)) n.to_panel q.to_panel)) in
+      (λ p is. is.0) n.to_panel
+      (each_of (λ (p : ℕ × Packet). (p.0 ≢ k) × (p.1.address ≢ address_of s)) n.to_panel q.to_panel)) in
       ap (λ ps. link_of (left_by s (link.reopens None [] [] now (link_of s [] []))) ps (own k n.to_panel)) there
       ∙ ap (λ qs. link_of (left_by s (link.reopens None [] [] now (link_of s [] []))) [] qs) back
       ∙ sym (ap (λ ps. link.reopens None ps (own k n.to_panel) now (link_of s ps (own k n.to_panel))) there
@@ -172,11 +172,10 @@ module _ {H : Type 0} (answer_of : H → Command → Answer) (after : H → Comm
       (site_at k next.sites ≡ Some (left_by t l))
       × (view k (left_by t l) next ≡ link.reader_gets answer_of after p (link_of t (own k t.coming) (own k n.to_panel)))
   hears_own k p s t n is =
-      let l = link.reader_gets answer_of after p (link_of t [] []) in
-      (
+      let l = link.reader_gets answer_of after p (link_of t [] []) in (
         at_changed k (left_by t l) s n.sites is,
         ap (λ qs. link_of (left_by t l) (own k t.coming) qs)
-        (own_append k n.to_panel (tagged k l.to_controller) ∙ ap (λ qs. own k n.to_panel ++ qs) (own_mine k l.to_controller)),
+            (own_append k n.to_panel (tagged k l.to_controller) ∙ ap (λ qs. own k n.to_panel ++ qs) (own_mine k l.to_controller)),
       )
 
   -- .. or what another did, and is silent
@@ -185,12 +184,11 @@ module _ {H : Type 0} (answer_of : H → Command → Answer) (after : H → Comm
       (site_at k next.sites ≡ Some t) × (own k next.to_panel ≡ own k n.to_panel)
   hears_other k p s t n is device other =
       let quiet = silent answer_of after p (link_of t [] []) device other in
-      let l = link.reader_gets answer_of after p (link_of t [] []) in
-      (
+      let l = link.reader_gets answer_of after p (link_of t [] []) in (
         at_changed k (left_by t l) s n.sites is ∙ ap (λ v. Some (left_by t v)) quiet,
         own_append k n.to_panel (tagged k l.to_controller)
-        ∙ ap (λ v. own k n.to_panel ++ own k (tagged k v.to_controller)) quiet
-        ∙ append-nil (own k n.to_panel),
+            ∙ ap (λ v. own k n.to_panel ++ own k (tagged k v.to_controller)) quiet
+            ∙ append-nil (own k n.to_panel),
       )
 
   reading_here : (how : Delivery) (ps : List (ℕ × Packet)) (k : ℕ) (s : Site H) (n : Net H) → s.coming ≡ ps → site_at k n.sites ≡ Some s

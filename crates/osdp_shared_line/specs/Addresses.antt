@@ -1,5 +1,5 @@
 -- The addresses of several sites: what their program makes sure of when it gives one, and that nobody else hears what a site says.
-use Rattle.std.specs.Prelude.{◌≡◌, ◌≢◌, ◌<◌, ◌⊎◌, ℕ, All, List, [], ◌∷◌, ◌++◌, Option, Some, None, Result, Ok, Err}
+use Rattle.std.specs.Prelude.{◌≡◌, ◌≢◌, ◌⊎◌, ℕ, All, List, [], ◌∷◌, ◌++◌, Option, Some, None, Result, Ok, Err}
 use Rattle.osdp_frame.specs.Packet.{Packet}
 use Rattle.osdp_msg.specs.CommandTable.{CommandFits}
 use Rattle.osdp_msg.specs.declared.command.Command.{Command}
@@ -7,7 +7,6 @@ use Rattle.osdp_msg.specs.declared.command_fields.Communication.{Communication}
 use Rattle.osdp_msg.specs.declared.fault.MsgFault.{MsgFault}
 use Rattle.osdp_controller.specs.Hearing.{comset_of}
 use Rattle.osdp_controller.specs.Machine.{AreSettings}
-use Rattle.osdp_controller.specs.declared.config.ControllerConfig.{ControllerConfig}
 use Rattle.osdp_controller.specs.declared.exchange.Exchange.{Exchange}
 use Rattle.osdp_controller.specs.declared.exchange.Exchange.TheVariants.{Asking}
 use Rattle.osdp_controller.specs.declared.state.State.{State}
@@ -94,7 +93,7 @@ module _ {H : Type 0} where
   abbrev pub HasNoOther : ℕ → ℕ → Net H → Type 0
   HasNoOther k address n = (j : ℕ) (t : Site H) → j ≢ k → site_at j n.sites ≡ Some t → MayComeTo address j t → ⊥
 
-  -- it is no address of another site, and what others say to it, this site's reader reads no more
+  -- it is no address of another site, and what others said to it this site's reader reads no more
   pub record IsFreeFor (k address : ℕ) (s : Site H) (n : Net H) : Type 0 where
     pub others : (j : ℕ) (t : Site H) → j ≢ k → site_at j n.sites ≡ Some t → IsNameOf address j t → ⊥
     pub coming : All (λ (q : ℕ × Packet). q.0 ≢ k → q.1.address ≢ address) s.coming
@@ -107,19 +106,26 @@ module _ {H : Type 0} where
     pub together : (k : ℕ) (s : Site H) → site_at k n.sites ≡ Some s → s.reader.config.address ≡ address_of s
     pub stored : (k : ℕ) (s : Site H) → site_at k n.sites ≡ Some s → s.reader.stored ≡ None
     pub waiting : (k : ℕ) (s : Site H) → site_at k n.sites ≡ Some s → All NoComset s.controller.waiting
-    pub reserved : (k : ℕ) (s : Site H) → site_at k n.sites ≡ Some s → s.reserved ≡ None
     pub apart : (j k : ℕ) (s t : Site H) → j ≢ k → site_at j n.sites ≡ Some s → site_at k n.sites ≡ Some t → address_of s ≢ address_of t
 
   module _ (answer_of : H → Command → Answer) (after : H → Command → H) where
-    -- A command's fields are in their ranges, and so are those of what a reader says anew. An address is given by a COMSET, `retarget` or a
-    -- restart: no other device may come there. That it is no other controller's, the bus makes sure of by itself where it takes a COMSET or
-    -- a `retarget`. A reader that restarts where it is needs nothing. Sessions begin again on a quiet line.
+    -- A command's fields are in their ranges, and so are those of what a reader says anew. An address is given by a COMSET, by `Retarget` or
+    -- by a restart, and no other reader may come there. That it is no other controller's the bus sees to by itself where it takes a COMSET or
+    -- a `Retarget`; a restart asks for it too. Nothing is asked of a reader that restarts where it is. Sessions begin again on a quiet line.
     abbrev pub NetMoveFits : NetMove H → Net H → Type 0
     NetMoveFits (Submit k command) n =
         CommandFits command × ((asked : Communication) → comset_of command ≡ Some asked → HasNoOther k asked.address n)
+    NetMoveFits (Queue k event) n = Unit {0}
+    NetMoveFits (SetBusy k busy) n = Unit {0}
+    NetMoveFits (SetHandler k handler) n = Unit {0}
+    NetMoveFits (Withdraw k) n = Unit {0}
     NetMoveFits (Retarget k address) n = HasNoOther k address n
+    NetMoveFits (Tick k now) n = Unit {0}
     NetMoveFits (ToReader k how) n =
         (s : Site H) → site_at k n.sites ≡ Some s → SaysWhatFitsIf answer_of after how (in_front s.coming) s.reader
+    NetMoveFits (ToPanel how now) n = Unit {0}
+    NetMoveFits (LoseToReader k place) n = Unit {0}
+    NetMoveFits (LoseToPanel place) n = Unit {0}
     NetMoveFits (Reopen k now) n = OpensQuietly (Reopen k now) n
     NetMoveFits (RestartReader k address handler room) n =
         (s : Site H) → site_at k n.sites ≡ Some s
@@ -130,7 +136,6 @@ module _ {H : Type 0} where
         → AreSettings (settings k).0 (settings k).1
         × ((j : ℕ) (t : Site H) → j ≢ k → site_at j n.sites ≡ Some t
         → IsNameOf (settings k).0.address j (restarts answer_of after (settings j) t) → ⊥)
-    NetMoveFits _ n = Unit {0}
 
     abbrev pub NetMovesFit : List (NetMove H) → Net H → Type 0
     NetMovesFit [] n = Unit {0}

@@ -76,8 +76,8 @@ module _ {H : Type 0} where
 
   -- ---- a quiet line
 
-  -- nothing of the site may still be read by its reader or by the panel, nor may the panel still read anything from its controller's
-  -- address. What others said and were told may.
+  -- its reader may still read nothing that its controller said; the panel may still read nothing that its reader said, and nothing that
+  -- comes from its controller's address. All else may be about.
   pub record IsQuiet (k : ℕ) (s : Site H) (n : Net H) : Type 0 where
     pub coming : All (λ (q : ℕ × Packet). q.0 ≢ k) s.coming
     pub to_panel : All (λ (q : ℕ × Packet). (q.0 ≢ k) × (q.1.address ≢ address_of s)) n.to_panel
@@ -86,7 +86,7 @@ module _ {H : Type 0} where
   abbrev pub OpensQuietly : NetMove H → Net H → Type 0
   OpensQuietly (Reopen k now) n =
       (s : Site H) → site_at k n.sites ≡ Some s → begin_refusal s.controller ≡ None → IsQuiet k s n
-  OpensQuietly move n = Unit {0}
+  OpensQuietly _ n = Unit {0}
 
   -- ---- who hears
 
