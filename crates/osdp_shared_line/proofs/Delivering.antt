@@ -254,7 +254,7 @@ module _ {H : Type 0} (answer_of : H → Command → Answer) (after : H → Comm
 
 module _ {H : Type 0} where
   -- nobody is at the packet's address, or the first who is gets it
-  gets_one : (p : Packet) (now : ℕ) (ss : List (Site H)) → (first_gets p now ss ≡ ss)
+  pub gets_one : (p : Packet) (now : ℕ) (ss : List (Site H)) → (first_gets p now ss ≡ ss)
       ⊎ ((i : ℕ) × (s : Site H) × (site_at i ss ≡ Some s) × (first_gets p now ss ≡ changed i (gets p now s) ss))
   gets_one p now [] = inl refl
   gets_one p now (s ∷ ss) = by_test (address_of s == p.address) (gets_one p now ss)

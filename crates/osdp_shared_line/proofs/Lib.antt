@@ -9,3 +9,6 @@ pub mod Changing
 pub mod Delivering
 pub mod Running
 pub mod Linking
+pub mod Still
+pub mod Reading
+pub mod Rounds

@@ -108,12 +108,12 @@ module _ {H : Type 0} (answer_of : H → Command → Answer) (after : H → Comm
 
   -- ---- one list of moves after another
 
-  run_more : (ms more : List (Move H)) (l : Link H)
+  pub run_more : (ms more : List (Move H)) (l : Link H)
       → link.run answer_of after (ms ++ more) l ≡ link.run answer_of after more (link.run answer_of after ms l)
   run_more [] more l = refl
   run_more (m ∷ ms) more l = run_more ms more (after_move answer_of after m l)
 
-  moves_more : (ms more : List (Move H)) (l : Link H) → MovesFit answer_of after ms l → MovesFit answer_of after more (link.run answer_of after ms l)
+  pub moves_more : (ms more : List (Move H)) (l : Link H) → MovesFit answer_of after ms l → MovesFit answer_of after more (link.run answer_of after ms l)
       → MovesFit answer_of after (ms ++ more) l
   moves_more [] more l first last = last
   moves_more (m ∷ ms) more l first last = (first.0, moves_more ms more (after_move answer_of after m l) first.1 last)
@@ -147,7 +147,7 @@ module _ {H : Type 0} (answer_of : H → Command → Answer) (after : H → Comm
 
   module _ (links : EachIsALink answer_of after) where
     -- the view of the last site is the link after its moves
-    viewed : (n : Net H) (moves : List (NetMove H)) (k : ℕ) (s last : Site H) → IsItsLink answer_of after k s moves n
+    pub viewed : (n : Net H) (moves : List (NetMove H)) (k : ℕ) (s last : Site H) → IsItsLink answer_of after k s moves n
         → site_at k (run answer_of after moves n).sites ≡ Some last
         → view k last (run answer_of after moves n) ≡ link.run answer_of after (moves_of answer_of after k moves n) (view k s n)
     viewed n moves k s last h is =

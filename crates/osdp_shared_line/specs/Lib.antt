@@ -2,3 +2,4 @@ pub mod Line
 pub mod Views
 pub mod Addresses
 pub mod Runs
+pub mod Progress
