@@ -6,6 +6,9 @@ ghost use Rattle.osdp_shared_line.specs.Addresses.{NobodyElseHears, NoTwoAreToge
 ghost use Rattle.osdp_shared_line.specs.Runs.{EachIsALink};
 ghost use Rattle.osdp_shared_line.specs.Views.{EachMoveIsItsOwn};
 
+pub mod progress;
+pub mod promises;
+
 use osdp_reader::Handler;
 
 /// Where nobody else hears what a site says, and sessions begin again on a quiet line: what a move of all does to a reader and its
