@@ -1,5 +1,5 @@
 -- Over a round of one site every reader reads, and only that site's own reader answers.
-use Rattle.std.proofs.Common.{◌≡◌, ◌≢◌, ◌⊎◌, ◌<◌, ◌≤◌, ◌+◌, ℕ, zero, suc, true, false, cond, eqb, List, [], ◌∷◌, ◌++◌, length, Option, Some, None, IfSome, refl, sym, subst, ap, ◌∙◌, inl, inr, arith}
+use Rattle.std.proofs.Common.{◌≡◌, ◌≢◌, ◌⊎◌, ◌<◌, ◌≤◌, ℕ, zero, suc, true, false, cond, eqb, List, [], ◌∷◌, ◌++◌, Option, Some, None, IfSome, refl, sym, subst, ap, ◌∙◌, inl, inr, arith}
 use Rattle.std.proofs.lemmas.Bool.Decides.{eqb_tells, leb_tells}
 use Rattle.std.proofs.lemmas.List.{append-nil}
 use Rattle.std.specs.Prelude.{option_to_list}
@@ -296,8 +296,7 @@ module _ {H : Type 0} (answer_of : H → Command → Answer) (after : H → Comm
           → SaysWhatFitsIf answer_of after Delivered (own i s.coming) s.reader
           × IsSeen i (after_move answer_of after (link.ToReader Delivered) (view i s n)) (run answer_of after (all_read count) next)
       by_test (inl equal) later =
-          let rest = reads_none count total i o Together next i m.site m.there fits.1 apart between (inr (let here = equal.1 in omega (arith, here))) in
-          (
+          let rest = reads_none count total i o Together next i m.site m.there fits.1 apart between (inr (let here = equal.1 in omega (arith, here))) in (
             says s.coming o coming (fits.0 s (subst (λ j. site_at j n.sites ≡ Some s) (sym equal.1) is)),
             record {
               site = rest.site;
@@ -309,8 +308,7 @@ module _ {H : Type 0} (answer_of : H → Command → Answer) (after : H → Comm
       by_test (inr differs) later =
           let same : view i m.site next ≡ view i s n =
           m.moved ∙ ap (λ c. link.run answer_of after (cond c (own_front i s.coming Delivered) []) (view i s n)) differs.0 in
-          let rest = later (below differs.1) in
-          (
+          let rest = later (below differs.1) in (
             subst (λ (l : Link H). SaysWhatFitsIf answer_of after Delivered l.to_reader l.reader) same rest.0,
             record {
               site = rest.1.site;

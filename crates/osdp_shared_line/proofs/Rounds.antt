@@ -1,5 +1,5 @@
 -- Rounds that lose nothing are for each site its own rounds.
-use Rattle.std.proofs.Common.{◌≡◌, ◌≢◌, ◌⊎◌, ◌<◌, ◌≤◌, ◌+◌, ℕ, zero, suc, true, false, cond, eqb, List, [], ◌∷◌, ◌++◌, length, Option, Some, None, IfSome, refl, sym, subst, ap, ◌∙◌, inl, inr, arith}
+use Rattle.std.proofs.Common.{◌≡◌, ◌≢◌, ◌⊎◌, ◌<◌, ℕ, zero, suc, true, false, cond, eqb, List, [], ◌∷◌, ◌++◌, length, Option, Some, None, IfSome, refl, sym, subst, ap, ◌∙◌, inl, inr, arith}
 use Rattle.std.proofs.lemmas.Bool.Decides.{eqb_tells}
 use Rattle.std.specs.Prelude.{Bool, map, option_to_list}
 use Rattle.osdp_frame.specs.Packet.{Packet}
@@ -14,7 +14,6 @@ use Rattle.osdp_link_laws.specs.Link.{Delivered, Link, Move, after_move}
 use Rattle.osdp_link_laws.specs.Peers.{ReadsWhatIsAsked}
 use Rattle.osdp_link_laws.specs.Progress.{AreDue, AreLate, ComeOn, ComesThrough, ComesThroughInTime, IsClear, SetsNoAddress, round, rounds}
 use Rattle.osdp_link_laws.proofs.Lines.{each_of}
-use Rattle.osdp_link_laws.proofs.Stages.{Each}
 use Rattle.osdp_shared_line.specs.Addresses.{NetMovesFit, unended}
 use Rattle.osdp_shared_line.specs.Line as line
 use Rattle.osdp_shared_line.specs.Line.{Net, NetMove, Site, Tick, ToPanel, address_of, after_net, changed, first_gets, gets, is_told, run, site_at, tagged}
@@ -25,7 +24,7 @@ use Rattle.osdp_shared_line.specs.Views.{IsMoved, front_to_panel, one_if, own, o
 use Rattle.osdp_shared_line.proofs.Apart.{Apart, reader_address}
 use Rattle.osdp_shared_line.proofs.Controllers.{ticks_well}
 use Rattle.osdp_shared_line.proofs.Delivering.{gets_one}
-use Rattle.osdp_shared_line.proofs.Linking.{each_is_a_link, moves_more, run_more, viewed}
+use Rattle.osdp_shared_line.proofs.Linking.{each_is_a_link, moves_more, viewed}
 use Rattle.osdp_shared_line.proofs.Moving.{each_is_its_own, one_is, one_not}
 use Rattle.osdp_shared_line.proofs.Reading.{Between, IsSeen, all_between, reads_none, reads_own}
 use Rattle.osdp_shared_line.proofs.Running.{apart_after, apart_all, apart_first, by_own}
@@ -65,28 +64,34 @@ module _ {H : Type 0} (answer_of : H → Command → Answer) (after : H → Comm
 
     ticked : (i now : ℕ) (x : Option (Site H)) (n : Net H) → site_at i n.sites ≡ x → Apart n → IsEmpty n → IsFew n
         → (o : Option Packet) × Between answer_of after known total total i o (Together i n) (line.tick_at answer_of after i now x n)
-    ticked i now None n at a empty few = (None, record {
-      few = few;
-      unread = λ m u is lt. empty.coming m u is;
-      read = λ m u is le. empty.coming m u is;
-      said = None;
-      panel = empty.to_panel;
-      before = λ lt. refl;
-      mine = λ lt u is together. together u is;
-      away = tt;
-      own = tt;
-    })
-    ticked i now (Some s) n at a empty few = (frame, record {
-      few = λ m u is. let v = from m u is in few m v.0 v.1;
-      unread = λ m u is lt. let v = from m u is in v.2;
-      read = λ m u is le. let v = from m u is in absurd (let small = few m v.0 v.1 in omega (arith, small, le));
-      said = None;
-      panel = empty.to_panel;
-      before = λ lt. refl;
-      mine = λ lt u is together. own u is (together s at);
-      away = tt;
-      own = tt;
-    })
+    ticked i now None n at a empty few = (
+      None,
+      record {
+        few = few;
+        unread = λ m u is lt. empty.coming m u is;
+        read = λ m u is le. empty.coming m u is;
+        said = None;
+        panel = empty.to_panel;
+        before = λ lt. refl;
+        mine = λ lt u is together. together u is;
+        away = tt;
+        own = tt;
+      },
+    )
+    ticked i now (Some s) n at a empty few = (
+      frame,
+      record {
+        few = λ m u is. let v = from m u is in few m v.0 v.1;
+        unread = λ m u is lt. let v = from m u is in v.2;
+        read = λ m u is le. let v = from m u is in absurd (let small = few m v.0 v.1 in omega (arith, small, le));
+        said = None;
+        panel = empty.to_panel;
+        before = λ lt. refl;
+        mine = λ lt u is together. own u is (together s at);
+        away = tt;
+        own = tt;
+      },
+    )
       where
         t : Site H
         t = line.ticks answer_of after now s
@@ -291,14 +296,13 @@ module _ {H : Type 0} (answer_of : H → Command → Answer) (after : H → Comm
         let next = run answer_of after (net_round total turn) n in
         let r = one_round k turn.0 turn.1 s n is (λ e. still.together) a empty few (fits_first (net_round total turn) (net_rounds total turns) n fits) in
         let now_still = subst IsStill (sym r.seen.seen) (stays (eqb turn.0 k) turn.1) in
-        let rest = all_rounds turns k r.seen.site next r.seen.there r.apart r.empty r.few now_still (fits_then (net_round total turn) (net_rounds total turns) n fits) in
-        (
+        let rest = all_rounds turns k r.seen.site next r.seen.there r.apart r.empty r.few now_still (fits_then (net_round total turn) (net_rounds total turns) n fits) in (
           subst (IsSeen answer_of after known k (link.run answer_of after (rounds (moments_of k (turn ∷ turns))) (view k s n)))
-          (sym (net_more (net_round total turn) (net_rounds total turns) n)) (record {
-            site = rest.0.site;
-            there = rest.0.there;
-            seen = rest.0.seen ∙ ap (link.run answer_of after (rounds (moments_of k turns))) r.seen.seen ∙ joins (eqb turn.0 k);
-          }),
+              (sym (net_more (net_round total turn) (net_rounds total turns) n)) (record {
+                site = rest.0.site;
+                there = rest.0.there;
+                seen = rest.0.seen ∙ ap (link.run answer_of after (rounds (moments_of k turns))) r.seen.seen ∙ joins (eqb turn.0 k);
+              }),
           fit (eqb turn.0 k) r.fits (subst (MovesFit answer_of after (rounds (moments_of k turns))) r.seen.seen rest.1),
         )
       where
@@ -334,10 +338,9 @@ module _ {H : Type 0} (answer_of : H → Command → Answer) (after : H → Comm
           none = each_of SetsNoAddress (unended s) h.ready.unended;
           fits = kept.fits;
           stored = kept.stored;
-        }) h.rounds_fit in
-        (
+        }) h.rounds_fit in (
           subst (λ v. view k v (run answer_of after (net_rounds (length later.sites) turns) later)
-          ≡ link.run answer_of after (rounds (moments_of k turns)) (view k s later)) (some_same all.0.site last (sym all.0.there ∙ h.there)) all.0.seen,
+              ≡ link.run answer_of after (rounds (moments_of k turns)) (view k s later)) (some_same all.0.site last (sym all.0.there ∙ h.there)) all.0.seen,
           all.1,
         )
 

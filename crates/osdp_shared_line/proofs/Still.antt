@@ -1,5 +1,5 @@
 -- A link in which no COMSET is under way: both ends stay where they are over a round.
-use Rattle.std.proofs.Common.{◌≡◌, ◌⊎◌, ◌<◌, ℕ, List, [], ◌∷◌, ◌++◌, Option, Some, None, IfSome, refl, sym, subst, ap, ◌∙◌, inl, inr, append_assoc}
+use Rattle.std.proofs.Common.{◌≡◌, ℕ, List, [], ◌∷◌, ◌++◌, refl, sym, subst, ap, ◌∙◌, inl, inr, append_assoc}
 use Rattle.std.specs.Prelude.{option_to_list}
 use Rattle.osdp_frame.specs.Packet.{Packet}
 use Rattle.osdp_msg.specs.CommandTable.{CommandFits}
@@ -12,7 +12,7 @@ use Rattle.osdp_link_laws.specs.Link as link
 use Rattle.osdp_link_laws.specs.Link.{Delivered, Link}
 use Rattle.osdp_link_laws.specs.Peers.{ReadsWhatIsAsked}
 use Rattle.osdp_link_laws.specs.Progress.{SetsNoAddress, round}
-use Rattle.osdp_link_laws.proofs.Lines.{each_append, each_front, each_map, each_rest}
+use Rattle.osdp_link_laws.proofs.Lines.{each_front, each_map, each_rest}
 use Rattle.osdp_link_laws.proofs.Stages.{Each}
 use Rattle.osdp_shared_line.specs.Addresses.{Sets, SetsReader, Somewhere, asked_in}
 use Rattle.osdp_shared_line.proofs.Controllers.{IsSent, hears_well, ticks_well}
@@ -44,8 +44,7 @@ module _ {H : Type 0} where
         let well = ticks_well reads l.controller.session.state (seen now l.controller.session) l.controller.waiting refl h.fits in
         let next = link.after_move answer_of after (link.Tick now) l in
         let none = each_rest SetsNoAddress well.left.0 (asked_of next) (subst (Each SetsNoAddress) well.left.1 h.none) in
-        let said = option_to_list (ticks now l.controller.session l.controller.waiting).step.frame in
-        (
+        let said = option_to_list (ticks now l.controller.session l.controller.waiting).step.frame in (
           record {
             together = h.together ∙ sym well.address;
             none = none;
@@ -53,8 +52,8 @@ module _ {H : Type 0} where
             stored = h.stored;
           },
           subst (λ ps. Each (IsPlainTo l.reader.config.address) (ps ++ said)) (sym empty)
-          (each_map (IsSent l.controller.session.config.address (asked_of next)) (IsPlainTo l.reader.config.address)
-          (λ p sends. (sends.0 ∙ sym h.together, λ to sets. none_sets to (asked_of next) none (sends.1 to sets))) said well.sent),
+              (each_map (IsSent l.controller.session.config.address (asked_of next)) (IsPlainTo l.reader.config.address)
+              (λ p sends. (sends.0 ∙ sym h.together, λ to sets. none_sets to (asked_of next) none (sends.1 to sets))) said well.sent),
         )
 
     reading : (ps : List Packet) (l : Link H) → Each (IsPlainTo l.reader.config.address) ps → IsStill l → IsStill (link.to_reader answer_of after ps Delivered l)
