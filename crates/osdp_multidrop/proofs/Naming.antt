@@ -22,7 +22,7 @@ use Rattle.osdp_reader.specs.Table as reader
 use Rattle.osdp_reader.specs.declared.handler.Answer.{Answer}
 use Rattle.osdp_link_laws.specs.Headline.{Begins, MovesFit, MoveFits, MaySubmit, SaysWhatFitsIf}
 use Rattle.osdp_link_laws.specs.Link as link
-use Rattle.osdp_link_laws.specs.Link.{Delivered, Delivery, Link, Lost, Move, Queue as QueueEvent, Reopen, Repeated, RestartController, RestartReader, Retarget, SetBusy, SetHandler, Submit, Tick, ToController, ToReader, Withdraw, after_move, run}
+use Rattle.osdp_link_laws.specs.Link.{Delivered, Delivery, Link, LoseToController, LoseToReader, Lost, Move, Queue as QueueEvent, Reopen, Repeated, RestartController, RestartReader, Retarget, SetBusy, SetHandler, Submit, Tick, ToController, ToReader, Withdraw, after_move, run}
 use Rattle.osdp_link_laws.specs.Names.{IsCommandTo, IsReplyFrom, IsToldAsAsked, NameOneDevice, NamesOne, TellAsAsked}
 use Rattle.osdp_multidrop.specs.Names.{BeginsTogether, IsName, MayAsk, MayMove, MayMoves, MovesController, MovesReader, accepted_for, asked_for, freed_by, reserved_after, reserved_after_moves}
 use Rattle.osdp_link_laws.specs.Ordinary.{IsOrdinary}
@@ -379,6 +379,8 @@ module _ {H : Type 0} (answer_of : H → Command → Answer) (after : H → Comm
   keeps_move asked answered (Retarget address) r l device one ordinary fits told may h = absurd ordinary
   keeps_move asked answered (RestartReader address handler room) r l device one ordinary fits told may h = absurd ordinary
   keeps_move asked answered (RestartController config room) r l device one ordinary fits told may h = absurd ordinary
+  keeps_move asked answered (LoseToReader place) r l device one ordinary fits told may h = absurd ordinary
+  keeps_move asked answered (LoseToController place) r l device one ordinary fits told may h = absurd ordinary
 
   -- ---- one list of moves after another
 

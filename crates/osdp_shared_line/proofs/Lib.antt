@@ -1,0 +1,14 @@
+pub mod Sites
+pub mod Hearing
+pub mod Moving
+pub mod Lists
+pub mod Controllers
+pub mod Readers
+pub mod Apart
+pub mod Changing
+pub mod Delivering
+pub mod Running
+pub mod Linking
+pub mod Still
+pub mod Reading
+pub mod Rounds
