@@ -1,14 +1,17 @@
-"""What `panel.py` and `reader.py` share: a serial port, and a program that speaks lines."""
+"""What `panel.py` and `reader.py` share: their words, the lines that they take and print, and a program that speaks lines."""
 import os
 import select
+import signal
 import subprocess
 import sys
-import termios
 import time
 
+PROGRAMS = {"panel": ["osdp_panel_lines"], "reader": ["osdp_reader_lines"]}  # what is run, before the settings
 START = time.monotonic()
-PIECE = 2048  # how many bytes a read takes at most: a line to the programs has 8,192 characters at most, and a byte two of them
-BAD_PORT = 3  # the status where the port fails
+LONGEST = 8192  # how many characters a line has at most
+BAD_WORDS, FAILED, NO_PROGRAM = 2, 3, 127  # statuses
+PROGRAM_FAULTS = (2, 3, 4)  # statuses of the program: it has told the fault
+STOPS = (signal.SIGINT, signal.SIGTERM)
 
 
 def moment():
@@ -16,89 +19,114 @@ def moment():
     return int((time.monotonic() - START) * 1000)
 
 
-def stop(why):
-    """Ends the program with one line on standard error."""
+def stop(why, status=FAILED):
+    """Ends the example with one line on standard error."""
     print(why, file=sys.stderr)
-    raise SystemExit(BAD_PORT)
+    raise SystemExit(status)
 
 
-def set_rate(port, rate):
-    """Sets the port raw: 8 bits, no parity, 1 stop bit, and each byte as it is. What was written goes out before, at the old rate."""
-    speed = getattr(termios, f"B{rate}", termios.B0)
-    if speed == termios.B0:
-        stop("the port has no such rate")
-    characters = termios.tcgetattr(port)[6]
-    characters[termios.VMIN], characters[termios.VTIME] = 1, 0
-    flags = termios.CS8 | termios.CREAD | termios.CLOCAL
-    termios.tcsetattr(port, termios.TCSADRAIN, [0, 0, flags, 0, speed, speed, characters])
+def write_all(end, data):
+    while data:
+        data = data[os.write(end, data):]
 
 
-def open_port(path, rate):
+def tell(line):
+    """Prints a line at once. Where nobody reads it any more the example ends without a word."""
     try:
-        port = os.open(path, os.O_RDWR | os.O_NOCTTY)
+        write_all(1, f"{line}\n".encode())
+    except BrokenPipeError:
+        raise SystemExit(FAILED) from None
     except OSError:
-        stop("the port can't be opened")
-    if not os.isatty(port):
-        stop("the port is no serial port")
-    set_rate(port, rate)
-    return port
+        stop("standard output can't be written")
 
 
-def write_all(port, burst):
-    try:
-        while burst:
-            burst = burst[os.write(port, burst):]
-    except OSError:
-        stop("the port can't be written")
+def take_words(usage, least):
+    """The file of `--trace`, if it is named, and the other words. `--help` prints the usage. Ctrl-C ends the example without a word."""
+    for number in STOPS:
+        signal.signal(number, lambda number, _: sys.exit(128 + number))
+    words, trace = sys.argv[1:], None
+    if words in (["--help"], ["-h"]):
+        tell(usage.strip())
+        raise SystemExit(0)
+    if words[:1] == ["--trace"]:
+        trace, words = words[1:2], words[2:]
+    if trace == [] or len(words) < least or words[0].startswith("-"):
+        stop("bad words: --help tells the right ones", BAD_WORDS)
+    return trace and trace[0], words
 
 
-def read_port(port):
-    """The bytes that have come to a port that is ready. Where it has none it has hung up."""
-    try:
-        read = os.read(port, PIECE)
-    except OSError:
-        read = b""
-    if not read:
-        stop("the port can't be read")
-    return read
+def number(word, what):
+    """The number that a word is."""
+    if not (word.isascii() and word.isdecimal()):
+        stop(f"bad {what}: {word}", BAD_WORDS)
+    return int(word)
 
 
 class Program:
-    """`osdp_panel_lines` or `osdp_reader_lines`, with its settings."""
+    """The program of an example, with its settings. A first word with a `/` is the path of the program."""
 
-    def __init__(self, words):
-        self.process = subprocess.Popen(words, stdin=subprocess.PIPE, stdout=subprocess.PIPE)
+    def __init__(self, example, words):
+        command = PROGRAMS[example]
+        if words and "/" in words[0]:
+            command, words = [words[0], *command[1:]], words[1:]
+        try:
+            self.process = subprocess.Popen([*command, *words], stdin=subprocess.PIPE, stdout=subprocess.PIPE, start_new_session=True)
+        except OSError:
+            stop(f"the program can't be started: {command[0]}", NO_PROGRAM)
 
     def call(self, line):
         """Hands it one line. The lines of its answer; the last of them begins with `due` or `waiting`."""
-        self.process.stdin.write(line.encode() + b"\n")
-        self.process.stdin.flush()
         answer = []
+        signal.pthread_sigmask(signal.SIG_BLOCK, STOPS)  # so that the program isn't left in the middle of an answer, which it would tell
+        try:
+            write_all(self.process.stdin.fileno(), line.encode() + b"\n")
+        except OSError:
+            pass  # it has ended, and its output ends too
         while not answer or not answer[-1].startswith(("due ", "waiting ")):
             text = self.process.stdout.readline()
             if not text:
-                raise SystemExit(self.process.wait())
+                self.ended()
             answer.append(text.decode().rstrip("\n"))
+        signal.pthread_sigmask(signal.SIG_UNBLOCK, STOPS)
         return answer
+
+    def ended(self):
+        """The example ends as the program has ended, which has said why where its status is one of its faults."""
+        status = self.process.wait()
+        if status not in PROGRAM_FAULTS:
+            stop("the program has ended")
+        raise SystemExit(status)
 
 
 class Lines:
-    """Lines of text that come in pieces."""
+    """The lines of standard input, which come in pieces."""
 
-    def __init__(self, source):
-        self.source = source
-        self.rest = b""
+    def __init__(self):
+        self.rest, self.is_over = b"", sys.stdin is None
 
-    def read(self):
-        """The lines that have come; None at the end."""
-        piece = os.read(self.source, 4096)
-        *whole, self.rest = (self.rest + piece).split(b"\n")
-        return [line.decode() for line in whole] if piece else None
+    def read(self, is_ready):
+        """The lines that have come. The last one needs no line feed."""
+        if not is_ready:
+            return []
+        try:
+            piece = os.read(0, 4096)
+        except OSError:
+            piece = b""
+        *whole, rest = (self.rest + piece).split(b"\n")
+        self.is_over, self.rest = not piece, rest[:LONGEST + 1]
+        return whole + [rest] if self.is_over and rest else whole
 
 
-def wait_for(port, given, wait):
-    """Waits so many seconds, or until something comes: the bytes of the port, the lines that are given, and where more may come from."""
-    ready = select.select([port] + ([given.source] if given else []), [], [], wait)[0]
-    read = read_port(port) if port in ready else b""
-    lines = given.read() if given and given.source in ready else []
-    return read, lines or [], None if lines is None else given
+def texts(lines):
+    """The lines that are text, one after the other. A line with bytes that aren't printable ASCII is no call, and refused here."""
+    for line in lines:
+        if len(line) <= LONGEST and all(0x20 <= byte < 0x7F for byte in line):
+            yield line.decode()
+        else:
+            tell("refused line")
+
+
+def wait_for(port, lines, wait):
+    """Waits so many seconds, or until something comes: the bytes of the port, and the lines that are given."""
+    ready = select.select([port.end] + ([] if lines.is_over else [0]), [], [], wait)[0]
+    return port.read(port.end in ready), texts(lines.read(0 in ready))

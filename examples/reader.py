@@ -1,16 +1,23 @@
 #!/usr/bin/env python3
 """A reader on a serial port.
 
-    reader.py PORT RATE osdp_reader_lines [SETTING VALUE]..
+    reader.py [--trace FILE] PORT RATE [PROGRAM] [SETTING VALUE]..
 
 It carries the port's bytes to the program, with the moments at which they come, and what the program sends to the port.
+PROGRAM is the path of the program, with a `/` in it, where it isn't found by its name. Its settings are in its manual.
+
 Each line of standard input is handed to the program too: `event KEYPAD 0 31`, `inputs 0100`, `busy on`. Each line of
 standard output is such a line, or what the program tells: `taken` and a command, `moved`, `refused` and others.
-The reader has eight outputs, which an OUT switches; the time of an output is counted here.
-"""
-import sys
+`refused` and a command is one that was answered by a NAK: nothing of it is done.
 
-from lines import Lines, Program, moment, open_port, set_rate, wait_for, write_all
+The reader has eight outputs, which an OUT switches; the time of an output is counted here. FILE gets each burst, both
+ways, as `osdp show` reads it.
+
+Status: 2 bad words or settings, 3 the port or standard output fails, 4 out of memory, 127 there is no such program,
+130 at Ctrl-C. Nothing is said at Ctrl-C and where nobody reads standard output any more, else one line that says why.
+"""
+from lines import Lines, Program, moment, number, take_words, tell, wait_for
+from port import Port
 
 TURN = 0.01  # how long a read waits, in seconds
 NAK = 0x41  # the code of a reply that says that nothing was done
@@ -37,9 +44,8 @@ class Output:
 
 
 class Reader:
-    def __init__(self, path, rate, words):
-        self.port = open_port(path, rate)
-        self.program = Program(words)
+    def __init__(self, port, program):
+        self.port, self.program, self.lines = port, program, Lines()
         self.outputs = [Output() for _ in range(8)]
         self.told = None  # what the program was told of them
         self.tell_outputs()
@@ -50,13 +56,15 @@ class Reader:
             name, *words = line.split()
             if name == "send":
                 burst = bytes.fromhex(words[0])
-                write_all(self.port, burst)
+                self.port.write(burst)
                 continue
-            print(line, flush=True)
-            if name == "taken" and words[0] == "OUT" and burst[5] != NAK:
+            if name in ("taken", "again") and burst[5] == NAK:
+                name = "refused"
+            tell(" ".join([name, *words]))
+            if name == "taken" and words[0] == "OUT":
                 self.switch(words[1:])
-            if name == "moved":
-                set_rate(self.port, int(words[1]))
+            if name == "moved" and not self.port.set_rate(int(words[1])):
+                tell(f"no rate {words[1]}")
 
     def switch(self, records):
         """Does what an OUT says. One of an output that isn't here was refused."""
@@ -71,22 +79,22 @@ class Reader:
             self.told = states
             self.call(f"outputs {states}")
 
-    def turn(self, calls):
-        """Waits for bytes and for lines, and hands them to the program. Where more lines may come from."""
-        read, lines, calls = wait_for(self.port, calls, TURN)
+    def turn(self):
+        """Waits for bytes and for lines, and hands them to the program."""
+        read, lines = wait_for(self.port, self.lines, TURN)
         self.call(f"at {moment()}")
         self.tell_outputs()
         if read:
             self.call(f"bytes {read.hex()}")
         for line in lines:
-            print(line, flush=True)
+            tell(line)
             self.call(line)
         self.call("tick")
-        return calls
 
 
 if __name__ == "__main__":
-    reader = Reader(sys.argv[1], int(sys.argv[2]), sys.argv[3:])
-    more = Lines(sys.stdin.fileno())
+    trace, (path, rate, *settings) = take_words(__doc__, 2)
+    rate = number(rate, "rate")
+    reader = Reader(Port(path, rate, trace), Program("reader", settings))
     while True:
-        more = reader.turn(more)
+        reader.turn()

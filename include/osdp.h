@@ -166,7 +166,7 @@ struct osdp_panel_config {
     uint32_t capacity;
 };
 
-/* Writes the default settings: a CRC, 200, 50, 3, 50, 20, 400, 20, and room for 16 commands. */
+/* Writes the default settings: a CRC, 200, 50, 3, 50, 20, 400, 20, and room for 64 commands. */
 void osdp_panel_defaults(struct osdp_panel_config *config);
 
 /*

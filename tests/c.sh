@@ -55,14 +55,15 @@ checked=(-fsanitize=address,undefined -fno-sanitize-recover=all)
 export ASAN_OPTIONS=detect_leaks=1:allocator_may_return_null=1
 
 for heap in malloc pool; do
-  build "heap_$heap" tests/c/heap.c "c/heap_$heap.c" "${checked[@]}" && passes "$work/heap_$heap" "$heap"
+  build "heap_$heap" tests/c/heap.c "c/heap_$heap.c" -DOSDP_POOL=131072 "${checked[@]}" && passes "$work/heap_$heap" "$heap"
 done
 build structs tests/c/structs.c c/heap_malloc.c "$archive" && passes "$work/structs"
 build structs_checked tests/c/structs.c c/heap_malloc.c "$archive" "${checked[@]}" && passes "$work/structs_checked"
+build limits tests/c/limits.c c/heap_malloc.c "$archive" "${checked[@]}" && passes "$work/limits"
 
 for heap in malloc pool; do
   build "session_$heap" "${session[@]}" "c/heap_$heap.c" "${counted[@]}" "$archive" && passes "$work/session_$heap"
-  [ "$heap" = pool ] && wanted="0 blocks" || wanted="10 blocks"
+  [ "$heap" = pool ] && wanted="0 blocks" || wanted="11 blocks"
   grep -q "^session: $wanted, each refused once$" "$work/said" || fail "session_$heap: not $wanted"
 done
 build session_checked "${session[@]}" c/heap_malloc.c "${counted[@]}" "$archive" "${checked[@]}" && passes "$work/session_checked"

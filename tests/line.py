@@ -4,23 +4,23 @@ Takes the folder `crates`, with the programs, a seed, if not 1, and the folder o
 terminal itself and keeps it open. It cuts
 bursts by their length field and keeps their order; each of the panel's goes to all readers. In each direction 5 % of all bursts are
 lost, the last byte of 5 % is changed, and 5 % come twice: a seeded generator decides, burst by burst. From the 50th order on each
-reader is silent once for two seconds. Moments make runs differ, and what is asked of them holds for all.
+reader is silent once for two seconds: its orders are taken back, and new ones refused. Moments make runs differ, and what is asked of them holds for all.
 
 Before that each example is tried alone, on a line without losses: what the reader's outputs are after each control of OUT, and that a port which hangs
 up, or has no such rate, ends a program with a message and status 3.
 """
 import os
-import pty
 import random
 import select
 import subprocess
 import sys
 import time
-import tty
 from collections import Counter, deque
 from pathlib import Path
 
-EXAMPLES = Path(__file__).resolve().parent.parent / "examples"
+from terminals import Script, Terminal, commands, packet
+
+TOP = Path(__file__).resolve().parent.parent
 ADDRESSES = (5, 6, 7)
 ORDERS = EVENTS = 200
 SILENCE = 2.0
@@ -38,36 +38,6 @@ CONTROLS = (
 
 faults = []
 counts = Counter()
-
-
-class Terminal:
-    """A pseudo terminal: the relay's end, and the path of the other one, which stays open here too."""
-
-    def __init__(self):
-        self.end, self.other = pty.openpty()
-        tty.setraw(self.other)
-        tty.setraw(self.end)
-        self.path = os.ttyname(self.other)
-        self.held = b""
-
-    def bursts(self):
-        """The whole bursts that have come: each is as long as its length field says."""
-        self.held += os.read(self.end, 65536)
-        while len(self.held) >= 4:
-            length = int.from_bytes(self.held[2:4], "little")
-            if len(self.held) < length:
-                return
-            burst, self.held = self.held[:length], self.held[length:]
-            yield burst
-
-    def next_burst(self):
-        """The next whole burst; none where none has come within five seconds."""
-        end = time.monotonic() + 5
-        while time.monotonic() < end:
-            if select.select([self.end], [], [], 0.1)[0]:
-                for burst in self.bursts():
-                    return burst
-        return b""
 
 
 class Relay:
@@ -115,37 +85,23 @@ class Relay:
                             os.write(self.panel.end, each)
 
 
-class Script:
-    """One of the examples, as it runs: what it has written, line by line."""
-
-    def __init__(self, *words):
-        self.process = subprocess.Popen([str(word) for word in words], stdin=subprocess.PIPE, stdout=subprocess.PIPE)
-        os.set_blocking(self.process.stdout.fileno(), False)
-        self.lines = []
-        self.rest = b""
-
-    def say(self, line):
-        self.process.stdin.write(line.encode() + b"\n")
-        self.process.stdin.flush()
-
-    def read(self):
-        piece = self.process.stdout.read() or b""
-        *whole, self.rest = (self.rest + piece).split(b"\n")
-        self.lines += [line.decode() for line in whole]
-
-
 class Account:
     """What became of one reader's orders and events, read from what both ends have written."""
 
     def __init__(self, number, panel, reader):
-        self.issued, self.settled, self.unsettled, self.sessions, self.lost = [], [], [], [[]], 0
+        self.issued, self.settled, self.unsettled, self.withdrawn, self.sessions, self.lost, self.closed = [], [], [], [], [[]], 0, 0
         for line in panel:
-            name, which, *words = line.split()
+            name, which, *words = line.removeprefix("not ").split()
             if which != str(number):
                 continue
             text = " ".join(words)
             if name == "ordered":
                 self.issued.append(text)
+            elif name == "taken":
+                self.issued.remove(text)
+                self.closed += 1
+            elif name == "withdrawn":
+                self.withdrawn.append(text)
             elif name == "opened":
                 self.sessions.append([])
             elif name == "settled":
@@ -168,7 +124,7 @@ class Account:
         return told
 
     def is_over(self):
-        return len(self.settled) + len(self.unsettled) >= len(self.issued) and len(self.reported()) >= len(self.queued)
+        return len(self.settled) + len(self.unsettled) + len(self.withdrawn) >= len(self.issued) and len(self.reported()) >= len(self.queued)
 
     def judge(self, number):
         def asks(holds, what):
@@ -179,17 +135,12 @@ class Account:
         asks(self.reported() == self.queued, "the events reported are not those queued, in order, each once")
         asks(all(count == 1 for count in taken.values()), "an order was taken twice")
         asks(self.taken == [order for order in self.issued if order in taken], "orders were not taken in the order issued")
-        told = Counter(self.settled) + Counter(self.unsettled)
-        asks(all(told[order] == 1 for order in self.issued), "an order was not told settled or unsettled, once")
+        told = Counter(self.settled) + Counter(self.unsettled) + Counter(self.withdrawn)
+        asks(all(told[order] == 1 for order in self.issued), "an order was not told settled, unsettled or withdrawn, once")
         asks(len(told) == len(self.issued), "an order was told that was not issued")
         asks(all(taken[order] == 1 for order in self.settled), "an order was settled and not taken once")
         asks(all(taken[order] <= 1 for order in self.unsettled), "an unsettled order was taken twice")
-
-
-def packet(address, number, code, data=b""):
-    """A packet with a checksum."""
-    whole = bytes([0x53, address, 7 + len(data), 0, number, code]) + data
-    return whole + bytes([-sum(whole) % 256])
+        asks(all(taken[order] == 0 for order in self.withdrawn), "a withdrawn order was taken")
 
 
 def started(*words):
@@ -242,7 +193,7 @@ def judge_port(name, words, rest, speak):
 
 
 def judge_alone(crates, built):
-    (panel, panel_program), (reader, reader_program) = commands(crates, built)
+    (panel, panel_program), (reader, reader_program) = commands(TOP, crates, built)
     judge_port("panel", panel, ["5", *panel_program, "quiet-wait", 50], Terminal.next_burst)
     judge_port("reader", reader, [*reader_program, "address", 5], judge_outputs)
 
@@ -284,20 +235,11 @@ def run(relay, panel, readers, begun):
             return
 
 
-def commands(crates, built):
-    """Of the panel and of a reader, what stands before the port and what before the settings: an example in Python with its program, or one in C."""
-    for name in ("panel", "reader"):
-        if built is None:
-            yield [sys.executable, "-B", EXAMPLES / f"{name}.py"], [f"{crates}/osdp_{name}_lines/out/osdp_{name}_lines"]
-        else:
-            yield [f"{built}/{name}"], []
-
-
 def main(crates, seed="1", built=None):
     judge_alone(crates, built)
     begun = time.monotonic()
     relay = Relay(seed)
-    (panel_example, panel_program), (reader_example, reader_program) = commands(crates, built)
+    (panel_example, panel_program), (reader_example, reader_program) = commands(TOP, crates, built)
     readers = [
         Script(*reader_example, terminal.path, 9600, *reader_program, "address", address,
                "vendor", "53494D", "serial", address, "room", 256, "gap", 15)
@@ -312,14 +254,18 @@ def main(crates, seed="1", built=None):
     told = accounts(panel, readers)
     for number, account in enumerate(told, 1):
         account.judge(number)
-        print(f"reader {number}: issued {len(account.issued)} taken {len(account.taken)} settled {len(account.settled)} "
-              f"unsettled {len(account.unsettled)} queued {len(account.queued)} reported {len(account.reported())} lost {account.lost}")
+        print(f"reader {number}: refused {account.closed} issued {len(account.issued)} taken {len(account.taken)} settled {len(account.settled)} "
+              f"unsettled {len(account.unsettled)} withdrawn {len(account.withdrawn)} queued {len(account.queued)} reported {len(account.reported())} lost {account.lost}")
     for what, wanted, count in (
-        ("orders", ORDERS, sum(len(account.issued) for account in told)),
+        ("orders", ORDERS, sum(len(account.issued) + account.closed for account in told)),
         ("events", EVENTS, sum(len(account.queued) for account in told)),
     ):
         if count != wanted:
             faults.append(f"{count} {what}, wanted {wanted}")
+    if sum(len(account.issued) for account in told) < ORDERS / 2:
+        faults.append("most orders were refused")
+    if not any(account.withdrawn for account in told):
+        faults.append("no order was taken back")
     if sum(account.lost for account in told) < 3:
         faults.append("fewer than three sessions were lost")
     print(f"seed {seed}, bursts: " + ", ".join(f"{name} {count}" for name, count in sorted(counts.items())))

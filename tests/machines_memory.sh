@@ -1,66 +1,70 @@
 #!/usr/bin/env bash
-# Refuses each allocation of a new reader and of a new controller in turn. There is one in each: with it refused the answer is
-# out of memory, and the settings are still judged first; with a second one refused nothing changes, since no later call asks
-# for any. Tests that need the machine show that the refusal came through. A bus asks for memory as it is made, and once for each
-# device: refused one, a test finds it as it was, and tests of one device and of two show which allocations there are.
+# Refuses each request for memory of the calls that take any, in turn and by themselves: of a new reader, a new controller, a new bus and its devices, of
+# a script that is read, and of a schedule that is run over one reader. It runs one test at a time, by the programs of the tests that `rt ci`
+# leaves, with a library preloaded that refuses a request (`refuse.c`). A test that is told of out of memory passes with each request refused, and compares
+# the account then with that of the steps before; one that needs the memory fails, but where a row says that it goes on without it. Needs a C compiler.
 set -u
-cd "$(dirname "$0")/../crates/osdp_machine_tests" || exit 1
+cd "$(dirname "$0")/.." || exit 1
+work=$(mktemp -d)
+trap 'rm -rf "$work"' EXIT
+failed=0
 
 fail() {
   echo "machines_memory.sh: $1"
-  exit 1
+  failed=1
 }
 
-# Runs the tests of the crate with allocation $2 refused; $3 is the test that then tells out of memory, $1 whose it is.
-refuse() {
-  tried=$(rt try --test --fail-alloc "$2" 2>&1)
-  grep -q "test $3 ... ok" <<<"$tried" || fail "$1: out of memory was not told"
+"${CC:-cc}" -O1 -shared -fPIC -o "$work/refuse.so" tests/refuse.c || exit 1
+
+# The program of a crate's tests. Where none was left it is made.
+tests_of() {
+  local program=crates/$1/out/$1_tests
+  [ -x "$program" ] || (cd "crates/$1" && rt test) >"$work/said" 2>&1 || tail -n 5 "$work/said"
+  echo "$program"
 }
 
-# Whether the test $3 of what was tried last ended as $4 says.
-ended() {
-  grep -q "test $3 ... $4" <<<"$tried" || fail "$1: allocation $2 is not as it should be"
+# Runs the test $2 of the program $1 with request $3 refused; $work/mark is there where there was such a request.
+refused() {
+  rm -f "$work/mark"
+  (
+    LD_PRELOAD="$work/refuse.so" REFUSED_REQUEST=$3 REFUSED_MARK="$work/mark" "$1" "$2"
+    exit $?
+  ) >"$work/said" 2>&1
 }
 
-# These make one machine and need it.
-tests=(
-  tests::reader::an_event_is_told_until_the_next_number
-  tests::reader::damage::no_changed_byte_stops_a_reader
-  tests::controller::a_session
-  tests::controller::numbers_take_turns
-  tests::controller::another_address
-)
-
-first=$(rt try --test --fail-alloc 1 2>&1)
-second=$(rt try --test --fail-alloc 2 2>&1)
-for machine in reader controller; do
-  grep -q "test tests::$machine::out_of_memory_is_told ... ok" <<<"$first" || fail "$machine: out of memory was not told"
-done
-for name in "${tests[@]}"; do
-  grep -q "test $name ... FAILED" <<<"$first" || fail "$name: no allocation was refused"
-  grep -q "test $name ... ok" <<<"$second" || fail "$name: a second allocation was asked for"
-done
-
-cd ../osdp_sim_tests || exit 1
-# Ten to set up; three that ask beforehand for the room that the commands of the schedule may take, without which it goes on; four by the steps.
-for number in 1 13 17 18; do
-  refuse 'simulated line' "$number" refusals::out_of_memory_is_told
-  case "$number" in
-    13 | 18) needed=ok ;;
-    *) needed=FAILED ;;
-  esac
-  ended 'simulated line' "$number" refusals::memory_is_needed "$needed"
-done
-
-cd ../osdp_bus_tests || exit 1
-for number in 1 2 3 4; do
-  refuse bus "$number" reservations::out_of_memory_is_told
-  one=ok
-  [ "$number" -le 2 ] && one=FAILED
-  two=ok
-  [ "$number" -le 3 ] && two=FAILED
-  ended 'bus of one device' "$number" turns::runs_end "$one"
-  for name in two_devices_take_turns a_pause_holds_the_line; do
-    ended 'bus of two devices' "$number" "turns::$name" "$two"
+# $1: the crate; $2: the test that is told of out of memory; $3: how many requests it makes; $4: a test that makes requests, $5: which of those that the
+# other makes it needs, as a pattern. The first may be the test's own.
+refuse_each() {
+  local program number
+  program=$(tests_of "$1")
+  refused "$program" "$2" 0 || fail "$2: it fails with ample memory"
+  refused "$program" "$4" 0 || fail "$4: it fails with ample memory"
+  for ((number = 1; number <= $3; number++)); do
+    refused "$program" "$2" "$number" || fail "$2: request $number refused: $(tail -n 3 "$work/said")"
+    [ -e "$work/mark" ] || fail "$2: there is no request $number"
+    if refused "$program" "$4" "$number"; then
+      [[ ! $number =~ ^($5)$ ]] || fail "$4: request $number is refused, and it passes"
+    else
+      [[ $number =~ ^($5)$ ]] || fail "$4: request $number is refused, and it fails"
+    fi
   done
+  refused "$program" "$2" "$number"
+  [ ! -e "$work/mark" ] || fail "$2: there is a request $number"
+}
+
+machines=osdp_machine_tests
+for test in an_event_is_told_until_the_next_number damage::no_changed_byte_stops_a_reader; do
+  refuse_each $machines tests::reader::out_of_memory_is_told 1 "tests::reader::$test" 1
 done
+for test in a_session numbers_take_turns another_address; do
+  refuse_each $machines tests::controller::out_of_memory_is_told 1 "tests::controller::$test" 1
+done
+# A bus asks as it is made, and once for each device.
+refuse_each osdp_bus_tests reservations::out_of_memory_is_told 3 turns::runs_end '1|2'
+for test in turns::two_devices_take_turns turns::a_pause_holds_the_line; do
+  refuse_each osdp_bus_tests reservations::out_of_memory_is_told 3 $test '1|2|3'
+done
+# Ten requests to set up; three that ask beforehand for the room that the commands may take, without which it goes on; four by the steps.
+refuse_each osdp_sim_tests refusals::out_of_memory_is_told 17 refusals::memory_is_needed '[1-9]|10|14|15|16|17'
+refuse_each osdp_sim_tests scripts::out_of_memory_is_told 27 scripts::memory_is_needed '.*'
+exit "$failed"

@@ -1,69 +1,84 @@
-/* A panel on a serial port.
- *
- *     panel PORT RATE ADDRESS,ADDRESS.. [SETTING VALUE]..
- *
- * Each line of standard input is an order: a reader's number, from 1, and a command, as `1 OUT 0:5:30`. Each line of standard output is what was
- * ordered, or what the panel reports: `opened`, `settled`, `event`, `lost` and others. A session that was lost begins again after a second.
- * Words, lines and settings are those of examples/panel.py. */
-#include <stdlib.h>
+/* A panel on a serial port: `panel --help` prints what it takes and says. Words, lines and settings are those of examples/panel.py. */
 #include <string.h>
 
+#include "orders.h"
+#include "places.h"
 #include "port.h"
 #include "words.h"
 
 #define PAUSE 1000 /* from a lost session to the next one, in milliseconds */
-#define NEVER UINT64_MAX
-#define MOST 16
+#define COMSET 0x6E
+
+static const char usage[] =
+    "panel [--trace FILE] PORT RATE ADDRESS,ADDRESS.. [SETTING VALUE]..\n"
+    "\n"
+    "Each line of standard input is an order: a reader's number, from 1, and a command, as `1 OUT 0:5:30`. Each line of\n"
+    "standard output is what was ordered, or what the panel reports: `opened`, `settled`, `event`, `lost` and others.\n"
+    "A reader whose session isn't open takes no order. Where a session is lost or moved, the orders that wait are taken\n"
+    "back, and told `withdrawn`. A lost session begins again after a second.\n"
+    "A COMSET is taken where every session is open. One with another rate is given to each reader, and the port gets that\n"
+    "rate after the last one has moved. One that refuses it keeps the port at the old rate, and those that moved are told\n"
+    "`out of reach`. Where the answer is lost, the new place and the old one are tried in turn.\n"
+    "FILE gets each burst, both ways, as `osdp show` reads it.\n"
+    "\n"
+    "Settings: check sum or crc; reply-wait, poll-interval, busy-wait, quiet-wait and gap in milliseconds; sends,\n"
+    "busy-limit and capacity.\n"
+    "Status: 2 bad words or settings, 3 the port or standard output fails, 4 out of memory, 130 at Ctrl-C. Nothing is said\n"
+    "at Ctrl-C and where nobody reads standard output any more, else one line that says why.\n";
 
 static struct osdp_panel panel;
 static int port;
-static size_t entries;
-static uint64_t begins[MOST]; /* the moment at which the session of a reader begins again */
+static uint32_t rate; /* of the port */
 
-/* Prints a name, a reader's number, and the command and the reply that a report has. */
-static void tell_report(const char *name, const struct osdp_report *report)
+/* A session has ended: the orders that wait are stale, and are taken back. */
+static void close_reader(size_t entry, struct known *reader, uint64_t pause)
 {
-    static const char *const causes[] = { "", "no-reply", "too-busy", "number-refused" };
-    tell("%s %zu", name, report->entry + 1);
-    if (report->kind == OSDP_REPORT_LOST) {
-        tell(" %s", causes[report->detail & 3]);
-    } else if (report->kind == OSDP_REPORT_UNREAD) {
-        tell(" code %02X", (unsigned)report->detail);
+    static struct osdp_message command;
+    reader_closed(reader, moment() + pause);
+    while (osdp_panel_withdraw(&panel, entry, &command) == OSDP_OK && command.present) {
+        tell("withdrawn %zu %s\n", entry + 1, command_text(&command));
+        if (command.code == COMSET) {
+            comset_over(reader);
+        }
     }
-    if (report->command.present) {
-        tell(" %s", command_text(&report->command));
+}
+
+/* A reader has moved to where its COM says: an address, and a rate with its lowest byte first. */
+static void move_reader(struct known *reader, const uint8_t *com)
+{
+    struct place place = { com[0], com[1] | (uint32_t)com[2] << 8 | (uint32_t)com[3] << 16 | (uint32_t)com[4] << 24 };
+    if (!has_rate(place.rate)) {
+        tell("no rate %u\n", (unsigned)place.rate);
+        place.rate = rate;
     }
-    if (report->reply.present) {
-        tell("%s %s", report->command.present ? " =" : "", reply_text(&report->reply));
-    }
-    tell("\n");
+    comset_done(reader, place);
 }
 
 /* Takes what the panel tells, and does what is to be done about it. */
 static void take_reports(void)
 {
-    static const char *const names[] = { "", "opened", "settled", "moved", "event", "answered", "unread", "lost" };
     static struct osdp_report report;
     while (osdp_panel_next_report(&panel, &report) == OSDP_OK && report.kind != OSDP_REPORT_NONE) {
-        tell_report(names[report.kind & 7], &report);
-        if (report.kind == OSDP_REPORT_LOST) {
-            begins[report.entry] = moment() + PAUSE;
+        struct known *reader = known_reader(report.entry);
+        tell_report(&report);
+        if (report.kind == OSDP_REPORT_OPENED) {
+            reader_opened(reader);
+        } else if (report.kind == OSDP_REPORT_SETTLED && report.command.code == COMSET) {
+            comset_over(reader);
         } else if (report.kind == OSDP_REPORT_MOVED) {
-            const uint8_t *rate = report.reply.data + 1; /* after the address, the lowest byte first */
-            set_rate(port, rate[0] | (uint32_t)rate[1] << 8 | (uint32_t)rate[2] << 16 | (uint32_t)rate[3] << 24);
-            begins[report.entry] = moment();
+            move_reader(reader, report.reply.data);
+            close_reader(report.entry, reader, 0);
+        } else if (report.kind == OSDP_REPORT_LOST) {
+            close_reader(report.entry, reader, PAUSE);
         }
     }
 }
 
-/* Hands the panel a command: a reader's number, from 1, and the command's text. */
-static void order(const char *line)
+/* Hands the panel the orders that have come. */
+static void take_orders(struct lines *lines)
 {
-    char *text;
-    size_t entry = strtoul(line, &text, 10);
-    tell("ordered %s\n", line);
-    if (tell_refusal(entry == 0 ? OSDP_BAD_TEXT : osdp_panel_submit_text(&panel, entry - 1, text, strlen(text)))) {
-        tell("not taken %s\n", line);
+    for (const char *line = next_line(lines); line != NULL; line = next_line(lines)) {
+        order(&panel, rate, line);
     }
 }
 
@@ -71,31 +86,37 @@ static void order(const char *line)
 static uint64_t until_due(void)
 {
     struct osdp_moment due;
-    uint64_t now = moment(), first = NEVER;
-    if (osdp_panel_next_deadline(&panel, &due) == OSDP_OK && due.present) {
+    uint64_t now = moment(), first = next_begin(rate);
+    if (osdp_panel_next_deadline(&panel, &due) == OSDP_OK && due.present && due.moment < first) {
         first = due.moment;
-    }
-    for (size_t i = 0; i < entries; i++) {
-        first = begins[i] < first ? begins[i] : first;
     }
     return first > now ? first - now : 0;
 }
 
-/* Hands the panel the orders that have come. */
-static void take_orders(struct lines *lines)
+/* Begins a session at a place of the reader, with the port at its rate. */
+static void begin(size_t entry, struct known *reader, struct place place, uint64_t now)
 {
-    for (const char *line = next_line(lines); line != NULL; line = next_line(lines)) {
-        order(line);
+    if (place.rate != rate) {
+        (void)set_rate(port, place.rate);
+        rate = place.rate;
+        tell("rate %u\n", (unsigned)rate);
     }
+    begin_at(reader, place);
+    (void)osdp_panel_retarget(&panel, entry, place.address);
+    (void)osdp_panel_begin(&panel, entry, now);
 }
 
 /* Begins the sessions whose moment has come. */
 static void begin_sessions(uint64_t now)
 {
-    for (size_t i = 0; i < entries; i++) {
-        if (begins[i] <= now) {
-            begins[i] = NEVER;
-            (void)osdp_panel_begin(&panel, i, now);
+    for (size_t i = 0; known_reader(i) != NULL; i++) {
+        struct known *reader = known_reader(i);
+        const struct place *place = next_place(reader, rate);
+        if (place != NULL && reader->begins <= now) {
+            begin(i, reader, *place, now);
+        } else if (reader->state == CLOSED && reader->begins + PAUSE <= now && !reader->is_told) {
+            reader->is_told = true;
+            tell("out of reach %zu at %u\n", i + 1, (unsigned)reader->places[0].rate);
         }
     }
 }
@@ -116,27 +137,51 @@ static void turn(struct lines *lines)
     take_reports();
 }
 
+/* Adds a reader at an address. */
+static void add_reader(const char *word)
+{
+    size_t entry;
+    uint32_t address = number(word, "address");
+    osdp_status status = osdp_panel_add(&panel, address, &entry);
+    if (status == OSDP_PANEL_NO_MEMORY) {
+        stop(OUT_OF_MEMORY, "out of memory");
+    }
+    if (status != OSDP_OK) {
+        stop(BAD_WORDS, "bad address: %s", word);
+    }
+    join_reader((struct place){ address, rate });
+}
+
+/* Adds a reader at each address of a word, which has commas between them. */
+static void add_readers(char *word)
+{
+    for (char *end = strchr(word, ','); end != NULL; end = strchr(word, ',')) {
+        *end = '\0';
+        add_reader(word);
+        word = end + 1;
+    }
+    add_reader(word);
+}
+
 int main(int count, char **words)
 {
     static struct lines lines;
     struct osdp_panel_config config;
     osdp_panel_defaults(&config);
-    config.capacity = 64;
-    if (count < 4 || count % 2 != 0) {
-        stop(BAD_WORDS, "panel PORT RATE ADDRESS,ADDRESS.. [SETTING VALUE]..");
-    }
-    for (int i = 4; i < count; i += 2) {
+    words = take_words(&count, words, 3, usage);
+    for (int i = 3; i < count; i += 2) {
         set_panel(&config, words[i], words[i + 1]);
     }
-    port = open_port(words[1], number(words[2]));
+    rate = number(words[1], "rate");
     osdp_status status = osdp_panel_new(&panel, &config);
-    for (char *word = strtok(words[3], ","); word != NULL && status == OSDP_OK; word = strtok(NULL, ",")) {
-        status = osdp_panel_add(&panel, number(word), &entries);
-        begins[entries++ % MOST] = moment();
+    if (status == OSDP_PANEL_NO_MEMORY) {
+        stop(OUT_OF_MEMORY, "out of memory");
     }
-    if (tell_refusal(status)) {
-        stop(status == OSDP_PANEL_NO_MEMORY ? OUT_OF_MEMORY : BAD_WORDS, "no panel");
+    if (status != OSDP_OK) {
+        stop(BAD_WORDS, "a setting is out of its range");
     }
+    add_readers(words[2]);
+    port = open_port(words[0], rate);
     for (;;) {
         turn(&lines);
     }

@@ -1,4 +1,4 @@
-/* A serial port, a clock, and lines of standard input. */
+/* A serial port and the trace of what goes over it, a clock, and lines of standard input. */
 #ifndef PORT_H
 #define PORT_H
 
@@ -8,18 +8,21 @@
 struct lines {
     char held[8194];
     size_t length, start;
-    bool ended;
+    bool ended, skips;
 };
 
 /* Milliseconds of a clock that never goes backwards. */
 uint64_t moment(void);
 
-/* Opens a port; ends the program where it can't. */
+/* Opens a port; ends the program where it can't. Ctrl-C ends the program without a word. */
 int open_port(const char *path, uint32_t rate);
 
+/* Whether a port may have this rate, in bits for a second. */
+bool has_rate(uint32_t rate);
+
 /* Sets the port raw: 8 bits, no parity, 1 stop bit, and each byte as it is. What was written goes out before, at the old rate, and bytes that have come
- * are kept. Ends the program where the port has no such rate. */
-void set_rate(int port, uint32_t rate);
+ * are kept. Whether the port has such a rate; else it stays as it is. */
+bool set_rate(int port, uint32_t rate);
 
 /* Writes a burst whole. */
 void write_all(int port, const struct osdp_burst *burst);
@@ -27,7 +30,15 @@ void write_all(int port, const struct osdp_burst *burst);
 /* Waits so many milliseconds at most for bytes and lines. How many bytes came from the port. */
 size_t read_port(int port, struct lines *lines, uint64_t wait, uint8_t *bytes, size_t room);
 
-/* The next line, without its end; NULL where none has come whole. It stays until the next read. */
+/* The next line, without its end; NULL where none has come whole. It stays until the next read. The last line needs no line feed. A line that is too long,
+ * or has bytes that aren't printable ASCII, is no call: it is told to be refused, and passed over. */
 const char *next_line(struct lines *lines);
+
+/* Opens the file to which each burst is appended for `osdp show`: a line of digits, after a comment that has its moment and its way. */
+void open_trace(const char *path);
+
+/* A burst has been sent; bytes have come, or none. Those that came less than 20 ms after others are one burst with them. */
+void trace_sent(const uint8_t *bytes, size_t length);
+void trace_came(const uint8_t *bytes, size_t length);
 
 #endif

@@ -1,11 +1,4 @@
-/* A reader on a serial port.
- *
- *     reader PORT RATE [SETTING VALUE]..
- *
- * Each line of standard input is a call: `event KEYPAD 0 31`, `inputs 0100`, `busy on`. Each line of standard output is such a line, or what the
- * reader tells: `taken` and a command, `moved`, `refused` and others. The reader has eight outputs, which an OUT switches; the time of an output is
- * counted here. Words and settings are those of examples/reader.py. Of its lines this one takes `event`, `busy`, `inputs`, `readers` and `local`:
- * outputs, moments, bytes, silences and ticks are its own. */
+/* A reader on a serial port: `reader --help` prints what it takes and says. Words and settings are those of examples/reader.py. */
 #include <stdio.h>
 #include <string.h>
 
@@ -14,6 +7,20 @@
 
 #define TURN 10 /* how long a read waits, in milliseconds */
 #define OUTPUTS 8
+
+static const char usage[] =
+    "reader [--trace FILE] PORT RATE [SETTING VALUE]..\n"
+    "\n"
+    "Each line of standard input is a call: `event KEYPAD 0 31`, `busy on`, `inputs 0100`, `readers 00`, `local 0 0`. Each\n"
+    "line of standard output is such a line, or what the reader tells: `taken` and a command, `moved`, `refused` and others.\n"
+    "`refused` and a command is one that was answered by a NAK: nothing of it is done.\n"
+    "The reader has eight outputs, which an OUT switches; the time of an output is counted here.\n"
+    "FILE gets each burst, both ways, as `osdp show` reads it.\n"
+    "\n"
+    "Settings: address, vendor HEX, model, version, serial, firmware A:B:C, cap F:L:N for each capability, room, and gap in\n"
+    "milliseconds.\n"
+    "Status: 2 bad words or settings, 3 the port or standard output fails, 4 out of memory, 130 at Ctrl-C. Nothing is said\n"
+    "at Ctrl-C and where nobody reads standard output any more, else one line that says why.\n";
 
 /* An output: whether it is on for good, and whether it is on for a time, which counts until a moment. */
 struct output {
@@ -63,15 +70,18 @@ static void switch_outputs(const struct osdp_message *out, uint64_t now)
 static void act(const struct osdp_answer *answer, uint64_t now)
 {
     write_all(port, &answer->burst);
+    static const char *const names[] = { "", "taken", "again", "refused" };
     if (answer->order != OSDP_ORDER_NONE) {
-        tell("%s %s\n", answer->kind == OSDP_SAID_TAKEN ? "taken" : "again", command_text(&answer->command));
+        tell("%s %s\n", names[answer->order & 3], command_text(&answer->command));
     }
     if (answer->order == OSDP_ORDER_TAKEN && answer->command.code == 0x68) {
         switch_outputs(&answer->command, now);
     }
     if (answer->moved) {
         tell("moved %u %u\n", (unsigned)answer->address, (unsigned)answer->baud_rate);
-        set_rate(port, answer->baud_rate);
+        if (!set_rate(port, answer->baud_rate)) {
+            tell("no rate %u\n", (unsigned)answer->baud_rate);
+        }
     }
 }
 
@@ -143,17 +153,19 @@ int main(int count, char **words)
 {
     static struct lines lines;
     static struct reader_settings settings = { .config = { .capacity = 64, .gap = 20 } };
-    if (count < 3 || count % 2 != 1) {
-        stop(BAD_WORDS, "reader PORT RATE [SETTING VALUE]..");
-    }
-    for (int i = 3; i < count; i += 2) {
+    words = take_words(&count, words, 2, usage);
+    for (int i = 2; i < count; i += 2) {
         set_reader(&settings, words[i], words[i + 1]);
     }
-    port = open_port(words[1], number(words[2]));
+    uint32_t rate = number(words[1], "rate");
     osdp_status status = osdp_reader_new(&reader, &settings.config, settings.capabilities, settings.length);
-    if (tell_refusal(status)) {
-        stop(status == OSDP_READER_NO_MEMORY ? OUT_OF_MEMORY : BAD_WORDS, "no reader");
+    if (status == OSDP_READER_NO_MEMORY) {
+        stop(OUT_OF_MEMORY, "out of memory");
     }
+    if (status != OSDP_OK) {
+        stop(BAD_WORDS, "a setting is out of its range");
+    }
+    port = open_port(words[0], rate);
     for (;;) {
         turn(&lines);
     }

@@ -1,14 +1,21 @@
-/* Settings, numbers and texts, as the examples read and print them. */
-#include "words.h"
-
+/* Words of the command line, lines that are printed, and texts of messages. */
+#include <errno.h>
+#include <signal.h>
 #include <stdarg.h>
 #include <stdio.h>
 #include <stdlib.h>
 #include <string.h>
 
-void stop(int status, const char *why)
+#include "port.h"
+#include "words.h"
+
+void stop(int status, const char *format, ...)
 {
-    fprintf(stderr, "%s\n", why);
+    va_list rest;
+    va_start(rest, format);
+    vfprintf(stderr, format, rest);
+    va_end(rest);
+    fputc('\n', stderr);
     exit(status);
 }
 
@@ -16,109 +23,35 @@ void tell(const char *format, ...)
 {
     va_list rest;
     va_start(rest, format);
-    vprintf(format, rest);
+    bool failed = vprintf(format, rest) < 0 || fflush(stdout) != 0;
     va_end(rest);
-    fflush(stdout);
-}
-
-/* The number that a text begins with; where it ends is told. */
-static uint32_t first_number(const char *text, char **end, uint32_t most)
-{
-    unsigned long value = strtoul(text, end, 10);
-    if (*text < '0' || *text > '9' || value > most) {
-        stop(BAD_WORDS, "bad words");
+    if (failed && errno == EPIPE) {
+        exit(FAILED);
     }
-    return (uint32_t)value;
-}
-
-uint32_t number(const char *word)
-{
-    char *end;
-    uint32_t value = first_number(word, &end, UINT32_MAX);
-    if (*end != '\0') {
-        stop(BAD_WORDS, "bad words");
-    }
-    return value;
-}
-
-static void numbers(const char *word, uint8_t *bytes, size_t count)
-{
-    for (size_t i = 0; i < count; i++) {
-        char *end;
-        bytes[i] = (uint8_t)first_number(word, &end, 255);
-        if (*end != (i + 1 < count ? ':' : '\0')) {
-            stop(BAD_WORDS, "bad words");
-        }
-        word = end + 1;
+    if (failed) {
+        stop(FAILED, "standard output can't be written");
     }
 }
 
-size_t digits(const char *word, uint8_t *bytes, size_t room)
+char **take_words(int *count, char **words, int least, const char *usage)
 {
-    size_t length = strlen(word) / 2;
-    if (strcmp(word, "none") == 0) {
-        return 0;
+    (void)signal(SIGPIPE, SIG_IGN);
+    words++;
+    *count -= *count > 0;
+    if (*count == 1 && (strcmp(words[0], "--help") == 0 || strcmp(words[0], "-h") == 0)) {
+        tell("%s", usage);
+        exit(0);
     }
-    if (length == 0 || strlen(word) % 2 != 0 || length > room || strspn(word, "0123456789ABCDEFabcdef") != 2 * length) {
-        return room + 1;
+    const char *trace = *count > 1 && strcmp(words[0], "--trace") == 0 ? words[1] : NULL;
+    words += trace != NULL ? 2 : 0;
+    *count -= trace != NULL ? 2 : 0;
+    if (*count < least || words[0][0] == '-' || (*count - least) % 2 != 0) {
+        stop(BAD_WORDS, "bad words: --help tells the right ones");
     }
-    for (size_t i = 0; i < length; i++) {
-        char pair[] = { word[2 * i], word[2 * i + 1], '\0' };
-        bytes[i] = (uint8_t)strtoul(pair, NULL, 16);
+    if (trace != NULL) {
+        open_trace(trace);
     }
-    return length;
-}
-
-void set_panel(struct osdp_panel_config *config, const char *name, const char *value)
-{
-    const struct {
-        const char *name;
-        uint32_t *field;
-    } settings[] = {
-        { "reply-wait", &config->reply_wait }, { "poll-interval", &config->poll_interval }, { "sends", &config->sends },
-        { "busy-wait", &config->busy_wait },   { "busy-limit", &config->busy_limit },       { "quiet-wait", &config->quiet_wait },
-        { "gap", &config->gap },               { "capacity", &config->capacity },
-    };
-    if (strcmp(name, "check") == 0 && (strcmp(value, "sum") == 0 || strcmp(value, "crc") == 0)) {
-        config->check = strcmp(value, "crc") == 0 ? OSDP_CHECK_CRC : OSDP_CHECK_SUM;
-        return;
-    }
-    for (size_t i = 0; i < sizeof settings / sizeof settings[0]; i++) {
-        if (strcmp(name, settings[i].name) == 0) {
-            *settings[i].field = number(value);
-            return;
-        }
-    }
-    stop(BAD_WORDS, "bad words");
-}
-
-void set_reader(struct reader_settings *settings, const char *name, const char *value)
-{
-    struct osdp_reader_config *config = &settings->config;
-    uint8_t version[3];
-    if (strcmp(name, "address") == 0) {
-        config->address = number(value);
-    } else if (strcmp(name, "serial") == 0) {
-        config->serial = number(value);
-    } else if (strcmp(name, "room") == 0) {
-        config->capacity = number(value);
-    } else if (strcmp(name, "gap") == 0) {
-        config->gap = number(value);
-    } else if (strcmp(name, "model") == 0) {
-        numbers(value, &config->model, 1);
-    } else if (strcmp(name, "version") == 0) {
-        numbers(value, &config->version, 1);
-    } else if (strcmp(name, "firmware") == 0) {
-        numbers(value, version, 3);
-        config->firmware_major = version[0];
-        config->firmware_minor = version[1];
-        config->firmware_build = version[2];
-    } else if (strcmp(name, "cap") == 0 && settings->length < 1431) {
-        numbers(value, settings->capabilities + settings->length, 3);
-        settings->length += 3;
-    } else if (strcmp(name, "vendor") != 0 || digits(value, config->vendor, 3) != 3) {
-        stop(BAD_WORDS, "bad words");
-    }
+    return words;
 }
 
 typedef osdp_status text_call(uint8_t, const uint8_t *, size_t, char *, size_t, size_t *);
@@ -152,4 +85,23 @@ bool tell_refusal(osdp_status status)
         tell("refused %c%u\n", "-MBCN"[status / 10 % 5], (unsigned)(status % 10));
     }
     return status != OSDP_OK;
+}
+
+void tell_report(const struct osdp_report *report)
+{
+    static const char *const names[] = { "", "opened", "settled", "moved", "event", "answered", "unread", "lost" };
+    static const char *const causes[] = { "", "no-reply", "too-busy", "number-refused" };
+    tell("%s %zu", names[report->kind & 7], report->entry + 1);
+    if (report->kind == OSDP_REPORT_LOST) {
+        tell(" %s", causes[report->detail & 3]);
+    } else if (report->kind == OSDP_REPORT_UNREAD) {
+        tell(" code %02X", (unsigned)report->detail);
+    }
+    if (report->command.present) {
+        tell(" %s", command_text(&report->command));
+    }
+    if (report->reply.present) {
+        tell("%s %s", report->command.present ? " =" : "", reply_text(&report->reply));
+    }
+    tell("\n");
 }

@@ -4,8 +4,8 @@
 
 #include "osdp.h"
 
-/* Status of a program: bad words, a port that fails, out of memory. */
-enum { BAD_WORDS = 2, BAD_PORT = 3, OUT_OF_MEMORY = 4 };
+/* Status of a program: bad words; the port, the trace or standard output fails; out of memory. */
+enum { BAD_WORDS = 2, FAILED = 3, OUT_OF_MEMORY = 4 };
 
 /* What a reader is made of: its capabilities are three bytes each. */
 struct reader_settings {
@@ -18,8 +18,12 @@ struct reader_settings {
 void set_panel(struct osdp_panel_config *config, const char *name, const char *value);
 void set_reader(struct reader_settings *settings, const char *name, const char *value);
 
+/* Opens the file of `--trace`, if it is named, and gives the other words, of which there are at least so many, and then pairs. `--help` prints the
+ * usage. Ends the program where the words are others. */
+char **take_words(int *count, char **words, int least, const char *usage);
+
 /* The number that a word is; ends the program where it is none. */
-uint32_t number(const char *word);
+uint32_t number(const char *word, const char *what);
 
 /* The bytes that digits stand for, or `none`: how many; more than the room where they are none. */
 size_t digits(const char *word, uint8_t *bytes, size_t room);
@@ -28,13 +32,16 @@ size_t digits(const char *word, uint8_t *bytes, size_t room);
 const char *command_text(const struct osdp_message *command);
 const char *reply_text(const struct osdp_message *reply);
 
-/* Prints a part of a line, and lets it go at once. */
+/* Prints what a report tells: a name, a reader's number, and the command and the reply that it has. */
+void tell_report(const struct osdp_report *report);
+
+/* Prints a part of a line, and lets it go at once. Where nobody reads it any more the program ends without a word. */
 void tell(const char *format, ...);
 
 /* Prints why a call was refused, as `refused C3`. Whether it was. */
 bool tell_refusal(osdp_status status);
 
 /* Ends the program with one line on standard error. */
-_Noreturn void stop(int status, const char *why);
+_Noreturn void stop(int status, const char *format, ...);
 
 #endif

@@ -1,5 +1,6 @@
 /* A panel and two readers in one program, joined in memory: a whole session, with answers that are lost or cut in two, a reader that moves, is busy and
- * restarts, one that falls silent, and each refusal. What both ends tell is compared with the record that it must be.
+ * restarts, one that falls silent, and each refusal. What both ends tell is compared with the record that it must be. As the machines are freed, commands
+ * wait for three devices, of which one holds the line, and events at both readers.
  *
  * With a heap over malloc it is run once more for each block that it asks for, and that block is refused: the call answers that there is no
  * memory, has changed nothing, and is done when it is called again; the record is the same, and no block is held in the end. Each call takes as many
@@ -280,6 +281,27 @@ static void compare(const char *what, int i, const struct record *record, const 
     }
 }
 
+/* A third device is added, which has no reader; commands wait for each device, and events at each reader. So all of these are there as the machines are
+ * freed. */
+static void leave_waiting(void)
+{
+    const char *card = "RAW 0 1 26 12345640";
+    struct osdp_burst burst;
+    size_t count = 0;
+    add_device(READERS);
+    for (size_t i = 0; i <= READERS; i++) {
+        submit(i, "OUT 1:2:0");
+        submit(i, "BUZ 0 2 5 5 1");
+    }
+    demand(osdp_panel_begin(&panel, READERS, now) == OSDP_OK);
+    demand(osdp_panel_tick(&panel, now + 400, &burst) == OSDP_OK && burst.length == 9 && burst.bytes[1] == 5 + READERS);
+    for (int i = 0; i < READERS; i++) {
+        demand(osdp_reader_event_text(&readers[i], card, strlen(card)) == OSDP_OK);
+        demand(osdp_reader_event_text(&readers[i], card, strlen(card)) == OSDP_OK);
+        demand(osdp_reader_waiting(&readers[i], &count) == OSDP_OK && count == 2);
+    }
+}
+
 /* The records are compared, and all is given back. */
 static void end(void)
 {
@@ -305,6 +327,7 @@ static void session(void)
     fall_silent();
     be_busy();
     restart();
+    leave_waiting();
     end();
 }
 

@@ -107,7 +107,7 @@ static void settings(void)
     demand_around(&first_place);
     demand(config->check == OSDP_CHECK_CRC && config->reply_wait == 200 && config->poll_interval == 50);
     demand(config->sends == 3 && config->busy_wait == 50 && config->busy_limit == 20);
-    demand(config->quiet_wait == 400 && config->gap == 20 && config->capacity == 16);
+    demand(config->quiet_wait == 400 && config->gap == 20 && config->capacity == 64);
 }
 
 /* A handle that is none, with the pattern around it. */

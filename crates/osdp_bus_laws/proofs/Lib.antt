@@ -17,3 +17,5 @@ pub mod Silences
 pub mod Reports
 pub mod Rooms
 pub mod Refusing
+pub mod Moments
+pub mod Retargeting

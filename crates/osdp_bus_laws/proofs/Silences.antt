@@ -81,7 +81,7 @@ kept_call (OnSilence now) b none = refl
 kept_call (Tick now) b none = kept_tick now b
 kept_call NextReport b none = refl
 
-greatest_kept : (b : BusState) → (ends_silent b).greatest ≡ b.greatest
+pub greatest_kept : (b : BusState) → (ends_silent b).greatest ≡ b.greatest
 greatest_kept b = either_way (λ (e : BusState). e.greatest ≡ b.greatest) (is_silent b) (ends_run b) b (λ h. refl) (λ h. refl)
 
 -- ---- within the gap and past it

@@ -10,3 +10,6 @@ pub mod Resending
 pub mod Holding
 pub mod Refusals
 pub mod Reports
+pub mod Moments
+pub mod Retargeting
+pub mod Settings

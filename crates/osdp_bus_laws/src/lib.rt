@@ -7,11 +7,14 @@ ghost use Rattle.osdp_bus_laws.specs.Calls.{Always};
 ghost use Rattle.osdp_bus_laws.specs.Exchanges.{HasOneExchange, KeepsReports};
 ghost use Rattle.osdp_bus_laws.specs.Fairness.{TurnsAreFair};
 ghost use Rattle.osdp_bus_laws.specs.Holding.{HoldersTick};
+ghost use Rattle.osdp_bus_laws.specs.Moments.{MomentsAreSeen, RunsAreHeardAtTheirEnd};
 ghost use Rattle.osdp_bus_laws.specs.Packets.{CutsChangeNothing, PacketsGoToTheirAddress};
 ghost use Rattle.osdp_bus_laws.specs.Refusals.{RefusesInOrder};
 ghost use Rattle.osdp_bus_laws.specs.Reports.{TellsEachOnce};
 ghost use Rattle.osdp_bus_laws.specs.Resending.{HoldersSendTheSame};
+ghost use Rattle.osdp_bus_laws.specs.Retargeting.{RetargetsSetTheAddress};
 ghost use Rattle.osdp_bus_laws.specs.Sending.{HoldersSendTheirFrame, SessionsBeginAlone};
+ghost use Rattle.osdp_bus_laws.specs.Settings.{DefaultsAreThese, DevicesAreSetAsTheBus};
 ghost use Rattle.osdp_bus_laws.specs.Silences.{SilencesEndRuns};
 ghost use Rattle.osdp_bus_laws.specs.Turns.{TakesTurns};
 
@@ -66,6 +69,23 @@ pub fn silences_end_runs()
     ensures { Always SilencesEndRuns }
 {}
 
+/// Bytes, also none of them, a silence, a tick and a session that begins leave the greater one of their moment and the greatest seen as the
+/// greatest; all other calls, and a session that may not begin, leave the greatest as it was.
+pub fn moments_are_seen()
+    ensures { (b : BusState) → MomentsAreSeen b }
+{}
+
+/// What is held of a run that has ended is heard at the greatest moment seen as the call comes that ends it, and not at that of its last bytes.
+pub fn runs_are_heard_at_their_end()
+    ensures { Always RunsAreHeardAtTheirEnd }
+{}
+
+/// A device that is sent to an address is at it, none is reserved for it, and its commands go on waiting; all other devices stay as they
+/// are.
+pub fn retargets_set_the_address()
+    ensures { (b : BusState) → RetargetsSetTheAddress b }
+{}
+
 /// Where nobody holds the line and no report waits, the first in turn that is due begins an exchange: its own frame goes out, all other
 /// devices stay as they are, the turn is that of the entry after it, and no report waits. Where none is due nothing happens.
 pub fn entries_take_turns()
@@ -102,4 +122,15 @@ pub fn sessions_begin_alone()
 /// Each refusal comes exactly where its cause holds and no cause that is judged before it does, and nothing has changed then.
 pub fn refusals_come_in_order()
     ensures { Always RefusesInOrder }
+{}
+
+/// A new device at an address has each setting of its bus under the same name, and room for as many commands.
+pub fn devices_are_set_as_the_bus()
+    ensures { DevicesAreSetAsTheBus }
+{}
+
+/// By default an answer is waited for 200 ms, a POLL follows after 50, a frame is sent three times, a BUSY is waited for 50 and borne 20 times, a
+/// session opens after 400 of quiet, and a run is over after 20.
+pub fn defaults_are_these()
+    ensures { DefaultsAreThese }
 {}

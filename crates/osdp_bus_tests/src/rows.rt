@@ -52,7 +52,7 @@ pub fn add(rt: &impl Abort, bus: &mut Bus, address: u8) -> Result<Entry, BusFaul
 }
 
 /// The command of these words.
-fn command(rt: &impl Abort, words: &[&str]) -> Command {
+pub fn command(rt: &impl Abort, words: &[&str]) -> Command {
     Command::parse(words).ok().expect(rt, "a command")
 }
 

@@ -67,20 +67,58 @@ fn answers_in_pieces(rt: HostRuntime) {
     }
 }
 
-/// Where the second piece comes a gap later, neither is a packet.
+/// Where the second piece of each answer comes a gap later, neither is a packet: both devices are asked three times, and lost.
+const TWO_LOST: [Row; 24] = [
+    Row::Begins(0, 0, Ok(())),
+    Row::Begins(1, 0, Ok(())),
+    Row::Sends(400, ID_5),
+    Row::Hears(410, PDID_5),
+    Row::Quiet,
+    Row::Stays(431),
+    Row::Sends(600, ID_5),
+    Row::Hears(610, PDID_5),
+    Row::Quiet,
+    Row::Sends(800, ID_5),
+    Row::Hears(810, PDID_5),
+    Row::Quiet,
+    Row::Stays(1000),
+    Row::Told(0, "lost"),
+    Row::Sends(1000, ID_6),
+    Row::Hears(1010, PDID_6),
+    Row::Quiet,
+    Row::Sends(1200, ID_6),
+    Row::Hears(1210, PDID_6),
+    Row::Sends(1400, ID_6),
+    Row::Hears(1410, PDID_6),
+    Row::Stays(1599),
+    Row::Stays(1600),
+    Row::Told(1, "lost"),
+];
+
 #[test]
 fn answers_with_a_gap(rt: HostRuntime) {
-    let opening = [
-        Row::Begins(0, 0, Ok(())),
-        Row::Sends(400, ID_5),
-        Row::Hears(410, PDID_5),
-        Row::Quiet,
-        Row::Stays(431),
-        Row::Sends(600, ID_5),
-    ];
     for after in 1..19 {
-        let mut bus = new_bus(&rt, rt.alloc(), &[5]);
-        run(&rt, &mut bus, &opening, Cut { after, later: 20 });
+        let mut bus = new_bus(&rt, rt.alloc(), &[5, 6]);
+        run(&rt, &mut bus, &TWO_LOST, Cut { after, later: 20 });
+    }
+}
+
+/// Two devices are open, and the POLL of the first is answered in two pieces a gap apart: it goes out again, and its repeat is answered whole.
+#[test]
+fn an_ack_with_a_gap(rt: HostRuntime) {
+    let cut = [
+        Row::Hears(465, ACK_5),
+        Row::Quiet,
+        Row::Stays(486),
+        Row::Stays(659),
+        Row::Sends(660, POLL_5),
+    ];
+    let whole = [Row::Hears(670, ACK_5), Row::Quiet, Row::Sends(680, POLL_6)];
+    for after in 1..7 {
+        let mut bus = new_bus(&rt, rt.alloc(), &[5, 6]);
+        run(&rt, &mut bus, &TWO[..20], WHOLE);
+        run(&rt, &mut bus, &cut, Cut { after, later: 20 });
+        run(&rt, &mut bus, &whole, WHOLE);
     }
 }
 

@@ -21,10 +21,10 @@ use osdp_c_values::{
 };
 use std::alloc::Global;
 
-/// Writes the default settings: those of a bus with a CRC, and room for 16 commands.
+/// Writes the default settings: those of a bus with a CRC, and room for 64 commands.
 #[unsafe(no_mangle)]
 pub extern "C" fn osdp_panel_defaults(settings: &mut PanelSettings)
-    ensures { bus_config_of settings.new ≡ Some (default_config Crc 16) }
+    ensures { bus_config_of settings.new ≡ Some (default_config Crc 64) }
 {
     settings.set_defaults();
 }

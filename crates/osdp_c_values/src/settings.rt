@@ -45,9 +45,9 @@ fn check_of(number: u32) -> CheckKind
 }
 
 impl PanelSettings {
-    /// Writes the default settings of a bus: a CRC, and room for 16 commands.
+    /// Writes the default settings of a bus: a CRC, and room for 64 commands.
     pub fn set_defaults(&mut self)
-        ensures { bus_config_of self.new ≡ Some (default_config Crc 16) }
+        ensures { bus_config_of self.new ≡ Some (default_config Crc 64) }
     {
         self.check = 1;
         self.reply_wait = 200;
@@ -57,7 +57,7 @@ impl PanelSettings {
         self.busy_limit = 20;
         self.quiet_wait = 400;
         self.gap = 20;
-        self.capacity = 16;
+        self.capacity = 64;
     }
 
     /// The settings of a bus that they stand for. None where the check, the sends or the BUSYs have no such number.

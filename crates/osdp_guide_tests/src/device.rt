@@ -1,4 +1,4 @@
-//! A device: what it is, its loop, and a strike that is on for a time.
+//! A device: what it is, its loop, and outputs that are on for a time.
 
 use arrayvec::ArrayVec;
 use osdp_device::{Device, DeviceStatus, taken};
@@ -10,16 +10,28 @@ use std::alloc::Global;
 /// What a turn writes, with room for the largest packet.
 pub type Bytes = ArrayVec<u8, MAX_PACKET>;
 
-/// The strike: it is on until a moment, or off.
+/// For how many outputs there is room.
+const ROOM: usize = 8;
+
+/// The outputs: each is on until a moment, or off.
 #[derive(Drop)]
-pub struct Strike {
-    pub until: Option<u64>,
+pub struct Relays {
+    pub until: [Option<u64>; ROOM],
 }
 
-/// What the device is, for ID, and what it can do, for CAP: it has an input and an output, and takes a CRC too.
-fn new_config(address: Address) -> ReaderConfig {
+impl Relays {
+    /// All of them off.
+    pub fn off() -> Relays {
+        Relays {
+            until: [None; ROOM],
+        }
+    }
+}
+
+/// What the device is, for ID, and what it can do, for CAP: it has inputs and outputs, and takes a CRC too.
+fn new_config(address: Address, inputs: u8, outputs: u8) -> ReaderConfig {
     let mut capabilities = ArrayVec::new();
-    for (function, count) in [(1, 1), (2, 1), (8, 0)] {
+    for (function, count) in [(1, inputs), (2, outputs), (8, 0)] {
         let _ = capabilities.try_push(Capability {
             function,
             level: 1,
@@ -41,12 +53,29 @@ fn new_config(address: Address) -> ReaderConfig {
     }
 }
 
-/// A device at an address, with an input, which is the door's contact, and an output, which is its strike.
-pub fn new_device(alloc: Global, address: Address) -> Option<Device<DeviceStatus>> {
+/// So many inputs or outputs, all of them off.
+fn all_off(count: u8) -> ArrayVec<u8, MAX_DATA> {
+    let mut states = ArrayVec::new();
+    for _ in 0..count {
+        let _ = states.try_push(0);
+    }
+    states
+}
+
+/// A device at an address, with so many inputs and outputs, all of them off. None where there is no memory, or no room for the outputs.
+pub fn new_device(
+    alloc: Global,
+    address: Address,
+    inputs: u8,
+    outputs: u8,
+) -> Option<Device<DeviceStatus>> {
+    if usize::from(outputs) > ROOM {
+        return None;
+    }
     let mut status = DeviceStatus::new();
-    let _ = status.inputs.try_push(0);
-    let _ = status.outputs.try_push(0);
-    let reader = Reader::new(alloc, new_config(address), status, 64).ok()?;
+    status.inputs = all_off(inputs);
+    status.outputs = all_off(outputs);
+    let reader = Reader::new(alloc, new_config(address, inputs, outputs), status, 64).ok()?;
     Device::new(reader, 20)
 }
 
@@ -67,27 +96,24 @@ pub fn keys_were_pressed(device: &mut Device<DeviceStatus>, keys: &[u8]) {
     }
 }
 
-/// The states of all inputs: of the door's contact.
-fn inputs_of(is_open: bool) -> ArrayVec<u8, MAX_DATA> {
-    let mut inputs = ArrayVec::new();
-    let _ = inputs.try_push(u8::from(is_open));
-    inputs
-}
-
-/// The door was opened or closed: ISTAT is answered so from now on, and an event tells it.
-pub fn door_was_moved(device: &mut Device<DeviceStatus>, is_open: bool) {
-    device.reader.handler_mut().inputs = inputs_of(is_open);
-    let _ = device
-        .reader
-        .submit_event(Event::Inputs(inputs_of(is_open)));
+/// An input is on or off: ISTAT is answered so from now on, and an event tells the states of all inputs.
+pub fn input_was_switched(device: &mut Device<DeviceStatus>, input: usize, is_on: bool) {
+    let inputs = &mut device.reader.handler_mut().inputs;
+    if let Some(state) = inputs.get_mut(input) {
+        *state = u8::from(is_on);
+    }
+    let mut states = ArrayVec::new();
+    if states.try_extend_from_slice(inputs.as_slice()).is_ok() {
+        let _ = device.reader.submit_event(Event::Inputs(states));
+    }
 }
 
 /// Does what one record says: 2 on for good, 5 on for a time, 1 and 6 off.
-fn drive(strike: &mut Strike, record: &OutputRecord, now: u64) {
+fn drive(until: &mut Option<u64>, record: &OutputRecord, now: u64) {
     match record.control {
-        2 => strike.until = Some(u64::MAX),
-        5 => strike.until = Some(now.saturating_add(100 * u64::from(record.timer))),
-        1 | 6 => strike.until = None,
+        2 => *until = Some(u64::MAX),
+        5 => *until = Some(now.saturating_add(100 * u64::from(record.timer))),
+        1 | 6 => *until = None,
         _ => {}
     }
 }
@@ -98,43 +124,44 @@ fn is_refused(response: &Response) -> bool {
 }
 
 /// What the device does with an answer. A command is told as taken once, one that is refused too.
-fn act(strike: &mut Strike, response: &Response, now: u64) {
+fn act(relays: &mut Relays, response: &Response, now: u64) {
     if is_refused(response) {
         return;
     }
     if let Some(Command::Output(outputs)) = taken(response) {
         for record in outputs.records() {
-            if record.output == 0 {
-                drive(strike, record, now);
+            if let Some(until) = relays.until.get_mut(usize::from(record.output)) {
+                drive(until, record, now);
             }
         }
     }
 }
 
-/// Time passes: the strike's may be over. OSTAT is answered by what is set here.
-fn pass(device: &mut Device<DeviceStatus>, strike: &mut Strike, now: u64) {
-    if strike.until.is_some_and(|until| until <= now) {
-        strike.until = None;
+/// Time passes: that of an output may be over. OSTAT is answered by what is set here.
+fn pass(device: &mut Device<DeviceStatus>, relays: &mut Relays, now: u64) {
+    let states = device.reader.handler_mut().outputs.as_mut_slice();
+    for (state, until) in states.iter_mut().zip(relays.until.iter_mut()) {
+        if until.is_some_and(|until| until <= now) {
+            *until = None;
+        }
+        *state = u8::from(until.is_some());
     }
-    let mut outputs = ArrayVec::new();
-    let _ = outputs.try_push(u8::from(strike.until.is_some()));
-    device.reader.handler_mut().outputs = outputs;
 }
 
 /// The device's loop, once: it reads, answers, and acts. What it writes.
 pub fn device_turn(
     device: &mut Device<DeviceStatus>,
-    strike: &mut Strike,
+    relays: &mut Relays,
     bytes: &[u8],
     now: u64,
 ) -> Bytes {
     let mut written = Bytes::new();
+    pass(device, relays, now);
     device.take(bytes, now);
     device.tick(now);
     if let Some(response) = device.next() {
         let _ = written.try_extend_from_slice(response.bytes());
-        act(strike, &response, now);
+        act(relays, &response, now);
     }
-    pass(device, strike, now);
     written
 }

@@ -1,6 +1,6 @@
 //! A panel and a device joined in memory: a card opens the door for three seconds.
 
-use crate::device::{Bytes, Strike, card_was_read, device_turn, new_device};
+use crate::device::{Bytes, Relays, card_was_read, device_turn, new_device};
 use crate::panel::{decide, new_panel};
 use osdp_bus::{Bus, Entry};
 use osdp_device::{Device, DeviceStatus};
@@ -25,7 +25,7 @@ fn run(
     bus: &mut Bus,
     door: Entry,
     device: &mut Device<DeviceStatus>,
-    strike: &mut Strike,
+    relays: &mut Relays,
     from: u64,
     until: u64,
 ) {
@@ -37,7 +37,7 @@ fn run(
             Some(burst) => burst.as_slice(),
             None => &[],
         };
-        line = device_turn(device, strike, bytes, now);
+        line = device_turn(device, relays, bytes, now);
     }
 }
 
@@ -47,14 +47,14 @@ fn a_card_opens_the_door(rt: HostRuntime) {
     let (mut bus, door) = new_panel(rt.alloc(), address, 0)
         .ok()
         .expect(&rt, "a panel");
-    let mut device = new_device(rt.alloc(), address).expect(&rt, "a device");
-    let mut strike = Strike { until: None };
-    run(&mut bus, door, &mut device, &mut strike, 0, 1000);
-    assert!(rt; strike.until.is_none());
+    let mut device = new_device(rt.alloc(), address, 1, 1).expect(&rt, "a device");
+    let mut relays = Relays::off();
+    run(&mut bus, door, &mut device, &mut relays, 0, 1000);
+    assert!(rt; relays.until[0].is_none());
     card_was_read(&mut device);
-    run(&mut bus, door, &mut device, &mut strike, 1000, 1200);
-    assert!(rt; strike.until.is_some());
-    run(&mut bus, door, &mut device, &mut strike, 1200, 4500);
-    assert!(rt; strike.until.is_none());
+    run(&mut bus, door, &mut device, &mut relays, 1000, 1200);
+    assert!(rt; relays.until[0].is_some());
+    run(&mut bus, door, &mut device, &mut relays, 1200, 4500);
+    assert!(rt; relays.until[0].is_none());
     assert_eq!(rt; device.reader.waiting(), 0);
 }

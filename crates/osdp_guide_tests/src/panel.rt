@@ -7,7 +7,7 @@ use osdp_msg::{Command, Event, OutputRecord, Outputs, Raw};
 use std::alloc::Global;
 
 /// How many orders may wait for one door.
-const ORDERS: usize = 4;
+const ORDERS: usize = 64;
 
 /// A bus with one door, whose session begins now.
 pub fn new_panel(alloc: Global, address: Address, now: u64) -> Result<(Bus, Entry), BusFault> {

@@ -1,3 +1,5 @@
 pub mod Lines
 pub mod OfPanels
 pub mod OfReaders
+pub mod PanelRuns
+pub mod ReaderRuns

@@ -14,15 +14,15 @@ use Rattle.osdp_line_laws.proofs.Lines.{of_all}
 use Rattle.osdp_line_laws.specs.PanelLines.{Calls, Refused, calls_text, ordered}
 
 -- the calls of a line, and what they tell, without the moment at the end
-record Made (call : PanelCall) (s : Session) : Type 0 where
-  bus : (answered call s).session.bus ≡ after_calls (ordered call s.now ++ NextReport ∷ []) s.bus
-  text : (answered call s).text ≡ calls_text (ordered call s.now ++ NextReport ∷ []) s.bus
+pub record Made (call : PanelCall) (s : Session) : Type 0 where
+  pub bus : (answered call s).session.bus ≡ after_calls (ordered call s.now ++ NextReport ∷ []) s.bus
+  pub text : (answered call s).text ≡ calls_text (ordered call s.now ++ NextReport ∷ []) s.bus
 
 -- what one call tells, and the report after it
 with_report : (a b : List ℕ) → a ++ b ≡ a ++ (b ++ [])
 with_report a b = ap (λ l. a ++ l) (sym (append-nil b))
 
-made : (call : PanelCall) (s : Session) → Made call s
+pub made : (call : PanelCall) (s : Session) → Made call s
 made (At later) s = record { bus = refl; text = sym (append-nil (report_line s.bus.devices.report)) }
 made (Add address) s = record { bus = refl; text = with_report _ _ }
 made (Begin entry) s = record { bus = refl; text = with_report _ _ }

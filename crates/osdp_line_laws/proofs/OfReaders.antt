@@ -96,15 +96,15 @@ bytes_read (byte ∷ bytes) now r l =
 -- ---- a call
 
 -- the steps that a call orders are what it does, and tell what it does, without the count at the end
-record Does (call : ReaderCall) (s : Session) : Type 0 where
-  reader : (does call s).session.reader ≡ after_steps (ordered call s) s.reader
-  text : (does call s).text ≡ steps_text (ordered call s) s.reader
+pub record Does (call : ReaderCall) (s : Session) : Type 0 where
+  pub reader : (does call s).session.reader ≡ after_steps (ordered call s) s.reader
+  pub text : (does call s).text ≡ steps_text (ordered call s) s.reader
 
 heard_steps : (call : ReaderCall) (s : Session) (h : Heard DeviceStatus) → Comes s.reader (ordered call s) h
     → (does call s).session.reader ≡ h.reader → (does call s).text ≡ all_lines h.said → Does call s
 heard_steps call s h comes reader text = record { reader = reader ∙ comes.reader; text = text ∙ comes.text }
 
-call_steps : (call : ReaderCall) (s : Session) → Does call s
+pub call_steps : (call : ReaderCall) (s : Session) → Does call s
 call_steps (At later) s = record { reader = refl; text = refl }
 call_steps (Bytes list) s = heard_steps (Bytes list) s _ (bytes_read list.items s.now s.reader s.line) refl refl
 call_steps Silence s = heard_steps Silence s _ (all_read s.reader (after_silence s.now s.line)) refl refl

@@ -1,2 +1,4 @@
 pub mod PanelLines
 pub mod ReaderLines
+pub mod PanelRuns
+pub mod ReaderRuns

@@ -5,7 +5,9 @@
 #![tactic(auto)]
 
 ghost use Rattle.osdp_line_laws.specs.PanelLines.{ComesOfCalls, IsCallOrNone};
+ghost use Rattle.osdp_line_laws.specs.PanelRuns.{RunsAreCalls as PanelRunsAreCalls};
 ghost use Rattle.osdp_line_laws.specs.ReaderLines.{ComesOfSteps, IsStepsOrNone};
+ghost use Rattle.osdp_line_laws.specs.ReaderRuns.{RunsAreCalls as ReaderRunsAreCalls};
 
 /// A line to a panel is one call of its bus at most, and then the taking of the report that waits: what is written is what the bus refuses,
 /// sends and reports by that, and the moment of the next tick. A line that is none changes nothing.
@@ -28,4 +30,18 @@ pub fn a_line_is_steps()
 /// Lines to a new device come to a list of steps of a new reader, so what each step keeps holds after them.
 pub fn a_device_comes_of_steps()
     ensures { ComesOfSteps }
+{}
+
+/// What a panel writes to a run of lines is what is told of the calls that these lines are, from the first to the last, each as those before it
+/// have left the panel, with the moment of the next tick after each. After them it is the panel that these calls leave, and its calls to come
+/// have the moment of the last line of one.
+pub fn a_panels_run_is_its_calls()
+    ensures { PanelRunsAreCalls }
+{}
+
+/// What a reader's device writes to a run of lines is what is told of the calls that these lines are, from the first to the last, each as those
+/// before it have left the device, with how many events wait after each. After them the reader, the bytes held of its line, the moments seen of it
+/// and the moment of the calls to come are those that these calls leave.
+pub fn a_devices_run_is_its_calls()
+    ensures { ReaderRunsAreCalls }
 {}

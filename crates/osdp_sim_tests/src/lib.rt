@@ -1,4 +1,4 @@
-//! Tests of `osdp_sim`: schedules over a simulated line, each with the account that was worked out by hand.
+//! Tests of `osdp_sim` and `osdp_script`: schedules over a simulated line, with accounts worked out by hand, and a script that is read.
 #![tactic(auto)]
 
 #[cfg(test)]
@@ -7,5 +7,7 @@ mod accounts;
 mod refusals;
 #[cfg(test)]
 mod schedules;
+#[cfg(test)]
+mod scripts;
 #[cfg(test)]
 mod steps;

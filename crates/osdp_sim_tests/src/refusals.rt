@@ -5,7 +5,7 @@ use crate::schedules::{config, outcome};
 use osdp_door::Door;
 use osdp_frame::Address;
 use osdp_msg::Command;
-use osdp_sim::{Cause, Move, SimConfig, SimStep, run_session};
+use osdp_sim::{Account, Cause, Fault, Move, SimConfig, SimStep, run_session};
 use std::alloc::Global;
 use std::process::Abort;
 
@@ -89,15 +89,37 @@ fn opens() -> [SimStep; 7] {
     ]
 }
 
+/// The account of the first of these steps, as text.
+fn text_of_the_first(rt: &impl Abort, alloc: Global, steps: usize) -> String {
+    let all = opens();
+    assert!(rt; steps <= 7);
+    let ended = run_session(alloc, &config(rt), Door::new(), &all[..steps]);
+    account_text(rt, alloc, &ended.ok().expect(rt, "an account"))
+}
+
+/// There was no memory for a step, and the account is that of the steps before it; for the set-up, an account in which no session has begun.
+fn tells_of_the_steps_before(rt: &impl Abort, alloc: Global, fault: &Fault<Account>) {
+    assert_eq!(rt; fault.cause, Cause::NoMemory);
+    let told = account_text(rt, alloc, &fault.account);
+    if fault.step == 0 {
+        assert_eq!(rt; told.as_str(), NONE);
+        assert!(rt; fault.account.sessions.is_empty());
+    } else {
+        let before = text_of_the_first(rt, alloc, fault.step - 1);
+        assert_eq!(rt; told.as_str(), before.as_str());
+        assert_eq!(rt; fault.account.sessions.len(), 1);
+    }
+}
+
 /// Where memory is refused, as `tests/machines_memory.sh` has it, that is the answer, with the account of the steps before.
 #[test]
 fn out_of_memory_is_told(rt: HostRuntime) {
     match run_session(rt.alloc(), &config(&rt), Door::new(), &opens()) {
-        Ok(account) => assert_eq!(rt; account.settled.len(), 1),
-        Err(fault) => {
-            assert_eq!(rt; fault.cause, Cause::NoMemory);
-            assert!(rt; fault.account.settled.is_empty());
+        Ok(account) => {
+            assert_eq!(rt; (account.issued.len(), account.taken.len()), (1, 1));
+            assert_eq!(rt; (account.settled.len(), account.sessions.len()), (1, 1));
         }
+        Err(fault) => tells_of_the_steps_before(&rt, rt.alloc(), &fault),
     }
 }
 

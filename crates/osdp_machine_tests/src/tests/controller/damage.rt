@@ -6,47 +6,64 @@ use osdp_frame::FrameView;
 use osdp_msg::NakReason;
 use osdp_test_packets::{PACKETS, check_anew};
 
-/// Each packet that a run of these bytes has goes to the controller, and a tick follows.
-fn feed(controller: &mut Controller, bytes: &[u8]) {
-    let mut framer = Framer::new();
-    let _ = framer.push(bytes);
+/// Each packet that a run of these bytes has goes to the controller, which tells nothing of it. Answers how many there are.
+fn feed(rt: &impl Abort, controller: &mut Controller, bytes: &[u8]) -> usize {
+    let mut framer = framer_of(rt, bytes);
     framer.gap();
+    let mut packets = 0usize;
     for _ in 0..bytes.len() {
         if let Some(Item::Packet(frame)) = framer.next() {
-            let _ = controller.on_frame(&frame, 500);
+            assert!(rt; controller.on_frame(&frame, 420).is_none());
+            packets = packets.saturating_add(1);
         }
         framer.advance();
     }
-    let _ = controller.tick(u64::MAX);
+    packets
 }
 
 /// The byte of the packet at this place is changed in each way.
-fn feed_changes_at(rt: &impl Abort, controller: &mut Controller, packet: &[u8], place: usize) {
+fn feed_changes_at(
+    rt: &impl Abort,
+    controller: &mut Controller,
+    packet: &[u8],
+    place: usize,
+) -> usize {
     let len = packet.len();
-    for change in 0..=255u8 {
+    let mut packets = 0usize;
+    for change in 1..=255u8 {
         let bytes = changed(rt, packet, place, change);
         assert!(rt; len <= 32);
-        feed(controller, &bytes[..len]);
-        let _ = controller.begin(0);
+        packets = packets.saturating_add(feed(rt, controller, &bytes[..len]));
     }
+    packets
 }
 
 /// Each byte of the packet is changed in each way.
-fn feed_changes(rt: &impl Abort, controller: &mut Controller, digits: &str) {
+fn feed_changes(rt: &impl Abort, controller: &mut Controller, digits: &str) -> usize {
     let mut buffer = [0; 32];
     let packet = bytes_of(digits, &mut buffer).expect(rt, digits);
+    let mut packets = 0usize;
     for place in 0..packet.len() {
-        feed_changes_at(rt, controller, packet, place);
+        packets = packets.saturating_add(feed_changes_at(rt, controller, packet, place));
     }
+    packets
 }
 
-/// Whatever comes, no call faults: each returns.
+/// One changed byte leaves no packet but `53000800B060EBAA`, which is none of the reader's. So the answer to the OUT that is outstanding is still
+/// awaited after all of them, and settles it.
 #[test]
 fn packets_with_one_byte_changed(rt: HostRuntime) {
+    let mut controller = opened(&rt, rt.alloc());
+    let output = submits_output(&rt, &mut controller);
+    sends(&rt, &mut controller, 411, OUT_1);
+    let mut packets = 0usize;
     for digits in PACKETS.lines() {
-        let mut controller = opened(&rt, rt.alloc());
-        feed_changes(&rt, &mut controller, digits);
+        packets = packets.saturating_add(feed_changes(&rt, &mut controller, digits));
     }
+    assert_eq!(rt; packets, 1);
+    is_due(&rt, &controller, Some(611));
+    let report = hear(&rt, &mut controller, ACK_1, 420);
+    assert!(rt; is_settled(&report, &output, &Reply::Ack));
 }
 
 /// Whether it is told that a number was refused while this command was outstanding.

@@ -2,6 +2,7 @@
 
 use super::*;
 use crate::tests::damage::{changed, checked_count};
+use osdp_check::{Check, Crc16};
 use osdp_test_packets::{PACKETS, check_anew};
 
 /// Hands the packets in a run to a reader, and answers how many there were and the last answer.
@@ -82,30 +83,72 @@ fn id_to(rt: &impl Abort, address: u8) -> [u8; 8] {
     packet
 }
 
-/// The line that the packet which stands first in these bytes meets; where none does, silence.
-fn meets(rt: &impl Abort, reader: &mut Reader<Bench>, run: &[u8]) -> Kind {
+/// The packet which stands first in these bytes meets this line; where none does, silence.
+fn meets(rt: &impl Abort, reader: &mut Reader<Bench>, run: &[u8]) -> Response {
     match response_to(rt, reader, run) {
-        Some(response) => response.kind(),
-        None => Kind::Silent,
+        Some(response) => response,
+        None => Response::Silent,
     }
+}
+
+/// An ID with number 0 comes to the reader at this address, and is answered.
+fn opens(rt: &impl Abort, reader: &mut Reader<Bench>, address: u8) {
+    let answer = meets(rt, reader, &id_to(rt, address));
+    assert_eq!(rt; answer.kind(), Kind::Zero);
 }
 
 /// A reader at this address that was opened by ID; at 5 for the configuration address.
 fn opened_at(rt: &impl Abort, alloc: Global, named: u8) -> Reader<Bench> {
     let address = if named >= 127 { 5 } else { named };
     let mut reader = reader_with(rt, alloc, address, 4, Answer::Done);
-    assert_eq!(rt; meets(rt, &mut reader, &id_to(rt, address)), Kind::Zero);
+    opens(rt, &mut reader, address);
     reader
 }
 
-/// How many packets met the lines of silence, a security block, number 0, a taken number and a wrong one.
-#[derive(Clone, Copy)]
+/// How many changes of each packet of `PACKETS` met the lines of silence, a security block, number 0, a taken number and a wrong one, and the CRC
+/// of all answers in turn. `tests/damage.py` derives it from the tables of `docs/PROTOCOL.md`.
+const MET: &str = "\
+1021 64 397 16 32 9255
+893 128 413 32 64 1E5C
+1402 0 0 128 0 E43F
+893 128 668 32 64 4F0F
+893 128 32 1433 64 CDDD
+893 128 32 1433 64 E33B
+893 128 32 32 4015 0B2F
+893 128 32 1688 64 42C8
+4462 0 128 0 0 8B55
+2932 0 0 128 0 B7A1
+1912 0 0 0 128 7FB1
+3442 0 0 128 0 B7A1
+2422 0 0 0 128 7FB1
+1657 0 0 0 128 7BF6
+1402 0 128 0 0 8B55
+1402 0 128 0 0 37DA
+893 128 32 32 1465 41D0
+2167 0 0 0 128 7BF6
+";
+
+/// How many packets met each of these lines, and the CRC of all answers.
+#[derive(Drop)]
 struct Met {
-    silent: u16,
-    secured: u16,
-    zero: u16,
-    taken: u16,
-    wrong: u16,
+    silent: usize,
+    secured: usize,
+    zero: usize,
+    taken: usize,
+    wrong: usize,
+    check: Crc16,
+}
+
+/// No packet met any.
+fn none() -> Met {
+    Met {
+        silent: 0,
+        secured: 0,
+        zero: 0,
+        taken: 0,
+        wrong: 0,
+        check: Crc16::start(),
+    }
 }
 
 impl Met {
@@ -124,6 +167,14 @@ impl Met {
         };
         *counter = counter.saturating_add(1);
     }
+
+    /// One more, and its answer.
+    fn tell(&mut self, rt: &impl Abort, response: &Response) {
+        self.count(rt, response.kind());
+        for byte in response.bytes() {
+            self.check.add(*byte);
+        }
+    }
 }
 
 /// A reader, and what the packets to it have met.
@@ -141,9 +192,9 @@ impl Trial {
         if self.reader.address().get() != named {
             self.reader = opened_at(rt, alloc, named);
         }
-        self.met.count(rt, meets(rt, &mut self.reader, packet));
-        let id = id_to(rt, self.reader.address().get());
-        assert_eq!(rt; meets(rt, &mut self.reader, &id), Kind::Zero);
+        self.met.tell(rt, &meets(rt, &mut self.reader, packet));
+        let address = self.reader.address().get();
+        opens(rt, &mut self.reader, address);
     }
 
     /// Each change of the byte at this place, with the check spelled anew.
@@ -167,29 +218,40 @@ impl Trial {
     }
 }
 
-/// A new reader at address 5.
-fn new_trial(rt: &impl Abort, alloc: Global) -> Trial {
-    Trial {
-        reader: opened_at(rt, alloc, 5),
-        met: Met {
-            silent: 0,
-            secured: 0,
-            zero: 0,
-            taken: 0,
-            wrong: 0,
-        },
-    }
+/// The number that stands in front of a row, and the rest of the row.
+fn number<'a>(rt: &impl Abort, row: &'a str) -> (usize, &'a str) {
+    let (word, rest) = row.split_once(' ').expect(rt, row);
+    (word.parse().ok().expect(rt, row), rest)
+}
+
+/// What the packets have met is what a row says.
+fn is_row(rt: &impl Abort, met: &Met, row: &str) {
+    let (silent, rest) = number(rt, row);
+    let (secured, rest) = number(rt, rest);
+    let (zero, rest) = number(rt, rest);
+    let (taken, rest) = number(rt, rest);
+    let (wrong, check) = number(rt, rest);
+    assert_eq!(rt;
+        (met.silent, met.secured, met.zero),
+        (silent, secured, zero),
+        "{row}"
+    );
+    assert_eq!(rt; (met.taken, met.wrong), (taken, wrong), "{row}");
+    assert!(rt; is_spelled(&met.check.spell(), check), "{row}");
 }
 
 /// Each change of a byte before the check, with the check spelled anew, reaches a reader at its address that was just opened by an
-/// ID, and the next ID is answered. The counts were found by a program of another language.
+/// ID. It is answered as the reader's table says, and the next ID is answered.
 #[test]
 fn no_changed_packet_stops_a_reader(rt: HostRuntime) {
-    let mut trial = new_trial(&rt, rt.alloc());
+    let mut trial = Trial {
+        reader: opened_at(&rt, rt.alloc(), 5),
+        met: none(),
+    };
+    let mut rows = MET.lines();
     for digits in PACKETS.lines() {
+        trial.met = none();
         trial.meet_changes(&rt, rt.alloc(), digits);
+        is_row(&rt, &trial.met, rows.next().expect(&rt, digits));
     }
-    let met = trial.met;
-    assert_eq!(rt; (met.silent, met.secured, met.zero), (30472, 960, 2022));
-    assert_eq!(rt; (met.taken, met.wrong), (5082, 6344));
 }

@@ -1,0 +1,67 @@
+-- A run of lines to a panel, line by line.
+use Rattle.std.proofs.Common.{◌≡◌, ◌∙◌, ◌⊎◌, ap, sym, subst, refl, ℕ, List, [], ◌∷◌, ◌++◌, Option, Some, None, inl, inr}
+use Rattle.osdp_bus_laws.specs.Calls.{after_calls}
+use Rattle.osdp_line_streams.specs.Answers.{Speaks, heard}
+use Rattle.osdp_panel_calls.specs.declared.call.PanelCall.{PanelCall}
+use Rattle.osdp_panel_calls.specs.declared.call.PanelCall.TheVariants.{At, Add, Begin, Submit, Withdraw, Retarget, Bytes, Silence, Tick}
+use Rattle.osdp_panel_calls.specs.Lines.{Answers, IsAnswered, refuses}
+use Rattle.osdp_panel_calls.specs.Sessions.{Called, IsDue, Session, answered, ended}
+use Rattle.osdp_panel_calls.specs.Texts.{due_line}
+use Rattle.osdp_line_laws.proofs.OfPanels.{made}
+use Rattle.osdp_line_laws.specs.PanelRuns.{AreSaid, IsSaid, RunsAreCalls, Tells, after_said, said_text}
+
+-- the whole panel after a call
+whole : (call : PanelCall) (s : Session) → (answered call s).session ≡ after_said (Some call) s
+whole (At later) s = refl
+whole (Add address) s = refl
+whole (Begin entry) s = refl
+whole (Submit entry command) s = refl
+whole (Withdraw entry) s = refl
+whole (Retarget entry address) s = refl
+whole (Bytes list) s = refl
+whole Silence s = refl
+whole Tick s = refl
+
+-- one line: what it says, the panel after it, and what is told
+record One (line : List ℕ) (s : Session) (text : List ℕ) (next : Session) : Type 0 where
+  said : Option PanelCall
+  is : IsSaid line said
+  after : next ≡ after_said said s
+  due : Option ℕ
+  is_due : IsDue (after_said said s) due
+  told : text ≡ said_text said s ++ due_line due
+
+one : (line : List ℕ) (s : Session) (text : List ℕ) (next : Session) (c : Called) → IsAnswered (heard line) s c → text ≡ c.text → next ≡ c.session
+    → One line s text next
+one line s text next c (inl (call, says, ends)) text_is next_is =
+    let due = ends.0 in
+    let is : c ≡ ended due (answered call s) = ends.2 in
+    record {
+      said = Some call;
+      is = says;
+      after = next_is ∙ ap (λ (x : Called). x.session) is ∙ whole call s;
+      due = due;
+      is_due = subst (λ (x : Session). IsDue x due) (whole call s) ends.1;
+      told = text_is ∙ ap (λ (x : Called). x.text) is ∙ ap (λ l. l ++ due_line due) (made call s).text;
+    }
+one line s text next c (inr (nothing, ends)) text_is next_is =
+    let due = ends.0 in
+    let is : c ≡ ended due (refuses s) = ends.2 in
+    record {
+      said = None;
+      is = nothing;
+      after = next_is ∙ ap (λ (x : Called). x.session) is;
+      due = due;
+      is_due = ends.1;
+      told = text_is ∙ ap (λ (x : Called). x.text) is;
+    }
+
+pub runs_are_calls : RunsAreCalls
+runs_are_calls first [] text last spoken = ([], cc, spoken)
+runs_are_calls first (line ∷ lines) text last (answer, rest, next, is, speaks, joined) =
+    let o = one line first answer next is.called is.is is.text_is is.next_is in
+    let more = runs_are_calls next lines rest last speaks in (
+      o.said ∷ more.0,
+      (o.is, more.1),
+      (o.due, rest, o.is_due, subst (λ (x : Session). Tells more.0 x rest last) o.after more.2, joined ∙ ap (λ l. l ++ rest) o.told),
+    )

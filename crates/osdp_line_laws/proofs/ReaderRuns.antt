@@ -1,0 +1,98 @@
+-- A run of lines to a reader's device, line by line.
+use Rattle.std.proofs.Common.{◌≡◌, ◌∙◌, ◌⊎◌, ap, sym, refl, ℕ, List, [], ◌∷◌, ◌++◌, length, Option, Some, None, inl, inr}
+use Rattle.osdp_line_streams.specs.Answers.{Speaks, heard}
+use Rattle.osdp_reader.specs.State.{ReaderState}
+use Rattle.osdp_device.specs.Receiving.{Received}
+use Rattle.osdp_device.specs.Status.{status_after, status_answer}
+use Rattle.osdp_device.specs.Hearing.{hears_bytes}
+use Rattle.osdp_device.specs.Receiving.{seen}
+use Rattle.osdp_device.specs.declared.status.DeviceStatus.{DeviceStatus}
+use Rattle.osdp_reader_calls.specs.declared.call.ReaderCall.{ReaderCall}
+use Rattle.osdp_reader_calls.specs.declared.call.ReaderCall.TheVariants.{At, Bytes, Silence, Tick, Event, Busy, Inputs, Outputs, Readers, Local}
+use Rattle.osdp_reader_calls.specs.Lines.{Answers, IsAnswered}
+use Rattle.osdp_reader_calls.specs.Sessions.{Called, Session, does}
+use Rattle.osdp_reader_calls.specs.Texts.{waiting_line}
+use Rattle.osdp_line_laws.proofs.OfReaders.{call_steps}
+use Rattle.osdp_line_laws.specs.ReaderLines.{after_steps, ordered}
+use Rattle.osdp_line_laws.specs.ReaderRuns.{AreSaid, IsSaid, RunsAreCalls, after_all_said, after_said, line_after, moment_after, said_text, told, with_bytes}
+
+-- ---- the whole device after a call
+
+line_with : (bytes : List ℕ) (now : ℕ) (r : ReaderState DeviceStatus) (l : Received)
+    → (hears_bytes status_answer status_after bytes now r l).line ≡ with_bytes bytes (seen now l)
+line_with [] now r l = refl
+line_with (byte ∷ bytes) now r l = refl
+
+line_is : (call : ReaderCall) (s : Session) → (does call s).session.line ≡ line_after call s.now s.line
+line_is (At later) s = refl
+line_is (Bytes list) s = line_with list.items s.now s.reader s.line
+line_is Silence s = refl
+line_is Tick s = refl
+line_is (Event event) s = refl
+line_is (Busy busy) s = refl
+line_is (Inputs list) s = refl
+line_is (Outputs list) s = refl
+line_is (Readers list) s = refl
+line_is (Local tamper power) s = refl
+
+now_is : (call : ReaderCall) (s : Session) → (does call s).session.now ≡ moment_after call s.now
+now_is (At later) s = refl
+now_is (Bytes list) s = refl
+now_is Silence s = refl
+now_is Tick s = refl
+now_is (Event event) s = refl
+now_is (Busy busy) s = refl
+now_is (Inputs list) s = refl
+now_is (Outputs list) s = refl
+now_is (Readers list) s = refl
+now_is (Local tamper power) s = refl
+
+of_fields : (x : Session) (r : ReaderState DeviceStatus) (l : Received) (n : ℕ) → x.reader ≡ r → x.line ≡ l → x.now ≡ n
+    → x ≡ record { reader = r; line = l; now = n }
+of_fields x r l n is_r is_l is_n =
+    ap (λ a. record { reader = a; line = x.line; now = x.now }) is_r
+    ∙ ap (λ a. record { reader = r; line = a; now = x.now }) is_l
+    ∙ ap (λ a. record { reader = r; line = l; now = a }) is_n
+
+whole : (call : ReaderCall) (s : Session) → (does call s).session ≡ after_said (Some call) s
+whole call s =
+    of_fields (does call s).session (after_steps (ordered call s) s.reader) (line_after call s.now s.line) (moment_after call s.now)
+    (call_steps call s).reader (line_is call s) (now_is call s)
+
+-- ---- one line
+
+record One (line : List ℕ) (s : Session) (text : List ℕ) (next : Session) : Type 0 where
+  said : Option ReaderCall
+  is : IsSaid line said
+  after : next ≡ after_said said s
+  written : text ≡ said_text said s ++ waiting_line (length (after_said said s).reader.queue.events)
+
+one : (line : List ℕ) (s : Session) (text : List ℕ) (next : Session) (c : Called) → IsAnswered (heard line) s c → text ≡ c.text → next ≡ c.session
+    → One line s text next
+one line s text next c (inl (call, says, is)) text_is next_is = record {
+  said = Some call;
+  is = says;
+  after = next_is ∙ ap (λ (x : Called). x.session) is ∙ whole call s;
+  written = text_is ∙ ap (λ (x : Called). x.text) is
+      ∙ ap (λ t. t ++ waiting_line (length (does call s).session.reader.queue.events)) (call_steps call s).text
+      ∙ ap (λ (x : Session). said_text (Some call) s ++ waiting_line (length x.reader.queue.events)) (whole call s);
+}
+one line s text next c (inr (nothing, is)) text_is next_is = record {
+  said = None;
+  is = nothing;
+  after = next_is ∙ ap (λ (x : Called). x.session) is;
+  written = text_is ∙ ap (λ (x : Called). x.text) is;
+}
+
+pub runs_are_calls : RunsAreCalls
+runs_are_calls first [] text last spoken = ([], cc, spoken.0, spoken.1)
+runs_are_calls first (line ∷ lines) text last (answer, rest, next, is, speaks, joined) =
+    let o = one line first answer next is.called is.is is.text_is is.next_is in
+    let more = runs_are_calls next lines rest last speaks in (
+      o.said ∷ more.0,
+      (o.is, more.1),
+      (joined ∙ ap (λ l. l ++ rest) o.written
+          ∙ ap (λ l. (said_text o.said first ++ waiting_line (length (after_said o.said first).reader.queue.events)) ++ l)
+          (more.2 ∙ ap (told more.0) o.after)),
+      more.3 ∙ ap (after_all_said more.0) o.after,
+    )

@@ -1,0 +1,52 @@
+-- A run of lines to a panel, from the first to the last: which calls the lines are, what is told of them, and what the panel is after them.
+use Rattle.std.specs.Prelude.{◌≡◌, ℕ, List, [], ◌∷◌, ◌++◌, Option, Some, None}
+use Rattle.osdp_bus_laws.specs.Calls.{Call, NextReport, after_calls}
+use Rattle.osdp_line_streams.specs.Answers.{Speaks, heard}
+use Rattle.osdp_line_streams.specs.Calls.{Says, SaysNothing}
+use Rattle.osdp_panel_calls.specs.declared.call.PanelCall.{PanelCall}
+use Rattle.osdp_panel_calls.specs.declared.call.PanelCall.TheVariants as line
+use Rattle.osdp_panel_calls.specs.Calls.{CallFits, call_words}
+use Rattle.osdp_panel_calls.specs.Lines.{Answers}
+use Rattle.osdp_panel_calls.specs.Sessions.{IsDue, Session}
+use Rattle.osdp_panel_calls.specs.Texts.{due_line, no_line}
+use Rattle.osdp_line_laws.specs.PanelLines.{calls_text, ordered}
+
+-- a line says this call, or none
+abbrev pub IsSaid : List ℕ → Option PanelCall → Type 0
+IsSaid line (Some call) = Says call_words CallFits (heard line) call
+IsSaid line None = SaysNothing call_words CallFits (heard line)
+
+abbrev pub AreSaid : List (List ℕ) → List (Option PanelCall) → Type 0
+AreSaid [] [] = Unit {0}
+AreSaid (line ∷ lines) (said ∷ more) = IsSaid line said × AreSaid lines more
+AreSaid _ _ = ⊥
+
+-- the moment of the calls to come is that of the last line of a moment
+abbrev pub moment_after : PanelCall → ℕ → ℕ
+moment_after (line.At later) now = later
+moment_after _ now = now
+
+-- the calls of the bus that a line is: the one that it orders, and the taking of the report that waits then
+abbrev pub calls_of : PanelCall → ℕ → List Call
+calls_of call now = ordered call now ++ NextReport ∷ []
+
+-- the whole panel after a line, and what is told of it
+abbrev pub after_said : Option PanelCall → Session → Session
+after_said (Some call) s = record { bus = after_calls (calls_of call s.now) s.bus; now = moment_after call s.now }
+after_said None s = s
+
+abbrev pub said_text : Option PanelCall → Session → List ℕ
+said_text (Some call) s = calls_text (calls_of call s.now) s.bus
+said_text None s = no_line
+
+-- one line after the other, each as those before it have left the panel; each answer ends with the moment of the next tick then
+abbrev pub Tells : List (Option PanelCall) → Session → List ℕ → Session → Type 0
+Tells [] s text last = (text ≡ []) × (last ≡ s)
+Tells (said ∷ more) s text last =
+    (due : Option ℕ) × (rest : List ℕ) × IsDue (after_said said s) due × Tells more (after_said said s) rest last
+    × (text ≡ (said_text said s ++ due_line due) ++ rest)
+
+-- what a panel writes to a run of lines is what is told of the calls that these lines are, and it leaves the panel that these calls leave
+abbrev pub RunsAreCalls : Type 0
+RunsAreCalls = (first : Session) (lines : List (List ℕ)) (text : List ℕ) (last : Session) → Speaks Answers first lines text last
+    → (said : List (Option PanelCall)) × AreSaid lines said × Tells said first text last

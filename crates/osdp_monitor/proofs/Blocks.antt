@@ -1,0 +1,64 @@
+-- What is known in blocks, when one of them changes.
+use Rattle.std.proofs.Common.{◌≡◌, ℕ, ◌<◌, ◌≤◌, ◌+◌, List, length, get_or, slice_set, Option, None, sym, ◌∙◌, ap, arith, get_or-set_same, get_or-set_other, inl, inr}
+use Rattle.std.proofs.lemmas.List.{get_or_default, get_or_past}
+use Rattle.std.proofs.lemmas.Bool.{cases_lt}
+use Rattle.std.proofs.Math.Path.{fun_ext}
+use Rattle.std.specs.Prelude.{Box}
+use Rattle.osdp_monitor.specs.Known.{Known, nothing_known}
+use Rattle.osdp_frame.specs.Packet.{Packet}
+use Rattle.osdp_monitor.specs.Line.{devices_after_sent, known_at, no_knowledge}
+use Rattle.osdp_monitor.specs.Panel.{after_sent}
+use Rattle.osdp_monitor.specs.Private.{known_in, known_of}
+
+known_at_place : {A : Type 0} (blocks : List (Option (Box Known A))) (address : ℕ) (block : Option (Box Known A)) (other : ℕ)
+    → address < length blocks → known_in (slice_set blocks address block) other ≡ known_at address (known_of block) (known_in blocks) other
+known_at_place blocks address block other within = grind (arith, get_or-set_same, get_or-set_other)
+
+-- the block of an address is another one
+pub set_block : {A : Type 0} (blocks : List (Option (Box Known A))) (address : ℕ) (block : Option (Box Known A))
+    → address < length blocks → known_in (slice_set blocks address block) ≡ known_at address (known_of block) (known_in blocks)
+set_block blocks address block within = fun_ext (λ other. known_at_place blocks address block other within)
+
+-- one more place in which nothing is known
+pub nothing_more_known : {A : Type 0} (blocks : List (Option (Box Known A))) (address : ℕ) (block : Option (Box Known A))
+    → address < length blocks → known_of block ≡ nothing_known → ((k : ℕ) → k < address → known_in blocks k ≡ nothing_known)
+    → (k : ℕ) → k < address + 1 → known_in (slice_set blocks address block) k ≡ nothing_known
+nothing_more_known blocks address block within empty before k below = grind (arith, get_or-set_same, get_or-set_other, before k)
+
+known_past : {A : Type 0} (blocks : List (Option (Box Known A))) (k : ℕ) → length blocks ≤ k → known_in blocks k ≡ nothing_known
+known_past blocks k past = ap known_of (get_or_past blocks k None past)
+
+-- nothing is known where each block is empty
+pub nothing_in_blocks : {A : Type 0} (blocks : List (Option (Box Known A)))
+    → ((k : ℕ) → k < length blocks → known_in blocks k ≡ nothing_known) → known_in blocks ≡ no_knowledge.devices
+nothing_in_blocks blocks each =
+    fun_ext (λ k. elim (cases_lt k (length blocks)) [ inl below ↦ each k below | inr past ↦ known_past blocks k past ])
+
+kept_place : {A : Type 0} (blocks : List (Option (Box Known A))) (address : ℕ) (block : Option (Box Known A)) (other : ℕ)
+    → address < length blocks → known_of block ≡ known_in blocks address → known_in (slice_set blocks address block) other ≡ known_in blocks other
+kept_place blocks address block other within same = grind (arith, get_or-set_same, get_or-set_other)
+
+-- nothing else is known where the new block has what the old one had
+pub kept_block : {A : Type 0} (blocks : List (Option (Box Known A))) (address : ℕ) (block : Option (Box Known A))
+    → address < length blocks → known_of block ≡ known_in blocks address → known_in (slice_set blocks address block) ≡ known_in blocks
+kept_block blocks address block within same = fun_ext (λ other. kept_place blocks address block other within same)
+
+-- the block that stands in a place
+block_at : {A : Type 0} (blocks : List (Option (Box Known A))) (place : ℕ) (old : Option (Box Known A))
+    → place < length blocks → old ≡ get_or blocks place old → get_or blocks place None ≡ old
+block_at blocks place old within was = get_or_default blocks place None old within ∙ sym was
+
+-- in the place of a packet's address its block has changed
+pub sent_in_place : {A : Type 0} (p : Packet) (blocks : List (Option (Box Known A))) (place : ℕ) (old new : Option (Box Known A))
+    → place ≡ p.address → place < length blocks → old ≡ get_or blocks place old → known_of new ≡ after_sent (known_of old).last (known_of old) p
+    → known_in (slice_set blocks place new) ≡ devices_after_sent p (known_in blocks)
+sent_in_place p blocks place old new its within was sent =
+    set_block blocks place new within
+    ∙ ap (λ k. known_at place k (known_in blocks))
+    (sent ∙ ap (λ o. after_sent (known_of o).last (known_of o) p) (sym (block_at blocks place old within was)))
+    ∙ ap (λ a. known_at a (after_sent (known_in blocks a).last (known_in blocks a) p) (known_in blocks)) its
+
+pub kept_in_place : {A : Type 0} (blocks : List (Option (Box Known A))) (place : ℕ) (old new : Option (Box Known A))
+    → place < length blocks → old ≡ get_or blocks place old → known_of new ≡ known_of old → known_in (slice_set blocks place new) ≡ known_in blocks
+kept_in_place blocks place old new within was same =
+    kept_block blocks place new within (same ∙ ap known_of (sym (block_at blocks place old within was)))

@@ -1,0 +1,8 @@
+use Rattle.std.proofs.Common.{◌≡◌, ◌<◌, ◌≤◌, ℕ, length, vec_capacity}
+use Rattle.osdp_monitor.specs.Known.{nothing_known}
+use Rattle.osdp_monitor.specs.Private.{known_in}
+use Rattle.osdp_monitor.proofs.devices.Devices.new.Given as goal
+
+abbrev pub invariant-addresses : goal.invariant-addresses
+invariant-addresses l =
+    (length l.blocks.items ≡ l.counter) × (128 ≤ vec_capacity l.blocks) × ((k : ℕ) → k < l.counter → known_in l.blocks.items k ≡ nothing_known)

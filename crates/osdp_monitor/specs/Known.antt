@@ -1,0 +1,39 @@
+-- What is known of an address.
+use Rattle.std.specs.Prelude.{ℕ, ◌==◌, Bool, false, ◌&&◌, Option, None, Some}
+use Rattle.std.specs.Bool.{beq}
+use Rattle.std.specs.Str.{bytes_eq}
+use Rattle.osdp_frame.specs.declared.check_kind.CheckKind.{CheckKind}
+use Rattle.osdp_frame.specs.Check.{check_size}
+use Rattle.osdp_frame.specs.Packet.{Packet}
+
+pub record Known : Type 0 where
+  -- the last packet that was sent there
+  pub last : Option Packet
+  -- whether a reply to this copy of it has come
+  pub replied : Bool
+  -- whether a reply that answers it has come since its first copy
+  pub answered : Bool
+  -- whether the packet before it had no reply
+  pub missed : Bool
+  -- the number that the reader took last
+  pub taken : Option ℕ
+  -- the reply that a repeat of it must have
+  pub stored : Option Packet
+
+abbrev pub nothing_known : Known
+nothing_known = record { last = None; replied = false; answered = false; missed = false; taken = None; stored = None }
+
+-- the same kind of check: each has a size of its own
+abbrev pub same_check : CheckKind → CheckKind → Bool
+same_check c d = check_size c == check_size d
+
+-- two packets with the same bytes: a packet has one spelling
+abbrev pub same_packet : Packet → Packet → Bool
+same_packet p q =
+    beq p.reply q.reply && p.address == q.address && p.sequence == q.sequence && same_check p.check q.check
+    && beq p.block q.block && p.reserved == q.reserved && bytes_eq p.body q.body
+
+-- the number is known, and this is it
+abbrev pub is_number : Option ℕ → ℕ → Bool
+is_number None number = false
+is_number (Some taken) number = taken == number

@@ -1,0 +1,50 @@
+-- The rules of the panel: what may be sent to an address after what is known of it.
+use Rattle.std.specs.Prelude.{◌==◌, Bool, false, ◌&&◌, ◌||◌, not, if◌then◌else◌, Option, None, Some}
+use Rattle.osdp_frame.specs.Packet.{Packet, next_sequence}
+use Rattle.osdp_monitor.specs.declared.accusation.Accusation.{Accusation}
+use Rattle.osdp_monitor.specs.declared.accusation.Accusation.TheVariants.{AnotherPacket, NotAnswered, SentOutOfTurn}
+use Rattle.osdp_monitor.specs.Known.{Known, is_number, nothing_known, same_packet}
+
+-- Number 0 is in order: a new session. Else it is the last number, with the last packet byte for byte; or the next one, where the
+-- last packet was answered.
+abbrev pub sent_after : Packet → Bool → Packet → Option Accusation
+sent_after last answered p =
+    if p.sequence == 0 then None
+    else if p.sequence == last.sequence then (if same_packet last p then None else Some AnotherPacket)
+    else if p.sequence == next_sequence last.sequence then (if answered then None else Some NotAnswered)
+    else Some SentOutOfTurn
+
+-- where the last packet is known
+abbrev pub panel_accused : Option Packet → Known → Packet → Option Accusation
+panel_accused None k p = None
+panel_accused (Some last) k p = sent_after last k.answered p
+
+-- The number that the reader took last is known no more after another packet than the last, where that one had no reply: it may have been
+-- taken. One that has the number taken last is not taken again. And number 0 begins anew.
+abbrev pub keeps_number : Packet → Known → Packet → Bool
+keeps_number last k p = not (p.sequence == 0) && (k.replied || is_number k.taken last.sequence)
+
+-- another packet than the last
+abbrev pub after_another : Bool → Known → Packet → Known
+after_another keeps k p = record {
+  last = Some p;
+  replied = false;
+  answered = false;
+  missed = not k.replied;
+  taken = if keeps then k.taken else None;
+  stored = if keeps then k.stored else None;
+}
+
+-- the last packet once more, at number 0 too
+abbrev pub after_copy : Known → Known
+after_copy k = record k { replied = false; missed = not k.replied }
+
+abbrev pub after_sent : Option Packet → Known → Packet → Known
+after_sent None k p = record nothing_known { last = Some p }
+after_sent (Some last) k p =
+    if same_packet last p then after_copy k else after_another (keeps_number last k p) k p
+
+-- the last packet had no reply, and the one before it had one, or wasn't known
+abbrev pub is_missed : Option Packet → Known → Bool
+is_missed None k = false
+is_missed (Some last) k = not k.replied && not k.missed

@@ -1,0 +1,109 @@
+-- The rules of the reader: how the last packet to its address may be answered.
+use Rattle.std.specs.Prelude.{ℕ, ◌==◌, Bool, true, false, ◌&&◌, ◌||◌, not, is_some, if◌then◌else◌, Option, None, Some, Result, Ok, Err}
+use Rattle.osdp_frame.specs.Packet.{Packet, next_sequence}
+use Rattle.osdp_msg.specs.declared.command.Command.{Command}
+use Rattle.osdp_msg.specs.declared.command.Command.TheVariants.{Poll}
+use Rattle.osdp_msg.specs.declared.fault.MsgFault.{MsgFault}
+use Rattle.osdp_msg.specs.declared.reply.Reply.{Reply}
+use Rattle.osdp_msg.specs.declared.reply.Reply.TheVariants.{Ack, Nak}
+use Rattle.osdp_msg.specs.Fitting.{reply_fits}
+use Rattle.osdp_monitor.specs.declared.accusation.Accusation.{Accusation}
+use Rattle.osdp_monitor.specs.declared.accusation.Accusation.TheVariants.{SecondReply, AnotherNumber, AnotherCheck, BusyToRepeat, RefusedZero, AnotherReply, TakenOutOfTurn, UnreadReply, UnfitReply, EventAtZero}
+use Rattle.osdp_monitor.specs.Known.{Known, is_number, same_check, same_packet}
+use Rattle.osdp_monitor.specs.declared.said.Said.{Said}
+use Rattle.osdp_monitor.specs.declared.said.Said.TheVariants.{Busy, Damage, Refusal, Answer}
+use Rattle.osdp_monitor.specs.Saying.{asked, is_answer, is_damage, said, told}
+
+-- the reply that the packet must have, where it is known to be a repeat: it has the number taken last, which isn't 0
+abbrev pub repeat_reply : Known → Packet → Option Packet
+repeat_reply k p = if not (p.sequence == 0) && is_number k.taken p.sequence then k.stored else None
+
+-- BUSY has the packet's number or 0, and its check, and answers no known repeat
+abbrev pub busy_accused : Known → Packet → Packet → Option Accusation
+busy_accused k p r =
+    if not (r.sequence == p.sequence || r.sequence == 0) then Some AnotherNumber
+    else if not (same_check r.check p.check) then Some AnotherCheck
+    else if is_some (repeat_reply k p) then Some BusyToRepeat
+    else None
+
+-- NAK 4 has the packet's number and check, and the number isn't 0
+abbrev pub refusal_accused : Packet → Packet → Option Accusation
+refusal_accused p r =
+    if not (r.sequence == p.sequence) then Some AnotherNumber
+    else if not (same_check r.check p.check) then Some AnotherCheck
+    else if p.sequence == 0 then Some RefusedZero
+    else None
+
+-- what a POLL at number 0 is answered: no event
+abbrev pub is_plain : Reply → Bool
+is_plain Ack = true
+is_plain (Nak n) = true
+is_plain _ = false
+
+abbrev pub is_event_at_zero : Command → Reply → ℕ → Bool
+is_event_at_zero Poll reply sequence = sequence == 0 && not (is_plain reply)
+is_event_at_zero _ reply sequence = false
+
+-- a reply that can be read fits the command, where that can be read
+abbrev pub fit_accused : Result Command MsgFault → Reply → ℕ → Option Accusation
+fit_accused (Err fault) reply sequence = None
+fit_accused (Ok command) reply sequence =
+    if not (reply_fits command reply) then Some UnfitReply
+    else if is_event_at_zero command reply sequence then Some EventAtZero
+    else None
+
+abbrev pub reading_accused : Result Reply MsgFault → Packet → Option Accusation
+reading_accused (Ok reply) p = fit_accused (asked p) reply p.sequence
+reading_accused (Err fault) p = Some UnreadReply
+
+-- the packet was taken now, as a new one
+abbrev pub taken_accused : Packet → Packet → Option Accusation
+taken_accused p r = if same_check r.check p.check then reading_accused (told r) p else Some AnotherCheck
+
+-- by the number taken last: number 0 and the next number are taken, and a third one isn't; where it is unknown no more is judged
+abbrev pub turn_accused : Option ℕ → Packet → Packet → Option Accusation
+turn_accused None p r = if p.sequence == 0 then taken_accused p r else None
+turn_accused (Some taken) p r =
+    if p.sequence == 0 || p.sequence == next_sequence taken then taken_accused p r
+    else if p.sequence == taken then None
+    else Some TakenOutOfTurn
+
+-- a known repeat has the stored reply byte for byte, and nothing else is asked of it
+abbrev pub answer_accused : Option Packet → Known → Packet → Packet → Option Accusation
+answer_accused (Some stored) k p r = if same_packet stored r then None else Some AnotherReply
+answer_accused None k p r = if r.sequence == p.sequence then turn_accused k.taken p r else Some AnotherNumber
+
+-- by what the reply says; NAK 1 is never judged
+abbrev pub reply_accused : Said → Known → Packet → Packet → Option Accusation
+reply_accused Busy k p r = busy_accused k p r
+reply_accused Damage k p r = None
+reply_accused Refusal k p r = refusal_accused p r
+reply_accused Answer k p r = answer_accused (repeat_reply k p) k p r
+
+-- one reply to one copy
+abbrev pub reader_accused : Known → Packet → Packet → Option Accusation
+reader_accused k p r =
+    if k.replied && not (is_damage (said r)) then Some SecondReply else reply_accused (said r) k p r
+
+-- a reply to this number takes it, but to a known repeat, whose stored reply stays
+abbrev pub after_answer : Bool → ℕ → Known → Packet → Known
+after_answer is_repeat number k r = record k {
+  replied = true;
+  answered = k.answered || r.sequence == number;
+  taken = if is_repeat then k.taken else Some number;
+  stored = if is_repeat then k.stored else (if number == 0 then None else Some r);
+}
+
+-- after a NAK 4 the last number is unknown: a restart
+abbrev pub after_reply_of : Said → Known → Packet → Packet → Known
+after_reply_of Busy k p r = record k { replied = true }
+after_reply_of Damage k p r = k
+after_reply_of Refusal k p r = record k { replied = true; taken = None; stored = None }
+after_reply_of Answer k p r = after_answer (is_some (repeat_reply k p)) p.sequence k r
+
+abbrev pub after_reply : Known → Packet → Packet → Known
+after_reply k p r = after_reply_of (said r) k p r
+
+-- the packet with number 0 is answered for the first time
+abbrev pub is_opening : Known → Packet → Packet → Bool
+is_opening k p r = p.sequence == 0 && r.sequence == 0 && not k.answered && is_answer (said r)

@@ -1,0 +1,303 @@
+//! What is known of one address.
+
+ghost use Rattle.std.specs.Prelude.{◌≡◌, []};
+ghost use Rattle.osdp_monitor.specs.Known.{nothing_known};
+ghost use Rattle.osdp_monitor.specs.Line.{after_reply_if, expected_if, found_in_reply, found_in_sent, is_last, moves_to, reply_notice};
+ghost use Rattle.osdp_monitor.specs.Panel.{after_another, after_sent};
+ghost use Rattle.osdp_monitor.specs.Private.{IsSpelledIf};
+ghost use Rattle.osdp_monitor.specs.Reader.{after_answer, reader_accused, repeat_reply};
+ghost use Rattle.osdp_monitor.specs.Saying.{said, told};
+
+use crate::accusation::Accusation;
+use crate::found::{Found, Notice};
+use crate::kept::{KeptPacket, same_packet};
+use crate::panel::{is_number, sent_after};
+use crate::reader::{answer_accused, busy_accused, refusal_accused};
+use crate::said::{Said, moved_by, read_command, said_in};
+use osdp_frame::{Address, Burst, FrameView, Seq};
+use osdp_msg::{MsgFault, Reply};
+use std::marker::Model;
+
+/// What is known of one address.
+#[derive(Debug, Drop)]
+pub(crate) struct Device {
+    last: KeptPacket,
+    replied: bool,
+    answered: bool,
+    missed: bool,
+    taken: Option<Seq>,
+    stored: KeptPacket,
+}
+
+impl Model for Device {
+    ghost use Rattle.osdp_monitor.specs.Known.{Known};
+
+    ghost Value = { Known };
+
+    ghost view = { λ d. record { last = d.last; replied = d.replied; answered = d.answered; missed = d.missed; taken = d.taken; stored = d.stored } };
+}
+
+impl Device {
+    /// Nothing is known.
+    pub fn new() -> Device
+        ensures { result ≡ nothing_known }
+    {
+        Device {
+            last: KeptPacket::none(),
+            replied: false,
+            answered: false,
+            missed: false,
+            taken: None,
+            stored: KeptPacket::none(),
+        }
+    }
+
+    /// Nothing is known any more.
+    pub fn forget(&mut self)
+        ensures { self.new ≡ nothing_known }
+    {
+        self.last.forget();
+        self.replied = false;
+        self.answered = false;
+        self.missed = false;
+        self.taken = None;
+        self.stored.forget();
+    }
+
+    /// What is found in a packet to it.
+    fn found_in_sent(&self, packet: &FrameView<'_>) -> Found
+        ensures { result ≡ found_in_sent self.now packet.now }
+    {
+        let Some(last) = self.last.view() else {
+            return Found {
+                accusation: None,
+                notice: None,
+            };
+        };
+        let is_missed = !self.replied && !self.missed;
+        Found {
+            accusation: sent_after(&last, self.answered, packet),
+            notice: if is_missed {
+                Some(Notice::Unanswered)
+            } else {
+                None
+            },
+        }
+    }
+
+    /// Whether a packet is the last one once more.
+    pub fn is_last(&self, packet: &FrameView<'_>) -> bool
+        ensures { result ≡ is_last self.now.last packet.now }
+    {
+        match self.last.view() {
+            Some(last) => same_packet(&last, packet),
+            None => false,
+        }
+    }
+
+    /// A packet was sent to it.
+    pub fn send(&mut self, packet: &FrameView<'_>)
+        ensures { self.new ≡ after_sent self.old.last self.old packet.now }
+    {
+        let Some(last) = self.last.view() else {
+            self.forget();
+            self.last.keep(packet);
+            return;
+        };
+        if same_packet(&last, packet) {
+            self.missed = !self.replied;
+            self.replied = false;
+            return;
+        }
+        let keeps = packet.seq().get() != 0 && (self.replied || is_number(self.taken, last.seq()));
+        self.send_another(keeps, packet);
+    }
+
+    /// Another packet than the last was sent to it.
+    fn send_another(&mut self, keeps: bool, packet: &FrameView<'_>)
+        ensures { self.new ≡ after_another keeps self.old packet.now }
+    {
+        self.last.keep(packet);
+        self.missed = !self.replied;
+        self.replied = false;
+        self.answered = false;
+        if !keeps {
+            self.taken = None;
+            self.stored.forget();
+        }
+    }
+
+    /// The reply that a packet must have, where it is known to be a repeat.
+    fn repeat_reply(&self, packet: &FrameView<'_>) -> Option<FrameView<'_>>
+        ensures { result ≡ repeat_reply self.now packet.now }
+    {
+        if packet.seq().get() != 0 && is_number(self.taken, packet.seq()) {
+            self.stored.view()
+        } else {
+            None
+        }
+    }
+
+    /// What the reader is accused of for a reply to its last packet.
+    fn reader_accused(
+        &self,
+        last: &FrameView<'_>,
+        reply: &FrameView<'_>,
+        read: &Result<Reply, MsgFault>,
+    ) -> Option<Accusation>
+        requires { read.now ≡ told reply.now }
+        ensures { result ≡ reader_accused self.now last.now reply.now }
+    {
+        let said = said_in(read);
+        if self.replied && !matches!(said, Said::Damage) {
+            return Some(Accusation::SecondReply);
+        }
+        let stored = self.repeat_reply(last);
+        match said {
+            Said::Busy => busy_accused(stored.is_some(), last, reply),
+            Said::Damage => None,
+            Said::Refusal => refusal_accused(last, reply),
+            Said::Answer => answer_accused(&stored, self.taken, last, reply, read),
+        }
+    }
+
+    /// Where a reply to its last packet moves it, its new address.
+    pub fn moves_to(&self, reply: &FrameView<'_>, read: &Result<Reply, MsgFault>) -> Option<Address>
+        requires { read.now ≡ told reply.now }
+        ensures { result ≡ moves_to self.now.last reply.now }
+    {
+        let last = self.last.view()?;
+        match read {
+            Ok(Reply::Com(_)) => moved_by(&read_command(&last), read, reply.address()),
+            _ => None,
+        }
+    }
+
+    /// What is worth a look in a reply to its last packet.
+    fn reply_notice(
+        &self,
+        moved: Option<Address>,
+        last: &FrameView<'_>,
+        reply: &FrameView<'_>,
+        meant: Said,
+    ) -> Option<Notice>
+        requires { meant ≡ said reply.now }
+        ensures { result ≡ reply_notice moved self.now last.now reply.now }
+    {
+        if let Some(address) = moved {
+            return Some(Notice::Moved(address.get()));
+        }
+        if matches!(meant, Said::Refusal) {
+            return Some(Notice::Restarted);
+        }
+        let is_opening = last.seq().get() == 0
+            && reply.seq().get() == 0
+            && !self.answered
+            && matches!(meant, Said::Answer);
+        if is_opening {
+            Some(Notice::Opened)
+        } else {
+            None
+        }
+    }
+
+    /// What is found in a reply from it.
+    fn found_in_reply(&self, reply: &FrameView<'_>, read: &Result<Reply, MsgFault>) -> Found
+        requires { read.now ≡ told reply.now }
+        ensures { result ≡ found_in_reply self.now.last self.now reply.now }
+    {
+        let Some(last) = self.last.view() else {
+            return Found {
+                accusation: None,
+                notice: None,
+            };
+        };
+        let moved = self.moves_to(reply, read);
+        Found {
+            accusation: self.reader_accused(&last, reply, read),
+            notice: self.reply_notice(moved, &last, reply, said_in(read)),
+        }
+    }
+
+    /// It has replied to its last packet, where that is known.
+    pub fn reply(&mut self, reply: &FrameView<'_>, read: &Result<Reply, MsgFault>)
+        requires { read.now ≡ told reply.now }
+        ensures { self.new ≡ after_reply_if self.old.last self.old reply.now }
+    {
+        let Some(last) = self.last.view() else {
+            return;
+        };
+        let number = last.seq();
+        let is_repeat = self.repeat_reply(&last).is_some();
+        match said_in(read) {
+            Said::Busy => self.replied = true,
+            Said::Damage => {}
+            Said::Refusal => {
+                self.replied = true;
+                self.taken = None;
+                self.stored.forget();
+            }
+            Said::Answer => self.answer(number, is_repeat, reply),
+        }
+    }
+
+    /// It has answered its last packet, which has this number.
+    fn answer(&mut self, number: Seq, is_repeat: bool, reply: &FrameView<'_>)
+        ensures { self.new ≡ after_answer is_repeat number self.old reply.now }
+    {
+        self.replied = true;
+        self.answered = self.answered || reply.seq().get() == number.get();
+        if is_repeat {
+            return;
+        }
+        self.taken = Some(number);
+        if number.get() == 0 {
+            self.stored.forget();
+        } else {
+            self.stored.keep(reply);
+        }
+    }
+
+    /// Puts the bytes of the packet that had to come in place of the one that is accused, where one had to, into `out`.
+    fn expect(&self, accusation: Option<Accusation>, out: &mut Burst)
+        requires { out.old.items ≡ [] }
+        ensures { IsSpelledIf (expected_if self.now accusation) out.new.items }
+    {
+        let expected = match accusation {
+            Some(Accusation::AnotherPacket) => self.last.view(),
+            Some(Accusation::AnotherReply) => self.stored.view(),
+            _ => None,
+        };
+        if let Some(packet) = expected {
+            packet.encode_to(out);
+        }
+    }
+
+    /// What is found in a packet to it, and the bytes of the packet that had to come.
+    pub fn judge_sent(&self, packet: &FrameView<'_>, expected: &mut Burst) -> Found
+        requires { expected.old.items ≡ [] }
+        ensures found { result ≡ found_in_sent self.now packet.now }
+        ensures expected { IsSpelledIf (expected_if self.now result.accusation) expected.new.items }
+    {
+        let found = self.found_in_sent(packet);
+        self.expect(found.accusation, expected);
+        found
+    }
+
+    /// What is found in a reply from it, and the bytes of the packet that had to come.
+    pub fn judge_reply(
+        &self,
+        reply: &FrameView<'_>,
+        read: &Result<Reply, MsgFault>,
+        expected: &mut Burst,
+    ) -> Found
+        requires read { read.now ≡ told reply.now }
+        requires none { expected.old.items ≡ [] }
+        ensures found { result ≡ found_in_reply self.now.last self.now reply.now }
+        ensures expected { IsSpelledIf (expected_if self.now result.accusation) expected.new.items }
+    {
+        let found = self.found_in_reply(reply, read);
+        self.expect(found.accusation, expected);
+        found
+    }
+}

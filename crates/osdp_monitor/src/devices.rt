@@ -1,0 +1,146 @@
+//! What is known of each address of a line.
+
+ghost use Rattle.std.specs.Prelude.{◌≡◌, ◌<◌, length, IfNone, IfOk, IfSome, OnErr, OnOk};
+ghost use Rattle.osdp_monitor.specs.Known.{nothing_known};
+ghost use Rattle.osdp_monitor.specs.Line.{after_reply_if, devices_after_reply, devices_after_sent, known_at, no_knowledge};
+ghost use Rattle.osdp_monitor.specs.Panel.{after_sent};
+ghost use Rattle.osdp_monitor.specs.Private.{known_of};
+ghost use Rattle.osdp_monitor.specs.Saying.{told};
+
+use crate::device::Device;
+use osdp_frame::{Address, FrameView};
+use osdp_msg::{MsgFault, Reply};
+use std::alloc::{AllocError, Global};
+
+/// So many addresses there are. The last is the configuration address, of which nothing is known.
+const ADDRESSES: usize = 128;
+
+/// The place for the block of an address.
+type Slot = Option<Box<Device>>;
+
+/// What is known of each address, with a block of memory for each that a packet was sent to.
+#[derive(Drop)]
+pub(crate) struct Devices {
+    alloc: Global,
+    blocks: Vec<Slot>,
+    ghost room: { length blocks.items ≡ 128 },
+}
+
+impl Devices {
+    ghost use Rattle.osdp_monitor.specs.Monitors.{devices_in};
+
+    /// Nothing is known of any address.
+    pub fn new(alloc: Global) -> Result<Devices, AllocError>
+        ensures { IfOk result (λ devices. devices_in devices ≡ no_knowledge.devices) }
+    {
+        let mut blocks = Vec::with_capacity(alloc, ADDRESSES)?;
+        'addresses: for _ in 0..ADDRESSES {
+            blocks.push_reserved(None);
+        }
+        Ok(Devices { alloc, blocks })
+    }
+
+    /// What is known of an address. None where it has no block, and nothing is known of it.
+    pub fn get(&self, address: Address) -> Option<&Device>
+        ensures some { IfSome result (λ device. device.now ≡ devices_in self.now address) }
+        ensures none { IfNone result (devices_in self.now address ≡ nothing_known) }
+    {
+        match &self.blocks[usize::from(address.get())] {
+            Some(block) => Some(block.as_ref()),
+            None => None,
+        }
+    }
+
+    /// Nothing is known of this address any more.
+    pub fn forget(&mut self, address: Address)
+        ensures { devices_in self.new ≡ known_at address nothing_known (devices_in self.old) }
+    {
+        forget(&mut self.blocks[usize::from(address.get())]);
+    }
+
+    /// Nothing is known of any address any more.
+    pub fn clear(&mut self)
+        ensures { devices_in self.new ≡ no_knowledge.devices }
+    {
+        'addresses: for place in 0..ADDRESSES {
+            forget(&mut self.blocks[place]);
+        }
+    }
+
+    /// A packet was sent to a device. Where its address has no block yet and there is no memory for one nothing changes.
+    pub fn send(&mut self, packet: &FrameView<'_>) -> Result<(), AllocError>
+        ensures ok { OnOk result (devices_in self.new ≡ devices_after_sent packet.now (devices_in self.old)) }
+        ensures err { OnErr result (devices_in self.new ≡ devices_in self.old) }
+    {
+        let slot = &mut self.blocks[usize::from(packet.address().get())];
+        match send(self.alloc, slot, packet) {
+            Ok(()) => Ok(()),
+            Err(refused) => Err(refused),
+        }
+    }
+
+    /// A device has replied to its last packet, where that is known.
+    pub fn reply(&mut self, packet: &FrameView<'_>, read: &Result<Reply, MsgFault>)
+        requires { read.now ≡ told packet.now }
+        ensures { devices_in self.new ≡ devices_after_reply packet.now (devices_in self.old) }
+    {
+        let moved = match self.get(packet.address()) {
+            Some(device) => device.moves_to(packet, read),
+            None => None,
+        };
+        match moved {
+            None => self.keep_reply(packet, read),
+            Some(address) => {
+                self.forget(packet.address());
+                self.forget(address);
+            }
+        }
+    }
+
+    /// The same of a reply that doesn't move it.
+    fn keep_reply(&mut self, packet: &FrameView<'_>, read: &Result<Reply, MsgFault>)
+        requires { read.now ≡ told packet.now }
+        ensures { let k = devices_in self.old packet.now.address in
+            devices_in self.new ≡ known_at packet.now.address (after_reply_if k.last k packet.now) (devices_in self.old) }
+    {
+        reply(
+            &mut self.blocks[usize::from(packet.address().get())],
+            packet,
+            read,
+        );
+    }
+}
+
+/// Nothing is known of this address any more.
+fn forget(slot: &mut Slot)
+    ensures { known_of slot.new ≡ nothing_known }
+{
+    if let Some(block) = slot {
+        block.forget();
+    }
+}
+
+/// A packet was sent to this address. Where there is no block yet, and no memory for one, nothing changes.
+fn send(alloc: Global, slot: &mut Slot, packet: &FrameView<'_>) -> Result<(), AllocError>
+    ensures ok { OnOk result (let k = known_of slot.old in known_of slot.new ≡ after_sent k.last k packet.now) }
+    ensures err { OnErr result (known_of slot.new ≡ known_of slot.old) }
+{
+    if let Some(block) = slot {
+        block.send(packet);
+        return Ok(());
+    }
+    let mut device = Device::new();
+    device.send(packet);
+    *slot = Some(Box::new(alloc, device)?);
+    Ok(())
+}
+
+/// The device at this address has replied to its last packet, where that is known.
+fn reply(slot: &mut Slot, packet: &FrameView<'_>, read: &Result<Reply, MsgFault>)
+    requires { read.now ≡ told packet.now }
+    ensures { let k = known_of slot.old in known_of slot.new ≡ after_reply_if k.last k packet.now }
+{
+    if let Some(block) = slot {
+        block.reply(packet, read);
+    }
+}

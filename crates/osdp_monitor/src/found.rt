@@ -1,0 +1,25 @@
+//! What is found in a packet.
+
+use crate::accusation::Accusation;
+
+/// What is worth a look and breaks no rule.
+#[derive(Clone, Copy, Debug, PartialEq, Eq)]
+pub enum Notice {
+    /// A packet with number 0 was answered for the first time: a session is open.
+    Opened,
+    /// The device has gone to this address.
+    Moved(u8),
+    /// NAK 4: the device has no last number, as after a restart.
+    Restarted,
+    /// The packet before this one had no reply, and it is the first in a row.
+    Unanswered,
+}
+
+/// What is found in a packet.
+#[derive(Clone, Copy, Debug, PartialEq, Eq)]
+pub struct Found {
+    /// What its sender is accused of.
+    pub accusation: Option<Accusation>,
+    /// What else is worth a look.
+    pub notice: Option<Notice>,
+}

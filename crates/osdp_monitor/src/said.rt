@@ -1,0 +1,83 @@
+//! What packets say to somebody who listens.
+
+ghost use Rattle.std.specs.Prelude.{◌≡◌, ℕ};
+ghost use Rattle.osdp_controller.specs.Answers.{meaning_by_reading, meaning_by_reason};
+ghost use Rattle.osdp_monitor.specs.Saying.{asked, is_foreign, is_unknown, moved_by, said_by, told};
+
+use osdp_frame::{Address, FrameView};
+use osdp_msg::{Command, MsgFault, Nak, NakReason, Reply};
+
+/// What a reply says to somebody who listens.
+#[derive(Clone, Copy, Debug, PartialEq, Eq)]
+pub(crate) enum Said {
+    /// A BUSY that can be read: this copy wasn't taken.
+    Busy,
+    /// NAK 1: this copy came damaged.
+    Damage,
+    /// NAK 4: the number was not expected.
+    Refusal,
+    /// Any other reply, also one that can't be read.
+    Answer,
+}
+
+/// The reply that a packet from a device is.
+pub(crate) fn read_reply(packet: &FrameView<'_>) -> Result<Reply, MsgFault>
+    ensures { result ≡ told packet.now }
+{
+    Reply::read(packet.code(), packet.payload())
+}
+
+/// The command that a packet to a device is.
+pub(crate) fn read_command(packet: &FrameView<'_>) -> Result<Command, MsgFault>
+    ensures { result ≡ asked packet.now }
+{
+    Command::read(packet.code(), packet.payload())
+}
+
+/// Whether the tables don't have the code.
+pub(crate) fn is_unknown<M>(read: &Result<M, MsgFault>) -> bool
+    ensures { result ≡ is_unknown read.now }
+{
+    match read {
+        Ok(_) | Err(MsgFault::Length | MsgFault::Count) => false,
+        Err(MsgFault::UnknownCode) => true,
+    }
+}
+
+/// What a reply says, by what is read of it.
+pub(crate) fn said_in(told: &Result<Reply, MsgFault>) -> Said
+    ensures { (code : ℕ) → result ≡ said_by (meaning_by_reading code told.now) }
+{
+    match told {
+        Ok(Reply::Busy) => Said::Busy,
+        Ok(Reply::Nak(nak)) => said_by_reason(nak),
+        Ok(_) | Err(_) => Said::Answer,
+    }
+}
+
+/// The same of a NAK: the reason alone decides, whatever detail follows.
+fn said_by_reason(nak: &Nak) -> Said
+    ensures { result ≡ said_by (meaning_by_reason nak.now.reason nak.now) }
+{
+    match nak.reason {
+        NakReason::CheckCharacters => Said::Damage,
+        NakReason::UnexpectedSequence => Said::Refusal,
+        _ => Said::Answer,
+    }
+}
+
+/// The address that a COM names which answers a COMSET, where it is another one and that of a device.
+pub(crate) fn moved_by(
+    asked: &Result<Command, MsgFault>,
+    told: &Result<Reply, MsgFault>,
+    address: Address,
+) -> Option<Address>
+    ensures { result ≡ moved_by asked.now told.now address }
+{
+    match (asked, told) {
+        (Ok(Command::Comset(_)), Ok(Reply::Com(named))) if named.address != address.get() => {
+            Address::device(named.address)
+        }
+        _ => None,
+    }
+}

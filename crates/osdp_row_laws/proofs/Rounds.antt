@@ -1,0 +1,68 @@
+-- Three rounds: the exact law of clean schedules, at these numbers.
+use Rattle.std.proofs.Common.{◌≡◌, ◌∙◌, ap, subst, sym, ℕ, ◌-◌, ◌≤◌, All, List, [], ◌∷◌, ◌++◌, length, take, Ok, refl, arith}
+use Rattle.std.proofs.lemmas.List.Elements.{All-cons, All-nil}
+use Rattle.osdp_controller.specs.Settings.{IsConfig}
+use Rattle.osdp_link_laws.specs.OneHandler.{with_answers}
+use Rattle.osdp_link_laws.specs.Progress.{SetsNoAddress}
+use Rattle.osdp_msg.specs.declared.command.Command.{Command}
+use Rattle.osdp_msg.specs.declared.event.Event.{Event}
+use Rattle.osdp_script_reader.specs.Handler.{handler_after, handler_answer, new_handler}
+use Rattle.osdp_sim.specs.Account.{lists_of}
+use Rattle.osdp_sim.specs.Rounds.{clean}
+use Rattle.osdp_sim.specs.Runs.{AreSettings}
+use Rattle.osdp_sim.specs.declared.account.Account as declared
+use Rattle.osdp_sim_laws.specs.Accepted.{AcceptsByRoom, IsAcceptedByRoom}
+use Rattle.osdp_sim_laws.specs.Accounts.{IsAnswer}
+use Rattle.osdp_sim.specs.declared.step.SimStep.TheVariants.{Issue, Queue}
+use Rattle.osdp_sim_laws.specs.Clean.{GoesInTurn, IsInTurn, IsOrder}
+use Rattle.osdp_row_laws.specs.Rounds.{IsTheRow, ThreeRoundsSettleTwoAndReportOne, buz, config, first_key, orders, out, second_key}
+
+is_config : IsConfig config.controller
+is_config = record {
+  address = omega arith;
+  reply_wait = (omega arith, omega arith);
+  poll_interval = (omega arith, omega arith);
+  busy_wait = (omega arith, omega arith);
+  quiet_wait = (omega arith, omega arith);
+  sends = (omega arith, omega arith);
+  busy_limit = omega arith;
+}
+
+is_set : AreSettings config
+is_set = record {
+  reader = record { address = omega arith; some = omega arith; limit = omega arith };
+  controller = record { config_in_range = is_config; room = omega arith; limit = omega arith };
+}
+
+no_moves : All SetsNoAddress (out ∷ buz ∷ [])
+no_moves = All-cons SetsNoAddress out (buz ∷ []) refl (All-cons SetsNoAddress buz [] refl (All-nil SetsNoAddress))
+
+-- an order is one by its kind alone
+is_one : Unit {0}
+is_one = cc
+
+are_orders : All IsOrder orders
+are_orders =
+    All-cons IsOrder (Issue 1 out) (Issue 1 buz ∷ Queue 1 first_key ∷ Queue 1 second_key ∷ []) is_one
+    (All-cons IsOrder (Issue 1 buz) (Queue 1 first_key ∷ Queue 1 second_key ∷ []) is_one
+    (All-cons IsOrder (Queue 1 first_key) (Queue 1 second_key ∷ []) is_one
+    (All-cons IsOrder (Queue 1 second_key) [] is_one (All-nil IsOrder))))
+
+pub three_rounds : AcceptsByRoom handler_answer handler_after → GoesInTurn handler_answer handler_after → ThreeRoundsSettleTwoAndReportOne
+three_rounds accepts turns account is =
+    let room : IsAcceptedByRoom config (orders ++ clean 3) (lists_of account) = accepts config new_handler (orders ++ clean 3) (Ok account) is.ends in
+    let issued : (lists_of account).issued ≡ out ∷ buz ∷ [] = room.issued.every (omega arith) in
+    let queued : (lists_of account).queued ≡ first_key ∷ second_key ∷ [] = room.queued.every (omega arith) in
+    let moves : All SetsNoAddress (lists_of account).issued = subst (All SetsNoAddress) (sym issued) no_moves in
+    let t : IsInTurn handler_answer handler_after config new_handler orders 3 (lists_of account) =
+    turns config new_handler orders 3 (Ok account) is are_orders is_set refl (omega arith) (omega arith) moves in
+    let settled = t.settled ∙ ap (λ (l : List Command). with_answers handler_answer handler_after config.reader new_handler (take 3 l)) issued in
+    record {
+      issued = issued;
+      taken = t.taken ∙ ap (λ (l : List Command). take 3 l) issued;
+      settled = settled;
+      unsettled = t.unsettled;
+      queued = queued;
+      reported = t.reported ∙ ap (λ (n : ℕ). take (3 - n) (lists_of account).queued) (ap length settled) ∙ ap (λ (l : List Event). take 1 l) queued;
+      ends = t.ends;
+    }

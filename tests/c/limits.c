@@ -1,0 +1,351 @@
+/* What just fits and what is one more: capacities, addresses, states and texts; any number but 0 as busy; and each kind of report with each of its fields.
+ * Each struct is filled with a pattern before the call that writes it. Packets are worked out here from the standard's tables, with a checksum. */
+#include <stdio.h>
+#include <stdlib.h>
+#include <string.h>
+
+#include "osdp.h"
+
+#define PATTERN 0xA5
+
+#define demand(holds) ((holds) ? (void)0 : fail(__LINE__, #holds))
+
+static void fail(int where, const char *what)
+{
+    printf("limits.c:%d: %s\n", where, what);
+    exit(1);
+}
+
+static bool is_pattern(const uint8_t *bytes, size_t count)
+{
+    for (size_t i = 0; i < count; i++) {
+        if (bytes[i] != PATTERN) {
+            return false;
+        }
+    }
+    return true;
+}
+
+/* The packet with this address, number, code and data. */
+static size_t packet(uint8_t *bytes, uint8_t address, uint8_t number, uint8_t code, const uint8_t *data, size_t length)
+{
+    size_t whole = 6 + length + 1;
+    const uint8_t head[] = { 0x53, address, (uint8_t)whole, (uint8_t)(whole >> 8), number, code };
+    uint8_t sum = 0;
+    memcpy(bytes, head, 6);
+    memcpy(bytes + 6, data, length);
+    for (size_t i = 0; i < 6 + length; i++) {
+        sum = (uint8_t)(sum + bytes[i]);
+    }
+    bytes[6 + length] = (uint8_t)-sum;
+    return whole;
+}
+
+static bool is_burst(const struct osdp_burst *burst, uint8_t address, uint8_t number, uint8_t code, const uint8_t *data, size_t length)
+{
+    uint8_t wanted[1440];
+    size_t whole = packet(wanted, address, number, code, data, length);
+    return burst->length == whole && memcmp(burst->bytes, wanted, whole) == 0;
+}
+
+static struct osdp_panel_config panel_config(void)
+{
+    struct osdp_panel_config config;
+    osdp_panel_defaults(&config);
+    config.check = OSDP_CHECK_SUM;
+    return config;
+}
+
+static struct osdp_reader_config reader_config(void)
+{
+    struct osdp_reader_config config = { .address = 6, .capacity = 2, .gap = 20, .vendor = { 'S', 'I', 'M' } };
+    return config;
+}
+
+/* A panel with room for 1,024 commands takes as many, and no reader more events. */
+static void capacities(void)
+{
+    struct osdp_panel panel = { 0 };
+    struct osdp_panel_config config = panel_config();
+    size_t entry, waiting;
+    config.capacity = 1025;
+    demand(osdp_panel_new(&panel, &config) == OSDP_PANEL_OUT_OF_RANGE);
+    config.capacity = 1024;
+    demand(osdp_panel_new(&panel, &config) == OSDP_OK && osdp_panel_add(&panel, 126, &entry) == OSDP_OK);
+    for (int i = 0; i < 1024; i++) {
+        demand(osdp_panel_submit_text(&panel, entry, "LSTAT", 5) == OSDP_OK);
+    }
+    demand(osdp_panel_submit_text(&panel, entry, "LSTAT", 5) == OSDP_COMMANDS_FULL);
+    demand(osdp_panel_free(&panel) == OSDP_OK);
+
+    struct osdp_reader reader = { 0 };
+    struct osdp_reader_config what = reader_config();
+    const uint8_t none[] = { 0 };
+    what.capacity = 1025;
+    demand(osdp_reader_new(&reader, &what, none, 0) == OSDP_READER_OUT_OF_RANGE);
+    what.capacity = 1024;
+    demand(osdp_reader_new(&reader, &what, none, 0) == OSDP_OK);
+    for (int i = 0; i < 1024; i++) {
+        demand(osdp_reader_event_text(&reader, "LSTATR 1 0", 10) == OSDP_OK);
+    }
+    demand(osdp_reader_event_text(&reader, "LSTATR 1 0", 10) == OSDP_EVENTS_FULL);
+    demand(osdp_reader_waiting(&reader, &waiting) == OSDP_OK && waiting == 1024);
+    demand(osdp_reader_free(&reader) == OSDP_OK);
+}
+
+/* Numbers whose low byte, or low seven bits, would be a device's address are none. */
+static void addresses(void)
+{
+    const uint32_t bad[] = { 127, 128, 133, 255, 256, 261, 65536, 0x80000005, 0xFFFFFFFF };
+    struct osdp_panel panel = { 0 };
+    struct osdp_reader reader = { 0 };
+    struct osdp_panel_config config = panel_config();
+    struct osdp_reader_config what = reader_config();
+    const uint8_t none[] = { 0 };
+    size_t entry = 99;
+    demand(osdp_panel_new(&panel, &config) == OSDP_OK && osdp_panel_add(&panel, 0, &entry) == OSDP_OK && entry == 0);
+    for (size_t i = 0; i < sizeof bad / sizeof bad[0]; i++) {
+        entry = 99;
+        demand(osdp_panel_add(&panel, bad[i], &entry) == OSDP_PANEL_OUT_OF_RANGE && entry == 99);
+        demand(osdp_panel_retarget(&panel, 0, bad[i]) == OSDP_PANEL_OUT_OF_RANGE);
+        what.address = bad[i];
+        demand(osdp_reader_new(&reader, &what, none, 0) == OSDP_READER_OUT_OF_RANGE);
+    }
+    demand(osdp_panel_add(&panel, 126, &entry) == OSDP_OK && entry == 1);
+    what.address = 126;
+    demand(osdp_reader_new(&reader, &what, none, 0) == OSDP_OK);
+    demand(osdp_reader_free(&reader) == OSDP_OK && osdp_panel_free(&panel) == OSDP_OK);
+}
+
+/* The reader's answer to a question with number 0. */
+static const struct osdp_burst *answer_to(struct osdp_reader *reader, uint8_t code)
+{
+    static struct osdp_answer answer;
+    uint8_t asked[8];
+    size_t taken, length = packet(asked, 6, 0, code, asked, 0);
+    memset(&answer, PATTERN, sizeof answer);
+    demand(osdp_reader_step(reader, asked, length, 0, &taken, &answer) == OSDP_OK && taken == length);
+    return &answer.burst;
+}
+
+typedef osdp_status set_call(struct osdp_reader *, const uint8_t *, size_t);
+
+/* 1,432 states are told as they were set; one more is refused, and changes nothing. */
+static void states(void)
+{
+    static const struct {
+        set_call *set;
+        uint8_t question, answer;
+    } each[] = {
+        { osdp_reader_set_inputs, 0x65, 0x49 },
+        { osdp_reader_set_outputs, 0x66, 0x4A },
+        { osdp_reader_set_readers, 0x67, 0x4B },
+    };
+    static uint8_t data[1433];
+    struct osdp_reader reader = { 0 };
+    struct osdp_reader_config what = reader_config();
+    demand(osdp_reader_new(&reader, &what, data, 0) == OSDP_OK);
+    for (size_t i = 0; i < sizeof each / sizeof each[0]; i++) {
+        for (size_t j = 0; j < sizeof data; j++) {
+            data[j] = (uint8_t)(j * 5 + i);
+        }
+        demand(each[i].set(&reader, data, 1432) == OSDP_OK);
+        demand(each[i].set(&reader, data, 1433) == OSDP_BAD_LENGTH);
+        demand(is_burst(answer_to(&reader, each[i].question), 0x86, 0, each[i].answer, data, 1432));
+    }
+    demand(osdp_reader_free(&reader) == OSDP_OK);
+}
+
+/* Any number but 0 is busy. */
+static void busy(void)
+{
+    const uint32_t numbers[] = { 1, 2, 256, 0x80000000 };
+    const uint8_t none[] = { 0 }, local[] = { 0, 0 };
+    struct osdp_reader reader = { 0 };
+    struct osdp_reader_config what = reader_config();
+    demand(osdp_reader_new(&reader, &what, none, 0) == OSDP_OK);
+    for (size_t i = 0; i < sizeof numbers / sizeof numbers[0]; i++) {
+        demand(osdp_reader_set_busy(&reader, numbers[i]) == OSDP_OK);
+        demand(is_burst(answer_to(&reader, 0x64), 0x86, 0, 0x79, none, 0));
+        demand(osdp_reader_set_busy(&reader, 0) == OSDP_OK);
+        demand(is_burst(answer_to(&reader, 0x64), 0x86, 0, 0x48, local, 2));
+    }
+    demand(osdp_reader_free(&reader) == OSDP_OK);
+}
+
+typedef osdp_status text_call(uint8_t, const uint8_t *, size_t, char *, size_t, size_t *);
+
+/* A text of so many characters fits in as many bytes, and not in one less; nothing else is written. */
+static void text_fits(text_call *call, uint8_t code, const uint8_t *data, size_t length, size_t wanted)
+{
+    static char text[6144];
+    size_t told = 0;
+    memset(text, PATTERN, sizeof text);
+    demand(call(code, data, length, text, wanted - 1, &told) == OSDP_TOO_SMALL && told == wanted);
+    demand(is_pattern((const uint8_t *)text, sizeof text));
+    told = 0;
+    demand(call(code, data, length, text, wanted, &told) == OSDP_OK && told == wanted);
+    demand(is_pattern((const uint8_t *)text + wanted, sizeof text - wanted));
+}
+
+static void texts(void)
+{
+    static uint8_t data[1432];
+    const uint8_t keys[] = { 0, 2, '4', '2' };
+    text_fits(osdp_command_text, 0x60, keys, 0, 4);
+    text_fits(osdp_reply_text, 0x53, keys, 4, 13);
+    memset(data, 255, sizeof data);
+    text_fits(osdp_command_text, 0x68, data, 1432, 3 + 358 * (1 + 4 + 4 + 5));
+    text_fits(osdp_command_text, 0x69, data, 1428, 3 + 102 * (1 + 12 * 4 + 5));
+    text_fits(osdp_reply_text, 0x46, data, 1431, 5 + 477 * (1 + 4 + 4 + 3));
+    text_fits(osdp_reply_text, 0x49, data, 1432, 7 + 2 * 1432);
+}
+
+/* ---- reports ---- */
+
+static struct osdp_panel panel;
+static uint64_t now;
+static uint8_t number;
+
+static const uint8_t out[] = { 0, 2, 0, 0 }, id[] = { 'S', 'I', 'M', 7, 8, 1, 2, 3, 4, 9, 10, 11 };
+
+/* A message of a report: its code and data; 0 for none. */
+struct wanted {
+    uint8_t code;
+    const uint8_t *data;
+    size_t length;
+};
+
+static const struct wanted none = { 0, NULL, 0 }, is_out = { 0x68, out, 4 };
+
+static bool is_message(const struct osdp_message *message, struct wanted wanted)
+{
+    return message->present == (wanted.code != 0) && message->code == wanted.code && message->length == wanted.length
+        && (wanted.length == 0 || memcmp(message->data, wanted.data, wanted.length) == 0)
+        && is_pattern(message->data + wanted.length, sizeof message->data - wanted.length);
+}
+
+/* The report that waits is this one, of entry 1, and then none waits. */
+static void is_told(uint32_t kind, uint32_t detail, struct wanted command, struct wanted reply)
+{
+    static struct osdp_report report;
+    memset(&report, PATTERN, sizeof report);
+    demand(osdp_panel_next_report(&panel, &report) == OSDP_OK);
+    demand(report.kind == kind && report.entry == 1 && report.detail == detail);
+    demand(is_message(&report.command, command) && is_message(&report.reply, reply));
+    memset(&report, PATTERN, sizeof report);
+    demand(osdp_panel_next_report(&panel, &report) == OSDP_OK);
+    demand(report.kind == OSDP_REPORT_NONE && report.entry == 0 && report.detail == 0);
+    demand(is_message(&report.command, none) && is_message(&report.reply, none));
+}
+
+/* After so many milliseconds this command goes out, to address 6 with the number that has its turn. */
+static void asks(uint64_t wait, uint8_t code, const uint8_t *data, size_t length)
+{
+    static struct osdp_burst burst;
+    now += wait;
+    demand(osdp_panel_tick(&panel, now, &burst) == OSDP_OK);
+    demand(is_burst(&burst, 6, number, code, data, length));
+}
+
+static void answers(uint8_t with, uint8_t code, const uint8_t *data, size_t length)
+{
+    uint8_t bytes[64];
+    size_t whole = packet(bytes, 0x86, with, code, data, length);
+    demand(osdp_panel_bytes(&panel, bytes, whole, now) == OSDP_OK);
+}
+
+static void next_number(void)
+{
+    number = (uint8_t)(number % 3 + 1);
+}
+
+static void opens(void)
+{
+    const uint8_t asked[] = { 0 };
+    const struct wanted pdid = { 0x45, id, sizeof id };
+    demand(osdp_panel_begin(&panel, 1, now) == OSDP_OK);
+    number = 0;
+    asks(400, 0x61, asked, 1);
+    answers(0, 0x45, id, sizeof id);
+    is_told(OSDP_REPORT_OPENED, 0, none, pdid);
+}
+
+static void orders(void)
+{
+    demand(osdp_panel_submit(&panel, 1, 0x68, out, 4) == OSDP_OK);
+    next_number();
+    asks(0, 0x68, out, 4);
+}
+
+static void polls(void)
+{
+    next_number();
+    asks(50, 0x60, out, 0);
+}
+
+/* A session that settles, is told events and other answers, and is lost since its number is refused. */
+static void long_session(void)
+{
+    const uint8_t keys[] = { 0, 1, '7' }, caps[] = { 2, 1, 8 }, wrong[] = { 4 };
+    const struct wanted ack = { 0x40, NULL, 0 }, keypad = { 0x53, keys, 3 }, pdcap = { 0x46, caps, 3 };
+    opens();
+    orders();
+    answers(number, 0x40, out, 0);
+    is_told(OSDP_REPORT_SETTLED, 0, is_out, ack);
+    polls();
+    answers(number, 0x53, keys, 3);
+    is_told(OSDP_REPORT_EVENT, 0, none, keypad);
+    polls();
+    answers(number, 0x46, caps, 3);
+    is_told(OSDP_REPORT_ANSWERED, 0, none, pdcap);
+    polls();
+    answers(number, 0x45, id, 11);
+    is_told(OSDP_REPORT_UNREAD, 0x45, none, none);
+    orders();
+    answers(number, 0x55, out, 4);
+    is_told(OSDP_REPORT_UNREAD, 0x55, is_out, none);
+    polls();
+    answers(number, 0x41, wrong, 1);
+    is_told(OSDP_REPORT_LOST, OSDP_LOST_NUMBER_REFUSED, none, none);
+}
+
+static void reports(void)
+{
+    const uint8_t set[] = { 9, 0x00, 0x4B, 0, 0 };
+    const struct wanted comset = { 0x6E, set, 5 }, com = { 0x54, set, 5 };
+    struct osdp_panel_config config = panel_config();
+    struct osdp_burst burst;
+    size_t entry;
+    config.sends = 1;
+    config.busy_limit = 0;
+    demand(osdp_panel_new(&panel, &config) == OSDP_OK);
+    demand(osdp_panel_add(&panel, 5, &entry) == OSDP_OK && osdp_panel_add(&panel, 6, &entry) == OSDP_OK && entry == 1);
+    long_session();
+    opens();
+    orders();
+    answers(0, 0x79, out, 0);
+    is_told(OSDP_REPORT_LOST, OSDP_LOST_TOO_BUSY, is_out, none);
+    opens();
+    orders();
+    demand(osdp_panel_tick(&panel, now += 200, &burst) == OSDP_OK && burst.length == 0);
+    is_told(OSDP_REPORT_LOST, OSDP_LOST_NO_REPLY, is_out, none);
+    opens();
+    demand(osdp_panel_submit(&panel, 1, 0x6E, set, 5) == OSDP_OK);
+    next_number();
+    asks(0, 0x6E, set, 5);
+    answers(number, 0x54, set, 5);
+    is_told(OSDP_REPORT_MOVED, 0, comset, com);
+    demand(osdp_panel_free(&panel) == OSDP_OK);
+}
+
+int main(void)
+{
+    capacities();
+    addresses();
+    states();
+    busy();
+    texts();
+    reports();
+    return 0;
+}
