@@ -69,7 +69,7 @@ set_is (command.Comset d) to is = by_test (leb d.address 126) is
 set_is _ to is = absurd cc
 
 -- what is left of the commands where one is withdrawn
-left_withdrawn : (state : State) (ws : List Command) → AreLeft (asked_in state ++ ws) (asked_in state ++ controllers.kept_in state ws)
+pub left_withdrawn : (state : State) (ws : List Command) → AreLeft (asked_in state ++ ws) (asked_in state ++ controllers.kept_in state ws)
 left_withdrawn Closed [] = ([], refl)
 left_withdrawn Closed (c ∷ cs) = (c ∷ [], refl)
 left_withdrawn (Quiet until) ws = ([], refl)

@@ -12,3 +12,8 @@ pub mod Linking
 pub mod Still
 pub mod Reading
 pub mod Rounds
+pub mod Openings
+pub mod Noting
+pub mod Ruling
+pub mod Saying
+pub mod Ruled

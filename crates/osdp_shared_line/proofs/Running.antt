@@ -25,7 +25,7 @@ use Rattle.osdp_shared_line.proofs.Sites.{some_same}
 module _ {H : Type 0} (answer_of : H → Command → Answer) (after : H → Command → H) where
   -- ---- the panel restarts
 
-  restart_from : (m i k : ℕ) (settings : ℕ → ControllerConfig × ℕ) (t : Site H) (ss : List (Site H)) → i ≡ m + k
+  pub restart_from : (m i k : ℕ) (settings : ℕ → ControllerConfig × ℕ) (t : Site H) (ss : List (Site H)) → i ≡ m + k
       → site_at k (line.all_restart answer_of after m settings ss) ≡ Some t
       → (s : Site H) × (site_at k ss ≡ Some s) × (t ≡ restarts answer_of after (settings i) s)
   restart_from m i k settings t [] at is = absurd cc

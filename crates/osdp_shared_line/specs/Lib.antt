@@ -3,3 +3,4 @@ pub mod Views
 pub mod Addresses
 pub mod Runs
 pub mod Progress
+pub mod Programs

@@ -6,6 +6,7 @@ ghost use Rattle.osdp_shared_line.specs.Addresses.{NobodyElseHears, NoTwoAreToge
 ghost use Rattle.osdp_shared_line.specs.Runs.{EachIsALink};
 ghost use Rattle.osdp_shared_line.specs.Views.{EachMoveIsItsOwn};
 
+pub mod programs;
 pub mod progress;
 pub mod promises;
 
