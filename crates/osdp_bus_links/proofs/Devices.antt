@@ -10,7 +10,7 @@ use Rattle.osdp_controller.specs.declared.report.Report.TheVariants as report
 use Rattle.osdp_bus.specs.Buses.{BusState}
 use Rattle.osdp_bus.specs.Devices as devices
 use Rattle.osdp_bus.specs.Devices.{freed_with, reserved_after, reserved_for}
-use Rattle.osdp_link_laws.specs.Names.{asked_for, freed_by, freed_for}
+use Rattle.osdp_multidrop.specs.Names.{asked_for, freed_by, freed_for}
 use Rattle.osdp_multidrop.specs.Line as line
 use Rattle.osdp_multidrop.specs.Line.{Site, changed, site_at}
 use Rattle.osdp_bus_links.specs.Links.{IsBusOf, device_of}

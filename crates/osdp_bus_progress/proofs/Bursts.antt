@@ -15,7 +15,6 @@ use Rattle.osdp_bus.specs.Machine.{after_next_report, submit_refusal_at}
 use Rattle.osdp_bus.specs.Ticking.{bus_ticks}
 use Rattle.osdp_bus.specs.declared.config.BusConfig.{BusConfig}
 use Rattle.osdp_bus.specs.declared.fault.BusFault.{BusFault}
-use Rattle.osdp_link_laws.specs.Peers.{ReadEachOther}
 use Rattle.osdp_link_laws.proofs.Lines.{each_of}
 use Rattle.osdp_link_laws.proofs.Stages.{Each}
 use Rattle.osdp_multidrop.specs.Line as line
@@ -40,6 +39,7 @@ use Rattle.osdp_sim_bus.specs.Steps.{StepFits, after_step, all_hear_each, fault_
 use Rattle.osdp_sim_laws.specs.OneLink.{ReadsPackets}
 use Rattle.osdp_sim_bus_laws.specs.Moves.{Follows, SchedulesAreMoves, SitesOf}
 use Rattle.osdp_sim_bus_laws.proofs.Beginning.{first_net, follows_first, is_set_up}
+use Rattle.osdp_bus_progress.proofs.Rest.{LinkLaws}
 
 one_sent : (o : Option Packet) → length (sent o) ≤ 1
 one_sent None = omega arith
@@ -172,7 +172,7 @@ module _ {H : Type 0} (answer_of : H → Command → Answer) (after : H → Comm
 
   -- ---- all steps
 
-  module _ (schedules : SchedulesAreMoves answer_of after) (reads : ReadsPackets) (peers : ReadEachOther answer_of after) (config : BusConfig)
+  module _ (schedules : SchedulesAreMoves answer_of after) (reads : ReadsPackets) (laws : LinkLaws answer_of after) (config : BusConfig)
       (readers : List (Given H)) (settings : AreSettings config readers) where
     abbrev Come : List SimStep → ℕ → List SimStep → LineState H → Type 0
     Come steps count rest s = HasCome (after_step answer_of after) fault_of (StepFits answer_of after) steps count rest (set_up config readers) s
@@ -184,7 +184,7 @@ module _ {H : Type 0} (answer_of : H → Command → Answer) (after : H → Comm
         let up : IsSetUp first = is_set_up config readers settings in
         let goes = schedules come.done (set_up config readers) first up (follows_first config readers) come.taken.well come.taken.along in
         let n = line.run answer_of after goes.0 first in
-        let heard = by_own answer_of after peers n (holds_all answer_of after peers goes.0 first goes.1 (holds_first answer_of after peers first up)) in
+        let heard = by_own answer_of after laws.names n (holds_all answer_of after laws.names goes.0 first goes.1 (holds_first answer_of after laws.names first up)) in
         handed_over reads move s n well heard (subst (λ (t : LineState H). Follows t n) (sym come.taken.here) goes.2)
     answers_few steps count rest (step.Issue number command) s come well = tt
     answers_few steps count rest (step.Queue number event) s come well = tt

@@ -11,7 +11,6 @@ use Rattle.osdp_msg.specs.declared.command.Command.{Command}
 use Rattle.osdp_reader.specs.declared.handler.Answer.{Answer}
 use Rattle.osdp_bus.specs.Machine.{after_next_report}
 use Rattle.osdp_controller.specs.declared.report.Report.{Report}
-use Rattle.osdp_link_laws.specs.Peers.{ReadEachOther}
 use Rattle.osdp_link_laws.specs.Progress.{SetsNoAddress}
 use Rattle.osdp_link_laws.proofs.Lines.{each_all}
 use Rattle.osdp_sim.proofs.Schedules.{holds_on, runs_on, well_on}
@@ -31,6 +30,7 @@ use Rattle.osdp_sim_laws.proofs.Clearing.{losses_within}
 use Rattle.osdp_sim_bus_laws.specs.Moves.{OneBus, SchedulesAreMoves}
 use Rattle.osdp_bus_progress.specs.Progress.{EachComesOn, EachComesThrough, EachRecovers, IsClear, IsReady, NoneMoves, all_ready, clear}
 use Rattle.osdp_bus_progress.proofs.Bursts.{AtMost, as_many_as_steps}
+use Rattle.osdp_bus_progress.proofs.Rest.{LinkLaws}
 
 -- ---- the readers
 
@@ -211,9 +211,9 @@ module _ {H : Type 0} (answer_of : H → Command → Answer) (after : H → Comm
         same = told_same;
       })
 
-  pub each_recovers : EachComesThrough answer_of after → OneBus answer_of after → SchedulesAreMoves answer_of after → ReadEachOther answer_of after
+  pub each_recovers : EachComesThrough answer_of after → OneBus answer_of after → SchedulesAreMoves answer_of after → LinkLaws answer_of after
       → TellsAtOnce answer_of after → HasAnAccountEach answer_of after → EachRecovers answer_of after
-  each_recovers comes bus schedules peers tells counts config readers steps m wait is within long moves =
+  each_recovers comes bus schedules laws tells counts config readers steps m wait is within long moves =
       let start = set_up config readers in
       let lost = clear (length readers) steps in
       let all_steps = steps ++ lost in
@@ -224,7 +224,7 @@ module _ {H : Type 0} (answer_of : H → Command → Answer) (after : H → Comm
       sym (length-map before.sites (λ (site : Site H). site.account)) ∙ counts config readers steps in
       let well = well_on (after_step answer_of after) fault_of all_steps (rounds m wait) start is.well in
       let fits = holds_on (after_step answer_of after) (StepFits answer_of after) all_steps (rounds m wait) start is.fits in
-      let few = as_many_as_steps answer_of after schedules bus.reads peers config readers is.settings steps
+      let few = as_many_as_steps answer_of after schedules bus.reads laws config readers is.settings steps
       (well_on (after_step answer_of after) fault_of steps lost start well.0).0
       (holds_on (after_step answer_of after) (StepFits answer_of after) steps lost start fits.0).0 in
       let over : IsCleared before mid =

@@ -16,11 +16,13 @@ use Rattle.osdp_link_laws.specs.Addresses.{StayWhereTheyAre}
 use Rattle.osdp_link_laws.specs.Headline.{MovesFit}
 use Rattle.osdp_link_laws.specs.Link as link
 use Rattle.osdp_link_laws.specs.Link.{Link}
-use Rattle.osdp_link_laws.specs.Peers.{ReadEachOther}
+use Rattle.osdp_link_laws.specs.Ordinary.{IsOrdinary}
 use Rattle.osdp_link_laws.specs.Progress as progress
 use Rattle.osdp_link_laws.specs.Progress.{SetsNoAddress}
 use Rattle.osdp_link_laws.specs.Sessions.{all_submitted, ended_commands}
 use Rattle.osdp_link_laws.proofs.Lines.{each_all, each_of, each_rest}
+use Rattle.osdp_link_laws.proofs.Ordinary.{moves_so}
+use Rattle.osdp_link_laws.proofs.OrdinaryRuns.{begins_so, set_no_other}
 use Rattle.osdp_link_laws.proofs.Stages.{Each}
 use Rattle.osdp_multidrop.specs.Line as line
 use Rattle.osdp_multidrop.specs.Line.{Net, run, site_at}
@@ -48,6 +50,7 @@ use Rattle.osdp_sim_bus_laws.proofs.Sites.{get_site}
 use Rattle.osdp_bus_progress.specs.Progress.{ComesOn, EachComesThrough, IsClear, IsReady, IsRun}
 use Rattle.osdp_bus_progress.proofs.Along.{first_at, run_at_all}
 use Rattle.osdp_bus_progress.proofs.Ends.{NoEnd, lasts_there, none_before_rounds}
+use Rattle.osdp_bus_progress.proofs.Rest.{LinkLaws, rounds_ordinary}
 use Rattle.osdp_bus_progress.proofs.Rounds.{AtRest, HasRounds, all_rounds, all_turns, site_within}
 use Rattle.osdp_bus_progress.proofs.Turns.{IsTurn, once_around, some_turn}
 
@@ -108,7 +111,7 @@ module _ {H : Type 0} (answer_of : H → Command → Answer) (after : H → Comm
       }
 
   module _ (bus : OneBus answer_of after) (schedules : SchedulesAreMoves answer_of after) (counts : HasAnAccountEach answer_of after)
-      (links : EachIsALink answer_of after) (rows : EachStaysInARow answer_of after) (peers : ReadEachOther answer_of after)
+      (links : EachIsALink answer_of after) (rows : EachStaysInARow answer_of after) (laws : LinkLaws answer_of after)
       (in_time : progress.ComesThroughInTime answer_of after) (stays : StayWhereTheyAre answer_of after) (ends : EndsAreTold) (ranges : StaysInRange)
       (comes : ComesDue) where
     module _ (config : BusConfig) (readers : List (Given H)) (steps : List SimStep) (m wait : ℕ)
@@ -169,7 +172,7 @@ module _ {H : Type 0} (answer_of : H → Command → Answer) (after : H → Comm
 
       link_at : (k : ℕ) (t : line.Site H) → site_at k n.sites ≡ Some t → HasLink k t
       link_at k t at =
-          let few = site_within answer_of after peers k t n.sites at in
+          let few = site_within answer_of after laws k t n.sites at in
           let same = sites_count in
           let given = there_is k readers (omega (arith, few, same)) in
           let begins = has_site config k given.0 readers given.1 in
@@ -196,7 +199,8 @@ module _ {H : Type 0} (answer_of : H → Command → Answer) (after : H → Comm
           let begun = up.begins k (first_site config l.given) l.begins in
           let issued = each_of SetsNoAddress u.0.account.issued ready.issued in
           let submitted = subst (Each SetsNoAddress) (u.2.tells.issued ∙ sym l.row.commands) issued in
-          let stay = stays old ms begun.begins l.its.fits (each_all SetsNoAddress (old.controller.waiting ++ all_submitted answer_of after ms old) submitted) in
+          let stay = stays old ms begun.begins l.its.fits (each_all SetsNoAddress (old.controller.waiting ++ all_submitted answer_of after ms old) submitted)
+          (set_no_other old.reader.config.address old.controller.session.config.address ms (each_of IsOrdinary ms l.its.ordinary)) in
           let moved = l.moved in
           record {
             to_reader = ap (own k) (none_on n.to_readers (sym follows.to_readers ∙ clear.to_readers));
@@ -212,10 +216,10 @@ module _ {H : Type 0} (answer_of : H → Command → Answer) (after : H → Comm
       entries_count = ap length follows.bus.entries ∙ length-map n.sites device_of ∙ sites_count
 
       at_rest : (k : ℕ) (t : line.Site H) → site_at k n.sites ≡ Some t → NoEnd k later → (entry : ℕ) → entry < length readers → IsTurn entry s.bus
-          → AtRest answer_of after peers (length readers) wait k entry s n
+          → AtRest answer_of after laws (length readers) wait k entry s n
       at_rest k t at none entry below turn = record {
         follows = follows;
-        holds = holds_all answer_of after peers goes.0 first goes.1 (holds_first answer_of after peers first up);
+        holds = holds_all answer_of after laws.names goes.0 first goes.1 (holds_first answer_of after laws.names first up);
         in_time = run_at_all answer_of after ranges wait steps start (each_of IsInSession steps within) (first_at answer_of after ranges wait config readers long);
         quiet = record {
           to_readers = none_on n.to_readers (sym follows.to_readers ∙ clear.to_readers);
@@ -243,14 +247,14 @@ module _ {H : Type 0} (answer_of : H → Command → Answer) (after : H → Comm
 
       -- the rounds of one reader
       its_rounds : (k : ℕ) (t : line.Site H) → site_at k n.sites ≡ Some t → NoEnd k later
-          → HasRounds answer_of after peers bus ends ranges comes (length readers) wait k t m (length readers - 1) s n
+          → HasRounds answer_of after laws bus ends ranges comes (length readers) wait k t m (length readers - 1) s n
       its_rounds k t at none =
-          let few = site_within answer_of after peers k t n.sites at in
+          let few = site_within answer_of after laws k t n.sites at in
           let same = sites_count in
           let entries = entries_count in
           let turn = some_turn s.bus (omega (arith, few, same, entries)) in
           let below : turn.0 < length readers = let under = turn.1 in omega (arith, under, entries) in
-          all_rounds answer_of after peers bus ends ranges comes (length readers) wait k m turn.0 (length readers - 1) s n
+          all_rounds answer_of after laws bus ends ranges comes (length readers) wait k m turn.0 (length readers - 1) s n
           (at_rest k t at none turn.0 below turn.2) fits.1 none t at (once_around (length readers) turn.0 k below (omega (arith, few, same)))
 
       comes_on : (k : ℕ) (u v : Site H) → slice_get s.sites k ≡ Some u → slice_get later.sites k ≡ Some v → v.account.ends ≡ []
@@ -281,6 +285,9 @@ module _ {H : Type 0} (answer_of : H → Command → Answer) (after : H → Comm
           let v_same : v_is.0 ≡ v = some_same v_is.0 v (sym v_is.1 ∙ there) in
           let u_long = as_long u_is.0.account t.0.account t.0.earlier (none_earlier u_is.0.account t.0.account t.0.earlier u_is.2.tells (one_at k u_is.0 u_is.1)) u_is.2.tells in
           let v_long = as_long v_is.0.account last.account last.earlier (none_earlier v_is.0.account last.account last.earlier v_is.2.tells (one_later k v_is.0 v_is.1)) v_is.2.tells in
+          let so = moves_so answer_of after (progress.rounds has.moments) (link.run answer_of after ms old) (rounds_ordinary H has.moments)
+          (moves_so answer_of after ms old (each_of IsOrdinary ms l.its.ordinary) (begins_so old begun.begins)) in
+          let kept : last.account.kept ≡ last.account.queued = subst (λ (x : Link H). x.account.kept ≡ x.account.queued) (sym then_) so.0.kept in
           let turns = m / length readers in
           let part = share m (length readers) in
           let enough : turns ≤ length has.moments = has.enough turns (omega (arith, part)) in
@@ -292,7 +299,7 @@ module _ {H : Type 0} (answer_of : H → Command → Answer) (after : H → Comm
                 let counted_on : progress.ComeOn has.moments t.0.account last.account =
                 subst (λ (x : Link H). progress.ComeOn has.moments x.account last.account) (sym l.moved)
                 (subst (λ (x : Link H). progress.ComeOn has.moments (link.run answer_of after ms old).account x.account) (sym then_) on) in
-                omega (arith, counted_on, enough, u_long.settled, u_long.reported, v_long.settled, v_long.reported, v_long.issued, v_long.queued))
+                omega (arith, counted_on, enough, u_long.settled, u_long.reported, v_long.settled, v_long.reported, v_long.issued, v_long.queued, ap length kept))
           ]))
         where
           sited : (k : ℕ) (ts : List (line.Site H)) → k < length ts → (t : line.Site H) × (site_at k ts ≡ Some t)

@@ -9,10 +9,8 @@ use Rattle.osdp_reader.specs.declared.handler.Answer.{Answer}
 use Rattle.osdp_link_laws.specs.Headline.{MovesFit, SaysWhatFits}
 use Rattle.osdp_link_laws.specs.Link as link
 use Rattle.osdp_link_laws.specs.Link.{Delivered, Link, Move}
-use Rattle.osdp_link_laws.specs.Peers.{ReadEachOther}
 use Rattle.osdp_link_laws.specs.Progress as progress
 use Rattle.osdp_link_laws.proofs.Numbers.{is_false, is_true}
-use Rattle.osdp_link_laws.proofs.Round.{at_tick, goes}
 use Rattle.osdp_link_laws.proofs.Stages.{Each}
 use Rattle.osdp_multidrop.specs.Line as line
 use Rattle.osdp_multidrop.specs.Line.{Net, NetMove, Site, Tick, ToControllers, ToReaders, address_of, after_net, changed, first_gets, site_at, tagged, ticks_of}
@@ -24,7 +22,7 @@ use Rattle.osdp_multidrop.proofs.Fitting.{was_there}
 use Rattle.osdp_multidrop.proofs.Moving.{each_is_its_own}
 use Rattle.osdp_multidrop.proofs.Running.{Holds, by_own, holds_after}
 use Rattle.osdp_multidrop.proofs.Sites.{at_changed, own_first}
-use Rattle.osdp_bus_progress.proofs.Rest.{IsAtRest, IsOpen, comes_to_rest, leaves_nothing, named_here}
+use Rattle.osdp_bus_progress.proofs.Rest.{IsOpen, LinkLaws, at_tick, comes_to_rest, goes, leaves_nothing, named_here}
 
 -- nobody has anything on the line
 none_own : (S : ℕ → Type 0) (qs : List (ℕ × Packet)) → Each (λ (q : ℕ × Packet). S q.0) qs → ((k : ℕ) → S k → own k qs ≡ []) → qs ≡ []
@@ -45,22 +43,22 @@ module _ {H : Type 0} where
       by_test true rest = refl
       by_test false rest = ap suc rest
 
-module _ {H : Type 0} (answer_of : H → Command → Answer) (after : H → Command → H) (peers : ReadEachOther answer_of after) where
+module _ {H : Type 0} (answer_of : H → Command → Answer) (after : H → Command → H) (laws : LinkLaws answer_of after) where
   -- its view afterwards is its link after these moves
-  pub record IsSeen (k : ℕ) (s : Site H) (moves : List Move) (n next : Net H) : Type 0 where
+  pub record IsSeen (k : ℕ) (s : Site H) (moves : List (Move H)) (n next : Net H) : Type 0 where
     pub site : Site H
     pub there : site_at k next.sites ≡ Some site
     pub moved : view k site next ≡ link.run answer_of after moves (view k s n)
 
-  seen_as : (m : NetMove) (n : Net H) → Holds answer_of after peers n → (k : ℕ) (s : Site H) → site_at k n.sites ≡ Some s
+  seen_as : (m : NetMove) (n : Net H) → Holds answer_of after laws.names n → (k : ℕ) (s : Site H) → site_at k n.sites ≡ Some s
       → IsSeen k s (move_of k s m n) n (after_net answer_of after m n)
   seen_as m n h k s is =
-      let moved = each_is_its_own answer_of after n m (by_own answer_of after peers n h) k s is in
+      let moved = each_is_its_own answer_of after n m (by_own answer_of after laws.names n h) k s is in
       record { site = moved.site; there = moved.there; moved = moved.moved }
 
   -- ---- what a move of all is to one site, where this one alone has anything on the line
 
-  one_of : ℕ → ℕ → Move → Link H → Link H
+  one_of : ℕ → ℕ → Move H → Link H → Link H
   one_of i k m l = link.run answer_of after (one_if i k m) l
 
   to_reader_is : (i k : ℕ) (o : Option Packet) (l : Link H) → l.to_reader ≡ own k (tagged i o)
@@ -98,7 +96,7 @@ module _ {H : Type 0} (answer_of : H → Command → Answer) (after : H → Comm
   -- ---- a round
 
   -- the moves of a round are those of the site that ticks
-  abbrev pub its_round : ℕ → ℕ → ℕ → List Move
+  abbrev pub its_round : ℕ → ℕ → ℕ → List (Move H)
   its_round i k now = cond (eqb i k) (progress.round now) []
 
   together : (b : Bool) (now : ℕ) (l : Link H)
@@ -124,16 +122,16 @@ module _ {H : Type 0} (answer_of : H → Command → Answer) (after : H → Comm
   -- what comes of the round: the line is quiet again, and each site is its link after its moves, if any. The one that ticked is clear and at
   -- rest, unless its session has ended
   pub record IsRound (i now : ℕ) (n : Net H) : Type 0 where
-    pub holds : Holds answer_of after peers (round_net i now n)
+    pub holds : Holds answer_of after laws.names (round_net i now n)
     pub quiet : IsQuiet (round_net i now n)
     pub each : (k : ℕ) (s : Site H) → site_at k n.sites ≡ Some s → IsSeen k s (its_round i k now) n (round_net i now n)
     pub was : (k : ℕ) (t : Site H) → site_at k (round_net i now n).sites ≡ Some t → IsSited n.sites k
     pub count : length (round_net i now n).sites ≡ length n.sites
     pub fits : (s : Site H) → site_at i n.sites ≡ Some s → MovesFit answer_of after (progress.round now) (view i s n)
-    pub rested : (s : Site H) → site_at i n.sites ≡ Some s → IsOpen answer_of after peers (goes answer_of after now (view i s n))
-        → progress.IsClear (goes answer_of after now (view i s n)) × IsAtRest answer_of after peers (goes answer_of after now (view i s n))
+    pub rested : (s : Site H) → site_at i n.sites ≡ Some s → IsOpen answer_of after laws (goes answer_of after now (view i s n))
+        → progress.IsClear (goes answer_of after now (view i s n)) × progress.IsAtRest (goes answer_of after now (view i s n))
 
-  module _ (i now : ℕ) (n : Net H) (s : Site H) (h : Holds answer_of after peers n) (quiet : IsQuiet n) (at : site_at i n.sites ≡ Some s)
+  module _ (i now : ℕ) (n : Net H) (s : Site H) (h : Holds answer_of after laws.names n) (quiet : IsQuiet n) (at : site_at i n.sites ≡ Some s)
       (fits : NetMoveFits answer_of after (ToReaders Delivered) (ticked_net i now n)) where
     abbrev o : Option Packet
     o = (ticks_of now s).step.frame
@@ -144,11 +142,11 @@ module _ {H : Type 0} (answer_of : H → Command → Answer) (after : H → Comm
     back_is : (ticked_net i now n).to_controllers ≡ []
     back_is = ap (λ u. (line.tick_at i now u n).to_controllers) at ∙ quiet.to_controllers
 
-    holds_ticked : Holds answer_of after peers (ticked_net i now n)
-    holds_ticked = holds_after answer_of after peers (Tick i now) n tt h
+    holds_ticked : Holds answer_of after laws.names (ticked_net i now n)
+    holds_ticked = holds_after answer_of after laws.names (Tick i now) n tt h
 
-    holds_heard : Holds answer_of after peers (heard_net i now n)
-    holds_heard = holds_after answer_of after peers (ToReaders Delivered) (ticked_net i now n) fits holds_ticked
+    holds_heard : Holds answer_of after laws.names (heard_net i now n)
+    holds_heard = holds_after answer_of after laws.names (ToReaders Delivered) (ticked_net i now n) fits holds_ticked
 
     -- each site after the packet to the readers
     ticked_seen : (k : ℕ) (t : Site H) → site_at k n.sites ≡ Some t → IsSeen k t (one_if i k (link.Tick now)) n (ticked_net i now n)
@@ -234,7 +232,7 @@ module _ {H : Type 0} (answer_of : H → Command → Answer) (after : H → Comm
           named : heard_link.controller.session.config.address ≡ q.1.address
           named =
               let linked = h.linked i s at in
-              named_here answer_of after peers linked.first (view i s n) linked.stands (ap (own i) quiet.to_readers) (ap (own i) quiet.to_controllers) now says
+              named_here answer_of after laws linked.first linked.moves (view i s n) linked.led (ap (own i) quiet.to_readers) (ap (own i) quiet.to_controllers) now says
               q.1 (own i rest) mine
 
       round_seen : (k : ℕ) (t : Site H) → site_at k n.sites ≡ Some t → IsSeen k t (its_round i k now) n (round_net i now n)
@@ -256,20 +254,20 @@ module _ {H : Type 0} (answer_of : H → Command → Answer) (after : H → Comm
           address_at k u there e =
               ap address_of (some_same u own_seen.0 (sym there ∙ ap (λ j. site_at j (heard_net i now n).sites) e ∙ own_seen.1))
 
-      holds_round : Holds answer_of after peers (round_net i now n)
-      holds_round = holds_after answer_of after peers (ToControllers Delivered now) (heard_net i now n) tt holds_heard
+      holds_round : Holds answer_of after laws.names (round_net i now n)
+      holds_round = holds_after answer_of after laws.names (ToControllers Delivered now) (heard_net i now n) tt holds_heard
 
       round_was : (k : ℕ) → IsSited (round_net i now n).sites k → IsSited n.sites k
       round_was k is = heard_was k (was_there answer_of after (ToControllers Delivered now) k (heard_net i now n) is)
 
-      rests : IsOpen answer_of after peers (goes answer_of after now (view i s n))
-          → progress.IsClear (goes answer_of after now (view i s n)) × IsAtRest answer_of after peers (goes answer_of after now (view i s n))
+      rests : IsOpen answer_of after laws (goes answer_of after now (view i s n))
+          → progress.IsClear (goes answer_of after now (view i s n)) × progress.IsAtRest (goes answer_of after now (view i s n))
       rests lasts =
           let linked = h.linked i s at in
-          comes_to_rest answer_of after peers linked.first (view i s n) linked.stands clear now due says lasts
+          comes_to_rest answer_of after laws linked.first linked.moves (view i s n) linked.led clear now due says lasts
 
       empty : ((goes answer_of after now (view i s n)).to_reader ≡ []) × ((goes answer_of after now (view i s n)).to_controller ≡ [])
-      empty = leaves_nothing answer_of after peers now (view i s n) (ap (own i) quiet.to_readers) (ap (own i) quiet.to_controllers)
+      empty = leaves_nothing answer_of after laws now (view i s n) (ap (own i) quiet.to_readers) (ap (own i) quiet.to_controllers)
 
       -- nobody has anything on the line
       round_own : (k : ℕ) → IsSited (round_net i now n).sites k
@@ -327,7 +325,7 @@ module _ {H : Type 0} (answer_of : H → Command → Answer) (after : H → Comm
         count = counted;
         fits = λ t there. subst (λ u. MovesFit answer_of after (progress.round now) (view i u n)) (some_same s t (sym at ∙ there)) (tt, (says, (tt, tt)));
         rested = λ t there.
-            subst (λ (u : Site H). IsOpen answer_of after peers (goes answer_of after now (view i u n))
-            → progress.IsClear (goes answer_of after now (view i u n)) × IsAtRest answer_of after peers (goes answer_of after now (view i u n)))
+            subst (λ (u : Site H). IsOpen answer_of after laws (goes answer_of after now (view i u n))
+            → progress.IsClear (goes answer_of after now (view i u n)) × progress.IsAtRest (goes answer_of after now (view i u n)))
             (some_same s t (sym at ∙ there)) rests;
       }

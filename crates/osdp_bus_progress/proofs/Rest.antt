@@ -1,71 +1,82 @@
 -- One round of a link, and what its answer names.
-use Rattle.std.proofs.Common.{◌≡◌, ℕ, true, List, [], ◌∷◌, ◌++◌, Option, Some, None, IfSome, refl, sym, subst, ap, ◌∙◌, inl, inr}
+use Rattle.std.proofs.Common.{◌≡◌, ◌⊎◌, ℕ, true, List, [], ◌∷◌, ◌++◌, All, Option, Some, None, IfSome, refl, sym, subst, ap, ◌∙◌, inl, inr}
 use Rattle.std.specs.Prelude.{option_to_list}
 use Rattle.osdp_frame.specs.Packet.{Packet}
 use Rattle.osdp_msg.specs.declared.command.Command.{Command}
-use Rattle.osdp_controller.specs.Machine.{is_due}
+use Rattle.osdp_controller.specs.Machine.{acts, is_due}
 use Rattle.osdp_controller.specs.Sessions.{seen}
-use Rattle.osdp_controller.specs.Ticking.{ticks}
-use Rattle.osdp_controller.specs.declared.state.State.TheVariants.{Closed, Idle}
+use Rattle.osdp_controller.specs.Ticking.{Ticked, stays, ticks, ticks_in}
+use Rattle.osdp_controller.specs.declared.session.Session.{Session}
+use Rattle.osdp_controller.specs.declared.state.State.{State}
+use Rattle.osdp_controller.specs.declared.state.State.TheVariants.{Closed}
 use Rattle.osdp_reader.specs.Table as reader
 use Rattle.osdp_reader.specs.declared.handler.Answer.{Answer}
-use Rattle.osdp_link_laws.specs.Headline.{SaysWhatFits, handler_after}
+use Rattle.osdp_link_laws.specs.Headline.{MovesFit, SaysWhatFits}
 use Rattle.osdp_link_laws.specs.Link as link
-use Rattle.osdp_link_laws.specs.Link.{Delivered, Link, Repeated, Tick, ToReader}
-use Rattle.osdp_link_laws.specs.Names.{IsCommandTo, IsReplyFrom}
-use Rattle.osdp_link_laws.specs.Peers.{IsPlainlySaid, ReadEachOther}
-use Rattle.osdp_link_laws.specs.Progress.{IsClear, SetsNoAddress}
-use Rattle.osdp_link_laws.proofs.Deliveries.{all_said}
-use Rattle.osdp_link_laws.proofs.Due.{closed_rests}
-use Rattle.osdp_link_laws.proofs.InARow.{Stands, assumed, running}
-use Rattle.osdp_link_laws.proofs.Lines.{each_all, each_of}
-use Rattle.osdp_link_laws.proofs.OneDevice.{standing_names}
-use Rattle.osdp_link_laws.proofs.Round.{at_tick, goes}
+use Rattle.osdp_link_laws.specs.Link.{Delivered, Link, Move, Repeated, Tick, ToReader}
+use Rattle.osdp_link_laws.specs.Names.{IsCommandTo, IsReplyFrom, NamesOne}
+use Rattle.osdp_link_laws.specs.Ordinary.{IsOrdinary}
+use Rattle.osdp_link_laws.specs.Peers.{IsPlainlySaid}
+use Rattle.osdp_link_laws.specs.Progress.{ComesToRest, IsAtRest, IsClear, round, rounds}
+use Rattle.osdp_link_laws.specs.Refusals.{SaysAllPlainly}
+use Rattle.osdp_link_laws.proofs.Lines.{each_of}
+use Rattle.osdp_link_laws.proofs.Ordinary.{moves_so}
+use Rattle.osdp_link_laws.proofs.OrdinaryRuns.{begins_so}
 use Rattle.osdp_link_laws.proofs.Stages.{Each}
-use Rattle.osdp_link_laws.proofs.Through.{clear_still, config_is, first_round, held_after}
-use Rattle.osdp_multidrop.proofs.Linked.{sends_from}
+use Rattle.osdp_multidrop.proofs.Linked.{OfALink, sends_from}
+use Rattle.osdp_multidrop.proofs.Naming.{IsLed, led_on}
 
-module _ {H : Type 0} (answer_of : H → Command → Answer) (after : H → Command → H) (peers : ReadEachOther answer_of after) where
+abbrev Acts : Ticked → Type 0
+Acts t = acts t.step ≡ true
+
+stays_rests : (s : Session) (waiting : List Command) → Acts (stays s waiting) → ⊥
+stays_rests s waiting e = absurd cc
+
+-- nothing is due in a session that is closed
+closed_rests : (state : State) (s : Session) (waiting : List Command) → state ≡ Closed → Acts (ticks_in state s waiting) → ⊥
+closed_rests state s waiting closed due = stays_rests s waiting (subst (λ st. Acts (ticks_in st s waiting)) closed due)
+
+pub rounds_ordinary : (H : Type 0) (moments : List ℕ) → Each (IsOrdinary {H = H}) (rounds moments)
+rounds_ordinary H [] = tt
+rounds_ordinary H (now ∷ later) = (tt, (tt, (tt, rounds_ordinary H later)))
+
+module _ {H : Type 0} where
+  -- after the tick of a round
+  abbrev pub at_tick : ℕ → Link H → Link H
+  at_tick now l = link.ticked (ticks now l.controller.session l.controller.waiting) l
+
+  -- .. and after all of it
+  abbrev pub goes : (H → Command → Answer) → (H → Command → H) → ℕ → Link H → Link H
+  goes answer_of after now l = link.run answer_of after (round now) l
+
+-- what is known of one link
+pub record LinkLaws {H : Type 0} (answer_of : H → Command → Answer) (after : H → Command → H) : Type 0 where
+  pub names : OfALink answer_of after
+  pub plainly : SaysAllPlainly answer_of after
+  pub rests : ComesToRest answer_of after
+
+module _ {H : Type 0} (answer_of : H → Command → Answer) (after : H → Command → H) (laws : LinkLaws answer_of after) where
   abbrev pub IsOpen : Link H → Type 0
   IsOpen l = l.controller.session.state ≡ Closed → ⊥
-
-  abbrev pub StandsFrom : Link H → Link H → Type 0
-  StandsFrom first l = Stands answer_of after first.reader.config first.reader.handler l
-
-  -- nobody waits for an answer, and the next exchange is due at this moment
-  abbrev pub IsAtRest : Link H → Type 0
-  IsAtRest l = (due : ℕ) × (l.controller.session.state ≡ Idle due)
 
   -- a session that is closed is never due
   pub open_if_due : (now : ℕ) (l : Link H) → is_due now l.controller ≡ true → IsOpen l
   open_if_due now l due closed =
       closed_rests l.controller.session.state (seen now l.controller.session) l.controller.waiting closed due
 
+  abbrev EndsOrRests : Link H → Type 0
+  EndsOrRests l = (l.controller.session.state ≡ Closed) ⊎ (IsClear l × IsAtRest l)
+
   -- a round from a clear link leaves it clear and at rest, unless the session ends
-  pub comes_to_rest : (first l : Link H) → StandsFrom first l → IsClear l → (now : ℕ) → is_due now l.controller ≡ true
-      → SaysWhatFits answer_of after (at_tick now l).to_reader l.reader → IsOpen (goes answer_of after now l)
+  pub comes_to_rest : (first : Link H) (done : List (Move H)) (l : Link H) → IsLed answer_of after first done l → IsClear l → (now : ℕ)
+      → is_due now l.controller ≡ true → SaysWhatFits answer_of after (at_tick now l).to_reader l.reader → IsOpen (goes answer_of after now l)
       → IsClear (goes answer_of after now l) × IsAtRest (goes answer_of after now l)
-  comes_to_rest first l s clear now due fits lasts =
-      let config = first.reader.config in
-      let handler = handler_after answer_of after config first.reader.handler l.earlier in
-      let given = assumed answer_of after config first.reader.handler peers s.fixed handler s.device in
-      let same = config_is s.fixed answer_of after config handler s.holds.0 l s.holds.1 (open_if_due now l due) in
-      let still = clear_still s.fixed answer_of after config handler l clear same in
-      let next = goes answer_of after now l in
-      let held = held_after s.fixed answer_of after config handler given now l fits s.holds in
-      elim (first_round s.fixed answer_of after config handler given now l s.holds still due fits) [
+  comes_to_rest first done l led clear now due fits lasts =
+      let found = laws.rests first done now led.begins led.fits (subst IsClear led.leads clear) (subst (λ (k : Link H). is_due now k.controller ≡ true) led.leads due)
+      (subst (MovesFit answer_of after (round now)) led.leads (tt, (fits, (tt, tt)))) in
+      elim (subst (λ k. EndsOrRests (goes answer_of after now k)) (sym led.leads) found) [
         | inl closed ↦ absurd (lasts closed)
-        | inr idle ↦ (
-          record {
-            to_reader = idle.still.to_reader;
-            to_controller = idle.still.to_controller;
-            address = idle.still.ready.here
-                ∙ sym (ap (λ c. c.address) (config_is s.fixed answer_of after config handler held.0 next held.1 lasts));
-            ready = idle.still.ready.ready;
-            issued = each_all SetsNoAddress next.account.issued idle.still.issued;
-          },
-          idle.idle,
-        )
+        | inr calm ↦ calm
       ]
 
   -- whether the session ends or not, the round leaves nothing on the line
@@ -96,11 +107,11 @@ module _ {H : Type 0} (answer_of : H → Command → Answer) (after : H → Comm
       got_none heard.1.0 m.to_controller now m heard.1.1 refl heard.0
 
   -- what the reader answers to the packet of a tick names its controller's address
-  pub named_here : (first l : Link H) → StandsFrom first l → l.to_reader ≡ [] → l.to_controller ≡ [] → (now : ℕ)
+  pub named_here : (first : Link H) (done : List (Move H)) (l : Link H) → IsLed answer_of after first done l → l.to_reader ≡ [] → l.to_controller ≡ [] → (now : ℕ)
       → SaysWhatFits answer_of after (at_tick now l).to_reader l.reader → (q : Packet) (rest : List Packet)
       → (link.to_reader answer_of after (at_tick now l).to_reader Delivered (at_tick now l)).to_controller ≡ q ∷ rest
       → (link.to_reader answer_of after (at_tick now l).to_reader Delivered (at_tick now l)).controller.session.config.address ≡ q.address
-  named_here first l s empty none now fits q rest back = by_frame (ticks now l.controller.session l.controller.waiting).step.frame refl
+  named_here first done l led empty none now fits q rest back = by_frame (ticks now l.controller.session l.controller.waiting).step.frame refl
     where
       t : Link H
       t = at_tick now l
@@ -117,9 +128,10 @@ module _ {H : Type 0} (answer_of : H → Command → Answer) (after : H → Comm
           let again : r ≡ link.reader_gets answer_of after p t = ap (λ ps. link.to_reader answer_of after ps Repeated t) line in
           let once : link.to_reader answer_of after t.to_reader Delivered t ≡ link.reader_gets answer_of after p (record t { to_reader = [] }) =
           ap (λ ps. link.to_reader answer_of after ps Delivered t) line in
-          let stands = running answer_of after first.reader.config first.reader.handler (assumed answer_of after first.reader.config first.reader.handler peers)
-          (Tick now ∷ ToReader Repeated ∷ []) l (tt, (fits, tt)) s in
-          let names = standing_names answer_of after r first stands in
+          let next = led_on answer_of after first done (Tick now ∷ ToReader Repeated ∷ []) l led (tt, (fits, tt)) (tt, (tt, tt)) in
+          let names : (device : ℕ) × NamesOne device r.to_reader r.to_controller =
+          subst (λ (k : Link H). (device : ℕ) × NamesOne device k.to_reader k.to_controller) (sym next.leads)
+          (laws.names.device first (done ++ Tick now ∷ ToReader Repeated ∷ []) next.begins next.fits) in
           let asked = (subst (Each (IsCommandTo names.0)) (ap (λ (k : Link H). k.to_reader) again ∙ line) (each_of (IsCommandTo names.0) r.to_reader names.1.commands)).0 in
           let answered = (subst (Each (IsReplyFrom names.0)) (ap (λ (k : Link H). k.to_controller) again ∙ sym (ap (λ (k : Link H). k.to_controller) once) ∙ back)
           (each_of (IsReplyFrom names.0) r.to_controller names.1.replies)).0 in
@@ -128,8 +140,7 @@ module _ {H : Type 0} (answer_of : H → Command → Answer) (after : H → Comm
           ap (λ (k : Link H). k.controller.session.config.address) once ∙ from.address ∙ sym here ∙ asked.1 ∙ sym answered.1
 
   -- .. and plain
-  pub said_plainly : (first l : Link H) → StandsFrom first l → Each IsPlainlySaid l.to_controller
-  said_plainly first l s =
-      let config = first.reader.config in
-      let handler = handler_after answer_of after config first.reader.handler l.earlier in
-      all_said s.fixed answer_of after config handler (assumed answer_of after config first.reader.handler peers s.fixed handler s.device) s.holds.0 l s.holds.1
+  pub said_plainly : (first : Link H) (done : List (Move H)) (l : Link H) → IsLed answer_of after first done l → Each IsPlainlySaid l.to_controller
+  said_plainly first done l led =
+      each_of IsPlainlySaid l.to_controller (subst (λ (k : Link H). All IsPlainlySaid k.to_controller) (sym led.leads)
+      (laws.plainly first done led.begins led.fits (moves_so answer_of after done first led.ordinary (begins_so first led.begins)).0.restarts))

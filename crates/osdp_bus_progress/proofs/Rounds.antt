@@ -23,7 +23,7 @@ use Rattle.osdp_bus_laws.proofs.Places.{is_false as unless_true}
 use Rattle.osdp_link_laws.specs.Headline.{MovesFit}
 use Rattle.osdp_link_laws.specs.Link as link
 use Rattle.osdp_link_laws.specs.Link.{Delivered, Link}
-use Rattle.osdp_link_laws.specs.Peers.{IsPlainlySaid, ReadEachOther}
+use Rattle.osdp_link_laws.specs.Peers.{IsPlainlySaid}
 use Rattle.osdp_link_laws.specs.Progress as progress
 use Rattle.osdp_link_laws.proofs.Lines.{each_of}
 use Rattle.osdp_link_laws.proofs.Numbers.{is_false, is_true}
@@ -52,7 +52,7 @@ use Rattle.osdp_bus_progress.proofs.Along.{BusAt, DeviceAt, step_at}
 use Rattle.osdp_bus_progress.proofs.BusRounds.{bus_follows, first_from_bus, heard_bus, heard_clock, readers_follow, tick_follows, told_bus, told_clock}
 use Rattle.osdp_bus_progress.proofs.Ends.{NoEnd, lasts_there, none_before_rounds}
 use Rattle.osdp_bus_progress.proofs.NetRounds.{IsQuiet, IsRound, IsSeen, heard_net, its_round, net_round, round_net, ticked_net}
-use Rattle.osdp_bus_progress.proofs.Rest.{IsAtRest, IsOpen, open_if_due, said_plainly}
+use Rattle.osdp_bus_progress.proofs.Rest.{IsOpen, LinkLaws, open_if_due, said_plainly}
 use Rattle.osdp_bus_progress.proofs.Turns.{BusTicks, IsAfter, IsAway, IsFirst, IsTurn, Lasts, LastingDue, away_next, first_around, next_turn, once_around, tick_is}
 
 -- ---- who holds the line
@@ -78,15 +78,15 @@ abbrev pub all_turns : ℕ → ℕ → ℕ
 all_turns zero count = 0
 all_turns (suc turns) count = count + all_turns turns count
 
-module _ {H : Type 0} (answer_of : H → Command → Answer) (after : H → Command → H) (peers : ReadEachOther answer_of after) where
+module _ {H : Type 0} (answer_of : H → Command → Answer) (after : H → Command → H) (laws : LinkLaws answer_of after) where
   -- ---- between two rounds, for the reader at place k
 
   pub record AtRest (count wait k entry : ℕ) (s : LineState H) (n : Net H) : Type 0 where
     pub follows : Follows s n
-    pub holds : Holds answer_of after peers n
+    pub holds : Holds answer_of after laws.names n
     pub in_time : BusAt wait s.clock s.bus
-    pub quiet : IsQuiet answer_of after peers n
-    pub clear : (i : ℕ) (t : line.Site H) → site_at i n.sites ≡ Some t → IsOpen answer_of after peers (view i t n) → progress.IsClear (view i t n)
+    pub quiet : IsQuiet answer_of after laws n
+    pub clear : (i : ℕ) (t : line.Site H) → site_at i n.sites ≡ Some t → IsOpen answer_of after laws (view i t n) → progress.IsClear (view i t n)
     pub lasts : NoEnd k s
     pub there : (t : line.Site H) × (site_at k n.sites ≡ Some t)
     pub count_is : length n.sites ≡ count
@@ -123,10 +123,10 @@ module _ {H : Type 0} (answer_of : H → Command → Answer) (after : H → Comm
       pub next : ℕ
       pub after_it : IsAfter count at next
       pub now : ℕ
-      pub round : IsRound answer_of after peers at now n
+      pub round : IsRound answer_of after laws at now n
       pub rest : AtRest count wait k next
           (after_step answer_of after (step.ToController Deliver) (after_step answer_of after (step.ToReader Deliver) (after_step answer_of after (step.Wait wait) s)))
-          (round_net answer_of after peers at now n)
+          (round_net answer_of after laws at now n)
       pub late : (t : line.Site H) → site_at k n.sites ≡ Some t
           → later_by (longest_wait t.controller.session.config) t.controller.session ≤ now
 
@@ -189,13 +189,13 @@ module _ {H : Type 0} (answer_of : H → Command → Answer) (after : H → Comm
       at_below = let below = site_within at its_site.0 n.sites its_site.1 in let same = h.count_is in omega (arith, below, same)
 
       abbrev n1 : Net H
-      n1 = ticked_net answer_of after peers at now n
+      n1 = ticked_net answer_of after laws at now n
 
       abbrev n2 : Net H
-      n2 = heard_net answer_of after peers at now n
+      n2 = heard_net answer_of after laws at now n
 
       abbrev n3 : Net H
-      n3 = round_net answer_of after peers at now n
+      n3 = round_net answer_of after laws at now n
 
       module _ (fits : FitAlong answer_of after (step.Wait wait ∷ step.ToReader Deliver ∷ step.ToController Deliver ∷ []) s) (lasts : NoEnd k s3) where
         follows1 : Follows s1 n1
@@ -208,8 +208,8 @@ module _ {H : Type 0} (answer_of : H → Command → Answer) (after : H → Comm
             readers_follow answer_of after bus.reads s1 n1 follows1
             (each_of (λ (u : Site H). SaysFit answer_of after (packets_in (handed Deliver s1.to_readers)) u.reader) s1.sites fits.1.0)
 
-        holds2 : Holds answer_of after peers n2
-        holds2 = holds_after answer_of after peers (ToReaders Delivered) n1 heard2.1 (holds_after answer_of after peers (Tick at now) n tt h.holds)
+        holds2 : Holds answer_of after laws.names n2
+        holds2 = holds_after answer_of after laws.names (ToReaders Delivered) n1 heard2.1 (holds_after answer_of after laws.names (Tick at now) n tt h.holds)
 
         plainly : Each (λ (q : ℕ × Packet). IsPlainlySaid q.1) n2.to_controllers
         plainly = each_by_owner (IsSited n2.sites) (λ i p. IsPlainlySaid p) n2.to_controllers own_are holds2.apart.controllers.sited
@@ -217,7 +217,7 @@ module _ {H : Type 0} (answer_of : H → Command → Answer) (after : H → Comm
             own_are : (i : ℕ) → IsSited n2.sites i → Each IsPlainlySaid (own i n2.to_controllers)
             own_are i is =
                 let linked = holds2.linked i is.0 is.1 in
-                said_plainly answer_of after peers linked.first (view i is.0 n2) linked.stands
+                said_plainly answer_of after laws linked.first linked.moves (view i is.0 n2) linked.led
 
         bus1 : s1.bus ≡ after_next_report (bus_ticks now s.bus).bus
         bus1 =
@@ -248,46 +248,46 @@ module _ {H : Type 0} (answer_of : H → Command → Answer) (after : H → Comm
             subst (λ g. Follows s3 (after_net answer_of after (line.ToControllers Delivered g) n2)) seen2
             (bus_follows answer_of after bus.hears bus.reads bus.spells bus.no_bytes s2 n2 heard2.0 plainly)
 
-        round : IsRound answer_of after peers at now n
+        round : IsRound answer_of after laws at now n
         round =
-            net_round answer_of after peers at now n its_site.0 h.holds h.quiet its_site.1 heard2.1
-            (h.clear at its_site.0 its_site.1 (open_if_due answer_of after peers now (view at its_site.0 n) its_due)) its_due
+            net_round answer_of after laws at now n its_site.0 h.holds h.quiet its_site.1 heard2.1
+            (h.clear at its_site.0 its_site.1 (open_if_due answer_of after laws now (view at its_site.0 n) its_due)) its_due
 
         -- what a site has become
         view_after : (i : ℕ) (t : line.Site H) → site_at i n3.sites ≡ Some t
-            → (old : line.Site H) × (site_at i n.sites ≡ Some old) × (view i t n3 ≡ link.run answer_of after (its_round answer_of after peers at i now) (view i old n))
+            → (old : line.Site H) × (site_at i n.sites ≡ Some old) × (view i t n3 ≡ link.run answer_of after (its_round answer_of after laws at i now) (view i old n))
         view_after i t there =
             let old = round.was i t there in
             let is = round.each i old.0 old.1 in (
               old.0,
               old.1,
-              subst (λ u. view i u n3 ≡ link.run answer_of after (its_round answer_of after peers at i now) (view i old.0 n))
+              subst (λ u. view i u n3 ≡ link.run answer_of after (its_round answer_of after laws at i now) (view i old.0 n))
                   (some_same is.site t (sym is.there ∙ there)) is.moved,
             )
 
         -- the one that had its turn: clear and at rest, unless its session has ended
         abbrev Rested : Link H → Type 0
-        Rested l = IsOpen answer_of after peers l → progress.IsClear l × IsAtRest answer_of after peers l
+        Rested l = IsOpen answer_of after laws l → progress.IsClear l × progress.IsAtRest l
 
         own_after : (i : ℕ) (old : line.Site H) → site_at i n.sites ≡ Some old → at ≡ i → Rested (link.run answer_of after (progress.round now) (view i old n))
         own_after i old there own =
             subst (λ j. Rested (link.run answer_of after (progress.round now) (view j old n))) own
             (round.rested old (ap (λ j. site_at j n.sites) own ∙ there))
 
-        clear_after : (i : ℕ) (t : line.Site H) → site_at i n3.sites ≡ Some t → IsOpen answer_of after peers (view i t n3) → progress.IsClear (view i t n3)
+        clear_after : (i : ℕ) (t : line.Site H) → site_at i n3.sites ≡ Some t → IsOpen answer_of after laws (view i t n3) → progress.IsClear (view i t n3)
         clear_after i t there = by_owner (view_after i t there)
           where
-            by_owner : ((old : line.Site H) × (site_at i n.sites ≡ Some old) × (view i t n3 ≡ link.run answer_of after (its_round answer_of after peers at i now) (view i old n)))
-                → IsOpen answer_of after peers (view i t n3) → progress.IsClear (view i t n3)
+            by_owner : ((old : line.Site H) × (site_at i n.sites ≡ Some old) × (view i t n3 ≡ link.run answer_of after (its_round answer_of after laws at i now) (view i old n)))
+                → IsOpen answer_of after laws (view i t n3) → progress.IsClear (view i t n3)
             by_owner (old, was, is) unended = elim (eqb_tells at i) [
               | inl equal ↦ (
                   let same : view i t n3 ≡ link.run answer_of after (progress.round now) (view i old n) =
                   is ∙ ap (λ b. link.run answer_of after (cond b (progress.round now) []) (view i old n)) equal.0 in
-                  subst progress.IsClear (sym same) (own_after i old was equal.1 (subst (IsOpen answer_of after peers) same unended)).0)
+                  subst progress.IsClear (sym same) (own_after i old was equal.1 (subst (IsOpen answer_of after laws) same unended)).0)
               | inr differs ↦ (
                   let same : view i t n3 ≡ view i old n =
                   is ∙ ap (λ b. link.run answer_of after (cond b (progress.round now) []) (view i old n)) differs.0 in
-                  subst progress.IsClear (sym same) (h.clear i old was (subst (IsOpen answer_of after peers) same unended)))
+                  subst progress.IsClear (sym same) (h.clear i old was (subst (IsOpen answer_of after laws) same unended)))
             ]
 
         free_after : (i : ℕ) (d : Device) → slice_get s3.bus.devices.entries i ≡ Some d → holds d ≡ false
@@ -356,7 +356,7 @@ module _ {H : Type 0} (answer_of : H → Command → Answer) (after : H → Comm
       pub last : Net H
       pub follows : Follows (simulation.run answer_of after (rounds m wait) s) last
       pub moments : List ℕ
-      pub seen_then : IsSeen answer_of after peers k t (progress.rounds moments) n last
+      pub seen_then : IsSeen answer_of after laws k t (progress.rounds moments) n last
       pub fits : MovesFit answer_of after (progress.rounds moments) (view k t n)
       pub late : progress.AreLate answer_of after moments (view k t n)
       pub enough : (turns : ℕ) → all_turns turns count + away ≤ m + (count - 1) → turns ≤ length moments
@@ -376,9 +376,9 @@ module _ {H : Type 0} (answer_of : H → Command → Answer) (after : H → Comm
 
     module _ (m entry : ℕ) (s : LineState H) (n : Net H) (it : NextRound entry s n) (t : line.Site H) (there : site_at k n.sites ≡ Some t) where
       abbrev later_net : Net H
-      later_net = round_net answer_of after peers it.at it.now n
+      later_net = round_net answer_of after laws it.at it.now n
 
-      abbrev seen_now_there : IsSeen answer_of after peers k t (its_round answer_of after peers it.at k it.now) n later_net
+      abbrev seen_now_there : IsSeen answer_of after laws k t (its_round answer_of after laws it.at k it.now) n later_net
       seen_now_there = it.round.each k t there
 
       abbrev Later : ℕ → Type 0
@@ -445,7 +445,7 @@ module _ {H : Type 0} (answer_of : H → Command → Answer) (after : H → Comm
         let there : k < count = omega (arith, within, same) in
         let seen = it.round.each k t at in
         let later : (less : ℕ) → IsAway count it.next k less → Later m entry s n it t at less =
-        λ less here. all_rounds m it.next less (after_round s) (round_net answer_of after peers it.at it.now n) it.rest fits.1.1.1 lasts seen.site seen.there here in
+        λ less here. all_rounds m it.next less (after_round s) (round_net answer_of after laws it.at it.now n) it.rest fits.1.1.1 lasts seen.site seen.there here in
         elim (eqb_tells it.at k) [
           | inl equal ↦ own_round m entry s n it t at equal.1 away (omega (arith, below)) (later (count - 1) (once_around count it.next k it.rest.below there))
           | inr differs ↦ (

@@ -16,6 +16,8 @@ pub fn each_comes_through<H: Handler>()
     osdp_sim_bus::laws::has_an_account_each::<H>();
     osdp_multidrop::each_is_a_link::<H>();
     osdp_link_laws::read_each_other::<H>();
+    osdp_link_laws::names::name_one_device::<H>();
+    osdp_link_laws::refuses_no_number::<H>();
     osdp_link_laws::comes_through::<H>();
     osdp_link_laws::stay_where_they_are::<H>();
     osdp_controller_laws::endings_are_told();
@@ -38,6 +40,9 @@ pub fn each_recovers<H: Handler>()
     osdp_sim_bus_laws::schedules_are_moves::<H>();
     osdp_sim_bus_laws::each_account_holds_once::<H>();
     osdp_link_laws::read_each_other::<H>();
+    osdp_link_laws::names::name_one_device::<H>();
+    osdp_link_laws::refuses_no_number::<H>();
+    osdp_link_laws::comes_through::<H>();
     osdp_sim_bus::laws::tells_at_once::<H>();
     osdp_sim_bus::laws::has_an_account_each::<H>();
 }

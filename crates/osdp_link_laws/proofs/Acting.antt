@@ -20,10 +20,11 @@ use Rattle.osdp_reader.specs.Queue.{Queue, event_for, released}
 use Rattle.osdp_reader.specs.State.{ReaderState}
 use Rattle.osdp_reader_laws.proofs.Sequences.{same_own}
 use Rattle.osdp_reader.specs.Table.{answer_to, answered, event_or_answer, kind_by_number, kind_of, moved}
-use Rattle.osdp_link_laws.specs.Link.{Account, taken_command}
+use Rattle.osdp_link_laws.specs.Link.{Account, given_to, taken_command}
 use Rattle.osdp_link_laws.proofs.Lines.{both}
 use Rattle.osdp_link_laws.proofs.Numbers.{is_true, is_false, next_above_zero, next_differs}
-use Rattle.osdp_link_laws.proofs.Stages.{HasActed, Offers, OffersEvent, frame, shown}
+use Rattle.osdp_link_laws.proofs.Stages.{Before, EventsAre, HasActed, Offers, OffersEvent, frame, shown}
+use Rattle.osdp_link_laws.proofs.Without.{without_keeps}
 
 module _ (fixed : ControllerConfig) {H : Type 0} where
   -- a frame for another address
@@ -50,6 +51,11 @@ module _ (fixed : ControllerConfig) {H : Type 0} where
       → kind_of r (frame fixed x n) ≡ kind_by_number r.last n r.busy
   kind_numbered r x n here above =
       kind_here r x n here ∙ ap (λ b. cond b (cond r.busy Busy Zero) (kind_by_number r.last n r.busy)) (is_false n 0 above)
+
+  -- a reader that knows no number refuses each but 0
+  pub kind_unknown : (r : ReaderState H) (x : Exchange) (n : ℕ) → r.config.address ≡ fixed.address → n ≢ 0 → r.last ≡ None
+      → kind_of r (frame fixed x n) ≡ Wrong
+  kind_unknown r x n here above none = kind_numbered r x n here above ∙ ap (λ l. kind_by_number l n r.busy) none
 
   pub kind_again : (r : ReaderState H) (x : Exchange) (n : ℕ) → r.config.address ≡ fixed.address → n ≢ 0 → r.last ≡ Some n
       → kind_of r (frame fixed x n) ≡ Repeat
@@ -123,30 +129,33 @@ pub no_event : (c : Command) (events : List Event) → c ≢ command.Poll → ev
 no_event command.Poll events other = absurd (other refl)
 no_event c events other = refl
 
-pub taken_is : (c : Command) (front : List Event) (t : Account) → c ≢ command.Poll → taken_command c front t ≡ record t { taken = t.taken ++ c ∷ [] }
-taken_is command.Poll front t other = absurd (other refl)
-taken_is c front t other = refl
+pub taken_is : (c : Command) (said : Option Reply) (front : List Event) (t : Account) → c ≢ command.Poll
+    → taken_command c said front t ≡ record t { taken = t.taken ++ c ∷ []; given = t.given ++ given_to c said }
+taken_is command.Poll said front t other = absurd (other refl)
+taken_is c said front t other = refl
 
 -- an event that was reported leaves when the next number is taken
-abbrev pub PastIs : List Event → List Event → List Event → List Event → Type 0
-PastIs queued reported front events = (past : List Event) × (queued ≡ past ++ events) × (reported ≡ past ++ front)
+abbrev pub Leaves : List Event → Queue → Account → Type 0
+Leaves front q t = EventsAre Before front q.events t → EventsAre Before [] (released q).events t
 
-kept : (queued reported : List Event) (q : Queue) → q.offered ≡ false → PastIs queued reported [] q.events
-    → PastIs queued reported [] (released q).events
-kept queued reported q off past = subst (λ b. PastIs queued reported [] (cond b (drop 1 q.events) q.events)) (sym off) past
+kept : (t : Account) (q : Queue) → q.offered ≡ false → Leaves [] q t
+kept t q off are = subst (λ b. EventsAre Before [] (cond b (drop 1 q.events) q.events) t) (sym off) are
 
-released_event : (told : Option Event) (queued reported : List Event) (q : Queue) → OffersEvent told q
-    → PastIs queued reported (option_to_list told) q.events → PastIs queued reported [] (released q).events
-released_event None queued reported q off past = kept queued reported q off past
-released_event (Some e) queued reported q (on, (rest, is)) (past, all, some) = (
-  past ++ e ∷ [],
-  all ∙ ap (λ l. past ++ l) is ∙ sym (append_assoc past (e ∷ []) rest)
-      ∙ ap (λ l. (past ++ e ∷ []) ++ l) (sym (ap (λ b. cond b (drop 1 q.events) q.events) on ∙ ap (drop 1) is)),
-  some ∙ sym (append-nil (past ++ e ∷ [])),
-)
+released_event : (told : Option Event) (t : Account) (q : Queue) → OffersEvent told q → Leaves (option_to_list told) q t
+released_event None t q off are = kept t q off are
+released_event (Some e) t q (on, (rest, is)) are =
+    let waits : rest ≡ (released q).events =
+    sym (ap (λ b. cond b (drop 1 q.events) q.events) on ∙ ap (drop 1) is) in
+    record {
+      left = are.left ++ e ∷ [];
+      past = are.past ++ e ∷ [];
+      queued = are.queued ∙ ap (λ l. are.left ++ l) is ∙ sym (append_assoc are.left (e ∷ []) rest) ∙ ap (λ l. (are.left ++ e ∷ []) ++ l) waits;
+      kept = are.kept ∙ ap (λ l. are.past ++ l) is ∙ sym (append_assoc are.past (e ∷ []) rest) ∙ ap (λ l. (are.past ++ e ∷ []) ++ l) waits;
+      without = without_keeps t.thrown_away are.left are.past (e ∷ []) are.without;
+      reported = are.reported ∙ sym (append-nil (are.past ++ e ∷ []));
+    }
 
-pub released_past : (x : Exchange) (a : Reply) (queued reported : List Event) (q : Queue) → Offers x a q
-    → PastIs queued reported (shown x a) q.events → PastIs queued reported [] (released q).events
-released_past Opening a queued reported q off past = kept queued reported q off past
-released_past Polling a queued reported q offers past = released_event (event_in a) queued reported q offers past
-released_past (Asking c) a queued reported q off past = kept queued reported q off past
+pub released_past : (x : Exchange) (a : Reply) (t : Account) (q : Queue) → Offers x a q → Leaves (shown x a) q t
+released_past Opening a t q off are = kept t q off are
+released_past Polling a t q offers are = released_event (event_in a) t q offers are
+released_past (Asking c) a t q off are = kept t q off are

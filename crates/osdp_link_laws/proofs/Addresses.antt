@@ -33,14 +33,14 @@ use Rattle.osdp_reader.specs.declared.kind.Kind.{Kind}
 use Rattle.osdp_reader.specs.declared.kind.Kind.TheVariants as kind
 use Rattle.osdp_link_laws.specs.Headline.{MovesFit, MoveFits, MaySubmit}
 use Rattle.osdp_link_laws.specs.Link as link
-use Rattle.osdp_link_laws.specs.Link.{Delivered, Delivery, Link, Lost, Move, Queue as QueueEvent, Reopen, Repeated, SetBusy, Submit, Tick, ToController, ToReader, after_move, run}
+use Rattle.osdp_link_laws.specs.Link.{Delivered, Delivery, Link, Lost, Move, Queue as QueueEvent, Reopen, Repeated, RestartController, RestartReader, Retarget, SetBusy, SetHandler, Submit, Tick, ToController, ToReader, Withdraw, after_move, run, LoseToReader, LoseToController, lost_at}
 use Rattle.osdp_link_laws.specs.Peers.{ReadsWhatIsAsked}
 use Rattle.osdp_link_laws.specs.Progress.{SetsNoAddress}
-use Rattle.osdp_link_laws.specs.Addresses.{StayWhereTheyAre}
+use Rattle.osdp_link_laws.specs.Addresses.{SetsNoOther, StayWhereTheyAre}
 use Rattle.osdp_link_laws.specs.Sessions as sessions
 use Rattle.osdp_link_laws.specs.Sessions.{all_submitted, submitted}
 use Rattle.osdp_link_laws.proofs.Answering.{no_address}
-use Rattle.osdp_link_laws.proofs.Lines.{both, each_append, each_front, each_of, each_rest}
+use Rattle.osdp_link_laws.proofs.Lines.{both, each_append, each_front, each_of, each_rest, each_lost}
 use Rattle.osdp_link_laws.proofs.Settling.{MovesNone, stays_put}
 use Rattle.osdp_link_laws.proofs.Stages.{Each}
 
@@ -268,23 +268,52 @@ module _ {H : Type 0} (answer_of : H → Command → Answer) (after : H → Comm
     accepted_kept None c fits none e = (none.0, fits)
     accepted_kept (Some fault) c fits none e = absurd cc
 
-    move_keeps : (move : Move) (l : Link H) → MoveFits answer_of after move l → Each SetsNoAddress (submitted move l) → Keeps l → Keeps (after_move answer_of after move l)
-    move_keeps (Submit c) l fits none h =
-        let refusal = controllers.submit_refusal c l.controller in submits_keeps refusal c l (accepted_kept refusal c fits none) h
-    move_keeps (QueueEvent e) l fits none h = queues_keeps (length l.reader.queue.events == l.reader.queue.capacity) e l h
-    move_keeps (SetBusy busy) l fits none h = record { waiting = h.waiting; controller = h.controller; line = h.line; reader = h.reader }
-    move_keeps (Tick now) l fits none h = ticked_keeps now l h
-    move_keeps (ToReader how) l fits none h = to_reader_keeps how l.to_reader l refl h
-    move_keeps (ToController how now) l fits none h = to_controller_keeps how now l.to_controller l h
-    move_keeps (Reopen now) l fits none h = begins_keeps (controllers.begin_refusal l.controller) l.to_reader l.to_controller now l h
+    -- a command that is withdrawn leaves the others
+    kept_well : (state : State) (ws : List Command) → Each IsKept ws → Each IsKept (controllers.kept_in state ws)
+    kept_well Closed [] all = tt
+    kept_well Closed (w ∷ ws) all = all.1
+    kept_well (Quiet until) ws all = all
+    kept_well (Idle due) ws all = all
+    kept_well (Waiting until k o) ws all = all
+    kept_well (Pausing until o) ws all = all
 
-    run_keeps : (moves : List Move) (l : Link H) → MovesFit answer_of after moves l → Each SetsNoAddress (all_submitted answer_of after moves l) → Keeps l
+    retargets_keep : (refusal : Option ControllerFault) (address : ℕ) (l : Link H) → address ≡ here → Keeps l → Keeps (link.retargets refusal address l)
+    retargets_keep (Some fault) address l same h = h
+    retargets_keep None address l same h = record { waiting = h.waiting; controller = (h.controller.0, same); line = h.line; reader = h.reader }
+
+    move_keeps : (move : Move H) (l : Link H) → MoveFits answer_of after move l → Each SetsNoAddress (submitted move l) → SetsNoOther there here move → Keeps l
+        → Keeps (after_move answer_of after move l)
+    move_keeps (Submit c) l fits none same h =
+        let refusal = controllers.submit_refusal c l.controller in submits_keeps refusal c l (accepted_kept refusal c fits none) h
+    move_keeps (QueueEvent e) l fits none same h = queues_keeps (length l.reader.queue.events == l.reader.queue.capacity) e l h
+    move_keeps (SetBusy busy) l fits none same h = record { waiting = h.waiting; controller = h.controller; line = h.line; reader = h.reader }
+    move_keeps (Tick now) l fits none same h = ticked_keeps now l h
+    move_keeps (ToReader how) l fits none same h = to_reader_keeps how l.to_reader l refl h
+    move_keeps (ToController how now) l fits none same h = to_controller_keeps how now l.to_controller l h
+    move_keeps (Reopen now) l fits none same h = begins_keeps (controllers.begin_refusal l.controller) l.to_reader l.to_controller now l h
+    move_keeps (LoseToReader place) l fits none same h =
+        with_line l (lost_at place l.to_reader) (each_lost Carries place l.to_reader h.line) h
+    move_keeps (LoseToController place) l fits none same h = record { waiting = h.waiting; controller = h.controller; line = h.line; reader = h.reader }
+    move_keeps (SetHandler handler) l fits none same h = record { waiting = h.waiting; controller = h.controller; line = h.line; reader = h.reader }
+    move_keeps Withdraw l fits none same h = record {
+      waiting = kept_well l.controller.session.state l.controller.waiting h.waiting;
+      controller = h.controller;
+      line = h.line;
+      reader = h.reader;
+    }
+    move_keeps (Retarget address) l fits none same h = retargets_keep (controllers.retarget_refusal address l.controller) address l same h
+    move_keeps (RestartReader address handler room) l fits none same h =
+        record { waiting = h.waiting; controller = h.controller; line = h.line; reader = same }
+    move_keeps (RestartController config room) l fits none same h = record { waiting = tt; controller = (tt, same); line = h.line; reader = h.reader }
+
+    run_keeps : (moves : List (Move H)) (l : Link H) → MovesFit answer_of after moves l → Each SetsNoAddress (all_submitted answer_of after moves l)
+        → Each (SetsNoOther there here) moves → Keeps l
         → Keeps (run answer_of after moves l)
-    run_keeps [] l fits none h = h
-    run_keeps (move ∷ moves) l fits none h =
+    run_keeps [] l fits none same h = h
+    run_keeps (move ∷ moves) l fits none same h =
         let next = after_move answer_of after move l in
-        run_keeps moves next fits.1 (each_rest SetsNoAddress (submitted move l) (all_submitted answer_of after moves next) none)
-        (move_keeps move l fits.0 (each_front SetsNoAddress (submitted move l) (all_submitted answer_of after moves next) none) h)
+        run_keeps moves next fits.1 (each_rest SetsNoAddress (submitted move l) (all_submitted answer_of after moves next) none) same.1
+        (move_keeps move l fits.0 (each_front SetsNoAddress (submitted move l) (all_submitted answer_of after moves next) none) same.0 h)
 
   waiting_kept : (cs : List Command) → Each MaySubmit cs → Each SetsNoAddress cs → Each IsKept cs
   waiting_kept [] may none = tt
@@ -294,7 +323,7 @@ module _ {H : Type 0} (answer_of : H → Command → Answer) (after : H → Comm
   quiet_asks state until is = subst Asks (sym is) tt
 
   pub stay_there : ReadsWhatIsAsked → StayWhereTheyAre answer_of after
-  stay_there reads l moves begun fits none =
+  stay_there reads l moves begun fits none same =
       let all = each_of SetsNoAddress (l.controller.waiting ++ all_submitted answer_of after moves l) none in
       let here = l.controller.session.config.address in
       let there = l.reader.config.address in
@@ -305,5 +334,6 @@ module _ {H : Type 0} (answer_of : H → Command → Answer) (after : H → Comm
         line = subst (Each Carries) (sym begun.to_reader) tt;
         reader = refl;
       } in
-      let later = run_keeps reads here there moves l fits (each_rest SetsNoAddress l.controller.waiting (all_submitted answer_of after moves l) all) start in
+      let later = run_keeps reads here there moves l fits (each_rest SetsNoAddress l.controller.waiting (all_submitted answer_of after moves l) all)
+      (each_of (SetsNoOther there here) moves same) start in
       (later.reader, later.controller.1)

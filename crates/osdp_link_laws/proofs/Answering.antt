@@ -1,5 +1,5 @@
 -- What a reader that is ready says to the frame of the outstanding exchange.
-use Rattle.std.proofs.Common.{◌≡◌, ◌≢◌, ℕ, false, cond, Some, None, Ok, refl, sym, subst, ap, ◌∙◌, inr, arith}
+use Rattle.std.proofs.Common.{◌≡◌, ◌≢◌, ◌⊎◌, ℕ, false, cond, Some, None, Ok, refl, sym, subst, ap, ◌∙◌, inl, inr, arith}
 use Rattle.std.specs.Prelude.{IfSome}
 use Rattle.osdp_frame.specs.Packet.{Packet, next_sequence}
 use Rattle.osdp_msg.specs.ReplyTable.{ReplyFits}
@@ -15,16 +15,18 @@ use Rattle.osdp_reader.specs.declared.config.ReaderConfig.{ReaderConfig}
 use Rattle.osdp_reader.specs.declared.handler.Answer.{Answer}
 use Rattle.osdp_reader.specs.declared.kind.Kind.TheVariants.{Zero, Repeat, Taken, Busy}
 use Rattle.osdp_reader.specs.Queue.{event_for, offering, released}
+use Rattle.osdp_reader.specs.Replies.{refused}
 use Rattle.osdp_reader.specs.State.{ReaderState}
+use Rattle.osdp_msg.specs.declared.nak.NakReason.TheVariants.{UnexpectedSequence}
 use Rattle.osdp_reader.specs.Table.{Answered, begun, event_or_answer, hears, kind_of, moved, new_address, outcome, taken}
 use Rattle.osdp_reader_laws.specs.Laws.{IsPlain}
 use Rattle.osdp_link_laws.specs.Link.{Link}
-use Rattle.osdp_link_laws.proofs.Acting.{kind_again, kind_next, kind_zero}
+use Rattle.osdp_link_laws.proofs.Acting.{kind_again, kind_next, kind_unknown, kind_zero}
 use Rattle.osdp_link_laws.proofs.Moves.{Premises, asked_fits}
 use Rattle.osdp_link_laws.proofs.Numbers.{next_above_zero}
 use Rattle.osdp_link_laws.proofs.Parts.{At}
 use Rattle.osdp_link_laws.proofs.Settling.{MovesNone}
-use Rattle.osdp_link_laws.proofs.Stages.{Acted, After, Behind, Fresh, IsAnswerTo, IsAsked, IsOut, Level, Rest, Stage, Start, answer, exchange_at, frame, number_at}
+use Rattle.osdp_link_laws.proofs.Stages.{Acted, After, Before, Behind, Fresh, IsAnswerTo, IsAsked, IsOut, Knows, Level, Never, Now, Rest, Restarted, Stage, Start, answer, exchange_at, frame, number_at}
 
 pub same_some : {A : Type 0} (x y : A) → Some x ≡ Some y → x ≡ y
 same_some x y e = cc
@@ -35,9 +37,9 @@ no_address Opening none = refl
 no_address Polling none = refl
 no_address (Asking c) none = none
 
-module _ (fixed : ControllerConfig) {H : Type 0} (answer_of : H → Command → Answer) (after : H → Command → H) (settings : ReaderConfig) (first : H) where
+module _ (fixed : ControllerConfig) {H : Type 0} (answer_of : H → Command → Answer) (after : H → Command → H) (settings : ReaderConfig) where
   abbrev Given : Type 0
-  Given = Premises fixed answer_of after settings first
+  Given = Premises fixed answer_of after settings
 
   -- it is at the controller's address, and not busy
   pub record IsReady (r : ReaderState H) : Type 0 where
@@ -53,6 +55,11 @@ module _ (fixed : ControllerConfig) {H : Type 0} (answer_of : H → Command → 
     pub sent : (hears answer_of after r (frame fixed x n)).reply ≡ Some (answer fixed n a)
     pub acted : Acted settings.id n x a
     pub stays : MovesNone x → IsReady (hears answer_of after r (frame fixed x n)).reader
+    pub known : MovesNone x → (hears answer_of after r (frame fixed x n)).reader.last ≡ Some n
+
+  -- .. or it refuses the number
+  abbrev pub Refused : Exchange → ℕ → ReaderState H → Type 0
+  Refused x n r = (hears answer_of after r (frame fixed x n)).reply ≡ Some (answer fixed n (refused UnexpectedSequence))
 
   -- .. to the opening ID
   pub opening : Given → (r : ReaderState H) → IsReady r → r.config.id ≡ settings.id → SaysFit (frame fixed Opening 0) r
@@ -66,6 +73,7 @@ module _ (fixed : ControllerConfig) {H : Type 0} (answer_of : H → Command → 
         sent = ap (λ o. o.reply) e;
         acted = (record { plain = tt; fits = subst (λ o. IfSome o.said ReplyFits) e fits }, ap reply.PdId id);
         stays = λ none. subst (λ o. IsReady o.reader) (sym e) (record { here = ready.here; ready = ready.ready });
+        known = λ none. ap (λ o. o.reader.last) e;
       }
 
   -- .. to a command with the next number
@@ -104,6 +112,12 @@ module _ (fixed : ControllerConfig) {H : Type 0} (answer_of : H → Command → 
           queue = offering (event_for (exchange_command x) (released r.queue).events) (released r.queue);
           handler = a.handler;
         }))) (sym (no_address x none)) (record { here = ready.here; ready = ready.ready }));
+        known = λ none. ap (λ o. o.reader.last) e ∙ ap (λ to. (moved to (record r {
+          last = Some (next_sequence n);
+          stored = Some (answer fixed (next_sequence n) a.reply);
+          queue = offering (event_for (exchange_command x) (released r.queue).events) (released r.queue);
+          handler = a.handler;
+        })).last) (no_address x none);
       }
 
   -- .. again
@@ -113,25 +127,49 @@ module _ (fixed : ControllerConfig) {H : Type 0} (answer_of : H → Command → 
       let p = frame fixed x n in
       let e : hears answer_of after r p ≡ outcome answer_of after Repeat r p =
       ap (λ k. outcome answer_of after k r p) (kind_again fixed r x n ready.here above last) in
-      record { sent = ap (λ o. o.reply) e ∙ stored; acted = acted; stays = λ none. subst (λ o. IsReady o.reader) (sym e) ready }
+      record { sent = ap (λ o. o.reply) e ∙ stored; acted = acted; stays = λ none. subst (λ o. IsReady o.reader) (sym e) ready; known = λ none. ap (λ o. o.reader.last) e ∙ last }
 
-  -- .. to the frame of the exchange that is outstanding
-  pub replies_at : Given → (at : Stage) (l : Link H) → At fixed answer_of after settings first at l → IsOut at → IsReady l.reader
-      → SaysFit (frame fixed (exchange_at at) (number_at at)) l.reader → (a : Reply) × Replies (exchange_at at) (number_at at) l.reader a
-  replies_at given Fresh l h out ready fits = absurd out
-  replies_at given (Behind Start Opening) l h out ready fits = (reply.PdId l.reader.config.id, opening given l.reader ready h.answering.id fits)
-  replies_at given (Behind Start Polling) l h out ready fits = absurd h.stage.1
-  replies_at given (Behind Start (Asking c)) l h out ready fits = absurd h.stage.1
-  replies_at given (Behind (After n y b) x) l h out ready fits =
-      ((taken_answer (exchange_command x) l.reader).reply, taking given n y b x l.reader ready (h.reader.here ready.here).0 h.stage.1 fits)
-  replies_at given (Level Start Opening b) l h out ready fits = (reply.PdId l.reader.config.id, opening given l.reader ready h.answering.id fits)
-  replies_at given (Level Start Polling b) l h out ready fits = absurd h.stage.1
-  replies_at given (Level Start (Asking c) b) l h out ready fits = absurd h.stage.1
-  replies_at given (Level (After n y d) Opening b) l h out ready fits = absurd h.stage.1
-  replies_at given (Level (After n y d) Polling b) l h out ready fits =
-      let kept = h.reader.here ready.here in
-      (b, repeating (next_sequence n) Polling b l.reader ready (next_above_zero n) kept.0 kept.1 h.stage.2)
-  replies_at given (Level (After n y d) (Asking c) b) l h out ready fits =
-      let kept = h.reader.here ready.here in
-      (b, repeating (next_sequence n) (Asking c) b l.reader ready (next_above_zero n) kept.0 kept.1 h.stage.2)
-  replies_at given (Rest n x b) l h out ready fits = absurd out
+  refusing : (n : ℕ) (x : Exchange) (r : ReaderState H) → IsReady r → n ≢ 0 → r.last ≡ None → Refused x n r
+  refusing n x r ready above none =
+      ap (λ k. (outcome answer_of after k r (frame fixed x n)).reply) (kind_unknown fixed r x n ready.here above none)
+
+  -- what comes of the frame of the exchange that is outstanding
+  abbrev pub RepliesOrRefuses : Exchange → ℕ → ReaderState H → Type 0
+  RepliesOrRefuses x n r = ((a : Reply) × Replies x n r a) ⊎ Refused x n r
+
+  goes_next : Given → (since : Restarted) (n : ℕ) (y : Exchange) (b : Reply) (x : Exchange) (r : ReaderState H) → IsReady r → Knows fixed since n y b r
+      → IsAsked (After n y b) x → SaysFit (frame fixed x (next_sequence n)) r → RepliesOrRefuses x (next_sequence n) r
+  goes_next given Never n y b x r ready knows asked fits =
+      inl ((taken_answer (exchange_command x) r).reply, taking given n y b x r ready (knows.here ready.here).0 asked fits)
+  goes_next given Before n y b x r ready knows asked fits =
+      inl ((taken_answer (exchange_command x) r).reply, taking given n y b x r ready (knows.here ready.here).0 asked fits)
+  goes_next given Now n y b x r ready knows asked fits = inr (refusing (next_sequence n) x r ready (next_above_zero n) knows)
+
+  again_polled : (since : Restarted) (n : ℕ) (b : Reply) (r : ReaderState H) → IsReady r → n ≢ 0 → Knows fixed since n Polling b r → Acted settings.id n Polling b
+      → RepliesOrRefuses Polling n r
+  again_polled Never n b r ready above knows acted = let kept = knows.here ready.here in inl (b, repeating n Polling b r ready above kept.0 kept.1 acted)
+  again_polled Before n b r ready above knows acted = let kept = knows.here ready.here in inl (b, repeating n Polling b r ready above kept.0 kept.1 acted)
+  again_polled Now n b r ready above knows acted = inr (refusing n Polling r ready above knows)
+
+  again_asked : (since : Restarted) (n : ℕ) (c : Command) (b : Reply) (r : ReaderState H) → IsReady r → n ≢ 0 → Knows fixed since n (Asking c) b r
+      → Acted settings.id n (Asking c) b → RepliesOrRefuses (Asking c) n r
+  again_asked Never n c b r ready above knows acted = let kept = knows.here ready.here in inl (b, repeating n (Asking c) b r ready above kept.0 kept.1 acted)
+  again_asked Before n c b r ready above knows acted = let kept = knows.here ready.here in inl (b, repeating n (Asking c) b r ready above kept.0 kept.1 acted)
+  again_asked Now n c b r ready above knows acted = inr (refusing n (Asking c) r ready above knows)
+
+  pub replies_at : Given → (since : Restarted) (at : Stage) (l : Link H) → At fixed answer_of after settings since at l → IsOut at → IsReady l.reader
+      → SaysFit (frame fixed (exchange_at at) (number_at at)) l.reader → RepliesOrRefuses (exchange_at at) (number_at at) l.reader
+  replies_at given since Fresh l h out ready fits = absurd out
+  replies_at given since (Behind Start Opening) l h out ready fits = inl (reply.PdId l.reader.config.id, opening given l.reader ready h.answering.id fits)
+  replies_at given since (Behind Start Polling) l h out ready fits = absurd h.stage.1
+  replies_at given since (Behind Start (Asking c)) l h out ready fits = absurd h.stage.1
+  replies_at given since (Behind (After n y b) x) l h out ready fits = goes_next given since n y b x l.reader ready h.reader h.stage.1 fits
+  replies_at given since (Level Start Opening b) l h out ready fits = inl (reply.PdId l.reader.config.id, opening given l.reader ready h.answering.id fits)
+  replies_at given since (Level Start Polling b) l h out ready fits = absurd h.stage.1
+  replies_at given since (Level Start (Asking c) b) l h out ready fits = absurd h.stage.1
+  replies_at given since (Level (After n y d) Opening b) l h out ready fits = absurd h.stage.1
+  replies_at given since (Level (After n y d) Polling b) l h out ready fits =
+      again_polled since (next_sequence n) b l.reader ready (next_above_zero n) h.reader h.stage.2
+  replies_at given since (Level (After n y d) (Asking c) b) l h out ready fits =
+      again_asked since (next_sequence n) c b l.reader ready (next_above_zero n) h.reader h.stage.2
+  replies_at given since (Rest n x b) l h out ready fits = absurd out

@@ -1,5 +1,5 @@
 -- Rounds without losses, from the first: what they settle and report, exactly.
-use Rattle.std.proofs.Common.{◌≡◌, ◌≤◌, ◌-◌, ℕ, zero, suc, All, arith, Bool, true, false, if◌then◌else◌, List, [], ◌∷◌, ◌++◌, length, take, drop, Option, Some, None, refl, sym, subst, ap, ◌∙◌, append_assoc}
+use Rattle.std.proofs.Common.{◌≡◌, ◌≤◌, ◌-◌, ℕ, zero, suc, arith, Bool, true, false, if◌then◌else◌, List, [], ◌∷◌, ◌++◌, length, take, drop, Option, Some, None, refl, sym, subst, ap, ◌∙◌, append_assoc}
 use Rattle.std.proofs.lemmas.Bool.{le-leb}
 use Rattle.std.proofs.lemmas.List.{append-nil, length-take}
 use Rattle.std.specs.Prelude.{◌==◌, IfSome, min}
@@ -21,23 +21,26 @@ use Rattle.osdp_reader.specs.State.{ReaderState}
 use Rattle.osdp_reader.specs.Table.{answer_to}
 use Rattle.osdp_reader.specs.declared.config.ReaderConfig.{ReaderConfig}
 use Rattle.osdp_reader.specs.declared.handler.Answer.{Answer}
-use Rattle.osdp_link_laws.specs.Clean.{AreSpaced, IsInTurn, IsOrder}
-use Rattle.osdp_link_laws.specs.Headline.{MovesFit, Begins, MaySubmit, with_answers}
+use Rattle.osdp_link_laws.specs.Clean.{AreSpaced, GoesInTurn, IsInTurn, IsOrder}
+use Rattle.osdp_link_laws.specs.Headline.{MovesFit, Begins, MaySubmit}
 use Rattle.osdp_link_laws.specs.Link as link
-use Rattle.osdp_link_laws.specs.Link.{Account, Link, Move, Queue as QueueEvent, Reopen, SetBusy, Submit, Tick, ToController, ToReader, new_account, run}
+use Rattle.osdp_link_laws.specs.Link.{Account, Link, Move, Queue as QueueEvent, Reopen, RestartController, RestartReader, Retarget, SetBusy, SetHandler, Submit, Tick, ToController, ToReader, Withdraw, after_move, new_account, run, LoseToReader, LoseToController}
+use Rattle.osdp_link_laws.specs.OneHandler.{KeepHandler, KeepsHandler, handler_after, with_answers}
+use Rattle.osdp_link_laws.specs.Peers.{ReadEachOther}
 use Rattle.osdp_link_laws.specs.Progress.{SetsNoAddress, round, rounds}
-use Rattle.osdp_link_laws.proofs.Advancing.{HoldsAtSomeStage}
 use Rattle.osdp_link_laws.proofs.Acting.{no_event}
 use Rattle.osdp_link_laws.proofs.Due.{Acts, next_exchange}
 use Rattle.osdp_link_laws.proofs.Exchanges.{accounted, opening_exchange}
-use Rattle.osdp_link_laws.proofs.InARow.{Assumed}
-use Rattle.osdp_link_laws.proofs.Lines.{each_append, each_of}
-use Rattle.osdp_link_laws.proofs.Moves.{Premises}
-use Rattle.osdp_link_laws.proofs.Once.{fresh, not_poll}
-use Rattle.osdp_link_laws.proofs.Parts.{At}
+use Rattle.osdp_link_laws.proofs.Growing.{GoesOn, goes_on}
+use Rattle.osdp_link_laws.proofs.InARow.{assumed_of}
+use Rattle.osdp_link_laws.proofs.Lines.{each_append, each_map, each_of}
+use Rattle.osdp_link_laws.proofs.Moves.{Premises, not_poll}
+use Rattle.osdp_link_laws.proofs.Once.{bare, fresh}
+use Rattle.osdp_link_laws.proofs.OneHandler.{gives_its_answers}
+use Rattle.osdp_link_laws.proofs.Parts.{At, HoldsAtSomeStage}
 use Rattle.osdp_link_laws.proofs.Round.{IsIdle, IsStill, goes}
 use Rattle.osdp_link_laws.proofs.Rounds.{idle_exchange, rested_idle}
-use Rattle.osdp_link_laws.proofs.Stages.{Asks, Behind, Each, Fresh, Level, Rest, Stage, Waits, number_after}
+use Rattle.osdp_link_laws.proofs.Stages.{Asks, Behind, Each, Fresh, Level, Rest, Restarted, Stage, Waits, number_after}
 use Rattle.osdp_link_laws.proofs.Through.{held_after}
 
 none_of : {A : Type 0} (n : ℕ) → take {A = A} n [] ≡ []
@@ -60,15 +63,15 @@ spaced_acts wait now s waiting rests short late =
     subst (λ st. Acts (ticks_in st (seen now s) waiting)) (sym rests)
     (rest_acts (later_by s.config.poll_interval s) (seen now s) waiting (omega (arith, short, late)))
 
-module _ (fixed : ControllerConfig) {H : Type 0} (answer_of : H → Command → Answer) (after : H → Command → H) (settings : ReaderConfig) (first : H) where
+module _ (fixed : ControllerConfig) {H : Type 0} (answer_of : H → Command → Answer) (after : H → Command → H) (settings : ReaderConfig) where
   abbrev Given : Type 0
-  Given = Premises fixed answer_of after settings first
+  Given = Premises fixed answer_of after settings
 
   abbrev Holds : Link H → Type 0
-  Holds l = HoldsAtSomeStage fixed answer_of after settings first l
+  Holds l = HoldsAtSomeStage fixed answer_of after settings l
 
   abbrev Idles : Link H → Type 0
-  Idles l = IsIdle fixed answer_of after settings first l
+  Idles l = IsIdle fixed answer_of after settings l
 
   -- a link between two rounds: the controller waits for nothing, its next POLL is due after the interval, and no command was lost
   record IsBetween (interval : ℕ) (l : Link H) : Type 0 where
@@ -150,45 +153,46 @@ module _ (fixed : ControllerConfig) {H : Type 0} (answer_of : H → Command → 
   rounds_make given wait interval short (now ∷ later) l b spaced fits =
       let w = l.controller.waiting in
       let does = spaced_acts wait now l.controller.session w b.rests (omega (arith, short, b.keeps)) spaced.0 in
-      let is = idle_exchange fixed answer_of after settings first given now l b.holds b.idle does fits.1.0 in
+      let is = idle_exchange fixed answer_of after settings given now l b.holds b.idle does fits.1.0 in
       let m = goes answer_of after now l in
       let next : IsBetween interval m = record {
-        holds = held_after fixed answer_of after settings first given now l fits.1.0 b.holds;
-        idle = subst Idles (sym is) (rested_idle fixed answer_of after settings first now l b.idle);
+        holds = held_after fixed answer_of after settings given now l fits.1.0 b.holds;
+        idle = subst Idles (sym is) (rested_idle fixed answer_of after settings now l b.idle);
         rests = subst (λ k. RestsFor k.controller.session) (sym is) refl;
         keeps = ap (λ k. k.controller.session.config.poll_interval) is ∙ b.keeps;
       } in
       let last = run answer_of after (rounds later) m in
       let rest = rounds_make given wait interval short later m next spaced.1 fits.1.1.1 in
       let afterwards = subst (λ k. Made (length later) k.controller.waiting (unreported k) k.account last.account) is rest.1 in
-      let left = left_is w (unreported l) l.reader.queue.capacity b.holds.1.waiting in (
+      let left = left_is w (unreported l) l.reader.queue.capacity b.holds.2.waiting in (
         rest.0,
         made_more (length later) w (unreported l) l.reader l.account last.account
             (subst (λ es. Made (length later) (drop 1 w) es (accounted answer_of after w (unreported l) l.reader l.account) last.account) left afterwards),
       )
 
   -- at rest each command that was taken is settled, and none is told unsettled
-  settled_all : (at : Stage) (l : Link H) → At fixed answer_of after settings first at l → (due : ℕ) → l.controller.session.state ≡ Idle due
-      → (l.account.settled ≡ with_answers answer_of after settings first l.account.taken) × (l.account.unsettled ≡ [])
-  settled_all Fresh l h due idle = absurd (subst (λ st. Waits fixed st l.controller.session) idle h.controller)
-  settled_all (Behind past x) l h due idle =
+  settled_all : (since : Restarted) (at : Stage) (l : Link H) → At fixed answer_of after settings since at l → (due : ℕ) → l.controller.session.state ≡ Idle due
+      → (l.account.settled ≡ l.account.given) × (l.account.unsettled ≡ [])
+  settled_all since Fresh l h due idle = absurd (subst (λ st. Waits fixed st l.controller.session) idle h.controller)
+  settled_all since (Behind past x) l h due idle =
       absurd (subst (λ st. Asks fixed st (number_after past) x l.controller.session) idle h.controller)
-  settled_all (Level past x a) l h due idle =
+  settled_all since (Level past x a) l h due idle =
       absurd (subst (λ st. Asks fixed st (number_after past) x l.controller.session) idle h.controller)
-  settled_all (Rest n x a) l h due idle = (sym (append-nil l.account.settled) ∙ h.account.settled, h.account.unsettled)
+  settled_all since (Rest n x a) l h due idle = (sym (append-nil l.account.settled) ∙ h.account.settled, h.account.unsettled)
 
   as_many : (h : H) (cs : List Command) → length (with_answers answer_of after settings h cs) ≡ length cs
   as_many h [] = refl
   as_many h (c ∷ cs) = ap suc (as_many (answer_to answer_of after settings h c).handler cs)
 
   -- so they were settled and reported in turn
-  in_turn : (n interval : ℕ) (waiting : List Command) (events : List Event) (l : Link H) → IsBetween interval l
-      → Made n waiting events (new_account waiting events) l.account → IsInTurn answer_of after settings first n l.account
-  in_turn n interval waiting events l b made =
-      let all = settled_all b.holds.0 l b.holds.1 b.idle.idle.0 b.idle.idle.1 in
+  in_turn : (handler : H) (n interval : ℕ) (waiting : List Command) (events : List Event) (l : Link H) → IsBetween interval l
+      → l.account.given ≡ with_answers answer_of after settings handler l.account.taken
+      → Made n waiting events (new_account waiting events) l.account → IsInTurn answer_of after settings handler n l.account
+  in_turn handler n interval waiting events l b answered made =
+      let all = settled_all b.holds.0 b.holds.1 l b.holds.2 b.idle.idle.0 b.idle.idle.1 in
       let taken : l.account.taken ≡ take n l.account.issued = made.taken ∙ ap (take n) (sym made.issued) in
-      let settled = all.0 ∙ ap (with_answers answer_of after settings first) taken in
-      let count = ap length settled ∙ as_many first (take n l.account.issued) ∙ length-take n l.account.issued in
+      let settled = all.0 ∙ answered ∙ ap (with_answers answer_of after settings handler) taken in
+      let count = ap length settled ∙ as_many handler (take n l.account.issued) ∙ length-take n l.account.issued in
       let many = ap length made.issued in
       record {
         taken = taken;
@@ -204,16 +208,15 @@ module _ (fixed : ControllerConfig) {H : Type 0} (answer_of : H → Command → 
   -- ---- before the opening
 
   -- a reader as it is set at first, which isn't busy
-  pub record IsFree (set : ReaderConfig) (current : H) (busy : Bool) : Type 0 where
+  pub record IsFree (set : ReaderConfig) (busy : Bool) : Type 0 where
     pub config : set ≡ settings
-    pub handler : current ≡ first
     pub ready : busy ≡ false
 
   -- a session that has begun, of which nothing was sent yet
   pub record IsReadied (s : Session) (l : Link H) : Type 0 where
     pub session : l.controller.session ≡ s
     pub waiting : Each MaySubmit l.controller.waiting
-    pub reader : IsFree l.reader.config l.reader.handler l.reader.busy
+    pub reader : IsFree l.reader.config l.reader.busy
     pub line : (l.to_reader ≡ []) × (l.to_controller ≡ [])
     pub account : l.account ≡ new_account l.controller.waiting l.reader.queue.events
 
@@ -243,10 +246,10 @@ module _ (fixed : ControllerConfig) {H : Type 0} (answer_of : H → Command → 
   queues_ready : (s : Session) (full : Bool) (e : Event) (l : Link H) → IsReadied s l → IsReadied s (link.queues full e l)
   queues_ready s true e l h = h
   queues_ready s false e l h =
-      subst (λ (t : Account). IsReadied s (record (link.queues false e l) { account = record t { queued = t.queued ++ e ∷ [] } })) (sym h.account)
+      subst (λ (t : Account). IsReadied s (record (link.queues false e l) { account = record t { queued = t.queued ++ e ∷ []; kept = t.kept ++ e ∷ [] } })) (sym h.account)
       (waits_ready s l.controller.waiting (queued e l.reader.queue) l h.waiting h)
 
-  orders_ready : (s : Session) (orders : List Move) (l : Link H) → Each IsOrder orders → MovesFit answer_of after orders l → IsReadied s l
+  orders_ready : (s : Session) (orders : List (Move H)) (l : Link H) → Each IsOrder orders → MovesFit answer_of after orders l → IsReadied s l
       → IsReadied s (run answer_of after orders l)
   orders_ready s [] l all fits h = h
   orders_ready s (Submit c ∷ orders) l all fits h =
@@ -261,41 +264,48 @@ module _ (fixed : ControllerConfig) {H : Type 0} (answer_of : H → Command → 
   orders_ready s (ToReader how ∷ orders) l all fits h = absurd all.0
   orders_ready s (ToController how now ∷ orders) l all fits h = absurd all.0
   orders_ready s (Reopen now ∷ orders) l all fits h = absurd all.0
+  orders_ready s ((LoseToReader place) ∷ orders) l all fits h = absurd all.0
+  orders_ready s ((LoseToController place) ∷ orders) l all fits h = absurd all.0
+  orders_ready s (SetHandler handler ∷ orders) l all fits h = absurd all.0
+  orders_ready s (Withdraw ∷ orders) l all fits h = absurd all.0
+  orders_ready s (Retarget address ∷ orders) l all fits h = absurd all.0
+  orders_ready s (RestartReader address handler room ∷ orders) l all fits h = absurd all.0
+  orders_ready s (RestartController config room ∷ orders) l all fits h = absurd all.0
 
   -- ---- from the opening on
 
-  pub opens_and_goes : Given → (until opening wait : ℕ) (moments : List ℕ) (s : Session) (l : Link H) → IsReadied s l → s.config ≡ fixed → s.state ≡ Quiet until
+  pub opens_and_goes : Given → (handler : H) (until opening wait : ℕ) (moments : List ℕ) (s : Session) (l : Link H) → IsReadied s l → s.config ≡ fixed → s.state ≡ Quiet until
       → settings.address ≡ fixed.address → until ≤ opening → s.config.poll_interval ≤ wait → Each SetsNoAddress l.account.issued
       → AreSpaced answer_of after wait moments (run answer_of after (round opening) l) → MovesFit answer_of after (rounds (opening ∷ moments)) l
       → let last = run answer_of after (rounds (opening ∷ moments)) l in
-      IsInTurn answer_of after settings first (length moments) last.account × (is_closed last.controller.session.state ≡ false)
-  opens_and_goes given until opening wait moments s l h same quiet here reached short none spaced fits =
+      last.account.given ≡ with_answers answer_of after settings handler last.account.taken
+      → IsInTurn answer_of after settings handler (length moments) last.account × (is_closed last.controller.session.state ≡ false)
+  opens_and_goes given handler until opening wait moments s l h same quiet here reached short none spaced fits answered =
       let w = l.controller.waiting in
       let events = l.reader.queue.events in
       let state : l.controller.session.state ≡ Quiet until = ap (λ (t : Session). t.state) h.session ∙ quiet in
       let config : l.controller.session.config ≡ fixed = ap (λ (t : Session). t.config) h.session ∙ same in
-      let held : Holds l = (
-        Fresh,
-        fresh fixed answer_of after settings first l (record {
-          controller = subst (λ st. Waits fixed st l.controller.session) (sym state) config;
-          waiting = h.waiting;
-          answering = record { id = ap (λ c. c.id) h.reader.config; caps = ap (λ c. c.caps) h.reader.config; handler = h.reader.handler };
-          to_reader = h.line.0;
-          to_controller = h.line.1;
-          account = h.account;
-        }),
-      ) in
-      let still : IsStill fixed answer_of after settings first l = record {
+      let new = fresh fixed answer_of after settings l (record {
+        controller = subst (λ st. Waits fixed st l.controller.session) (sym state) config;
+        waiting = h.waiting;
+        answering = record { id = ap (λ c. c.id) h.reader.config; caps = ap (λ c. c.caps) h.reader.config };
+        to_reader = h.line.0;
+        to_controller = h.line.1;
+        account = h.account;
+      }) in
+      let held : Holds l =
+      bare fixed answer_of after settings l (ap (λ (t : Account). t.removed) h.account) (ap (λ (t : Account). t.forgotten) h.account) new.holds in
+      let still : IsStill fixed answer_of after settings l = record {
         to_reader = h.line.0;
         to_controller = h.line.1;
         ready = record { here = ap (λ c. c.address) h.reader.config ∙ here; ready = h.reader.ready };
         issued = none;
       } in
-      let is = opening_exchange fixed answer_of after settings first given until opening l still config (ap (λ c. c.id) h.reader.config) state (omega (arith, reached)) fits.1.0 in
+      let is = opening_exchange fixed answer_of after settings given until opening l still config (ap (λ c. c.id) h.reader.config) state (omega (arith, reached)) fits.1.0 in
       let m = goes answer_of after opening l in
       let interval = s.config.poll_interval in
       let between : IsBetween interval m = record {
-        holds = held_after fixed answer_of after settings first given opening l fits.1.0 held;
+        holds = held_after fixed answer_of after settings given opening l fits.1.0 held;
         idle = subst Idles (sym is) (record {
           idle = (later_by l.controller.session.config.poll_interval (seen opening (record (seen opening l.controller.session) { number = 0 })), refl);
           still = record {
@@ -304,6 +314,7 @@ module _ (fixed : ControllerConfig) {H : Type 0} (answer_of : H → Command → 
             ready = record { here = still.ready.here; ready = still.ready.ready };
             issued = still.issued;
           };
+          known = (0, refl);
         });
         rests = subst (λ k. RestsFor k.controller.session) (sym is) refl;
         keeps = ap (λ k. k.controller.session.config.poll_interval) is ∙ ap (λ (t : Session). t.config.poll_interval) h.session;
@@ -311,32 +322,69 @@ module _ (fixed : ControllerConfig) {H : Type 0} (answer_of : H → Command → 
       let made = rounds_make given wait interval short moments m between spaced fits.1.1.1 in
       let last = run answer_of after (rounds moments) m in
       let all = subst (λ k. Made (length moments) k.controller.waiting (unreported k) k.account last.account) is made.1 in (
-        in_turn (length moments) interval w events last made.0 (subst (λ t. Made (length moments) w events t last.account) h.account all),
+        in_turn handler (length moments) interval w events last made.0 answered (subst (λ t. Made (length moments) w events t last.account) h.account all),
         ap is_closed made.0.idle.idle.1,
       )
 
 module _ {H : Type 0} (answer_of : H → Command → Answer) (after : H → Command → H) where
-  pub goes_in_turn : (l : Link H) (orders : List Move) (opening wait : ℕ) (moments : List ℕ) → Assumed answer_of after l.reader.config l.reader.handler
-      → Begins l → All IsOrder orders → MovesFit answer_of after orders l
-      → l.reader.config.address ≡ l.controller.session.config.address → l.reader.busy ≡ false
-      → IfSome (moment_of l.controller.session.state) (λ quiet. quiet ≤ opening) → l.controller.session.config.poll_interval ≤ wait
-      → let before = run answer_of after orders l in
-      All SetsNoAddress before.account.issued
-      → AreSpaced answer_of after wait moments (run answer_of after (round opening) before) → MovesFit answer_of after (rounds (opening ∷ moments)) before
-      → let last = run answer_of after (rounds (opening ∷ moments)) before in
-      IsInTurn answer_of after l.reader.config l.reader.handler (length moments) last.account × (is_closed last.controller.session.state ≡ false)
-  goes_in_turn l orders opening wait moments given b are fits here ready reached short none spaced more =
+  -- one list of moves after the other
+  run_both : (moves more : List (Move H)) (l : Link H) → run answer_of after (moves ++ more) l ≡ run answer_of after more (run answer_of after moves l)
+  run_both [] more l = refl
+  run_both (move ∷ moves) more l = run_both moves more (after_move answer_of after move l)
+
+  fit_both : (moves more : List (Move H)) (l : Link H) → MovesFit answer_of after moves l → MovesFit answer_of after more (run answer_of after moves l)
+      → MovesFit answer_of after (moves ++ more) l
+  fit_both [] more l fits last = last
+  fit_both (move ∷ moves) more l fits last = (fits.0, fit_both moves more (after_move answer_of after move l) fits.1 last)
+
+  -- orders and rounds begin no session, and change no handler
+  abbrev Plain : Move H → Type 0
+  Plain move = GoesOn move × ((l : Link H) → KeepsHandler move l)
+
+  order_plain : (move : Move H) → IsOrder move → Plain move
+  order_plain (Submit c) order = (tt, λ l. tt)
+  order_plain (QueueEvent e) order = (tt, λ l. tt)
+  order_plain move order = absurd order
+
+  rounds_plain : (moments : List ℕ) → Each Plain (rounds moments)
+  rounds_plain [] = tt
+  rounds_plain (now ∷ later) = ((tt, λ l. tt), ((tt, λ l. tt), ((tt, λ l. tt), rounds_plain later)))
+
+  keep_plain : (moves : List (Move H)) (l : Link H) → Each Plain moves → KeepHandler answer_of after moves l
+  keep_plain [] l plain = tt
+  keep_plain (move ∷ moves) l plain = (plain.0.1 l, keep_plain moves (after_move answer_of after move l) plain.1)
+
+  earlier_plain : (moves : List (Move H)) (l : Link H) → Each Plain moves → (run answer_of after moves l).earlier ≡ l.earlier
+  earlier_plain [] l plain = refl
+  earlier_plain (move ∷ moves) l plain =
+      earlier_plain moves (after_move answer_of after move l) plain.1 ∙ (goes_on answer_of after move l plain.0.0).1
+
+  -- so the answers given are the handler's
+  answers_plain : ReadEachOther answer_of after → (l : Link H) (moves : List (Move H)) → Begins l → MovesFit answer_of after moves l → Each Plain moves
+      → let last = run answer_of after moves l in last.account.given ≡ with_answers answer_of after l.reader.config l.reader.handler last.account.taken
+  answers_plain peers l moves b fits plain =
+      let last = run answer_of after moves l in
+      let gives = gives_its_answers answer_of after peers l moves b fits (keep_plain moves l plain) in
+      gives.0 ∙ ap (λ ts. with_answers answer_of after l.reader.config (handler_after answer_of after l.reader.config l.reader.handler ts) last.account.taken)
+      (earlier_plain moves l plain ∙ b.earlier)
+
+  pub goes_in_turn : ReadEachOther answer_of after → GoesInTurn answer_of after
+  goes_in_turn peers l orders opening wait moments b are fits here ready reached short none spaced more =
       let s = l.controller.session in
       let config = l.reader.config in
       let before = run answer_of after orders l in
       let until = b.quiet.0 in
-      let readied = orders_ready s.config answer_of after config l.reader.handler s orders l (each_of IsOrder orders are) fits (record {
+      let readied = orders_ready s.config answer_of after config s orders l (each_of IsOrder orders are) fits (record {
         session = refl;
         waiting = each_of MaySubmit l.controller.waiting b.waiting;
-        reader = record { config = refl; handler = refl; ready = ready };
+        reader = record { config = refl; ready = ready };
         line = (b.to_reader, b.to_controller);
         account = b.account;
       }) in
       let due : until ≤ opening = subst (λ state. IfSome (moment_of state) (λ quiet. quiet ≤ opening)) b.quiet.1 reached in
-      opens_and_goes s.config answer_of after config l.reader.handler (given s.config l.reader.handler b.address) until opening wait moments s before readied
-      refl b.quiet.1 here due short (each_of SetsNoAddress before.account.issued none) spaced more
+      let after_all : List (Move H) = rounds (opening ∷ moments) in
+      let plain = each_append Plain orders after_all (each_map IsOrder Plain order_plain orders (each_of IsOrder orders are)) (rounds_plain (opening ∷ moments)) in
+      let answered = subst (λ m. m.account.given ≡ with_answers answer_of after config l.reader.handler m.account.taken) (run_both orders after_all l)
+      (answers_plain peers l (orders ++ after_all) b (fit_both orders after_all l fits more) plain) in
+      opens_and_goes s.config answer_of after config (assumed_of answer_of after peers l s.config b.address) l.reader.handler until opening wait moments s before readied
+      refl b.quiet.1 here due short (each_of SetsNoAddress before.account.issued none) spaced more answered

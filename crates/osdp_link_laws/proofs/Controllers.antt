@@ -5,23 +5,28 @@ use Rattle.osdp_frame.specs.Packet.{Packet}
 use Rattle.osdp_msg.specs.declared.command.Command.{Command}
 use Rattle.osdp_msg.specs.declared.event.Event.{Event}
 use Rattle.osdp_controller.specs.Hearing.{hears}
-use Rattle.osdp_controller.specs.Machine.{Machine, after_begin, begin_refusal, submit_refusal}
+use Rattle.osdp_controller.specs.Machine.{AreSettings, Machine, after_begin, after_retarget, begin_refusal, retarget_refusal, submit_refusal}
+use Rattle.osdp_controller.specs.Sessions.{new_session}
+use Rattle.osdp_controller.specs.declared.config.ControllerConfig.{ControllerConfig}
 use Rattle.osdp_controller.specs.Ticking.{ticks}
 use Rattle.osdp_controller.specs.declared.fault.ControllerFault.{ControllerFault}
 use Rattle.osdp_controller.specs.declared.session.Session.{Session}
 use Rattle.osdp_reader.specs.declared.handler.Answer.{Answer}
 use Rattle.osdp_link_laws.specs.Link as link
-use Rattle.osdp_link_laws.specs.Link.{Delivered, Delivery, Link, Lost, Move, Queue as QueueEvent, Reopen, Repeated, SetBusy, Submit, Tick, ToController, ToReader, after_move, run}
-use Rattle.osdp_link_laws.proofs.Once.{GoesOn}
+use Rattle.osdp_link_laws.specs.Link.{Delivered, Delivery, Link, Lost, Move, Queue as QueueEvent, Reopen, Repeated, RestartController, RestartReader, Retarget, SetBusy, SetHandler, Submit, Tick, ToController, ToReader, Withdraw, after_move, run, LoseToReader, LoseToController}
+use Rattle.osdp_link_laws.specs.Headline.{MoveFits, MovesFit}
+use Rattle.osdp_link_laws.proofs.Removed.{IsInside}
 
 -- ticks and frames keep it
 pub record IsKept (P : Session → Type 0) : Type 0 where
   pub tick : (now : ℕ) (m : Machine) → P m.session → P (ticks now m.session m.waiting).session
   pub frame : (p : Packet) (now : ℕ) (m : Machine) → P m.session → P (hears p now m.session).session
 
--- .. and so does the beginning of another session
-abbrev pub IsKeptByBeginning : (Session → Type 0) → Type 0
-IsKeptByBeginning P = (now : ℕ) (m : Machine) → begin_refusal m ≡ None → P m.session → P (after_begin now m).session
+-- .. and so do the beginning of another session, an address that is set, and a restart
+pub record IsKeptOutside (P : Session → Type 0) : Type 0 where
+  pub begin : (now : ℕ) (m : Machine) → begin_refusal m ≡ None → P m.session → P (after_begin now m).session
+  pub target : (address : ℕ) (m : Machine) → retarget_refusal address m ≡ None → P m.session → P (after_retarget address m).session
+  pub restart : (config : ControllerConfig) (room : ℕ) → AreSettings config room → P (new_session config)
 
 module _ {H : Type 0} (answer_of : H → Command → Answer) (after : H → Command → H) (P : Session → Type 0) where
   abbrev Has : Link H → Type 0
@@ -47,33 +52,52 @@ module _ {H : Type 0} (answer_of : H → Command → Answer) (after : H → Comm
   to_controller_keeps kept Lost now (q ∷ qs) l is = is
   to_controller_keeps kept Repeated now (q ∷ qs) l is = kept.frame q now l.controller is
 
-  reopens_keep : IsKeptByBeginning P → (refusal : Option ControllerFault) (ps qs : List Packet) (now : ℕ) (l : Link H)
+  reopens_keep : IsKeptOutside P → (refusal : Option ControllerFault) (ps qs : List Packet) (now : ℕ) (l : Link H)
       → begin_refusal l.controller ≡ refusal → Has l → Has (link.reopens refusal ps qs now l)
-  reopens_keep begin (Some fault) ps qs now l may is = is
-  reopens_keep begin None (p ∷ ps) qs now l may is = is
-  reopens_keep begin None [] (q ∷ qs) now l may is = is
-  reopens_keep begin None [] [] now l may is = begin now l.controller may is
+  reopens_keep out (Some fault) ps qs now l may is = is
+  reopens_keep out None (p ∷ ps) qs now l may is = is
+  reopens_keep out None [] (q ∷ qs) now l may is = is
+  reopens_keep out None [] [] now l may is = out.begin now l.controller may is
 
-  -- a move within the session
-  pub going_keeps : IsKept P → (move : Move) (l : Link H) → GoesOn move → Has l → Has (after_move answer_of after move l)
-  going_keeps kept (Submit c) l on is = submits_keep (submit_refusal c l.controller) c l is
-  going_keeps kept (QueueEvent e) l on is = queues_keep (length l.reader.queue.events == l.reader.queue.capacity) e l is
-  going_keeps kept (SetBusy busy) l on is = is
-  going_keeps kept (Tick now) l on is = kept.tick now l.controller is
-  going_keeps kept (ToReader how) l on is = to_reader_keeps how l.to_reader l is
-  going_keeps kept (ToController how now) l on is = to_controller_keeps kept how now l.to_controller l is
-  going_keeps kept (Reopen now) l on is = absurd on
+  retargets_keep : IsKeptOutside P → (refusal : Option ControllerFault) (address : ℕ) (l : Link H) → retarget_refusal address l.controller ≡ refusal
+      → Has l → Has (link.retargets refusal address l)
+  retargets_keep out (Some fault) address l may is = is
+  retargets_keep out None address l may is = out.target address l.controller may is
+
+  -- a move that leaves the controller where it is
+  pub inside_keeps : IsKept P → (move : Move H) (l : Link H) → IsInside move → Has l → Has (after_move answer_of after move l)
+  inside_keeps kept (Submit c) l on is = submits_keep (submit_refusal c l.controller) c l is
+  inside_keeps kept (QueueEvent e) l on is = queues_keep (length l.reader.queue.events == l.reader.queue.capacity) e l is
+  inside_keeps kept (SetBusy busy) l on is = is
+  inside_keeps kept (Tick now) l on is = kept.tick now l.controller is
+  inside_keeps kept (ToReader how) l on is = to_reader_keeps how l.to_reader l is
+  inside_keeps kept (ToController how now) l on is = to_controller_keeps kept how now l.to_controller l is
+  inside_keeps kept (LoseToReader place) l on is = is
+  inside_keeps kept (LoseToController place) l on is = is
+  inside_keeps kept (SetHandler handler) l on is = is
+  inside_keeps kept (RestartReader address handler room) l on is = is
+  inside_keeps kept (Reopen now) l on is = absurd on
+  inside_keeps kept Withdraw l on is = absurd on
+  inside_keeps kept (Retarget address) l on is = absurd on
+  inside_keeps kept (RestartController config room) l on is = absurd on
 
   -- any move
-  pub move_keeps : IsKept P → IsKeptByBeginning P → (move : Move) (l : Link H) → Has l → Has (after_move answer_of after move l)
-  move_keeps kept begin (Submit c) l is = going_keeps kept (Submit c) l tt is
-  move_keeps kept begin (QueueEvent e) l is = going_keeps kept (QueueEvent e) l tt is
-  move_keeps kept begin (SetBusy busy) l is = going_keeps kept (SetBusy busy) l tt is
-  move_keeps kept begin (Tick now) l is = going_keeps kept (Tick now) l tt is
-  move_keeps kept begin (ToReader how) l is = going_keeps kept (ToReader how) l tt is
-  move_keeps kept begin (ToController how now) l is = going_keeps kept (ToController how now) l tt is
-  move_keeps kept begin (Reopen now) l is = reopens_keep begin (begin_refusal l.controller) l.to_reader l.to_controller now l refl is
+  pub move_keeps : IsKept P → IsKeptOutside P → (move : Move H) (l : Link H) → MoveFits answer_of after move l → Has l → Has (after_move answer_of after move l)
+  move_keeps kept out (Submit c) l fits is = inside_keeps kept (Submit c) l tt is
+  move_keeps kept out (QueueEvent e) l fits is = inside_keeps kept (QueueEvent e) l tt is
+  move_keeps kept out (SetBusy busy) l fits is = inside_keeps kept (SetBusy busy) l tt is
+  move_keeps kept out (Tick now) l fits is = inside_keeps kept (Tick now) l tt is
+  move_keeps kept out (ToReader how) l fits is = inside_keeps kept (ToReader how) l tt is
+  move_keeps kept out (ToController how now) l fits is = inside_keeps kept (ToController how now) l tt is
+  move_keeps kept out (LoseToReader place) l fits is = is
+  move_keeps kept out (LoseToController place) l fits is = is
+  move_keeps kept out (SetHandler handler) l fits is = is
+  move_keeps kept out (RestartReader address handler room) l fits is = is
+  move_keeps kept out Withdraw l fits is = is
+  move_keeps kept out (Reopen now) l fits is = reopens_keep out (begin_refusal l.controller) l.to_reader l.to_controller now l refl is
+  move_keeps kept out (Retarget address) l fits is = retargets_keep out (retarget_refusal address l.controller) address l refl is
+  move_keeps kept out (RestartController config room) l fits is = out.restart config room fits
 
-  pub moves_keep : IsKept P → IsKeptByBeginning P → (moves : List Move) (l : Link H) → Has l → Has (run answer_of after moves l)
-  moves_keep kept begin [] l is = is
-  moves_keep kept begin (move ∷ moves) l is = moves_keep kept begin moves (after_move answer_of after move l) (move_keeps kept begin move l is)
+  pub moves_keep : IsKept P → IsKeptOutside P → (moves : List (Move H)) (l : Link H) → MovesFit answer_of after moves l → Has l → Has (run answer_of after moves l)
+  moves_keep kept out [] l fits is = is
+  moves_keep kept out (move ∷ moves) l fits is = moves_keep kept out moves (after_move answer_of after move l) fits.1 (move_keeps kept out move l fits.0 is)

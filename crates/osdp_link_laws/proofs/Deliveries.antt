@@ -1,5 +1,5 @@
 -- What holds of a session holds after each packet that comes, or is lost.
-use Rattle.std.proofs.Common.{◌≡◌, ◌≢◌, ◌⊎◌, ℕ, List, [], ◌∷◌, ◌++◌, Option, Some, refl, sym, subst, ap, ◌∙◌, inl, inr, arith}
+use Rattle.std.proofs.Common.{◌≡◌, ◌⊎◌, ℕ, List, [], ◌∷◌, ◌++◌, Option, Some, refl, sym, subst, ap, ◌∙◌, inl, inr, arith}
 use Rattle.std.proofs.lemmas.List.{append-nil}
 use Rattle.std.specs.Prelude.{IfSome, option_to_list}
 use Rattle.osdp_frame.specs.Packet.{Packet, next_sequence}
@@ -11,40 +11,52 @@ use Rattle.osdp_msg.specs.declared.reply.Reply.TheVariants as reply
 use Rattle.osdp_controller.specs.Answers as packets
 use Rattle.osdp_controller.specs.Hearing as controller
 use Rattle.osdp_msg.specs.Events.{event_in}
-use Rattle.osdp_controller.specs.declared.meaning.ReplyMeaning.TheVariants.{NotTaken, Plain}
+use Rattle.osdp_controller.specs.declared.meaning.ReplyMeaning.TheVariants.{NotTaken, NumberRefused, Plain}
 use Rattle.osdp_controller.specs.declared.config.ControllerConfig.{ControllerConfig}
+use Rattle.osdp_controller.specs.declared.session.Session.{Session}
 use Rattle.osdp_controller.specs.declared.exchange.Exchange.{Exchange}
 use Rattle.osdp_controller.specs.declared.exchange.Exchange.TheVariants.{Opening, Polling, Asking}
 use Rattle.osdp_reader.specs.declared.config.ReaderConfig.{ReaderConfig}
 use Rattle.osdp_reader.specs.declared.handler.Answer.{Answer}
+use Rattle.osdp_reader.specs.Replies.{refused}
+use Rattle.osdp_msg.specs.declared.nak.NakReason.TheVariants.{UnexpectedSequence}
 use Rattle.osdp_reader.specs.Table as reader
 use Rattle.osdp_reader_laws.specs.Laws.{IsPlain}
 use Rattle.osdp_link_laws.specs.Headline.{SaysWhatFitsIf}
 use Rattle.osdp_link_laws.specs.Link as link
-use Rattle.osdp_link_laws.specs.Link.{Account, Delivered, Delivery, Link, Lost, Repeated, told}
+use Rattle.osdp_link_laws.specs.Link.{Account, Delivered, Delivery, Link, Lost, Repeated, told, lost_at}
 use Rattle.osdp_link_laws.specs.Peers.{IsPlainlySaid}
-use Rattle.osdp_link_laws.proofs.Advancing.{HoldsAtSomeStage, SaysWell, advances, opens}
-use Rattle.osdp_link_laws.proofs.Hearing.{Settles, hears_answer, hears_other, hears_resting, settled_by}
-use Rattle.osdp_link_laws.proofs.Lines.{each_append, each_map, runs_append, runs_each}
+use Rattle.osdp_link_laws.proofs.Advancing.{SaysWell, goes_on, opens}
+use Rattle.osdp_link_laws.proofs.Hearing.{Ignored, Settles, hears_answer, hears_other, hears_refused, hears_resting, settled_by}
+use Rattle.osdp_link_laws.proofs.Lines.{each_append, each_map, runs_append, runs_each, each_lost, runs_lost}
 use Rattle.osdp_link_laws.proofs.Moves.{Premises, asked_fits, runs_last}
 use Rattle.osdp_link_laws.proofs.Numbers.{next_differs}
-use Rattle.osdp_link_laws.proofs.Stages.{Accounts, Acted, After, Answering, Behind, ControllerAt, Each, Fresh, IsFrame, IsOldFrame, IsPast, Level, Past, Rest, Says, SaysOld, Stage, Start, ToControllerAt, ToReaderAt, answer, frame, given_up, given_up_at, number_after, owed, shown}
-use Rattle.osdp_link_laws.proofs.Parts.{At, with_session, with_to_controller, with_to_reader}
-use Rattle.osdp_link_laws.proofs.Taking.{again}
+use Rattle.osdp_link_laws.proofs.Stages.{Accounts, Acted, After, Asks, Before, Behind, ControllerAt, Each, EventsAre, Fresh, IsFrame, IsOldFrame, IsPast, Level, MayRefuse, Never, Now, Past, PastIs, Refuses, Rest, Restarted, Says, SaysOld, Stage, Start, ToControllerAt, ToReaderAt, answer, frame, given_up, given_up_at, number_after, owed, shown}
+use Rattle.osdp_link_laws.proofs.Parts.{At, HoldsAtSomeStage, with_session, with_to_controller, with_to_reader}
+use Rattle.osdp_link_laws.proofs.Since.{events_moved, events_same, past_same}
+use Rattle.osdp_link_laws.proofs.Taking.{heard_again, shows_none}
+
+-- BUSY, a reply that settles, or a refused number
+abbrev pub IsRead : Packet → Type 0
+IsRead p = IsPlainlySaid p ⊎ (packets.meaning_of p ≡ NumberRefused)
+
+-- a refused number is of the table of replies
+pub refusal_fits : ReplyFits (refused UnexpectedSequence)
+refusal_fits = record { reason = tt; room = omega arith; detail = λ k. omega arith }
 
 -- a reply that was said is plain
 said_plainly : (said : Option Reply) → ((r : Reply) × (said ≡ Some r) × IsPlain r) → IfSome said IsPlain
 said_plainly said (r, is, plain) = subst (λ o. IfSome o IsPlain) (sym is) plain
 
-module _ (fixed : ControllerConfig) {H : Type 0} (answer_of : H → Command → Answer) (after : H → Command → H) (settings : ReaderConfig) (first : H) where
+module _ (fixed : ControllerConfig) {H : Type 0} (answer_of : H → Command → Answer) (after : H → Command → H) (settings : ReaderConfig) (since : Restarted) where
   abbrev AtStage : Stage → Link H → Type 0
-  AtStage at l = At fixed answer_of after settings first at l
+  AtStage at l = At fixed answer_of after settings since at l
 
   abbrev AtSomeStage : Link H → Type 0
-  AtSomeStage l = HoldsAtSomeStage fixed answer_of after settings first l
+  AtSomeStage l = HoldsAtSomeStage fixed answer_of after settings l
 
   abbrev Assumed : Type 0
-  Assumed = Premises fixed answer_of after settings first
+  Assumed = Premises fixed answer_of after settings
 
   -- a packet in front of the line to the reader
   abbrev FrontToReader : Stage → Packet → Link H → Type 0
@@ -56,13 +68,17 @@ module _ (fixed : ControllerConfig) {H : Type 0} (answer_of : H → Command → 
 
   -- what the table of replies, and the reader's laws, say of a reply that is said anew
   says_well : Assumed → (p : Packet) (l : Link H) → IfSome (reader.hears answer_of after l.reader p).said ReplyFits
-      → SaysWell fixed answer_of after settings first p l.reader (reader.kind_of l.reader p)
+      → SaysWell answer_of after p l.reader (reader.kind_of l.reader p)
   says_well given p l fits = (
     fits,
     λ kind.
         let o = given.plainly l.reader p kind in
         said_plainly (reader.hears answer_of after l.reader p).said (o.0, o.1, o.3),
   )
+
+  -- the frame of an exchange that the reader has acted on
+  heard_at : {at : Stage} {m : Link H} → (s : Restarted) × At fixed answer_of after settings s at m → AtSomeStage m
+  heard_at {at} {m} (s, h) = (s, at, h)
 
   reader_gets : Assumed → (at : Stage) (p : Packet) (l : Link H) → AtStage at l → FrontToReader at p l
       → IfSome (reader.hears answer_of after l.reader p).said ReplyFits
@@ -71,32 +87,29 @@ module _ (fixed : ControllerConfig) {H : Type 0} (answer_of : H → Command → 
   reader_gets given (Behind Start x) p l h (inl old) fits = absurd old
   reader_gets given (Behind Start Opening) p l h (inr (is, frames)) fits =
       subst (λ q. IfSome (reader.hears answer_of after l.reader q).said ReplyFits → AtSomeStage (link.reader_gets answer_of after q l)) (sym is)
-      (λ f. opens fixed answer_of after settings first l given.device (given.reads Opening 0 (omega arith)) h frames
+      (λ f. opens fixed answer_of after settings since l given.device (given.reads Opening 0 (omega arith)) h frames
       (says_well given (frame fixed Opening 0) l f)) fits
   reader_gets given (Behind Start Polling) p l h (inr (is, frames)) fits = absurd h.stage.1
   reader_gets given (Behind Start (Asking c)) p l h (inr (is, frames)) fits = absurd h.stage.1
-  reader_gets given (Behind (After n y b) x) p l h (inl old) fits = (
-    Behind (After n y b) x,
-    subst (λ q. AtStage (Behind (After n y b) x) (link.reader_gets answer_of after q l)) (sym old)
-        (again fixed answer_of after settings first (Behind (After n y b) x) n y b l given.device (given.reads Opening 0 (omega arith)) h h.reader h.stage.0
-        (λ q says. each_append (SaysOld fixed (After n y b)) l.to_controller (q ∷ []) h.to_controller (says, tt)) (λ r acted. acted)),
-  )
+  reader_gets given (Behind (After n y b) x) p l h (inl old) fits =
+      subst (λ q. AtSomeStage (link.reader_gets answer_of after q l)) (sym old)
+      (heard_at (heard_again fixed answer_of after settings since (Behind (After n y b) x) n y b l given.device (given.reads Opening 0 (omega arith)) h h.reader h.stage.0
+      (λ is. (shows_none fixed answer_of after settings y b is, refl))
+      (λ q says. each_append (SaysOld fixed since (After n y b)) l.to_controller (q ∷ []) h.to_controller (says, tt)) (λ s r knows. knows)))
   reader_gets given (Behind (After n y b) x) p l h (inr (is, frames)) fits =
       subst (λ q. IfSome (reader.hears answer_of after l.reader q).said ReplyFits → AtSomeStage (link.reader_gets answer_of after q l)) (sym is)
-      (λ f. advances fixed answer_of after settings first n y b x l given.device (given.reads x (next_sequence n) (asked_fits (After n y b) x h.stage.1)) h frames
+      (λ f. goes_on fixed answer_of after settings since n y b x l given.device (given.reads x (next_sequence n) (asked_fits (After n y b) x h.stage.1)) h frames
       (says_well given (frame fixed x (next_sequence n)) l f)) fits
-  reader_gets given (Level past x a) p l h is fits = (
-    Level past x a,
-    subst (λ q. AtStage (Level past x a) (link.reader_gets answer_of after q l)) (sym is)
-        (again fixed answer_of after settings first (Level past x a) (number_after past) x a l given.device (given.reads Opening 0 (omega arith)) h h.reader h.stage.2
-        (λ q says. runs_append (SaysOld fixed past) (Says fixed (number_after past) a) l.to_controller (q ∷ []) h.to_controller (says, tt)) (λ r acted. acted)),
-  )
-  reader_gets given (Rest n x a) p l h is fits = (
-    Rest n x a,
-    subst (λ q. AtStage (Rest n x a) (link.reader_gets answer_of after q l)) (sym is)
-        (again fixed answer_of after settings first (Rest n x a) n x a l given.device (given.reads Opening 0 (omega arith)) h h.reader h.stage
-        (λ q says. each_append (Says fixed n a) l.to_controller (q ∷ []) h.to_controller (says, tt)) (λ r acted. acted)),
-  )
+  reader_gets given (Level past x a) p l h is fits =
+      subst (λ q. AtSomeStage (link.reader_gets answer_of after q l)) (sym is)
+      (heard_at (heard_again fixed answer_of after settings since (Level past x a) (number_after past) x a l given.device (given.reads Opening 0 (omega arith)) h h.reader h.stage.2
+      (λ is. (refl, shows_none fixed answer_of after settings x a is))
+      (λ q says. runs_append (SaysOld fixed since past) (Says fixed since (number_after past) a) l.to_controller (q ∷ []) h.to_controller (says, tt)) (λ s r knows. knows)))
+  reader_gets given (Rest n x a) p l h is fits =
+      subst (λ q. AtSomeStage (link.reader_gets answer_of after q l)) (sym is)
+      (heard_at (heard_again fixed answer_of after settings since (Rest n x a) n x a l given.device (given.reads Opening 0 (omega arith)) h h.reader h.stage
+      (λ is. (shows_none fixed answer_of after settings x a is, refl))
+      (λ q says. each_append (Says fixed since n a) l.to_controller (q ∷ []) h.to_controller (says, tt)) (λ s r knows. knows)))
 
   -- the line without its front
   rest_to_reader : (at : Stage) (p : Packet) (ps : List Packet) → ToReaderAt fixed at (p ∷ ps) → ToReaderAt fixed at ps
@@ -120,27 +133,38 @@ module _ (fixed : ControllerConfig) {H : Type 0} (answer_of : H → Command → 
 
   losing_to_reader : (at : Stage) (p : Packet) (ps : List Packet) (l : Link H) → l.to_reader ≡ p ∷ ps → AtStage at l → AtStage at (record l { to_reader = ps })
   losing_to_reader at p ps l is h =
-      with_to_reader fixed answer_of after settings first at l ps h (rest_to_reader at p ps (subst (ToReaderAt fixed at) is h.to_reader))
+      with_to_reader fixed answer_of after settings since at l ps h (rest_to_reader at p ps (subst (ToReaderAt fixed at) is h.to_reader))
 
-  pub coming_to_reader : Assumed → (how : Delivery) (ps : List Packet) (l : Link H) → l.to_reader ≡ ps → AtSomeStage l
+  -- .. out of the middle too
+  less_to_reader : (place : ℕ) (at : Stage) (ps : List Packet) → ToReaderAt fixed at ps → ToReaderAt fixed at (lost_at place ps)
+  less_to_reader place Fresh ps line = ap (lost_at place) line
+  less_to_reader place (Behind past x) ps line = runs_lost (IsOldFrame fixed past) (IsFrame fixed x (number_after past)) place ps line
+  less_to_reader place (Level past x a) ps line = each_lost (IsFrame fixed x (number_after past)) place ps line
+  less_to_reader place (Rest n x a) ps line = each_lost (IsFrame fixed x n) place ps line
+
+  pub missing_to_reader : (place : ℕ) (at : Stage) (l : Link H) → AtStage at l → AtStage at (record l { to_reader = lost_at place l.to_reader })
+  missing_to_reader place at l h =
+      with_to_reader fixed answer_of after settings since at l (lost_at place l.to_reader) h (less_to_reader place at l.to_reader h.to_reader)
+
+  pub coming_to_reader : Assumed → (how : Delivery) (ps : List Packet) (l : Link H) → l.to_reader ≡ ps → (at : Stage) → AtStage at l
       → SaysWhatFitsIf answer_of after how ps l.reader → AtSomeStage (link.to_reader answer_of after ps how l)
-  coming_to_reader given how [] l is h fits = h
-  coming_to_reader given Delivered (p ∷ ps) l is (at, h) fits =
+  coming_to_reader given how [] l is at h fits = (since, at, h)
+  coming_to_reader given Delivered (p ∷ ps) l is at h fits =
       reader_gets given at p (record l { to_reader = ps }) (losing_to_reader at p ps l is h)
       (front_to_reader at p ps ps (record l { to_reader = ps }) refl (inl refl) (subst (ToReaderAt fixed at) is h.to_reader)) fits
-  coming_to_reader given Lost (p ∷ ps) l is (at, h) fits = (at, losing_to_reader at p ps l is h)
-  coming_to_reader given Repeated (p ∷ ps) l is (at, h) fits =
+  coming_to_reader given Lost (p ∷ ps) l is at h fits = (since, at, losing_to_reader at p ps l is h)
+  coming_to_reader given Repeated (p ∷ ps) l is at h fits =
       reader_gets given at p l h (front_to_reader at p ps (p ∷ ps) l is (inr refl) (subst (ToReaderAt fixed at) is h.to_reader)) fits
 
   -- a packet in front of the line to the controller
   abbrev FrontToController : Stage → Packet → Link H → Type 0
   FrontToController Fresh p l = ⊥
-  FrontToController (Behind past x) p l = SaysOld fixed past p
+  FrontToController (Behind past x) p l = SaysOld fixed since past p
   FrontToController (Level past x a) p l =
-      SaysOld fixed past p ⊎ (Says fixed (number_after past) a p × Each (Says fixed (number_after past) a) l.to_controller)
-  FrontToController (Rest n x a) p l = Says fixed n a p
+      SaysOld fixed since past p ⊎ (Says fixed since (number_after past) a p × Each (Says fixed since (number_after past) a) l.to_controller)
+  FrontToController (Rest n x a) p l = Says fixed since n a p
 
-  -- what an answer of the exchange before, or BUSY, is to the current one
+  -- what an answer of the exchange before, or BUSY, or a refused number, is to the current one
   busy_is : Assumed → (p : Packet) → p ≡ answer fixed 0 reply.Busy → packets.meaning_of p ≡ NotTaken
   busy_is given p is = ap packets.meaning_of is ∙ given.hears 0 reply.Busy tt
 
@@ -148,30 +172,48 @@ module _ (fixed : ControllerConfig) {H : Type 0} (answer_of : H → Command → 
       → packets.meaning_of p ≡ Plain a
   plain_is given n x a p acted is = ap packets.meaning_of is ∙ given.hears n a acted.0.fits ∙ given.plain a acted.0.plain
 
-  old_is : Assumed → (past : Past) (p : Packet) → IsPast settings.id past → SaysOld fixed past p
-      → (packets.meaning_of p ≡ NotTaken) ⊎ ((p.sequence ≢ number_after past) × ((r : Reply) × (packets.meaning_of p ≡ Plain r)))
-  old_is given Start p acted is = inl (busy_is given p is)
-  old_is given (After n y b) p acted (inl busy) = inl (busy_is given p busy)
-  old_is given (After n y b) p acted (inr is) =
-      inr ((λ same. next_differs n (sym same ∙ ap (λ q. q.sequence) is)), (b, plain_is given n y b p acted is))
+  refused_is : Assumed → (p : Packet) → Refuses fixed since p → packets.meaning_of p ≡ NumberRefused
+  refused_is given p (may, (n, is)) = ap packets.meaning_of is ∙ given.hears n (refused UnexpectedSequence) refusal_fits
+
+  -- .. to a session with this exchange: nothing is settled
+  abbrev IsIgnored : ℕ → Exchange → ℕ → Packet → Session → Type 0
+  IsIgnored n x now p s = Ignored fixed n x (given_up s.state x) (controller.hears p now s)
+
+  old_is : Assumed → (past : Past) (p : Packet) (now : ℕ) (x : Exchange) (s : Session) → IsPast settings.id past → SaysOld fixed since past p
+      → Asks fixed s.state (number_after past) x s → IsIgnored (number_after past) x now p s
+  old_is given Start p now x s acted is asks = hears_other fixed p now 0 x s (inl (busy_is given p is)) asks
+  old_is given (After n y b) p now x s acted (inl busy) asks = hears_other fixed p now (next_sequence n) x s (inl (busy_is given p busy)) asks
+  old_is given (After n y b) p now x s acted (inr (inl is)) asks =
+      hears_other fixed p now (next_sequence n) x s
+      (inr ((λ same. next_differs n (sym same ∙ ap (λ q. q.sequence) is)), (b, plain_is given n y b p acted is))) asks
+  old_is given (After n y b) p now x s acted (inr (inr refused)) asks =
+      hears_refused fixed p now (next_sequence n) x s (refused_is given p refused) asks
 
   -- .. and what stands anywhere on the line
-  said : Assumed → (n : ℕ) (x : Exchange) (a : Reply) → Acted settings.id n x a → (p : Packet) → Says fixed n a p → IsPlainlySaid p
-  said given n x a acted p (inl busy) = inl (busy_is given p busy)
-  said given n x a acted p (inr is) = inr (a, plain_is given n x a p acted is)
+  module _ (P : Packet → Type 0) (plainly : (p : Packet) → IsPlainlySaid p → P p) (refusing : (p : Packet) → MayRefuse since → packets.meaning_of p ≡ NumberRefused → P p) where
+    said : Assumed → (n : ℕ) (x : Exchange) (a : Reply) → Acted settings.id n x a → (p : Packet) → Says fixed since n a p → P p
+    said given n x a acted p (inl busy) = plainly p (inl (busy_is given p busy))
+    said given n x a acted p (inr (inl is)) = plainly p (inr (a, plain_is given n x a p acted is))
+    said given n x a acted p (inr (inr refuses)) = refusing p refuses.0 (refused_is given p refuses)
 
-  said_before : Assumed → (past : Past) → IsPast settings.id past → (p : Packet) → SaysOld fixed past p → IsPlainlySaid p
-  said_before given Start acted p is = inl (busy_is given p is)
-  said_before given (After n y b) acted p is = said given n y b acted p is
+    said_before : Assumed → (past : Past) → IsPast settings.id past → (p : Packet) → SaysOld fixed since past p → P p
+    said_before given Start acted p is = plainly p (inl (busy_is given p is))
+    said_before given (After n y b) acted p is = said given n y b acted p is
 
-  pub all_said : Assumed → (at : Stage) (l : Link H) → AtStage at l → Each IsPlainlySaid l.to_controller
-  all_said given Fresh l h = subst (Each IsPlainlySaid) (sym h.to_controller) tt
-  all_said given (Behind past x) l h =
-      each_map (SaysOld fixed past) IsPlainlySaid (said_before given past h.stage.0) l.to_controller h.to_controller
-  all_said given (Level past x a) l h =
-      runs_each (SaysOld fixed past) (Says fixed (number_after past) a) IsPlainlySaid (said_before given past h.stage.0)
-      (said given (number_after past) x a h.stage.2) l.to_controller h.to_controller
-  all_said given (Rest n x a) l h = each_map (Says fixed n a) IsPlainlySaid (said given n x a h.stage) l.to_controller h.to_controller
+    all_so : Assumed → (at : Stage) (l : Link H) → AtStage at l → Each P l.to_controller
+    all_so given Fresh l h = subst (Each P) (sym h.to_controller) tt
+    all_so given (Behind past x) l h = each_map (SaysOld fixed since past) P (said_before given past h.stage.0) l.to_controller h.to_controller
+    all_so given (Level past x a) l h =
+        runs_each (SaysOld fixed since past) (Says fixed since (number_after past) a) P (said_before given past h.stage.0)
+        (said given (number_after past) x a h.stage.2) l.to_controller h.to_controller
+    all_so given (Rest n x a) l h = each_map (Says fixed since n a) P (said given n x a h.stage) l.to_controller h.to_controller
+
+  -- where the reader hasn't restarted all is said plainly; else a number may be refused too
+  pub all_said : Assumed → (MayRefuse since → ⊥) → (at : Stage) (l : Link H) → AtStage at l → Each IsPlainlySaid l.to_controller
+  all_said given never at l h = all_so IsPlainlySaid (λ p is. is) (λ p may refuses. absurd (never may)) given at l h
+
+  pub all_read : Assumed → (at : Stage) (l : Link H) → AtStage at l → Each IsRead l.to_controller
+  all_read given at l h = all_so IsRead (λ p is. inl is) (λ p may refuses. inr refuses) given at l h
 
   -- a packet that settles nothing
   passed_over : (at : Stage) (now : ℕ) (p : Packet) (l : Link H) → let heard = controller.hears p now l.controller.session in
@@ -180,40 +222,51 @@ module _ (fixed : ControllerConfig) {H : Type 0} (answer_of : H → Command → 
   passed_over at now p l says stands h =
       let s = (controller.hears p now l.controller.session).session in
       subst (λ a. AtStage at (record l { controller = record l.controller { session = s }; account = a })) (sym says)
-      (with_session fixed answer_of after settings first at l s h stands)
+      (with_session fixed answer_of after settings since at l s h stands)
 
   -- the answer comes
+  settled_told : (x : Exchange) (a : Reply) (events : List Event) (t : Account) → EventsAre since [] events t → t.offered ≡ t.reported ++ shown x a
+      → EventsAre since (shown x a) events (settled_by fixed x a t)
+  settled_told Opening a events t told offered = told
+  settled_told Polling a events t told offered =
+      let u = record t { reported = t.reported ++ option_to_list (event_in a) } in
+      events_moved since [] (option_to_list (event_in a)) events t u refl refl refl (polled_past since) told
+    where
+      polled_past : (s : Restarted) (past : List Event) → PastIs s past [] t
+          → PastIs s past (option_to_list (event_in a)) (record t { reported = t.reported ++ option_to_list (event_in a) })
+      polled_past Never past is = ap (λ l. l ++ option_to_list (event_in a)) is ∙ ap (λ l. l ++ option_to_list (event_in a)) (append-nil past)
+      polled_past Before past is = ap (λ l. l ++ option_to_list (event_in a)) is ∙ ap (λ l. l ++ option_to_list (event_in a)) (append-nil past)
+      polled_past Now past is = is
+  settled_told (Asking c) a events t told offered =
+      let u = record t { settled = t.settled ++ (c, a) ∷ [] } in
+      events_same since [] events t u refl refl refl (λ past. past_same since [] past t u refl refl) told
+
   settled_account : (x : Exchange) (a : Reply) (waiting : List Command) (events : List Event) (t : Account)
-      → Accounts fixed answer_of after settings first [] (owed x a) [] [] (shown x a) waiting events t
-      → Accounts fixed answer_of after settings first [] [] [] (shown x a) [] waiting events (settled_by fixed x a t)
+      → Accounts fixed answer_of after settings since [] (owed x a) [] [] (shown x a) waiting events t
+      → Accounts fixed answer_of after settings since [] [] [] (shown x a) [] waiting events (settled_by fixed x a t)
   settled_account Opening a waiting events t is = is
   settled_account Polling a waiting events t is = record {
     issued = is.issued;
+    answered = is.answered;
     settled = is.settled;
     unsettled = is.unsettled;
-    told = (
-      is.told.0,
-      is.told.1,
-      ap (λ l. l ++ option_to_list (event_in a)) is.told.2 ∙ ap (λ l. l ++ option_to_list (event_in a)) (append-nil is.told.0),
-    );
+    told = settled_told Polling a events t is.told is.offered;
     offered = is.offered ∙ sym (append-nil (t.reported ++ option_to_list (event_in a)));
+    restarts = is.restarts;
   }
   settled_account (Asking c) a waiting events t is = record {
     issued = is.issued;
+    answered = is.answered;
     settled = append-nil (t.settled ++ (c, a) ∷ []) ∙ is.settled;
     unsettled = is.unsettled;
-    told = is.told;
+    told = settled_told (Asking c) a events t is.told is.offered;
     offered = is.offered;
+    restarts = is.restarts;
   }
-
-  settles_no_taking : (x : Exchange) (a : Reply) (t : Account) → (settled_by fixed x a t).taken ≡ t.taken
-  settles_no_taking Opening a t = refl
-  settles_no_taking Polling a t = refl
-  settles_no_taking (Asking c) a t = refl
 
   settles : (past : Past) (x : Exchange) (a : Reply) (now : ℕ) (p : Packet) (l : Link H) → given_up l.controller.session.state x ≡ [] → AtStage (Level past x a) l
       → Settles fixed (number_after past) x a (controller.hears p now l.controller.session)
-      → Each (Says fixed (number_after past) a) l.to_controller
+      → Each (Says fixed since (number_after past) a) l.to_controller
       → AtStage (Rest (number_after past) x a) (link.controller_gets p now l)
   settles past x a now p l none h (settled, rests) line =
       subst (λ t. AtStage (Rest (number_after past) x a) (record l {
@@ -224,66 +277,83 @@ module _ (fixed : ControllerConfig) {H : Type 0} (answer_of : H → Command → 
         controller = rests;
         waiting = h.waiting;
         reader = h.reader;
-        answering = subst (λ cs. Answering fixed answer_of after settings first cs l.reader.config l.reader.handler) (sym (settles_no_taking x a l.account)) h.answering;
+        answering = h.answering;
         to_reader = h.to_reader;
         to_controller = line;
         account = settled_account x a l.controller.waiting l.reader.queue.events l.account
-            (subst (λ lost. Accounts fixed answer_of after settings first [] (owed x a) lost [] (shown x a) l.controller.waiting l.reader.queue.events l.account) none h.account);
+            (subst (λ lost. Accounts fixed answer_of after settings since [] (owed x a) lost [] (shown x a) l.controller.waiting l.reader.queue.events l.account) none h.account);
       })
 
+  abbrev Stays : Link H → Type 0
+  Stays l = (at : Stage) × AtStage at l
+
   controller_gets : Assumed → (at : Stage) (now : ℕ) (p : Packet) (l : Link H) → AtStage at l → FrontToController at p l
-      → AtSomeStage (link.controller_gets p now l)
+      → Stays (link.controller_gets p now l)
   controller_gets given Fresh now p l h front = absurd front
   controller_gets given (Behind past x) now p l h old =
-      let i = hears_other fixed p now (number_after past) x l.controller.session (old_is given past p h.stage.0 old) h.controller in
+      let i = old_is given past p now x l.controller.session h.stage.0 old h.controller in
       (Behind past x, passed_over (Behind past x) now p l (i.0 l.account h.account.unsettled) i.1 h)
   controller_gets given (Level past x a) now p l h (inl old) =
-      let i = hears_other fixed p now (number_after past) x l.controller.session (old_is given past p h.stage.0 old) h.controller in
+      let i = old_is given past p now x l.controller.session h.stage.0 old h.controller in
       (Level past x a, passed_over (Level past x a) now p l (i.0 l.account h.account.unsettled) i.1 h)
   controller_gets given (Level past x a) now p l h (inr (inl busy, line)) =
       let i = hears_other fixed p now (number_after past) x l.controller.session (inl (busy_is given p busy)) h.controller in
       (Level past x a, passed_over (Level past x a) now p l (i.0 l.account h.account.unsettled) i.1 h)
-  controller_gets given (Level past x a) now p l h (inr (inr is, line)) =
+  controller_gets given (Level past x a) now p l h (inr (inr (inl is), line)) =
       elim (hears_answer fixed settings.id p now (number_after past) x a l.controller.session
       (plain_is given (number_after past) x a p h.stage.2 is) h.stage.2.1 h.controller) [
         | inl i ↦ (Level past x a, passed_over (Level past x a) now p l (i.0 l.account h.account.unsettled) i.1 h)
         | inr (none, settled) ↦ (Rest (number_after past) x a, settles past x a now p l none h settled line)
       ]
+  controller_gets given (Level past x a) now p l h (inr (inr (inr refused), line)) =
+      let i = hears_refused fixed p now (number_after past) x l.controller.session (refused_is given p refused) h.controller in
+      (Level past x a, passed_over (Level past x a) now p l (i.0 l.account h.account.unsettled) i.1 h)
   controller_gets given (Rest n x a) now p l h front =
       let heard = hears_resting fixed p now n l.controller.session h.controller in
       let says = ap (λ o. told o l.account) heard.0 ∙ ap (λ (cs : List Command). record l.account { unsettled = cs }) h.account.unsettled in
       (Rest n x a, passed_over (Rest n x a) now p l says heard.1 h)
 
-  rest_to_controller : (at : Stage) (p : Packet) (ps : List Packet) → ToControllerAt fixed at (p ∷ ps) → ToControllerAt fixed at ps
+  rest_to_controller : (at : Stage) (p : Packet) (ps : List Packet) → ToControllerAt fixed since at (p ∷ ps) → ToControllerAt fixed since at ps
   rest_to_controller Fresh p ps line = absurd cc
   rest_to_controller (Behind past x) p ps line = line.1
   rest_to_controller (Level past x a) p ps (inl old) = old.1
-  rest_to_controller (Level past x a) p ps (inr new) = runs_last (SaysOld fixed past) (Says fixed (number_after past) a) ps new.1
+  rest_to_controller (Level past x a) p ps (inr new) = runs_last (SaysOld fixed since past) (Says fixed since (number_after past) a) ps new.1
   rest_to_controller (Rest n x a) p ps line = line.1
 
   front_to_controller : (at : Stage) (p : Packet) (ps qs : List Packet) (l : Link H) → l.to_controller ≡ qs → (qs ≡ ps) ⊎ (qs ≡ p ∷ ps)
-      → ToControllerAt fixed at (p ∷ ps) → FrontToController at p l
+      → ToControllerAt fixed since at (p ∷ ps) → FrontToController at p l
   front_to_controller Fresh p ps qs l is which line = absurd cc
   front_to_controller (Behind past x) p ps qs l is which line = line.0
   front_to_controller (Level past x a) p ps qs l is which (inl old) = inl old.0
   front_to_controller (Level past x a) p ps qs l is (inl gone) (inr new) =
-      inr (new.0, subst (Each (Says fixed (number_after past) a)) (sym (is ∙ gone)) new.1)
+      inr (new.0, subst (Each (Says fixed since (number_after past) a)) (sym (is ∙ gone)) new.1)
   front_to_controller (Level past x a) p ps qs l is (inr kept) (inr new) =
-      inr (new.0, subst (Each (Says fixed (number_after past) a)) (sym (is ∙ kept)) new)
+      inr (new.0, subst (Each (Says fixed since (number_after past) a)) (sym (is ∙ kept)) new)
   front_to_controller (Rest n x a) p ps qs l is which line = line.0
 
   losing_to_controller : (at : Stage) (p : Packet) (ps : List Packet) (l : Link H) → l.to_controller ≡ p ∷ ps → AtStage at l
       → AtStage at (record l { to_controller = ps })
   losing_to_controller at p ps l is h =
-      with_to_controller fixed answer_of after settings first at l ps h
-      (rest_to_controller at p ps (subst (ToControllerAt fixed at) is h.to_controller))
+      with_to_controller fixed answer_of after settings since at l ps h
+      (rest_to_controller at p ps (subst (ToControllerAt fixed since at) is h.to_controller))
 
-  pub coming_to_controller : Assumed → (how : Delivery) (now : ℕ) (ps : List Packet) (l : Link H) → l.to_controller ≡ ps → AtSomeStage l
-      → AtSomeStage (link.to_controller ps how now l)
-  coming_to_controller given how now [] l is h = h
-  coming_to_controller given Delivered now (p ∷ ps) l is (at, h) =
+  -- .. out of the middle too
+  less_to_controller : (place : ℕ) (at : Stage) (ps : List Packet) → ToControllerAt fixed since at ps → ToControllerAt fixed since at (lost_at place ps)
+  less_to_controller place Fresh ps line = ap (lost_at place) line
+  less_to_controller place (Behind past x) ps line = each_lost (SaysOld fixed since past) place ps line
+  less_to_controller place (Level past x a) ps line = runs_lost (SaysOld fixed since past) (Says fixed since (number_after past) a) place ps line
+  less_to_controller place (Rest n x a) ps line = each_lost (Says fixed since n a) place ps line
+
+  pub missing_to_controller : (place : ℕ) (at : Stage) (l : Link H) → AtStage at l → AtStage at (record l { to_controller = lost_at place l.to_controller })
+  missing_to_controller place at l h =
+      with_to_controller fixed answer_of after settings since at l (lost_at place l.to_controller) h (less_to_controller place at l.to_controller h.to_controller)
+
+  pub coming_to_controller : Assumed → (how : Delivery) (now : ℕ) (ps : List Packet) (l : Link H) → l.to_controller ≡ ps → (at : Stage) → AtStage at l
+      → Stays (link.to_controller ps how now l)
+  coming_to_controller given how now [] l is at h = (at, h)
+  coming_to_controller given Delivered now (p ∷ ps) l is at h =
       controller_gets given at now p (record l { to_controller = ps }) (losing_to_controller at p ps l is h)
-      (front_to_controller at p ps ps (record l { to_controller = ps }) refl (inl refl) (subst (ToControllerAt fixed at) is h.to_controller))
-  coming_to_controller given Lost now (p ∷ ps) l is (at, h) = (at, losing_to_controller at p ps l is h)
-  coming_to_controller given Repeated now (p ∷ ps) l is (at, h) =
-      controller_gets given at now p l h (front_to_controller at p ps (p ∷ ps) l is (inr refl) (subst (ToControllerAt fixed at) is h.to_controller))
+      (front_to_controller at p ps ps (record l { to_controller = ps }) refl (inl refl) (subst (ToControllerAt fixed since at) is h.to_controller))
+  coming_to_controller given Lost now (p ∷ ps) l is at h = (at, losing_to_controller at p ps l is h)
+  coming_to_controller given Repeated now (p ∷ ps) l is at h =
+      controller_gets given at now p l h (front_to_controller at p ps (p ∷ ps) l is (inr refl) (subst (ToControllerAt fixed since at) is h.to_controller))

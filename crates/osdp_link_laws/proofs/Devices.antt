@@ -1,5 +1,7 @@
 -- A controller stays at a device's address: a COMSET moves it to such a one alone.
-use Rattle.std.proofs.Common.{◌<◌, ℕ, List, max, Option}
+use Rattle.std.proofs.Common.{◌≡◌, ◌<◌, ℕ, List, max, cond, Option, Some, None, sym, ap, ◌∙◌, inl, inr}
+use Rattle.std.proofs.lemmas.Bool.{le-ltb}
+use Rattle.std.proofs.lemmas.Bool.Decides.{leb_tells}
 use Rattle.osdp_frame.specs.Packet.{Packet}
 use Rattle.osdp_msg.specs.declared.command.Command.{Command}
 use Rattle.osdp_controller.specs.Hearing.{hears}
@@ -8,11 +10,15 @@ use Rattle.osdp_controller.specs.Ticking.{ticks_in}
 use Rattle.osdp_controller.specs.declared.config.ControllerConfig.{ControllerConfig}
 use Rattle.osdp_controller.specs.declared.report.Report.{Report}
 use Rattle.osdp_controller.specs.declared.session.Session.{Session}
+use Rattle.osdp_controller.specs.Machine.{or_no_device, refused_unless_closed}
+use Rattle.osdp_controller.specs.declared.fault.ControllerFault.TheVariants.{OutOfRange}
 use Rattle.osdp_controller.specs.declared.state.State.{State}
+use Rattle.osdp_controller.specs.declared.state.State.TheVariants.{Closed}
 use Rattle.osdp_controller_laws.proofs.Kept.{HoldsOfKept, frame_keeps, tick_keeps}
 use Rattle.osdp_reader.specs.declared.handler.Answer.{Answer as HandlerAnswer}
+use Rattle.osdp_link_laws.specs.Headline.{MoveFits}
 use Rattle.osdp_link_laws.specs.Link.{Link, Move, after_move}
-use Rattle.osdp_link_laws.proofs.Controllers.{IsKept, move_keeps}
+use Rattle.osdp_link_laws.proofs.Controllers.{IsKept, IsKeptOutside, move_keeps}
 
 abbrev pub AtDevice : Session → Type 0
 AtDevice s = s.config.address < 127
@@ -35,9 +41,24 @@ stays_there = record {
   frame = λ p now m is. hears_there p now m.session is;
 }
 
+target_device : (state : State) (address : ℕ) → or_no_device (refused_unless_closed state) address ≡ None → address < 127
+target_device Closed address may =
+    elim (leb_tells 127 address) [
+      | inl far ↦ absurd (let e = sym (ap (λ b. cond b None (Some OutOfRange)) (le-ltb address 127 far.1)) ∙ may in cc)
+      | inr near ↦ near.1
+    ]
+target_device state address may = absurd cc
+
+outside : IsKeptOutside AtDevice
+outside = record {
+  begin = λ now m may is. is;
+  target = λ address m may is. target_device m.session.state address may;
+  restart = λ config room settings. settings.config_in_range.address;
+}
+
 module _ {H : Type 0} (answer_of : H → Command → HandlerAnswer) (after : H → Command → H) where
   abbrev pub IsDevice : Link H → Type 0
   IsDevice l = AtDevice l.controller.session
 
-  pub move_there : (move : Move) (l : Link H) → IsDevice l → IsDevice (after_move answer_of after move l)
-  move_there move l is = move_keeps answer_of after AtDevice stays_there (λ now m may is. is) move l is
+  pub move_there : (move : Move H) (l : Link H) → MoveFits answer_of after move l → IsDevice l → IsDevice (after_move answer_of after move l)
+  move_there move l fits is = move_keeps answer_of after AtDevice stays_there outside move l fits is

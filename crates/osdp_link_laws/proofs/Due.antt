@@ -1,7 +1,6 @@
 -- A tick that is due: the frame of an exchange goes out, or the session ends.
-use Rattle.std.proofs.Common.{◌≡◌, ◌⊎◌, ℕ, ◌+◌, true, false, leb, ltb, List, [], ◌∷◌, Option, Some, None, drop, refl, sym, ap, subst, ◌∙◌, inl, inr}
-use Rattle.std.specs.Prelude.{◌||◌, is_some}
-use Rattle.osdp_frame.specs.Packet.{Packet, next_sequence}
+use Rattle.std.proofs.Common.{◌≡◌, ◌⊎◌, ℕ, ◌+◌, true, leb, ltb, List, [], ◌∷◌, Some, None, drop, refl, ap, subst, inl, inr}
+use Rattle.osdp_frame.specs.Packet.{next_sequence}
 use Rattle.osdp_msg.specs.declared.command.Command.{Command}
 use Rattle.osdp_controller.specs.Machine.{acts}
 use Rattle.osdp_controller.specs.Sessions.{frame_of, later, seen}
@@ -9,7 +8,6 @@ use Rattle.osdp_controller.specs.Ticking.{Ticked, begins, gives_up, sends_frame,
 use Rattle.osdp_controller.specs.declared.exchange.Exchange.{Exchange}
 use Rattle.osdp_controller.specs.declared.exchange.Exchange.TheVariants.{Opening, Polling, Asking}
 use Rattle.osdp_controller.specs.declared.exchange.Outstanding.{Outstanding}
-use Rattle.osdp_controller.specs.declared.report.Report.{Report}
 use Rattle.osdp_controller.specs.declared.session.Session.{Session}
 use Rattle.osdp_controller.specs.declared.state.State.{State}
 use Rattle.osdp_controller.specs.declared.state.State.TheVariants.{Closed, Quiet, Idle, Waiting, Pausing}

@@ -1,6 +1,6 @@
 -- Each session ends once at most, and the next begins only then.
 use Rattle.std.proofs.Common.{◌≡◌, ◌+◌, ℕ, Bool, true, false, ◌==◌, arith, List, [], ◌∷◌, ◌++◌, length, Option, Some, None, refl, ap}
-use Rattle.std.specs.Prelude.{◌||◌, option_to_list}
+use Rattle.std.specs.Prelude.{◌||◌, not, option_to_list}
 use Rattle.osdp_frame.specs.Packet.{Packet}
 use Rattle.osdp_msg.specs.declared.command.Command.{Command}
 use Rattle.osdp_msg.specs.declared.event.Event.{Event}
@@ -15,9 +15,9 @@ use Rattle.osdp_controller.specs.declared.session.Session.{Session}
 use Rattle.osdp_controller_laws.specs.Commands.{TellsEnds, tells_end}
 use Rattle.osdp_controller_laws.proofs.Closed.{silent_frame, silent_tick, was_closed}
 use Rattle.osdp_reader.specs.declared.handler.Answer.{Answer as HandlerAnswer}
-use Rattle.osdp_link_laws.specs.Ends.{EndOnce, count, ends_in, lasting}
+use Rattle.osdp_link_laws.specs.Ends.{EndOnce, count, ends_in, lasting, untold, untold_by}
 use Rattle.osdp_link_laws.specs.Link as link
-use Rattle.osdp_link_laws.specs.Link.{Delivered, Delivery, Link, Lost, Move, Queue as QueueEvent, Reopen, Repeated, SetBusy, Submit, Tick, ToController, ToReader, after_move, run}
+use Rattle.osdp_link_laws.specs.Link.{Delivered, Delivery, Link, Lost, Move, Queue as QueueEvent, Reopen, Repeated, RestartController, RestartReader, Retarget, SetBusy, SetHandler, Submit, Tick, ToController, ToReader, Withdraw, after_move, run, LoseToReader, LoseToController}
 use Rattle.osdp_link_laws.specs.Refusals.{reports, told_by, told_by_front}
 
 -- a session that lasted lasts on, or its end is told
@@ -77,7 +77,16 @@ module _ {H : Type 0} (answer_of : H → Command → HandlerAnswer) (after : H �
         let closed : lasting (is_closed l.controller.session.state) ≡ 0 = ap (λ s. lasting (is_closed s)) (was_closed l.controller.session.state is) in
         omega (arith, closed)
 
-    counts : (move : Move) (l : Link H) → Counts (count (tells_end (told_by move l))) l (after_move answer_of after move l)
+    retargeting : (refusal : Option ControllerFault) (address : ℕ) (l : Link H) → Counts 0 l (link.retargets refusal address l)
+    retargeting (Some fault) address l = omega arith
+    retargeting None address l = omega arith
+
+    -- a session that lasted has ended
+    restarting : (closed : Bool) → count (not closed) ≡ lasting closed
+    restarting true = refl
+    restarting false = refl
+
+    counts : (move : Move H) (l : Link H) → Counts (count (tells_end (told_by move l)) + untold_by move l) l (after_move answer_of after move l)
     counts (Submit c) l = submitting (controllers.submit_refusal c l.controller) c l
     counts (QueueEvent e) l = queueing (length l.reader.queue.events == l.reader.queue.capacity) e l
     counts (SetBusy busy) l = omega arith
@@ -88,10 +97,17 @@ module _ {H : Type 0} (answer_of : H → Command → HandlerAnswer) (after : H �
         (silent_tick s.state (seen now s) l.controller.waiting) in
         omega (arith, less)
     counts (ToReader how) l = to_reader l.to_reader how l
-    counts (ToController how now) l = to_controller l.to_controller how now l
+    counts (ToController how now) l = omega (arith, to_controller l.to_controller how now l)
     counts (Reopen now) l = reopening (controllers.begin_refusal l.controller) l.to_reader l.to_controller now l refl
+    counts (LoseToReader place) l = omega arith
+    counts (LoseToController place) l = omega arith
+    counts (SetHandler handler) l = omega arith
+    counts Withdraw l = omega arith
+    counts (Retarget address) l = retargeting (controllers.retarget_refusal address l.controller) address l
+    counts (RestartReader address handler room) l = omega arith
+    counts (RestartController config room) l = omega (arith, restarting (is_closed l.controller.session.state))
 
-    counts_all : (moves : List Move) (l : Link H) → Counts (ends_in (reports answer_of after moves l)) l (run answer_of after moves l)
+    counts_all : (moves : List (Move H)) (l : Link H) → Counts (ends_in (reports answer_of after moves l) + untold answer_of after moves l) l (run answer_of after moves l)
     counts_all [] l = omega arith
     counts_all (move ∷ moves) l =
         let next = after_move answer_of after move l in

@@ -41,7 +41,8 @@ use Rattle.osdp_link_laws.proofs.Moves.{Premises}
 use Rattle.osdp_link_laws.proofs.Parts.{At}
 use Rattle.osdp_link_laws.proofs.Round.{IsStill, answered_link, at_tick, come_through, delivered, goes}
 use Rattle.osdp_link_laws.proofs.Settling.{MovesNone, report_of, settles_now}
-use Rattle.osdp_link_laws.proofs.Stages.{After, Each, IsAsked, IsOpen, Rest, answer, frame}
+use Rattle.osdp_link_laws.proofs.Since.{Hears, has_acted}
+use Rattle.osdp_link_laws.proofs.Stages.{After, Each, IsAsked, IsOpen, Rest, Restarted, answer, frame}
 
 -- where a controller at rest acts, the exchange that is next begins
 pub begins_next : (due : ℕ) (s : Session) (waiting : List Command) → Acts (ticks_in (Idle due) s waiting)
@@ -63,17 +64,18 @@ module _ {H : Type 0} (answer_of : H → Command → Answer) (after : H → Comm
   abbrev pub accounted : List Command → List Event → ReaderState H → Account → Account
   accounted (c ∷ waiting) events r t = record t {
     taken = t.taken ++ c ∷ [];
+    given = t.given ++ (c, (answer_to answer_of after r.config r.handler c).reply) ∷ [];
     settled = t.settled ++ (c, (answer_to answer_of after r.config r.handler c).reply) ∷ [];
   }
   accounted [] (e ∷ events) r t = record t { offered = t.offered ++ e ∷ []; reported = t.reported ++ e ∷ [] }
   accounted [] [] r t = t
 
-module _ (fixed : ControllerConfig) {H : Type 0} (answer_of : H → Command → Answer) (after : H → Command → H) (settings : ReaderConfig) (first : H) where
+module _ (fixed : ControllerConfig) {H : Type 0} (answer_of : H → Command → Answer) (after : H → Command → H) (settings : ReaderConfig) where
   abbrev Given : Type 0
-  Given = Premises fixed answer_of after settings first
+  Given = Premises fixed answer_of after settings
 
   abbrev Still : Link H → Type 0
-  Still l = IsStill fixed answer_of after settings first l
+  Still l = IsStill fixed answer_of after settings l
 
   -- ---- the exchange begins, and both packets come through
 
@@ -82,7 +84,7 @@ module _ (fixed : ControllerConfig) {H : Type 0} (answer_of : H → Command → 
   begun_link now x n rest l = link.ticked (begins x n (seen now l.controller.session) rest) l
 
   abbrev ended_link : ℕ → Exchange → ℕ → Reply → List Command → Link H → Link H
-  ended_link now x n a rest l = answered_link fixed answer_of after settings first now (frame fixed x n) x a (begun_link now x n rest l)
+  ended_link now x n a rest l = answered_link fixed answer_of after settings now (frame fixed x n) x a (begun_link now x n rest l)
 
   begun_line : (now : ℕ) (x : Exchange) (n : ℕ) (rest : List Command) (l : Link H) → Still l → l.controller.session.config ≡ fixed
       → (begun_link now x n rest l).to_reader ≡ frame fixed x n ∷ []
@@ -92,7 +94,7 @@ module _ (fixed : ControllerConfig) {H : Type 0} (answer_of : H → Command → 
 
   whole : Given → (now : ℕ) (x : Exchange) (n : ℕ) (a : Reply) (rest : List Command) (l : Link H) → Still l → l.controller.session.config ≡ fixed
       → MovesNone x → ticks now l.controller.session l.controller.waiting ≡ begins x n (seen now l.controller.session) rest
-      → Replies fixed answer_of after settings first x n l.reader a → goes answer_of after now l ≡ ended_link now x n a rest l
+      → Replies fixed answer_of after settings x n l.reader a → goes answer_of after now l ≡ ended_link now x n a rest l
   whole given now x n a rest l still config none starts replies =
       let m = begun_link now x n rest l in
       let s = record (seen now l.controller.session) { number = n } in
@@ -100,12 +102,12 @@ module _ (fixed : ControllerConfig) {H : Type 0} (answer_of : H → Command → 
       let settles = settles_now fixed settings.id x n a now m.controller.session (later s.config.reply_wait s, 1, record { exchange = x; busies = 0; sent = 1 }, refl, refl)
       (config, refl) none replies.acted.1 says in
       ap (λ t. delivered answer_of after now (link.ticked t l)) starts
-      ∙ come_through fixed answer_of after settings first now x n a m (begun_line now x n rest l still config) still.to_controller replies.sent settles
+      ∙ come_through fixed answer_of after settings now x n a m (begun_line now x n rest l still config) still.to_controller replies.sent settles
 
   -- what the reader says fits, where what it says to the frame on the line does
   fits_there : (now : ℕ) (x : Exchange) (n : ℕ) (rest : List Command) (l : Link H) → Still l → l.controller.session.config ≡ fixed
       → ticks now l.controller.session l.controller.waiting ≡ begins x n (seen now l.controller.session) rest
-      → SaysWhatFits answer_of after (at_tick now l).to_reader l.reader → SaysFit fixed answer_of after settings first (frame fixed x n) l.reader
+      → SaysWhatFits answer_of after (at_tick now l).to_reader l.reader → SaysFit fixed answer_of after settings (frame fixed x n) l.reader
   fits_there now x n rest l still config starts fits =
       subst (λ ps. SaysWhatFits answer_of after ps l.reader)
       (ap (λ t. (link.ticked t l).to_reader) starts ∙ begun_line now x n rest l still config) fits
@@ -117,7 +119,7 @@ module _ (fixed : ControllerConfig) {H : Type 0} (answer_of : H → Command → 
     reader = o.reader;
     to_reader = [];
     to_controller = [];
-    account = told (report_of x a) (link.taken kind o.command (link.front_of l.reader) l.account);
+    account = told (report_of x a) (link.taken kind o.command o.said (link.front_of l.reader) l.account);
   }
 
   -- ---- the opening
@@ -148,7 +150,7 @@ module _ (fixed : ControllerConfig) {H : Type 0} (answer_of : H → Command → 
       let starts = opens_at until now l.controller.session w is reached in
       let said = fits_there now Opening 0 w l still config starts fits in
       let kind : kind_of r p ≡ Zero = kind_zero fixed r Opening still.ready.here ∙ ap (λ b. cond b Busy Zero) still.ready.ready in
-      let replies = opening fixed answer_of after settings first given r still.ready id said in
+      let replies = opening fixed answer_of after settings given r still.ready id said in
       whole given now Opening 0 a w l still config tt starts replies
       ∙ ap (λ k. ended_by now Opening 0 a w k (outcome answer_of after k r p) l) kind
       ∙ ap (λ c. ended_by now Opening 0 a w Zero (begun answer_of after c r p) l) (given.reads Opening 0 (omega arith))
@@ -159,14 +161,17 @@ module _ (fixed : ControllerConfig) {H : Type 0} (answer_of : H → Command → 
   account_is : TellsItsEvent → (waiting : List Command) (events : List Event) (r : ReaderState H) (t : Account) → Each MaySubmit waiting
       → let x = next_exchange waiting in
       let c = exchange_command x in
-      told (report_of x (event_or_answer answer_of after (event_for c events) r.config r.handler c).reply) (link.taken_command c (take 1 events) t)
+      let a = event_or_answer answer_of after (event_for c events) r.config r.handler c in
+      told (report_of x a.reply) (link.taken_command c (Some a.reply) (take 1 events) t)
       ≡ accounted answer_of after waiting events r t
   account_is tells [] [] r t may = ap (λ es. record t { offered = es }) (append-nil t.offered)
   account_is tells [] (e ∷ events) r t may =
       ap (λ o. told (poll_told (event_reply e) o) (record t { offered = t.offered ++ e ∷ [] })) (tells e)
   account_is tells (c ∷ waiting) events r t may =
-      ap (λ o. told (Some (report.Settled c (event_or_answer answer_of after o r.config r.handler c).reply)) (link.taken_command c (take 1 events) t)) (no_event c events may.0.no_poll)
-      ∙ ap (told (Some (report.Settled c (answer_to answer_of after r.config r.handler c).reply))) (taken_is c (take 1 events) t may.0.no_poll)
+      let a = answer_to answer_of after r.config r.handler c in
+      ap (λ o. let b = event_or_answer answer_of after o r.config r.handler c in
+      told (Some (report.Settled c b.reply)) (link.taken_command c (Some b.reply) (take 1 events) t)) (no_event c events may.0.no_poll)
+      ∙ ap (told (Some (report.Settled c a.reply))) (taken_is c (Some a.reply) (take 1 events) t may.0.no_poll)
 
   -- the link after an exchange from rest: its command has gone, the reader has acted on it and stores its answer, and the next POLL is
   -- due after the interval
@@ -197,26 +202,27 @@ module _ (fixed : ControllerConfig) {H : Type 0} (answer_of : H → Command → 
   next_moves [] none = tt
   next_moves (c ∷ waiting) none = none.0
 
-  pub exchange_from_rest : Given → (now due : ℕ) (n : ℕ) (y : Exchange) (b : Reply) (l : Link H) → At fixed answer_of after settings first (Rest n y b) l
+  pub exchange_from_rest : Given → (now due : ℕ) (since : Restarted) (n : ℕ) (y : Exchange) (b : Reply) (l : Link H) → Hears since
+      → At fixed answer_of after settings since (Rest n y b) l
       → l.controller.session.state ≡ Idle due → IsOpen fixed n l.controller.session → Still l
       → Acts (ticks now l.controller.session l.controller.waiting) → SaysWhatFits answer_of after (at_tick now l).to_reader l.reader
       → goes answer_of after now l ≡ rested_link now l
-  exchange_from_rest given now due n y b l h is opened still does fits =
+  exchange_from_rest given now due since n y b l hears_it h is opened still does fits =
       let s = l.controller.session in
       let w = l.controller.waiting in
       let r = l.reader in
       let x = next_exchange w in
       let k = next_sequence s.number in
       let p = frame fixed x k in
-      let a = taken_answer fixed answer_of after settings first (exchange_command x) r in
-      let last : r.last ≡ Some s.number = (h.reader.here still.ready.here).0 ∙ ap (λ m. Some m) (sym opened.1) in
+      let a = taken_answer fixed answer_of after settings (exchange_command x) r in
+      let last : r.last ≡ Some s.number = ((has_acted fixed since n y b l.reader hears_it h.reader).here still.ready.here).0 ∙ ap (λ m. Some m) (sym opened.1) in
       let starts = begins_next_at s.state due (seen now s) w is does in
       let asked = next_asked s.number y b w h.waiting in
       let none = next_moves w (each_rest SetsNoAddress l.account.taken w (subst (Each SetsNoAddress) h.account.issued still.issued)) in
       let said = fits_there now x k (drop 1 w) l still opened.0 starts fits in
-      let replies = taking fixed answer_of after settings first given s.number y b x r still.ready last asked said in
+      let replies = taking fixed answer_of after settings given s.number y b x r still.ready last asked said in
       let kind : kind_of r p ≡ Taken = kind_next fixed r x s.number still.ready.here last ∙ ap (λ u. cond u Busy Taken) still.ready.ready in
-      let heard = taken_hears fixed answer_of after settings first given s.number y b x r still.ready last asked in
+      let heard = taken_hears fixed answer_of after settings given s.number y b x r still.ready last asked in
       whole given now x k a.reply (drop 1 w) l still opened.0 none starts replies
       ∙ ap (λ kd. ended_by now x k a.reply (drop 1 w) kd (hears answer_of after r p) l) kind
       ∙ ap (λ o. ended_by now x k a.reply (drop 1 w) Taken o l) heard
@@ -230,6 +236,6 @@ module _ (fixed : ControllerConfig) {H : Type 0} (answer_of : H → Command → 
         });
         to_reader = [];
         to_controller = [];
-        account = told (report_of x a.reply) (link.taken_command (exchange_command x) (link.front_of r) l.account);
+        account = told (report_of x a.reply) (link.taken_command (exchange_command x) (Some a.reply) (link.front_of r) l.account);
       }) (no_address x none)
       ∙ ap (λ t. record (rested_link now l) { account = t }) (account_is given.tells w (released r.queue).events r l.account h.waiting)

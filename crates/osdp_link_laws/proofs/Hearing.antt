@@ -10,12 +10,12 @@ use Rattle.osdp_msg.specs.declared.reply.Reply.{Reply}
 use Rattle.osdp_msg.specs.declared.reply.Reply.TheVariants as reply
 use Rattle.osdp_msg.specs.declared.reply_fields.PdId.{PdId}
 use Rattle.osdp_controller.specs.declared.meaning.ReplyMeaning.{ReplyMeaning}
-use Rattle.osdp_controller.specs.declared.meaning.ReplyMeaning.TheVariants.{NotTaken, Plain}
+use Rattle.osdp_controller.specs.declared.meaning.ReplyMeaning.TheVariants.{NotTaken, NumberRefused, Plain}
 use Rattle.osdp_controller.specs.declared.config.ControllerConfig.{ControllerConfig}
 use Rattle.osdp_controller.specs.declared.exchange.Exchange.{Exchange}
 use Rattle.osdp_controller.specs.declared.exchange.Exchange.TheVariants.{Opening, Polling, Asking}
 use Rattle.osdp_controller.specs.declared.exchange.Outstanding.{Outstanding}
-use Rattle.osdp_controller.specs.declared.report.LostCause.TheVariants.{TooBusy}
+use Rattle.osdp_controller.specs.declared.report.LostCause.TheVariants as cause
 use Rattle.osdp_controller.specs.declared.report.Report.TheVariants as report
 use Rattle.osdp_controller.specs.declared.session.Session.{Session}
 use Rattle.osdp_controller.specs.declared.state.State.{State}
@@ -47,12 +47,12 @@ module _ (fixed : ControllerConfig) where
   busy_heard : (n : ℕ) (x : Exchange) (o : Outstanding) (s : Session) → IsOpen fixed n s → o.exchange ≡ x
       → Ignored n x [] (hears_busy o s)
   busy_heard n x o s at is =
-      both (Ignored n x []) (ltb s.config.busy_limit (o.busies + 1)) (loses TooBusy o s)
+      both (Ignored n x []) (ltb s.config.busy_limit (o.busies + 1)) (loses cause.TooBusy o s)
       (record {
         session = record s { state = Pausing (later s.config.busy_wait s) (record o { busies = o.busies + 1 }) };
         report = None;
       })
-      (ended TooBusy o.exchange x is, tt)
+      (ended cause.TooBusy o.exchange x is, tt)
       (nothing_told [] x (Pausing (later s.config.busy_wait s) (record o { busies = o.busies + 1 })) refl, (at, is))
 
   -- BUSY changes no account
@@ -67,6 +67,28 @@ module _ (fixed : ControllerConfig) where
   busy_in (Pausing until o) number n x s e asks =
       both (Ignored n x []) (is_numbered number NotTaken s) (ignores s) (ignores s)
       (ignored (Pausing until o) n x s e asks) (ignored (Pausing until o) n x s e asks)
+
+  -- a refused number ends the session, or is ignored
+  refused_in : (state : State) (number n : ℕ) (x : Exchange) (s : Session) → s.state ≡ state → Asks fixed state n x s
+      → Ignored n x (given_up state x) (hears_in state number NumberRefused s)
+  refused_in Closed number n x s e asks = ignored Closed n x s e asks
+  refused_in (Quiet until) number n x s e asks = absurd asks
+  refused_in (Idle due) number n x s e asks = absurd asks
+  refused_in (Waiting until k o) number n x s e asks =
+      both (Ignored n x []) (is_numbered number NumberRefused s) (loses cause.NumberRefused o s) (ignores s)
+      (ended cause.NumberRefused o.exchange x asks.1, tt) (ignored (Waiting until k o) n x s e asks)
+  refused_in (Pausing until o) number n x s e asks =
+      both (Ignored n x []) (is_numbered number NumberRefused s) (loses cause.NumberRefused o s) (ignores s)
+      (ended cause.NumberRefused o.exchange x asks.1, tt) (ignored (Pausing until o) n x s e asks)
+
+  pub hears_refused : (p : Packet) (now n : ℕ) (x : Exchange) (s : Session) → meaning_of p ≡ NumberRefused → Asks fixed s.state n x s
+      → Ignored n x (given_up s.state x) (hears p now s)
+  hears_refused p now n x s refused asks =
+      let there = asks_seen fixed s.state n x s now asks in
+      both (Ignored n x (given_up s.state x)) (is_from_reader p s) (hears_in s.state p.sequence (meaning_of p) (seen now s)) (ignores (seen now s))
+      (subst (λ a. Ignored n x (given_up s.state x) (hears_in s.state p.sequence a (seen now s))) (sym refused)
+      (refused_in s.state p.sequence n x (seen now s) refl there))
+      (ignored s.state n x (seen now s) refl there)
 
   other_number : (number n : ℕ) (r : Reply) (s : Session) → number ≢ n → s.number ≡ n → is_numbered number (Plain r) s ≡ false
   other_number number n r s differ is =

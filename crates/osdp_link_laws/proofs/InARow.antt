@@ -1,5 +1,5 @@
 -- From the beginning of a first session to each list of moves after it.
-use Rattle.std.proofs.Common.{◌≡◌, ◌<◌, ℕ, List, [], ◌∷◌, ◌++◌, All, Option, Some, None, refl, sym, subst, ap, ◌∙◌, append_assoc}
+use Rattle.std.proofs.Common.{◌≡◌, ◌<◌, ℕ, List, [], ◌∷◌, ◌++◌, Option, Some, None, refl, sym, subst, ap, ◌∙◌, append_assoc}
 use Rattle.std.proofs.lemmas.List.{append-nil}
 use Rattle.osdp_frame.specs.Packet.{Packet}
 use Rattle.osdp_msg.specs.declared.command.Command.{Command}
@@ -12,21 +12,20 @@ use Rattle.osdp_controller.specs.declared.state.State.TheVariants.{Closed}
 use Rattle.osdp_controller_laws.proofs.Closed.{was_closed}
 use Rattle.osdp_reader.specs.declared.config.ReaderConfig.{ReaderConfig}
 use Rattle.osdp_reader.specs.declared.handler.Answer.{Answer}
-use Rattle.osdp_reader_laws.specs.Answering.{handler_after_commands}
-use Rattle.osdp_link_laws.specs.Headline.{MovesFit, AreOnce, Begins, MoveFits, MaySubmit, handler_after, IsBeginning}
+use Rattle.osdp_link_laws.specs.Headline.{EachIsOnce, HoldsOnce, MovesFit, Begins, MoveFits, MaySubmit, IsBeginning}
 use Rattle.osdp_link_laws.specs.Link as link
 use Rattle.osdp_link_laws.specs.Link.{Account, Link, Move, Reopen, after_move, run}
-use Rattle.osdp_link_laws.specs.Peers.{IsPlainlySaid, ReadEachOther}
-use Rattle.osdp_link_laws.specs.Sessions.{AreInARow, CommandsHavePlaces, EventsHavePlaces, HaveLeft, LastOneLasts, Leaves, StayInARow, all_queued, all_submitted, ended_commands, queued, settled_commands, submitted}
-use Rattle.osdp_link_laws.proofs.Advancing.{HoldsAtSomeStage}
-use Rattle.osdp_link_laws.proofs.Deliveries.{all_said}
+use Rattle.osdp_link_laws.specs.Peers.{ReadEachOther}
+use Rattle.osdp_link_laws.specs.Sessions.{AreInARow, CommandsHavePlaces, EventsHavePlaces, HaveLeft, LastOneLasts, Leaves, StayInARow, TakesNoneTwice, all_queued, all_submitted, ended_commands, ended_in, queued, submitted}
 use Rattle.osdp_link_laws.proofs.Devices.{IsDevice, move_there}
-use Rattle.osdp_link_laws.proofs.Growing.{Grows, goes_on}
-use Rattle.osdp_link_laws.proofs.Lines.{each_all, each_of, each_rest}
+use Rattle.osdp_link_laws.proofs.Growing.{GoesOn, Grows, goes_on}
+use Rattle.osdp_link_laws.proofs.Lines.{each_of, each_rest}
 use Rattle.osdp_link_laws.proofs.Moves.{Premises}
-use Rattle.osdp_link_laws.proofs.Once.{GoesOn, fresh, is_once, moving}
+use Rattle.osdp_link_laws.proofs.Once.{Goes, fresh, is_once, moving}
+use Rattle.osdp_link_laws.proofs.Removed.{gone}
+use Rattle.osdp_link_laws.proofs.Taken.{taken_once}
 use Rattle.osdp_link_laws.proofs.Sessions.{lasts_or_leaves, leaves}
-use Rattle.osdp_link_laws.proofs.Stages.{Fresh, Waits, frame}
+use Rattle.osdp_link_laws.proofs.Stages.{Waits, frame}
 
 -- more comes after what begins it
 pub begins_more : {A : Type 0} (xs ys zs more : List A) → IsBeginning xs ys → zs ≡ ys ++ more → IsBeginning xs zs
@@ -53,15 +52,14 @@ row_goes_on t u cs es (before ∷ earlier) grows (follows, row) = (begins_on (Le
 -- more events come after all of them
 left_more : (all more : List Event) (earlier : List Account) (gone : List Event) → HaveLeft all earlier gone → HaveLeft (all ++ more) earlier gone
 left_more all more [] gone none = none
-left_more all more (t ∷ earlier) gone (before, left, again, prior, stands, is, told_is, few) = (
+left_more all more (t ∷ earlier) gone (before, left, events, prior, stands, is, leaves) = (
   before,
   left,
-  again,
+  events,
   left_more all more earlier before prior,
   begins_more (before ++ t.queued) all (all ++ more) more stands refl,
   is,
-  told_is,
-  few,
+  leaves,
 )
 
 -- all events are those that have left and those that are queued
@@ -80,9 +78,9 @@ queued_on all more earlier queued later grows (gone, left, whole) = (
 pub queued_again : (all : List Event) (earlier : List Account) (t : Account) (waiting : List Command) (events : List Event) → Leaves t waiting events
     → AreQueuedOrLeft all earlier t.queued → AreQueuedOrLeft all (t ∷ earlier) events
 queued_again all earlier t waiting events left (gone, before, whole) = (
-  gone ++ left.reported.0,
-  (gone, left.reported.0, left.reported.1, before, ([], whole ∙ sym (append-nil (gone ++ t.queued))), refl, left.reported.3, left.reported.5),
-  whole ∙ ap (λ l. gone ++ l) left.reported.2 ∙ sym (append_assoc gone left.reported.0 events),
+  gone ++ left.left,
+  (gone, left.left, events, before, ([], whole ∙ sym (append-nil (gone ++ t.queued))), refl, left.of_events),
+  whole ∙ ap (λ l. gone ++ l) left.of_events.queued ∙ sym (append_assoc gone left.left events),
 )
 
 module _ {H : Type 0} where
@@ -91,58 +89,22 @@ module _ {H : Type 0} where
     pub commands : cs ≡ ended_commands l.earlier ++ l.account.issued
     pub events : AreQueuedOrLeft es l.earlier l.account.queued
 
-module _ {H : Type 0} (answer_of : H → Command → Answer) (after : H → Command → H) where
-  -- a first session has begun
-  pub begun : (l : Link H) (earlier : List Account) → Begins l
-      → HoldsAtSomeStage l.controller.session.config answer_of after l.reader.config l.reader.handler (record l { earlier = earlier })
-  begun l earlier b =
-      let fixed = l.controller.session.config in (
-        Fresh,
-        fresh fixed answer_of after l.reader.config l.reader.handler (record l { earlier = earlier }) (record {
-          controller = subst (λ state. Waits fixed state l.controller.session) (sym b.quiet.1) refl;
-          waiting = each_of MaySubmit l.controller.waiting b.waiting;
-          answering = record { id = refl; caps = refl; handler = refl };
-          to_reader = b.to_reader;
-          to_controller = b.to_controller;
-          account = b.account;
-        }),
-      )
-
-  -- .. and one begins again, after one that these commands have left
-  pub begun_again : (fixed : ControllerConfig) (settings : ReaderConfig) (handler : H) (gone : List Command) (now : ℕ) (l : Link H)
-      → HoldsAtSomeStage fixed answer_of after settings handler (record l { controller = record l.controller { waiting = gone ++ l.controller.waiting } })
-      → l.to_reader ≡ [] → l.to_controller ≡ []
-      → HoldsAtSomeStage l.controller.session.config answer_of after settings
-      (handler_after_commands answer_of after settings handler l.account.taken) (link.reopens None [] [] now l)
-  begun_again fixed settings handler gone now l (at, held) here there = (
-    Fresh,
-    fresh l.controller.session.config answer_of after settings (handler_after_commands answer_of after settings handler l.account.taken)
-        (link.reopens None [] [] now l) (record {
-          controller = refl;
-          waiting = each_rest MaySubmit gone l.controller.waiting held.waiting;
-          answering = record { id = held.answering.id; caps = held.answering.caps; handler = held.answering.handler };
-          to_reader = here;
-          to_controller = there;
-          account = refl;
-        }),
-  )
-
+module _ {H : Type 0} (answer_of : H → Command → Answer) (after : H → Command → H) (settings : ReaderConfig) where
   -- a session that holds, after sessions that were once and in a row
-  pub record Stands (settings : ReaderConfig) (first : H) (l : Link H) : Type 0 where
+  pub record Stands (l : Link H) : Type 0 where
     pub fixed : ControllerConfig
     pub device : fixed.address < 127
     pub current : IsDevice answer_of after l
-    pub holds : HoldsAtSomeStage fixed answer_of after settings (handler_after answer_of after settings first l.earlier) l
-    pub once : AreOnce answer_of after settings first l.earlier
+    pub goes : Goes fixed answer_of after settings l
+    pub once : EachIsOnce l.earlier
     pub row : AreInARow l.account l.earlier
 
-module _ {H : Type 0} (answer_of : H → Command → Answer) (after : H → Command → H) (settings : ReaderConfig) (first : H) where
   -- what the ends read of each other's packets, at each device's address
   abbrev pub Assumed : Type 0
-  Assumed = (fixed : ControllerConfig) (handler : H) → fixed.address < 127 → Premises fixed answer_of after settings handler
+  Assumed = (fixed : ControllerConfig) → fixed.address < 127 → Premises fixed answer_of after settings
 
   pub assumed : ReadEachOther answer_of after → Assumed
-  assumed peers fixed handler device = record {
+  assumed peers fixed device = record {
     device = device;
     reads = λ x n fit. peers.asked x (record { config = fixed; state = Closed; number = n; greatest = 0 }) fit;
     hears = λ n r fit. peers.answered (frame fixed Polling 0) n r fit;
@@ -151,64 +113,67 @@ module _ {H : Type 0} (answer_of : H → Command → Answer) (after : H → Comm
     plainly = peers.plainly;
   }
 
-  abbrev AllStands : Link H → Type 0
-  AllStands l = Stands answer_of after settings first l
-
   -- a move within the session
-  keeps_on : Assumed → (move : Move) (l : Link H) → GoesOn move → MoveFits answer_of after move l → AllStands l
-      → AllStands (after_move answer_of after move l)
+  keeps_on : Assumed → (move : Move H) (l : Link H) → GoesOn move → MoveFits answer_of after move l → Stands l → Stands (after_move answer_of after move l)
   keeps_on given move l on fits h =
-      let handler = handler_after answer_of after settings first l.earlier in
       let new = after_move answer_of after move l in
-      let goes = goes_on answer_of after move l on in
+      let grows = goes_on answer_of after move l on in
       record {
         fixed = h.fixed;
         device = h.device;
-        current = move_there answer_of after move l h.current;
-        holds = subst (λ earlier. HoldsAtSomeStage h.fixed answer_of after settings (handler_after answer_of after settings first earlier) new) (sym goes.1)
-            (moving h.fixed answer_of after settings handler (given h.fixed handler h.device) move l on fits h.holds);
-        once = subst (AreOnce answer_of after settings first) (sym goes.1) h.once;
-        row = subst (AreInARow new.account) (sym goes.1) (row_goes_on l.account new.account (submitted move l) (queued move l) l.earlier goes.0 h.row);
+        current = move_there answer_of after move l fits h.current;
+        goes = moving h.fixed answer_of after settings (given h.fixed h.device) move l on fits h.goes;
+        once = subst EachIsOnce (sym grows.1) h.once;
+        row = subst (AreInARow new.account) (sym grows.1) (row_goes_on l.account new.account (submitted move l) (queued move l) l.earlier grows.0 h.row);
       }
 
   -- a session begins again
+  begun_again : (fixed : ControllerConfig) (now : ℕ) (l : Link H) → Goes fixed answer_of after settings l → l.to_reader ≡ [] → l.to_controller ≡ []
+      → Goes l.controller.session.config answer_of after settings (link.reopens None [] [] now l)
+  begun_again fixed now l h here there =
+      fresh l.controller.session.config answer_of after settings (link.reopens None [] [] now l) (record {
+        controller = refl;
+        waiting = each_rest MaySubmit (gone l.account) l.controller.waiting h.holds.2.waiting;
+        answering = record { id = h.holds.2.answering.id; caps = h.holds.2.answering.caps };
+        to_reader = here;
+        to_controller = there;
+        account = refl;
+      })
+
   reopening : (refusal : Option ControllerFault) (ps qs : List Packet) (now : ℕ) (l : Link H) → controllers.begin_refusal l.controller ≡ refusal
-      → l.to_reader ≡ ps → l.to_controller ≡ qs → AllStands l → AllStands (link.reopens refusal ps qs now l)
+      → l.to_reader ≡ ps → l.to_controller ≡ qs → Stands l → Stands (link.reopens refusal ps qs now l)
   reopening (Some fault) ps qs now l may here there h = h
   reopening None (p ∷ ps) qs now l may here there h = h
   reopening None [] (q ∷ qs) now l may here there h = h
-  reopening None [] [] now l may here there h =
-      let fixed = l.controller.session.config in
-      let handler = handler_after answer_of after settings first l.earlier in
-      record {
-        fixed = fixed;
-        device = h.current;
-        current = h.current;
-        holds = begun_again answer_of after h.fixed settings handler [] now l h.holds here there;
-        once = (is_once h.fixed answer_of after settings handler l h.holds, h.once);
-        row = (
-          (
-            l.controller.waiting,
-            l.reader.queue.events,
-            leaves h.fixed answer_of after settings handler h.holds.0 l h.holds.1 (was_closed l.controller.session.state may),
-            ([], sym (append-nil l.controller.waiting)),
-            ([], sym (append-nil l.reader.queue.events)),
-          ),
-          h.row,
-        );
-      }
+  reopening None [] [] now l may here there h = record {
+    fixed = l.controller.session.config;
+    device = h.current;
+    current = h.current;
+    goes = begun_again h.fixed now l h.goes here there;
+    once = (is_once h.fixed answer_of after settings l h.goes, h.once);
+    row = (
+      (
+        l.controller.waiting,
+        l.reader.queue.events,
+        leaves h.fixed answer_of after settings l h.goes (was_closed l.controller.session.state may),
+        ([], sym (append-nil l.controller.waiting)),
+        ([], sym (append-nil l.reader.queue.events)),
+      ),
+      h.row,
+    );
+  }
 
-  pub standing : Assumed → (move : Move) (l : Link H) → MoveFits answer_of after move l → AllStands l → AllStands (after_move answer_of after move l)
+  pub standing : Assumed → (move : Move H) (l : Link H) → MoveFits answer_of after move l → Stands l → Stands (after_move answer_of after move l)
   standing given (Reopen now) l fits h =
       reopening (controllers.begin_refusal l.controller) l.to_reader l.to_controller now l refl refl refl h
   standing given move l fits h = keeps_on given move l tt fits h
 
   -- one move more: what it submits or queues comes last
-  placing : (move : Move) (l : Link H) (cs : List Command) (es : List Event) → AllStands l → Placed cs es l
+  placing : (move : Move H) (l : Link H) (cs : List Command) (es : List Event) → Stands l → Placed cs es l
       → Placed (cs ++ submitted move l) (es ++ queued move l) (after_move answer_of after move l)
   placing move l cs es h placed = by_move move
     where
-      on : (move : Move) → GoesOn move → Placed (cs ++ submitted move l) (es ++ queued move l) (after_move answer_of after move l)
+      on : (move : Move H) → GoesOn move → Placed (cs ++ submitted move l) (es ++ queued move l) (after_move answer_of after move l)
       on move goes =
           let g = goes_on answer_of after move l goes in
           let new = after_move answer_of after move l in
@@ -227,16 +192,15 @@ module _ {H : Type 0} (answer_of : H → Command → Answer) (after : H → Comm
       again None (p ∷ ps) qs now may = placed
       again None [] (q ∷ qs) now may = placed
       again None [] [] now may =
-          let left = leaves h.fixed answer_of after settings (handler_after answer_of after settings first l.earlier) h.holds.0 l h.holds.1
-          (was_closed l.controller.session.state may) in
+          let left = leaves h.fixed answer_of after settings l h.goes (was_closed l.controller.session.state may) in
           record {
             commands = placed.commands
-                ∙ ap (λ all. ended_commands l.earlier ++ all) (left.commands ∙ sym (append_assoc (settled_commands l.account) l.account.unsettled l.controller.waiting))
-                ∙ sym (append_assoc (ended_commands l.earlier) (settled_commands l.account ++ l.account.unsettled) l.controller.waiting);
+                ∙ ap (λ all. ended_commands l.earlier ++ all) left.of_commands.commands
+                ∙ sym (append_assoc (ended_commands l.earlier) (ended_in l.account) l.controller.waiting);
             events = queued_again es l.earlier l.account l.controller.waiting l.reader.queue.events left placed.events;
           }
 
-      by_move : (move : Move) → Placed (cs ++ submitted move l) (es ++ queued move l) (after_move answer_of after move l)
+      by_move : (move : Move H) → Placed (cs ++ submitted move l) (es ++ queued move l) (after_move answer_of after move l)
       by_move (Reopen now) =
           let new = link.reopens (controllers.begin_refusal l.controller) l.to_reader l.to_controller now l in
           subst (λ all. Placed all (es ++ []) new) (sym (append-nil cs))
@@ -244,7 +208,7 @@ module _ {H : Type 0} (answer_of : H → Command → Answer) (after : H → Comm
           (again (controllers.begin_refusal l.controller) l.to_reader l.to_controller now refl))
       by_move move = on move tt
 
-  all_placed : Assumed → (moves : List Move) (l : Link H) (cs : List Command) (es : List Event) → MovesFit answer_of after moves l → AllStands l
+  pub all_placed : Assumed → (moves : List (Move H)) (l : Link H) (cs : List Command) (es : List Event) → MovesFit answer_of after moves l → Stands l
       → Placed cs es l
       → Placed (cs ++ all_submitted answer_of after moves l) (es ++ all_queued answer_of after moves l) (run answer_of after moves l)
   all_placed given [] l cs es fits h placed =
@@ -259,57 +223,52 @@ module _ {H : Type 0} (answer_of : H → Command → Answer) (after : H → Comm
       (append_assoc es (queued move l) (all_queued answer_of after moves new))
       (all_placed given moves new (cs ++ submitted move l) (es ++ queued move l) fits.1 (standing given move l fits.0 h) (placing move l cs es h placed)))
 
-  pub running : Assumed → (moves : List Move) (l : Link H) → MovesFit answer_of after moves l → AllStands l → AllStands (run answer_of after moves l)
+  pub running : Assumed → (moves : List (Move H)) (l : Link H) → MovesFit answer_of after moves l → Stands l → Stands (run answer_of after moves l)
   running given [] l fits h = h
   running given (move ∷ moves) l fits h = running given moves (after_move answer_of after move l) fits.1 (standing given move l fits.0 h)
 
 -- all of it, from a first session that has begun
 module _ {H : Type 0} (answer_of : H → Command → Answer) (after : H → Command → H) where
-  pub begins : (l : Link H) → Begins l → Stands answer_of after l.reader.config l.reader.handler l
+  pub begins : (l : Link H) → Begins l → Stands answer_of after l.reader.config l
   begins l b =
       let fixed = l.controller.session.config in
-      subst (λ earlier. Stands answer_of after l.reader.config l.reader.handler (record l { earlier = earlier })) (sym b.earlier) (record {
+      record {
         fixed = fixed;
         device = b.address;
         current = b.address;
-        holds = begun answer_of after l [] b;
-        once = tt;
-        row = tt;
-      })
+        goes = fresh fixed answer_of after l.reader.config l (record {
+          controller = subst (λ state. Waits fixed state l.controller.session) (sym b.quiet.1) refl;
+          waiting = each_of MaySubmit l.controller.waiting b.waiting;
+          answering = record { id = refl; caps = refl };
+          to_reader = b.to_reader;
+          to_controller = b.to_controller;
+          account = b.account;
+        });
+        once = subst EachIsOnce (sym b.earlier) tt;
+        row = subst (AreInARow l.account) (sym b.earlier) tt;
+      }
 
   -- of the reader of a link
-  pub assumed_of : ReadEachOther answer_of after → (l : Link H) → Assumed answer_of after l.reader.config l.reader.handler
-  assumed_of peers l = assumed answer_of after l.reader.config l.reader.handler peers
+  pub assumed_of : ReadEachOther answer_of after → (l : Link H) → Assumed answer_of after l.reader.config
+  assumed_of peers l = assumed answer_of after l.reader.config peers
 
-  stands : ReadEachOther answer_of after → (l : Link H) (moves : List Move) → Begins l → MovesFit answer_of after moves l
-      → Stands answer_of after l.reader.config l.reader.handler (run answer_of after moves l)
-  stands peers l moves b fits =
-      running answer_of after l.reader.config l.reader.handler (assumed_of peers l) moves l fits (begins l b)
+  pub stands : ReadEachOther answer_of after → (l : Link H) (moves : List (Move H)) → Begins l → MovesFit answer_of after moves l
+      → Stands answer_of after l.reader.config (run answer_of after moves l)
+  stands peers l moves b fits = running answer_of after l.reader.config (assumed_of peers l) moves l fits (begins l b)
 
-  pub all_once : (l : Link H) (moves : List Move) → Assumed answer_of after l.reader.config l.reader.handler → Begins l → MovesFit answer_of after moves l
-      → let later = run answer_of after moves l in AreOnce answer_of after l.reader.config l.reader.handler (later.account ∷ later.earlier)
-  all_once l moves given b fits =
-      let s = running answer_of after l.reader.config l.reader.handler given moves l fits (begins l b) in
-      (is_once s.fixed answer_of after l.reader.config _ (run answer_of after moves l) s.holds, s.once)
+  pub all_once : ReadEachOther answer_of after → HoldsOnce answer_of after
+  all_once peers l moves b fits =
+      let s = stands peers l moves b fits in
+      (is_once s.fixed answer_of after l.reader.config (run answer_of after moves l) s.goes, s.once)
 
   pub all_in_a_row : ReadEachOther answer_of after → StayInARow answer_of after
   all_in_a_row peers l moves b fits = (stands peers l moves b fits).row
 
-  pub all_plainly : (l : Link H) (moves : List Move) → Assumed answer_of after l.reader.config l.reader.handler → Begins l → MovesFit answer_of after moves l
-      → All IsPlainlySaid (run answer_of after moves l).to_controller
-  all_plainly l moves given b fits =
-      let later = run answer_of after moves l in
-      let s = running answer_of after l.reader.config l.reader.handler given moves l fits (begins l b) in
-      let handler = handler_after answer_of after l.reader.config l.reader.handler later.earlier in
-      each_all IsPlainlySaid later.to_controller
-      (all_said s.fixed answer_of after l.reader.config handler (given s.fixed handler s.device) s.holds.0 later s.holds.1)
-
-  have_places : ReadEachOther answer_of after → (l : Link H) (moves : List Move) → Begins l → MovesFit answer_of after moves l
+  have_places : ReadEachOther answer_of after → (l : Link H) (moves : List (Move H)) → Begins l → MovesFit answer_of after moves l
       → Placed (l.controller.waiting ++ all_submitted answer_of after moves l) (l.reader.queue.events ++ all_queued answer_of after moves l)
       (run answer_of after moves l)
   have_places peers l moves b fits =
-      let given = assumed_of peers l in
-      all_placed answer_of after l.reader.config l.reader.handler given moves l l.controller.waiting l.reader.queue.events fits (begins l b) (record {
+      all_placed answer_of after l.reader.config (assumed_of peers l) moves l l.controller.waiting l.reader.queue.events fits (begins l b) (record {
         commands = sym (ap (λ t. t.issued) b.account) ∙ sym (ap (λ earlier. ended_commands earlier ++ l.account.issued) b.earlier);
         events = ([], subst (λ earlier. HaveLeft l.reader.queue.events earlier []) (sym b.earlier) refl, sym (ap (λ t. t.queued) b.account));
       })
@@ -324,5 +283,12 @@ module _ {H : Type 0} (answer_of : H → Command → Answer) (after : H → Comm
   last_one_lasts peers l moves b fits =
       let later = run answer_of after moves l in
       let s = stands peers l moves b fits in
-      lasts_or_leaves s.fixed answer_of after l.reader.config (handler_after answer_of after l.reader.config l.reader.handler later.earlier)
-      later.controller.session.state s.holds.0 later refl s.holds.1
+      lasts_or_leaves s.fixed answer_of after l.reader.config later.controller.session.state later refl s.goes
+
+  pub takes_none_twice : ReadEachOther answer_of after → TakesNoneTwice answer_of after
+  takes_none_twice peers l moves b fits =
+      let later = run answer_of after moves l in
+      let s = stands peers l moves b fits in
+      let places = commands_have_places peers l moves b fits in
+      taken_once later.account later.earlier (l.controller.waiting ++ all_submitted answer_of after moves l)
+      (is_once s.fixed answer_of after l.reader.config later s.goes).taken s.row places

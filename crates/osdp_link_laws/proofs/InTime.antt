@@ -2,19 +2,19 @@
 use Rattle.std.proofs.Common.{◌≡◌, ◌⊎◌, ℕ, List, [], ◌∷◌, refl, sym, subst, inl, inr}
 use Rattle.std.specs.Prelude.{◌≢◌}
 use Rattle.osdp_msg.specs.declared.command.Command.{Command}
-use Rattle.osdp_controller.specs.Machine.{after_begin, changed_unless}
+use Rattle.osdp_controller.specs.Machine.{after_begin, after_retarget, changed_unless}
 use Rattle.osdp_controller.specs.Sessions.{seen}
 use Rattle.osdp_controller.specs.Ticking.{ticks_in}
 use Rattle.osdp_controller.specs.declared.state.State.{State}
 use Rattle.osdp_controller.specs.declared.state.State.TheVariants.{Closed, Quiet, Idle, Waiting, Pausing}
 use Rattle.osdp_controller_laws.specs.Calls.{ComesDue, IsInRange, StaysInRange}
-use Rattle.osdp_controller_laws.specs.Runs.{Begin, Hear, Tick as TickCall}
+use Rattle.osdp_controller_laws.specs.Runs.{Begin, Hear, Retarget as Target, Tick as TickCall}
 use Rattle.osdp_reader.specs.declared.handler.Answer.{Answer}
-use Rattle.osdp_link_laws.specs.Headline.{MovesFit, Begins}
+use Rattle.osdp_link_laws.specs.Headline.{MovesFit}
 use Rattle.osdp_link_laws.specs.Link.{Delivered, Link, Move, Tick, ToReader, after_move, run}
-use Rattle.osdp_link_laws.specs.Progress.{AreDue, AreLate, ComeOn, IsClear, round, rounds}
-use Rattle.osdp_link_laws.proofs.Controllers.{IsKept, IsKeptByBeginning, moves_keep}
-use Rattle.osdp_link_laws.proofs.InARow.{Assumed}
+use Rattle.osdp_link_laws.specs.Progress.{AreDue, AreLate, ComesThroughInTime, round, rounds}
+use Rattle.osdp_link_laws.proofs.Controllers.{IsKept, IsKeptOutside, moves_keep}
+use Rattle.osdp_link_laws.specs.Peers.{ReadEachOther}
 use Rattle.osdp_link_laws.proofs.Through.{comes_through, to_controller_closed, to_reader_closed}
 
 or_open : (state : State) → (state ≡ Closed) ⊎ (state ≢ Closed)
@@ -34,12 +34,16 @@ module _ {H : Type 0} (answer_of : H → Command → Answer) (after : H → Comm
     frame = λ p now m is. stays.later m (Hear p now ∷ []) is;
   }
 
-  begins_in_range : IsKeptByBeginning IsInRange
-  begins_in_range now m may is = subst (λ f. IsInRange (changed_unless f m (after_begin now m)).session) may (stays.later m (Begin now ∷ []) is)
+  outside_in_range : IsKeptOutside IsInRange
+  outside_in_range = record {
+    begin = λ now m may is. subst (λ f. IsInRange (changed_unless f m (after_begin now m)).session) may (stays.later m (Begin now ∷ []) is);
+    target = λ address m may is. subst (λ f. IsInRange (changed_unless f m (after_retarget address m)).session) may (stays.later m (Target address ∷ []) is);
+    restart = λ config room set. stays.new config room;
+  }
 
   -- every move keeps the controller in its ranges
-  run_range : (moves : List Move) (l : Link H) → Ranges l → Ranges (run answer_of after moves l)
-  run_range moves l is = moves_keep answer_of after IsInRange in_range begins_in_range moves l is
+  run_range : (moves : List (Move H)) (l : Link H) → MovesFit answer_of after moves l → Ranges l → Ranges (run answer_of after moves l)
+  run_range moves l fits is = moves_keep answer_of after IsInRange in_range outside_in_range moves l fits is
 
   -- a session that has ended stays so over all rounds
   tick_closed : (now : ℕ) (l : Link H) → l.controller.session.state ≡ Closed → (after_move answer_of after (Tick now) l).controller.session.state ≡ Closed
@@ -58,27 +62,22 @@ module _ {H : Type 0} (answer_of : H → Command → Answer) (after : H → Comm
   rounds_closed (now ∷ later) l closed = rounds_closed later (run answer_of after (round now) l) (round_closed now l closed)
 
   -- so late ticks are due, as long as the session lasts
-  late_due : ComesDue → (moments : List ℕ) (l : Link H) → Ranges l → AreLate answer_of after moments l
+  late_due : ComesDue → (moments : List ℕ) (l : Link H) → MovesFit answer_of after (rounds moments) l → Ranges l → AreLate answer_of after moments l
       → ((run answer_of after (rounds moments) l).controller.session.state ≡ Closed) ⊎ AreDue answer_of after moments l
-  late_due comes [] l is late = inr tt
-  late_due comes (now ∷ later) l is late =
+  late_due comes [] l fits is late = inr tt
+  late_due comes (now ∷ later) l fits is late =
       let afterwards = run answer_of after (round now) l in
       elim (or_open l.controller.session.state) [
         | inl closed ↦ inl (rounds_closed (now ∷ later) l closed)
-        | inr unended ↦ elim (late_due comes later afterwards (run_range (round now) l is) late.1) [
+        | inr unended ↦ elim (late_due comes later afterwards fits.1.1.1 (run_range (round now) l (fits.0, (fits.1.0, (fits.1.1.0, tt))) is) late.1) [
           | inl closed ↦ inl closed
           | inr due ↦ inr (comes now l.controller is unended late.0, due)
         ]
       ]
 
-  pub in_time : ComesDue → (l : Link H) (moves : List Move) (moments : List ℕ) → Assumed answer_of after l.reader.config l.reader.handler
-      → Begins l → IsInRange l.controller.session → MovesFit answer_of after moves l
-      → let later = run answer_of after moves l in
-      IsClear later → AreLate answer_of after moments later → MovesFit answer_of after (rounds moments) later
-      → let last = run answer_of after (rounds moments) later in
-      (last.controller.session.state ≡ Closed) ⊎ ComeOn moments later.account last.account
-  in_time comes l moves moments given b is fits clear late more =
-      elim (late_due comes moments (run answer_of after moves l) (run_range moves l is) late) [
+  pub in_time : ReadEachOther answer_of after → ComesDue → ComesThroughInTime answer_of after
+  in_time peers comes l moves moments b is fits clear late more =
+      elim (late_due comes moments (run answer_of after moves l) more (run_range moves l fits is) late) [
         | inl closed ↦ inl closed
-        | inr due ↦ inr (comes_through answer_of after l moves moments given b fits clear due more)
+        | inr due ↦ inr (comes_through answer_of after peers l moves moments b fits clear due more)
       ]

@@ -1,6 +1,7 @@
 -- Lines: what is on the way, the oldest first.
-use Rattle.std.proofs.Common.{Bool, true, false, cond, zero, suc, All, arith, List, [], ◌∷◌, ◌++◌, inl, inr}
+use Rattle.std.proofs.Common.{Bool, true, false, cond, zero, suc, All, arith, List, [], ◌∷◌, ◌++◌, inl, inr, ℕ}
 use Rattle.osdp_frame.specs.Packet.{Packet}
+use Rattle.osdp_link_laws.specs.Link.{lost_at}
 use Rattle.osdp_link_laws.proofs.Stages.{Each, Runs}
 
 pub each_append : {A : Type 0} (P : A → Type 0) (xs ys : List A) → Each P xs → Each P ys → Each P (xs ++ ys)
@@ -34,6 +35,11 @@ runs_each P Q R f g [] runs = tt
 runs_each P Q R f g (p ∷ ps) (inl first) = (f p first.0, runs_each P Q R f g ps first.1)
 runs_each P Q R f g (p ∷ ps) (inr last) = (g p last.0, each_map Q R g ps last.1)
 
+pub runs_map : (P P′ Q Q′ : Packet → Type 0) → ((p : Packet) → P p → P′ p) → ((p : Packet) → Q p → Q′ p) → (ps : List Packet) → Runs P Q ps → Runs P′ Q′ ps
+runs_map P P′ Q Q′ f g [] runs = tt
+runs_map P P′ Q Q′ f g (p ∷ ps) (inl first) = inl (f p first.0, runs_map P P′ Q Q′ f g ps first.1)
+runs_map P P′ Q Q′ f g (p ∷ ps) (inr last) = inr (g p last.0, each_map Q Q′ g ps last.1)
+
 pub runs_append : (P Q : Packet → Type 0) (ps qs : List Packet) → Runs P Q ps → Each Q qs → Runs P Q (ps ++ qs)
 runs_append P Q [] [] runs all = tt
 runs_append P Q [] (q ∷ qs) runs all = inr (all.0, all.1)
@@ -55,3 +61,17 @@ both P false x y first second = second
 pub chosen : {A : Type 0} (Q P : A → Type 0) (b : Bool) (x y : A) → (Q x → P x) → (Q y → P y) → Q (cond b x y) → P (cond b x y)
 chosen Q P true x y first second is = first is
 chosen Q P false x y first second is = second is
+
+-- without what stands at one place
+pub each_lost : {A : Type 0} (P : A → Type 0) (place : ℕ) (xs : List A) → Each P xs → Each P (lost_at place xs)
+each_lost P place [] all = tt
+each_lost P zero (x ∷ xs) all = all.1
+each_lost P (suc place) (x ∷ xs) all = (all.0, each_lost P place xs all.1)
+
+pub runs_lost : (P Q : Packet → Type 0) (place : ℕ) (ps : List Packet) → Runs P Q ps → Runs P Q (lost_at place ps)
+runs_lost P Q place [] runs = tt
+runs_lost P Q zero (p ∷ ps) (inl first) = first.1
+runs_lost P Q zero (p ∷ []) (inr last) = tt
+runs_lost P Q zero (p ∷ q ∷ ps) (inr last) = inr last.1
+runs_lost P Q (suc place) (p ∷ ps) (inl first) = inl (first.0, runs_lost P Q place ps first.1)
+runs_lost P Q (suc place) (p ∷ ps) (inr last) = inr (last.0, each_lost Q place ps last.1)

@@ -1,11 +1,13 @@
 -- What holds of a session holds after each move.
-use Rattle.std.proofs.Common.{◌≡◌, ◌⊎◌, ◌<◌, ℕ, Bool, true, false, List, [], ◌∷◌, ◌++◌, Option, Some, None, Ok, refl, sym, subst, ap, ◌∙◌, inl, inr, arith, append_assoc}
+use Rattle.std.proofs.Common.{◌≡◌, ◌≢◌, ◌⊎◌, ◌<◌, ℕ, Bool, true, false, List, [], ◌∷◌, ◌++◌, Option, Some, None, Ok, refl, sym, subst, ap, ◌∙◌, inl, inr, arith, append_assoc}
 use Rattle.std.proofs.lemmas.List.{append-nil}
 use Rattle.std.specs.Prelude.{option_to_list}
 use Rattle.osdp_frame.specs.Packet.{Packet, next_sequence}
 use Rattle.osdp_msg.specs.CommandTable.{CommandFits}
 use Rattle.osdp_msg.specs.ReplyTable.{ReplyFits}
 use Rattle.osdp_msg.specs.declared.command.Command.{Command}
+use Rattle.osdp_msg.specs.declared.command.Command.TheVariants as command
+use Rattle.osdp_controller.specs.Machine.{Machine, submit_refusal}
 use Rattle.osdp_msg.specs.declared.event.Event.{Event}
 use Rattle.osdp_msg.specs.declared.reply.Reply.{Reply}
 use Rattle.osdp_controller.specs.Answers as packets
@@ -21,22 +23,29 @@ use Rattle.osdp_controller.specs.declared.fault.ControllerFault.{ControllerFault
 use Rattle.osdp_reader.specs.declared.config.ReaderConfig.{ReaderConfig}
 use Rattle.osdp_reader.specs.declared.handler.Answer.{Answer}
 use Rattle.osdp_reader.specs.Queue.{Queue, queued}
-use Rattle.osdp_reader.specs.State.{ReaderState, after_set_busy, after_submit}
+use Rattle.osdp_reader.specs.State.{ReaderState, after_submit}
 use Rattle.osdp_reader.specs.Table.{command_in}
 use Rattle.osdp_reader_laws.specs.Laws.{AnswersPlainly, IsPlain}
 use Rattle.osdp_link_laws.specs.Headline.{MaySubmit}
 use Rattle.osdp_link_laws.specs.Link as link
 use Rattle.osdp_link_laws.specs.Link.{Link, told}
 use Rattle.osdp_link_laws.specs.Peers.{TellsItsEvent}
-use Rattle.osdp_link_laws.proofs.Advancing.{HoldsAtSomeStage}
+use Rattle.osdp_link_laws.proofs.Since.{events_same, past_same}
 use Rattle.osdp_link_laws.proofs.Lines.{each_append, each_rest, runs_append, runs_first}
-use Rattle.osdp_link_laws.proofs.Stages.{Accounts, After, Asks, Behind, ControllerAt, Each, Fresh, HasActed, IsAsked, IsFrame, IsOldFrame, Level, Offers, OffersEvent, Past, ReaderAt, Rest, Runs, SaysOld, Stage, Start, ToReaderAt, answer, frame, given_up, given_up_at, number_after, pending, pending_at, shown}
+use Rattle.osdp_link_laws.proofs.Stages.{Accounts, After, Asks, Before, Behind, ControllerAt, Each, Fresh, HasActed, IsAsked, IsFrame, IsOldFrame, Knows, Level, Never, Now, Offers, OffersEvent, Past, ReaderAt, Rest, Restarted, Runs, SaysOld, Stage, Start, ToReaderAt, answer, frame, given_up, given_up_at, number_after, pending, pending_at, shown, shown_at}
 use Rattle.osdp_link_laws.proofs.Parts.{At, with_reader, with_session, with_to_reader}
 use Rattle.osdp_link_laws.proofs.Ticks.{Begun, RestsOn, Unchanged, ticks_asking, ticks_resting, ticks_waiting}
 
 pub runs_last : (P Q : Packet → Type 0) (ps : List Packet) → Each Q ps → Runs P Q ps
 runs_last P Q [] all = tt
 runs_last P Q (p ∷ ps) all = inr (all.0, all.1)
+
+-- POLL is refused
+pub not_poll : (c : Command) (m : Machine) → submit_refusal c m ≡ None → c ≢ command.Poll
+not_poll c m e poll = refused (subst (λ d. submit_refusal d m ≡ None) poll e)
+  where
+    refused : submit_refusal command.Poll m ≢ None
+    refused e = absurd cc
 
 pub asked_fits : (past : Past) (x : Exchange) → IsAsked past x → CommandFits (exchange_command x)
 asked_fits Start Opening asked = omega arith
@@ -56,26 +65,43 @@ still_offers Polling a event q offers = offers_more (event_in a) event q offers
 still_offers (Asking c) a event q offers = offers
 
 module _ (fixed : ControllerConfig) {H : Type 0} where
-  -- what a reader keeps of its last command: neither an event nor BUSY changes it
+  -- what a reader keeps of its last command: no event, no BUSY and no other handler changes it
   acted_queues : (n : ℕ) (x : Exchange) (a : Reply) (event : Event) (r : ReaderState H) → HasActed fixed n x a r → HasActed fixed n x a (after_submit event r)
   acted_queues n Opening a event r acted = record { here = acted.here; offer = acted.offer }
   acted_queues n Polling a event r acted = record { here = acted.here; offer = still_offers Polling a event r.queue acted.offer }
   acted_queues n (Asking c) a event r acted = record { here = acted.here; offer = acted.offer }
 
-  acted_busy : (n : ℕ) (x : Exchange) (a : Reply) (busy : Bool) (r : ReaderState H) → HasActed fixed n x a r → HasActed fixed n x a (after_set_busy busy r)
-  acted_busy n Opening a busy r acted = record { here = acted.here; offer = acted.offer }
-  acted_busy n Polling a busy r acted = record { here = acted.here; offer = acted.offer }
-  acted_busy n (Asking c) a busy r acted = record { here = acted.here; offer = acted.offer }
+  knows_queues : (since : Restarted) (n : ℕ) (x : Exchange) (a : Reply) (event : Event) (r : ReaderState H) → Knows fixed since n x a r
+      → Knows fixed since n x a (after_submit event r)
+  knows_queues Never n x a event r acted = acted_queues n x a event r acted
+  knows_queues Before n x a event r acted = acted_queues n x a event r acted
+  knows_queues Now n x a event r none = none
 
-  reader_changes : (r s : ReaderState H) → ((n : ℕ) (x : Exchange) (a : Reply) → HasActed fixed n x a r → HasActed fixed n x a s)
-      → (at : Stage) → ReaderAt fixed at r → ReaderAt fixed at s
-  reader_changes r s change Fresh is = tt
-  reader_changes r s change (Behind Start x) is = tt
-  reader_changes r s change (Behind (After n y b) x) is = change n y b is
-  reader_changes r s change (Level past x a) is = change (number_after past) x a is
-  reader_changes r s change (Rest n x a) is = change n x a is
+  -- .. whether it is busy, and its handler, are no matter
+  abbrev otherwise : Bool → H → ReaderState H → ReaderState H
+  otherwise busy handler r = record r { busy = busy; handler = handler }
 
-module _ (fixed : ControllerConfig) {H : Type 0} (answer_of : H → Command → Answer) (after : H → Command → H) (settings : ReaderConfig) (first : H) where
+  acted_otherwise : (n : ℕ) (x : Exchange) (a : Reply) (busy : Bool) (handler : H) (r : ReaderState H) → HasActed fixed n x a r
+      → HasActed fixed n x a (otherwise busy handler r)
+  acted_otherwise n Opening a busy handler r acted = record { here = acted.here; offer = acted.offer }
+  acted_otherwise n Polling a busy handler r acted = record { here = acted.here; offer = acted.offer }
+  acted_otherwise n (Asking c) a busy handler r acted = record { here = acted.here; offer = acted.offer }
+
+  knows_otherwise : (since : Restarted) (n : ℕ) (x : Exchange) (a : Reply) (busy : Bool) (handler : H) (r : ReaderState H) → Knows fixed since n x a r
+      → Knows fixed since n x a (otherwise busy handler r)
+  knows_otherwise Never n x a busy handler r acted = acted_otherwise n x a busy handler r acted
+  knows_otherwise Before n x a busy handler r acted = acted_otherwise n x a busy handler r acted
+  knows_otherwise Now n x a busy handler r none = none
+
+  reader_changes : (since : Restarted) (r s : ReaderState H) → ((n : ℕ) (x : Exchange) (a : Reply) → Knows fixed since n x a r → Knows fixed since n x a s)
+      → (at : Stage) → ReaderAt fixed since at r → ReaderAt fixed since at s
+  reader_changes since r s change Fresh is = tt
+  reader_changes since r s change (Behind Start x) is = tt
+  reader_changes since r s change (Behind (After n y b) x) is = change n y b is
+  reader_changes since r s change (Level past x a) is = change (number_after past) x a is
+  reader_changes since r s change (Rest n x a) is = change n x a is
+
+module _ (fixed : ControllerConfig) {H : Type 0} (answer_of : H → Command → Answer) (after : H → Command → H) (settings : ReaderConfig) where
   -- what the ends read of each other's packets, and that a reader's answers are plain
   pub record Premises : Type 0 where
     pub device : fixed.address < 127
@@ -85,55 +111,67 @@ module _ (fixed : ControllerConfig) {H : Type 0} (answer_of : H → Command → 
     pub tells : TellsItsEvent
     pub plainly : AnswersPlainly answer_of after
 
+module _ (fixed : ControllerConfig) {H : Type 0} (answer_of : H → Command → Answer) (after : H → Command → H) (settings : ReaderConfig) (since : Restarted) where
   abbrev AtStage : Stage → Link H → Type 0
-  AtStage at l = At fixed answer_of after settings first at l
+  AtStage at l = At fixed answer_of after settings since at l
 
-  abbrev AtSomeStage : Link H → Type 0
-  AtSomeStage l = HoldsAtSomeStage fixed answer_of after settings first l
+  abbrev Stays : Link H → Type 0
+  Stays l = (at : Stage) × AtStage at l
 
-  pub submitting : (refusal : Option ControllerFault) (c : Command) (l : Link H) → (refusal ≡ None → MaySubmit c) → AtSomeStage l
-      → AtSomeStage (link.submits refusal c l)
-  submitting (Some fault) c l may h = h
-  submitting None c l may (at, h) = (
-    at,
-    record {
-      stage = h.stage;
-      controller = h.controller;
-      waiting = each_append MaySubmit l.controller.waiting (c ∷ []) h.waiting (may refl, tt);
-      reader = h.reader;
-      answering = h.answering;
-      to_reader = h.to_reader;
-      to_controller = h.to_controller;
-      account = record {
-        issued = ap (λ all. all ++ c ∷ []) h.account.issued
-            ∙ append_assoc l.account.taken (pending_at at ++ l.controller.waiting) (c ∷ [])
-            ∙ ap (λ all. l.account.taken ++ all) (append_assoc (pending_at at) l.controller.waiting (c ∷ []));
-        settled = h.account.settled;
-        unsettled = h.account.unsettled;
-        told = h.account.told;
-        offered = h.account.offered;
-      };
-    },
-  )
+  fresh_begins : {l : Link H} → (x : Exchange) × AtStage (Behind Start x) l → Stays l
+  fresh_begins (x, h) = (Behind Start x, h)
 
-  pub queueing : (full : Bool) (e : Event) (l : Link H) → AtSomeStage l → AtSomeStage (link.queues full e l)
-  queueing true e l h = h
-  queueing false e l (at, h) = (
-    at,
-    with_reader fixed answer_of after settings first at l (queued e l.reader.queue) l.reader.busy (l.account.queued ++ e ∷ []) h
-        (reader_changes fixed l.reader (after_submit e l.reader) (λ n x a. acted_queues fixed n x a e l.reader) at h.reader) (
-          h.account.told.0,
-          ap (λ all. all ++ e ∷ []) h.account.told.1 ∙ append_assoc h.account.told.0 l.reader.queue.events (e ∷ []),
-          h.account.told.2,
-        ),
-  )
+  pub submitting : (refusal : Option ControllerFault) (c : Command) (at : Stage) (l : Link H) → (refusal ≡ None → MaySubmit c) → AtStage at l
+      → AtStage at (link.submits refusal c l)
+  submitting (Some fault) c at l may h = h
+  submitting None c at l may h =
+      let t = record l.account { issued = l.account.issued ++ c ∷ [] } in
+      record {
+        stage = h.stage;
+        controller = h.controller;
+        waiting = each_append MaySubmit l.controller.waiting (c ∷ []) h.waiting (may refl, tt);
+        reader = h.reader;
+        answering = h.answering;
+        to_reader = h.to_reader;
+        to_controller = h.to_controller;
+        account = record {
+          issued = ap (λ all. all ++ c ∷ []) h.account.issued
+              ∙ append_assoc l.account.taken (pending_at at ++ l.controller.waiting) (c ∷ [])
+              ∙ ap (λ all. l.account.taken ++ all) (append_assoc (pending_at at) l.controller.waiting (c ∷ []));
+          answered = h.account.answered;
+          settled = h.account.settled;
+          unsettled = h.account.unsettled;
+          told = events_same since (shown_at at) l.reader.queue.events l.account t refl refl refl
+              (λ past. past_same since (shown_at at) past l.account t refl refl) h.account.told;
+          offered = h.account.offered;
+          restarts = h.account.restarts;
+        };
+      }
 
-  pub being_busy : (busy : Bool) (l : Link H) → AtSomeStage l → AtSomeStage (record l { reader = after_set_busy busy l.reader })
-  being_busy busy l (at, h) = (
-    at,
-    with_reader fixed answer_of after settings first at l l.reader.queue busy l.account.queued h
-        (reader_changes fixed l.reader (after_set_busy busy l.reader) (λ n x a. acted_busy fixed n x a busy l.reader) at h.reader) h.account.told,
-  )
+  pub queueing : (full : Bool) (e : Event) (at : Stage) (l : Link H) → AtStage at l → AtStage at (link.queues full e l)
+  queueing true e at l h = h
+  queueing false e at l h =
+      let t = record l.account { queued = l.account.queued ++ e ∷ []; kept = l.account.kept ++ e ∷ [] } in
+      let told = h.account.told in
+      with_reader fixed answer_of after settings since at l (after_submit e l.reader) (l.account.queued ++ e ∷ []) (l.account.kept ++ e ∷ []) h
+      (reader_changes fixed since l.reader (after_submit e l.reader) (λ n x a. knows_queues fixed since n x a e l.reader) at h.reader)
+      (record { id = h.answering.id; caps = h.answering.caps })
+      (record {
+        left = told.left;
+        past = told.past;
+        queued = ap (λ all. all ++ e ∷ []) told.queued ∙ append_assoc told.left l.reader.queue.events (e ∷ []);
+        kept = ap (λ all. all ++ e ∷ []) told.kept ∙ append_assoc told.past l.reader.queue.events (e ∷ []);
+        without = told.without;
+        reported = past_same since (shown_at at) told.past l.account t refl refl told.reported;
+      })
+
+  -- BUSY on or off, or another handler
+  pub being_otherwise : (busy : Bool) (handler : H) (at : Stage) (l : Link H) → AtStage at l
+      → AtStage at (record l { reader = record l.reader { busy = busy; handler = handler } })
+  being_otherwise busy handler at l h =
+      with_reader fixed answer_of after settings since at l (otherwise fixed busy handler l.reader) l.account.queued l.account.kept h
+      (reader_changes fixed since l.reader (otherwise fixed busy handler l.reader) (λ n x a. knows_otherwise fixed since n x a busy handler l.reader) at h.reader)
+      (record { id = h.answering.id; caps = h.answering.caps }) h.account.told
 
   -- a tick that begins no exchange
   ticked_at : (at : Stage) (t : Ticked) (l : Link H) → t.waiting ≡ l.controller.waiting
@@ -147,8 +185,8 @@ module _ (fixed : ControllerConfig) {H : Type 0} (answer_of : H → Command → 
         account = told t.step.report l.account;
       })) (sym waits)
       (subst (λ a. AtStage at (record l { controller = record l.controller { session = t.session }; to_reader = ps; account = a })) (sym says)
-      (with_session fixed answer_of after settings first at (record l { to_reader = ps }) t.session
-      (with_to_reader fixed answer_of after settings first at l ps h line) stands))
+      (with_session fixed answer_of after settings since at (record l { to_reader = ps }) t.session
+      (with_to_reader fixed answer_of after settings since at l ps h line) stands))
 
   -- an exchange begins after another
   begins : (past : Past) (n : ℕ) (t : Ticked) (l : Link H) → n ≡ number_after past → Begun fixed past n l.controller.waiting t
@@ -184,18 +222,17 @@ module _ (fixed : ControllerConfig) {H : Type 0} (answer_of : H → Command → 
 
   -- an exchange that begins: the account has its command as pending
   begun_account : (x : Exchange) (ws : List Command) (lost : List Command) (front : List Event) (l : Link H) → l.controller.waiting ≡ pending x ++ ws
-      → lost ≡ [] → Accounts fixed answer_of after settings first [] [] [] front [] l.controller.waiting l.reader.queue.events l.account
-      → Accounts fixed answer_of after settings first (pending x) [] lost front [] ws l.reader.queue.events l.account
+      → lost ≡ [] → Accounts fixed answer_of after settings since [] [] [] front [] l.controller.waiting l.reader.queue.events l.account
+      → Accounts fixed answer_of after settings since (pending x) [] lost front [] ws l.reader.queue.events l.account
   begun_account x ws lost front l waits none a = record {
     issued = a.issued ∙ ap (λ w. l.account.taken ++ w) waits;
+    answered = a.answered;
     settled = a.settled;
     unsettled = a.unsettled ∙ sym none;
     told = a.told;
     offered = a.offered;
+    restarts = a.restarts;
   }
-
-  fresh_begins : {l : Link H} → (x : Exchange) × AtStage (Behind Start x) l → AtSomeStage l
-  fresh_begins (x, h) = (Behind Start x, h)
 
   -- where no exchange is outstanding one begins, or nothing happens
   pub ticking_rest : (n : ℕ) (x : Exchange) (a : Reply) (now : ℕ) (l : Link H) → AtStage (Rest n x a) l
@@ -218,7 +255,7 @@ module _ (fixed : ControllerConfig) {H : Type 0} (answer_of : H → Command → 
         | inr unchanged ↦ inr unchanged
       ]
 
-  pub ticking : (at : Stage) (now : ℕ) (l : Link H) → AtStage at l → AtSomeStage (link.ticked (ticks now l.controller.session l.controller.waiting) l)
+  pub ticking : (at : Stage) (now : ℕ) (l : Link H) → AtStage at l → Stays (link.ticked (ticks now l.controller.session l.controller.waiting) l)
   ticking Fresh now l h =
       let t = ticks now l.controller.session l.controller.waiting in
       elim (ticks_waiting fixed l.controller.session l.controller.waiting now h.controller) [
@@ -230,7 +267,7 @@ module _ (fixed : ControllerConfig) {H : Type 0} (answer_of : H → Command → 
           answering = h.answering;
           to_reader = runs_first (IsOldFrame fixed Start) (IsFrame fixed x 0) l.to_reader (frame fixed x 0 ∷ [])
               (subst (Each (IsOldFrame fixed Start)) (sym h.to_reader) tt) (refl, tt);
-          to_controller = subst (Each (SaysOld fixed Start)) (sym h.to_controller) tt;
+          to_controller = subst (Each (SaysOld fixed since Start)) (sym h.to_controller) tt;
           account = begun_account x ws (given_up t.session.state x) [] l waits none h.account;
         }))
         | inr (waits, silent, quiet, on) ↦ (

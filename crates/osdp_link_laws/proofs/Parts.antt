@@ -1,5 +1,5 @@
 -- What holds of a session where one part of the link changes.
-use Rattle.std.proofs.Common.{◌≡◌, ◌++◌, Bool, List, refl, sym, subst}
+use Rattle.std.proofs.Common.{List, refl, sym, subst}
 use Rattle.osdp_frame.specs.Packet.{Packet}
 use Rattle.osdp_msg.specs.declared.command.Command.{Command}
 use Rattle.osdp_msg.specs.declared.event.Event.{Event}
@@ -7,17 +7,23 @@ use Rattle.osdp_controller.specs.declared.config.ControllerConfig.{ControllerCon
 use Rattle.osdp_controller.specs.declared.session.Session.{Session}
 use Rattle.osdp_reader.specs.declared.config.ReaderConfig.{ReaderConfig}
 use Rattle.osdp_reader.specs.declared.handler.Answer.{Answer}
-use Rattle.osdp_reader.specs.Queue.{Queue}
+use Rattle.osdp_reader.specs.State.{ReaderState}
 use Rattle.osdp_link_laws.specs.Link.{Link}
-use Rattle.osdp_link_laws.proofs.Stages.{ControllerAt, Holds, ReaderAt, Stage, ToControllerAt, ToReaderAt, given_up_at, shown_at}
+use Rattle.osdp_link_laws.proofs.Since.{events_same, past_same}
+use Rattle.osdp_link_laws.proofs.Stages.{Answering, ControllerAt, EventsAre, Holds, ReaderAt, Restarted, Stage, ToControllerAt, ToReaderAt, given_up_at, shown_at}
 
-module _ (fixed : ControllerConfig) {H : Type 0} (answer_of : H → Command → Answer) (after : H → Command → H) (settings : ReaderConfig) (first : H) where
+module _ (fixed : ControllerConfig) {H : Type 0} (answer_of : H → Command → Answer) (after : H → Command → H) (settings : ReaderConfig) where
+  -- how far the session has come, and whether the reader has restarted in it
+  abbrev pub HoldsAtSomeStage : Link H → Type 0
+  HoldsAtSomeStage l = (since : Restarted) × (at : Stage) × Holds fixed answer_of after settings since at l
+
+module _ (fixed : ControllerConfig) {H : Type 0} (answer_of : H → Command → Answer) (after : H → Command → H) (settings : ReaderConfig) (since : Restarted) where
   abbrev pub At : Stage → Link H → Type 0
-  At at l = Holds fixed answer_of after settings first settings.id at l
+  At at l = Holds fixed answer_of after settings since at l
 
   -- a session that ends leaves its outstanding command unsettled
   with_parts : (at : Stage) (l : Link H) (s : Session) (ps qs : List Packet) → At at l → ControllerAt fixed at s → ToReaderAt fixed at ps
-      → ToControllerAt fixed at qs
+      → ToControllerAt fixed since at qs
       → At at (record l {
         controller = record l.controller { session = s };
         to_reader = ps;
@@ -32,7 +38,16 @@ module _ (fixed : ControllerConfig) {H : Type 0} (answer_of : H → Command → 
     answering = h.answering;
     to_reader = there;
     to_controller = here;
-    account = record { issued = h.account.issued; settled = h.account.settled; unsettled = refl; told = h.account.told; offered = h.account.offered };
+    account = record {
+      issued = h.account.issued;
+      answered = h.account.answered;
+      settled = h.account.settled;
+      unsettled = refl;
+      told = events_same since (shown_at at) l.reader.queue.events l.account (record l.account { unsettled = given_up_at at s.state }) refl refl refl
+          (λ past. past_same since (shown_at at) past l.account (record l.account { unsettled = given_up_at at s.state }) refl refl) h.account.told;
+      offered = h.account.offered;
+      restarts = h.account.restarts;
+    };
   }
 
   pub with_session : (at : Stage) (l : Link H) (s : Session) → At at l → ControllerAt fixed at s
@@ -42,7 +57,7 @@ module _ (fixed : ControllerConfig) {H : Type 0} (answer_of : H → Command → 
       })
   with_session at l s h is = with_parts at l s l.to_reader l.to_controller h is h.to_reader h.to_controller
 
-  with_lines : (at : Stage) (l : Link H) (ps qs : List Packet) → At at l → ToReaderAt fixed at ps → ToControllerAt fixed at qs
+  with_lines : (at : Stage) (l : Link H) (ps qs : List Packet) → At at l → ToReaderAt fixed at ps → ToControllerAt fixed since at qs
       → At at (record l { to_reader = ps; to_controller = qs })
   with_lines at l ps qs h there here =
       subst (λ cs. At at (record l { to_reader = ps; to_controller = qs; account = record l.account { unsettled = cs } })) (sym h.account.unsettled)
@@ -51,21 +66,28 @@ module _ (fixed : ControllerConfig) {H : Type 0} (answer_of : H → Command → 
   pub with_to_reader : (at : Stage) (l : Link H) (ps : List Packet) → At at l → ToReaderAt fixed at ps → At at (record l { to_reader = ps })
   with_to_reader at l ps h line = with_lines at l ps l.to_controller h line h.to_controller
 
-  pub with_to_controller : (at : Stage) (l : Link H) (qs : List Packet) → At at l → ToControllerAt fixed at qs → At at (record l { to_controller = qs })
+  pub with_to_controller : (at : Stage) (l : Link H) (qs : List Packet) → At at l → ToControllerAt fixed since at qs → At at (record l { to_controller = qs })
   with_to_controller at l qs h line = with_lines at l l.to_reader qs h h.to_reader line
 
-  -- another queue, or a reader that is busy, where it keeps the same of its last command
-  pub with_reader : (at : Stage) (l : Link H) (queue : Queue) (busy : Bool) (queued : List Event) → At at l
-      → ReaderAt fixed at (record l.reader { queue = queue; busy = busy })
-      → (past : List Event) × (queued ≡ past ++ queue.events) × (l.account.reported ≡ past ++ shown_at at)
-      → At at (record l { reader = record l.reader { queue = queue; busy = busy }; account = record l.account { queued = queued } })
-  with_reader at l queue busy queued h is told = record {
+  -- another reader of the same kind, where it keeps the same of its last command
+  pub with_reader : (at : Stage) (l : Link H) (r : ReaderState H) (queued kept : List Event) → At at l → ReaderAt fixed since at r → Answering settings r.config
+      → EventsAre since (shown_at at) r.queue.events (record l.account { queued = queued; kept = kept })
+      → At at (record l { reader = r; account = record l.account { queued = queued; kept = kept } })
+  with_reader at l r queued kept h is answers told = record {
     stage = h.stage;
     controller = h.controller;
     waiting = h.waiting;
     reader = is;
-    answering = h.answering;
+    answering = answers;
     to_reader = h.to_reader;
     to_controller = h.to_controller;
-    account = record { issued = h.account.issued; settled = h.account.settled; unsettled = h.account.unsettled; told = told; offered = h.account.offered };
+    account = record {
+      issued = h.account.issued;
+      answered = h.account.answered;
+      settled = h.account.settled;
+      unsettled = h.account.unsettled;
+      told = told;
+      offered = h.account.offered;
+      restarts = h.account.restarts;
+    };
   }

@@ -1,42 +1,87 @@
--- No session ends by a refused number.
-use Rattle.std.proofs.Common.{List, All, Option, Some, sym, subst}
-use Rattle.std.specs.Prelude.{IfSome}
+-- No session in which the reader hasn't restarted ends by a refused number.
+use Rattle.std.proofs.Common.{◌≡◌, ℕ, List, [], ◌∷◌, Option, Some, None, sym, subst, arith}
+use Rattle.std.specs.Prelude.{IfSome, option_to_list}
 use Rattle.osdp_msg.specs.declared.command.Command.{Command}
 use Rattle.osdp_controller.specs.Sessions.{seen}
 use Rattle.osdp_controller.specs.declared.report.Report.{Report}
 use Rattle.osdp_controller.specs.declared.report.Report.TheVariants as report
 use Rattle.osdp_reader.specs.declared.config.ReaderConfig.{ReaderConfig}
 use Rattle.osdp_reader.specs.declared.handler.Answer.{Answer}
-use Rattle.osdp_link_laws.specs.Headline.{MovesFit, Begins, handler_after}
-use Rattle.osdp_link_laws.specs.Link.{Link, Move, Queue as QueueEvent, Reopen, SetBusy, Submit, Tick, ToController, ToReader}
-use Rattle.osdp_link_laws.specs.Refusals.{IsNoRefusal, IsOtherCause, reports, told_by, told_by_front}
+use Rattle.osdp_link_laws.specs.Headline.{MovesFit}
+use Rattle.osdp_link_laws.specs.Link.{Link, Move, Queue as QueueEvent, Reopen, RestartController, RestartReader, Retarget, SetBusy, SetHandler, Submit, Tick, ToController, ToReader, Withdraw, after_move, run, LoseToReader, LoseToController}
+use Rattle.osdp_link_laws.specs.Peers.{IsPlainlySaid, ReadEachOther}
+use Rattle.osdp_link_laws.specs.Refusals.{IsNoRefusal, IsOtherCause, KeepsReader, RefusesNoNumber, RefusesNoNumberWithoutRestart, SaysAllPlainly, reports, told_by, told_by_front}
 use Rattle.osdp_link_laws.proofs.Deliveries.{all_said}
-use Rattle.osdp_link_laws.proofs.InARow.{Assumed, Stands}
+use Rattle.osdp_link_laws.proofs.InARow.{Assumed, Stands, assumed_of, begins, standing, stands}
+use Rattle.osdp_link_laws.proofs.Kept.{AllKept, first_kept, move_kept}
+use Rattle.osdp_link_laws.proofs.Lines.{each_all, each_append, each_of}
+use Rattle.osdp_link_laws.proofs.Removed.{as_waiting}
 use Rattle.osdp_link_laws.proofs.Reports.{MayBring, front_so, tick_so}
-use Rattle.osdp_link_laws.proofs.ToldAlong.{all_reports}
+use Rattle.osdp_link_laws.proofs.Stages.{Before, Each, HasRestarted, MayRefuse, Never, Now, Restarted}
 
-abbrev pub NoRefusal : Option Report → Type 0
+abbrev NoRefusal : Option Report → Type 0
 NoRefusal r = IfSome r IsNoRefusal
 
 pub refuses_none : (r : Option Report) → MayBring r → NoRefusal r
 refuses_none (Some (report.Lost cause c)) busy = subst IsOtherCause (sym busy) tt
 refuses_none r may = tt
 
-module _ {H : Type 0} (answer_of : H → Command → Answer) (after : H → Command → H) (settings : ReaderConfig) (first : H) where
-  told_so : Assumed answer_of after settings first → (move : Move) (l : Link H) → Stands answer_of after settings first l → NoRefusal (told_by move l)
-  told_so given (Submit c) l h = tt
-  told_so given (QueueEvent e) l h = tt
-  told_so given (SetBusy busy) l h = tt
-  told_so given (Tick now) l h = tick_so NoRefusal tt (λ o. tt) l.controller.session.state (seen now l.controller.session) l.controller.waiting
-  told_so given (ToReader how) l h = tt
-  told_so given (ToController how now) l h =
-      let handler = handler_after answer_of after settings first l.earlier in
-      refuses_none (told_by_front how l.to_controller now l.controller.session) (front_so how l.to_controller now l.controller.session
-      (all_said h.fixed answer_of after settings handler (given h.fixed handler h.device) h.holds.0 l h.holds.1))
-  told_so given (Reopen now) l h = tt
+never_refuses : (since : Restarted) (count : ℕ) → HasRestarted since count → count ≡ 0 → MayRefuse since → ⊥
+never_refuses Never count is none may = may
+never_refuses Before count is none may = absurd (omega (arith, is, none))
+never_refuses Now count is none may = absurd (omega (arith, is, none))
 
-module _ {H : Type 0} (answer_of : H → Command → Answer) (after : H → Command → H) where
-  pub no_refusal : (l : Link H) (moves : List Move) → Assumed answer_of after l.reader.config l.reader.handler → Begins l → MovesFit answer_of after moves l
-      → All IsNoRefusal (reports answer_of after moves l)
-  no_refusal l moves given b fits =
-      all_reports IsNoRefusal answer_of after l moves given (λ move m may h. told_so answer_of after l.reader.config l.reader.handler given move m h) b fits
+pub one_report : (P : Report → Type 0) (r : Option Report) → IfSome r P → Each P (option_to_list r)
+one_report P None so = tt
+one_report P (Some r) so = (so, tt)
+
+module _ {H : Type 0} (answer_of : H → Command → Answer) (after : H → Command → H) (settings : ReaderConfig) where
+  pub says_plainly : Assumed answer_of after settings → (l : Link H) → Stands answer_of after settings l → l.account.restarts ≡ 0 → Each IsPlainlySaid l.to_controller
+  says_plainly given l s never =
+      let held = s.goes.holds in
+      all_said s.fixed answer_of after settings held.0 (given s.fixed s.device) (never_refuses held.0 l.account.restarts held.2.account.restarts never) held.1
+      (as_waiting l) held.2
+
+  told_so : Assumed answer_of after settings → (move : Move H) (l : Link H) → Stands answer_of after settings l → l.account.restarts ≡ 0 → NoRefusal (told_by move l)
+  told_so given (Tick now) l s never = tick_so NoRefusal tt (λ o. tt) l.controller.session.state (seen now l.controller.session) l.controller.waiting
+  told_so given (ToController how now) l s never =
+      refuses_none (told_by_front how l.to_controller now l.controller.session)
+      (front_so how l.to_controller now l.controller.session (says_plainly given l s never))
+  told_so given (Submit c) l s never = tt
+  told_so given (QueueEvent e) l s never = tt
+  told_so given (SetBusy busy) l s never = tt
+  told_so given (ToReader how) l s never = tt
+  told_so given (Reopen now) l s never = tt
+  told_so given (LoseToReader place) l s never = tt
+  told_so given (LoseToController place) l s never = tt
+  told_so given (SetHandler handler) l s never = tt
+  told_so given Withdraw l s never = tt
+  told_so given (Retarget address) l s never = tt
+  told_so given (RestartReader address handler room) l s never = tt
+  told_so given (RestartController config room) l s never = tt
+
+  each_so : Assumed answer_of after settings → (moves : List (Move H)) (l : Link H) → MovesFit answer_of after moves l → Each KeepsReader moves
+      → Stands answer_of after settings l → AllKept l → Each IsNoRefusal (reports answer_of after moves l)
+  each_so given [] l fits keep s kept = tt
+  each_so given (move ∷ moves) l fits keep s kept =
+      let new = after_move answer_of after move l in
+      each_append IsNoRefusal (option_to_list (told_by move l)) (reports answer_of after moves new)
+      (one_report IsNoRefusal (told_by move l) (told_so given move l s kept.0.restarts))
+      (each_so given moves new fits.1 keep.1 (standing answer_of after settings given move l fits.0 s) (move_kept answer_of after move l keep.0 kept))
+
+module _ {H : Type 0} (answer_of : H → Command → Answer) (after : H → Command → H) (peers : ReadEachOther answer_of after) where
+  pub all_plainly : SaysAllPlainly answer_of after
+  all_plainly l moves b fits never =
+      let later = run answer_of after moves l in
+      each_all IsPlainlySaid later.to_controller
+      (says_plainly answer_of after l.reader.config (assumed_of answer_of after peers l) later (stands answer_of after peers l moves b fits) never)
+
+  pub no_refusal : RefusesNoNumber answer_of after
+  no_refusal l moves move b fits never =
+      told_so answer_of after l.reader.config (assumed_of answer_of after peers l) move (run answer_of after moves l) (stands answer_of after peers l moves b fits) never
+
+  pub none_without_restart : RefusesNoNumberWithoutRestart answer_of after
+  none_without_restart l moves b fits keep =
+      each_all IsNoRefusal (reports answer_of after moves l)
+      (each_so answer_of after l.reader.config (assumed_of answer_of after peers l) moves l fits (each_of KeepsReader moves keep) (begins answer_of after l b)
+      (first_kept answer_of after l b))

@@ -13,49 +13,47 @@ use Rattle.osdp_reader.specs.declared.handler.Answer.{Answer}
 use Rattle.osdp_reader.specs.Queue.{released}
 use Rattle.osdp_reader.specs.State.{ReaderState}
 use Rattle.osdp_reader.specs.Table.{answer_to}
-use Rattle.osdp_link_laws.specs.Headline.{SaysWhatFits}
+use Rattle.osdp_link_laws.specs.Headline.{SaysWhatFits, asked}
 use Rattle.osdp_link_laws.specs.Link.{Account, Link}
 use Rattle.osdp_link_laws.specs.Progress.{SetsNoAddress}
 use Rattle.osdp_link_laws.specs.Sessions.{settled_commands}
-use Rattle.osdp_link_laws.proofs.Advancing.{HoldsAtSomeStage}
 use Rattle.osdp_link_laws.proofs.Due.{Acts}
 use Rattle.osdp_link_laws.proofs.Exchanges.{accounted, exchange_from_rest, rested_link}
 use Rattle.osdp_link_laws.proofs.Moves.{Premises}
-use Rattle.osdp_link_laws.proofs.Parts.{At}
+use Rattle.osdp_link_laws.proofs.Parts.{At, HoldsAtSomeStage}
 use Rattle.osdp_link_laws.proofs.Round.{IsIdle, at_tick, goes}
-use Rattle.osdp_link_laws.proofs.Sessions.{settled_command, taken_commands}
-use Rattle.osdp_link_laws.proofs.Stages.{Asks, Behind, Each, Fresh, Level, Rest, Rests, Stage, Waits, number_after, shown}
+use Rattle.osdp_link_laws.proofs.Sessions.{taken_commands}
+use Rattle.osdp_link_laws.proofs.Since.{Hears, events_of}
+use Rattle.osdp_link_laws.proofs.Stages.{Asks, Before, Behind, Each, Fresh, Level, Never, Now, Rest, Restarted, Rests, Stage, Waits, number_after, shown}
 
 abbrev pub counted : Account → ℕ
 counted t = length t.settled + length t.reported
 
 abbrev pub all_of : Account → ℕ
-all_of t = length t.issued + length t.queued
+all_of t = length t.issued + length t.kept
 
-module _ (fixed : ControllerConfig) {H : Type 0} (answer_of : H → Command → Answer) (after : H → Command → H) (settings : ReaderConfig) (first : H) where
-  abbrev AtStage : Stage → Link H → Type 0
-  AtStage at l = At fixed answer_of after settings first at l
-
+module _ (fixed : ControllerConfig) {H : Type 0} (answer_of : H → Command → Answer) (after : H → Command → H) (settings : ReaderConfig) where
   abbrev Idles : Link H → Type 0
-  Idles l = IsIdle fixed answer_of after settings first l
+  Idles l = IsIdle fixed answer_of after settings l
 
   -- where no exchange is outstanding, and no command and no event waits, all is settled and reported
-  done_all : (at : Stage) (l : Link H) → AtStage at l → (due : ℕ) → l.controller.session.state ≡ Idle due → l.controller.waiting ≡ []
+  done_all : (since : Restarted) (at : Stage) (l : Link H) → Hears since → At fixed answer_of after settings since at l → (due : ℕ) → l.controller.session.state ≡ Idle due → l.controller.waiting ≡ []
       → l.reader.queue.events ≡ [] → all_of l.account ≤ counted l.account
-  done_all Fresh l h due idle none empty = absurd (subst (λ st. Waits fixed st l.controller.session) idle h.controller)
-  done_all (Behind past x) l h due idle none empty =
+  done_all since Fresh l hears h due idle none empty = absurd (subst (λ st. Waits fixed st l.controller.session) idle h.controller)
+  done_all since (Behind past x) l hears h due idle none empty =
       absurd (subst (λ st. Asks fixed st (number_after past) x l.controller.session) idle h.controller)
-  done_all (Level past x a) l h due idle none empty =
+  done_all since (Level past x a) l hears h due idle none empty =
       absurd (subst (λ st. Asks fixed st (number_after past) x l.controller.session) idle h.controller)
-  done_all (Rest n x a) l h due idle none empty =
+  done_all since (Rest n x a) l hears h due idle none empty =
       let t = l.account in
-      let commands = taken_commands answer_of after settings first t [] h.account.settled in
+      let commands = taken_commands t [] h.account.answered h.account.settled in
       let settled : length t.settled ≡ length t.taken =
-      sym (length-map t.settled settled_command) ∙ ap length (sym (append-nil (settled_commands t)) ∙ commands) in
+      sym (length-map t.settled asked) ∙ ap length (sym (append-nil (settled_commands t)) ∙ commands) in
       let issued : length t.issued ≡ length t.taken = ap length (h.account.issued ∙ ap (λ ws. t.taken ++ ws) none ∙ append-nil t.taken) in
-      let past = h.account.told.0 in
-      let queued : length t.queued ≡ length past = ap length (h.account.told.1 ∙ ap (λ es. past ++ es) empty ∙ append-nil past) in
-      let reported : length t.reported ≡ length past + length (shown x a) = ap length h.account.told.2 ∙ length-append past (shown x a) in
+      let told = events_of since Before (shown x a) l.reader.queue.events t hears tt h.account.told in
+      let past = told.past in
+      let queued : length t.kept ≡ length past = ap length (told.kept ∙ ap (λ es. past ++ es) empty ∙ append-nil past) in
+      let reported : length t.reported ≡ length past + length (shown x a) = ap length told.reported ∙ length-append past (shown x a) in
       omega (arith, settled, issued, queued, reported)
 
   -- one more is settled or reported, or all is
@@ -77,10 +75,10 @@ module _ (fixed : ControllerConfig) {H : Type 0} (answer_of : H → Command → 
   issues_none (c ∷ waiting) events r t = refl
 
   abbrev Given : Type 0
-  Given = Premises fixed answer_of after settings first
+  Given = Premises fixed answer_of after settings
 
   -- the controller waits for nothing again
-  pub rested_idle : (now : ℕ) (l : Link H) → Idles l → Idles (rested_link fixed answer_of after settings first now l)
+  pub rested_idle : (now : ℕ) (l : Link H) → Idles l → Idles (rested_link fixed answer_of after settings now l)
   rested_idle now l idle = record {
     idle = (later l.controller.session.config.poll_interval (seen now (record (seen now l.controller.session) { number = next_sequence l.controller.session.number })), refl);
     still = record {
@@ -90,28 +88,38 @@ module _ (fixed : ControllerConfig) {H : Type 0} (answer_of : H → Command → 
       issued = subst (Each SetsNoAddress)
           (sym (issues_none l.controller.waiting (released l.reader.queue).events l.reader l.account)) idle.still.issued;
     };
+    known = (next_sequence l.controller.session.number, refl);
   }
 
+  -- a reader that knows its last number hears
+  hears_known : (since : Restarted) (at : Stage) (l : Link H) → At fixed answer_of after settings since at l → Idles l → Hears since
+  hears_known Never at l h idle = tt
+  hears_known Before at l h idle = tt
+  hears_known Now Fresh l h idle = absurd (subst (λ st. Waits fixed st l.controller.session) idle.idle.1 h.controller)
+  hears_known Now (Behind past x) l h idle = absurd (subst (λ st. Asks fixed st (number_after past) x l.controller.session) idle.idle.1 h.controller)
+  hears_known Now (Level past x a) l h idle = absurd (subst (λ st. Asks fixed st (number_after past) x l.controller.session) idle.idle.1 h.controller)
+  hears_known Now (Rest n x a) l h idle = absurd (let e = sym idle.known.1 ∙ h.reader in cc)
+
   -- a round from a controller that waits for nothing is an exchange from rest
-  pub idle_exchange : Given → (now : ℕ) (l : Link H) → HoldsAtSomeStage fixed answer_of after settings first l → Idles l
+  pub idle_exchange : Given → (now : ℕ) (l : Link H) → HoldsAtSomeStage fixed answer_of after settings l → Idles l
       → Acts (ticks now l.controller.session l.controller.waiting) → SaysWhatFits answer_of after (at_tick now l).to_reader l.reader
-      → goes answer_of after now l ≡ rested_link fixed answer_of after settings first now l
-  idle_exchange given now l (at, h) idle does fits = by_stage at h
+      → goes answer_of after now l ≡ rested_link fixed answer_of after settings now l
+  idle_exchange given now l (since, at, h) idle does fits = by_stage at h
     where
-      by_stage : (at : Stage) → AtStage at l → goes answer_of after now l ≡ rested_link fixed answer_of after settings first now l
+      by_stage : (at : Stage) → At fixed answer_of after settings since at l → goes answer_of after now l ≡ rested_link fixed answer_of after settings now l
       by_stage Fresh h = absurd (subst (λ st. Waits fixed st l.controller.session) idle.idle.1 h.controller)
       by_stage (Behind past x) h =
           absurd (subst (λ st. Asks fixed st (number_after past) x l.controller.session) idle.idle.1 h.controller)
       by_stage (Level past x a) h =
           absurd (subst (λ st. Asks fixed st (number_after past) x l.controller.session) idle.idle.1 h.controller)
       by_stage (Rest n y b) h =
-          exchange_from_rest fixed answer_of after settings first given now idle.idle.0 n y b l h idle.idle.1
+          exchange_from_rest fixed answer_of after settings given now idle.idle.0 since n y b l (hears_known since (Rest n y b) l h idle) h idle.idle.1
           (subst (λ st. Rests fixed st n l.controller.session) idle.idle.1 h.controller) idle.still does fits
 
   -- .. which settles or reports one more, unless all is
-  pub idle_round : Given → (now : ℕ) (l : Link H) → HoldsAtSomeStage fixed answer_of after settings first l → Idles l
+  pub idle_round : Given → (now : ℕ) (l : Link H) → HoldsAtSomeStage fixed answer_of after settings l → Idles l
       → Acts (ticks now l.controller.session l.controller.waiting) → SaysWhatFits answer_of after (at_tick now l).to_reader l.reader
-      → HoldsAtSomeStage fixed answer_of after settings first (goes answer_of after now l) → Idles (goes answer_of after now l) × OneMore l.account (goes answer_of after now l).account
+      → HoldsAtSomeStage fixed answer_of after settings (goes answer_of after now l) → Idles (goes answer_of after now l) × OneMore l.account (goes answer_of after now l).account
   idle_round given now l held idle does fits afterwards =
       let is = idle_exchange given now l held idle does fits in
       let m = goes answer_of after now l in
@@ -122,7 +130,7 @@ module _ (fixed : ControllerConfig) {H : Type 0} (answer_of : H → Command → 
         subst (λ k. OneMore l.account k.account) (sym is)
             (counts w events l.reader l.account (λ none empty.
             subst (λ k. all_of k.account ≤ counted k.account) is
-            (done_all afterwards.0 m afterwards.1
+            (done_all afterwards.0 afterwards.1 m (hears_known afterwards.0 afterwards.1 m afterwards.2 (subst Idles (sym is) rested)) afterwards.2
             (later l.controller.session.config.poll_interval (seen now (record (seen now l.controller.session) { number = next_sequence l.controller.session.number })))
             (ap (λ k. k.controller.session.state) is)
             (ap (λ k. k.controller.waiting) is ∙ ap (drop 1) none) (ap (λ k. k.reader.queue.events) is ∙ empty)))),

@@ -1,5 +1,5 @@
 -- A session that has ended leaves what the next one begins with.
-use Rattle.std.proofs.Common.{◌≡◌, ◌≤◌, ◌⊎◌, List, [], ◌∷◌, ◌++◌, length, map, Option, Some, None, refl, sym, subst, ap, ◌∙◌, inl, inr, arith, append_assoc}
+use Rattle.std.proofs.Common.{◌≡◌, ◌≤◌, ◌⊎◌, ◌+◌, ℕ, List, [], ◌++◌, length, map, Option, Some, None, refl, sym, subst, ap, ◌∙◌, inl, inr, arith, append_assoc}
 use Rattle.std.proofs.lemmas.List.{append-nil, map-append}
 use Rattle.std.specs.Prelude.{option_to_list}
 use Rattle.osdp_msg.specs.declared.command.Command.{Command}
@@ -13,16 +13,16 @@ use Rattle.osdp_controller.specs.declared.state.State.{State}
 use Rattle.osdp_controller.specs.declared.state.State.TheVariants.{Closed, Quiet, Idle, Waiting, Pausing}
 use Rattle.osdp_reader.specs.declared.config.ReaderConfig.{ReaderConfig}
 use Rattle.osdp_reader.specs.declared.handler.Answer.{Answer}
-use Rattle.osdp_reader.specs.Table.{answer_to}
-use Rattle.osdp_link_laws.specs.Headline.{with_answers}
+use Rattle.osdp_reader.specs.State.{ReaderState}
+use Rattle.osdp_link_laws.specs.Headline.{IsBeginning, asked}
 use Rattle.osdp_link_laws.specs.Link.{Account, Link}
-use Rattle.osdp_link_laws.specs.Sessions.{LastsOrLeaves, Leaves, settled_commands}
-use Rattle.osdp_link_laws.proofs.Once.{front_at}
+use Rattle.osdp_link_laws.specs.Sessions.{LastsOrLeaves, Leaves, LeavesCommands, LeavesEvents, settled_commands}
+use Rattle.osdp_link_laws.proofs.Once.{Goes}
+use Rattle.osdp_link_laws.proofs.Removed.{IsQuiet, as_waiting, given_up_in, gone}
+use Rattle.osdp_link_laws.proofs.Restarts.{front_at}
+use Rattle.osdp_link_laws.proofs.Since.{Hears}
 use Rattle.osdp_link_laws.proofs.Parts.{At}
-use Rattle.osdp_link_laws.proofs.Stages.{After, Behind, Fresh, Level, Rest, Stage, Start, Waits, given_up, given_up_at, owed, pending, shown, shown_at}
-
-abbrev pub settled_command : Command × Reply → Command
-settled_command p = p.0
+use Rattle.osdp_link_laws.proofs.Stages.{After, Before, Behind, EventsAre, Fresh, HasRestarted, Level, Never, Now, ReaderAt, Rest, Restarted, Stage, Start, given_up, given_up_at, owed, pending, shown, shown_at, unreported_at}
 
 one_pending : (x : Exchange) → length (pending x) ≤ 1
 one_pending Opening = omega arith
@@ -38,55 +38,11 @@ one_shown Opening a = omega arith
 one_shown Polling a = one_event (event_in a)
 one_shown (Asking c) a = omega arith
 
-one_shown_at : (at : Stage) → length (shown_at at) ≤ 1
-one_shown_at Fresh = omega arith
-one_shown_at (Behind Start x) = omega arith
-one_shown_at (Behind (After n y b) x) = one_shown y b
-one_shown_at (Level past x a) = omega arith
-one_shown_at (Rest n x a) = one_shown x a
-
 -- the command of an answer on its way is the pending one
-owed_command : (x : Exchange) (a : Reply) → map settled_command (owed x a) ≡ pending x
+owed_command : (x : Exchange) (a : Reply) → map asked (owed x a) ≡ pending x
 owed_command Opening a = refl
 owed_command Polling a = refl
 owed_command (Asking c) a = refl
-
--- what a session that has ended leaves of its commands
-abbrev Left : Account → List Command → Type 0
-Left t waiting =
-    (t.issued ≡ settled_commands t ++ (t.unsettled ++ waiting)) × (length t.unsettled ≤ 1)
-    × ((t.taken ≡ settled_commands t) ⊎ (t.taken ≡ settled_commands t ++ t.unsettled))
-
-module _ {H : Type 0} (answer_of : H → Command → Answer) (after : H → Command → H) (settings : ReaderConfig) where
-  pub answered_commands : (h : H) (cs : List Command) → map settled_command (with_answers answer_of after settings h cs) ≡ cs
-  answered_commands h [] = refl
-  answered_commands h (c ∷ cs) = ap (λ l. c ∷ l) (answered_commands (answer_to answer_of after settings h c).handler cs)
-
-  -- the settled commands, and the one whose answer is on its way, are the taken ones
-  pub taken_commands : (h : H) (t : Account) (owing : List (Command × Reply)) → t.settled ++ owing ≡ with_answers answer_of after settings h t.taken
-      → settled_commands t ++ map settled_command owing ≡ t.taken
-  taken_commands h t owing is =
-      sym (map-append settled_command t.settled owing) ∙ ap (map settled_command) is ∙ answered_commands h t.taken
-
--- the commands taken are those settled
-left_untaken : (t : Account) (waiting pend : List Command) → settled_commands t ++ [] ≡ t.taken → t.unsettled ≡ pend → length pend ≤ 1
-    → t.issued ≡ t.taken ++ (pend ++ waiting) → Left t waiting
-left_untaken t waiting pend are lost few issued =
-    let taken : t.taken ≡ settled_commands t = sym are ∙ append-nil (settled_commands t) in (
-      issued ∙ ap (λ cs. cs ++ (pend ++ waiting)) taken ∙ ap (λ cs. settled_commands t ++ (cs ++ waiting)) (sym lost),
-      subst (λ cs. length cs ≤ 1) (sym lost) few,
-      inl taken,
-    )
-
--- .. and one more, told unsettled
-left_taken : (t : Account) (waiting pend : List Command) → settled_commands t ++ pend ≡ t.taken → t.unsettled ≡ pend → length pend ≤ 1
-    → t.issued ≡ t.taken ++ waiting → Left t waiting
-left_taken t waiting pend are lost few issued =
-    let taken : t.taken ≡ settled_commands t ++ t.unsettled = sym are ∙ ap (λ cs. settled_commands t ++ cs) (sym lost) in (
-      issued ∙ ap (λ cs. cs ++ waiting) taken ∙ append_assoc (settled_commands t) t.unsettled waiting,
-      subst (λ cs. length cs ≤ 1) (sym lost) few,
-      inr taken,
-    )
 
 -- a session that lasts has told nothing unsettled
 given_none : (state : State) (x : Exchange) → (state ≡ Closed → ⊥) → given_up state x ≡ []
@@ -102,38 +58,162 @@ given_none_at (Behind past x) state lasts = given_none state x lasts
 given_none_at (Level past x a) state lasts = given_none state x lasts
 given_none_at (Rest n x a) state lasts = refl
 
-module _ (fixed : ControllerConfig) {H : Type 0} (answer_of : H → Command → Answer) (after : H → Command → H) (settings : ReaderConfig) (first : H) where
-  left : (at : Stage) (l : Link H) → At fixed answer_of after settings first at l → l.controller.session.state ≡ Closed
-      → Left l.account l.controller.waiting
-  left Fresh l h closed = absurd (subst (λ state. Waits fixed state l.controller.session) closed h.controller)
-  left (Behind past x) l h closed =
-      left_untaken l.account l.controller.waiting (pending x) (taken_commands answer_of after settings first l.account [] h.account.settled)
+-- the settled commands, and the one whose answer is on its way, are the taken ones
+pub taken_commands : (t : Account) (owing : List (Command × Reply)) → map asked t.given ≡ t.taken → t.settled ++ owing ≡ t.given
+    → settled_commands t ++ map asked owing ≡ t.taken
+taken_commands t owing answered is =
+    sym (map-append asked t.settled owing) ∙ ap (map asked) is ∙ answered
+
+-- what a session that has ended leaves of its commands, those that were removed among those that wait
+abbrev pub Left : Account → List Command → List Command → Type 0
+Left t told waiting =
+    (t.issued ≡ settled_commands t ++ (told ++ waiting)) × (length told ≤ 1)
+    × ((t.taken ≡ settled_commands t) ⊎ (t.taken ≡ settled_commands t ++ told))
+
+-- the commands taken are those settled
+left_untaken : (t : Account) (told waiting pend : List Command) → settled_commands t ++ [] ≡ t.taken → told ≡ pend → length pend ≤ 1
+    → t.issued ≡ t.taken ++ (pend ++ waiting) → Left t told waiting
+left_untaken t told waiting pend are lost few issued =
+    let taken : t.taken ≡ settled_commands t = sym are ∙ append-nil (settled_commands t) in (
+      issued ∙ ap (λ cs. cs ++ (pend ++ waiting)) taken ∙ ap (λ cs. settled_commands t ++ (cs ++ waiting)) (sym lost),
+      subst (λ cs. length cs ≤ 1) (sym lost) few,
+      inl taken,
+    )
+
+-- .. and one more, told unsettled
+left_taken : (t : Account) (told waiting pend : List Command) → settled_commands t ++ pend ≡ t.taken → told ≡ pend → length pend ≤ 1
+    → t.issued ≡ t.taken ++ waiting → Left t told waiting
+left_taken t told waiting pend are lost few issued =
+    let taken : t.taken ≡ settled_commands t ++ told = sym are ∙ ap (λ cs. settled_commands t ++ cs) (sym lost) in (
+      issued ∙ ap (λ cs. cs ++ waiting) taken ∙ append_assoc (settled_commands t) told waiting,
+      subst (λ cs. length cs ≤ 1) (sym lost) few,
+      inr taken,
+    )
+
+-- the events that count as reported and stand in front, and the one that was offered and isn't reported yet, are one at most
+one_told : (at : Stage) → length (shown_at at) + length (unreported_at at) ≤ 1
+one_told Fresh = omega arith
+one_told (Behind Start x) = omega arith
+one_told (Behind (After n y b) x) = omega (arith, one_shown y b)
+one_told (Level past x a) = omega (arith, one_shown x a)
+one_told (Rest n x a) = omega (arith, one_shown x a)
+
+no_more_than : (k n m : ℕ) → k + n ≤ m → k + 0 ≤ m
+no_more_than k n m few = omega (arith, few)
+
+pub begins_with : {A : Type 0} (xs ys zs rest : List A) → zs ≡ (xs ++ ys) ++ rest → IsBeginning xs zs
+begins_with xs ys zs rest is = (ys ++ rest, is ∙ append_assoc xs ys rest)
+
+module _ (fixed : ControllerConfig) {H : Type 0} (answer_of : H → Command → Answer) (after : H → Command → H) (settings : ReaderConfig) where
+  left : (since : Restarted) (at : Stage) (l : Link H) → At fixed answer_of after settings since at l → l.controller.session.state ≡ Closed
+      → Left l.account l.account.unsettled l.controller.waiting
+  left since Fresh l h closed =
+      left_untaken l.account l.account.unsettled l.controller.waiting [] (taken_commands l.account [] h.account.answered h.account.settled)
+      h.account.unsettled (omega arith) h.account.issued
+  left since (Behind past x) l h closed =
+      left_untaken l.account l.account.unsettled l.controller.waiting (pending x) (taken_commands l.account [] h.account.answered h.account.settled)
       (h.account.unsettled ∙ ap (given_up_at (Behind past x)) closed) (one_pending x) h.account.issued
-  left (Level past x a) l h closed =
-      left_taken l.account l.controller.waiting (pending x)
-      (ap (λ cs. settled_commands l.account ++ cs) (sym (owed_command x a)) ∙ taken_commands answer_of after settings first l.account (owed x a) h.account.settled)
+  left since (Level past x a) l h closed =
+      left_taken l.account l.account.unsettled l.controller.waiting (pending x)
+      (ap (λ cs. settled_commands l.account ++ cs) (sym (owed_command x a)) ∙ taken_commands l.account (owed x a) h.account.answered h.account.settled)
       (h.account.unsettled ∙ ap (given_up_at (Level past x a)) closed) (one_pending x) h.account.issued
-  left (Rest n x a) l h closed =
-      left_untaken l.account l.controller.waiting [] (taken_commands answer_of after settings first l.account [] h.account.settled)
+  left since (Rest n x a) l h closed =
+      left_untaken l.account l.account.unsettled l.controller.waiting [] (taken_commands l.account [] h.account.answered h.account.settled)
       h.account.unsettled (omega arith) h.account.issued
 
-  pub leaves : (at : Stage) (l : Link H) → At fixed answer_of after settings first at l → l.controller.session.state ≡ Closed
-      → Leaves l.account l.controller.waiting l.reader.queue.events
-  leaves at l h closed =
-      let commands = left at l h closed in
+  -- .. with the commands removed and forgotten apart
+  leaves_commands : (l : Link H) → Left l.account (given_up_in l.account) (gone l.account ++ l.controller.waiting) → LeavesCommands l.account l.controller.waiting
+  leaves_commands l (issued, one, taken) =
+      let t = l.account in
+      let w = l.controller.waiting in
       record {
-        commands = commands.0;
-        unsettled = commands.1;
-        taken = commands.2;
-        reported = (h.account.told.0, shown_at at, h.account.told.1, h.account.told.2, front_at fixed at l.reader h.reader, one_shown_at at);
+        commands = issued
+            ∙ ap (λ cs. settled_commands t ++ cs) (append_assoc t.unsettled t.forgotten (gone t ++ w))
+            ∙ ap (λ cs. settled_commands t ++ (t.unsettled ++ cs)) (sym (append_assoc t.forgotten (gone t) w))
+            ∙ ap (λ cs. settled_commands t ++ cs) (sym (append_assoc t.unsettled (t.forgotten ++ gone t) w))
+            ∙ sym (append_assoc (settled_commands t) (t.unsettled ++ (t.forgotten ++ gone t)) w);
+        one = one;
+        taken = taken;
       }
 
-  pub lasts_or_leaves : (state : State) (at : Stage) (l : Link H) → l.controller.session.state ≡ state → At fixed answer_of after settings first at l
-      → LastsOrLeaves state l
-  lasts_or_leaves Closed at l is h = leaves at l h is
-  lasts_or_leaves (Quiet until) at l is h = h.account.unsettled ∙ given_none_at at l.controller.session.state (λ e. absurd (let f = sym is ∙ e in cc))
-  lasts_or_leaves (Idle due) at l is h = h.account.unsettled ∙ given_none_at at l.controller.session.state (λ e. absurd (let f = sym is ∙ e in cc))
-  lasts_or_leaves (Waiting until k o) at l is h =
-      h.account.unsettled ∙ given_none_at at l.controller.session.state (λ e. absurd (let f = sym is ∙ e in cc))
-  lasts_or_leaves (Pausing until o) at l is h =
-      h.account.unsettled ∙ given_none_at at l.controller.session.state (λ e. absurd (let f = sym is ∙ e in cc))
+  -- the events: those of a reader that hears, and those of one that has restarted
+  leaves_heard : (since : Restarted) (at : Stage) (r : ReaderState H) (t : Account) → Hears since → ReaderAt fixed since at r
+      → t.offered ≡ t.reported ++ unreported_at at
+      → (are : EventsAre since (shown_at at) r.queue.events t) → t.reported ≡ are.past ++ shown_at at → LeavesEvents t are.left r.queue.events
+  leaves_heard since at r t hears is offered are reported =
+      let front = front_at fixed since at r hears is in
+      record {
+        queued = are.queued;
+        heard = are.past;
+        without = are.without;
+        again = shown_at at;
+        unheard = [];
+        reported = append-nil t.reported ∙ reported;
+        front = begins_with (shown_at at) (unreported_at at) r.queue.events front.0 front.1;
+        one = no_more_than (length (shown_at at)) (length (unreported_at at)) 1 (one_told at);
+        restart = inl refl;
+      }
+
+  leaves_events : (since : Restarted) (at : Stage) (r : ReaderState H) (t : Account) → ReaderAt fixed since at r
+      → t.offered ≡ t.reported ++ unreported_at at → HasRestarted since t.restarts
+      → (are : EventsAre since (shown_at at) r.queue.events t) → LeavesEvents t are.left r.queue.events
+  leaves_events Never at r t is offered count are = leaves_heard Never at r t tt is offered are are.reported
+  leaves_events Before at r t is offered count are = leaves_heard Before at r t tt is offered are are.reported
+  leaves_events Now at r t is offered count are = record {
+    queued = are.queued;
+    heard = are.past;
+    without = are.without;
+    again = [];
+    unheard = unreported_at at;
+    reported = sym offered ∙ are.reported ∙ sym (append-nil are.past);
+    front = (r.queue.events, refl);
+    one = omega (arith, one_told at);
+    restart = inr (count, offered);
+  }
+
+  -- .. of the account with no command told unsettled instead of forgotten
+  same_events : (t : Account) (u : List Command) (gone events : List Event) → LeavesEvents (record t { unsettled = u }) gone events → LeavesEvents t gone events
+  same_events t u gone events left = record {
+    queued = left.queued;
+    heard = left.heard;
+    without = left.without;
+    again = left.again;
+    unheard = left.unheard;
+    reported = left.reported;
+    front = left.front;
+    one = left.one;
+    restart = left.restart;
+  }
+
+  pub leaves : (l : Link H) → Goes fixed answer_of after settings l → l.controller.session.state ≡ Closed
+      → Leaves l.account l.controller.waiting l.reader.queue.events
+  leaves l h closed =
+      let s = as_waiting l in
+      let held = h.holds.2 in
+      record {
+        of_commands = leaves_commands l (left h.holds.0 h.holds.1 s held closed);
+        left = held.account.told.left;
+        of_events = same_events l.account (given_up_in l.account) held.account.told.left l.reader.queue.events
+            (leaves_events h.holds.0 h.holds.1 l.reader s.account held.reader held.account.offered held.account.restarts held.account.told);
+      }
+
+  -- a session that lasts has told nothing unsettled, and forgotten and removed none
+  lasts : (l : Link H) → Goes fixed answer_of after settings l → (l.controller.session.state ≡ Closed → ⊥)
+      → (l.account.unsettled ≡ []) × (l.account.forgotten ≡ []) × (l.account.removed ≡ [])
+  lasts l h open_at = by_quiet h.quiet
+    where
+      by_quiet : IsQuiet l → (l.account.unsettled ≡ []) × (l.account.forgotten ≡ []) × (l.account.removed ≡ [])
+      by_quiet (inl (removed, forgotten)) = (
+        sym (append-nil l.account.unsettled) ∙ ap (λ f. l.account.unsettled ++ f) (sym forgotten)
+            ∙ h.holds.2.account.unsettled ∙ given_none_at h.holds.1 l.controller.session.state open_at,
+        forgotten,
+        removed,
+      )
+      by_quiet (inr closed) = absurd (open_at closed)
+
+  pub lasts_or_leaves : (state : State) (l : Link H) → l.controller.session.state ≡ state → Goes fixed answer_of after settings l → LastsOrLeaves state l
+  lasts_or_leaves Closed l is h = leaves l h is
+  lasts_or_leaves (Quiet until) l is h = lasts l h (λ e. absurd (let f = sym is ∙ e in cc))
+  lasts_or_leaves (Idle due) l is h = lasts l h (λ e. absurd (let f = sym is ∙ e in cc))
+  lasts_or_leaves (Waiting until k o) l is h = lasts l h (λ e. absurd (let f = sym is ∙ e in cc))
+  lasts_or_leaves (Pausing until o) l is h = lasts l h (λ e. absurd (let f = sym is ∙ e in cc))

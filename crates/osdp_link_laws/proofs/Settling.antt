@@ -12,15 +12,17 @@ use Rattle.osdp_controller.specs.Answers.{meaning_of}
 use Rattle.osdp_msg.specs.Events.{event_in}
 use Rattle.osdp_controller.specs.Hearing.{answered, com_of, command_answered, comset_of, hears, hears_in, ignores, is_from_reader, is_numbered, moved_by, opening_answered, pd_id_of, poll_told, rests, waiting_hears}
 use Rattle.osdp_controller.specs.Sessions.{seen}
-use Rattle.osdp_controller.specs.declared.meaning.ReplyMeaning.TheVariants.{Plain}
+use Rattle.osdp_controller.specs.declared.meaning.ReplyMeaning.TheVariants.{NumberRefused, Plain}
 use Rattle.osdp_controller.specs.declared.config.ControllerConfig.{ControllerConfig}
 use Rattle.osdp_controller.specs.declared.exchange.Exchange.{Exchange}
 use Rattle.osdp_controller.specs.declared.exchange.Exchange.TheVariants.{Opening, Polling, Asking}
 use Rattle.osdp_controller.specs.declared.report.Report.{Report}
 use Rattle.osdp_controller.specs.declared.report.Report.TheVariants as report
 use Rattle.osdp_controller.specs.declared.session.Session.{Session}
-use Rattle.osdp_controller.specs.declared.state.State.TheVariants.{Waiting}
+use Rattle.osdp_controller.specs.declared.state.State.TheVariants.{Closed, Waiting}
+use Rattle.osdp_reader.specs.Replies.{refused}
 use Rattle.osdp_reader.specs.Table.{new_address}
+use Rattle.osdp_msg.specs.declared.nak.NakReason.TheVariants.{UnexpectedSequence}
 use Rattle.osdp_link_laws.specs.Progress.{SetsNoAddress}
 use Rattle.osdp_link_laws.proofs.Due.{Awaits}
 use Rattle.osdp_link_laws.proofs.Numbers.{is_true}
@@ -60,6 +62,23 @@ abbrev pub MovesNone : Exchange → Type 0
 MovesNone Opening = Unit {0}
 MovesNone Polling = Unit {0}
 MovesNone (Asking c) = SetsNoAddress c
+
+-- a number that is refused ends the session
+module _ (fixed : ControllerConfig) where
+  pub refusal_ends : (x : Exchange) (n : ℕ) (now : ℕ) (s : Session) → Awaits x s.state → IsOpen fixed n s
+      → meaning_of (answer fixed n (refused UnexpectedSequence)) ≡ NumberRefused
+      → (hears (answer fixed n (refused UnexpectedSequence)) now s).session.state ≡ Closed
+  refusal_ends x n now s (until, k, o, state, is) (config, number) says =
+      let q = answer fixed n (refused UnexpectedSequence) in
+      let t = seen now s in
+      let from : is_from_reader q s ≡ true =
+      ap (λ b. b && true) (is_true fixed.address s.config.address (sym (ap (λ c. c.address) config))) in
+      let numbered : is_numbered n NumberRefused t ≡ true =
+      ap (λ b. b || (eqb n 0 && false)) (is_true n s.number (sym number)) in
+      ap (λ b. (cond b (hears_in s.state n (meaning_of q) t) (ignores t)).session.state) from
+      ∙ ap (λ st. (hears_in st n (meaning_of q) t).session.state) state
+      ∙ ap (λ w. (hears_in (Waiting until k o) n w t).session.state) says
+      ∙ ap (λ b. (cond b (waiting_hears NumberRefused k o t) (ignores t)).session.state) numbered
 
 module _ (fixed : ControllerConfig) (pd : PdId) where
   rests_after : (x : Exchange) (n : ℕ) (a : Reply) (s : Session) → MovesNone x → IsAnswerTo pd x n a → answered x a s ≡ rests (report_of x a) s

@@ -1,6 +1,6 @@
 -- How far a session has come, and what holds of each part of the link then.
 use Rattle.std.proofs.Common.{◌≡◌, ◌≢◌, ◌⊎◌, ℕ, zero, suc, true, false, List, [], ◌∷◌, ◌++◌, Option, Some, None}
-use Rattle.std.specs.Prelude.{option_to_list}
+use Rattle.std.specs.Prelude.{◌≤◌, map, option_to_list}
 use Rattle.osdp_frame.specs.Packed.{packed}
 use Rattle.osdp_frame.specs.Packet.{Packet, next_sequence}
 use Rattle.osdp_msg.specs.ReplyTable.{ReplyFits, reply_code, reply_data}
@@ -21,9 +21,10 @@ use Rattle.osdp_reader.specs.declared.config.ReaderConfig.{ReaderConfig}
 use Rattle.osdp_reader.specs.declared.handler.Answer.{Answer}
 use Rattle.osdp_reader.specs.Queue.{Queue}
 use Rattle.osdp_reader.specs.State.{ReaderState}
-use Rattle.osdp_reader_laws.specs.Answering.{handler_after_commands}
+use Rattle.osdp_reader.specs.Replies.{refused}
+use Rattle.osdp_msg.specs.declared.nak.NakReason.TheVariants.{UnexpectedSequence}
 use Rattle.osdp_reader_laws.specs.Laws.{IsPlain}
-use Rattle.osdp_link_laws.specs.Headline.{MaySubmit, with_answers}
+use Rattle.osdp_link_laws.specs.Headline.{IsWithout, MaySubmit, asked}
 use Rattle.osdp_link_laws.specs.Link.{Account, Link}
 
 -- the exchange that was answered last, with its number and its answer
@@ -37,6 +38,29 @@ pub data Stage : Type 0 where
   Behind : Past → Exchange → Stage
   Level : Past → Exchange → Reply → Stage
   Rest : ℕ → Exchange → Reply → Stage
+
+-- whether the reader has restarted in this session: never; it has, and has heard number 0 since; it has, and hears nothing but number 0
+pub data Restarted : Type 0 where
+  Never : Restarted
+  Before : Restarted
+  Now : Restarted
+
+-- a restarted reader refuses each number but 0
+abbrev pub MayRefuse : Restarted → Type 0
+MayRefuse Never = ⊥
+MayRefuse Before = Unit {0}
+MayRefuse Now = Unit {0}
+
+abbrev pub HasRestarted : Restarted → ℕ → Type 0
+HasRestarted Never count = count ≡ 0
+HasRestarted Before count = 1 ≤ count
+HasRestarted Now count = 1 ≤ count
+
+-- number 0 has come
+abbrev pub heard_zero : Restarted → Restarted
+heard_zero Never = Never
+heard_zero Before = Before
+heard_zero Now = Before
 
 -- the number of the exchange after it
 abbrev pub number_after : Past → ℕ
@@ -141,6 +165,26 @@ Offers Opening r q = q.offered ≡ false
 Offers Polling r q = OffersEvent (event_in r) q
 Offers (Asking command) r q = q.offered ≡ false
 
+-- of the events that have left, those that no restart threw away were all reported, and the one in front too; or, after a restart, they are
+-- those that were offered
+abbrev pub PastIs : Restarted → List Event → List Event → Account → Type 0
+PastIs Never past front t = t.reported ≡ past ++ front
+PastIs Before past front t = t.reported ≡ past ++ front
+PastIs Now past front t = t.offered ≡ past
+
+pub record EventsAre (restarted : Restarted) (front events : List Event) (t : Account) : Type 0 where
+  pub left : List Event
+  pub past : List Event
+  pub queued : t.queued ≡ left ++ events
+  pub kept : t.kept ≡ past ++ events
+  pub without : IsWithout t.thrown_away left past
+  pub reported : PastIs restarted past front t
+
+-- what the reader answers to ID and CAP
+pub record Answering (settings config : ReaderConfig) : Type 0 where
+  pub id : config.id ≡ settings.id
+  pub caps : config.caps ≡ settings.caps
+
 module _ (pd : PdId) where
   -- the answer to an exchange with this number
   pub record IsAnswer (r : Reply) : Type 0 where
@@ -193,6 +237,7 @@ module _ (fixed : ControllerConfig) where
 
   -- none was sent yet
   abbrev pub Waits : State → Session → Type 0
+  Waits Closed s = Unit {0}
   Waits (Quiet until) s = s.config ≡ fixed
   Waits _ s = ⊥
 
@@ -216,19 +261,22 @@ module _ (fixed : ControllerConfig) where
   ToReaderAt (Level past x r) ps = Each (IsFrame x (number_after past)) ps
   ToReaderAt (Rest n x r) ps = Each (IsFrame x n) ps
 
-  -- what is on the line to the controller: BUSY may stand everywhere
-  abbrev pub Says : ℕ → Reply → Packet → Type 0
-  Says n r p = (p ≡ answer 0 reply.Busy) ⊎ (p ≡ answer n r)
+  -- what is on the line to the controller: BUSY may stand everywhere, and so may a refused number
+  abbrev pub Refuses : Restarted → Packet → Type 0
+  Refuses restarted p = MayRefuse restarted × ((n : ℕ) × (p ≡ answer n (refused UnexpectedSequence)))
 
-  abbrev pub SaysOld : Past → Packet → Type 0
-  SaysOld Start p = p ≡ answer 0 reply.Busy
-  SaysOld (After n x r) p = Says n r p
+  abbrev pub Says : Restarted → ℕ → Reply → Packet → Type 0
+  Says restarted n r p = (p ≡ answer 0 reply.Busy) ⊎ ((p ≡ answer n r) ⊎ Refuses restarted p)
 
-  abbrev pub ToControllerAt : Stage → List Packet → Type 0
-  ToControllerAt Fresh ps = ps ≡ []
-  ToControllerAt (Behind past x) ps = Each (SaysOld past) ps
-  ToControllerAt (Level past x r) ps = Runs (SaysOld past) (Says (number_after past) r) ps
-  ToControllerAt (Rest n x r) ps = Each (Says n r) ps
+  abbrev pub SaysOld : Restarted → Past → Packet → Type 0
+  SaysOld restarted Start p = p ≡ answer 0 reply.Busy
+  SaysOld restarted (After n x r) p = Says restarted n r p
+
+  abbrev pub ToControllerAt : Restarted → Stage → List Packet → Type 0
+  ToControllerAt restarted Fresh ps = ps ≡ []
+  ToControllerAt restarted (Behind past x) ps = Each (SaysOld restarted past) ps
+  ToControllerAt restarted (Level past x r) ps = Runs (SaysOld restarted past) (Says restarted (number_after past) r) ps
+  ToControllerAt restarted (Rest n x r) ps = Each (Says restarted n r) ps
 
   module _ {H : Type 0} where
     -- what a reader keeps of the command that it acted on last
@@ -241,37 +289,39 @@ module _ (fixed : ControllerConfig) where
       pub here : reader.config.address ≡ fixed.address → (reader.last ≡ Some n) × IsStored x n r reader
       pub offer : Offers x r reader.queue
 
-    abbrev pub ReaderBehind : Past → ReaderState H → Type 0
-    ReaderBehind Start reader = Unit {0}
-    ReaderBehind (After n x r) reader = HasActed n x r reader
+    -- .. or it has restarted, and knows no number
+    abbrev pub Knows : Restarted → ℕ → Exchange → Reply → ReaderState H → Type 0
+    Knows Never n x r reader = HasActed n x r reader
+    Knows Before n x r reader = HasActed n x r reader
+    Knows Now n x r reader = reader.last ≡ None
 
-    abbrev pub ReaderAt : Stage → ReaderState H → Type 0
-    ReaderAt Fresh reader = Unit {0}
-    ReaderAt (Behind past x) reader = ReaderBehind past reader
-    ReaderAt (Level past x r) reader = HasActed (number_after past) x r reader
-    ReaderAt (Rest n x r) reader = HasActed n x r reader
+    abbrev pub ReaderBehind : Restarted → Past → ReaderState H → Type 0
+    ReaderBehind restarted Start reader = Unit {0}
+    ReaderBehind restarted (After n x r) reader = Knows restarted n x r reader
 
-    module _ (answer_of : H → Command → Answer) (after : H → Command → H) (settings : ReaderConfig) (first : H) where
-      -- what the reader answers to ID and CAP, and its handler
-      pub record Answering (taken : List Command) (config : ReaderConfig) (current : H) : Type 0 where
-        pub id : config.id ≡ settings.id
-        pub caps : config.caps ≡ settings.caps
-        pub handler : current ≡ handler_after_commands answer_of after settings first taken
+    abbrev pub ReaderAt : Restarted → Stage → ReaderState H → Type 0
+    ReaderAt restarted Fresh reader = Unit {0}
+    ReaderAt restarted (Behind past x) reader = ReaderBehind restarted past reader
+    ReaderAt restarted (Level past x r) reader = Knows restarted (number_after past) x r reader
+    ReaderAt restarted (Rest n x r) reader = Knows restarted n x r reader
 
-      pub record Accounts (pend : List Command) (owing : List (Command × Reply)) (lost : List Command) (front new : List Event) (waiting : List Command) (events : List Event) (t : Account) : Type 0 where
+    module _ (answer_of : H → Command → Answer) (after : H → Command → H) (settings : ReaderConfig) where
+      pub record Accounts (restarted : Restarted) (pend : List Command) (owing : List (Command × Reply)) (lost : List Command) (front new : List Event) (waiting : List Command) (events : List Event) (t : Account) : Type 0 where
         pub issued : t.issued ≡ t.taken ++ (pend ++ waiting)
-        pub settled : t.settled ++ owing ≡ with_answers answer_of after settings first t.taken
+        pub answered : map asked t.given ≡ t.taken
+        pub settled : t.settled ++ owing ≡ t.given
         pub unsettled : t.unsettled ≡ lost
-        pub told : (past : List Event) × (t.queued ≡ past ++ events) × (t.reported ≡ past ++ front)
+        pub told : EventsAre restarted front events t
         pub offered : t.offered ≡ t.reported ++ new
+        pub restarts : HasRestarted restarted t.restarts
 
       -- all of it
-      pub record Holds (pd : PdId) (at : Stage) (l : Link H) : Type 0 where
-        pub stage : IsStage pd at
+      pub record Holds (restarted : Restarted) (at : Stage) (l : Link H) : Type 0 where
+        pub stage : IsStage settings.id at
         pub controller : ControllerAt at l.controller.session
         pub waiting : Each MaySubmit l.controller.waiting
-        pub reader : ReaderAt at l.reader
-        pub answering : Answering l.account.taken l.reader.config l.reader.handler
+        pub reader : ReaderAt restarted at l.reader
+        pub answering : Answering settings l.reader.config
         pub to_reader : ToReaderAt at l.to_reader
-        pub to_controller : ToControllerAt at l.to_controller
-        pub account : Accounts (pending_at at) (owed_at at) (given_up_at at l.controller.session.state) (shown_at at) (unreported_at at) l.controller.waiting l.reader.queue.events l.account
+        pub to_controller : ToControllerAt restarted at l.to_controller
+        pub account : Accounts restarted (pending_at at) (owed_at at) (given_up_at at l.controller.session.state) (shown_at at) (unreported_at at) l.controller.waiting l.reader.queue.events l.account

@@ -1,5 +1,5 @@
 -- A frame comes to the reader: how far the session has come then.
-use Rattle.std.proofs.Common.{◌≡◌, ◌≢◌, ◌<◌, ℕ, zero, suc, [], ◌∷◌, ◌++◌, Some, Ok, refl, sym, subst, ap, ◌∙◌, inl, inr}
+use Rattle.std.proofs.Common.{◌≡◌, ◌≢◌, ◌<◌, ℕ, zero, suc, List, [], ◌∷◌, ◌++◌, Some, None, Ok, refl, sym, subst, ap, ◌∙◌, inl, inr}
 use Rattle.std.proofs.lemmas.List.{append-nil}
 use Rattle.std.specs.Prelude.{option_to_list}
 use Rattle.std.proofs.lemmas.Bool.Decides.{eqb_tells}
@@ -15,18 +15,22 @@ use Rattle.osdp_reader.specs.declared.config.ReaderConfig.{ReaderConfig}
 use Rattle.osdp_reader.specs.declared.handler.Answer.{Answer}
 use Rattle.osdp_reader.specs.declared.kind.Kind.{Kind}
 use Rattle.osdp_reader.specs.declared.kind.Kind.TheVariants.{Zero, Busy}
+use Rattle.osdp_reader.specs.Replies.{refused}
 use Rattle.osdp_reader.specs.State.{ReaderState}
+use Rattle.osdp_msg.specs.declared.event.Event.{Event}
+use Rattle.osdp_msg.specs.declared.nak.NakReason.TheVariants.{UnexpectedSequence}
 use Rattle.osdp_reader.specs.Table.{begun, command_in, kind_of, outcome}
 use Rattle.osdp_link_laws.specs.Link as link
-use Rattle.osdp_link_laws.specs.Link.{Link}
-use Rattle.osdp_link_laws.proofs.Acting.{kind_again, kind_away, kind_zero}
+use Rattle.osdp_link_laws.specs.Link.{Account, Link}
+use Rattle.osdp_link_laws.proofs.Acting.{kind_again, kind_away, kind_unknown, kind_zero}
 use Rattle.osdp_link_laws.proofs.Lines.{both}
 use Rattle.osdp_link_laws.proofs.Parts.{At, with_to_controller}
-use Rattle.osdp_link_laws.proofs.Stages.{Acted, HasActed, ReaderAt, Says, Stage, ToControllerAt, answer, frame}
+use Rattle.osdp_link_laws.proofs.Since.{line_since}
+use Rattle.osdp_link_laws.proofs.Stages.{Accounts, Acted, Before, HasActed, Knows, Never, Now, PastIs, ReaderAt, Restarted, Says, Stage, ToControllerAt, answer, frame, given_up_at, owed_at, pending_at, shown, shown_at, unreported_at}
 
-module _ (fixed : ControllerConfig) {H : Type 0} (answer_of : H → Command → Answer) (after : H → Command → H) (settings : ReaderConfig) (first : H) where
+module _ (fixed : ControllerConfig) {H : Type 0} (answer_of : H → Command → Answer) (after : H → Command → H) (settings : ReaderConfig) (since : Restarted) where
   abbrev AtStage : Stage → Link H → Type 0
-  AtStage at l = At fixed answer_of after settings first at l
+  AtStage at l = At fixed answer_of after settings since at l
 
   -- what comes of a packet that meets this line of the reader's table
   abbrev pub gets_by : Kind → Packet → Link H → Link H
@@ -35,19 +39,19 @@ module _ (fixed : ControllerConfig) {H : Type 0} (answer_of : H → Command → 
       record l {
         reader = o.reader;
         to_controller = l.to_controller ++ option_to_list o.reply;
-        account = link.taken kind o.command (link.front_of l.reader) l.account;
+        account = link.taken kind o.command o.said (link.front_of l.reader) l.account;
       }
 
   -- the reader stays as it is, and says this
-  pub says : (at : Stage) (l : Link H) (q : Packet) → AtStage at l → ToControllerAt fixed at (l.to_controller ++ q ∷ [])
+  pub says : (at : Stage) (l : Link H) (q : Packet) → AtStage at l → ToControllerAt fixed since at (l.to_controller ++ q ∷ [])
       → AtStage at (record l { to_controller = l.to_controller ++ q ∷ [] })
-  says at l q h line = with_to_controller fixed answer_of after settings first at l (l.to_controller ++ q ∷ []) h line
+  says at l q h line = with_to_controller fixed answer_of after settings since at l (l.to_controller ++ q ∷ []) h line
 
   -- .. or nothing
   says_nothing : (at : Stage) (l : Link H) → AtStage at l → AtStage at (record l { to_controller = l.to_controller ++ [] })
   says_nothing at l h =
-      with_to_controller fixed answer_of after settings first at l (l.to_controller ++ []) h
-      (subst (ToControllerAt fixed at) (sym (append-nil l.to_controller)) h.to_controller)
+      with_to_controller fixed answer_of after settings since at l (l.to_controller ++ []) h
+      (subst (ToControllerAt fixed since at) (sym (append-nil l.to_controller)) h.to_controller)
 
   pub away : (at : Stage) (x : Exchange) (n : ℕ) (l : Link H) → fixed.address < 127 → l.reader.config.address ≢ fixed.address
       → AtStage at l → AtStage at (gets_by (kind_of l.reader (frame fixed x n)) (frame fixed x n) l)
@@ -55,11 +59,11 @@ module _ (fixed : ControllerConfig) {H : Type 0} (answer_of : H → Command → 
       subst (λ k. AtStage at (gets_by k (frame fixed x n) l)) (sym (kind_away fixed l.reader x n differ device)) (says_nothing at l h)
 
   -- the line takes a packet that answers with this number; the reader is where the stage has it
-  abbrev Grows : Stage → ℕ → Reply → Link H → Type 0
-  Grows at n a l = (q : Packet) → Says fixed n a q → ToControllerAt fixed at (l.to_controller ++ q ∷ [])
+  abbrev pub Grows : Stage → ℕ → Reply → Link H → Type 0
+  Grows at n a l = (q : Packet) → Says fixed since n a q → ToControllerAt fixed since at (l.to_controller ++ q ∷ [])
 
-  abbrev Puts : Stage → ℕ → Exchange → Reply → Type 0
-  Puts at n x a = (r : ReaderState H) → HasActed fixed n x a r → ReaderAt fixed at r
+  abbrev pub Puts : Stage → ℕ → Exchange → Reply → Type 0
+  Puts at n x a = (r : ReaderState H) → HasActed fixed n x a r → ReaderAt fixed since at r
 
   -- the command at number 0 again
   zero_again : (at : Stage) (a : Reply) (l : Link H) → command_in (frame fixed Opening 0) ≡ Ok (command.Id 0) → AtStage at l
@@ -71,15 +75,15 @@ module _ (fixed : ControllerConfig) {H : Type 0} (answer_of : H → Command → 
       subst (λ c. AtStage at (record l {
         reader = (begun answer_of after c l.reader p).reader;
         to_controller = l.to_controller ++ option_to_list (begun answer_of after c l.reader p).reply;
-        account = link.taken Zero (begun answer_of after c l.reader p).command (link.front_of l.reader) l.account;
+        account = link.taken Zero (begun answer_of after c l.reader p).command (begun answer_of after c l.reader p).said (link.front_of l.reader) l.account;
       })) (sym reads) (record {
         stage = h.stage;
         controller = h.controller;
         waiting = h.waiting;
         reader = puts _ (record { here = λ e. (refl, tt); offer = refl });
-        answering = record { id = h.answering.id; caps = h.answering.caps; handler = h.answering.handler };
+        answering = record { id = h.answering.id; caps = h.answering.caps };
         to_reader = h.to_reader;
-        to_controller = grows _ (inr (ap (λ i. answer fixed 0 (reply.PdId i)) h.answering.id ∙ sym (ap (answer fixed 0) is)));
+        to_controller = grows _ (inr (inl (ap (λ i. answer fixed 0 (reply.PdId i)) h.answering.id ∙ sym (ap (answer fixed 0) is))));
         account = h.account;
       })
 
@@ -102,7 +106,7 @@ module _ (fixed : ControllerConfig) {H : Type 0} (answer_of : H → Command → 
       repeated n x above same kept grows =
           subst (λ k. AtStage at (gets_by k (frame fixed x n) l)) (sym (kind_again fixed l.reader x n same above kept.0))
           (subst (λ o. AtStage at (record l { to_controller = l.to_controller ++ option_to_list o })) (sym kept.1)
-          (says at l (answer fixed n a) h (grows (answer fixed n a) (inr refl))))
+          (says at l (answer fixed n a) h (grows (answer fixed n a) (inr (inl refl)))))
 
       by_exchange : (n : ℕ) (x : Exchange) → HasActed fixed n x a l.reader → Acted settings.id n x a
           → Grows at n a l → Puts at n x a → l.reader.config.address ≡ fixed.address
@@ -115,3 +119,111 @@ module _ (fixed : ControllerConfig) {H : Type 0} (answer_of : H → Command → 
       by_exchange (suc n) Opening acted is grows puts same = absurd is.1
       by_exchange n Polling acted is grows puts same = repeated n Polling is.1 same (acted.here same) grows
       by_exchange n (Asking c) acted is grows puts same = repeated n (Asking c) is.1 same (acted.here same) grows
+
+-- a restarted reader that has heard number 0
+module _ (fixed : ControllerConfig) {H : Type 0} (answer_of : H → Command → Answer) (after : H → Command → H) (settings : ReaderConfig) where
+  past_revived : (front : List Event) (past : List Event) (t : Account) → t.offered ≡ t.reported ++ [] → front ≡ [] → PastIs Now past front t
+      → PastIs Before past front t
+  past_revived front past t offered none is =
+      sym (append-nil t.reported) ∙ sym offered ∙ is ∙ sym (append-nil past) ∙ ap (λ es. past ++ es) (sym none)
+
+  pub account_revived : (pend : List Command) (owing : List (Command × Reply)) (lost : List Command) (front new : List Event) (waiting : List Command) (events : List Event) (t : Account)
+      → front ≡ [] → new ≡ []
+      → Accounts fixed answer_of after settings Now pend owing lost front new waiting events t
+      → Accounts fixed answer_of after settings Before pend owing lost front new waiting events t
+  account_revived pend owing lost front new waiting events t none quiet a = record {
+    issued = a.issued;
+    answered = a.answered;
+    settled = a.settled;
+    unsettled = a.unsettled;
+    told = record {
+      left = a.told.left;
+      past = a.told.past;
+      queued = a.told.queued;
+      kept = a.told.kept;
+      without = a.told.without;
+      reported = past_revived front a.told.past t (a.offered ∙ ap (λ es. t.reported ++ es) quiet) none a.told.reported;
+    };
+    offered = a.offered;
+    restarts = a.restarts;
+  }
+
+  -- no event counts as told at this stage
+  abbrev pub TellsNone : Stage → Type 0
+  TellsNone at = (shown_at at ≡ []) × (unreported_at at ≡ [])
+
+  pub shows_none : (x : Exchange) (a : Reply) → x ≡ Opening → shown x a ≡ []
+  shows_none Opening a is = refl
+  shows_none Polling a is = absurd cc
+  shows_none (Asking c) a is = absurd cc
+
+  revived : (at : Stage) (a : Reply) (l : Link H) → command_in (frame fixed Opening 0) ≡ Ok (command.Id 0)
+      → At fixed answer_of after settings Now at l → a ≡ reply.PdId settings.id → TellsNone at
+      → Grows fixed answer_of after settings Now at 0 a l → Puts fixed answer_of after settings Before at 0 Opening a
+      → At fixed answer_of after settings Before at (gets_by fixed answer_of after settings Now Zero (frame fixed Opening 0) l)
+  revived at a l reads h is none grows puts =
+      let p = frame fixed Opening 0 in
+      subst (λ c. At fixed answer_of after settings Before at (record l {
+        reader = (begun answer_of after c l.reader p).reader;
+        to_controller = l.to_controller ++ option_to_list (begun answer_of after c l.reader p).reply;
+        account = link.taken Zero (begun answer_of after c l.reader p).command (begun answer_of after c l.reader p).said (link.front_of l.reader) l.account;
+      })) (sym reads) (record {
+        stage = h.stage;
+        controller = h.controller;
+        waiting = h.waiting;
+        reader = puts _ (record { here = λ e. (refl, tt); offer = refl });
+        answering = record { id = h.answering.id; caps = h.answering.caps };
+        to_reader = h.to_reader;
+        to_controller = line_since fixed Now Before (λ may. may) at _ (grows _ (inr (inl (ap (λ i. answer fixed 0 (reply.PdId i)) h.answering.id ∙ sym (ap (answer fixed 0) is)))));
+        account = account_revived (pending_at at) (owed_at at) (given_up_at at l.controller.session.state) (shown_at at) (unreported_at at)
+            l.controller.waiting l.reader.queue.events l.account none.0 none.1 h.account;
+      })
+
+  -- the frame of an exchange that the reader has acted on: it says its answer again, refuses the number, or hears number 0
+  abbrev HeardAt : Stage → Link H → Type 0
+  HeardAt at m = (since : Restarted) × At fixed answer_of after settings since at m
+
+  refuses_it : (at : Stage) (n : ℕ) (x : Exchange) (a : Reply) (l : Link H) → n ≢ 0 → l.reader.config.address ≡ fixed.address → l.reader.last ≡ None
+      → At fixed answer_of after settings Now at l → Grows fixed answer_of after settings Now at n a l
+      → HeardAt at (gets_by fixed answer_of after settings Now (kind_of l.reader (frame fixed x n)) (frame fixed x n) l)
+  refuses_it at n x a l above here none h grows = (
+    Now,
+    subst (λ k. At fixed answer_of after settings Now at (gets_by fixed answer_of after settings Now k (frame fixed x n) l)) (sym (kind_unknown fixed l.reader x n here above none))
+        (says fixed answer_of after settings Now at l (answer fixed n (refused UnexpectedSequence)) h
+        (grows (answer fixed n (refused UnexpectedSequence)) (inr (inr (tt, (n, refl)))))),
+  )
+
+  unknown : (at : Stage) (n : ℕ) (x : Exchange) (a : Reply) (l : Link H) → fixed.address < 127
+      → command_in (frame fixed Opening 0) ≡ Ok (command.Id 0) → At fixed answer_of after settings Now at l
+      → l.reader.last ≡ None → Acted settings.id n x a → (x ≡ Opening → TellsNone at)
+      → Grows fixed answer_of after settings Now at n a l → Puts fixed answer_of after settings Before at n x a
+      → HeardAt at (gets_by fixed answer_of after settings Now (kind_of l.reader (frame fixed x n)) (frame fixed x n) l)
+  unknown at n x a l device reads h none is silent grows puts =
+      elim (eqb_tells l.reader.config.address fixed.address) [
+        | inl same ↦ by_exchange n x is silent grows puts same.1
+        | inr other ↦ (Now, away fixed answer_of after settings Now at x n l device other.1 h)
+      ]
+    where
+      by_exchange : (n : ℕ) (x : Exchange) → Acted settings.id n x a → (x ≡ Opening → TellsNone at)
+          → Grows fixed answer_of after settings Now at n a l → Puts fixed answer_of after settings Before at n x a → l.reader.config.address ≡ fixed.address
+          → HeardAt at (gets_by fixed answer_of after settings Now (kind_of l.reader (frame fixed x n)) (frame fixed x n) l)
+      by_exchange zero Opening is silent grows puts same =
+          subst (λ k. HeardAt at (gets_by fixed answer_of after settings Now k (frame fixed Opening 0) l)) (sym (kind_zero fixed l.reader Opening same))
+          (both (λ k. HeardAt at (gets_by fixed answer_of after settings Now k (frame fixed Opening 0) l)) l.reader.busy Busy Zero
+          (Now, says fixed answer_of after settings Now at l (answer fixed 0 reply.Busy) h (grows (answer fixed 0 reply.Busy) (inl refl)))
+          (Before, revived at a l reads h is.1 (silent refl) grows puts))
+      by_exchange (suc n) Opening is silent grows puts same = absurd is.1
+      by_exchange n Polling is silent grows puts same = refuses_it at n Polling a l is.1 same none h grows
+      by_exchange n (Asking c) is silent grows puts same = refuses_it at n (Asking c) a l is.1 same none h grows
+
+  pub heard_again : (since : Restarted) (at : Stage) (n : ℕ) (x : Exchange) (a : Reply) (l : Link H) → fixed.address < 127
+      → command_in (frame fixed Opening 0) ≡ Ok (command.Id 0) → At fixed answer_of after settings since at l
+      → Knows fixed since n x a l.reader → Acted settings.id n x a → (x ≡ Opening → TellsNone at)
+      → Grows fixed answer_of after settings since at n a l → ((s : Restarted) (r : ReaderState H) → Knows fixed s n x a r → ReaderAt fixed s at r)
+      → HeardAt at (gets_by fixed answer_of after settings since (kind_of l.reader (frame fixed x n)) (frame fixed x n) l)
+  heard_again Never at n x a l device reads h knows is silent grows puts =
+      (Never, again fixed answer_of after settings Never at n x a l device reads h knows is grows (puts Never))
+  heard_again Before at n x a l device reads h knows is silent grows puts =
+      (Before, again fixed answer_of after settings Before at n x a l device reads h knows is grows (puts Before))
+  heard_again Now at n x a l device reads h knows is silent grows puts =
+      unknown at n x a l device reads h knows is silent grows (puts Before)

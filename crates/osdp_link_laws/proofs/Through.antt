@@ -1,7 +1,7 @@
 -- From a link without losses over its rounds.
 use Rattle.std.proofs.Common.{◌≡◌, ◌⊎◌, ◌≤◌, ◌+◌, ◌-◌, ℕ, List, [], ◌∷◌, length, refl, sym, subst, ap, ◌∙◌, inl, inr, arith, Option, Some, None}
 use Rattle.std.proofs.Math.Nat.{min-le_left, min-le_right}
-use Rattle.std.proofs.lemmas.List.{append-nil, length-append}
+use Rattle.std.proofs.lemmas.List.{length-append}
 use Rattle.osdp_frame.specs.Packet.{Packet}
 use Rattle.osdp_msg.specs.declared.command.Command.{Command}
 use Rattle.osdp_msg.specs.declared.reply.Reply.TheVariants as reply
@@ -20,26 +20,28 @@ use Rattle.osdp_controller.specs.declared.state.State.TheVariants.{Closed, Quiet
 use Rattle.osdp_reader.specs.declared.config.ReaderConfig.{ReaderConfig}
 use Rattle.osdp_reader.specs.declared.handler.Answer.{Answer}
 use Rattle.osdp_reader.specs.Table.{hears, kind_of}
-use Rattle.osdp_link_laws.specs.Headline.{MovesFit, Begins, SaysWhatFits, handler_after}
+use Rattle.osdp_link_laws.specs.Headline.{MovesFit, SaysWhatFits}
 use Rattle.osdp_link_laws.specs.Link as link
 use Rattle.osdp_link_laws.specs.Link.{Account, Delivered, Link, Move, Tick, ToController, ToReader, run, told}
-use Rattle.osdp_link_laws.specs.Progress.{AreDue, ComeOn, IsClear, SetsNoAddress, round, rounds}
-use Rattle.osdp_link_laws.proofs.Advancing.{HoldsAtSomeStage}
+use Rattle.osdp_link_laws.specs.Progress.{AreDue, ComeOn, ComesThrough, IsClear, SetsNoAddress, round, rounds}
+use Rattle.osdp_link_laws.specs.Peers.{ReadEachOther}
 use Rattle.osdp_link_laws.proofs.Due.{Acts, closed_rests, due_sends}
-use Rattle.osdp_link_laws.proofs.Growing.{Grows, goes_on, taken_takes}
-use Rattle.osdp_link_laws.proofs.InARow.{Assumed, begins, running}
+use Rattle.osdp_link_laws.proofs.Growing.{taken_takes}
+use Rattle.osdp_link_laws.proofs.InARow.{assumed_of, stands}
 use Rattle.osdp_link_laws.proofs.Lines.{both, each_of}
 use Rattle.osdp_link_laws.proofs.Moves.{Premises}
-use Rattle.osdp_link_laws.proofs.Once.{moving}
-use Rattle.osdp_link_laws.proofs.Parts.{At}
+use Rattle.osdp_link_laws.proofs.Once.{going_bare}
+use Rattle.osdp_link_laws.proofs.Removed.{moving_inside}
+use Rattle.osdp_link_laws.proofs.Parts.{At, HoldsAtSomeStage}
 use Rattle.osdp_link_laws.proofs.Round.{IsIdle, IsStill, at_tick, goes, has_come}
 use Rattle.osdp_link_laws.proofs.Rounds.{all_of, counted, idle_round}
-use Rattle.osdp_link_laws.proofs.Stages.{Asks, Behind, Fresh, Level, Rest, Rests, Stage, Waits, number_after}
+use Rattle.osdp_link_laws.proofs.Stages.{Asks, Behind, Fresh, Level, Rest, Restarted, Rests, Stage, Waits, number_after}
 
 module _ (fixed : ControllerConfig) where
-  waits_config : (state : State) (s : Session) → Waits fixed state s → s.config ≡ fixed
-  waits_config (Quiet until) s waits = waits
-  waits_config state s waits = absurd waits
+  waits_config : (state : State) (s : Session) → Waits fixed state s → (state ≡ Closed → ⊥) → s.config ≡ fixed
+  waits_config Closed s waits not = absurd (not refl)
+  waits_config (Quiet until) s waits not = waits
+  waits_config state s waits not = absurd waits
 
   asks_config : (state : State) (n : ℕ) (x : Exchange) (s : Session) → (state ≡ Closed → ⊥) → Asks fixed state n x s → s.config ≡ fixed
   asks_config Closed n x s not asks = absurd (not refl)
@@ -67,14 +69,14 @@ module _ {H : Type 0} (answer_of : H → Command → Answer) (after : H → Comm
       both (λ heard. heard.session.state ≡ Closed) (is_from_reader q s) (hears_in s.state q.sequence (said_by q) (seen now s)) (ignores (seen now s))
       (subst (λ state. (hears_in state q.sequence (said_by q) (seen now s)).session.state ≡ Closed) (sym closed) closed) closed
 
-module _ (fixed : ControllerConfig) {H : Type 0} (answer_of : H → Command → Answer) (after : H → Command → H) (settings : ReaderConfig) (first : H) where
+module _ (fixed : ControllerConfig) {H : Type 0} (answer_of : H → Command → Answer) (after : H → Command → H) (settings : ReaderConfig) where
   -- a session that has not ended has the settings that it began with
-  pub config_is : (at : Stage) (l : Link H) → At fixed answer_of after settings first at l → (l.controller.session.state ≡ Closed → ⊥)
+  pub config_is : (since : Restarted) (at : Stage) (l : Link H) → At fixed answer_of after settings since at l → (l.controller.session.state ≡ Closed → ⊥)
       → l.controller.session.config ≡ fixed
-  config_is Fresh l h not = waits_config fixed l.controller.session.state l.controller.session h.controller
-  config_is (Behind past x) l h not = asks_config fixed l.controller.session.state (number_after past) x l.controller.session not h.controller
-  config_is (Level past x a) l h not = asks_config fixed l.controller.session.state (number_after past) x l.controller.session not h.controller
-  config_is (Rest n x a) l h not = rests_config fixed l.controller.session.state n l.controller.session not h.controller
+  config_is since Fresh l h not = waits_config fixed l.controller.session.state l.controller.session h.controller not
+  config_is since (Behind past x) l h not = asks_config fixed l.controller.session.state (number_after past) x l.controller.session not h.controller
+  config_is since (Level past x a) l h not = asks_config fixed l.controller.session.state (number_after past) x l.controller.session not h.controller
+  config_is since (Rest n x a) l h not = rests_config fixed l.controller.session.state n l.controller.session not h.controller
 
   closed_after : (now : ℕ) (l : Link H) → (at_tick now l).controller.session.state ≡ Closed → (goes answer_of after now l).controller.session.state ≡ Closed
   closed_after now l closed =
@@ -82,20 +84,20 @@ module _ (fixed : ControllerConfig) {H : Type 0} (answer_of : H → Command → 
       to_controller_closed answer_of after m.to_controller now m (to_reader_closed answer_of after (at_tick now l).to_reader (at_tick now l) closed)
 
   abbrev Given : Type 0
-  Given = Premises fixed answer_of after settings first
+  Given = Premises fixed answer_of after settings
 
   abbrev Holds : Link H → Type 0
-  Holds l = HoldsAtSomeStage fixed answer_of after settings first l
+  Holds l = HoldsAtSomeStage fixed answer_of after settings l
 
   pub held_after : Given → (now : ℕ) (l : Link H) → SaysWhatFits answer_of after (at_tick now l).to_reader l.reader → Holds l → Holds (goes answer_of after now l)
   held_after given now l fits held =
       let m = link.to_reader answer_of after (at_tick now l).to_reader Delivered (at_tick now l) in
-      moving fixed answer_of after settings first given (ToController Delivered now) m tt tt
-      (moving fixed answer_of after settings first given (ToReader Delivered) (at_tick now l) tt fits
-      (moving fixed answer_of after settings first given (Tick now) l tt tt held))
+      moving_inside fixed answer_of after settings given (ToController Delivered now) m tt tt
+      (moving_inside fixed answer_of after settings given (ToReader Delivered) (at_tick now l) tt fits
+      (moving_inside fixed answer_of after settings given (Tick now) l tt tt held))
 
   -- a link that is clear
-  pub clear_still : (l : Link H) → IsClear l → l.controller.session.config ≡ fixed → IsStill fixed answer_of after settings first l
+  pub clear_still : (l : Link H) → IsClear l → l.controller.session.config ≡ fixed → IsStill fixed answer_of after settings l
   clear_still l clear same = record {
     to_reader = clear.to_reader;
     to_controller = clear.to_controller;
@@ -104,28 +106,45 @@ module _ (fixed : ControllerConfig) {H : Type 0} (answer_of : H → Command → 
   }
 
   -- the first round: the controller comes to rest, or the session ends
-  pub first_round : Given → (now : ℕ) (l : Link H) → Holds l → IsStill fixed answer_of after settings first l
+  pub first_round : Given → (now : ℕ) (l : Link H) → Holds l → IsStill fixed answer_of after settings l
       → Acts (ticks now l.controller.session l.controller.waiting) → SaysWhatFits answer_of after (at_tick now l).to_reader l.reader
-      → ((goes answer_of after now l).controller.session.state ≡ Closed) ⊎ IsIdle fixed answer_of after settings first (goes answer_of after now l)
+      → ((goes answer_of after now l).controller.session.state ≡ Closed) ⊎ IsIdle fixed answer_of after settings (goes answer_of after now l)
   first_round given now l held still does fits =
-      let there = moving fixed answer_of after settings first given (Tick now) l tt tt held in
+      let there = moving_inside fixed answer_of after settings given (Tick now) l tt tt held in
       elim (due_sends now l.controller.session l.controller.waiting does) [
         | inl closed ↦ inl (closed_after now l closed)
-        | inr (x, sends) ↦ inr (has_come fixed answer_of after settings first given now x there.0 l still sends there.1 fits).idle
+        | inr (x, sends) ↦ has_come fixed answer_of after settings given now x there.0 there.1 l still sends there.2 fits
       ]
 
-  same_length : (t u : Account) → Grows [] [] t u → all_of u ≡ all_of t
-  same_length t u grows =
-      let issued = ap length (grows.issued ∙ append-nil t.issued) in
-      let queued = ap length (grows.queued ∙ append-nil t.queued) in
-      omega (arith, issued, queued)
+  -- a round issues nothing, and keeps the events
+  abbrev SameAll : Account → Account → Type 0
+  SameAll t u = (u.issued ≡ t.issued) × (u.kept ≡ t.kept)
+
+  told_same : (r : Option Report) (t : Account) → SameAll t (told r t)
+  told_same None t = (refl, refl)
+  told_same (Some (report.Opened id)) t = (refl, refl)
+  told_same r t = (refl, refl)
+
+  to_reader_same : (ps : List Packet) (l : Link H) → SameAll l.account (link.to_reader answer_of after ps Delivered l).account
+  to_reader_same [] l = (refl, refl)
+  to_reader_same (p ∷ ps) l =
+      let o = hears answer_of after l.reader p in
+      let is = (taken_takes (kind_of l.reader p) o.command o.said (link.front_of l.reader) l.account).1 in
+      (ap (λ t. t.issued) is, ap (λ t. t.kept) is)
+
+  to_controller_same : (qs : List Packet) (now : ℕ) (l : Link H) → SameAll l.account (link.to_controller qs Delivered now l).account
+  to_controller_same [] now l = (refl, refl)
+  to_controller_same (q ∷ qs) now l = told_same (controller.hears q now l.controller.session).report l.account
+
+  same_length : (t u : Account) → SameAll t u → all_of u ≡ all_of t
+  same_length t u (issued, kept) = let i = ap length issued in let k = ap length kept in omega (arith, i, k)
 
   all_same : (now : ℕ) (l : Link H) → all_of (goes answer_of after now l).account ≡ all_of l.account
   all_same now l =
       let m = link.to_reader answer_of after (at_tick now l).to_reader Delivered (at_tick now l) in
-      same_length m.account (goes answer_of after now l).account (goes_on answer_of after (ToController Delivered now) m tt).0
-      ∙ same_length (at_tick now l).account m.account (goes_on answer_of after (ToReader Delivered) (at_tick now l) tt).0
-      ∙ same_length l.account (at_tick now l).account (goes_on answer_of after (Tick now) l tt).0
+      same_length m.account (goes answer_of after now l).account (to_controller_same m.to_controller now m)
+      ∙ same_length (at_tick now l).account m.account (to_reader_same (at_tick now l).to_reader (at_tick now l))
+      ∙ same_length l.account (at_tick now l).account (told_same (ticks now l.controller.session l.controller.waiting).step.report l.account)
 
   -- no report makes what is settled and reported less
   told_more : (r : Option Report) (u : Account) → counted u ≤ counted (told r u)
@@ -141,7 +160,8 @@ module _ (fixed : ControllerConfig) {H : Type 0} (answer_of : H → Command → 
   to_reader_more : (ps : List Packet) (l : Link H) → counted l.account ≤ counted (link.to_reader answer_of after ps Delivered l).account
   to_reader_more [] l = omega arith
   to_reader_more (p ∷ ps) l =
-      let is = (taken_takes (kind_of l.reader p) (hears answer_of after l.reader p).command (link.front_of l.reader) l.account).1 in
+      let o = hears answer_of after l.reader p in
+      let is = (taken_takes (kind_of l.reader p) o.command o.said (link.front_of l.reader) l.account).1 in
       omega (arith, ap counted is)
 
   to_controller_more : (qs : List Packet) (now : ℕ) (l : Link H) → counted l.account ≤ counted (link.to_controller qs Delivered now l).account
@@ -159,12 +179,12 @@ module _ (fixed : ControllerConfig) {H : Type 0} (answer_of : H → Command → 
   Through moments l m =
       ((counted l.account + length moments ≤ counted m.account) ⊎ (all_of l.account ≤ counted m.account)) × (all_of m.account ≡ all_of l.account)
 
-  through : Given → (moments : List ℕ) (l : Link H) → Holds l → IsIdle fixed answer_of after settings first l → AreDue answer_of after moments l
+  through : Given → (moments : List ℕ) (l : Link H) → Holds l → IsIdle fixed answer_of after settings l → AreDue answer_of after moments l
       → MovesFit answer_of after (rounds moments) l → Through moments l (run answer_of after (rounds moments) l)
   through given [] l held idle due fits = (inl (omega arith), refl)
   through given (now ∷ later) l held idle due fits =
       let afterwards = held_after given now l fits.1.0 held in
-      let one = idle_round fixed answer_of after settings first given now l held idle due.0 fits.1.0 afterwards in
+      let one = idle_round fixed answer_of after settings given now l held idle due.0 fits.1.0 afterwards in
       let more = through given later (goes answer_of after now l) afterwards one.0 due.1 fits.1.1.1 in
       let same = all_same now l in (
         elim one.1 [
@@ -200,30 +220,26 @@ module _ {H : Type 0} (answer_of : H → Command → Answer) (after : H → Comm
   ended now (next ∷ later) before m closed due more =
       absurd (closed_rests m.controller.session.state (seen next m.controller.session) m.controller.waiting closed due.0)
 
-  pub comes_through : (l : Link H) (moves : List Move) (moments : List ℕ) → Assumed answer_of after l.reader.config l.reader.handler
-      → Begins l → MovesFit answer_of after moves l
-      → let afterwards = run answer_of after moves l in
-      IsClear afterwards → AreDue answer_of after moments afterwards → MovesFit answer_of after (rounds moments) afterwards
-      → ComeOn moments afterwards.account (run answer_of after (rounds moments) afterwards).account
-  comes_through l moves [] given b fits clear due more =
+  pub comes_through : ReadEachOther answer_of after → ComesThrough answer_of after
+  comes_through peers l moves [] b fits clear due more =
       let t = (run answer_of after moves l).account in
       let few = min-le_left (counted t + (length {A = ℕ} [] - 1)) (all_of t) in
       omega (arith, few)
-  comes_through l moves (now ∷ later) given b fits clear due more =
-      let config = l.reader.config in
+  comes_through peers l moves (now ∷ later) b fits clear due more =
+      let settings = l.reader.config in
       let afterwards = run answer_of after moves l in
-      let s = running answer_of after config l.reader.handler given moves l fits (begins answer_of after l b) in
-      let handler = handler_after answer_of after config l.reader.handler afterwards.earlier in
+      let s = stands answer_of after peers l moves b fits in
       let session = afterwards.controller.session in
-      let same = config_is s.fixed answer_of after config handler s.holds.0 afterwards s.holds.1
-      (λ closed. closed_rests session.state (seen now session) afterwards.controller.waiting closed due.0) in
-      let still = clear_still s.fixed answer_of after config handler afterwards clear same in
-      let all = given s.fixed handler s.device in
+      let lasts : session.state ≡ Closed → ⊥ = λ closed. closed_rests session.state (seen now session) afterwards.controller.waiting closed due.0 in
+      let holds = going_bare s.fixed answer_of after settings afterwards s.goes lasts in
+      let same = config_is s.fixed answer_of after settings holds.0 holds.1 afterwards holds.2 lasts in
+      let still = clear_still s.fixed answer_of after settings afterwards clear same in
+      let all = assumed_of answer_of after peers l s.fixed s.device in
       let first = run answer_of after (round now) afterwards in
-      let held = held_after s.fixed answer_of after config handler all now afterwards more.1.0 s.holds in
-      let more_first = goes_more s.fixed answer_of after config handler now afterwards in
-      elim (first_round s.fixed answer_of after config handler all now afterwards s.holds still due.0 more.1.0) [
+      let held = held_after s.fixed answer_of after settings all now afterwards more.1.0 holds in
+      let more_first = goes_more s.fixed answer_of after settings now afterwards in
+      elim (first_round s.fixed answer_of after settings all now afterwards holds still due.0 more.1.0) [
         | inl closed ↦ ended now later afterwards.account first closed due.1 more_first
-        | inr idle ↦ at_least s.fixed answer_of after config handler later now afterwards.account first (run answer_of after (rounds later) first) more_first
-            (through s.fixed answer_of after config handler all later first held idle due.1 more.1.1.1)
+        | inr idle ↦ at_least s.fixed answer_of after settings later now afterwards.account first (run answer_of after (rounds later) first) more_first
+            (through s.fixed answer_of after settings all later first held idle due.1 more.1.1.1)
       ]

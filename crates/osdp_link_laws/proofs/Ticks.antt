@@ -143,7 +143,8 @@ module _ (fixed : ControllerConfig) where
 
   tick_waiting : (state : State) (s : Session) (waiting : List Command) → s.state ≡ state → Waits fixed state s
       → Begun Start 0 waiting (ticks_in state s waiting) ⊎ Unchanged WaitsOn waiting (ticks_in state s waiting)
-  tick_waiting Closed s waiting e waits = absurd waits
+  tick_waiting Closed s waiting e waits =
+      inr (refl, refl, refl, subst (λ st. Waits fixed st s) (sym e) waits)
   tick_waiting (Quiet until) s waiting e waits =
       both (λ t. Begun Start 0 waiting t ⊎ Unchanged WaitsOn waiting t) (leb until s.greatest) (begins Opening 0 s waiting) (stays s waiting)
       (inl (begun Start Opening 0 s waiting waiting tt refl waits))

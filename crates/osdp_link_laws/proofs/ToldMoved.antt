@@ -1,14 +1,19 @@
 -- A COMSET to a device's address is only ever told moved.
-use Rattle.std.proofs.Common.{◌≡◌, ◌<◌, ℕ, Bool, true, false, cond, eqb, leb, ltb, List, [], ◌∷◌, ◌++◌, All, Option, Some, None, refl, sym, subst, ap, ◌∙◌, arith, append_assoc}
+use Rattle.std.proofs.Common.{◌≡◌, ◌<◌, ℕ, Bool, true, false, cond, eqb, leb, ltb, List, [], ◌∷◌, ◌++◌, Option, Some, None, refl, sym, subst, ap, ◌∙◌, inl, inr, arith}
 use Rattle.std.proofs.lemmas.Bool.{leb-false, leb-true, lt-ltb}
-use Rattle.std.specs.Prelude.{◌&&◌, IfSome}
+use Rattle.std.specs.Prelude.{◌&&◌, IfSome, option_to_list}
 use Rattle.osdp_frame.specs.Packet.{Packet}
 use Rattle.osdp_msg.specs.declared.command.Command.{Command}
 use Rattle.osdp_msg.specs.declared.command.Command.TheVariants as command
 use Rattle.osdp_msg.specs.declared.command_fields.Communication.{Communication}
 use Rattle.osdp_msg.specs.declared.reply.Reply.{Reply}
 use Rattle.osdp_msg.specs.declared.reply.Reply.TheVariants as reply
-use Rattle.osdp_controller.specs.Hearing.{com_of, comset_of, hears, moved_by}
+use Rattle.osdp_controller.specs.Hearing.{com_of, comset_of, hears, hears_in, ignores, is_from_reader, is_numbered, moved_by, pausing_hears, waiting_hears}
+use Rattle.osdp_controller.specs.Answers.{meaning_of as said_by}
+use Rattle.osdp_controller.specs.declared.meaning.ReplyMeaning.TheVariants.{NumberRefused}
+use Rattle.osdp_controller.specs.declared.session.Session.{Session}
+use Rattle.osdp_controller.specs.declared.state.State.{State}
+use Rattle.osdp_controller.specs.declared.state.State.TheVariants.{Closed, Quiet, Idle, Waiting, Pausing}
 use Rattle.osdp_controller.specs.Sessions.{seen}
 use Rattle.osdp_controller.specs.declared.report.Report.{Report}
 use Rattle.osdp_controller.specs.declared.report.Report.TheVariants as report
@@ -16,19 +21,22 @@ use Rattle.osdp_reader.specs.declared.config.ReaderConfig.{ReaderConfig}
 use Rattle.osdp_reader.specs.declared.handler.Answer.{Answer}
 use Rattle.osdp_reader.specs.Replies.{not_processed}
 use Rattle.osdp_reader.specs.Table.{answer_to}
-use Rattle.osdp_link_laws.specs.Headline.{MovesFit, Begins, MoveFits, Once, handler_after, with_answers}
-use Rattle.osdp_link_laws.specs.Link.{Account, Delivered, Delivery, Link, Move, Queue as QueueEvent, Reopen, Repeated, SetBusy, Submit, Tick, ToController, ToReader, after_move, told}
+use Rattle.osdp_link_laws.specs.Headline.{MovesFit, IsOnce, MoveFits}
+use Rattle.osdp_link_laws.specs.Link.{Account, Delivered, Delivery, Link, LoseToController, LoseToReader, Move, Queue as QueueEvent, Reopen, Repeated, RestartController, RestartReader, Retarget, SetBusy, SetHandler, Submit, Tick, ToController, ToReader, Withdraw, after_move, told}
 use Rattle.osdp_link_laws.specs.Link as link
-use Rattle.osdp_link_laws.specs.Names.{IsNoDevice, IsToldAsAsked}
-use Rattle.osdp_link_laws.specs.Peers.{IsPlainlySaid}
+use Rattle.osdp_link_laws.specs.Names.{IsNoDevice, IsToldAsAsked, TellAsAsked}
+use Rattle.osdp_link_laws.specs.Peers.{ReadEachOther}
 use Rattle.osdp_link_laws.specs.Refusals.{reports, told_by, told_by_front}
-use Rattle.osdp_link_laws.proofs.Deliveries.{all_said}
-use Rattle.osdp_link_laws.proofs.InARow.{Assumed, Stands, standing}
+use Rattle.osdp_link_laws.proofs.Deliveries.{IsRead, all_read}
+use Rattle.osdp_link_laws.proofs.GivenAnswers.{AreAnswers, IsAnswerOf, first_given, move_given}
+use Rattle.osdp_link_laws.proofs.InARow.{Assumed, Stands, assumed_of, begins, standing}
+use Rattle.osdp_link_laws.proofs.Lines.{both, each_all, each_append}
 use Rattle.osdp_link_laws.proofs.Numbers.{is_true}
 use Rattle.osdp_link_laws.proofs.Once.{is_once}
 use Rattle.osdp_link_laws.proofs.Reports.{MayBring, heard_so, tick_so}
 use Rattle.osdp_link_laws.proofs.Stages.{Each}
-use Rattle.osdp_link_laws.proofs.ToldAlong.{all_reports}
+use Rattle.osdp_link_laws.proofs.Refusals.{one_report}
+use Rattle.osdp_link_laws.proofs.Removed.{as_waiting}
 
 abbrev pub ToldAsAsked : Option Report → Type 0
 ToldAsAsked r = IfSome r IsToldAsAsked
@@ -43,6 +51,32 @@ above d true test none =
     ap (λ b. cond (b && eqb d.address d.address) (Some d) None) small ∙ ap (λ b. cond b (Some d) None) same in
     absurd cc
 
+-- what such a packet, or a refused number, may bring: no COMSET is settled whose COM moves the reader, and each reply is read
+abbrev pub MayTell : Option Report → Type 0
+MayTell (Some (report.Settled c a)) = moved_by (comset_of c) (com_of a) ≡ None
+MayTell (Some (report.Unread c code)) = ⊥
+MayTell _ = Unit {0}
+
+brought : (r : Option Report) → MayBring r → MayTell r
+brought (Some (report.Settled c a)) is = is
+brought (Some (report.Unread c code)) is = is
+brought r is = tt
+
+refused_so : (state : State) (number : ℕ) (s : Session) → MayTell (hears_in state number NumberRefused s).report
+refused_so Closed number s = tt
+refused_so (Quiet until) number s = tt
+refused_so (Idle due) number s = tt
+refused_so (Waiting until k o) number s =
+    both (λ h. MayTell h.report) (is_numbered number NumberRefused s) (waiting_hears NumberRefused k o s) (ignores s) tt tt
+refused_so (Pausing until o) number s =
+    both (λ h. MayTell h.report) (is_numbered number NumberRefused s) (pausing_hears NumberRefused o s) (ignores s) tt tt
+
+heard_read : (p : Packet) (now : ℕ) (s : Session) → IsRead p → MayTell (hears p now s).report
+heard_read p now s (inl plain) = brought (hears p now s).report (heard_so p now s plain)
+heard_read p now s (inr refuses) =
+    both (λ h. MayTell h.report) (is_from_reader p s) (hears_in s.state p.sequence (said_by p) (seen now s)) (ignores (seen now s))
+    (subst (λ a. MayTell (hears_in s.state p.sequence a (seen now s)).report) (sym refuses) (refused_so s.state p.sequence (seen now s))) tt
+
 module _ {H : Type 0} (answer_of : H → Command → Answer) (after : H → Command → H) where
   no_device : (config : ReaderConfig) (h : H) (c : Command) (a : Reply) → a ≡ (answer_to answer_of after config h c).reply
       → moved_by (comset_of c) (com_of a) ≡ None → IsNoDevice (comset_of c)
@@ -50,55 +84,64 @@ module _ {H : Type 0} (answer_of : H → Command → Answer) (after : H → Comm
       above d (leb d.address 126) refl (subst (λ r. moved_by (Some d) (com_of r) ≡ None) is none)
   no_device config h c a is none = tt
 
-  -- a settled command has the answer of its place
-  answered_by : (config : ReaderConfig) (h : H) (cs : List Command) (xs ys : List (Command × Reply)) (c : Command) (a : Reply)
-      → with_answers answer_of after config h cs ≡ xs ++ (c, a) ∷ ys → (g : H) × (a ≡ (answer_to answer_of after config g c).reply)
-  answered_by config h [] [] ys c a is = absurd cc
-  answered_by config h [] (x ∷ xs) ys c a is = absurd cc
-  answered_by config h (d ∷ ds) [] ys c a is =
-      let here : (d, (answer_to answer_of after config h d).reply) ≡ (c, a) = cc in
-      (h, sym (ap (λ (p : Command × Reply). p.1) here) ∙ ap (λ e. (answer_to answer_of after config h e).reply) (ap (λ (p : Command × Reply). p.0) here))
-  answered_by config h (d ∷ ds) (x ∷ xs) ys c a is =
-      answered_by config (answer_to answer_of after config h d).handler ds xs ys c a cc
+  -- a settled command has an answer that the reader gave
+  answered_by : (xs ys : List (Command × Reply)) (c : Command) (a : Reply) → Each (IsAnswerOf answer_of after) ((xs ++ (c, a) ∷ []) ++ ys)
+      → IsAnswerOf answer_of after (c, a)
+  answered_by [] ys c a are = are.0
+  answered_by (x ∷ xs) ys c a are = answered_by xs ys c a are.1
 
-  told_so : (config : ReaderConfig) (h : H) (r : Option Report) (t : Account) → MayBring r → Once answer_of after config h (told r t) → ToldAsAsked r
-  told_so config h (Some (report.Settled c a)) t is once =
-      let whole = once.settled in
-      let by = answered_by config h t.taken t.settled whole.0 c a (whole.1 ∙ append_assoc t.settled ((c, a) ∷ []) whole.0) in
-      no_device config by.0 c a by.1 is
-  told_so config h (Some (report.Unread c code)) t is once = is
-  told_so config h r t is once = tt
+  told_so : (r : Option Report) (t : Account) → MayTell r → AreAnswers answer_of after (told r t) → IsOnce (told r t) → ToldAsAsked r
+  told_so (Some (report.Settled c a)) t is are once =
+      let by = answered_by t.settled once.settled.0 c a (subst (Each (IsAnswerOf answer_of after)) once.settled.1 are) in
+      no_device by.0 by.1 c a by.2 is
+  told_so (Some (report.Unread c code)) t is are once = is
+  told_so r t is are once = tt
 
-module _ {H : Type 0} (answer_of : H → Command → Answer) (after : H → Command → H) (settings : ReaderConfig) (first : H) where
   -- what is told last is in the account after it
-  front_told : (how : Delivery) (ps : List Packet) (now : ℕ) (l : Link H) → Each IsPlainlySaid ps
-      → ((k : H) × Once answer_of after settings k (link.to_controller ps how now l).account) → ToldAsAsked (told_by_front how ps now l.controller.session)
-  front_told Delivered (p ∷ ps) now l plain once =
-      told_so answer_of after settings once.0 (hears p now l.controller.session).report l.account (heard_so p now l.controller.session plain.0) once.1
-  front_told Repeated (p ∷ ps) now l plain once =
-      told_so answer_of after settings once.0 (hears p now l.controller.session).report l.account (heard_so p now l.controller.session plain.0) once.1
-  front_told how ps now l plain once = tt
+  front_told : (how : Delivery) (ps : List Packet) (now : ℕ) (l : Link H) → Each IsRead ps
+      → AreAnswers answer_of after (link.to_controller ps how now l).account → IsOnce (link.to_controller ps how now l).account
+      → ToldAsAsked (told_by_front how ps now l.controller.session)
+  front_told Delivered (p ∷ ps) now l read are once =
+      told_so (hears p now l.controller.session).report l.account (heard_read p now l.controller.session read.0) are once
+  front_told Repeated (p ∷ ps) now l read are once =
+      told_so (hears p now l.controller.session).report l.account (heard_read p now l.controller.session read.0) are once
+  front_told how ps now l read are once = tt
 
-  pub move_told : Assumed answer_of after settings first → (move : Move) (l : Link H) → MoveFits answer_of after move l
-      → Stands answer_of after settings first l → ToldAsAsked (told_by move l)
-  move_told given (Submit c) l fits h = tt
-  move_told given (QueueEvent e) l fits h = tt
-  move_told given (SetBusy busy) l fits h = tt
-  move_told given (Tick now) l fits h = tick_so ToldAsAsked tt (λ o. tt) l.controller.session.state (seen now l.controller.session) l.controller.waiting
-  move_told given (ToReader how) l fits h = tt
-  move_told given (ToController how now) l fits h =
-      let handler = handler_after answer_of after settings first l.earlier in
+module _ {H : Type 0} (answer_of : H → Command → Answer) (after : H → Command → H) (settings : ReaderConfig) where
+  pub move_told : Assumed answer_of after settings → (move : Move H) (l : Link H) → MoveFits answer_of after move l
+      → Stands answer_of after settings l → AreAnswers answer_of after l.account → ToldAsAsked (told_by move l)
+  move_told given (Tick now) l fits h are = tick_so ToldAsAsked tt (λ o. tt) l.controller.session.state (seen now l.controller.session) l.controller.waiting
+  move_told given (ToController how now) l fits h are =
       let new = after_move answer_of after (ToController how now) l in
-      let next = standing answer_of after settings first given (ToController how now) l fits h in
-      front_told how l.to_controller now l
-      (all_said h.fixed answer_of after settings handler (given h.fixed handler h.device) h.holds.0 l h.holds.1) (
-        handler_after answer_of after settings first new.earlier,
-        is_once next.fixed answer_of after settings (handler_after answer_of after settings first new.earlier) new next.holds,
-      )
-  move_told given (Reopen now) l fits h = tt
+      let next = standing answer_of after settings given (ToController how now) l fits h in
+      let held = h.goes.holds in
+      front_told answer_of after how l.to_controller now l
+      (all_read h.fixed answer_of after settings held.0 (given h.fixed h.device) held.1 (as_waiting l) held.2)
+      (move_given answer_of after (ToController how now) l are) (is_once next.fixed answer_of after settings new next.goes)
+  move_told given (Submit c) l fits h are = tt
+  move_told given (QueueEvent e) l fits h are = tt
+  move_told given (SetBusy busy) l fits h are = tt
+  move_told given (ToReader how) l fits h are = tt
+  move_told given (Reopen now) l fits h are = tt
+  move_told given (SetHandler handler) l fits h are = tt
+  move_told given (LoseToReader place) l fits h are = tt
+  move_told given (LoseToController place) l fits h are = tt
+  move_told given Withdraw l fits h are = tt
+  move_told given (Retarget address) l fits h are = tt
+  move_told given (RestartReader address handler room) l fits h are = tt
+  move_told given (RestartController config room) l fits h are = tt
+
+  each_told : Assumed answer_of after settings → (moves : List (Move H)) (l : Link H) → MovesFit answer_of after moves l → Stands answer_of after settings l
+      → AreAnswers answer_of after l.account → Each IsToldAsAsked (reports answer_of after moves l)
+  each_told given [] l fits h are = tt
+  each_told given (move ∷ moves) l fits h are =
+      let new = after_move answer_of after move l in
+      each_append IsToldAsAsked (option_to_list (told_by move l)) (reports answer_of after moves new)
+      (one_report IsToldAsAsked (told_by move l) (move_told given move l fits.0 h are))
+      (each_told given moves new fits.1 (standing answer_of after settings given move l fits.0 h) (move_given answer_of after move l are))
 
 module _ {H : Type 0} (answer_of : H → Command → Answer) (after : H → Command → H) where
-  pub tell_as_asked : (l : Link H) (moves : List Move) → Assumed answer_of after l.reader.config l.reader.handler → Begins l → MovesFit answer_of after moves l
-      → All IsToldAsAsked (reports answer_of after moves l)
-  tell_as_asked l moves given b fits =
-      all_reports IsToldAsAsked answer_of after l moves given (move_told answer_of after l.reader.config l.reader.handler given) b fits
+  pub tell_as_asked : ReadEachOther answer_of after → TellAsAsked answer_of after
+  tell_as_asked peers l moves b fits =
+      each_all IsToldAsAsked (reports answer_of after moves l)
+      (each_told answer_of after l.reader.config (assumed_of answer_of after peers l) moves l fits (begins answer_of after l b) (first_given answer_of after l b))

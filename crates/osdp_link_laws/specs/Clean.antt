@@ -5,12 +5,13 @@ use Rattle.osdp_controller.specs.Sessions.{later as later_by}
 use Rattle.osdp_controller.specs.States.{is_closed, moment_of}
 use Rattle.osdp_reader.specs.declared.config.ReaderConfig.{ReaderConfig}
 use Rattle.osdp_reader.specs.declared.handler.Answer.{Answer}
-use Rattle.osdp_link_laws.specs.Headline.{MovesFit, Begins, with_answers}
-use Rattle.osdp_link_laws.specs.Link.{Account, Link, Move, Queue, Reopen, SetBusy, Submit, Tick, ToController, ToReader, run}
+use Rattle.osdp_link_laws.specs.Headline.{MovesFit, Begins}
+use Rattle.osdp_link_laws.specs.Link.{Account, Link, Move, Queue, Reopen, RestartController, RestartReader, Retarget, SetBusy, SetHandler, Submit, Tick, ToController, ToReader, Withdraw, run, LoseToReader, LoseToController}
+use Rattle.osdp_link_laws.specs.OneHandler.{with_answers}
 use Rattle.osdp_link_laws.specs.Progress.{SetsNoAddress, round, rounds}
 
 -- a command that is submitted, or an event that is queued
-abbrev pub IsOrder : Move → Type 0
+abbrev pub IsOrder : {H : Type 0} → Move H → Type 0
 IsOrder (Submit command) = Unit {0}
 IsOrder (Queue event) = Unit {0}
 IsOrder (SetBusy busy) = ⊥
@@ -18,6 +19,13 @@ IsOrder (Tick now) = ⊥
 IsOrder (ToReader how) = ⊥
 IsOrder (ToController how now) = ⊥
 IsOrder (Reopen now) = ⊥
+IsOrder (SetHandler handler) = ⊥
+IsOrder Withdraw = ⊥
+IsOrder (Retarget address) = ⊥
+IsOrder (RestartReader address handler room) = ⊥
+IsOrder (RestartController config room) = ⊥
+IsOrder (LoseToReader place) = ⊥
+IsOrder (LoseToController place) = ⊥
 
 module _ {H : Type 0} (answer_of : H → Command → Answer) (after : H → Command → H) where
   -- each of so many rounds settles a command, the oldest first, with the reader's answer to it after those before it; once all are
@@ -36,7 +44,7 @@ module _ {H : Type 0} (answer_of : H → Command → Answer) (after : H → Comm
   -- a first session, at a reader at the controller's address that isn't busy: whatever was submitted and queued, the opening round and n
   -- more, each as late as the poll's interval asks, settle and report in turn, and the session lasts
   abbrev pub GoesInTurn : Type 0
-  GoesInTurn = (l : Link H) (orders : List Move) (opening wait : ℕ) (moments : List ℕ) → Begins l → All IsOrder orders
+  GoesInTurn = (l : Link H) (orders : List (Move H)) (opening wait : ℕ) (moments : List ℕ) → Begins l → All IsOrder orders
       → MovesFit answer_of after orders l
       → l.reader.config.address ≡ l.controller.session.config.address → l.reader.busy ≡ false
       → IfSome (moment_of l.controller.session.state) (λ quiet. quiet ≤ opening) → l.controller.session.config.poll_interval ≤ wait

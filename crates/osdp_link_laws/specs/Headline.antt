@@ -1,6 +1,6 @@
--- Within each session, opened by ID on a quiet line, whatever is lost, repeated or damaged: commands and events are once and in
--- order.
-use Rattle.std.specs.Prelude.{◌≡◌, ◌≢◌, ◌≤◌, ◌<◌, ℕ, List, [], ◌∷◌, ◌++◌, length, All, IfSome}
+-- Within each session, opened by ID on a quiet line, whatever is lost, repeated or damaged, whatever the device tells and when it changes,
+-- and whoever restarts: commands and events are once and in order.
+use Rattle.std.specs.Prelude.{◌≡◌, ◌≢◌, ◌≤◌, ◌<◌, ◌⊎◌, ℕ, List, [], ◌∷◌, ◌++◌, length, map, All, IfSome}
 use Rattle.osdp_frame.specs.Packet.{Packet}
 use Rattle.osdp_msg.specs.CommandTable.{CommandFits}
 use Rattle.osdp_msg.specs.ReplyTable.{ReplyFits}
@@ -8,13 +8,11 @@ use Rattle.osdp_msg.specs.declared.command.Command.{Command}
 use Rattle.osdp_msg.specs.declared.command.Command.TheVariants.{Poll}
 use Rattle.osdp_msg.specs.declared.reply.Reply.{Reply}
 use Rattle.osdp_controller.specs.declared.state.State.TheVariants.{Quiet}
-use Rattle.osdp_reader.specs.declared.config.ReaderConfig.{ReaderConfig}
+use Rattle.osdp_controller.specs.Machine.{AreSettings}
 use Rattle.osdp_reader.specs.declared.handler.Answer.{Answer}
 use Rattle.osdp_reader.specs.State.{ReaderState}
-use Rattle.osdp_reader.specs.Table.{answer_to, hears}
-use Rattle.osdp_reader_laws.specs.Answering.{handler_after_commands}
-use Rattle.osdp_link_laws.specs.Link.{Account, Delivered, Delivery, Link, Lost, Move, Reopen, Repeated, Submit, Queue, SetBusy, Tick, ToReader, ToController, after_move, new_account, run}
-use Rattle.osdp_link_laws.specs.Peers.{IsPlainlySaid}
+use Rattle.osdp_reader.specs.Table.{hears}
+use Rattle.osdp_link_laws.specs.Link.{Account, Delivered, Delivery, Link, Lost, Move, Reopen, Repeated, RestartController, RestartReader, Retarget, SetHandler, Submit, Queue, SetBusy, Tick, ToReader, ToController, Withdraw, after_move, new_account, run, LoseToReader, LoseToController}
 
 -- a command that may be submitted: any but POLL, its fields in their ranges
 pub record MaySubmit (command : Command) : Type 0 where
@@ -23,6 +21,30 @@ pub record MaySubmit (command : Command) : Type 0 where
 
 abbrev pub IsBeginning : {A : Type 0} → List A → List A → Type 0
 IsBeginning {A} xs ys = (rest : List A) × (ys ≡ xs ++ rest)
+
+-- `kept` is `all` with the items of `out` left out, each at its own place, in their order
+abbrev pub IsWithout : {A : Type 0} → List A → List A → List A → Type 0
+IsWithout {A} out [] kept = (out ≡ []) × (kept ≡ [])
+IsWithout {A} out (x ∷ all) kept =
+    ((rest : List A) × (kept ≡ x ∷ rest) × IsWithout out all rest)
+    ⊎ ((rest : List A) × (out ≡ x ∷ rest) × IsWithout rest all kept)
+
+abbrev pub asked : Command × Reply → Command
+asked p = p.0
+
+-- the commands that the reader has taken are a beginning of those issued; it gave an answer to each of them; of these the settled ones,
+-- each with the answer that the reader gave, are all, or all but the last. The events reported are a beginning of those queued, but those
+-- that a restart of the reader threw away before they were offered.
+pub record IsOnce (t : Account) : Type 0 where
+  pub taken : IsBeginning t.taken t.issued
+  pub answered : map asked t.given ≡ t.taken
+  pub settled : (more : List (Command × Reply)) × (t.given ≡ t.settled ++ more) × (length more ≤ 1)
+  pub reported : IsBeginning t.reported t.kept
+  pub kept : IsWithout t.thrown_away t.queued t.kept
+
+abbrev pub EachIsOnce : List Account → Type 0
+EachIsOnce [] = Unit {0}
+EachIsOnce (t ∷ earlier) = IsOnce t × EachIsOnce earlier
 
 module _ {H : Type 0} where
   -- a first session has begun, at a device's address, and nothing is on the line; its account begins
@@ -36,13 +58,6 @@ module _ {H : Type 0} where
     pub earlier : l.earlier ≡ []
 
   module _ (answer_of : H → Command → Answer) (after : H → Command → H) where
-    -- commands, each with the answer to it after those before it
-    abbrev pub with_answers : ReaderConfig → H → List Command → List (Command × Reply)
-    with_answers config handler [] = []
-    with_answers config handler (command ∷ commands) =
-        let a = answer_to answer_of after config handler command in
-        (command, a.reply) ∷ with_answers config a.handler commands
-
     -- what a reader says anew to the packet in front is of the table of replies
     abbrev pub SaysWhatFits : List Packet → ReaderState H → Type 0
     SaysWhatFits [] r = Unit {0}
@@ -54,8 +69,9 @@ module _ {H : Type 0} where
     SaysWhatFitsIf Lost ps r = Unit {0}
     SaysWhatFitsIf Repeated ps r = SaysWhatFits ps r
 
-    -- what both ends make sure of: commands that are submitted, and replies that are sent, have their fields in their ranges
-    abbrev pub MoveFits : Move → Link H → Type 0
+    -- what both ends make sure of: commands that are submitted, and replies that are sent, have their fields in their ranges; and a reader
+    -- or a controller is made of settings in their ranges
+    abbrev pub MoveFits : Move H → Link H → Type 0
     MoveFits (Submit command) l = CommandFits command
     MoveFits (Queue event) l = Unit {0}
     MoveFits (SetBusy busy) l = Unit {0}
@@ -63,32 +79,18 @@ module _ {H : Type 0} where
     MoveFits (ToReader how) l = SaysWhatFitsIf how l.to_reader l.reader
     MoveFits (ToController how now) l = Unit {0}
     MoveFits (Reopen now) l = Unit {0}
+    MoveFits (SetHandler handler) l = Unit {0}
+    MoveFits Withdraw l = Unit {0}
+    MoveFits (Retarget address) l = Unit {0}
+    MoveFits (RestartReader address handler room) l = (address < 127) × (1 ≤ room) × (room ≤ 1024)
+    MoveFits (RestartController config room) l = AreSettings config room
+    MoveFits (LoseToReader place) l = Unit {0}
+    MoveFits (LoseToController place) l = Unit {0}
 
-    abbrev pub MovesFit : List Move → Link H → Type 0
+    abbrev pub MovesFit : List (Move H) → Link H → Type 0
     MovesFit [] l = Unit {0}
     MovesFit (move ∷ moves) l = MoveFits move l × MovesFit moves (after_move answer_of after move l)
 
-    -- the commands that the reader has taken are a beginning of those issued, and hold each settled one, with the answer that the
-    -- reader gave, and one more at most; the events reported are a beginning of those queued
-    pub record Once (config : ReaderConfig) (handler : H) (t : Account) : Type 0 where
-      pub taken : IsBeginning t.taken t.issued
-      pub settled : (more : List (Command × Reply)) × (with_answers config handler t.taken ≡ t.settled ++ more) × (length more ≤ 1)
-      pub reported : IsBeginning t.reported t.queued
-
-    -- the handler after the commands taken in these sessions, the last of them first
-    abbrev pub handler_after : ReaderConfig → H → List Account → H
-    handler_after config handler [] = handler
-    handler_after config handler (t ∷ earlier) = handler_after_commands answer_of after config (handler_after config handler earlier) t.taken
-
-    -- .. each of which is once, from the handler that the ones before have left
-    abbrev pub AreOnce : ReaderConfig → H → List Account → Type 0
-    AreOnce config handler [] = Unit {0}
-    AreOnce config handler (t ∷ earlier) = Once config (handler_after config handler earlier) t × AreOnce config handler earlier
-
     abbrev pub HoldsOnce : Type 0
-    HoldsOnce = (l : Link H) (moves : List Move) → Begins l → MovesFit moves l
-        → let later = run answer_of after moves l in AreOnce l.reader.config l.reader.handler (later.account ∷ later.earlier)
-
-    -- whatever is on its way to the controller says BUSY, or a reply that settles: no number is refused
-    abbrev pub SaysAllPlainly : Type 0
-    SaysAllPlainly = (l : Link H) (moves : List Move) → Begins l → MovesFit moves l → All IsPlainlySaid (run answer_of after moves l).to_controller
+    HoldsOnce = (l : Link H) (moves : List (Move H)) → Begins l → MovesFit moves l
+        → let later = run answer_of after moves l in EachIsOnce (later.account ∷ later.earlier)

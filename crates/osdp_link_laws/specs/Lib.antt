@@ -1,6 +1,7 @@
 pub mod Peers
 pub mod Link
 pub mod Headline
+pub mod OneHandler
 pub mod Sessions
 pub mod Progress
 pub mod Refusals
@@ -8,4 +9,5 @@ pub mod Addresses
 pub mod TwoLists
 pub mod Names
 pub mod Ends
+pub mod Ordinary
 pub mod Clean

@@ -1,14 +1,18 @@
 -- One link: a controller, a reader, and the packets that are on the way between them.
-use Rattle.std.specs.Prelude.{ℕ, Bool, true, false, ◌==◌, List, [], ◌∷◌, ◌++◌, length, take, Option, Some, None, option_to_list}
+use Rattle.std.specs.Prelude.{ℕ, zero, suc, Bool, true, false, ◌==◌, ◌+◌, List, [], ◌∷◌, ◌++◌, drop, length, map, take, Option, Some, None, option_to_list}
 use Rattle.osdp_frame.specs.Packet.{Packet}
 use Rattle.osdp_msg.specs.declared.command.Command.{Command}
 use Rattle.osdp_msg.specs.declared.command.Command.TheVariants.{Poll}
 use Rattle.osdp_msg.specs.declared.event.Event.{Event}
 use Rattle.osdp_msg.specs.declared.reply.Reply.{Reply}
 use Rattle.osdp_msg.specs.declared.reply.Reply.TheVariants as reply
+use Rattle.osdp_controller.specs.declared.config.ControllerConfig.{ControllerConfig}
 use Rattle.osdp_controller.specs.declared.fault.ControllerFault.{ControllerFault}
 use Rattle.osdp_controller.specs.declared.report.Report.{Report}
 use Rattle.osdp_controller.specs.declared.report.Report.TheVariants as report
+use Rattle.osdp_controller.specs.declared.state.State.{State}
+use Rattle.osdp_controller.specs.declared.state.State.TheVariants.{Waiting, Pausing}
+use Rattle.osdp_controller.specs.Exchanges.{submitted_command}
 use Rattle.osdp_controller.specs.Hearing as controller
 use Rattle.osdp_controller.specs.Machine as controllers
 use Rattle.osdp_controller.specs.Machine.{Machine}
@@ -21,21 +25,49 @@ use Rattle.osdp_reader.specs.State as readers
 use Rattle.osdp_reader.specs.State.{ReaderState}
 use Rattle.osdp_reader.specs.Table as reader
 
--- what a session comes to: the commands that waited when it began and those accepted since, the events likewise, the commands
--- other than POLL that the reader has taken, those settled, each with its answer, those told unsettled, the events that the reader has
--- offered, and those reported
+-- a command that waited and waits no more: its user has withdrawn it, or a restart of the controller has thrown it away
+pub data Removal : Type 0 where
+  Withdrawn : Command → Removal
+  ThrownAway : Command → Removal
+
+-- what a session comes to, each list in its order.
+-- Of commands: those that waited when it began and those accepted since; those that the reader has taken, POLLs left out, and each with the
+-- answer that the reader gave to it then; those settled, each with its answer; those told unsettled; the one that was outstanding when the
+-- controller restarted; and those that waited after the end and were withdrawn or thrown away.
+-- Of events: those in the queue when it began and those accepted since; those of them that no restart of the reader has thrown away before
+-- they were offered in this session, and those that one has; those that the reader has offered; and those reported.
+-- And how often the reader has restarted in it.
 pub record Account : Type 0 where
   pub issued : List Command
-  pub queued : List Event
   pub taken : List Command
+  pub given : List (Command × Reply)
   pub settled : List (Command × Reply)
   pub unsettled : List Command
+  pub forgotten : List Command
+  pub removed : List Removal
+  pub queued : List Event
+  pub kept : List Event
+  pub thrown_away : List Event
   pub offered : List Event
   pub reported : List Event
+  pub restarts : ℕ
 
 abbrev pub new_account : List Command → List Event → Account
-new_account waiting events =
-    record { issued = waiting; queued = events; taken = []; settled = []; unsettled = []; offered = []; reported = [] }
+new_account waiting events = record {
+  issued = waiting;
+  taken = [];
+  given = [];
+  settled = [];
+  unsettled = [];
+  forgotten = [];
+  removed = [];
+  queued = events;
+  kept = events;
+  thrown_away = [];
+  offered = [];
+  reported = [];
+  restarts = 0;
+}
 
 -- both ends, what either has sent and the other has not had yet, the oldest first, the account of the session, and those of the
 -- sessions before it, the last of them first
@@ -54,15 +86,32 @@ pub data Delivery : Type 0 where
   Lost : Delivery
   Repeated : Delivery
 
--- what may happen to a link, at any moment: the last is a session that begins again
-pub data Move : Type 0 where
-  Submit : Command → Move
-  Queue : Event → Move
-  SetBusy : Bool → Move
-  Tick : ℕ → Move
-  ToReader : Delivery → Move
-  ToController : Delivery → ℕ → Move
-  Reopen : ℕ → Move
+-- what may happen to a link, at any moment. `Reopen`: a session begins again. `SetHandler`: the device has another handler from now on.
+-- `Withdraw`: where the controller is closed, the command that has waited longest is taken back. `Retarget`: where it is closed, its
+-- address is set. `RestartReader`: the reader is new, at this address, with this handler and room for events. `RestartController`: the
+-- controller is new, with these settings and room for commands. What is on the line stays on it. `LoseToReader`, `LoseToController`: what stands at this place of
+-- the line, the front at 0, is lost, beside what others say on it.
+pub data Move (H : Type 0) : Type 0 where
+  Submit : Command → Move H
+  Queue : Event → Move H
+  SetBusy : Bool → Move H
+  Tick : ℕ → Move H
+  ToReader : Delivery → Move H
+  ToController : Delivery → ℕ → Move H
+  Reopen : ℕ → Move H
+  SetHandler : H → Move H
+  Withdraw : Move H
+  Retarget : ℕ → Move H
+  RestartReader : ℕ → H → ℕ → Move H
+  RestartController : ControllerConfig → ℕ → Move H
+  LoseToReader : ℕ → Move H
+  LoseToController : ℕ → Move H
+
+-- without what stands at this place, if anything does
+abbrev pub lost_at : {A : Type 0} → ℕ → List A → List A
+lost_at k [] = []
+lost_at zero (x ∷ xs) = xs
+lost_at (suc k) (x ∷ xs) = x ∷ lost_at k xs
 
 -- the account after a report: a COMSET that moves the reader is settled by its COM
 abbrev pub told : Option Report → Account → Account
@@ -75,14 +124,39 @@ told (Some (report.PollAnswered answer)) t = t
 told (Some (report.Unread command code)) t = t
 told (Some (report.Lost cause command)) t = record t { unsettled = t.unsettled ++ option_to_list command }
 
--- .. and after a command with a number that is taken: a POLL offers the event in front, if there is one
-abbrev pub taken_command : Command → List Event → Account → Account
-taken_command Poll front t = record t { offered = t.offered ++ front }
-taken_command command front t = record t { taken = t.taken ++ command ∷ [] }
+-- a command that was taken, with the reply that was said to it
+abbrev pub given_to : Command → Option Reply → List (Command × Reply)
+given_to command None = []
+given_to command (Some answer) = (command, answer) ∷ []
 
-abbrev pub taken : Kind → Option Command → List Event → Account → Account
-taken kind.Taken (Some command) front t = taken_command command front t
-taken _ _ front t = t
+-- .. and after a command with a number that is taken, and what is said to it: a POLL offers the event in front, if there is one
+abbrev pub taken_command : Command → Option Reply → List Event → Account → Account
+taken_command Poll said front t = record t { offered = t.offered ++ front }
+taken_command command said front t = record t { taken = t.taken ++ command ∷ []; given = t.given ++ given_to command said }
+
+abbrev pub taken : Kind → Option Command → Option Reply → List Event → Account → Account
+taken kind.Taken (Some command) said front t = taken_command command said front t
+taken _ _ said front t = t
+
+-- .. after a restart of the reader: the events that it had not offered in this session are gone
+abbrev pub reader_restarted : Account → Account
+reader_restarted t = record t {
+  kept = t.offered;
+  thrown_away = t.thrown_away ++ drop (length t.offered) t.kept;
+  restarts = t.restarts + 1;
+}
+
+-- .. after a restart of the controller: the outstanding command is neither settled nor told unsettled, and those that waited are gone
+abbrev pub outstanding_command : State → Option Command
+outstanding_command (Waiting until sends o) = submitted_command o.exchange
+outstanding_command (Pausing until o) = submitted_command o.exchange
+outstanding_command _ = None
+
+abbrev pub controller_restarted : Machine → Account → Account
+controller_restarted m t = record t {
+  forgotten = t.forgotten ++ option_to_list (outstanding_command m.session.state);
+  removed = t.removed ++ map ThrownAway m.waiting;
+}
 
 module _ {H : Type 0} where
   -- the event that comes next, once an offered one has left
@@ -100,7 +174,7 @@ module _ {H : Type 0} where
   queues true event l = l
   queues false event l = record l {
     reader = readers.after_submit event l.reader;
-    account = record l.account { queued = l.account.queued ++ event ∷ [] };
+    account = record l.account { queued = l.account.queued ++ event ∷ []; kept = l.account.kept ++ event ∷ [] };
   }
 
   -- the controller's frame goes after those that are on the way
@@ -128,6 +202,33 @@ module _ {H : Type 0} where
   }
   reopens _ _ _ now l = l
 
+  -- the command that has waited longest is taken back, where the controller is closed and one waits
+  abbrev pub withdraws : Link H → Link H
+  withdraws l = record l {
+    controller = controllers.after_withdraw l.controller;
+    account = record l.account {
+      removed = l.account.removed ++ map Withdrawn (option_to_list (controllers.withdrawn_in l.controller.session.state l.controller.waiting));
+    };
+  }
+
+  abbrev pub retargets : Option ControllerFault → ℕ → Link H → Link H
+  retargets (Some fault) address l = l
+  retargets None address l = record l { controller = controllers.after_retarget address l.controller }
+
+  -- the same device, with nothing taken, nothing stored and no event
+  abbrev pub restarts_reader : ℕ → H → ℕ → Link H → Link H
+  restarts_reader address handler room l = record l {
+    reader = readers.new_reader (record l.reader.config { address = address }) handler room;
+    account = reader_restarted l.account;
+  }
+
+  -- closed, with nothing waiting and no moment seen: a session that lasted has ended, and nobody is told
+  abbrev pub restarts_controller : ControllerConfig → ℕ → Link H → Link H
+  restarts_controller config room l = record l {
+    controller = controllers.new_machine config room;
+    account = controller_restarted l.controller l.account;
+  }
+
   abbrev pub to_controller : List Packet → Delivery → ℕ → Link H → Link H
   to_controller [] how now l = l
   to_controller (p ∷ rest) Delivered now l = controller_gets p now (record l { to_controller = rest })
@@ -142,7 +243,7 @@ module _ {H : Type 0} where
         record l {
           reader = outcome.reader;
           to_controller = l.to_controller ++ option_to_list outcome.reply;
-          account = taken (reader.kind_of l.reader p) outcome.command (front_of l.reader) l.account;
+          account = taken (reader.kind_of l.reader p) outcome.command outcome.said (front_of l.reader) l.account;
         }
 
     abbrev pub to_reader : List Packet → Delivery → Link H → Link H
@@ -151,7 +252,7 @@ module _ {H : Type 0} where
     to_reader (p ∷ rest) Lost l = record l { to_reader = rest }
     to_reader (p ∷ rest) Repeated l = reader_gets p l
 
-    abbrev pub after_move : Move → Link H → Link H
+    abbrev pub after_move : Move H → Link H → Link H
     after_move (Submit command) l = submits (controllers.submit_refusal command l.controller) command l
     after_move (Queue event) l = queues (length l.reader.queue.events == l.reader.queue.capacity) event l
     after_move (SetBusy busy) l = record l { reader = readers.after_set_busy busy l.reader }
@@ -159,8 +260,15 @@ module _ {H : Type 0} where
     after_move (ToReader how) l = to_reader l.to_reader how l
     after_move (ToController how now) l = to_controller l.to_controller how now l
     after_move (Reopen now) l = reopens (controllers.begin_refusal l.controller) l.to_reader l.to_controller now l
+    after_move (SetHandler handler) l = record l { reader = readers.after_set_handler handler l.reader }
+    after_move Withdraw l = withdraws l
+    after_move (Retarget address) l = retargets (controllers.retarget_refusal address l.controller) address l
+    after_move (RestartReader address handler room) l = restarts_reader address handler room l
+    after_move (RestartController config room) l = restarts_controller config room l
+    after_move (LoseToReader place) l = record l { to_reader = lost_at place l.to_reader }
+    after_move (LoseToController place) l = record l { to_controller = lost_at place l.to_controller }
 
     -- the link after a list of moves
-    abbrev pub run : List Move → Link H → Link H
+    abbrev pub run : List (Move H) → Link H → Link H
     run [] l = l
     run (move ∷ moves) l = run moves (after_move move l)

@@ -1,22 +1,15 @@
--- The addresses that one link names: on the line they are one device's, and off it those of its ends and of a COMSET under way.
-use Rattle.std.specs.Prelude.{◌≡◌, ◌≢◌, ◌⊎◌, ◌<◌, ℕ, true, false, All, IfSome, List, [], ◌∷◌, Option, Some, None, Ok}
+-- What one link says: all that is on the line names one device, and a COMSET to a device's address is only ever told moved.
+use Rattle.std.specs.Prelude.{◌≡◌, ◌<◌, ℕ, true, false, All, List, Option, Some, None}
 use Rattle.osdp_frame.specs.Packet.{Packet}
 use Rattle.osdp_msg.specs.declared.command.Command.{Command}
 use Rattle.osdp_msg.specs.declared.command_fields.Communication.{Communication}
-use Rattle.osdp_msg.specs.declared.reply.Reply.TheVariants as reply
-use Rattle.osdp_controller.specs.Answers.{meaning_of as said_by}
 use Rattle.osdp_controller.specs.Hearing.{comset_of}
-use Rattle.osdp_controller.specs.Machine.{submit_refusal}
-use Rattle.osdp_controller.specs.declared.meaning.ReplyMeaning.TheVariants.{Plain}
-use Rattle.osdp_controller.specs.declared.fault.ControllerFault.{ControllerFault}
 use Rattle.osdp_controller.specs.declared.report.Report.{Report}
 use Rattle.osdp_controller.specs.declared.report.Report.TheVariants as report
-use Rattle.osdp_reader.specs.Table.{command_in, new_address}
 use Rattle.osdp_reader.specs.declared.handler.Answer.{Answer}
 use Rattle.osdp_link_laws.specs.Headline.{MovesFit, Begins}
-use Rattle.osdp_link_laws.specs.Link.{Link, Move, Submit, after_move, run}
-use Rattle.osdp_link_laws.specs.Progress.{NoComset}
-use Rattle.osdp_link_laws.specs.Refusals.{reports, told_by}
+use Rattle.osdp_link_laws.specs.Link.{Link, Move, run}
+use Rattle.osdp_link_laws.specs.Refusals.{reports}
 
 -- ---- on the line
 
@@ -32,21 +25,6 @@ pub record NamesOne (device : ℕ) (asked answered : List Packet) : Type 0 where
   pub commands : All (IsCommandTo device) asked
   pub replies : All (IsReplyFrom device) answered
 
--- a COMSET that sends the reader that it names to another address
-pub record MovesReader (to : ℕ) (p : Packet) : Type 0 where
-  pub command : Command
-  pub read : command_in p ≡ Ok command
-  pub sets : new_address command ≡ Some to
-  pub other : to ≢ p.address
-
--- the COM that sends the controller of the reader that it names to another address
-pub record MovesController (to : ℕ) (p : Packet) : Type 0 where
-  pub answered : Communication
-  pub read : said_by p ≡ Plain (reply.Com answered)
-  pub sets : answered.address ≡ to
-  pub device : to < 127
-  pub other : to ≢ p.address
-
 -- ---- what is told of a COMSET
 
 -- a COMSET to a device's address is only ever told moved: it isn't settled by another reply, and no reply is unread
@@ -59,77 +37,11 @@ IsToldAsAsked (report.Settled command answer) = IsNoDevice (comset_of command)
 IsToldAsAsked (report.Unread command code) = ⊥
 IsToldAsAsked _ = Unit {0}
 
--- ---- the address of a COMSET under way
+module _ {H : Type 0} (answer_of : H → Command → Answer) (after : H → Command → H) where
+  abbrev pub NameOneDevice : Type 0
+  NameOneDevice = (l : Link H) (moves : List (Move H)) → Begins l → MovesFit answer_of after moves l
+      → let last = run answer_of after moves l in
+      (device : ℕ) × NamesOne device last.to_reader last.to_controller
 
--- it is kept for this link from the moment when the COMSET is accepted ..
-abbrev pub asked_for : Option Communication → Option ℕ → Option ℕ
-asked_for None reserved = reserved
-asked_for (Some asked) reserved = Some asked.address
-
-abbrev pub accepted_for : Option ControllerFault → Command → Option ℕ → Option ℕ
-accepted_for None command reserved = asked_for (comset_of command) reserved
-accepted_for (Some fault) command reserved = reserved
-
--- .. until it is told settled or moved; where it is lost the reader may be there or not
-abbrev pub freed_for : Option Communication → Option ℕ → Option ℕ
-freed_for None reserved = reserved
-freed_for (Some asked) reserved = None
-
-abbrev pub freed_by : Option Report → Option ℕ → Option ℕ
-freed_by (Some (report.Settled command answer)) reserved = freed_for (comset_of command) reserved
-freed_by (Some (report.Moved command answered)) reserved = freed_for (comset_of command) reserved
-freed_by _ reserved = reserved
-
--- no second COMSET is submitted meanwhile
-abbrev pub MayAsk : Option Communication → Option ℕ → Type 0
-MayAsk None reserved = Unit {0}
-MayAsk (Some asked) reserved = reserved ≡ None
-
-abbrev pub MayMove : Move → Option ℕ → Type 0
-MayMove (Submit command) reserved = MayAsk (comset_of command) reserved
-MayMove _ reserved = Unit {0}
-
--- an address of this link: its controller's, or that of the COMSET
-abbrev pub IsName : ℕ → Option ℕ → ℕ → Type 0
-IsName here reserved address = (address ≡ here) ⊎ (reserved ≡ Some address)
-
-module _ {H : Type 0} where
-  abbrev pub reserved_after : Move → Link H → Option ℕ → Option ℕ
-  reserved_after (Submit command) l reserved = accepted_for (submit_refusal command l.controller) command reserved
-  reserved_after move l reserved = freed_by (told_by move l) reserved
-
-  -- the reader is at an address of its link, and no packet on the line can send an end to any other
-  pub record KeepsToNames (reserved : Option ℕ) (l : Link H) : Type 0 where
-    pub device : l.reader.config.address < 127
-    pub reader : IsName l.controller.session.config.address reserved l.reader.config.address
-    pub commands : All (λ p. (to : ℕ) → MovesReader to p → IsName l.controller.session.config.address reserved to) l.to_reader
-    pub replies : All (λ p. (to : ℕ) → MovesController to p → IsName l.controller.session.config.address reserved to) l.to_controller
-    pub stored : IfSome l.reader.stored (λ p. p.address ≡ l.reader.config.address)
-
-  -- both ends begin at one address, with no COMSET and no reply of earlier times
-  pub record BeginsTogether (l : Link H) : Type 0 where
-    pub begins : Begins l
-    pub together : l.reader.config.address ≡ l.controller.session.config.address
-    pub stored : l.reader.stored ≡ None
-    pub waiting : All NoComset l.controller.waiting
-
-  module _ (answer_of : H → Command → Answer) (after : H → Command → H) where
-    abbrev pub reserved_after_moves : List Move → Link H → Option ℕ → Option ℕ
-    reserved_after_moves [] l reserved = reserved
-    reserved_after_moves (move ∷ moves) l reserved = reserved_after_moves moves (after_move answer_of after move l) (reserved_after move l reserved)
-
-    abbrev pub MayMoves : List Move → Link H → Option ℕ → Type 0
-    MayMoves [] l reserved = Unit {0}
-    MayMoves (move ∷ moves) l reserved = MayMove move reserved × MayMoves moves (after_move answer_of after move l) (reserved_after move l reserved)
-
-    abbrev pub NameOneDevice : Type 0
-    NameOneDevice = (l : Link H) (moves : List Move) → Begins l → MovesFit answer_of after moves l
-        → let last = run answer_of after moves l in
-        (device : ℕ) × NamesOne device last.to_reader last.to_controller
-
-    abbrev pub TellAsAsked : Type 0
-    TellAsAsked = (l : Link H) (moves : List Move) → Begins l → MovesFit answer_of after moves l → All IsToldAsAsked (reports answer_of after moves l)
-
-    abbrev pub KeepToNames : Type 0
-    KeepToNames = (l : Link H) (moves : List Move) → BeginsTogether l → MovesFit answer_of after moves l → MayMoves moves l None
-        → KeepsToNames (reserved_after_moves moves l None) (run answer_of after moves l)
+  abbrev pub TellAsAsked : Type 0
+  TellAsAsked = (l : Link H) (moves : List (Move H)) → Begins l → MovesFit answer_of after moves l → All IsToldAsAsked (reports answer_of after moves l)

@@ -4,7 +4,7 @@ use Rattle.osdp_msg.specs.declared.command.Command.{Command}
 use Rattle.osdp_controller.specs.Hearing.{comset_of}
 use Rattle.osdp_controller.specs.Machine.{Machine, is_due}
 use Rattle.osdp_controller.specs.Sessions.{later as later_by}
-use Rattle.osdp_controller.specs.declared.state.State.TheVariants.{Closed}
+use Rattle.osdp_controller.specs.declared.state.State.TheVariants.{Closed, Idle}
 use Rattle.osdp_controller_laws.specs.Calls.{IsInRange, longest_wait}
 use Rattle.osdp_reader.specs.declared.handler.Answer.{Answer}
 use Rattle.osdp_reader.specs.State.{ReaderState}
@@ -13,10 +13,10 @@ use Rattle.osdp_link_laws.specs.Headline.{MovesFit, Begins}
 use Rattle.osdp_link_laws.specs.Link.{Account, Delivered, Link, Move, Tick, ToController, ToReader, run}
 
 -- a round that loses nothing: a tick, then the packet to the reader, then the one to the controller
-abbrev pub round : ℕ → List Move
+abbrev pub round : {H : Type 0} → ℕ → List (Move H)
 round now = Tick now ∷ ToReader Delivered ∷ ToController Delivered now ∷ []
 
-abbrev pub rounds : List ℕ → List Move
+abbrev pub rounds : {H : Type 0} → List ℕ → List (Move H)
 rounds [] = []
 rounds (now ∷ later) = round now ++ rounds later
 
@@ -28,10 +28,11 @@ NoComset command = comset_of command ≡ None
 abbrev pub SetsNoAddress : Command → Type 0
 SetsNoAddress command = new_address command ≡ None
 
--- after so many rounds as many more commands and events but one are settled and reported, or all are
+-- after so many rounds as many more commands and events but one are settled and reported, or all are but the events that a restart threw
+-- away
 abbrev pub ComeOn : List ℕ → Account → Account → Type 0
 ComeOn moments before t =
-    min (length before.settled + length before.reported + (length moments - 1)) (length t.issued + length t.queued)
+    min (length before.settled + length before.reported + (length moments - 1)) (length t.issued + length t.kept)
     ≤ length t.settled + length t.reported
 
 module _ {H : Type 0} where
@@ -42,6 +43,10 @@ module _ {H : Type 0} where
     pub address : r.config.address ≡ c.session.config.address
     pub ready : r.busy ≡ false
     pub issued : All SetsNoAddress commands
+
+  -- nobody waits for an answer
+  abbrev pub IsAtRest : Link H → Type 0
+  IsAtRest l = (due : ℕ) × (l.controller.session.state ≡ Idle due)
 
   -- the link is
   abbrev pub IsClear : Link H → Type 0
@@ -54,10 +59,18 @@ module _ {H : Type 0} where
     AreDue (now ∷ later) l = (is_due now l.controller ≡ true) × AreDue later (run answer_of after (round now) l)
 
     abbrev pub ComesThrough : Type 0
-    ComesThrough = (l : Link H) (moves : List Move) (moments : List ℕ) → Begins l → MovesFit answer_of after moves l
+    ComesThrough = (l : Link H) (moves : List (Move H)) (moments : List ℕ) → Begins l → MovesFit answer_of after moves l
         → let later = run answer_of after moves l in
         IsClear later → AreDue moments later → MovesFit answer_of after (rounds moments) later
         → ComeOn moments later.account (run answer_of after (rounds moments) later).account
+
+    -- a round from a clear link leaves it clear and at rest, or ends the session
+    abbrev pub ComesToRest : Type 0
+    ComesToRest = (l : Link H) (moves : List (Move H)) (now : ℕ) → Begins l → MovesFit answer_of after moves l
+        → let later = run answer_of after moves l in
+        IsClear later → is_due now later.controller ≡ true → MovesFit answer_of after (round now) later
+        → let last = run answer_of after (round now) later in
+        (last.controller.session.state ≡ Closed) ⊎ (IsClear last × IsAtRest last)
 
     -- each tick comes so much later than the greatest moment seen as the longest of the controller's waits
     abbrev pub AreLate : List ℕ → Link H → Type 0
@@ -67,7 +80,7 @@ module _ {H : Type 0} where
 
     -- then the session has ended, or the same comes through
     abbrev pub ComesThroughInTime : Type 0
-    ComesThroughInTime = (l : Link H) (moves : List Move) (moments : List ℕ) → Begins l → IsInRange l.controller.session
+    ComesThroughInTime = (l : Link H) (moves : List (Move H)) (moments : List ℕ) → Begins l → IsInRange l.controller.session
         → MovesFit answer_of after moves l
         → let later = run answer_of after moves l in
         IsClear later → AreLate moments later → MovesFit answer_of after (rounds moments) later

@@ -1,28 +1,53 @@
--- Sessions in a row: what one has left the next begins with. No event is skipped, and one at most is told again; a command that was
--- settled or told unsettled is none of a later session.
-use Rattle.std.specs.Prelude.{◌≡◌, ◌≤◌, Bool, true, false, ◌==◌, List, [], ◌∷◌, ◌++◌, length, map, Option, Some, None, ◌⊎◌}
+-- Sessions in a row: what one has left the next begins with. No event is skipped but those that a restart threw away, and one at most is
+-- told again; a command that has ended is none of a later session.
+use Rattle.std.specs.Prelude.{◌≡◌, ◌≤◌, ◌+◌, Bool, true, false, ◌==◌, List, [], ◌∷◌, ◌++◌, length, map, Option, Some, None, ◌⊎◌}
 use Rattle.osdp_msg.specs.declared.command.Command.{Command}
 use Rattle.osdp_msg.specs.declared.event.Event.{Event}
-use Rattle.osdp_msg.specs.declared.reply.Reply.{Reply}
 use Rattle.osdp_controller.specs.Machine.{submit_refusal}
 use Rattle.osdp_controller.specs.declared.fault.ControllerFault.{ControllerFault}
 use Rattle.osdp_controller.specs.declared.state.State.{State}
 use Rattle.osdp_controller.specs.declared.state.State.TheVariants.{Closed}
 use Rattle.osdp_reader.specs.declared.handler.Answer.{Answer}
-use Rattle.osdp_link_laws.specs.Headline.{MovesFit, Begins, IsBeginning}
-use Rattle.osdp_link_laws.specs.Link.{Account, Link, Move, Queue, Submit, after_move, run}
+use Rattle.osdp_link_laws.specs.Headline.{MovesFit, Begins, IsBeginning, IsWithout, asked}
+use Rattle.osdp_link_laws.specs.Link.{Account, Link, Move, Queue, Removal, Submit, ThrownAway, Withdrawn, after_move, run}
 
 abbrev pub settled_commands : Account → List Command
-settled_commands t = map (λ (p : Command × Reply). p.0) t.settled
+settled_commands t = map asked t.settled
 
--- what a session leaves: its commands are those settled, one told unsettled at most, and those that wait; the reader has taken those
--- settled, and may have taken that one; the events that wait are those that were not reported, with the last that was, or without it
+abbrev pub removed_command : Removal → Command
+removed_command (Withdrawn command) = command
+removed_command (ThrownAway command) = command
+
+-- the commands of a session that are none of a later one: those settled, the one told unsettled or forgotten, if there is one, and those
+-- withdrawn or thrown away after the end
+abbrev pub ended_in : Account → List Command
+ended_in t = settled_commands t ++ (t.unsettled ++ (t.forgotten ++ map removed_command t.removed))
+
+-- what a session leaves of its commands: those that have ended, and those that wait. One at most was told unsettled or forgotten. The
+-- reader has taken those settled, and may have taken that one.
+pub record LeavesCommands (t : Account) (waiting : List Command) : Type 0 where
+  pub commands : t.issued ≡ ended_in t ++ waiting
+  pub one : length (t.unsettled ++ t.forgotten) ≤ 1
+  pub taken : (t.taken ≡ settled_commands t) ⊎ (t.taken ≡ settled_commands t ++ (t.unsettled ++ t.forgotten))
+
+-- .. and of its events: some have left the queue, and the others wait. Those that a restart threw away have left, and so have those that
+-- were reported: all of them, or all but the last, which waits in front. Where the reader has restarted, one more may have left that was
+-- offered and never reported.
+pub record LeavesEvents (t : Account) (left events : List Event) : Type 0 where
+  pub queued : t.queued ≡ left ++ events
+  pub heard : List Event
+  pub without : IsWithout t.thrown_away left heard
+  pub again : List Event
+  pub unheard : List Event
+  pub reported : t.reported ++ unheard ≡ heard ++ again
+  pub front : IsBeginning again events
+  pub one : length again + length unheard ≤ 1
+  pub restart : (unheard ≡ []) ⊎ ((1 ≤ t.restarts) × (t.offered ≡ t.reported ++ unheard))
+
 pub record Leaves (t : Account) (waiting : List Command) (events : List Event) : Type 0 where
-  pub commands : t.issued ≡ settled_commands t ++ (t.unsettled ++ waiting)
-  pub unsettled : length t.unsettled ≤ 1
-  pub taken : (t.taken ≡ settled_commands t) ⊎ (t.taken ≡ settled_commands t ++ t.unsettled)
-  pub reported : (gone : List Event) × (again : List Event)
-      × (t.queued ≡ gone ++ events) × (t.reported ≡ gone ++ again) × IsBeginning again events × (length again ≤ 1)
+  pub of_commands : LeavesCommands t waiting
+  pub left : List Event
+  pub of_events : LeavesEvents t left events
 
 -- a session, and one after it
 abbrev pub Follows : Account → Account → Type 0
@@ -35,19 +60,32 @@ abbrev pub AreInARow : Account → List Account → Type 0
 AreInARow t [] = Unit {0}
 AreInARow t (before ∷ earlier) = Follows before t × AreInARow before earlier
 
--- the commands that these sessions settled or told unsettled, session after session
+-- the commands of these sessions that have ended, session after session
 abbrev pub ended_commands : List Account → List Command
 ended_commands [] = []
-ended_commands (t ∷ earlier) = ended_commands earlier ++ (settled_commands t ++ t.unsettled)
+ended_commands (t ∷ earlier) = ended_commands earlier ++ ended_in t
 
--- of all events, those that have left the queue: what these sessions reported, of each the last or none left out, session after session.
--- The events of a session are those after what had left before it.
+-- of all events, those that have left the queue in these sessions, session after session. The events of a session are those after what had
+-- left before it.
 abbrev pub HaveLeft : List Event → List Account → List Event → Type 0
 HaveLeft all [] gone = gone ≡ []
 HaveLeft all (t ∷ earlier) gone =
-    (before : List Event) × (left : List Event) × (again : List Event)
-    × HaveLeft all earlier before × IsBeginning (before ++ t.queued) all
-    × (gone ≡ before ++ left) × (t.reported ≡ left ++ again) × (length again ≤ 1)
+    (before : List Event) × (left : List Event) × (events : List Event)
+    × HaveLeft all earlier before × IsBeginning (before ++ t.queued) all × (gone ≡ before ++ left) × LeavesEvents t left events
+
+-- the commands of these sessions that have ended and were not settled
+abbrev pub unsettled_in : List Account → List Command
+unsettled_in [] = []
+unsettled_in (t ∷ earlier) = unsettled_in earlier ++ (t.unsettled ++ (t.forgotten ++ map removed_command t.removed))
+
+abbrev pub all_taken : List Account → List Command
+all_taken [] = []
+all_taken (t ∷ earlier) = all_taken earlier ++ t.taken
+
+-- some of a list, in its order: the first of it is left out, or comes first
+abbrev pub IsAmong : {A : Type 0} → List A → List A → Type 0
+IsAmong {A} some [] = some ≡ []
+IsAmong {A} some (x ∷ all) = IsAmong some all ⊎ ((rest : List A) × (some ≡ x ∷ rest) × IsAmong rest all)
 
 -- the command that a move submits, where it is accepted
 abbrev pub accepted : Option ControllerFault → Command → List Command
@@ -60,46 +98,57 @@ unless_full true event = []
 unless_full false event = event ∷ []
 
 module _ {H : Type 0} where
-  abbrev pub submitted : Move → Link H → List Command
+  abbrev pub submitted : Move H → Link H → List Command
   submitted (Submit command) l = accepted (submit_refusal command l.controller) command
   submitted _ l = []
 
-  abbrev pub queued : Move → Link H → List Event
+  abbrev pub queued : Move H → Link H → List Event
   queued (Queue event) l = unless_full (length l.reader.queue.events == l.reader.queue.capacity) event
   queued _ l = []
 
-  -- while the last session lasts it has told no command unsettled; where it has ended it leaves what a next one would begin with
+  -- while the last session lasts it has told no command unsettled, and none is forgotten or removed; where it has ended it leaves what a
+  -- next one would begin with
   abbrev pub LastsOrLeaves : State → Link H → Type 0
   LastsOrLeaves Closed l = Leaves l.account l.controller.waiting l.reader.queue.events
-  LastsOrLeaves _ l = l.account.unsettled ≡ []
+  LastsOrLeaves _ l = (l.account.unsettled ≡ []) × (l.account.forgotten ≡ []) × (l.account.removed ≡ [])
 
   module _ (answer_of : H → Command → Answer) (after : H → Command → H) where
-    abbrev pub all_submitted : List Move → Link H → List Command
+    abbrev pub all_submitted : List (Move H) → Link H → List Command
     all_submitted [] l = []
     all_submitted (move ∷ moves) l = submitted move l ++ all_submitted moves (after_move answer_of after move l)
 
-    abbrev pub all_queued : List Move → Link H → List Event
+    abbrev pub all_queued : List (Move H) → Link H → List Event
     all_queued [] l = []
     all_queued (move ∷ moves) l = queued move l ++ all_queued moves (after_move answer_of after move l)
 
     abbrev pub StayInARow : Type 0
-    StayInARow = (l : Link H) (moves : List Move) → Begins l → MovesFit answer_of after moves l
+    StayInARow = (l : Link H) (moves : List (Move H)) → Begins l → MovesFit answer_of after moves l
         → let later = run answer_of after moves l in AreInARow later.account later.earlier
 
     abbrev pub LastOneLasts : Type 0
-    LastOneLasts = (l : Link H) (moves : List Move) → Begins l → MovesFit answer_of after moves l
+    LastOneLasts = (l : Link H) (moves : List (Move H)) → Begins l → MovesFit answer_of after moves l
         → let later = run answer_of after moves l in LastsOrLeaves later.controller.session.state later
 
-    -- each command that waited at first or was accepted since has one place: with a session that settled it or told it unsettled, or
-    -- after all of these among the commands of the last one
+    -- each command that waited at first or was accepted since has one place: with a session in which it has ended, or after all of these
+    -- among the commands of the last one
     abbrev pub CommandsHavePlaces : Type 0
-    CommandsHavePlaces = (l : Link H) (moves : List Move) → Begins l → MovesFit answer_of after moves l
+    CommandsHavePlaces = (l : Link H) (moves : List (Move H)) → Begins l → MovesFit answer_of after moves l
         → let later = run answer_of after moves l in
         l.controller.waiting ++ all_submitted moves l ≡ ended_commands later.earlier ++ later.account.issued
 
     -- .. and each event: the events of the last session are those that have not left the queue before it
     abbrev pub EventsHavePlaces : Type 0
-    EventsHavePlaces = (l : Link H) (moves : List Move) → Begins l → MovesFit answer_of after moves l
+    EventsHavePlaces = (l : Link H) (moves : List (Move H)) → Begins l → MovesFit answer_of after moves l
         → let later = run answer_of after moves l in
         let all = l.reader.queue.events ++ all_queued moves l in
         (gone : List Event) × HaveLeft all later.earlier gone × (all ≡ gone ++ later.account.queued)
+
+    -- over all sessions no command is taken twice: those taken are a beginning of those accepted, but for some of those that have ended
+    -- without being settled, each left out at its own place
+    abbrev pub TakesNoneTwice : Type 0
+    TakesNoneTwice = (l : Link H) (moves : List (Move H)) → Begins l → MovesFit answer_of after moves l
+        → let later = run answer_of after moves l in
+        (left_out : List Command) × (others : List Command)
+        × IsAmong left_out (unsettled_in (later.account ∷ later.earlier))
+        × IsWithout left_out (l.controller.waiting ++ all_submitted moves l) others
+        × IsBeginning (all_taken (later.account ∷ later.earlier)) others

@@ -1,12 +1,12 @@
 -- The headline's machine: two lists and four counts, without packets, numbers or timers. Of the commands issued so many were taken, and
--- of these so many were settled; of the events queued so many were offered, and of these so many were reported.
-use Rattle.std.specs.Prelude.{◌≡◌, ◌≤◌, ◌<◌, ◌+◌, ◌⊎◌, ℕ, Bool, List, [], ◌∷◌, ◌++◌, length, take}
+-- of these so many were settled; of the events queued, but those that a restart threw away, so many were offered, and of these so many were
+-- reported.
+use Rattle.std.specs.Prelude.{◌≡◌, ◌≤◌, ◌<◌, ◌+◌, ◌⊎◌, ℕ, List, [], ◌∷◌, ◌++◌, length, take}
 use Rattle.osdp_msg.specs.declared.command.Command.{Command}
 use Rattle.osdp_msg.specs.declared.event.Event.{Event}
 use Rattle.osdp_msg.specs.declared.reply.Reply.{Reply}
-use Rattle.osdp_reader.specs.declared.config.ReaderConfig.{ReaderConfig}
 use Rattle.osdp_reader.specs.declared.handler.Answer.{Answer}
-use Rattle.osdp_link_laws.specs.Headline.{MovesFit, Begins, IsBeginning, MoveFits, handler_after, with_answers}
+use Rattle.osdp_link_laws.specs.Headline.{MovesFit, Begins, IsBeginning, MoveFits}
 use Rattle.osdp_link_laws.specs.Link as link
 use Rattle.osdp_link_laws.specs.Link.{Account, Link, Move, after_move, run}
 
@@ -22,7 +22,8 @@ pub record TwoLists : Type 0 where
 abbrev pub beginning : List Command → List Event → TwoLists
 beginning commands events = record { issued = commands; queued = events; taken = 0; settled = 0; offered = 0; reported = 0 }
 
--- a command is issued, an event queued; the next command is taken or settled, the next event offered or reported
+-- a command is issued, an event queued; the next command is taken or settled, the next event offered or reported; the events that were
+-- not offered are thrown away
 pub data Step : Type 0 where
   Issue : Command → Step
   Queue : Event → Step
@@ -30,6 +31,7 @@ pub data Step : Type 0 where
   Settle : Step
   Offer : Step
   Report : Step
+  ThrowAway : Step
 
 abbrev pub after_step : Step → TwoLists → TwoLists
 after_step (Issue command) m = record m { issued = m.issued ++ command ∷ [] }
@@ -38,13 +40,14 @@ after_step Take m = record m { taken = m.taken + 1 }
 after_step Settle m = record m { settled = m.settled + 1 }
 after_step Offer m = record m { offered = m.offered + 1 }
 after_step Report m = record m { reported = m.reported + 1 }
+after_step ThrowAway m = record m { queued = take m.offered m.queued }
 
 -- all that was taken is settled, and all that was offered is reported
 pub record IsLevel (m : TwoLists) : Type 0 where
   pub commands : m.settled ≡ m.taken
   pub events : m.reported ≡ m.offered
 
--- the lists may always become longer. Where there is one more, the next command is taken, or the next event offered, once all before is
+-- the lists may always become longer, and events may always be thrown away. Where there is one more, the next command is taken, or the next event offered, once all before is
 -- settled and reported. What is settled was taken, and what is reported was offered.
 abbrev pub May : Step → TwoLists → Type 0
 May (Issue command) m = Unit {0}
@@ -53,6 +56,7 @@ May Take m = IsLevel m × m.taken < length m.issued
 May Settle m = m.settled < m.taken
 May Offer m = IsLevel m × m.offered < length m.queued
 May Report m = m.reported < m.offered
+May ThrowAway m = Unit {0}
 
 -- so no more is taken than issued and no more offered than queued, and of the last command taken and the last event offered at most one is
 -- not yet told
@@ -72,7 +76,7 @@ pub record KeepsInStep : Type 0 where
 abbrev pub two_lists : Account → TwoLists
 two_lists t = record {
   issued = t.issued;
-  queued = t.queued;
+  queued = t.kept;
   taken = length t.taken;
   settled = length t.settled;
   offered = length t.offered;
@@ -80,49 +84,47 @@ two_lists t = record {
 }
 
 -- the steps that a move of the link may be
-abbrev pub IsStepOf : Move → Step → Type 0
+abbrev pub IsStepOf : {H : Type 0} → Move H → Step → Type 0
 IsStepOf (link.Submit command) (Issue issued) = issued ≡ command
 IsStepOf (link.Queue event) (Queue queued) = queued ≡ event
 IsStepOf (link.ToReader how) Take = Unit {0}
 IsStepOf (link.ToReader how) Offer = Unit {0}
 IsStepOf (link.ToController how now) Settle = Unit {0}
 IsStepOf (link.ToController how now) Report = Unit {0}
+IsStepOf (link.RestartReader address handler room) ThrowAway = Unit {0}
 IsStepOf _ _ = ⊥
 
 -- a move of the link is none of them or one, where it may be; or a session begins
-abbrev pub IsOneOrNone : Move → TwoLists → TwoLists → Type 0
+abbrev pub IsOneOrNone : {H : Type 0} → Move H → TwoLists → TwoLists → Type 0
 IsOneOrNone (link.Reopen now) m n = (n ≡ m) ⊎ (n ≡ beginning n.issued n.queued)
 IsOneOrNone move m n = (n ≡ m) ⊎ ((step : Step) × IsStepOf move step × May step m × (n ≡ after_step step m))
 
+-- the events that the reader has offered are a beginning of those that no restart threw away, and hold those reported. Of the last command
+-- taken and the last event offered at most one isn't told yet.
+pub record Offers (t : Account) : Type 0 where
+  pub offered : IsBeginning t.offered t.kept
+  pub untold : (answers : List (Command × Reply)) × (events : List Event)
+      × (t.given ≡ t.settled ++ answers) × (t.offered ≡ t.reported ++ events) × (length answers + length events ≤ 1)
+
+-- each list of the account is read off the machine
+pub record IsRead (t : Account) (m : TwoLists) : Type 0 where
+  pub taken : t.taken ≡ take m.taken m.issued
+  pub settled : t.settled ≡ take m.settled t.given
+  pub offered : t.offered ≡ take m.offered m.queued
+  pub reported : t.reported ≡ take m.reported m.queued
+
 module _ {H : Type 0} (answer_of : H → Command → Answer) (after : H → Command → H) where
-  -- the events that the reader has offered are a beginning of those queued, and hold those reported. Of the last command taken and the
-  -- last event offered at most one isn't told yet.
-  pub record Offers (config : ReaderConfig) (handler : H) (t : Account) : Type 0 where
-    pub offered : IsBeginning t.offered t.queued
-    pub untold : (answers : List (Command × Reply)) × (events : List Event)
-        × (with_answers answer_of after config handler t.taken ≡ t.settled ++ answers)
-        × (t.offered ≡ t.reported ++ events) × (length answers + length events ≤ 1)
-
-  -- each list of the account is read off the machine
-  pub record IsRead (config : ReaderConfig) (handler : H) (t : Account) (m : TwoLists) : Type 0 where
-    pub taken : t.taken ≡ take m.taken m.issued
-    pub settled : t.settled ≡ take m.settled (with_answers answer_of after config handler t.taken)
-    pub offered : t.offered ≡ take m.offered m.queued
-    pub reported : t.reported ≡ take m.reported m.queued
-
   abbrev pub OffersOnce : Type 0
-  OffersOnce = (l : Link H) (moves : List Move) → Begins l → MovesFit answer_of after moves l
-      → let later = run answer_of after moves l in
-      Offers l.reader.config (handler_after answer_of after l.reader.config l.reader.handler later.earlier) later.account
+  OffersOnce = (l : Link H) (moves : List (Move H)) → Begins l → MovesFit answer_of after moves l
+      → Offers (run answer_of after moves l).account
 
   abbrev pub IsReadOff : Type 0
-  IsReadOff = (l : Link H) (moves : List Move) → Begins l → MovesFit answer_of after moves l
+  IsReadOff = (l : Link H) (moves : List (Move H)) → Begins l → MovesFit answer_of after moves l
       → let later = run answer_of after moves l in
-      IsInStep (two_lists later.account)
-      × IsRead l.reader.config (handler_after answer_of after l.reader.config l.reader.handler later.earlier) later.account (two_lists later.account)
+      IsInStep (two_lists later.account) × IsRead later.account (two_lists later.account)
 
   abbrev pub MovesInStep : Type 0
-  MovesInStep = (l : Link H) (moves : List Move) (move : Move) → Begins l → MovesFit answer_of after moves l
+  MovesInStep = (l : Link H) (moves : List (Move H)) (move : Move H) → Begins l → MovesFit answer_of after moves l
       → let later = run answer_of after moves l in
       MoveFits answer_of after move later
       → IsOneOrNone move (two_lists later.account) (two_lists (after_move answer_of after move later).account)

@@ -3,12 +3,14 @@
 #![tactic(auto)]
 
 ghost use Rattle.osdp_link_laws.specs.Peers.{ReadEachOther, ReadsWhatIsAsked, ReadsWhatIsAnswered, TakesPlainReplies, TellsItsEvent};
-ghost use Rattle.osdp_link_laws.specs.Headline.{HoldsOnce, SaysAllPlainly};
+ghost use Rattle.osdp_link_laws.specs.Headline.{HoldsOnce};
+ghost use Rattle.osdp_link_laws.specs.OneHandler.{GivesItsAnswers, OneHandlerHoldsOnce};
+ghost use Rattle.osdp_link_laws.specs.Ordinary.{OrdinaryIsUndisturbed, UndisturbedLeaves};
 ghost use Rattle.osdp_link_laws.specs.Addresses.{StayWhereTheyAre};
-ghost use Rattle.osdp_link_laws.specs.Progress.{ComesThrough, ComesThroughInTime};
+ghost use Rattle.osdp_link_laws.specs.Progress.{ComesThrough, ComesThroughInTime, ComesToRest};
 ghost use Rattle.osdp_link_laws.specs.Clean.{GoesInTurn};
-ghost use Rattle.osdp_link_laws.specs.Refusals.{RefusesNoNumber};
-ghost use Rattle.osdp_link_laws.specs.Sessions.{CommandsHavePlaces, EventsHavePlaces, LastOneLasts, StayInARow};
+ghost use Rattle.osdp_link_laws.specs.Refusals.{RefusesNoNumber, RefusesNoNumberWithoutRestart, SaysAllPlainly};
+ghost use Rattle.osdp_link_laws.specs.Sessions.{CommandsHavePlaces, EventsHavePlaces, LastOneLasts, StayInARow, TakesNoneTwice};
 ghost use Rattle.osdp_link_laws.specs.TwoLists.{IsReadOff, KeepsInStep, MovesInStep, OffersOnce};
 
 pub mod ends;
@@ -48,35 +50,56 @@ pub fn read_each_other<H: Handler>()
     osdp_reader_laws::answers_plainly::<H>();
 }
 
-/// Within each session, opened by ID on a quiet line, over every list of losses, repeats and detected damage: commands are taken once
-/// and in order, settled with their own answers, and events are reported once and in order.
+/// Within each session, opened by ID on a quiet line, over every list of losses, repeats and detected damage, whatever the device tells, and
+/// whoever restarts: commands are taken once and in order, settled with the answers that the reader gave to them then, and events are
+/// reported once and in order, but those that a restart of the reader threw away before they were offered.
 pub fn holds_once<H: Handler>()
     ensures { HoldsOnce H.answer_of H.after }
 {
     read_each_other::<H>();
 }
 
-/// Over sessions in a row, each begun again on a quiet line with neither end restarted: no command that one settled or told unsettled is
-/// one of a later session, no event is skipped, and each beginning tells again one at most.
+/// Where the device never changes, the answers given are its settings' to ID, CAP and COMSET, and its handler's to all others, in order. Where
+/// the reader doesn't restart either, the events reported are a beginning of all that were queued.
+pub fn answers_of_one_handler<H: Handler>()
+    ensures answers { GivesItsAnswers H.answer_of H.after }
+    ensures once { OneHandlerHoldsOnce H.answer_of H.after }
+{
+    read_each_other::<H>();
+}
+
+/// Where neither end restarts, no command is withdrawn and no address is set, no command is forgotten or removed and no event is thrown away.
+/// So each session leaves its commands but those settled and the one told unsettled, and its events but those reported, or all but the last of
+/// these.
+pub fn ordinary_runs_are_undisturbed<H: Handler>()
+    ensures accounts { OrdinaryIsUndisturbed H.answer_of H.after }
+    ensures leaves { UndisturbedLeaves }
+{}
+
+/// Over sessions in a row, each begun again on a quiet line: no command that was settled, told unsettled, forgotten, withdrawn or thrown away
+/// in one is one of a later session, so none is taken twice. No event is skipped but those that a restart of the reader threw away, and each
+/// beginning tells again one at most, never one that was thrown away before it.
 pub fn sessions_in_a_row<H: Handler>()
     ensures row { StayInARow H.answer_of H.after }
     ensures last { LastOneLasts H.answer_of H.after }
     ensures commands { CommandsHavePlaces H.answer_of H.after }
     ensures events { EventsHavePlaces H.answer_of H.after }
+    ensures taken { TakesNoneTwice H.answer_of H.after }
 {
     read_each_other::<H>();
 }
 
-/// In these runs no reader refuses a number or a check, and each of its packets can be read: whatever is on its way to the controller
-/// says BUSY, or a reply that settles. So no session ends because a reader refused a number.
+/// In a session in which the reader hasn't restarted it refuses no number and no check, and each of its packets can be read: whatever is on its
+/// way to the controller says BUSY, or a reply that settles. So no such session ends because a reader refused a number.
 pub fn refuses_no_number<H: Handler>()
     ensures packets { SaysAllPlainly H.answer_of H.after }
     ensures endings { RefusesNoNumber H.answer_of H.after }
+    ensures never { RefusesNoNumberWithoutRestart H.answer_of H.after }
 {
     read_each_other::<H>();
 }
 
-/// Where no COMSET to a device's address waits or is submitted neither end goes to another address.
+/// Where no COMSET to a device's address waits or is submitted, and no other address is set, neither end goes to another address.
 pub fn stay_where_they_are<H: Handler>()
     ensures { StayWhereTheyAre H.answer_of H.after }
 {
@@ -86,10 +109,11 @@ pub fn stay_where_they_are<H: Handler>()
 /// From a link with nothing on the line, both ends at one address, the reader not busy and no COMSET to a device's address
 /// issued: after m rounds that lose nothing, each with a tick that is due, m - 1 more commands and events of this session, or all of them, are settled and reported.
 /// With ticks that come as much later than the greatest moment seen as the longest of the controller's waits, that is so or the session
-/// has ended.
+/// has ended. After one such round the link is clear again and nobody waits for an answer, or the session has ended.
 pub fn comes_through<H: Handler>()
     ensures due { ComesThrough H.answer_of H.after }
     ensures in_time { ComesThroughInTime H.answer_of H.after }
+    ensures rest { ComesToRest H.answer_of H.after }
 {
     read_each_other::<H>();
     osdp_controller_laws::stays_in_range();

@@ -2,7 +2,7 @@
 use Rattle.std.proofs.Common.{◌≡◌, ◌≢◌, ◌⊎◌, ℕ, Bool, true, false, cond, eqb, List, [], ◌∷◌, ◌++◌, Option, Some, None, IfSome, refl, sym, subst, ◌∙◌, inl, inr}
 use Rattle.std.proofs.lemmas.List.{append-nil}
 use Rattle.osdp_frame.specs.Packet.{Packet}
-use Rattle.osdp_link_laws.specs.Names.{MovesController, MovesReader}
+use Rattle.osdp_multidrop.specs.Names.{MovesController, MovesReader}
 use Rattle.osdp_link_laws.proofs.Lines.{each_append, each_map}
 use Rattle.osdp_link_laws.proofs.Stages.{Each}
 use Rattle.osdp_multidrop.specs.Apart.{AreApart, IsNameOf}

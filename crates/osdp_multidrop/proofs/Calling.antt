@@ -10,8 +10,8 @@ use Rattle.osdp_controller.specs.Machine as controllers
 use Rattle.osdp_controller.specs.Sessions.{seen}
 use Rattle.osdp_controller.specs.declared.fault.ControllerFault.{ControllerFault}
 use Rattle.osdp_reader.specs.declared.handler.Answer.{Answer}
-use Rattle.osdp_link_laws.specs.Names.{IsName, MovesController, MovesReader, asked_for}
-use Rattle.osdp_link_laws.proofs.Reserved.{tick_frees_none}
+use Rattle.osdp_multidrop.specs.Names.{IsName, MovesController, MovesReader, asked_for}
+use Rattle.osdp_multidrop.proofs.Reserved.{tick_frees_none}
 use Rattle.osdp_multidrop.specs.Apart.{IsNameOf}
 use Rattle.osdp_multidrop.specs.Line as line
 use Rattle.osdp_multidrop.specs.Line.{Net, Site, address_of, changed, is_comset_refused, is_taken_beside, queues, site_at, submits, tagged, ticks_of}

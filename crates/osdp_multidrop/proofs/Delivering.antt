@@ -11,11 +11,11 @@ use Rattle.osdp_controller.specs.Answers.{meaning_of as said_by}
 use Rattle.osdp_controller.specs.Hearing as controller
 use Rattle.osdp_reader.specs.Table as reader
 use Rattle.osdp_reader.specs.declared.handler.Answer.{Answer}
-use Rattle.osdp_link_laws.specs.Names.{MovesController, MovesReader, freed_by}
+use Rattle.osdp_multidrop.specs.Names.{MovesController, MovesReader, freed_by}
 use Rattle.osdp_link_laws.specs.Peers.{ReadsWhatIsAnswered}
-use Rattle.osdp_link_laws.proofs.ControllerNames.{HeardWell, StaysHere, heard_well}
-use Rattle.osdp_link_laws.proofs.ReaderNames.{IsFrom, KeepsStill, ReaderWell, reader_well}
-use Rattle.osdp_link_laws.proofs.Reserved.{One, asked_in}
+use Rattle.osdp_multidrop.proofs.ControllerNames.{HeardWell, StaysHere, heard_well}
+use Rattle.osdp_multidrop.proofs.ReaderNames.{IsFrom, KeepsStill, ReaderWell, reader_well}
+use Rattle.osdp_multidrop.proofs.Reserved.{One, asked_in}
 use Rattle.osdp_link_laws.proofs.Stages.{Each}
 use Rattle.osdp_multidrop.specs.Apart.{IsNameOf}
 use Rattle.osdp_multidrop.specs.Line as line

@@ -12,8 +12,10 @@ use Rattle.osdp_reader.specs.declared.handler.Answer.{Answer}
 use Rattle.osdp_link_laws.specs.Headline.{MovesFit, MoveFits, SaysWhatFitsIf}
 use Rattle.osdp_link_laws.specs.Link as link
 use Rattle.osdp_link_laws.specs.Link.{Delivered, Delivery, Lost, Move, Repeated}
-use Rattle.osdp_link_laws.specs.Names.{MayAsk, MayMove, MayMoves}
+use Rattle.osdp_multidrop.specs.Names.{MayAsk, MayMove, MayMoves}
+use Rattle.osdp_link_laws.specs.Ordinary.{IsOrdinary}
 use Rattle.osdp_link_laws.proofs.Lines.{both}
+use Rattle.osdp_link_laws.proofs.Stages.{Each}
 use Rattle.osdp_multidrop.specs.Line as line
 use Rattle.osdp_multidrop.specs.Line.{Net, NetMove, Queue, Reopen, SetBusy, Site, Submit, Tick, ToControllers, ToReaders, address_of, after_net, changed, is_comset_refused, site_at, submits}
 use Rattle.osdp_multidrop.specs.Runs.{NetMoveFits, in_front}
@@ -31,11 +33,12 @@ module _ {H : Type 0} (answer_of : H → Command → Answer) (after : H → Comm
   -- ---- moves of its link
 
   -- so they may be moves of this site's link
-  abbrev pub Fit : ℕ → Site H → Net H → List Move → Type 0
-  Fit k s n ms = MovesFit answer_of after ms (view k s n) × MayMoves answer_of after ms (view k s n) s.reserved
+  abbrev pub Fit : ℕ → Site H → Net H → List (Move H) → Type 0
+  Fit k s n ms = MovesFit answer_of after ms (view k s n) × MayMoves answer_of after ms (view k s n) s.reserved × Each IsOrdinary ms
 
-  one_fits : (i k : ℕ) (s : Site H) (n : Net H) (m : Move) → MoveFits answer_of after m (view k s n) → MayMove m s.reserved → Fit k s n (one_if i k m)
-  one_fits i k s n m fits may = both (Fit k s n) (eqb i k) (m ∷ []) [] ((fits, tt), (may, tt)) (tt, tt)
+  one_fits : (i k : ℕ) (s : Site H) (n : Net H) (m : Move H) → MoveFits answer_of after m (view k s n) → MayMove m s.reserved → IsOrdinary m
+      → Fit k s n (one_if i k m)
+  one_fits i k s n m fits may ordinary = both (Fit k s n) (eqb i k) (m ∷ []) [] ((fits, tt), (may, tt), (ordinary, tt)) (tt, tt, tt)
 
   may_ask : (o : Option Communication) (i : ℕ) (s : Site H) (ss : List (Site H)) → is_comset_refused i o s ss ≡ false → MayAsk o s.reserved
   may_ask None i s ss free = tt
@@ -43,14 +46,14 @@ module _ {H : Type 0} (answer_of : H → Command → Answer) (after : H → Comm
 
   to_reader_fits : (how : Delivery) (ps : List (ℕ × Packet)) (k : ℕ) (s : Site H) (n : Net H) → n.to_readers ≡ ps
       → SaysWhatFitsIf answer_of after how (in_front ps) s.reader → Fit k s n (front_to_reader k ps how)
-  to_reader_fits how [] k s n is fits = (tt, tt)
+  to_reader_fits how [] k s n is fits = (tt, tt, tt)
   to_reader_fits how (p ∷ ps) k s n is fits =
       elim (eqb_tells p.0 k) [
         | inl equal ↦
             let front : own k n.to_readers ≡ p.1 ∷ own k ps = ap (own k) is ∙ own_first k p ps equal.1 in
             one_fits p.0 k s n (link.ToReader how)
-            (subst (λ qs. SaysWhatFitsIf answer_of after how qs s.reader) (sym front) (by_delivery how fits)) tt
-        | inr differs ↦ subst (λ b. Fit k s n (cond b (link.ToReader how ∷ []) [])) (sym differs.0) (tt, tt)
+            (subst (λ qs. SaysWhatFitsIf answer_of after how qs s.reader) (sym front) (by_delivery how fits)) tt tt
+        | inr differs ↦ subst (λ b. Fit k s n (cond b (link.ToReader how ∷ []) [])) (sym differs.0) (tt, tt, tt)
       ]
     where
       by_delivery : (how : Delivery) → SaysWhatFitsIf answer_of after how (p.1 ∷ []) s.reader
@@ -61,31 +64,31 @@ module _ {H : Type 0} (answer_of : H → Command → Answer) (after : H → Comm
 
   to_controller_fits : (how : Delivery) (now : ℕ) (qs : List (ℕ × Packet)) (k : ℕ) (s : Site H) (n : Net H)
       → Fit k s n (front_to_controller k s qs how now)
-  to_controller_fits how now [] k s n = (tt, tt)
+  to_controller_fits how now [] k s n = (tt, tt, tt)
   to_controller_fits how now (q ∷ qs) k s n =
       both (Fit k s n) (eqb q.0 k) (views.own_front k (address_of s) q.1 how now) []
-      (both (Fit k s n) (eqb (address_of s) q.1.address) (link.ToController how now ∷ []) (views.lost how now) ((tt, tt), (tt, tt)) (lost_fits how)) (tt, tt)
+      (both (Fit k s n) (eqb (address_of s) q.1.address) (link.ToController how now ∷ []) (views.lost how now) ((tt, tt), (tt, tt), (tt, tt)) (lost_fits how)) (tt, tt, tt)
     where
       lost_fits : (how : Delivery) → Fit k s n (views.lost how now)
-      lost_fits Delivered = ((tt, tt), (tt, tt))
-      lost_fits Lost = ((tt, tt), (tt, tt))
-      lost_fits Repeated = (tt, tt)
+      lost_fits Delivered = ((tt, tt), (tt, tt), (tt, tt))
+      lost_fits Lost = ((tt, tt), (tt, tt), (tt, tt))
+      lost_fits Repeated = (tt, tt, tt)
 
   reopening_fits : (i now : ℕ) (ps qs : List (ℕ × Packet)) (k : ℕ) (s : Site H) (n : Net H) → Fit k s n (views.reopens i k ps qs now)
-  reopening_fits i now (p ∷ ps) qs k s n = (tt, tt)
-  reopening_fits i now [] (q ∷ qs) k s n = (tt, tt)
-  reopening_fits i now [] [] k s n = one_fits i k s n (link.Reopen now) tt tt
+  reopening_fits i now (p ∷ ps) qs k s n = (tt, tt, tt)
+  reopening_fits i now [] (q ∷ qs) k s n = (tt, tt, tt)
+  reopening_fits i now [] [] k s n = one_fits i k s n (link.Reopen now) tt tt tt
 
   pub move_fits : (move : NetMove) (k : ℕ) (s : Site H) (n : Net H) → site_at k n.sites ≡ Some s → NetMoveFits answer_of after move n
       → Fit k s n (move_of k s move n)
   move_fits (Submit i c) k s n is fits = by_test (is_comset_refused i (comset_of c) s n.sites) refl
     where
       by_test : (refused : Bool) → is_comset_refused i (comset_of c) s n.sites ≡ refused → Fit k s n (cond refused [] (one_if i k (link.Submit c)))
-      by_test true test = (tt, tt)
-      by_test false test = one_fits i k s n (link.Submit c) fits (may_ask (comset_of c) i s n.sites test)
-  move_fits (Queue i e) k s n is fits = one_fits i k s n (link.Queue e) tt tt
-  move_fits (SetBusy i busy) k s n is fits = one_fits i k s n (link.SetBusy busy) tt tt
-  move_fits (Tick i now) k s n is fits = one_fits i k s n (link.Tick now) tt tt
+      by_test true test = (tt, tt, tt)
+      by_test false test = one_fits i k s n (link.Submit c) fits (may_ask (comset_of c) i s n.sites test) tt
+  move_fits (Queue i e) k s n is fits = one_fits i k s n (link.Queue e) tt tt tt
+  move_fits (SetBusy i busy) k s n is fits = one_fits i k s n (link.SetBusy busy) tt tt tt
+  move_fits (Tick i now) k s n is fits = one_fits i k s n (link.Tick now) tt tt tt
   move_fits (ToReaders how) k s n is fits = to_reader_fits how n.to_readers k s n refl (fits k s is)
   move_fits (ToControllers how now) k s n is fits = to_controller_fits how now n.to_controllers k s n
   move_fits (Reopen i now) k s n is fits = reopening_fits i now n.to_readers n.to_controllers k s n

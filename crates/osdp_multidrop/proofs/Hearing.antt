@@ -10,7 +10,7 @@ use Rattle.osdp_reader.specs.Table.{outcome}
 use Rattle.osdp_reader.specs.declared.handler.Answer.{Answer}
 use Rattle.osdp_link_laws.specs.Link as link
 use Rattle.osdp_link_laws.proofs.Numbers.{is_false, is_true}
-use Rattle.osdp_link_laws.proofs.ReaderNames.{for_reader}
+use Rattle.osdp_multidrop.proofs.ReaderNames.{for_reader}
 use Rattle.osdp_multidrop.specs.Line.{Site, address_of, first_gets, gets, hears, said_from, site_at, tagged}
 use Rattle.osdp_multidrop.specs.Views.{own}
 use Rattle.osdp_multidrop.proofs.Sites.{own_append, own_mine, own_others}
@@ -64,7 +64,7 @@ module _ {H : Type 0} (answer_of : H → Command → Answer) (after : H → Comm
         | inl here ↦ absurd (other (sym here))
         | inr is ↦ (
           ap (λ k. let o = outcome answer_of after k s.reader p in
-              record s { reader = o.reader; account = link.taken k o.command (link.front_of s.reader) s.account }) is,
+              record s { reader = o.reader; account = link.taken k o.command o.said (link.front_of s.reader) s.account }) is,
           ap (λ k. (outcome answer_of after k s.reader p).reply) is,
         )
       ]

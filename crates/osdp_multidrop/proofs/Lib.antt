@@ -1,6 +1,10 @@
 pub mod Sites
 pub mod Hearing
 pub mod Moving
+pub mod Reserved
+pub mod ControllerNames
+pub mod ReaderNames
+pub mod Naming
 pub mod Apart
 pub mod Changing
 pub mod Linked

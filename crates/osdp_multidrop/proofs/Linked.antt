@@ -1,5 +1,5 @@
 -- What the theory of one link says of each site: its view is a link that stands, and keeps to the names of its site.
-use Rattle.std.proofs.Common.{◌≡◌, ◌<◌, ◌+◌, ℕ, leb, ltb, List, [], ◌∷◌, Some, IfSome, refl, sym, subst}
+use Rattle.std.proofs.Common.{◌≡◌, ◌<◌, ◌+◌, ℕ, leb, ltb, List, [], ◌∷◌, ◌++◌, Some, IfSome, refl, sym, subst}
 use Rattle.osdp_frame.specs.Packet.{Packet, next_sequence}
 use Rattle.osdp_msg.specs.declared.command.Command.{Command}
 use Rattle.osdp_controller.specs.Ticking.{Ticked, begins, gives_up, sends_frame, stays, ticks_in, tries_again}
@@ -10,12 +10,12 @@ use Rattle.osdp_controller.specs.declared.state.State.TheVariants.{Closed, Quiet
 use Rattle.osdp_reader.specs.declared.handler.Answer.{Answer}
 use Rattle.osdp_link_laws.specs.Headline.{MovesFit}
 use Rattle.osdp_link_laws.specs.Link.{Link, Move, run}
-use Rattle.osdp_link_laws.specs.Names.{IsCommandTo, MayMoves, MovesController, MovesReader}
+use Rattle.osdp_link_laws.specs.Names.{IsCommandTo, NameOneDevice, NamesOne, TellAsAsked}
+use Rattle.osdp_multidrop.specs.Names.{MayMoves, MovesController, MovesReader}
 use Rattle.osdp_link_laws.specs.Peers.{ReadEachOther}
-use Rattle.osdp_link_laws.proofs.InARow.{Stands, assumed, running}
+use Rattle.osdp_link_laws.specs.Ordinary.{IsOrdinary}
 use Rattle.osdp_link_laws.proofs.Lines.{both, each_map, each_of}
-use Rattle.osdp_link_laws.proofs.Naming.{Keeps, keeps_all}
-use Rattle.osdp_link_laws.proofs.OneDevice.{standing_names}
+use Rattle.osdp_multidrop.proofs.Naming.{IsLed, Keeps, keeps_all, led_on}
 use Rattle.osdp_link_laws.proofs.Stages.{Each}
 use Rattle.osdp_multidrop.specs.Apart.{IsNameOf}
 use Rattle.osdp_multidrop.specs.Line.{Net, Site, site_at}
@@ -53,25 +53,32 @@ sends_from state s ws = by_state state ws
         both (SendsFrom here) (leb until s.greatest) (sends_frame 1 o s cs) (stays s cs) (record { address = refl; frame = refl }) (nothing cs)
 
 module _ {H : Type 0} (answer_of : H → Command → Answer) (after : H → Command → H) where
+  -- ---- what is known of one link
+
+  pub record OfALink : Type 0 where
+    pub peers : ReadEachOther answer_of after
+    pub device : NameOneDevice answer_of after
+    pub told : TellAsAsked answer_of after
+
   -- ---- one site
 
   pub record IsLinked (k : ℕ) (s : Site H) (n : Net H) : Type 0 where
     pub first : Link H
-    pub stands : Stands answer_of after first.reader.config first.reader.handler (view k s n)
+    pub moves : List (Move H)
+    pub led : IsLed answer_of after first moves (view k s n)
     pub keeps : Keeps s.reserved (view k s n)
 
-  pub linked_after : (ReadEachOther answer_of after) → (k : ℕ) (s : Site H) (moves : List Move) (n next : Net H) → IsLinked k s n
-      → MovesFit answer_of after moves (view k s n) → MayMoves answer_of after moves (view k s n) s.reserved
+  pub linked_after : OfALink → (k : ℕ) (s : Site H) (moves : List (Move H)) (n next : Net H) → IsLinked k s n
+      → MovesFit answer_of after moves (view k s n) → MayMoves answer_of after moves (view k s n) s.reserved → Each IsOrdinary moves
       → (m : IsMoved answer_of after k s moves n next) → IsLinked k m.site next
-  linked_after peers k s moves n next h fits may m =
-      let given = assumed answer_of after h.first.reader.config h.first.reader.handler peers in
+  linked_after given k s moves n next h fits may ordinary m =
       record {
         first = h.first;
-        stands = subst (Stands answer_of after h.first.reader.config h.first.reader.handler) (sym m.moved)
-            (running answer_of after h.first.reader.config h.first.reader.handler given moves (view k s n) fits h.stands);
+        moves = h.moves ++ moves;
+        led = subst (IsLed answer_of after h.first (h.moves ++ moves)) (sym m.moved) (led_on answer_of after h.first h.moves moves (view k s n) h.led fits ordinary);
         keeps = subst (λ l. Keeps m.site.reserved l) (sym m.moved)
             (subst (λ r. Keeps r (run answer_of after moves (view k s n))) (sym m.reserved)
-            (keeps_all answer_of after peers.asked peers.answered h.first given moves s.reserved (view k s n) fits may h.stands h.keeps));
+            (keeps_all answer_of after given.peers.asked given.peers.answered given.device given.told h.first h.moves moves s.reserved (view k s n) h.led ordinary fits may h.keeps));
       }
 
   -- ---- all of them
@@ -82,14 +89,15 @@ module _ {H : Type 0} (answer_of : H → Command → Answer) (after : H → Comm
   pub readers_named : (n : Net H) → AreLinked n → EndsNamed reader_address n.sites
   readers_named n all k s is = (all k s is).keeps.names.reader
 
-  pub to_devices : (n : Net H) → AreLinked n → Each (λ (p : ℕ × Packet). IsSited n.sites p.0) n.to_readers
+  pub to_devices : OfALink → (n : Net H) → AreLinked n → Each (λ (p : ℕ × Packet). IsSited n.sites p.0) n.to_readers
       → Each (λ (p : ℕ × Packet). p.1.address < 127) n.to_readers
-  to_devices n all sited = each_by_owner (IsSited n.sites) (λ k p. p.address < 127) n.to_readers own_are sited
+  to_devices given n all sited = each_by_owner (IsSited n.sites) (λ k p. p.address < 127) n.to_readers own_are sited
     where
       own_are : (k : ℕ) → IsSited n.sites k → Each (λ p. p.address < 127) (own k n.to_readers)
       own_are k (s, is) =
           let h = all k s is in
-          let named = standing_names answer_of after (view k s n) h.first h.stands in
+          let named : (device : ℕ) × NamesOne device (own k n.to_readers) (own k n.to_controllers) =
+          subst (λ l. (device : ℕ) × NamesOne device l.to_reader l.to_controller) (sym h.led.leads) (given.device h.first h.moves h.led.begins h.led.fits) in
           each_map (IsCommandTo named.0) (λ p. p.address < 127) (λ p to. subst (λ a. a < 127) (sym to.1) named.1.below)
           (own k n.to_readers) (each_of (IsCommandTo named.0) (own k n.to_readers) named.1.commands)
 

@@ -13,7 +13,7 @@ use Rattle.osdp_reader.specs.State as readers
 use Rattle.osdp_reader.specs.declared.handler.Answer.{Answer}
 use Rattle.osdp_link_laws.specs.Link as link
 use Rattle.osdp_link_laws.specs.Link.{Delivered, Delivery, Lost, Move, Repeated}
-use Rattle.osdp_link_laws.specs.Names.{accepted_for, freed_by, reserved_after, reserved_after_moves}
+use Rattle.osdp_multidrop.specs.Names.{accepted_for, freed_by, reserved_after, reserved_after_moves}
 use Rattle.osdp_link_laws.specs.Refusals.{told_by_front}
 use Rattle.osdp_link_laws.proofs.Lines.{each_of}
 use Rattle.osdp_link_laws.proofs.Numbers.{is_false, is_true}
@@ -25,20 +25,20 @@ use Rattle.osdp_multidrop.specs.Views as views
 use Rattle.osdp_multidrop.proofs.Hearing.{at_map, first_other, first_own, reply_of, said_at, silent}
 use Rattle.osdp_multidrop.proofs.Sites.{at_changed, at_other, own_append, own_first, own_mine, own_others, own_rest}
 
-one_is : (i k : ℕ) (m : Move) → i ≡ k → one_if i k m ≡ m ∷ []
+one_is : {H : Type 0} (i k : ℕ) (m : Move H) → i ≡ k → one_if i k m ≡ m ∷ []
 one_is i k m is = ap (λ b. cond b (m ∷ []) []) (is_true i k is)
 
-one_not : (i k : ℕ) (m : Move) → i ≢ k → one_if i k m ≡ []
+one_not : {H : Type 0} (i k : ℕ) (m : Move H) → i ≢ k → one_if i k m ≡ []
 one_not i k m other = ap (λ b. cond b (m ∷ []) []) (is_false i k other)
 
 module _ {H : Type 0} (answer_of : H → Command → Answer) (after : H → Command → H) where
-  abbrev Moves : ℕ → Site H → List Move → Net H → Net H → Type 0
+  abbrev Moves : ℕ → Site H → List (Move H) → Net H → Net H → Type 0
   Moves k s ms n next = IsMoved answer_of after k s ms n next
 
   -- ---- one site
 
   -- it isn't touched, and nothing is its own of what is new
-  stays : (k : ℕ) (s : Site H) (ms : List Move) (n next : Net H) → ms ≡ [] → site_at k next.sites ≡ Some s
+  stays : (k : ℕ) (s : Site H) (ms : List (Move H)) (n next : Net H) → ms ≡ [] → site_at k next.sites ≡ Some s
       → own k next.to_readers ≡ own k n.to_readers → own k next.to_controllers ≡ own k n.to_controllers → Moves k s ms n next
   stays k s ms n next none is here there = record {
     site = s;
@@ -50,7 +50,7 @@ module _ {H : Type 0} (answer_of : H → Command → Answer) (after : H → Comm
   }
 
   -- a site changes, and nothing on the line
-  changes : (i k : ℕ) (s : Site H) (m : Move) (change : Site H → Site H) (n : Net H) → site_at k n.sites ≡ Some s
+  changes : (i k : ℕ) (s : Site H) (m : Move H) (change : Site H → Site H) (n : Net H) → site_at k n.sites ≡ Some s
       → link_of (change s) (own k n.to_readers) (own k n.to_controllers) ≡ link.after_move answer_of after m (view k s n)
       → (change s).reserved ≡ reserved_after m (view k s n) s.reserved
       → Moves k s (one_if i k m) n (line.change_at i (site_at i n.sites) change n)
@@ -104,7 +104,7 @@ module _ {H : Type 0} (answer_of : H → Command → Answer) (after : H → Comm
             ∙ sym (ap (λ l. reserved_after_moves answer_of after l (view k s n) s.reserved) (one_is k k (link.Submit c) refl));
       }
 
-  not_mine : (i k : ℕ) (c : Command) (refused : Bool) → i ≢ k → cond refused [] (one_if i k (link.Submit c)) ≡ []
+  not_mine : (i k : ℕ) (c : Command) (refused : Bool) → i ≢ k → cond refused [] (one_if {H = H} i k (link.Submit c)) ≡ []
   not_mine i k c true other = refl
   not_mine i k c false other = one_not i k (link.Submit c) other
 
@@ -170,7 +170,7 @@ module _ {H : Type 0} (answer_of : H → Command → Answer) (after : H → Comm
       ∙ ap (λ l. own k n.to_controllers ++ l) (said_at answer_of after p k s n.sites is)
 
   -- .. of another site
-  hears_none : (p : Packet) (k : ℕ) (s : Site H) (ms : List Move) (n mid : Net H) → ms ≡ [] → mid.sites ≡ n.sites → mid.to_controllers ≡ n.to_controllers
+  hears_none : (p : Packet) (k : ℕ) (s : Site H) (ms : List (Move H)) (n mid : Net H) → ms ≡ [] → mid.sites ≡ n.sites → mid.to_controllers ≡ n.to_controllers
       → own k mid.to_readers ≡ own k n.to_readers → site_at k mid.sites ≡ Some s → p.address < 127 → s.reader.config.address ≢ p.address
       → Moves k s ms n (line.all_hear answer_of after p mid)
   hears_none p k s ms n mid none sites back here is device other =

@@ -7,11 +7,9 @@ use Rattle.osdp_reader.specs.State as readers
 use Rattle.osdp_reader.specs.declared.handler.Answer.{Answer}
 use Rattle.osdp_link_laws.specs.Headline.{SaysWhatFitsIf}
 use Rattle.osdp_link_laws.specs.Link.{Delivered, Delivery, Lost, Repeated}
-use Rattle.osdp_link_laws.specs.Names.{IsName, MovesController, MovesReader}
-use Rattle.osdp_link_laws.specs.Peers.{ReadEachOther}
-use Rattle.osdp_link_laws.proofs.InARow.{begins}
+use Rattle.osdp_multidrop.specs.Names.{IsName, MovesController, MovesReader}
 use Rattle.osdp_link_laws.proofs.Lines.{each_all}
-use Rattle.osdp_link_laws.proofs.Naming.{Keeps, starts}
+use Rattle.osdp_multidrop.proofs.Naming.{Keeps, starts}
 use Rattle.osdp_link_laws.proofs.Stages.{Each}
 use Rattle.osdp_multidrop.specs.Apart.{IsHeardByNobodyElse, IsInOrder}
 use Rattle.osdp_multidrop.specs.Line as line
@@ -23,7 +21,7 @@ use Rattle.osdp_multidrop.proofs.Calling.{beginning, changing, queue_keeps, subm
 use Rattle.osdp_multidrop.proofs.Changing.{some_same}
 use Rattle.osdp_multidrop.proofs.Delivering.{getting, hearing}
 use Rattle.osdp_multidrop.proofs.Fitting.{move_fits, was_there}
-use Rattle.osdp_multidrop.proofs.Linked.{AreLinked, IsLinked, linked_after, readers_named, replies_named, to_devices}
+use Rattle.osdp_multidrop.proofs.Linked.{AreLinked, IsLinked, OfALink, linked_after, readers_named, replies_named, to_devices}
 use Rattle.osdp_multidrop.proofs.Moving.{each_is_its_own}
 use Rattle.osdp_multidrop.proofs.Sites.{Ordered}
 
@@ -34,14 +32,14 @@ in_order Moves (p ∷ ps) ordered = (
   in_order Moves ps ordered.1,
 )
 
-module _ {H : Type 0} (answer_of : H → Command → Answer) (after : H → Command → H) (peers : ReadEachOther answer_of after) where
+module _ {H : Type 0} (answer_of : H → Command → Answer) (after : H → Command → H) (given : OfALink answer_of after) where
   pub record Holds (n : Net H) : Type 0 where
     pub linked : AreLinked answer_of after n
     pub apart : Apart n
 
   pub by_own : (n : Net H) → Holds n → HeardByOwn n
   by_own n h = record {
-    devices = each_all (λ (p : ℕ × Packet). p.1.address < 127) n.to_readers (to_devices answer_of after n h.linked h.apart.readers.sited);
+    devices = each_all (λ (p : ℕ × Packet). p.1.address < 127) n.to_readers (to_devices answer_of after given n h.linked h.apart.readers.sited);
     readers = each_all (IsAway reader_address n.sites) n.to_readers h.apart.readers.away;
     controllers = each_all (IsAway address_of n.sites) n.to_controllers h.apart.controllers.away;
   }
@@ -68,17 +66,17 @@ module _ {H : Type 0} (answer_of : H → Command → Answer) (after : H → Comm
       with_readers n ps (line_rest reader_address MovesReader n.sites p ps (subst (IsLine reader_address MovesReader n.sites) is h.apart.readers)) h.apart
   to_readers Delivered (p ∷ ps) n is fits h =
       let line = subst (IsLine reader_address MovesReader n.sites) is h.apart.readers in
-      let device = subst (Each (λ (q : ℕ × Packet). q.1.address < 127)) is (to_devices answer_of after n h.linked h.apart.readers.sited) in
+      let device = subst (Each (λ (q : ℕ × Packet). q.1.address < 127)) is (to_devices answer_of after given n h.linked h.apart.readers.sited) in
       let owner = line.sited.0 in
-      hearing answer_of after peers.answered p owner.0 (record n { to_readers = ps }) owner.1 device.0 line.away.0 (fits p.0 owner.0 owner.1)
+      hearing answer_of after given.peers.answered p owner.0 (record n { to_readers = ps }) owner.1 device.0 line.away.0 (fits p.0 owner.0 owner.1)
       (h.linked p.0 owner.0 owner.1).keeps.names.stored (readers_named answer_of after n h.linked)
       (replies_named answer_of after n h.linked h.apart.controllers.sited) (front_clears reader_address MovesReader n.sites p ps line)
       (with_readers n ps (line_rest reader_address MovesReader n.sites p ps line) h.apart)
   to_readers Repeated (p ∷ ps) n is fits h =
       let line = subst (IsLine reader_address MovesReader n.sites) is h.apart.readers in
-      let device = subst (Each (λ (q : ℕ × Packet). q.1.address < 127)) is (to_devices answer_of after n h.linked h.apart.readers.sited) in
+      let device = subst (Each (λ (q : ℕ × Packet). q.1.address < 127)) is (to_devices answer_of after given n h.linked h.apart.readers.sited) in
       let owner = line.sited.0 in
-      hearing answer_of after peers.answered p owner.0 n owner.1 device.0 line.away.0 (fits p.0 owner.0 owner.1)
+      hearing answer_of after given.peers.answered p owner.0 n owner.1 device.0 line.away.0 (fits p.0 owner.0 owner.1)
       (h.linked p.0 owner.0 owner.1).keeps.names.stored (readers_named answer_of after n h.linked)
       (replies_named answer_of after n h.linked h.apart.controllers.sited)
       (subst (Each (IsClear (Only p.0 (λ to. MovesReader to p.1)))) (sym is)
@@ -131,7 +129,7 @@ module _ {H : Type 0} (answer_of : H → Command → Answer) (after : H → Comm
           let fit = move_fits answer_of after move k old.0 n old.1 fits in
           let moved = each_is_its_own answer_of after n move (by_own n h) k old.0 old.1 in
           subst (λ s. IsLinked answer_of after k s next) (some_same moved.site t (sym moved.there ∙ is))
-          (linked_after answer_of after peers k old.0 (move_of k old.0 move n) n next (h.linked k old.0 old.1) fit.0 fit.1 moved)
+          (linked_after answer_of after given k old.0 (move_of k old.0 move n) n next (h.linked k old.0 old.1) fit.0 fit.1 fit.2 moved)
 
   pub holds_all : (moves : List NetMove) (n : Net H) → NetMovesFit answer_of after moves n → Holds n → Holds (run answer_of after moves n)
   holds_all [] n fits h = h
@@ -145,7 +143,8 @@ module _ {H : Type 0} (answer_of : H → Command → Answer) (after : H → Comm
         let b = up.begins k s is in
         record {
           first = view k s n;
-          stands = begins answer_of after (view k s n) b.begins;
+          moves = [];
+          led = record { begins = b.begins; fits = tt; ordinary = tt; leads = refl };
           keeps = subst (λ r. Keeps r (view k s n)) (sym (up.reserved k s is)) (starts answer_of after (view k s n) b);
         };
     apart = record {

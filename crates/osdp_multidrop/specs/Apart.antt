@@ -3,7 +3,7 @@ use Rattle.std.specs.Prelude.{◌≡◌, ◌≢◌, ℕ, All, List, [], ◌∷�
 use Rattle.osdp_frame.specs.Packet.{Packet}
 use Rattle.osdp_msg.specs.declared.command.Command.{Command}
 use Rattle.osdp_reader.specs.declared.handler.Answer.{Answer}
-use Rattle.osdp_link_laws.specs.Names.{IsName, MovesController, MovesReader}
+use Rattle.osdp_multidrop.specs.Names.{IsName, MovesController, MovesReader}
 use Rattle.osdp_multidrop.specs.Line.{Net, NetMove, Site, address_of, run, site_at}
 use Rattle.osdp_multidrop.specs.Runs.{NetMovesFit, IsSetUp}
 use Rattle.osdp_multidrop.specs.Views.{HeardByOwn}

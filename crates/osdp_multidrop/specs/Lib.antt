@@ -1,3 +1,4 @@
+pub mod Names
 pub mod Line
 pub mod Views
 pub mod Runs

@@ -17,7 +17,7 @@ use Rattle.osdp_reader.specs.Table as reader
 use Rattle.osdp_reader.specs.declared.handler.Answer.{Answer}
 use Rattle.osdp_link_laws.specs.Link as link
 use Rattle.osdp_link_laws.specs.Link.{Account, Delivered, Delivery, Link, Lost, Repeated}
-use Rattle.osdp_link_laws.specs.Names.{asked_for, freed_by}
+use Rattle.osdp_multidrop.specs.Names.{asked_for, freed_by}
 
 -- a reader and its controller, the address that is kept for a COMSET of theirs, and their accounts
 pub record Site (H : Type 0) : Type 0 where

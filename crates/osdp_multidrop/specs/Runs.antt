@@ -5,9 +5,11 @@ use Rattle.osdp_msg.specs.CommandTable.{CommandFits}
 use Rattle.osdp_msg.specs.declared.command.Command.{Command}
 use Rattle.osdp_msg.specs.declared.event.Event.{Event}
 use Rattle.osdp_reader.specs.declared.handler.Answer.{Answer}
-use Rattle.osdp_link_laws.specs.Headline.{MovesFit, AreOnce, SaysWhatFitsIf}
+use Rattle.osdp_link_laws.specs.Headline.{MovesFit, SaysWhatFitsIf}
 use Rattle.osdp_link_laws.specs.Link.{Move}
-use Rattle.osdp_link_laws.specs.Names.{BeginsTogether}
+use Rattle.osdp_multidrop.specs.Names.{BeginsTogether}
+use Rattle.osdp_link_laws.specs.OneHandler.{AreOnce}
+use Rattle.osdp_link_laws.specs.Ordinary.{AreUndisturbed, IsOrdinary}
 use Rattle.osdp_link_laws.specs.Refusals.{IsNoRefusal, reports}
 use Rattle.osdp_link_laws.specs.Sessions.{AreInARow, HaveLeft, LastsOrLeaves, all_queued, all_submitted, ended_commands}
 use Rattle.osdp_multidrop.specs.Line.{Net, NetMove, Queue, Reopen, SetBusy, Site, Submit, Tick, ToControllers, ToReaders, address_of, after_net, run, site_at}
@@ -46,18 +48,19 @@ module _ {H : Type 0} where
 
     -- ---- the moves that a run comes to for the site at this place
 
-    abbrev pub moves_at : ℕ → Option (Site H) → NetMove → Net H → List Move
+    abbrev pub moves_at : ℕ → Option (Site H) → NetMove → Net H → List (Move H)
     moves_at k None move n = []
     moves_at k (Some s) move n = move_of k s move n
 
-    abbrev pub moves_of : ℕ → List NetMove → Net H → List Move
+    abbrev pub moves_of : ℕ → List NetMove → Net H → List (Move H)
     moves_of k [] n = []
     moves_of k (move ∷ moves) n = moves_at k (site_at k n.sites) move n ++ moves_of k moves (after_net answer_of after move n)
 
-    -- its view is its link after these moves, which are moves as a link has them
+    -- its view is its link after these moves, which are moves as a link has them, and change no device and restart nothing
     pub record IsItsLink (k : ℕ) (s : Site H) (moves : List NetMove) (n : Net H) : Type 0 where
       pub moved : IsMoved answer_of after k s (moves_of k moves n) n (run answer_of after moves n)
       pub fits : MovesFit answer_of after (moves_of k moves n) (view k s n)
+      pub ordinary : All IsOrdinary (moves_of k moves n)
 
     abbrev pub EachIsALink : Type 0
     EachIsALink = (n : Net H) (moves : List NetMove) → IsSetUp n → NetMovesFit moves n
@@ -77,8 +80,9 @@ module _ {H : Type 0} where
     EachRefusesNoNumber = (n : Net H) (moves : List NetMove) → IsSetUp n → NetMovesFit moves n
         → (k : ℕ) (s : Site H) → site_at k n.sites ≡ Some s → All IsNoRefusal (reports answer_of after (moves_of k moves n) (view k s n))
 
-    -- the sessions of each site are in a row; its commands and events have their places in them
+    -- the sessions of each site are in a row, and nobody restarts in them; its commands and events have their places in them
     pub record IsInARow (k : ℕ) (first last : Site H) (moves : List NetMove) (n : Net H) : Type 0 where
+      pub undisturbed : AreUndisturbed (last.account ∷ last.earlier)
       pub row : AreInARow last.account last.earlier
       pub lasts : LastsOrLeaves last.controller.session.state (view k last (run answer_of after moves n))
       pub commands : first.controller.waiting ++ all_submitted answer_of after (moves_of k moves n) (view k first n)

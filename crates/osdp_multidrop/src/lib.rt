@@ -22,6 +22,7 @@ pub fn nobody_else_hears<H: Handler>()
     ensures { NobodyElseHears H.answer_of H.after }
 {
     osdp_link_laws::read_each_other::<H>();
+    osdp_link_laws::names::name_one_device::<H>();
 }
 
 /// So after every list of moves each reader and its controller, with what is their own on the line, are their link after the moves that
@@ -41,7 +42,8 @@ pub fn each_is_a_link<H: Handler>()
     ensures row { EachStaysInARow H.answer_of H.after }
 {
     osdp_link_laws::read_each_other::<H>();
-    osdp_link_laws::holds_once::<H>();
+    osdp_link_laws::names::name_one_device::<H>();
+    osdp_link_laws::answers_of_one_handler::<H>();
     osdp_link_laws::refuses_no_number::<H>();
     osdp_link_laws::sessions_in_a_row::<H>();
 }

@@ -2,7 +2,7 @@
 use Rattle.std.proofs.Common.{◌≡◌, ◌∙◌, ap, subst, sym, ℕ, ◌-◌, ◌≤◌, All, List, [], ◌∷◌, ◌++◌, length, take, Ok, refl, arith}
 use Rattle.std.proofs.lemmas.List.Elements.{All-cons, All-nil}
 use Rattle.osdp_controller.specs.Settings.{IsConfig}
-use Rattle.osdp_link_laws.specs.Headline.{with_answers}
+use Rattle.osdp_link_laws.specs.OneHandler.{with_answers}
 use Rattle.osdp_link_laws.specs.Progress.{SetsNoAddress}
 use Rattle.osdp_msg.specs.declared.command.Command.{Command}
 use Rattle.osdp_msg.specs.declared.event.Event.{Event}

@@ -8,9 +8,12 @@ use Rattle.osdp_reader.specs.declared.config.ReaderConfig.{ReaderConfig}
 use Rattle.osdp_reader.specs.declared.handler.Answer.{Answer}
 use Rattle.osdp_reader.specs.Table.{answer_to}
 use Rattle.osdp_reader_laws.specs.Answering.{handler_after_commands}
-use Rattle.osdp_link_laws.specs.Headline.{IsBeginning, handler_after}
+use Rattle.osdp_link_laws.specs.Headline.{IsBeginning, asked}
 use Rattle.osdp_link_laws.specs.Link as link
-use Rattle.osdp_link_laws.specs.Sessions.{settled_commands, ended_commands}
+use Rattle.osdp_link_laws.specs.OneHandler.{handler_after}
+use Rattle.osdp_link_laws.specs.Ordinary.{AreUndisturbed}
+use Rattle.osdp_link_laws.specs.Sessions.{ended_commands, ended_in, settled_commands}
+use Rattle.osdp_link_laws.proofs.OrdinaryRuns.{ended_so}
 use Rattle.osdp_sim_laws.specs.Accounts.{all_in}
 use Rattle.osdp_session.specs.Sessions.{between}
 
@@ -36,16 +39,17 @@ pub shorter : {A : Type 0} (xs ys zs : List A) → IsBeginning (xs ++ ys) zs →
 shorter xs ys zs (rest, is) = (ys ++ rest, is ∙ append_assoc xs ys rest)
 
 -- as many were settled or told unsettled as were settled, and told unsettled
-pub told_length : (earlier : List link.Account)
+pub told_length : (earlier : List link.Account) → AreUndisturbed earlier
     → length (ended_commands earlier) ≡ length (all_in (λ t. t.settled) earlier) + length (all_in (λ t. t.unsettled) earlier)
-told_length [] = refl
-told_length (t ∷ earlier) =
+told_length [] so = refl
+told_length (t ∷ earlier) so =
     omega (
       arith,
-      told_length earlier,
-      length-append (ended_commands earlier) (settled_commands t ++ t.unsettled),
+      told_length earlier so.1,
+      length-append (ended_commands earlier) (ended_in t),
+      ap length (ended_so t so.0),
       length-append (settled_commands t) t.unsettled,
-      length-map t.settled (λ (p : Command × Reply). p.0),
+      length-map t.settled asked,
       length-append (all_in (λ u. u.settled) earlier) t.settled,
       length-append (all_in (λ u. u.unsettled) earlier) t.unsettled,
     )

@@ -8,10 +8,14 @@ use Rattle.osdp_msg.specs.declared.reply.Reply.{Reply}
 use Rattle.osdp_reader.specs.declared.config.ReaderConfig.{ReaderConfig}
 use Rattle.osdp_reader.specs.declared.handler.Answer.{Answer}
 use Rattle.osdp_reader_laws.specs.Answering.{handler_after_commands}
-use Rattle.osdp_link_laws.specs.Headline.{AreOnce, IsBeginning, Once, handler_after, with_answers}
+use Rattle.osdp_link_laws.specs.Headline.{IsBeginning}
 use Rattle.osdp_link_laws.specs.Link as link
-use Rattle.osdp_link_laws.specs.Sessions.{AreInARow, Leaves, settled_commands, ended_commands}
+use Rattle.osdp_link_laws.specs.OneHandler.{AreOnce, Once, handler_after, with_answers}
+use Rattle.osdp_link_laws.specs.Ordinary.{AreUndisturbed, IsUndisturbed, LeavesUndisturbed}
+use Rattle.osdp_link_laws.specs.Sessions.{AreInARow, Leaves, ended_commands, ended_in, settled_commands}
 use Rattle.osdp_link_laws.proofs.Lines.{each_of}
+use Rattle.osdp_link_laws.proofs.Ordinary.{undisturbed_leaves}
+use Rattle.osdp_link_laws.proofs.OrdinaryRuns.{ended_so}
 use Rattle.osdp_sim.specs.Account.{Account, lengths_of}
 use Rattle.osdp_sim.specs.declared.account.Lengths.{Lengths}
 use Rattle.osdp_sim_laws.specs.Accounts as accounts
@@ -63,10 +67,10 @@ record IsPart (a : Account) (from to : Lengths) (first : ℕ) (t : link.Account)
   pub reported : session_reported a from to ≡ t.reported
 
 is_part : (a : Account) (from to : Lengths) (first : ℕ) (t : link.Account) (earlier : List link.Account) (past : List Event)
-    → IsIn a t earlier past → IsFrom from first t earlier past → IsTo to t earlier past → IsPart a from to first t
-is_part a from to first t earlier past in_ is_from is_to = record {
+    → AreUndisturbed earlier → IsIn a t earlier past → IsFrom from first t earlier past → IsTo to t earlier past → IsPart a from to first t
+is_part a from to first t earlier past so in_ is_from is_to = record {
   issued = part (ended_commands earlier) t.issued a.issued in_.issued.0 (first_command from) to.issued
-      (omega (arith, is_from.counts.settled, is_from.counts.unsettled, told_length earlier)) is_to.issued in_.issued.1;
+      (omega (arith, is_from.counts.settled, is_from.counts.unsettled, told_length earlier so)) is_to.issued in_.issued.1;
   queued = part past t.queued a.queued in_.queued.0 first to.queued is_from.first is_to.queued in_.queued.1;
   taken = part (all_in (λ u. u.taken) earlier) t.taken a.taken in_.taken.0 from.taken to.taken is_from.counts.taken is_to.counts.taken in_.taken.1;
   settled = part (all_in (λ u. u.settled) earlier) t.settled a.settled in_.settled.0 from.settled to.settled is_from.counts.settled is_to.counts.settled in_.settled.1;
@@ -79,7 +83,7 @@ told_is a from to first t parts =
     ap (λ l. map (λ (p : Command × Reply). p.0) l ++ session_unsettled a from to) parts.settled ∙ ap (λ l. settled_commands t ++ l) parts.unsettled
 
 has_ended : (a : Account) (from to : Lengths) (first : ℕ) (t : link.Account) (waiting : List Command) (events : List Event) → IsPart a from to first t
-    → Leaves t waiting events → to.ends ≡ from.ends + 1 → HasEnded a from to
+    → LeavesUndisturbed t waiting events → to.ends ≡ from.ends + 1 → HasEnded a from to
 has_ended a from to first t waiting events parts leaves ends = record { ends = ends; taken = by leaves.taken }
   where
     by : (t.taken ≡ settled_commands t) ⊎ (t.taken ≡ settled_commands t ++ t.unsettled) → IsBeginning (session_taken a from to) (session_told a from to)
@@ -124,17 +128,17 @@ module _ {H : Type 0} (answer_of : H → Command → Answer) (after : H → Comm
     pub few : length t.unsettled ≤ 1
 
   session : (a : Account) (from to : Lengths) (first : ℕ) (t : link.Account) (earlier : List link.Account) (past : List Event)
-      → IsIn a t earlier past → IsFrom from first t earlier past → IsTo to t earlier past → IsGood t earlier
+      → AreUndisturbed earlier → IsIn a t earlier past → IsFrom from first t earlier past → IsTo to t earlier past → IsGood t earlier
       → IsSession answer_of after config handler a from to first
-  session a from to first t earlier past in_ is_from is_to good =
-      let parts = is_part a from to first t earlier past in_ is_from is_to in
+  session a from to first t earlier past so in_ is_from is_to good =
+      let parts = is_part a from to first t earlier past so in_ is_from is_to in
       let later : handler_after_commands answer_of after config handler (take from.taken a.taken) ≡ handler_after answer_of after config handler earlier =
       ap (handler_after_commands answer_of after config handler)
       (front (all_in (λ u. u.taken) earlier) t.taken a.taken in_.taken.0 from.taken is_from.counts.taken in_.taken.1)
       ∙ handler_all answer_of after config handler earlier in
       record {
         begins = (
-          omega (arith, is_from.counts.settled, is_from.counts.unsettled, told_length earlier, is_from.least_issued),
+          omega (arith, is_from.counts.settled, is_from.counts.unsettled, told_length earlier so, is_from.least_issued),
           omega (arith, is_from.first, is_from.least_queued),
         );
         grow = record {
@@ -163,10 +167,10 @@ module _ {H : Type 0} (answer_of : H → Command → Answer) (after : H → Comm
 
   -- from the last session on, to the one before it, and so on to the first
   down : (a : Account) (t : link.Account) (earlier : List link.Account) (cuts : List Lengths) (past : List Event) (later : List Lengths)
-      → IsIn a t earlier past → AreOver cuts t.queued earlier past → AreOnce answer_of after config handler earlier → AreInARow t earlier
+      → AreUndisturbed earlier → IsIn a t earlier past → AreOver cuts t.queued earlier past → AreOnce answer_of after config handler earlier → AreInARow t earlier
       → ((from : Lengths) (first : ℕ) → IsFrom from first t earlier past → AreSessions answer_of after config handler a from first later)
       → (all : List Lengths) × (cuts ++ later ≡ no_lengths ∷ all) × AreSessions answer_of after config handler a no_lengths 0 all
-  down a t [] cuts past later in_ (begins, none) once row rest = (
+  down a t [] cuts past later so in_ (begins, none) once row rest = (
     later,
     ap (λ l. l ++ later) begins,
     rest no_lengths 0 (record {
@@ -179,12 +183,13 @@ module _ {H : Type 0} (answer_of : H → Command → Answer) (after : H → Comm
       first = sym (ap length none);
     }),
   )
-  down a t (u ∷ earlier) cuts past later in_ (before, gone, over, is) (once, onces) ((waiting, events, leaves, (more, follow), waits), row) rest =
+  down a t (u ∷ earlier) cuts past later so in_ (before, gone, over, is) (once, onces) ((waiting, events, all, (more, follow), waits), row) rest =
       let at = is.at in
-      let left : u.issued ≡ settled_commands u ++ (u.unsettled ++ waiting) = leaves.commands in
+      let leaves = undisturbed_leaves.one u waiting events so.0 all in
+      let left : u.issued ≡ ended_in u ++ waiting = all.of_commands.commands in
       let go_on : (ended_commands earlier ++ u.issued) ++ more ≡ ended_commands (u ∷ earlier) ++ t.issued =
-      ap (λ cs. (ended_commands earlier ++ cs) ++ more) (left ∙ sym (append_assoc (settled_commands u) u.unsettled waiting))
-      ∙ ap (λ cs. cs ++ more) (sym (append_assoc (ended_commands earlier) (settled_commands u ++ u.unsettled) waiting))
+      ap (λ cs. (ended_commands earlier ++ cs) ++ more) left
+      ∙ ap (λ cs. cs ++ more) (sym (append_assoc (ended_commands earlier) (ended_in u) waiting))
       ∙ append_assoc (ended_commands (u ∷ earlier)) waiting more
       ∙ ap (λ cs. ended_commands (u ∷ earlier) ++ cs) (sym follow) in
       let events_on : (gone ++ u.queued) ++ is.first.0 ≡ past ++ t.queued =
@@ -211,10 +216,8 @@ module _ {H : Type 0} (answer_of : H → Command → Answer) (after : H → Comm
           cut.issued,
           length-append (ended_commands earlier) u.issued,
           ap length left,
-          length-append (settled_commands u) (u.unsettled ++ waiting),
-          length-append u.unsettled waiting,
-          length-append (ended_commands earlier) (settled_commands u ++ u.unsettled),
-          length-append (settled_commands u) u.unsettled,
+          length-append (ended_in u) waiting,
+          length-append (ended_commands earlier) (ended_in u),
         );
         most_issued = omega (arith, cut.issued, ap length go_on, length-append (ended_commands earlier ++ u.issued) more);
         least_queued = omega (
@@ -233,13 +236,13 @@ module _ {H : Type 0} (answer_of : H → Command → Answer) (after : H → Comm
       } in
       let good : IsGood u earlier = record {
         once = once;
-        told = (waiting, left ∙ sym (append_assoc (settled_commands u) u.unsettled waiting));
+        told = (waiting, left ∙ ap (λ cs. cs ++ waiting) (ended_so u so.0));
         few = leaves.unsettled;
       } in
-      let found = down a u earlier before gone (at ∷ later) within over onces row
+      let found = down a u earlier before gone (at ∷ later) so.1 within over onces row
       (λ from first is_from.
-      let parts = is_part a from at first u earlier gone within is_from is_to in (
-        session a from at first u earlier gone within is_from is_to good,
+      let parts = is_part a from at first u earlier gone so.1 within is_from is_to in (
+        session a from at first u earlier gone so.1 within is_from is_to good,
         has_ended a from at first u waiting events parts leaves (omega (arith, cut.ends, is_from.ends)),
         (
           length past,
@@ -255,23 +258,24 @@ module _ {H : Type 0} (answer_of : H → Command → Answer) (after : H → Comm
 
   -- the last session lasts or has ended
   last_one : (a : Account) (from : Lengths) (first : ℕ) (t : link.Account) (earlier : List link.Account) (past : List Event)
-      → IsPart a from (lengths_of a) first t → IsFrom from first t earlier past → a.unsettled ≡ all_in (λ u. u.unsettled) (t ∷ earlier)
+      → IsUndisturbed t → IsPart a from (lengths_of a) first t → IsFrom from first t earlier past → a.unsettled ≡ all_in (λ u. u.unsettled) (t ∷ earlier)
       → length a.sessions ≡ length earlier + 1 → accounts.LastsOrHasEnded a t → LastsOrHasEnded a from (lengths_of a)
-  last_one a from first t earlier past parts is_from all some (inl (lasts, none)) =
+  last_one a from first t earlier past so parts is_from all some (inl (lasts, none)) =
       inl (
         omega (arith, lasts, some, is_from.ends),
         omega (arith, is_from.counts.unsettled, ap length all, length-append (all_in (λ u. u.unsettled) earlier) t.unsettled, ap length none),
       )
-  last_one a from first t earlier past parts is_from all some (inr (ended, (waiting, events, leaves))) =
-      inr (has_ended a from (lengths_of a) first t waiting events parts leaves (omega (arith, ended, some, is_from.ends)))
+  last_one a from first t earlier past so parts is_from all some (inr (ended, (waiting, events, leaves))) =
+      inr (has_ended a from (lengths_of a) first t waiting events parts (undisturbed_leaves.one t waiting events so leaves) (omega (arith, ended, some, is_from.ends)))
 
-  told_last : (t : link.Account) (earlier : List link.Account) (a : Account) → a.issued ≡ ended_commands earlier ++ t.issued
+  told_last : (t : link.Account) (earlier : List link.Account) (a : Account) → IsUndisturbed t → a.issued ≡ ended_commands earlier ++ t.issued
       → IsBeginning (ended_commands (t ∷ earlier)) a.issued → IsBeginning (settled_commands t ++ t.unsettled) t.issued
-  told_last t earlier a issued (rest, is) = (
+  told_last t earlier a so issued (rest, is) = (
     rest,
     sym (drop-append_seam (ended_commands earlier) t.issued)
-        ∙ ap (drop (length (ended_commands earlier))) (sym issued ∙ is ∙ append_assoc (ended_commands earlier) (settled_commands t ++ t.unsettled) rest)
-        ∙ drop-append_seam (ended_commands earlier) ((settled_commands t ++ t.unsettled) ++ rest),
+        ∙ ap (drop (length (ended_commands earlier))) (sym issued ∙ is ∙ append_assoc (ended_commands earlier) (ended_in t) rest)
+        ∙ drop-append_seam (ended_commands earlier) (ended_in t ++ rest)
+        ∙ ap (λ cs. cs ++ rest) (ended_so t so),
   )
 
   pub in_sessions : (a : Account) → IsInARow answer_of after config handler a → HoldsInSessions answer_of after config handler a
@@ -280,6 +284,7 @@ module _ {H : Type 0} (answer_of : H → Command → Answer) (after : H → Comm
       let earlier = row.earlier in
       let lists = row.lists in
       let past = lists.queued.0 in
+      let so = row.undisturbed in
       let in_ : IsIn a t earlier past = record {
         issued = all_of (ended_commands earlier ++ t.issued) a.issued lists.issued;
         queued = all_of (past ++ t.queued) a.queued lists.queued.2;
@@ -300,20 +305,20 @@ module _ {H : Type 0} (answer_of : H → Command → Answer) (after : H → Comm
       } in
       let good : IsGood t earlier = record {
         once = row.once.0;
-        told = told_last t earlier a lists.issued row.told;
+        told = told_last t earlier a so.0 lists.issued row.told;
         few = (each_of (λ u. length u.unsettled ≤ 1) (t ∷ earlier) row.unsettled).0;
       } in
-      let found = down a t earlier a.sessions past [] in_ lists.queued.1 row.once.1 row.row
+      let found = down a t earlier a.sessions past [] so.1 in_ lists.queued.1 row.once.1 row.row
       (λ from first is_from.
-      let parts = is_part a from (lengths_of a) first t earlier past in_ is_from is_to in (
-        session a from (lengths_of a) first t earlier past in_ is_from is_to good,
-        last_one a from first t earlier past parts is_from lists.unsettled (begun a.sessions t.queued earlier past lists.queued.1) row.ends,
+      let parts = is_part a from (lengths_of a) first t earlier past so.1 in_ is_from is_to in (
+        session a from (lengths_of a) first t earlier past so.1 in_ is_from is_to good,
+        last_one a from first t earlier past so.0 parts is_from lists.unsettled (begun a.sessions t.queued earlier past lists.queued.1) row.ends,
       )) in
       record {
         later = found.0;
         begins = sym (append-nil a.sessions) ∙ found.1;
         sessions = found.2;
-        taken = are_taken_once a t earlier lists row.row row.once.0.taken;
+        taken = are_taken_once a t earlier so.1 lists row.row row.once.0.taken;
         causes = row.causes;
       }
     where

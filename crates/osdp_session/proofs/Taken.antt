@@ -3,13 +3,15 @@ use Rattle.std.proofs.Common.{◌≡◌, ◌⊎◌, List, [], ◌∷◌, ◌++�
 use Rattle.std.proofs.lemmas.List.{append-nil}
 use Rattle.osdp_msg.specs.declared.command.Command.{Command}
 use Rattle.osdp_msg.specs.declared.event.Event.{Event}
-use Rattle.osdp_link_laws.specs.Headline.{IsBeginning}
+use Rattle.osdp_link_laws.specs.Headline.{IsBeginning, IsWithout}
 use Rattle.osdp_link_laws.specs.Link as link
-use Rattle.osdp_link_laws.specs.Sessions.{AreInARow, Leaves, settled_commands, ended_commands}
+use Rattle.osdp_link_laws.specs.Ordinary.{AreUndisturbed, IsUndisturbed, LeavesUndisturbed}
+use Rattle.osdp_link_laws.specs.Sessions.{AreInARow, IsAmong, ended_commands, ended_in, settled_commands}
+use Rattle.osdp_link_laws.proofs.Ordinary.{undisturbed_leaves}
+use Rattle.osdp_link_laws.proofs.OrdinaryRuns.{ended_so}
 use Rattle.osdp_sim.specs.Account.{Account}
-use Rattle.osdp_sim_laws.specs.Accepted.{IsAmong}
 use Rattle.osdp_sim_laws.specs.Accounts.{IsOf, all_in}
-use Rattle.osdp_session.specs.Taken.{AreTakenOnce, IsWithout}
+use Rattle.osdp_session.specs.Taken.{AreTakenOnce}
 
 -- ---- some of a list
 
@@ -54,36 +56,38 @@ record TookAllBut (earlier : List link.Account) : Type 0 where
   pub some : IsAmong out (all_in (λ t. t.unsettled) earlier)
   pub without : IsWithout out (ended_commands earlier) (all_in (λ t. t.taken) earlier)
 
-one_more : (t : link.Account) (waiting : List Command) (events : List Event) (earlier : List link.Account) → Leaves t waiting events → TookAllBut earlier
-    → TookAllBut (t ∷ earlier)
-one_more t waiting events earlier leaves took = by leaves.taken
+one_more : (t : link.Account) (waiting : List Command) (events : List Event) (earlier : List link.Account) → IsUndisturbed t → LeavesUndisturbed t waiting events
+    → TookAllBut earlier → TookAllBut (t ∷ earlier)
+one_more t waiting events earlier so leaves took = by leaves.taken
   where
     by : (t.taken ≡ settled_commands t) ⊎ (t.taken ≡ settled_commands t ++ t.unsettled) → TookAllBut (t ∷ earlier)
     by (inl same) = record {
       out = took.out ++ t.unsettled;
       some = among_both took.out (all_in (λ u. u.unsettled) earlier) t.unsettled t.unsettled took.some (all_among t.unsettled);
-      without = without_both took.out (ended_commands earlier) (all_in (λ u. u.taken) earlier) t.unsettled (settled_commands t ++ t.unsettled) t.taken took.without
+      without = without_both took.out (ended_commands earlier) (all_in (λ u. u.taken) earlier) t.unsettled (ended_in t) t.taken took.without
+          (subst (λ all. IsWithout t.unsettled all t.taken) (sym (ended_so t so))
           (subst (IsWithout t.unsettled (settled_commands t ++ t.unsettled)) (append-nil (settled_commands t) ∙ sym same)
-          (without_both [] (settled_commands t) (settled_commands t) t.unsettled t.unsettled [] (none_out (settled_commands t)) (all_out t.unsettled)));
+          (without_both [] (settled_commands t) (settled_commands t) t.unsettled t.unsettled [] (none_out (settled_commands t)) (all_out t.unsettled))));
     }
     by (inr more) = record {
       out = took.out;
       some = subst (λ l. IsAmong l (all_in (λ u. u.unsettled) (t ∷ earlier))) (append-nil took.out)
           (among_both took.out (all_in (λ u. u.unsettled) earlier) [] t.unsettled took.some (none_among t.unsettled));
       without = subst (λ l. IsWithout l (ended_commands (t ∷ earlier)) (all_in (λ u. u.taken) (t ∷ earlier))) (append-nil took.out)
-          (without_both took.out (ended_commands earlier) (all_in (λ u. u.taken) earlier) [] (settled_commands t ++ t.unsettled) t.taken took.without
-          (subst (IsWithout [] (settled_commands t ++ t.unsettled)) (sym more) (none_out (settled_commands t ++ t.unsettled))));
+          (without_both took.out (ended_commands earlier) (all_in (λ u. u.taken) earlier) [] (ended_in t) t.taken took.without
+          (subst (IsWithout [] (ended_in t)) (ended_so t so ∙ sym more) (none_out (ended_in t))));
     }
 
-took_all_but : (t : link.Account) (earlier : List link.Account) → AreInARow t earlier → TookAllBut earlier
-took_all_but t [] row = record { out = []; some = refl; without = (refl, refl) }
-took_all_but t (u ∷ earlier) ((waiting, events, leaves, more, waits), row) = one_more u waiting events earlier leaves (took_all_but u earlier row)
+took_all_but : (t : link.Account) (earlier : List link.Account) → AreUndisturbed earlier → AreInARow t earlier → TookAllBut earlier
+took_all_but t [] so row = record { out = []; some = refl; without = (refl, refl) }
+took_all_but t (u ∷ earlier) so ((waiting, events, leaves, more, waits), row) =
+    one_more u waiting events earlier so.0 (undisturbed_leaves.one u waiting events so.0 leaves) (took_all_but u earlier so.1 row)
 
 -- the last session has taken a beginning of its own
-pub are_taken_once : (a : Account) (t : link.Account) (earlier : List link.Account) → IsOf a t earlier → AreInARow t earlier
+pub are_taken_once : (a : Account) (t : link.Account) (earlier : List link.Account) → AreUndisturbed earlier → IsOf a t earlier → AreInARow t earlier
     → IsBeginning t.taken t.issued → AreTakenOnce a
-are_taken_once a t earlier lists row (rest, is) =
-    let before = took_all_but t earlier row in
+are_taken_once a t earlier so lists row (rest, is) =
+    let before = took_all_but t earlier so row in
     let taken = all_in (λ u. u.taken) earlier in
     record {
       left_out = before.out;

@@ -19,6 +19,7 @@ use Rattle.osdp_bus.specs.declared.config.BusConfig.{BusConfig}
 use Rattle.osdp_bus.specs.declared.device.Device.{Device}
 use Rattle.osdp_bus.specs.declared.fault.BusFault.{BusFault}
 use Rattle.osdp_bus.specs.declared.fault.BusFault.TheVariants.{AddressTaken}
+use Rattle.osdp_link_laws.specs.Sessions.{IsAmong}
 use Rattle.osdp_link_laws.proofs.Lines.{each_of}
 use Rattle.osdp_link_laws.proofs.Stages.{Each}
 use Rattle.osdp_sim.specs.Account.{Account}
@@ -27,7 +28,7 @@ use Rattle.osdp_sim.specs.declared.step.SimStep.TheVariants.{Issue, Queue}
 use Rattle.osdp_sim_bus.specs.Runs.{run, steps_done}
 use Rattle.osdp_sim_bus.specs.State.{Given, LineState, Site, begun_device, new_site, set_up}
 use Rattle.osdp_sim_bus.specs.Steps.{after_step, changed_site, is_there, issued, site_issues, site_queues, site_queues_unless}
-use Rattle.osdp_sim_laws.specs.Accepted.{IsAmong, but_poll, commands_for, events_for}
+use Rattle.osdp_sim_laws.specs.Accepted.{but_poll, commands_for, events_for}
 use Rattle.osdp_sim_laws.proofs.Accepting.{Accepts, IsNoOrder, accepted, counts, none_accepted, one_accepted, one_less, one_refused, submit_is}
 use Rattle.osdp_sim_bus_laws.specs.Accepted.{AcceptsFor, EachAccepts, IsNoComset}
 use Rattle.osdp_sim_bus_laws.proofs.Places.{StaysAt, get_changed, get_set, other_changed, stays_all, stays_changed}

@@ -8,7 +8,7 @@ use Rattle.osdp_bus.specs.Machine.{most_devices}
 use Rattle.osdp_bus.specs.Settings.{controller_config}
 use Rattle.osdp_bus.specs.declared.config.BusConfig.{BusConfig}
 use Rattle.osdp_link_laws.specs.Link.{new_account}
-use Rattle.osdp_link_laws.specs.Names.{BeginsTogether}
+use Rattle.osdp_multidrop.specs.Names.{BeginsTogether}
 use Rattle.osdp_link_laws.proofs.Numbers.{is_true}
 use Rattle.osdp_multidrop.specs.Line as line
 use Rattle.osdp_multidrop.specs.Line.{Net, site_at}

@@ -7,9 +7,10 @@ use Rattle.osdp_controller.specs.States.{is_closed}
 use Rattle.osdp_reader.specs.declared.config.ReaderConfig.{ReaderConfig}
 use Rattle.osdp_reader.specs.declared.handler.Answer.{Answer}
 use Rattle.osdp_bus.specs.declared.config.BusConfig.{BusConfig}
-use Rattle.osdp_link_laws.specs.Headline.{AreOnce}
 use Rattle.osdp_link_laws.specs.Link as link
-use Rattle.osdp_link_laws.specs.Sessions.{AreInARow, LastsOrLeaves, settled_commands, ended_commands}
+use Rattle.osdp_link_laws.specs.OneHandler.{AreOnce}
+use Rattle.osdp_link_laws.specs.Ordinary.{AreUndisturbed}
+use Rattle.osdp_link_laws.specs.Sessions.{AreInARow, LastsOrLeaves, ended_commands, ended_in}
 use Rattle.osdp_link_laws.proofs.Lines.{each_all}
 use Rattle.osdp_multidrop.specs.Line as line
 use Rattle.osdp_multidrop.specs.Line.{Net, run}
@@ -38,27 +39,28 @@ module _ {H : Type 0} where
   module _ (answer_of : H → Command → Answer) (after : H → Command → H) where
     -- the account of a reader, from what holds of its site
     site_in_a_row : (config : ReaderConfig) (handler : H) (k : ℕ) (u : Site H) (t : line.Site H) (n : Net H) → IsSiteOf u t
-        → AreOnce answer_of after config handler (t.account ∷ t.earlier) → AreInARow t.account t.earlier
+        → AreOnce answer_of after config handler (t.account ∷ t.earlier) → AreUndisturbed (t.account ∷ t.earlier) → AreInARow t.account t.earlier
         → LastsOrLeaves t.controller.session.state (view k t n) → IsInARow answer_of after config handler u.account
-    site_in_a_row config handler k u t n is once row lasts =
+    site_in_a_row config handler k u t n is once so row lasts =
         let a = u.account in
         let closed = is_closed t.controller.session.state in
         let ended = subst (λ m. length a.ends + 1 ≡ length a.sessions + m) (counts_alike closed) is.ended in
         let last : LastsOrHasEnded a t.account = last_one answer_of after t.controller.session.state a (view k t n) lasts ended in
-        let first = told_first answer_of after config _ a t.account once.0 last in
+        let first = told_first answer_of after config _ a t.account so.0 once.0 last in
         record {
           last = t.account;
           earlier = t.earlier;
           lists = is.tells;
+          undisturbed = so;
           once = once;
           row = row;
           told = (
             first.0,
             is.tells.issued ∙ ap (λ cs. ended_commands t.earlier ++ cs) first.1
-                ∙ sym (append_assoc (ended_commands t.earlier) (settled_commands t.account ++ t.account.unsettled) first.0),
+                ∙ sym (append_assoc (ended_commands t.earlier) (ended_in t.account) first.0),
           );
           unsettled = each_all (λ (v : link.Account). length v.unsettled ≤ 1) (t.account ∷ t.earlier)
-              (each_one answer_of after t.account t.earlier (one_unsettled answer_of after a t.account last) row);
+              (each_one answer_of after t.account t.earlier (one_unsettled answer_of after a t.account so.0 last) so.1 row);
           ends = last;
           causes = each_all IsNoRefusal a.ends is.causes;
         }
@@ -121,7 +123,7 @@ module _ {H : Type 0} where
               let once = holds first done.0 up done.1 k site t there its.moved.there in (
                 mine.0.account,
                 account_at k mine.0 s.sites mine.1,
-                site_in_a_row given.0 given.2 k mine.0 t last mine.2 once row.row row.lasts,
+                site_in_a_row given.0 given.2 k mine.0 t last mine.2 once row.undisturbed row.row row.lasts,
               )
 
       pub all_in_a_row : StaysInARow answer_of after

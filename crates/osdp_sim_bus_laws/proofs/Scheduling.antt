@@ -3,16 +3,20 @@ use Rattle.std.proofs.Common.{◌≡◌, ℕ, true, List, [], ◌∷◌, ◌++�
 use Rattle.osdp_frame.specs.Packet.{Packet}
 use Rattle.osdp_msg.specs.declared.command.Command.{Command}
 use Rattle.osdp_reader.specs.declared.handler.Answer.{Answer}
-use Rattle.osdp_link_laws.specs.Headline.{SaysAllPlainly}
 use Rattle.osdp_link_laws.specs.Link as link
-use Rattle.osdp_link_laws.specs.Peers.{IsPlainlySaid, ReadEachOther}
+use Rattle.osdp_link_laws.specs.Peers.{IsPlainlySaid}
+use Rattle.osdp_link_laws.specs.Ordinary.{IsOrdinary}
+use Rattle.osdp_link_laws.specs.Refusals.{SaysAllPlainly}
 use Rattle.osdp_link_laws.proofs.Lines.{each_all, each_of}
+use Rattle.osdp_link_laws.proofs.Ordinary.{moves_so}
+use Rattle.osdp_link_laws.proofs.OrdinaryRuns.{begins_so}
 use Rattle.osdp_link_laws.proofs.Stages.{Each}
 use Rattle.osdp_multidrop.specs.Line.{Net, NetMove, after_net, run}
 use Rattle.osdp_multidrop.specs.Runs.{NetMovesFit, EachIsALink, EachStaysInARow, IsSetUp, moves_of}
 use Rattle.osdp_multidrop.specs.Views.{own, view}
 use Rattle.osdp_multidrop.proofs.Apart.{IsSited, each_by_owner}
 use Rattle.osdp_multidrop.proofs.Fitting.{was_there}
+use Rattle.osdp_multidrop.proofs.Linked.{OfALink}
 use Rattle.osdp_multidrop.proofs.Running.{holds_all, holds_first}
 use Rattle.osdp_sim.specs.declared.step.SimStep.{SimStep}
 use Rattle.osdp_sim_bus.specs.Runs as simulation
@@ -38,13 +42,16 @@ module _ {H : Type 0} (answer_of : H → Command → Answer) (after : H → Comm
   was_always [] k n is = is
   was_always (m ∷ ms) k n is = was_there answer_of after m k n (was_always ms k (after_net answer_of after m n) is)
 
-  module _ (steps_move : StepsAreMoves answer_of after) (peers : ReadEachOther answer_of after) (links : EachIsALink answer_of after)
+  module _ (steps_move : StepsAreMoves answer_of after) (given : OfALink answer_of after) (links : EachIsALink answer_of after)
       (plainly : SaysAllPlainly answer_of after) (rows : EachStaysInARow answer_of after) where
     known : (first : Net H) (ms : List NetMove) → IsSetUp first → NetMovesFit answer_of after ms first → IsKnown (run answer_of after ms first)
     known first ms up fits = record {
       plain = each_all (λ (q : ℕ × Packet). IsPlainlySaid q.1) n.to_controllers
           (each_by_owner (IsSited n.sites) (λ k p. IsPlainlySaid p) n.to_controllers own_are
-          (holds_all answer_of after peers ms first fits (holds_first answer_of after peers first up)).apart.controllers.sited);
+          (holds_all answer_of after given ms first fits (holds_first answer_of after given first up)).apart.controllers.sited);
+      accounts = λ k t is.
+          let old = was_always ms k first (t, is) in
+          (rows first ms up fits k old.0 t old.1 is).undisturbed.0;
       leaves = λ k t is. let old = was_always ms k first (t, is) in (rows first ms up fits k old.0 t old.1 is).lasts;
     }
       where
@@ -55,8 +62,11 @@ module _ {H : Type 0} (answer_of : H → Command → Answer) (after : H → Comm
         own_are k is =
             let old = was_always ms k first is in
             let its = links first ms up fits k old.0 old.1 in
+            let l = view k old.0 first in
+            let moves = moves_of answer_of after k ms first in
+            let begun = (up.begins k old.0 old.1).begins in
             each_of IsPlainlySaid (own k n.to_controllers) (subst (λ (l : link.Link H). All IsPlainlySaid l.to_controller) (sym its.moved.moved)
-            (plainly (view k old.0 first) (moves_of answer_of after k ms first) (up.begins k old.0 old.1).begins its.fits))
+            (plainly l moves begun its.fits (moves_so answer_of after moves l (each_of IsOrdinary moves its.ordinary) (begins_so l begun)).0.restarts))
 
     scheduled : (steps : List SimStep) (s : LineState H) (first : Net H) (ms : List NetMove) → IsSetUp first → NetMovesFit answer_of after ms first
         → Follows s (run answer_of after ms first) → simulation.is_well answer_of after steps s ≡ true → FitAlong answer_of after steps s

@@ -148,7 +148,7 @@ module _ {H : Type 0} (answer_of : H → Command → Answer) (after : H → Comm
       let o = reader.hears answer_of after t.reader p in
       subst (λ r. IsSiteOf (site_hears answer_of after p (record { reader = r; account = u.account })) (line.hears answer_of after p t)) (sym h.reader) (record {
         reader = refl;
-        tells = tells_taken (reader.kind_of t.reader p) o.command (link.front_of t.reader) u.account t.account t.earlier h.tells;
+        tells = tells_taken (reader.kind_of t.reader p) o.command o.said (link.front_of t.reader) u.account t.account t.earlier h.tells;
         ended = h.ended;
         causes = h.causes;
       })

@@ -18,6 +18,7 @@ use Rattle.osdp_bus.specs.Machine.{begin_refusal_of, begin_refusal_at, bus_fault
 use Rattle.osdp_bus.specs.declared.device.Device.{Device}
 use Rattle.osdp_link_laws.specs.Peers.{IsPlainlySaid}
 use Rattle.osdp_link_laws.specs.Link as link
+use Rattle.osdp_link_laws.specs.Ordinary.{IsUndisturbed}
 use Rattle.osdp_link_laws.specs.Sessions.{LastsOrLeaves, Leaves}
 use Rattle.osdp_link_laws.proofs.Lines.{each_of}
 use Rattle.osdp_multidrop.specs.Line as line
@@ -75,15 +76,16 @@ module _ {H : Type 0} (answer_of : H → Command → Answer) (after : H → Comm
   leaves_closed (Pausing until o) l e lasts = absurd cc
 
   site_begun : (now : ℕ) (u : Site H) (t : line.Site H) → is_closed t.controller.session.state ≡ true
-      → Leaves t.account t.controller.waiting t.reader.queue.events → IsSiteOf u t → IsSiteOf (site_begins u) (line.begins now t)
-  site_begun now u t closed leaves is =
+      → Leaves t.account t.controller.waiting t.reader.queue.events → IsUndisturbed t.account → IsSiteOf u t
+      → IsSiteOf (site_begins u) (line.begins now t)
+  site_begun now u t closed leaves so is =
       let one : count (is_closed t.controller.session.state) ≡ 1 = ap count closed in
       let before = is.ended in
       let ended : length u.account.ends ≡ length u.account.sessions = omega (arith, before, one) in
       let more = length-append u.account.sessions (lengths_of u.account ∷ []) in
       record {
         reader = is.reader;
-        tells = tells_session u.account t.account t.controller.waiting t.reader.queue.events t.earlier leaves ended is.tells;
+        tells = tells_session u.account t.account t.controller.waiting t.reader.queue.events t.earlier leaves so ended is.tells;
         ended = omega (arith, ended, more);
         causes = is.causes;
       }
@@ -116,7 +118,7 @@ module _ {H : Type 0} (answer_of : H → Command → Answer) (after : H → Comm
               (tt, tt),
               subst (Follows (reopened place s)) (sym same) (record {
                 bus = subst (λ (m : Net H). IsBusOf (reopened place s).bus m.sites) same (given.begins s.bus n place s.clock h.bus to_readers to_controllers refusal);
-                sites = one_changes place site_begins t (line.begins g t) s.sites n.sites h.sites at (λ u is. site_begun g u t closed leaves is);
+                sites = one_changes place site_begins t (line.begins g t) s.sites n.sites h.sites at (λ u is. site_begun g u t closed leaves (known.accounts place t at) is);
                 to_readers = h.to_readers;
                 to_bus = h.to_bus;
                 asked = h.asked;

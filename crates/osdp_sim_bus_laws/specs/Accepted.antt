@@ -4,11 +4,12 @@ use Rattle.osdp_msg.specs.declared.command.Command.{Command}
 use Rattle.osdp_controller.specs.Hearing.{comset_of}
 use Rattle.osdp_reader.specs.declared.handler.Answer.{Answer}
 use Rattle.osdp_bus.specs.declared.config.BusConfig.{BusConfig}
+use Rattle.osdp_link_laws.specs.Sessions.{IsAmong}
 use Rattle.osdp_sim.specs.Account.{Account}
 use Rattle.osdp_sim.specs.declared.step.SimStep.{SimStep}
 use Rattle.osdp_sim_bus.specs.Runs.{steps_done}
 use Rattle.osdp_sim_bus.specs.State.{Given}
-use Rattle.osdp_sim_laws.specs.Accepted.{IsAccepted, IsAmong, commands_for, events_for}
+use Rattle.osdp_sim_laws.specs.Accepted.{IsAccepted, commands_for, events_for}
 use Rattle.osdp_sim_bus_laws.specs.Accounts.{BusAnswer, IsAnswer, WasSetUp, accounts_in}
 
 -- a COMSET is refused too where another device takes up its address

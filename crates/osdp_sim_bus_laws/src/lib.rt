@@ -25,6 +25,7 @@ pub fn schedules_are_moves<H: Handler>()
     osdp_bus_links::calls_are_moves::<H>();
     osdp_link_laws::read_each_other::<H>();
     osdp_link_laws::refuses_no_number::<H>();
+    osdp_link_laws::names::name_one_device::<H>();
     osdp_multidrop::each_is_a_link::<H>();
 }
 

@@ -26,6 +26,7 @@ use Rattle.osdp_reader.specs.declared.handler.Answer.{Answer}
 use Rattle.osdp_reader.specs.declared.kind.Kind.{Kind}
 use Rattle.osdp_reader.specs.declared.kind.Kind.TheVariants as kind
 use Rattle.osdp_link_laws.specs.Headline.{IsBeginning}
+use Rattle.osdp_link_laws.specs.Sessions.{IsAmong}
 use Rattle.osdp_link_laws.proofs.Lines.{both}
 use Rattle.osdp_sim.specs.Account.{Account}
 use Rattle.osdp_sim.specs.Line.{handed, left}
@@ -37,7 +38,7 @@ use Rattle.osdp_sim.specs.declared.config.SimConfig.{SimConfig}
 use Rattle.osdp_sim.specs.declared.fault.Cause.{Cause}
 use Rattle.osdp_sim.specs.declared.step.SimStep.{SimStep}
 use Rattle.osdp_sim.specs.declared.step.SimStep.TheVariants.{Issue, Queue, Busy, Wait, ToReader, ToController, Reopen}
-use Rattle.osdp_sim_laws.specs.Accepted.{AcceptsByRoom, IsAccepted, IsAcceptedByRoom, IsAmong, but_poll, commands_of, events_of}
+use Rattle.osdp_sim_laws.specs.Accepted.{AcceptsByRoom, IsAccepted, IsAcceptedByRoom, but_poll, commands_of, events_of}
 use Rattle.osdp_sim_laws.specs.Accounts.{account_in}
 use Rattle.osdp_sim_laws.proofs.Accounts.{report_leaves}
 

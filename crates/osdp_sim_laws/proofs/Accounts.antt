@@ -12,9 +12,11 @@ use Rattle.osdp_controller.specs.declared.report.Report.TheVariants as report
 use Rattle.osdp_reader.specs.declared.kind.Kind.{Kind}
 use Rattle.osdp_reader.specs.declared.kind.Kind.TheVariants as kind
 use Rattle.osdp_link_laws.specs.Link as link
+use Rattle.osdp_link_laws.specs.Ordinary.{IsUndisturbed}
 use Rattle.osdp_link_laws.specs.Refusals as refusals
-use Rattle.osdp_link_laws.specs.Sessions.{Leaves, settled_commands, ended_commands}
+use Rattle.osdp_link_laws.specs.Sessions.{Leaves, ended_commands, ended_in}
 use Rattle.osdp_link_laws.proofs.Lines.{each_append}
+use Rattle.osdp_link_laws.proofs.Ordinary.{undisturbed_leaves}
 use Rattle.osdp_link_laws.proofs.Stages.{Each}
 use Rattle.osdp_sim.specs.Account.{Account, lengths_of, taken_by, taken_command, with_report, with_session, with_taken}
 use Rattle.osdp_sim.specs.declared.account.End.{End}
@@ -26,9 +28,9 @@ use Rattle.osdp_sim_laws.specs.Accounts.{AreOver, IsNoRefusal, IsOf, all_in}
 later : {A : Type 0} (xs before last more : List A) → xs ≡ before ++ last → xs ++ more ≡ before ++ (last ++ more)
 later xs before last more is = ap (λ l. l ++ more) is ∙ append_assoc before last more
 
-after_taken : (more : List Command) (a : Account) (t : link.Account) (earlier : List link.Account) → IsOf a t earlier
-    → IsOf (with_taken more a) (record t { taken = t.taken ++ more }) earlier
-after_taken more a t earlier h = record {
+after_taken : (more : List Command) (given : List (Command × Reply)) (a : Account) (t : link.Account) (earlier : List link.Account) → IsOf a t earlier
+    → IsOf (with_taken more a) (record t { taken = t.taken ++ more; given = given }) earlier
+after_taken more given a t earlier h = record {
   taken = later a.taken (all_in (λ t. t.taken) earlier) t.taken more h.taken;
   settled = h.settled;
   unsettled = h.unsettled;
@@ -88,16 +90,16 @@ none_taken offered a t earlier h = record {
 }
 
 -- a command that is taken: POLL is none of them
-taken_alike : (c : Command) (front : List Event) (a : Account) (t : link.Account) (earlier : List link.Account) → IsOf a t earlier
-    → IsOf (with_taken (taken_command (Some c)) a) (link.taken_command c front t) earlier
-taken_alike command.Poll front a t earlier h = none_taken (t.offered ++ front) a t earlier h
-taken_alike c front a t earlier h = after_taken (c ∷ []) a t earlier h
+taken_alike : (c : Command) (said : Option Reply) (front : List Event) (a : Account) (t : link.Account) (earlier : List link.Account) → IsOf a t earlier
+    → IsOf (with_taken (taken_command (Some c)) a) (link.taken_command c said front t) earlier
+taken_alike command.Poll said front a t earlier h = none_taken (t.offered ++ front) a t earlier h
+taken_alike c said front a t earlier h = after_taken (c ∷ []) (t.given ++ link.given_to c said) a t earlier h
 
-pub tells_taken : (k : Kind) (c : Option Command) (front : List Event) (a : Account) (t : link.Account) (earlier : List link.Account) → IsOf a t earlier
-    → IsOf (with_taken (taken_by k c) a) (link.taken k c front t) earlier
-tells_taken kind.Taken (Some c) front a t earlier h = taken_alike c front a t earlier h
-tells_taken kind.Taken None front a t earlier h = none_taken t.offered a t earlier h
-tells_taken k c front a t earlier h = none_taken t.offered a t earlier h
+pub tells_taken : (k : Kind) (c : Option Command) (said : Option Reply) (front : List Event) (a : Account) (t : link.Account) (earlier : List link.Account) → IsOf a t earlier
+    → IsOf (with_taken (taken_by k c) a) (link.taken k c said front t) earlier
+tells_taken kind.Taken (Some c) said front a t earlier h = taken_alike c said front a t earlier h
+tells_taken kind.Taken None said front a t earlier h = none_taken t.offered a t earlier h
+tells_taken k c said front a t earlier h = none_taken t.offered a t earlier h
 
 -- more events come after all of them
 over_more : (cuts : List Lengths) (next more : List Event) (earlier : List link.Account) (gone : List Event) → AreOver cuts next earlier gone
@@ -146,7 +148,7 @@ tells_issued command a t earlier h = record {
 }
 
 pub tells_queued : (event : Event) (a : Account) (t : link.Account) (earlier : List link.Account) → IsOf a t earlier
-    → IsOf (record a { queued = a.queued ++ event ∷ [] }) (record t { queued = t.queued ++ event ∷ [] }) earlier
+    → IsOf (record a { queued = a.queued ++ event ∷ [] }) (record t { queued = t.queued ++ event ∷ []; kept = t.kept ++ event ∷ [] }) earlier
 tells_queued event a t earlier h = record {
   issued = h.issued;
   queued = (
@@ -162,15 +164,16 @@ tells_queued event a t earlier h = record {
 
 -- a session begins with what the one before has left, which has ended
 pub tells_session : (a : Account) (t : link.Account) (waiting : List Command) (events : List Event) (earlier : List link.Account)
-    → Leaves t waiting events → length a.ends ≡ length a.sessions → IsOf a t earlier
+    → Leaves t waiting events → IsUndisturbed t → length a.ends ≡ length a.sessions → IsOf a t earlier
     → IsOf (with_session a) (link.new_account waiting events) (t ∷ earlier)
-tells_session a t waiting events earlier leaves ended h =
+tells_session a t waiting events earlier all so ended h =
+    let leaves = undisturbed_leaves.one t waiting events so all in
     let gone = h.queued.0 in
     let left = leaves.reported in
     record {
       issued = h.issued
-          ∙ ap (λ all. ended_commands earlier ++ all) (leaves.commands ∙ sym (append_assoc (settled_commands t) t.unsettled waiting))
-          ∙ sym (append_assoc (ended_commands earlier) (settled_commands t ++ t.unsettled) waiting);
+          ∙ ap (λ cs. ended_commands earlier ++ cs) all.of_commands.commands
+          ∙ sym (append_assoc (ended_commands earlier) (ended_in t) waiting);
       queued = (
         gone ++ left.0,
         (

@@ -17,6 +17,7 @@ use Rattle.osdp_controller.specs.declared.state.State.{State}
 use Rattle.osdp_reader.specs.State as readers
 use Rattle.osdp_link_laws.specs.Link as link
 use Rattle.osdp_link_laws.specs.Link.{Link}
+use Rattle.osdp_link_laws.specs.Ordinary.{IsUndisturbed}
 use Rattle.osdp_link_laws.specs.Refusals as refusals
 use Rattle.osdp_link_laws.specs.Sessions as sessions
 use Rattle.osdp_link_laws.specs.Sessions.{Leaves}
@@ -151,6 +152,7 @@ module _ {H : Type 0} where
   -- the session has ended, and leaves what the next one begins with
   pub record HasLeft (l : Link H) (a : Account) : Type 0 where
     pub leaves : Leaves l.account l.controller.waiting l.reader.queue.events
+    pub undisturbed : IsUndisturbed l.account
     pub ended : length a.ends ≡ length a.sessions
 
   -- a session begins again where nothing is on the line and the one before has ended
@@ -159,7 +161,7 @@ module _ {H : Type 0} where
   begins_again l clock a left packets tells = record {
     state = refl;
     packets = record { to_reader = packets.to_reader; to_controller = packets.to_controller };
-    tells = tells_session a l.account l.controller.waiting l.reader.queue.events l.earlier left.leaves left.ended tells;
+    tells = tells_session a l.account l.controller.waiting l.reader.queue.events l.earlier left.leaves left.undisturbed left.ended tells;
     issued = sym (append-nil a.issued);
     queued = sym (append-nil a.queued);
     causes = λ told well. well;

@@ -15,11 +15,11 @@ use Rattle.osdp_reader.specs.declared.handler.Answer.{Answer}
 use Rattle.osdp_link_laws.specs.Clean as clean
 use Rattle.osdp_link_laws.specs.Link as link
 use Rattle.osdp_link_laws.specs.Link.{Delivered, Link}
+use Rattle.osdp_link_laws.specs.OneHandler.{with_answers}
 use Rattle.osdp_link_laws.specs.Progress as progress
 use Rattle.osdp_link_laws.specs.Progress.{SetsNoAddress}
 use Rattle.osdp_link_laws.specs.Sessions.{all_submitted, ended_commands}
 use Rattle.osdp_link_laws.specs.Headline as headline
-use Rattle.osdp_link_laws.specs.Headline.{with_answers}
 use Rattle.osdp_link_laws.proofs.Lines.{each_all, each_append, each_front, each_of}
 use Rattle.osdp_link_laws.proofs.Stages.{Each}
 use Rattle.osdp_link_laws.specs.Ends.{count}
@@ -64,24 +64,24 @@ orders_within : (orders : List SimStep) → Each IsOrder orders → Each IsInSes
 orders_within [] are = tt
 orders_within (step ∷ orders) are = (order_within step are.0, orders_within orders are.1)
 
-there_order : (there : Bool) (m : link.Move) → clean.IsOrder m → Each clean.IsOrder (if there then m ∷ [] else [])
+there_order : {H : Type 0} (there : Bool) (m : link.Move H) → clean.IsOrder m → Each clean.IsOrder (if there then m ∷ [] else [])
 there_order true m is = (is, tt)
 there_order false m is = tt
 
 -- to the link they are orders too, and no time passes
-orders_are : (orders : List SimStep) (clock : ℕ) → Each IsOrder orders → Each clean.IsOrder (moves_of orders clock) × (clock_after orders clock ≡ clock)
-orders_are [] clock are = (tt, refl)
-orders_are (Issue number c ∷ orders) clock are =
-    let rest = orders_are orders clock are.1 in
+orders_are : (H : Type 0) (orders : List SimStep) (clock : ℕ) → Each IsOrder orders → Each (clean.IsOrder {H = H}) (moves_of orders clock) × (clock_after orders clock ≡ clock)
+orders_are H [] clock are = (tt, refl)
+orders_are H (Issue number c ∷ orders) clock are =
+    let rest = orders_are H orders clock are.1 in
     (each_append clean.IsOrder _ (moves_of orders clock) (there_order (number == 1) (link.Submit c) tt) rest.0, rest.1)
-orders_are (Queue number e ∷ orders) clock are =
-    let rest = orders_are orders clock are.1 in
+orders_are H (Queue number e ∷ orders) clock are =
+    let rest = orders_are H orders clock are.1 in
     (each_append clean.IsOrder _ (moves_of orders clock) (there_order (number == 1) (link.Queue e) tt) rest.0, rest.1)
-orders_are (Busy number busy ∷ orders) clock are = absurd are.0
-orders_are (Wait wait ∷ orders) clock are = absurd are.0
-orders_are (ToReader move ∷ orders) clock are = absurd are.0
-orders_are (ToController move ∷ orders) clock are = absurd are.0
-orders_are (Reopen number ∷ orders) clock are = absurd are.0
+orders_are H (Busy number busy ∷ orders) clock are = absurd are.0
+orders_are H (Wait wait ∷ orders) clock are = absurd are.0
+orders_are H (ToReader move ∷ orders) clock are = absurd are.0
+orders_are H (ToController move ∷ orders) clock are = absurd are.0
+orders_are H (Reopen number ∷ orders) clock are = absurd are.0
 
 -- rounds order nothing
 rounds_order : (m wait : ℕ) → (commands_of (rounds m wait) ≡ []) × (events_of (rounds m wait) ≡ [])
@@ -92,7 +92,7 @@ clean_within : (n : ℕ) → Each IsInSession (clean_rounds n)
 clean_within n = (tt, (tt, (tt, rounds_within n 50)))
 
 -- they are the rounds of the link
-clean_are : (n : ℕ) → let opening = moment_after 400 0 in moves_of (clean_rounds n) 0 ≡ progress.rounds (opening ∷ moments_of n 50 opening)
+clean_are : {H : Type 0} (n : ℕ) → let opening = moment_after 400 0 in moves_of {H = H} (clean_rounds n) 0 ≡ progress.rounds (opening ∷ moments_of n 50 opening)
 clean_are n =
     let now = moment_after 400 0 in
     ap (λ ms. link.Tick now ∷ link.ToReader Delivered ∷ link.ToController Delivered now ∷ ms) (rounds_are n 50 now)
@@ -280,7 +280,7 @@ module _ {H : Type 0} (answer_of : H → Command → Answer) (after : H → Comm
     pub reported : a.reported ≡ t.reported
     pub sessions : length a.sessions ≡ 1
 
-  same_lists : (config : SimConfig) (handler : H) (s : SimState H) (ms : List link.Move) (clock : ℕ)
+  same_lists : (config : SimConfig) (handler : H) (s : SimState H) (ms : List (link.Move H)) (clock : ℕ)
       → Follows answer_of after s ms (first_link config handler) clock no_account → Each (IsWithin answer_of after) ms
       → SameLists s.account (link.run answer_of after ms (first_link config handler)).account
   same_lists config handler s ms clock follows within =
@@ -333,7 +333,7 @@ module _ {H : Type 0} (answer_of : H → Command → Answer) (after : H → Comm
       let from = goes_from_first answer_of after given config handler device in
       let first = schedule_follows answer_of after given.reads given.told orders l 0 no_account from well.0 fits.0 in
       let ms = moves_of orders 0 in
-      let are_moves = orders_are orders 0 are in
+      let are_moves = orders_are H orders 0 are in
       let later = link.run answer_of after ms l in
       let before = run answer_of after orders start in
       let there : before ≡ in_bytes later 0 before.account = first.carried.state ∙ ap (λ c. in_bytes later c before.account) are_moves.1 in

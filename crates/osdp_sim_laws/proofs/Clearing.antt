@@ -72,7 +72,7 @@ module _ {H : Type 0} where
     reader_few n Lost (p ∷ ps) l is few = let size = ap length is in (omega (arith, few.0, size), omega (arith, few.1))
     reader_few n Repeated (p ∷ ps) l is few = gets_few n p l few
 
-    where_few : (n : ℕ) (there : Bool) (m : link.Move) (l : Link H) → AtMost n l → AtMost (n + 1) (link.after_move answer_of after m l)
+    where_few : (n : ℕ) (there : Bool) (m : link.Move H) (l : Link H) → AtMost n l → AtMost (n + 1) (link.after_move answer_of after m l)
         → AtMost (n + 1) (link.run answer_of after (if there then m ∷ [] else []) l)
     where_few n true m l few later = later
     where_few n false m l few later = more n l few
@@ -93,7 +93,7 @@ module _ {H : Type 0} where
     step_few n (Reopen number) clock l few =
         where_few n (number == 1) (link.Reopen clock) l few (begins_few n (controllers.begin_refusal l.controller) l.to_reader l.to_controller clock l few)
 
-    on_both : (ms ns : List link.Move) (l : Link H) → link.run answer_of after (ms ++ ns) l ≡ link.run answer_of after ns (link.run answer_of after ms l)
+    on_both : (ms ns : List (link.Move H)) (l : Link H) → link.run answer_of after (ms ++ ns) l ≡ link.run answer_of after ns (link.run answer_of after ms l)
     on_both [] ns l = refl
     on_both (m ∷ ms) ns l = on_both ms ns (link.after_move answer_of after m l)
 

@@ -18,6 +18,8 @@ use Rattle.osdp_link_laws.specs.Progress.{SetsNoAddress}
 use Rattle.osdp_link_laws.specs.Addresses.{StayWhereTheyAre}
 use Rattle.osdp_link_laws.specs.Sessions.{HaveLeft, all_queued, all_submitted, ended_commands}
 use Rattle.osdp_link_laws.proofs.Lines.{each_all, each_append, each_front, each_of}
+use Rattle.osdp_link_laws.proofs.Ordinary.{moves_so}
+use Rattle.osdp_link_laws.proofs.OrdinaryRuns.{begins_so, set_no_other}
 use Rattle.osdp_link_laws.proofs.Stages.{Each}
 use Rattle.osdp_link_laws.specs.Ends.{count}
 use Rattle.osdp_sim.specs.Account.{Account}
@@ -51,7 +53,7 @@ count_of zero wait clock = refl
 count_of (suc m) wait clock = ap suc (count_of m wait (moment_after wait clock))
 
 -- the rounds are those of the link
-pub rounds_are : (m wait clock : ℕ) → moves_of (rounds m wait) clock ≡ progress.rounds (moments_of m wait clock)
+pub rounds_are : {H : Type 0} (m wait clock : ℕ) → moves_of {H = H} (rounds m wait) clock ≡ progress.rounds (moments_of m wait clock)
 rounds_are zero wait clock = refl
 rounds_are (suc m) wait clock =
     let now = moment_after wait clock in
@@ -68,7 +70,7 @@ none_on (p ∷ ps) e = absurd cc
 module _ {H : Type 0} (answer_of : H → Command → Answer) (after : H → Command → H) where
   -- ---- no moment lies before the clock
 
-  where_in_time : (clock wait : ℕ) (there : Bool) (m : link.Move) (l : Link H) → LinkInTime clock wait l
+  where_in_time : (clock wait : ℕ) (there : Bool) (m : link.Move H) (l : Link H) → LinkInTime clock wait l
       → LinkInTime clock wait (link.after_move answer_of after m l) → LinkInTime clock wait (link.run answer_of after (if there then m ∷ [] else []) l)
   where_in_time clock wait true m l is later = later
   where_in_time clock wait false m l is later = is
@@ -131,8 +133,9 @@ module _ {H : Type 0} (answer_of : H → Command → Answer) (after : H → Comm
     pub reported : length a.reported ≡ length t.reported
     pub issued : a.issued ≡ t.issued
     pub queued : length a.queued ≡ length t.queued
+    pub kept : t.kept ≡ t.queued
 
-  as_long : (given : OneLink answer_of after) (config : SimConfig) (handler : H) (device : config.controller.address < 127) (s : SimState H) (ms : List link.Move) (clock : ℕ)
+  as_long : (given : OneLink answer_of after) (config : SimConfig) (handler : H) (device : config.controller.address < 127) (s : SimState H) (ms : List (link.Move H)) (clock : ℕ)
       → Follows answer_of after s ms (first_link config handler) clock no_account → Each (IsWithin answer_of after) ms
       → AsLong s.account (link.run answer_of after ms (first_link config handler)).account
   as_long given config handler device s ms clock follows within =
@@ -149,6 +152,7 @@ module _ {H : Type 0} (answer_of : H → Command → Answer) (after : H → Comm
         reported = ap length (tells.reported ∙ ap (λ e. all_in (λ t. t.reported) (later.account ∷ e)) none);
         issued = carried.issued ∙ given.commands l ms begun follows.moves ∙ ap (λ e. ended_commands e ++ later.account.issued) none;
         queued = ap length (carried.queued ∙ events.2 ∙ ap (λ e. e ++ later.account.queued) gone);
+        kept = (moves_so answer_of after ms l follows.ordinary (begins_so l begun)).0.kept;
       }
 
   -- ---- steps, and more of them, as moves of the link
@@ -240,12 +244,12 @@ module _ {H : Type 0} (answer_of : H → Command → Answer) (after : H → Comm
             whole.carried.tells.queued.1) none)
         | inr on ↦ (
             let counted = subst (λ k. progress.ComeOn (moments_of m wait clock) later.account k.account) same on in
-            omega (arith, counted, count_of m wait clock, first_lists.settled, first_lists.reported, long_list.settled, long_list.reported, ap length long_list.issued, long_list.queued))
+            omega (arith, counted, count_of m wait clock, first_lists.settled, first_lists.reported, long_list.settled, long_list.reported, ap length long_list.issued, long_list.queued, ap length long_list.kept))
       ])
 
   -- ---- whatever was before
 
-  moves_on : (xs ys : List SimStep) (clock : ℕ) → moves_of (xs ++ ys) clock ≡ moves_of xs clock ++ moves_of ys (clock_after xs clock)
+  moves_on : (xs ys : List SimStep) (clock : ℕ) → moves_of {H = H} (xs ++ ys) clock ≡ moves_of xs clock ++ moves_of ys (clock_after xs clock)
   moves_on [] ys clock = refl
   moves_on (x ∷ xs) ys clock =
       let now = step_clock x clock in
@@ -274,7 +278,8 @@ module _ {H : Type 0} (answer_of : H → Command → Answer) (after : H → Comm
       (subst (Each SetsNoAddress) issued (each_of SetsNoAddress (run answer_of after (all_steps ++ more) start).account.issued none)) in
       let device = is.settings.controller.config_in_range.address in
       let begun = begins config handler device in
-      let kept = stays l ms begun first.moves (each_all SetsNoAddress (all_submitted answer_of after ms l) (subst (Each SetsNoAddress) first.carried.issued none_before)) in
+      let kept = stays l ms begun first.moves (each_all SetsNoAddress (all_submitted answer_of after ms l) (subst (Each SetsNoAddress) first.carried.issued none_before))
+      (set_no_other l.reader.config.address l.controller.session.config.address ms first.ordinary) in
       let middle = link.run answer_of after (moves_of steps 0) l in
       let at_most = steps_few answer_of after 0 steps 0 l (omega arith, omega arith) in
       let few : AtMost (length steps) middle = (omega (arith, at_most.0), omega (arith, at_most.1)) in

@@ -114,7 +114,7 @@ module _ {H : Type 0} where
             to_reader = packets.to_reader;
             to_controller = packets_after l.to_controller o.reply packets.to_controller fits;
           };
-          tells = tells_taken (reader.kind_of l.reader p) o.command (link.front_of l.reader) a l.account l.earlier tells;
+          tells = tells_taken (reader.kind_of l.reader p) o.command o.said (link.front_of l.reader) a l.account l.earlier tells;
           issued = sym (append-nil a.issued);
           queued = sym (append-nil a.queued);
           causes = λ told well. well;

@@ -12,12 +12,15 @@ use Rattle.osdp_controller.specs.declared.state.State.TheVariants.{Closed, Quiet
 use Rattle.osdp_controller.specs.declared.fault.ControllerFault.{ControllerFault}
 use Rattle.osdp_reader.specs.declared.config.ReaderConfig.{ReaderConfig}
 use Rattle.osdp_reader.specs.declared.handler.Answer.{Answer}
-use Rattle.osdp_link_laws.specs.Headline.{AreOnce, Begins, IsBeginning, Once, with_answers}
+use Rattle.osdp_link_laws.specs.Headline.{Begins, IsBeginning}
 use Rattle.osdp_link_laws.specs.Link as link
+use Rattle.osdp_link_laws.specs.OneHandler.{AreOnce, Once, with_answers}
+use Rattle.osdp_link_laws.specs.Ordinary.{AreUndisturbed, IsUndisturbed}
 use Rattle.osdp_link_laws.specs.Refusals as refusals
-use Rattle.osdp_link_laws.specs.Sessions.{AreInARow, LastsOrLeaves, settled_commands, ended_commands}
+use Rattle.osdp_link_laws.specs.Sessions.{AreInARow, LastsOrLeaves, ended_commands, ended_in, settled_commands}
 use Rattle.osdp_link_laws.proofs.Lines.{each_all, each_append, each_of}
-use Rattle.osdp_link_laws.proofs.Sessions.{taken_commands}
+use Rattle.osdp_link_laws.proofs.Ordinary.{moves_so, undisturbed_leaves}
+use Rattle.osdp_link_laws.proofs.OrdinaryRuns.{begins_so, ended_so, keep_device, keep_reader, taken_commands}
 use Rattle.osdp_link_laws.proofs.Stages.{Each}
 use Rattle.osdp_link_laws.specs.Ends.{count}
 use Rattle.osdp_sim.specs.Account.{Account, empty_account, lists_of, with_session}
@@ -71,6 +74,7 @@ module _ {H : Type 0} (answer_of : H → Command → Answer) (after : H → Comm
     tells = tells_nothing;
     ended = refl;
     leave = λ ms moves. given.last (first_link config handler) ms (begins config handler device) moves;
+    undisturbed = begins_so (first_link config handler) (begins config handler device);
   }
 
   pub schedule_is_moves : OneLink answer_of after → ScheduleIsMoves answer_of after
@@ -88,34 +92,34 @@ module _ {H : Type 0} (answer_of : H → Command → Answer) (after : H → Comm
   pub last_one : (state : State) (a : Account) (l : link.Link H) → LastsOrLeaves state l
       → length a.ends + 1 ≡ length a.sessions + count (is_closed state) → LastsOrHasEnded a l.account
   last_one Closed a l leaves ended = inr (omega (arith, ended), (l.controller.waiting, l.reader.queue.events, leaves))
-  last_one (Quiet until) a l lasts ended = inl (omega (arith, ended), lasts)
-  last_one (Idle due) a l lasts ended = inl (omega (arith, ended), lasts)
-  last_one (Waiting until sends o) a l lasts ended = inl (omega (arith, ended), lasts)
-  last_one (Pausing until o) a l lasts ended = inl (omega (arith, ended), lasts)
+  last_one (Quiet until) a l lasts ended = inl (omega (arith, ended), lasts.0)
+  last_one (Idle due) a l lasts ended = inl (omega (arith, ended), lasts.0)
+  last_one (Waiting until sends o) a l lasts ended = inl (omega (arith, ended), lasts.0)
+  last_one (Pausing until o) a l lasts ended = inl (omega (arith, ended), lasts.0)
 
   -- so it told one unsettled at most, and the commands that it settled or told unsettled are a beginning of its own
-  pub one_unsettled : (a : Account) (t : link.Account) → LastsOrHasEnded a t → length t.unsettled ≤ 1
-  one_unsettled a t (inl (lasts, none)) = omega (arith, ap length none)
-  one_unsettled a t (inr (ended, (waiting, events, leaves))) = leaves.unsettled
+  pub one_unsettled : (a : Account) (t : link.Account) → IsUndisturbed t → LastsOrHasEnded a t → length t.unsettled ≤ 1
+  one_unsettled a t so (inl (lasts, none)) = omega (arith, ap length none)
+  one_unsettled a t so (inr (ended, (waiting, events, leaves))) = (undisturbed_leaves.one t waiting events so leaves).unsettled
 
-  pub told_first : (config : ReaderConfig) (handler : H) (a : Account) (t : link.Account) → Once answer_of after config handler t → LastsOrHasEnded a t
-      → IsBeginning (settled_commands t ++ t.unsettled) t.issued
-  told_first config handler a t once (inr (ended, (waiting, events, leaves))) =
-      (waiting, leaves.commands ∙ sym (append_assoc (settled_commands t) t.unsettled waiting))
-  told_first config handler a t once (inl (lasts, none)) =
+  pub told_first : (config : ReaderConfig) (handler : H) (a : Account) (t : link.Account) → IsUndisturbed t → Once answer_of after config handler t → LastsOrHasEnded a t
+      → IsBeginning (ended_in t) t.issued
+  told_first config handler a t so once (inr (ended, (waiting, events, leaves))) = (waiting, leaves.of_commands.commands)
+  told_first config handler a t so once (inl (lasts, none)) =
       let more = map (λ (p : Command × Reply). p.0) once.settled.0 in
       let rest = once.taken.0 in (
         more ++ rest,
         once.taken.1
             ∙ ap (λ cs. cs ++ rest) (sym (taken_commands answer_of after config handler t once.settled.0 (sym once.settled.1)))
             ∙ append_assoc (settled_commands t) more rest
-            ∙ ap (λ cs. cs ++ (more ++ rest)) (sym (ap (λ cs. settled_commands t ++ cs) none ∙ append-nil (settled_commands t))),
+            ∙ ap (λ cs. cs ++ (more ++ rest)) (sym (ended_so t so ∙ ap (λ cs. settled_commands t ++ cs) none ∙ append-nil (settled_commands t))),
       )
 
-  pub each_one : (t : link.Account) (earlier : List link.Account) → length t.unsettled ≤ 1 → AreInARow t earlier
+  pub each_one : (t : link.Account) (earlier : List link.Account) → length t.unsettled ≤ 1 → AreUndisturbed earlier → AreInARow t earlier
       → Each (λ u. length u.unsettled ≤ 1) (t ∷ earlier)
-  each_one t [] few row = (few, tt)
-  each_one t (u ∷ earlier) few ((waiting, events, leaves, commands, waits), row) = (few, each_one u earlier leaves.unsettled row)
+  each_one t [] few so row = (few, tt)
+  each_one t (u ∷ earlier) few so ((waiting, events, leaves, commands, waits), row) =
+      (few, each_one u earlier (undisturbed_leaves.one u waiting events so.0 leaves).unsettled so.1 row)
 
   abbrev pub in_a_row : OneLink answer_of after → (config : SimConfig) (handler : H) (steps : List SimStep) → IsRun answer_of after config handler steps
       → IsInARow answer_of after config.reader handler (run answer_of after steps (set_up config handler)).account
@@ -130,35 +134,37 @@ module _ {H : Type 0} (answer_of : H → Command → Answer) (after : H → Comm
       let a = s.account in
       let moves = follows.moves in
       let tells = follows.carried.tells in
-      let once = given.once l ms begun moves in
+      let so = moves_so answer_of after ms l follows.ordinary (begins_so l begun) in
+      let once = given.once l ms begun moves (keep_device ms follows.ordinary) in
       let row = given.row l ms begun moves in
       let ended = subst (λ (state : State). length a.ends + 1 ≡ length a.sessions + count (is_closed state))
       (ap (λ (t : SimState H). t.controller.session.state) follows.carried.state)
       (run_ended answer_of after given.told steps (set_up config handler) is.well refl) in
       let last = last_one later.controller.session.state a later (given.last l ms begun moves) ended in
-      let first = told_first config.reader _ a later.account once.0 last in
+      let first = told_first config.reader _ a later.account so.0 once.0 last in
       record {
         last = later.account;
         earlier = later.earlier;
         lists = tells;
+        undisturbed = so;
         once = once;
         row = row;
         told = (
           first.0,
           tells.issued ∙ ap (λ cs. ended_commands later.earlier ++ cs) first.1
-              ∙ sym (append_assoc (ended_commands later.earlier) (settled_commands later.account ++ later.account.unsettled) first.0),
+              ∙ sym (append_assoc (ended_commands later.earlier) (ended_in later.account) first.0),
         );
         unsettled = each_all (λ t. length t.unsettled ≤ 1) (later.account ∷ later.earlier)
-            (each_one later.account later.earlier (one_unsettled a later.account last) row);
+            (each_one later.account later.earlier (one_unsettled a later.account so.0 last) so.1 row);
         ends = last;
         causes = each_all IsNoRefusal a.ends
-            (follows.carried.causes (each_of refusals.IsNoRefusal (refusals.reports answer_of after ms l) (given.causes l ms begun moves)) tt);
+            (follows.carried.causes (each_of refusals.IsNoRefusal (refusals.reports answer_of after ms l) (given.causes l ms begun moves (keep_reader ms follows.ordinary))) tt);
       }
 
   -- ---- one session
 
   -- a move that begins no session
-  abbrev pub IsWithin : link.Move → Type 0
+  abbrev pub IsWithin : link.Move H → Type 0
   IsWithin (link.Reopen now) = ⊥
   IsWithin _ = Unit {0}
 
@@ -182,7 +188,11 @@ module _ {H : Type 0} (answer_of : H → Command → Answer) (after : H → Comm
   controller_within (p ∷ ps) link.Lost now l = refl
   controller_within (p ∷ ps) link.Repeated now l = refl
 
-  move_within : (m : link.Move) (l : link.Link H) → IsWithin m → (link.after_move answer_of after m l).earlier ≡ l.earlier
+  retargets_within : (fault : Option ControllerFault) (address : ℕ) (l : link.Link H) → (link.retargets fault address l).earlier ≡ l.earlier
+  retargets_within None address l = refl
+  retargets_within (Some fault) address l = refl
+
+  move_within : (m : link.Move H) (l : link.Link H) → IsWithin m → (link.after_move answer_of after m l).earlier ≡ l.earlier
   move_within (link.Submit command) l w = submits_within (controllers.submit_refusal command l.controller) command l
   move_within (link.Queue event) l w = queues_within (length l.reader.queue.events == l.reader.queue.capacity) event l
   move_within (link.SetBusy busy) l w = refl
@@ -190,12 +200,19 @@ module _ {H : Type 0} (answer_of : H → Command → Answer) (after : H → Comm
   move_within (link.ToReader how) l w = reader_within l.to_reader how l
   move_within (link.ToController how now) l w = controller_within l.to_controller how now l
   move_within (link.Reopen now) l w = absurd w
+  move_within (link.SetHandler handler) l w = refl
+  move_within link.Withdraw l w = refl
+  move_within (link.Retarget address) l w = retargets_within (controllers.retarget_refusal address l.controller) address l
+  move_within (link.RestartReader address handler room) l w = refl
+  move_within (link.RestartController config room) l w = refl
+  move_within (link.LoseToReader place) l w = refl
+  move_within (link.LoseToController place) l w = refl
 
-  pub run_within : (ms : List link.Move) (l : link.Link H) → Each IsWithin ms → (link.run answer_of after ms l).earlier ≡ l.earlier
+  pub run_within : (ms : List (link.Move H)) (l : link.Link H) → Each IsWithin ms → (link.run answer_of after ms l).earlier ≡ l.earlier
   run_within [] l w = refl
   run_within (m ∷ ms) l w = run_within ms (link.after_move answer_of after m l) w.1 ∙ move_within m l w.0
 
-  there_within : (there : Bool) (m : link.Move) → IsWithin m → Each IsWithin (if there then m ∷ [] else [])
+  there_within : (there : Bool) (m : link.Move H) → IsWithin m → Each IsWithin (if there then m ∷ [] else [])
   there_within true m w = (w, tt)
   there_within false m w = tt
 

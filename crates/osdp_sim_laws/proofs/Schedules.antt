@@ -11,10 +11,12 @@ use Rattle.osdp_reader.specs.declared.handler.Answer.{Answer}
 use Rattle.osdp_link_laws.specs.Headline.{MovesFit}
 use Rattle.osdp_link_laws.specs.Link as link
 use Rattle.osdp_link_laws.specs.Link.{Link, after_move}
+use Rattle.osdp_link_laws.specs.Ordinary.{AreUndisturbed, IsOrdinary}
 use Rattle.osdp_link_laws.specs.Refusals as refusals
 use Rattle.osdp_link_laws.specs.Refusals.{reports, told_by}
 use Rattle.osdp_link_laws.specs.Sessions.{LastsOrLeaves, all_queued, all_submitted, queued, submitted}
-use Rattle.osdp_link_laws.proofs.Lines.{each_front, each_rest}
+use Rattle.osdp_link_laws.proofs.Lines.{each_append, each_front, each_rest}
+use Rattle.osdp_link_laws.proofs.Ordinary.{moves_so}
 use Rattle.osdp_link_laws.proofs.Stages.{Each}
 use Rattle.osdp_link_laws.specs.Ends.{count}
 use Rattle.osdp_sim.specs.Account.{Account}
@@ -36,26 +38,27 @@ use Rattle.osdp_sim_laws.proofs.Ends.{HaveEnded, step_ended}
 
 module _ {H : Type 0} (answer_of : H → Command → Answer) (after : H → Command → H) where
   -- the simulation is carried on by these moves
-  pub record Follows (s : SimState H) (ms : List link.Move) (l : Link H) (clock : ℕ) (a : Account) : Type 0 where
+  pub record Follows (s : SimState H) (ms : List (link.Move H)) (l : Link H) (clock : ℕ) (a : Account) : Type 0 where
     pub carried : IsCarried s (link.run answer_of after ms l) clock a (all_submitted answer_of after ms l) (all_queued answer_of after ms l) (reports answer_of after ms l)
     pub moves : MovesFit answer_of after ms l
+    pub ordinary : Each IsOrdinary ms
 
   -- lists of moves, one after the other
-  pub run_both : (ms ns : List link.Move) (l : Link H) → link.run answer_of after (ms ++ ns) l ≡ link.run answer_of after ns (link.run answer_of after ms l)
+  pub run_both : (ms ns : List (link.Move H)) (l : Link H) → link.run answer_of after (ms ++ ns) l ≡ link.run answer_of after ns (link.run answer_of after ms l)
   run_both [] ns l = refl
   run_both (m ∷ ms) ns l = run_both ms ns (after_move answer_of after m l)
 
-  moves_both : (ms ns : List link.Move) (l : Link H) → MovesFit answer_of after ms l → MovesFit answer_of after ns (link.run answer_of after ms l)
+  moves_both : (ms ns : List (link.Move H)) (l : Link H) → MovesFit answer_of after ms l → MovesFit answer_of after ns (link.run answer_of after ms l)
       → MovesFit answer_of after (ms ++ ns) l
   moves_both [] ns l first next = next
   moves_both (m ∷ ms) ns l first next = (first.0, moves_both ms ns (after_move answer_of after m l) first.1 next)
 
   -- wherever moves lead, the last session lasts, or leaves what a next one would begin with
   abbrev pub AllLeave : Link H → Type 0
-  AllLeave l = (ms : List link.Move) → MovesFit answer_of after ms l
+  AllLeave l = (ms : List (link.Move H)) → MovesFit answer_of after ms l
       → let later = link.run answer_of after ms l in LastsOrLeaves later.controller.session.state later
 
-  leave_after : (ms : List link.Move) (l : Link H) → MovesFit answer_of after ms l → AllLeave l → AllLeave (link.run answer_of after ms l)
+  leave_after : (ms : List (link.Move H)) (l : Link H) → MovesFit answer_of after ms l → AllLeave l → AllLeave (link.run answer_of after ms l)
   leave_after ms l moves all ns more =
       subst (λ m. LastsOrLeaves m.controller.session.state m) (run_both ms ns l) (all (ms ++ ns) (moves_both ms ns l moves more))
 
@@ -65,32 +68,34 @@ module _ {H : Type 0} (answer_of : H → Command → Answer) (after : H → Comm
     pub tells : IsOf a l.account l.earlier
     pub ended : HaveEnded (in_bytes l clock a)
     pub leave : AllLeave l
+    pub undisturbed : AreUndisturbed (l.account ∷ l.earlier)
 
   -- .. and where it has come to
-  pub goes_from : (s : SimState H) (ms : List link.Move) (l : Link H) (clock later : ℕ) (a : Account) → GoesFrom l clock a → Follows s ms l later a
+  pub goes_from : (s : SimState H) (ms : List (link.Move H)) (l : Link H) (clock later : ℕ) (a : Account) → GoesFrom l clock a → Follows s ms l later a
       → HaveEnded s → GoesFrom (link.run answer_of after ms l) later s.account
   goes_from s ms l clock later a from follows ended = record {
     packets = follows.carried.packets;
     tells = follows.carried.tells;
     ended = subst HaveEnded follows.carried.state ended;
     leave = leave_after ms l follows.moves from.leave;
+    undisturbed = moves_so answer_of after ms l follows.ordinary from.undisturbed;
   }
 
   -- where the controller is closed its session has ended and leaves what the next one begins with
-  has_left : (state : State) (l : Link H) (a : Account) → controllers.refused_unless_closed state ≡ None → LastsOrLeaves state l
+  has_left : (state : State) (l : Link H) (a : Account) → controllers.refused_unless_closed state ≡ None → LastsOrLeaves state l → AreUndisturbed (l.account ∷ l.earlier)
       → length a.ends + 1 ≡ length a.sessions + count (is_closed state) → HasLeft l a
-  has_left Closed l a may leaves ended = record { leaves = leaves; ended = omega (arith, ended) }
-  has_left (Quiet until) l a may leaves ended = absurd cc
-  has_left (Idle due) l a may leaves ended = absurd cc
-  has_left (Waiting until sends o) l a may leaves ended = absurd cc
-  has_left (Pausing until o) l a may leaves ended = absurd cc
+  has_left Closed l a may leaves so ended = record { leaves = leaves; undisturbed = so.0; ended = omega (arith, ended) }
+  has_left (Quiet until) l a may leaves so ended = absurd cc
+  has_left (Idle due) l a may leaves so ended = absurd cc
+  has_left (Waiting until sends o) l a may leaves so ended = absurd cc
+  has_left (Pausing until o) l a may leaves so ended = absurd cc
 
   -- a step with a reader that is there or isn't
-  by_number : (there : Bool) (new : SimState H) (m : link.Move) (l : Link H) (clock : ℕ) (a : Account) → ArePackets l → IsOf a l.account l.earlier
+  by_number : (there : Bool) (new : SimState H) (m : link.Move H) (l : Link H) (clock : ℕ) (a : Account) → ArePackets l → IsOf a l.account l.earlier
       → (there ≡ true → Follows new (m ∷ []) l clock a)
       → Follows (if there then new else in_bytes l clock a) (if there then m ∷ [] else []) l clock a
   by_number true new m l clock a packets tells does = does refl
-  by_number false new m l clock a packets tells does = record { carried = nothing l clock a packets tells; moves = tt }
+  by_number false new m l clock a packets tells does = record { carried = nothing l clock a packets tells; moves = tt; ordinary = tt }
 
   -- what is refused nowhere isn't refused where the reader is there
   there_well : (there : Bool) (refused : Bool) (cause : Cause) → (if there && refused then Some cause else None) ≡ None → there ≡ true
@@ -106,47 +111,54 @@ module _ {H : Type 0} (answer_of : H → Command → Answer) (after : H → Comm
       by_number (number == 1) _ (link.Submit command) l clock a from.packets from.tells (λ there. record {
         carried = issuing (controllers.submit_refusal command l.controller) command l clock a from.packets from.tells;
         moves = (fits, tt);
+        ordinary = (tt, tt);
       })
   step_follows reads (Queue number event) l clock a from well fits =
       by_number (number == 1) _ (link.Queue event) l clock a from.packets from.tells (λ there. record {
         carried = queueing (length l.reader.queue.events == l.reader.queue.capacity) event l clock a from.packets from.tells;
         moves = (tt, tt);
+        ordinary = (tt, tt);
       })
   step_follows reads (Busy number busy) l clock a from well fits =
       by_number (number == 1) _ (link.SetBusy busy) l clock a from.packets from.tells (λ there. record {
         carried = setting_busy busy l clock a from.packets from.tells;
         moves = (tt, tt);
+        ordinary = (tt, tt);
       })
   step_follows reads (Wait wait) l clock a from well fits =
       let now = step_clock (Wait wait) clock in
       record {
         carried = ticking (ticks now l.controller.session l.controller.waiting) now l clock a from.packets from.tells fits;
         moves = (tt, tt);
+        ordinary = (tt, tt);
       }
   step_follows reads (ToReader move) l clock a from well fits = record {
     carried = to_reader answer_of after reads l.to_reader move l clock a refl well fits from.packets from.tells;
     moves = (says_what_fits answer_of after reads l.to_reader move l from.packets.to_reader fits, tt);
+    ordinary = (tt, tt);
   }
   step_follows reads (ToController move) l clock a from well fits = record {
     carried = to_controller reads l.to_controller move l clock a refl well from.packets from.tells;
     moves = (tt, tt);
+    ordinary = (tt, tt);
   }
   step_follows reads (Reopen number) l clock a from well fits =
       by_number (number == 1) _ (link.Reopen clock) l clock a from.packets from.tells (λ there.
       let quiet = is_quiet l.to_reader l.to_controller l.controller.session.state (there_well (number == 1) (not (steps.is_quiet (in_bytes l clock a))) NotQuiet well there) in
       record {
         carried = reopening l.to_reader l.to_controller (controllers.begin_refusal l.controller) l clock a quiet.0 quiet.1 quiet.2
-            (has_left l.controller.session.state l a quiet.2 (from.leave [] tt) from.ended) from.packets from.tells;
+            (has_left l.controller.session.state l a quiet.2 (from.leave [] tt) from.undisturbed from.ended) from.packets from.tells;
         moves = (tt, tt);
+        ordinary = (tt, tt);
       })
 
   -- ---- more moves
 
   -- what each move adds is gathered over the one list and then over the other
-  gathered_both : {X : Type 0} (of : link.Move → Link H → List X) (all : List link.Move → Link H → List X)
+  gathered_both : {X : Type 0} (of : link.Move H → Link H → List X) (all : List (link.Move H) → Link H → List X)
       → ((l : Link H) → all [] l ≡ [])
-      → ((m : link.Move) (ms : List link.Move) (l : Link H) → all (m ∷ ms) l ≡ of m l ++ all ms (after_move answer_of after m l))
-      → (ms ns : List link.Move) (l : Link H) → all (ms ++ ns) l ≡ all ms l ++ all ns (link.run answer_of after ms l)
+      → ((m : link.Move H) (ms : List (link.Move H)) (l : Link H) → all (m ∷ ms) l ≡ of m l ++ all ms (after_move answer_of after m l))
+      → (ms ns : List (link.Move H)) (l : Link H) → all (ms ++ ns) l ≡ all ms l ++ all ns (link.run answer_of after ms l)
   gathered_both of all none more [] ns l = sym (ap (λ xs. xs ++ all ns l) (none l))
   gathered_both of all none more (m ∷ ms) ns l =
       let next = after_move answer_of after m l in
@@ -154,20 +166,20 @@ module _ {H : Type 0} (answer_of : H → Command → Answer) (after : H → Comm
       more m (ms ++ ns) l ∙ ap (λ xs. of m l ++ xs) (gathered_both of all none more ms ns next)
       ∙ sym (append_assoc (of m l) (all ms next) others) ∙ sym (ap (λ xs. xs ++ others) (more m ms l))
 
-  submitted_both : (ms ns : List link.Move) (l : Link H)
+  submitted_both : (ms ns : List (link.Move H)) (l : Link H)
       → all_submitted answer_of after (ms ++ ns) l ≡ all_submitted answer_of after ms l ++ all_submitted answer_of after ns (link.run answer_of after ms l)
   submitted_both = gathered_both submitted (all_submitted answer_of after) (λ l. refl) (λ m ms l. refl)
 
-  queued_both : (ms ns : List link.Move) (l : Link H)
+  queued_both : (ms ns : List (link.Move H)) (l : Link H)
       → all_queued answer_of after (ms ++ ns) l ≡ all_queued answer_of after ms l ++ all_queued answer_of after ns (link.run answer_of after ms l)
   queued_both = gathered_both queued (all_queued answer_of after) (λ l. refl) (λ m ms l. refl)
 
-  reports_both : (ms ns : List link.Move) (l : Link H)
+  reports_both : (ms ns : List (link.Move H)) (l : Link H)
       → reports answer_of after (ms ++ ns) l ≡ reports answer_of after ms l ++ reports answer_of after ns (link.run answer_of after ms l)
   reports_both = gathered_both (λ m l. option_to_list (told_by m l)) (reports answer_of after) (λ l. refl) (λ m ms l. refl)
 
   -- more after what follows
-  pub goes_on : (s t : SimState H) (ms ns : List link.Move) (l : Link H) (clock later : ℕ) (a : Account) → Follows s ms l clock a
+  pub goes_on : (s t : SimState H) (ms ns : List (link.Move H)) (l : Link H) (clock later : ℕ) (a : Account) → Follows s ms l clock a
       → Follows t ns (link.run answer_of after ms l) later s.account → Follows t (ms ++ ns) l later a
   goes_on s t ms ns l clock later a first next =
       let afterwards = link.run answer_of after ms l in
@@ -195,13 +207,14 @@ module _ {H : Type 0} (answer_of : H → Command → Answer) (after : H → Comm
                   (first.carried.causes (each_front refusals.IsNoRefusal (reports answer_of after ms l) (reports answer_of after ns afterwards) all) well);
             });
         moves = moves_both ms ns l first.moves next.moves;
+        ordinary = each_append IsOrdinary ms ns first.ordinary next.ordinary;
       }
 
   -- each schedule
   pub schedule_follows : ReadsPackets → EndsAreTold → (steps : List SimStep) (l : Link H) (clock : ℕ) (a : Account) → GoesFrom l clock a
       → is_well answer_of after steps (in_bytes l clock a) ≡ true → FitAlong answer_of after steps (in_bytes l clock a)
       → Follows (run answer_of after steps (in_bytes l clock a)) (moves_of steps clock) l (clock_after steps clock) a
-  schedule_follows reads told [] l clock a from well fits = record { carried = nothing l clock a from.packets from.tells; moves = tt }
+  schedule_follows reads told [] l clock a from well fits = record { carried = nothing l clock a from.packets from.tells; moves = tt; ordinary = tt }
   schedule_follows reads told (step ∷ steps) l clock a from well fits =
       let s = in_bytes l clock a in
       let both = first_well (fault_of step s) _ well in

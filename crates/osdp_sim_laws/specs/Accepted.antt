@@ -1,10 +1,11 @@
 -- What is accepted: which of the commands that a schedule issues, and which of the events that it queues.
-use Rattle.std.specs.Prelude.{◌≡◌, ◌≤◌, ℕ, ◌==◌, ◌⊎◌, if◌then◌else◌, List, [], ◌∷◌, ◌++◌, length, take, Result}
+use Rattle.std.specs.Prelude.{◌≡◌, ◌≤◌, ℕ, ◌==◌, if◌then◌else◌, List, [], ◌∷◌, ◌++◌, length, take, Result}
 use Rattle.osdp_msg.specs.declared.command.Command.{Command}
 use Rattle.osdp_msg.specs.declared.command.Command.TheVariants.{Poll}
 use Rattle.osdp_msg.specs.declared.event.Event.{Event}
 use Rattle.osdp_reader.specs.declared.handler.Answer.{Answer}
 use Rattle.osdp_link_laws.specs.Headline.{IsBeginning}
+use Rattle.osdp_link_laws.specs.Sessions.{IsAmong}
 use Rattle.osdp_sim.specs.Account.{Account}
 use Rattle.osdp_sim.specs.Runs.{RunEnds, steps_done}
 use Rattle.osdp_sim.specs.declared.account.Account as declared
@@ -40,11 +41,6 @@ commands_of steps = commands_for 1 steps
 
 abbrev pub events_of : List SimStep → List Event
 events_of steps = events_for 1 steps
-
--- some of a list, in its order: the first of it is left out, or comes first
-abbrev pub IsAmong : {A : Type 0} → List A → List A → Type 0
-IsAmong {A} some [] = some ≡ []
-IsAmong {A} some (x ∷ all) = IsAmong some all ⊎ ((rest : List A) × (some ≡ x ∷ rest) × IsAmong rest all)
 
 -- where so many may wait: all are accepted where there is room for all; else the first of them, as many as there is room for, and of
 -- the others some, each once and in their order

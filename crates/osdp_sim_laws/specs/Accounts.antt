@@ -5,8 +5,10 @@ use Rattle.osdp_msg.specs.declared.event.Event.{Event}
 use Rattle.osdp_msg.specs.declared.reply.Reply.{Reply}
 use Rattle.osdp_reader.specs.declared.config.ReaderConfig.{ReaderConfig}
 use Rattle.osdp_reader.specs.declared.handler.Answer.{Answer}
-use Rattle.osdp_link_laws.specs.Headline.{AreOnce, IsBeginning, with_answers}
+use Rattle.osdp_link_laws.specs.Headline.{IsBeginning}
 use Rattle.osdp_link_laws.specs.Link as link
+use Rattle.osdp_link_laws.specs.OneHandler.{AreOnce, with_answers}
+use Rattle.osdp_link_laws.specs.Ordinary.{AreUndisturbed}
 use Rattle.osdp_link_laws.specs.Refusals.{IsOtherCause}
 use Rattle.osdp_link_laws.specs.Sessions.{AreInARow, Leaves, ended_commands}
 use Rattle.osdp_sim.specs.Account.{Account, lists_of}
@@ -112,12 +114,13 @@ module _ {H : Type 0} (answer_of : H → Command → Answer) (after : H → Comm
     pub ends : length a.ends ≤ 1
     pub causes : All IsNoRefusal a.ends
 
-  -- in sessions in a row: each is once, and the next begins with what it leaves. The commands that all sessions settled or told
+  -- in sessions in a row, in which nobody restarts: each is once, and the next begins with what it leaves. The commands that all sessions settled or told
   -- unsettled are together a beginning of those issued, each session's unsettled one at most
   pub record IsInARow (config : ReaderConfig) (handler : H) (a : Account) : Type 0 where
     pub last : link.Account
     pub earlier : List link.Account
     pub lists : IsOf a last earlier
+    pub undisturbed : AreUndisturbed (last ∷ earlier)
     pub once : AreOnce answer_of after config handler (last ∷ earlier)
     pub row : AreInARow last earlier
     pub told : IsBeginning (ended_commands (last ∷ earlier)) a.issued

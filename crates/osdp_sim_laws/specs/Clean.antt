@@ -2,7 +2,7 @@
 use Rattle.std.specs.Prelude.{◌≡◌, ◌≤◌, ℕ, ◌-◌, All, List, [], ◌++◌, length, take, Result, Ok, Err}
 use Rattle.osdp_msg.specs.declared.command.Command.{Command}
 use Rattle.osdp_reader.specs.declared.handler.Answer.{Answer}
-use Rattle.osdp_link_laws.specs.Headline.{with_answers}
+use Rattle.osdp_link_laws.specs.OneHandler.{with_answers}
 use Rattle.osdp_link_laws.specs.Progress.{SetsNoAddress}
 use Rattle.osdp_sim.specs.Account.{Account, lists_of}
 use Rattle.osdp_sim.specs.Rounds.{clean}

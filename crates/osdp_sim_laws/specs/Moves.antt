@@ -26,11 +26,11 @@ delivery Drop = Lost
 delivery Repeat = Repeated
 delivery (Damage bytes) = Lost
 
-abbrev pub where_there : ℕ → link.Move → List link.Move
+abbrev pub where_there : {H : Type 0} → ℕ → link.Move H → List (link.Move H)
 where_there number move = if number == 1 then move ∷ [] else []
 
 -- the move that a step is, at a moment
-abbrev pub move_of : SimStep → ℕ → List link.Move
+abbrev pub move_of : {H : Type 0} → SimStep → ℕ → List (link.Move H)
 move_of (Issue number command) clock = where_there number (link.Submit command)
 move_of (Queue number event) clock = where_there number (link.Queue event)
 move_of (Busy number busy) clock = where_there number (link.SetBusy busy)
@@ -48,7 +48,7 @@ abbrev pub clock_after : List SimStep → ℕ → ℕ
 clock_after [] clock = clock
 clock_after (step ∷ steps) clock = clock_after steps (step_clock step clock)
 
-abbrev pub moves_of : List SimStep → ℕ → List link.Move
+abbrev pub moves_of : {H : Type 0} → List SimStep → ℕ → List (link.Move H)
 moves_of [] clock = []
 moves_of (step ∷ steps) clock = move_of step clock ++ moves_of steps (step_clock step clock)
 

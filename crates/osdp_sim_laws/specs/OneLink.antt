@@ -7,8 +7,8 @@ use Rattle.osdp_msg.specs.declared.command.Command.{Command}
 use Rattle.osdp_controller.specs.declared.session.Session.{Session}
 use Rattle.osdp_controller_laws.specs.Commands.{TellsEnds}
 use Rattle.osdp_reader.specs.declared.handler.Answer.{Answer}
-use Rattle.osdp_link_laws.specs.Headline.{HoldsOnce}
-use Rattle.osdp_link_laws.specs.Refusals.{RefusesNoNumber}
+use Rattle.osdp_link_laws.specs.OneHandler.{OneHandlerHoldsOnce}
+use Rattle.osdp_link_laws.specs.Refusals.{RefusesNoNumberWithoutRestart}
 use Rattle.osdp_link_laws.specs.Sessions.{CommandsHavePlaces, EventsHavePlaces, LastOneLasts, StayInARow}
 
 -- a packet that goes over the line is read as it is, and where nothing comes through nothing is read
@@ -22,10 +22,10 @@ EndsAreTold = (now : ℕ) (s : Session) → TellsEnds now s
 
 pub record OneLink {H : Type 0} (answer_of : H → Command → Answer) (after : H → Command → H) : Type 0 where
   pub reads : ReadsPackets
-  pub once : HoldsOnce answer_of after
+  pub once : OneHandlerHoldsOnce answer_of after
   pub row : StayInARow answer_of after
   pub last : LastOneLasts answer_of after
   pub commands : CommandsHavePlaces answer_of after
   pub events : EventsHavePlaces answer_of after
-  pub causes : RefusesNoNumber answer_of after
+  pub causes : RefusesNoNumberWithoutRestart answer_of after
   pub told : EndsAreTold

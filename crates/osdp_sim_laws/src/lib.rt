@@ -16,7 +16,7 @@ fn stands_on_one_link<H: Handler>()
 {
     osdp_frame_laws::reads_packets();
     osdp_frame_laws::one_spelling();
-    osdp_link_laws::holds_once::<H>();
+    osdp_link_laws::answers_of_one_handler::<H>();
     osdp_link_laws::sessions_in_a_row::<H>();
     osdp_link_laws::refuses_no_number::<H>();
     osdp_controller_laws::endings_are_told();

@@ -1,10 +1,11 @@
-use Rattle.osdp_link_laws.proofs.InARow.{assumed_of}
 use Rattle.osdp_link_laws.proofs.InTime.{in_time}
+use Rattle.osdp_link_laws.proofs.Resting.{comes_to_rest}
 use Rattle.osdp_link_laws.proofs.Through.{comes_through}
 use Rattle.osdp_link_laws.proofs.comes_through.Goals as goal
 
 pub returns : goal.returns
 returns g c = record {
-  due = λ l moves moments. comes_through g.H.Handler.answer_of g.H.Handler.after l moves moments (assumed_of g.H.Handler.answer_of g.H.Handler.after c.read_each_other.ensures l);
-  in_time = λ l moves moments. in_time g.H.Handler.answer_of g.H.Handler.after c.stays_in_range.ensures c.ticks_come_due.ensures l moves moments (assumed_of g.H.Handler.answer_of g.H.Handler.after c.read_each_other.ensures l);
+  due = comes_through g.H.Handler.answer_of g.H.Handler.after c.read_each_other.ensures;
+  in_time = in_time g.H.Handler.answer_of g.H.Handler.after c.stays_in_range.ensures c.read_each_other.ensures c.ticks_come_due.ensures;
+  rest = comes_to_rest g.H.Handler.answer_of g.H.Handler.after c.read_each_other.ensures;
 }

@@ -2,16 +2,15 @@
 
 use osdp_door::Door;
 
-/// The laws of one link hold with a door as the reader, and where its inputs change and commands are withdrawn.
+/// The laws of one link hold with a door as the reader, whose inputs change, and where commands are withdrawn and both ends restart.
 #[test]
 fn a_session_holds_with_a_door(_rt: HostRuntime) {
     osdp_link_laws::holds_once::<Door>();
+    osdp_link_laws::answers_of_one_handler::<Door>();
+    osdp_link_laws::ordinary_runs_are_undisturbed::<Door>();
     osdp_link_laws::sessions_in_a_row::<Door>();
     osdp_link_laws::refuses_no_number::<Door>();
     osdp_link_laws::stay_where_they_are::<Door>();
     osdp_link_laws::comes_through::<Door>();
     osdp_link_laws::goes_in_turn::<Door>();
-    osdp_link_changes::changed_links_hold_once::<Door>();
-    osdp_link_changes::changed_links_stay_in_a_row::<Door>();
-    osdp_link_changes::moves_as_before::<Door>();
 }

@@ -24,7 +24,8 @@ returns-clause-steps g c = steps_are_moves g.H.Handler.answer_of g.H.Handler.aft
 
 pub returns-clause-schedules : goal.returns-clause-schedules
 returns-clause-schedules g c =
-    schedules_are_moves g.H.Handler.answer_of g.H.Handler.after (returns-clause-steps g c) c.read_each_other.ensures c.each_is_a_link.ensures.link
+    schedules_are_moves g.H.Handler.answer_of g.H.Handler.after (returns-clause-steps g c)
+    (record { peers = c.read_each_other.ensures; device = c.name_one_device.ensures.device; told = c.name_one_device.ensures.told }) c.each_is_a_link.ensures.link
     c.refuses_no_number.ensures.packets c.each_is_a_link.ensures.row
 
 pub returns-clause-set_up : goal.returns-clause-set_up

@@ -8,11 +8,11 @@ returns g c = record {
     one = λ p packet. c.reads_packets.ensures.one p (spelling p) ((c.one_spelling.ensures p (spelling p)).1 (packet, refl));
     none = c.reads_packets.ensures.none;
   };
-  once = c.holds_once.ensures;
+  once = c.answers_of_one_handler.ensures.once;
   row = c.sessions_in_a_row.ensures.row;
   last = c.sessions_in_a_row.ensures.last;
   commands = c.sessions_in_a_row.ensures.commands;
   events = c.sessions_in_a_row.ensures.events;
-  causes = c.refuses_no_number.ensures.endings;
+  causes = c.refuses_no_number.ensures.never;
   told = c.endings_are_told.ensures;
 }

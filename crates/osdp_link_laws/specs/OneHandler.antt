@@ -1,0 +1,65 @@
+-- Where the device never changes: the answers are those of its settings and of its one handler.
+use Rattle.std.specs.Prelude.{◌≡◌, ◌≤◌, All, List, [], ◌∷◌, ◌++◌, length}
+use Rattle.osdp_msg.specs.declared.command.Command.{Command}
+use Rattle.osdp_msg.specs.declared.reply.Reply.{Reply}
+use Rattle.osdp_reader.specs.declared.config.ReaderConfig.{ReaderConfig}
+use Rattle.osdp_reader.specs.declared.handler.Answer.{Answer}
+use Rattle.osdp_reader.specs.Table.{answer_to}
+use Rattle.osdp_reader_laws.specs.Answering.{handler_after_commands}
+use Rattle.osdp_link_laws.specs.Headline.{Begins, IsBeginning, MovesFit}
+use Rattle.osdp_link_laws.specs.Link.{Account, Link, Move, RestartReader, SetHandler, after_move, run}
+
+-- the reader doesn't restart, and its handler isn't set
+abbrev pub KeepsDevice : {H : Type 0} → Move H → Type 0
+KeepsDevice (SetHandler handler) = ⊥
+KeepsDevice (RestartReader address handler room) = ⊥
+KeepsDevice _ = Unit {0}
+
+-- .. or it has the handler that it has already
+abbrev pub KeepsHandler : {H : Type 0} → Move H → Link H → Type 0
+KeepsHandler (SetHandler handler) l = handler ≡ l.reader.handler
+KeepsHandler (RestartReader address handler room) l = handler ≡ l.reader.handler
+KeepsHandler _ l = Unit {0}
+
+module _ {H : Type 0} (answer_of : H → Command → Answer) (after : H → Command → H) where
+  -- commands, each with the answer to it after those before it: the settings' to ID, CAP and COMSET, and the handler's to all others
+  abbrev pub with_answers : ReaderConfig → H → List Command → List (Command × Reply)
+  with_answers config handler [] = []
+  with_answers config handler (command ∷ commands) =
+      let a = answer_to answer_of after config handler command in
+      (command, a.reply) ∷ with_answers config a.handler commands
+
+  -- the commands that the reader has taken are a beginning of those issued, and hold each settled one, with the answer that the
+  -- reader gave, and one more at most; the events reported are a beginning of those queued
+  pub record Once (config : ReaderConfig) (handler : H) (t : Account) : Type 0 where
+    pub taken : IsBeginning t.taken t.issued
+    pub settled : (more : List (Command × Reply)) × (with_answers config handler t.taken ≡ t.settled ++ more) × (length more ≤ 1)
+    pub reported : IsBeginning t.reported t.queued
+
+  -- the handler after the commands taken in these sessions, the last of them first
+  abbrev pub handler_after : ReaderConfig → H → List Account → H
+  handler_after config handler [] = handler
+  handler_after config handler (t ∷ earlier) = handler_after_commands answer_of after config (handler_after config handler earlier) t.taken
+
+  -- .. each of which is once, from the handler that the ones before have left
+  abbrev pub AreOnce : ReaderConfig → H → List Account → Type 0
+  AreOnce config handler [] = Unit {0}
+  AreOnce config handler (t ∷ earlier) = Once config (handler_after config handler earlier) t × AreOnce config handler earlier
+
+  -- .. of each session the answers given are those of the one handler
+  abbrev pub AreItsAnswers : ReaderConfig → H → List Account → Type 0
+  AreItsAnswers config handler [] = Unit {0}
+  AreItsAnswers config handler (t ∷ earlier) =
+      (t.given ≡ with_answers config (handler_after config handler earlier) t.taken) × AreItsAnswers config handler earlier
+
+  abbrev pub KeepHandler : List (Move H) → Link H → Type 0
+  KeepHandler [] l = Unit {0}
+  KeepHandler (move ∷ moves) l = KeepsHandler move l × KeepHandler moves (after_move answer_of after move l)
+
+  abbrev pub GivesItsAnswers : Type 0
+  GivesItsAnswers = (l : Link H) (moves : List (Move H)) → Begins l → MovesFit answer_of after moves l → KeepHandler moves l
+      → let later = run answer_of after moves l in AreItsAnswers l.reader.config l.reader.handler (later.account ∷ later.earlier)
+
+  abbrev pub OneHandlerHoldsOnce : Type 0
+  OneHandlerHoldsOnce = (l : Link H) (moves : List (Move H)) → Begins l → MovesFit answer_of after moves l → All KeepsDevice moves
+      → let later = run answer_of after moves l in AreOnce l.reader.config l.reader.handler (later.account ∷ later.earlier)

@@ -1,0 +1,56 @@
+-- Runs in which neither end restarts, no command is withdrawn and no address is set: the lists that such moves fill are empty.
+use Rattle.std.specs.Prelude.{◌≡◌, ◌≤◌, ◌⊎◌, All, List, [], ◌∷◌, ◌++◌, length}
+use Rattle.osdp_msg.specs.declared.command.Command.{Command}
+use Rattle.osdp_msg.specs.declared.event.Event.{Event}
+use Rattle.osdp_reader.specs.declared.handler.Answer.{Answer}
+use Rattle.osdp_link_laws.specs.Headline.{Begins, IsBeginning}
+use Rattle.osdp_link_laws.specs.Link.{Account, Link, Move, RestartController, RestartReader, Retarget, SetHandler, Withdraw, run, LoseToReader, LoseToController}
+use Rattle.osdp_link_laws.specs.Sessions.{HaveLeft, Leaves, settled_commands}
+
+abbrev pub IsOrdinary : {H : Type 0} → Move H → Type 0
+IsOrdinary (SetHandler handler) = ⊥
+IsOrdinary Withdraw = ⊥
+IsOrdinary (Retarget address) = ⊥
+IsOrdinary (RestartReader address handler room) = ⊥
+IsOrdinary (RestartController config room) = ⊥
+IsOrdinary (LoseToReader place) = ⊥
+IsOrdinary (LoseToController place) = ⊥
+IsOrdinary _ = Unit {0}
+
+-- no command is forgotten or removed, and no event is thrown away
+pub record IsUndisturbed (t : Account) : Type 0 where
+  pub forgotten : t.forgotten ≡ []
+  pub removed : t.removed ≡ []
+  pub kept : t.kept ≡ t.queued
+  pub thrown_away : t.thrown_away ≡ []
+  pub restarts : t.restarts ≡ 0
+
+abbrev pub AreUndisturbed : List Account → Type 0
+AreUndisturbed [] = Unit {0}
+AreUndisturbed (t ∷ earlier) = IsUndisturbed t × AreUndisturbed earlier
+
+abbrev pub OrdinaryIsUndisturbed : {H : Type 0} → (H → Command → Answer) → (H → Command → H) → Type 0
+OrdinaryIsUndisturbed {H} answer_of after = (l : Link H) (moves : List (Move H)) → Begins l → All IsOrdinary moves
+    → let later = run answer_of after moves l in AreUndisturbed (later.account ∷ later.earlier)
+
+-- what such a session leaves: its commands are those settled, one told unsettled at most, and those that wait; the reader has taken those
+-- settled, and may have taken that one; the events that wait are those that were not reported, with the last that was, or without it
+pub record LeavesUndisturbed (t : Account) (waiting : List Command) (events : List Event) : Type 0 where
+  pub commands : t.issued ≡ settled_commands t ++ (t.unsettled ++ waiting)
+  pub unsettled : length t.unsettled ≤ 1
+  pub taken : (t.taken ≡ settled_commands t) ⊎ (t.taken ≡ settled_commands t ++ t.unsettled)
+  pub reported : (gone : List Event) × (again : List Event)
+      × (t.queued ≡ gone ++ events) × (t.reported ≡ gone ++ again) × IsBeginning again events × (length again ≤ 1)
+
+-- of all events, those that have left the queue: what these sessions reported, of each the last or none left out, session after session
+abbrev pub HaveLeftUndisturbed : List Event → List Account → List Event → Type 0
+HaveLeftUndisturbed all [] gone = gone ≡ []
+HaveLeftUndisturbed all (t ∷ earlier) gone =
+    (before : List Event) × (left : List Event) × (again : List Event)
+    × HaveLeftUndisturbed all earlier before × IsBeginning (before ++ t.queued) all
+    × (gone ≡ before ++ left) × (t.reported ≡ left ++ again) × (length again ≤ 1)
+
+pub record UndisturbedLeaves : Type 0 where
+  pub one : (t : Account) (waiting : List Command) (events : List Event) → IsUndisturbed t → Leaves t waiting events → LeavesUndisturbed t waiting events
+  pub all : (all : List Event) (earlier : List Account) (gone : List Event) → AreUndisturbed earlier → HaveLeft all earlier gone
+      → HaveLeftUndisturbed all earlier gone

@@ -1,0 +1,81 @@
+-- Where a reader goes when it hears a packet, and from where it answers.
+use Rattle.std.proofs.Common.{◌≡◌, ◌⊎◌, ℕ, Bool, cond, Option, Some, None, IfSome, Result, Ok, Err, refl, sym, subst, ap, ◌∙◌, inl, inr}
+use Rattle.std.proofs.lemmas.Bool.Decides.{eqb_tells}
+use Rattle.osdp_frame.specs.Packet.{Packet}
+use Rattle.osdp_msg.specs.declared.command.Command.{Command}
+use Rattle.osdp_msg.specs.declared.fault.MsgFault.{MsgFault}
+use Rattle.osdp_reader.specs.Queue.{event_for, offering, released, withdrawn}
+use Rattle.osdp_reader.specs.Replies.{reply_packet}
+use Rattle.osdp_reader.specs.State.{ReaderState}
+use Rattle.osdp_reader.specs.Table.{Outcome, answer_to, begun, command_in, event_or_answer, hears, kind_of, moved, new_address, outcome, taken}
+use Rattle.osdp_reader.specs.declared.handler.Answer.{Answer}
+use Rattle.osdp_reader.specs.declared.kind.Kind.{Kind}
+use Rattle.osdp_reader.specs.declared.kind.Kind.TheVariants as kind
+use Rattle.osdp_shared_line.specs.Addresses.{SetsReader, address_in}
+
+-- what is stored was said from here
+abbrev pub StoresOwn : {H : Type 0} → ReaderState H → Type 0
+StoresOwn r = IfSome r.stored (λ q. q.address ≡ r.config.address)
+
+-- the reader stays, or goes where the packet's COMSET takes it; what it says, it says from where it was
+pub record ReadsWell {H : Type 0} (here : ℕ) (p : Packet) (o : Outcome H) : Type 0 where
+  pub goes : (o.reader.config.address ≡ here) ⊎ SetsReader o.reader.config.address p
+  pub said : IfSome o.reply (λ q. q.address ≡ here)
+  pub stored : StoresOwn o.reader
+
+module _ {H : Type 0} where
+  moves : (o : Option ℕ) (r : ReaderState H) → StoresOwn r → ((moved o r).config.address ≡ r.config.address ⊎ (o ≡ Some (moved o r).config.address)) × StoresOwn (moved o r)
+  moves None r own = (inl refl, own)
+  moves (Some to) r own =
+      elim (eqb_tells to r.config.address) [
+        | inl equal ↦ subst Both (sym equal.0) (inl refl, own)
+        | inr differs ↦ subst Both (sym differs.0) (inr refl, tt)
+      ]
+    where
+      next : Bool → ReaderState H
+      next b = cond b r (record r { config = record r.config { address = to }; last = None; stored = None })
+
+      Both : Bool → Type 0
+      Both b = ((next b).config.address ≡ r.config.address ⊎ (Some to ≡ Some (next b).config.address)) × StoresOwn (next b)
+
+  module _ (answer_of : H → Command → Answer) (after : H → Command → H) where
+    begun_well : (c : Result Command MsgFault) (r : ReaderState H) (p : Packet) → p.address ≡ r.config.address → command_in p ≡ c → StoresOwn r
+        → ReadsWell r.config.address p (begun answer_of after c r p)
+    begun_well (Err fault) r p here read own = record { goes = inl refl; said = here; stored = own }
+    begun_well (Ok c) r p here read own =
+        let a = answer_to answer_of after r.config r.handler c in
+        let is = moves (new_address c) (record r { last = Some 0; queue = withdrawn r.queue; handler = a.handler }) own in
+        record {
+          goes = elim is.0 [ inl stays ↦ inl stays | inr went ↦ inr (ap address_in read ∙ went) ];
+          said = here;
+          stored = is.1;
+        }
+
+    taken_well : (c : Result Command MsgFault) (r : ReaderState H) (p : Packet) → p.address ≡ r.config.address → command_in p ≡ c → StoresOwn r
+        → ReadsWell r.config.address p (taken answer_of after c r p)
+    taken_well (Err fault) r p here read own = record { goes = inl refl; said = here; stored = here }
+    taken_well (Ok c) r p here read own =
+        let queue = released r.queue in
+        let event = event_for c queue.events in
+        let a = event_or_answer answer_of after event r.config r.handler c in
+        let back = reply_packet p p.sequence a.reply in
+        let is = moves (new_address c) (record r { last = Some p.sequence; stored = Some back; queue = offering event queue; handler = a.handler }) here in
+        record {
+          goes = elim is.0 [ inl stays ↦ inl stays | inr went ↦ inr (ap address_in read ∙ went) ];
+          said = here;
+          stored = is.1;
+        }
+
+    outcome_well : (k : Kind) (r : ReaderState H) (p : Packet) → p.address ≡ r.config.address → StoresOwn r
+        → ReadsWell r.config.address p (outcome answer_of after k r p)
+    outcome_well kind.Silent r p here own = record { goes = inl refl; said = tt; stored = own }
+    outcome_well kind.Secured r p here own = record { goes = inl refl; said = here; stored = own }
+    outcome_well kind.Zero r p here own = begun_well (command_in p) r p here refl own
+    outcome_well kind.Repeat r p here own = record { goes = inl refl; said = own; stored = own }
+    outcome_well kind.Taken r p here own = taken_well (command_in p) r p here refl own
+    outcome_well kind.Busy r p here own = record { goes = inl refl; said = here; stored = own }
+    outcome_well kind.Wrong r p here own = record { goes = inl refl; said = here; stored = own }
+
+    pub reads_well : (r : ReaderState H) (p : Packet) → p.address ≡ r.config.address → StoresOwn r
+        → ReadsWell r.config.address p (hears answer_of after r p)
+    reads_well r p here own = outcome_well (kind_of r p) r p here own

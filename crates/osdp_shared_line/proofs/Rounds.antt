@@ -1,0 +1,378 @@
+-- Rounds that lose nothing are for each site its own rounds.
+use Rattle.std.proofs.Common.{◌≡◌, ◌≢◌, ◌⊎◌, ◌<◌, ℕ, zero, suc, true, false, cond, eqb, List, [], ◌∷◌, ◌++◌, length, Option, Some, None, IfSome, refl, sym, subst, ap, ◌∙◌, inl, inr, arith}
+use Rattle.std.proofs.lemmas.Bool.Decides.{eqb_tells}
+use Rattle.std.specs.Prelude.{Bool, map, option_to_list}
+use Rattle.osdp_frame.specs.Packet.{Packet}
+use Rattle.osdp_msg.specs.declared.command.Command.{Command}
+use Rattle.osdp_controller.specs.Sessions.{seen}
+use Rattle.osdp_controller.specs.Ticking as ticking
+use Rattle.osdp_controller.specs.declared.state.State.TheVariants.{Closed}
+use Rattle.osdp_reader.specs.declared.handler.Answer.{Answer}
+use Rattle.osdp_link_laws.specs.Headline.{MovesFit, SaysWhatFitsIf}
+use Rattle.osdp_link_laws.specs.Link as link
+use Rattle.osdp_link_laws.specs.Link.{Delivered, Link, Move, after_move}
+use Rattle.osdp_link_laws.specs.Peers.{ReadsWhatIsAsked}
+use Rattle.osdp_link_laws.specs.Progress.{AreDue, AreLate, ComeOn, ComesThrough, ComesThroughInTime, IsClear, SetsNoAddress, round, rounds}
+use Rattle.osdp_link_laws.proofs.Lines.{each_of}
+use Rattle.osdp_shared_line.specs.Addresses.{NetMovesFit, unended}
+use Rattle.osdp_shared_line.specs.Line as line
+use Rattle.osdp_shared_line.specs.Line.{Net, NetMove, Site, Tick, ToPanel, address_of, after_net, changed, first_gets, gets, is_told, run, site_at, tagged}
+use Rattle.osdp_shared_line.specs.Progress.{AreRounds, EachComesThrough, EachComesThroughInTime, IsEmpty, RoundsAreItsOwn, all_read, moments_of, net_round, net_rounds}
+use Rattle.osdp_shared_line.specs.Runs.{IsItsLink, moves_of}
+use Rattle.osdp_shared_line.specs.Views as views
+use Rattle.osdp_shared_line.specs.Views.{IsMoved, front_to_panel, one_if, own, own_reply, other_reply, view}
+use Rattle.osdp_shared_line.proofs.Apart.{Apart, reader_address}
+use Rattle.osdp_shared_line.proofs.Controllers.{ticks_well}
+use Rattle.osdp_shared_line.proofs.Delivering.{gets_one}
+use Rattle.osdp_shared_line.proofs.Linking.{each_is_a_link, moves_more, viewed}
+use Rattle.osdp_shared_line.proofs.Moving.{each_is_its_own, one_is, one_not}
+use Rattle.osdp_shared_line.proofs.Reading.{Between, IsSeen, all_between, reads_none, reads_own}
+use Rattle.osdp_shared_line.proofs.Running.{apart_after, apart_all, apart_first, by_own}
+use Rattle.osdp_shared_line.proofs.Sites.{changed_from, map_from, some_same}
+use Rattle.osdp_shared_line.proofs.Still.{IsStill, round_still}
+use Rattle.osdp_link_laws.proofs.Numbers.{is_false, is_true}
+
+at_length : {A : Type 0} (m : ℕ) (u : A) (ss : List A) → site_at m ss ≡ Some u → m < length ss
+at_length m u [] is = absurd cc
+at_length zero u (s ∷ ss) is = omega arith
+at_length (suc m) u (s ∷ ss) is = let more = at_length m u ss is in omega (arith, more)
+
+module _ {H : Type 0} (answer_of : H → Command → Answer) (after : H → Command → H) where
+  -- ---- one list of moves of all after another
+
+  net_more : (ms more : List (NetMove H)) (n : Net H) → run answer_of after (ms ++ more) n ≡ run answer_of after more (run answer_of after ms n)
+  net_more [] more n = refl
+  net_more (m ∷ ms) more n = net_more ms more (after_net answer_of after m n)
+
+  fits_first : (ms more : List (NetMove H)) (n : Net H) → NetMovesFit answer_of after (ms ++ more) n → NetMovesFit answer_of after ms n
+  fits_first [] more n fits = tt
+  fits_first (m ∷ ms) more n fits = (fits.0, fits_first ms more (after_net answer_of after m n) fits.1)
+
+  fits_then : (ms more : List (NetMove H)) (n : Net H) → NetMovesFit answer_of after (ms ++ more) n
+      → NetMovesFit answer_of after more (run answer_of after ms n)
+  fits_then [] more n fits = fits
+  fits_then (m ∷ ms) more n fits = fits_then ms more (after_net answer_of after m n) fits.1
+
+  module _ (known : ReadsWhatIsAsked) (total : ℕ) where
+    abbrev IsFew : Net H → Type 0
+    IsFew n = (m : ℕ) (u : Site H) → site_at m n.sites ≡ Some u → m < total
+
+    -- ---- a controller ticks
+
+    abbrev Together : ℕ → Net H → Type 0
+    Together i n = (s : Site H) → site_at i n.sites ≡ Some s → reader_address s ≡ address_of s
+
+    ticked : (i now : ℕ) (x : Option (Site H)) (n : Net H) → site_at i n.sites ≡ x → Apart n → IsEmpty n → IsFew n
+        → (o : Option Packet) × Between answer_of after known total total i o (Together i n) (line.tick_at answer_of after i now x n)
+    ticked i now None n at a empty few = (
+      None,
+      record {
+        few = few;
+        unread = λ m u is lt. empty.coming m u is;
+        read = λ m u is le. empty.coming m u is;
+        said = None;
+        panel = empty.to_panel;
+        before = λ lt. refl;
+        mine = λ lt u is together. together u is;
+        away = tt;
+        own = tt;
+      },
+    )
+    ticked i now (Some s) n at a empty few = (
+      frame,
+      record {
+        few = λ m u is. let v = from m u is in few m v.0 v.1;
+        unread = λ m u is lt. let v = from m u is in v.2;
+        read = λ m u is le. let v = from m u is in absurd (let small = few m v.0 v.1 in omega (arith, small, le));
+        said = None;
+        panel = empty.to_panel;
+        before = λ lt. refl;
+        mine = λ lt u is together. own u is (together s at);
+        away = tt;
+        own = tt;
+      },
+    )
+      where
+        t : Site H
+        t = line.ticks answer_of after now s
+
+        frame : Option Packet
+        frame = (ticking.ticks now s.controller.session s.controller.waiting).step.frame
+
+        said : List (ℕ × Packet)
+        said = tagged i (option_to_list frame)
+
+        from : (m : ℕ) (u : Site H) → site_at m (map (is_told said) (changed i t n.sites)) ≡ Some u
+            → (v : Site H) × (site_at m n.sites ≡ Some v) × (u.coming ≡ said)
+        from m u is =
+            let old = map_from (is_told said) m u (changed i t n.sites) is in
+            elim (changed_from m i t s old.0 n.sites at old.1) [
+              | inl here ↦ (
+                s,
+                subst (λ j. site_at j n.sites ≡ Some s) (sym here.0) at,
+                ap (λ (w : Site H). w.coming) old.2 ∙ ap (λ (w : Site H). w.coming ++ said) here.1 ∙ ap (λ ps. ps ++ said) (empty.coming i s at),
+              )
+              | inr other ↦ (
+                old.0,
+                other.1,
+                ap (λ (w : Site H). w.coming) old.2 ∙ ap (λ ps. ps ++ said) (empty.coming m old.0 other.1),
+              )
+            ]
+
+        own : (u : Site H) → site_at i (map (is_told said) (changed i t n.sites)) ≡ Some u → reader_address s ≡ address_of s
+            → reader_address u ≡ address_of u
+        own u is together =
+            let old = map_from (is_told said) i u (changed i t n.sites) is in
+            let well = ticks_well known s.controller.session.state (seen now s.controller.session) s.controller.waiting refl (a.kept i s at).fits in
+            elim (changed_from i i t s old.0 n.sites at old.1) [
+              | inl here ↦
+                  ap (λ (w : Site H). reader_address w) old.2 ∙ ap (λ (w : Site H). reader_address w) here.1 ∙ together
+                  ∙ sym (ap (λ (w : Site H). address_of w) old.2 ∙ ap (λ (w : Site H). address_of w) here.1 ∙ well.address)
+              | inr other ↦ absurd (other.0 refl)
+            ]
+
+    -- ---- the panel reads
+
+    emptied : (x : Option Packet) (i now : ℕ) (n : Net H) → n.to_panel ≡ tagged i (option_to_list x)
+        → ((m : ℕ) (u : Site H) → site_at m n.sites ≡ Some u → u.coming ≡ []) → IsFew n
+        → IsEmpty (line.to_panel n.to_panel Delivered now n) × IsFew (line.to_panel n.to_panel Delivered now n)
+    emptied None i now n is coming few =
+        subst (λ qs. IsEmpty (line.to_panel qs Delivered now n) × IsFew (line.to_panel qs Delivered now n)) (sym is)
+        (record { coming = coming; to_panel = is }, few)
+    emptied (Some q) i now n is coming few =
+        subst (λ qs. IsEmpty (line.to_panel qs Delivered now n) × IsFew (line.to_panel qs Delivered now n)) (sym is)
+        (record { coming = λ m u there. (from m u there).2; to_panel = refl }, λ m u there. let v = from m u there in few m v.0 v.1)
+      where
+        from : (m : ℕ) (u : Site H) → site_at m (first_gets q now n.sites) ≡ Some u → (v : Site H) × (site_at m n.sites ≡ Some v) × (u.coming ≡ [])
+        from m u there = elim (gets_one q now n.sites) [
+          | inl none ↦ (let same = subst (λ ss. site_at m ss ≡ Some u) none there in (u, same, coming m u same))
+          | inr (j, s, at, one) ↦
+              elim (changed_from m j (gets q now s) s u n.sites at (subst (λ ss. site_at m ss ≡ Some u) one there)) [
+                | inl here ↦ (s, subst (λ l. site_at l n.sites ≡ Some s) (sym here.0) at, ap (λ (w : Site H). w.coming) here.1 ∙ coming j s at)
+                | inr other ↦ (u, other.1, coming m u other.1)
+              ]
+        ]
+
+    -- what it reads is none of another site's
+    panel_none : (x : Option Packet) (k i now : ℕ) (here : ℕ) (qs : List (ℕ × Packet)) → qs ≡ tagged i (option_to_list x) → i ≢ k
+        → IfSome x (λ q. here ≢ q.address) → front_to_panel {H = H} k here qs Delivered now ≡ []
+    panel_none None k i now here qs is other away = ap (λ l. front_to_panel k here l Delivered now) is
+    panel_none (Some q) k i now here qs is other away =
+        ap (λ l. front_to_panel k here l Delivered now) is
+        ∙ ap (λ b. cond b (own_reply here q Delivered now) (other_reply here q Delivered now)) (is_false i k other)
+        ∙ ap (λ b. cond b (link.Tick now ∷ []) []) (is_false here q.address away)
+
+    -- .. and its own
+    panel_own : (x : Option Packet) (i now : ℕ) (s : Site H) (ps : List Packet) (qs : List (ℕ × Packet)) → qs ≡ tagged i (option_to_list x)
+        → IfSome x (λ q. address_of s ≡ q.address)
+        → link.run answer_of after (front_to_panel i (address_of s) qs Delivered now) (line.link_of s ps (own i qs))
+        ≡ after_move answer_of after (link.ToController Delivered now) (line.link_of s ps (own i qs))
+    panel_own None i now s ps qs is at =
+        subst (λ l. link.run answer_of after (front_to_panel i (address_of s) l Delivered now) (line.link_of s ps (own i l))
+        ≡ after_move answer_of after (link.ToController Delivered now) (line.link_of s ps (own i l))) (sym is) refl
+    panel_own (Some q) i now s ps qs is at =
+        subst (λ l. link.run answer_of after (front_to_panel i (address_of s) l Delivered now) (line.link_of s ps (own i l))
+        ≡ after_move answer_of after (link.ToController Delivered now) (line.link_of s ps (own i l))) (sym is)
+        (ap (λ ms. link.run answer_of after ms (line.link_of s ps (own i ((i, q) ∷ []))))
+        (ap (λ b. cond b (own_reply (address_of s) q Delivered now) (other_reply (address_of s) q Delivered now)) (is_true i i refl)
+        ∙ ap (λ b. cond b (link.ToController Delivered now ∷ []) (views.lost Delivered now)) (is_true (address_of s) q.address at)))
+
+    -- ---- a round
+
+    pub record IsRound (k i now : ℕ) (s : Site H) (n next : Net H) : Type 0 where
+      pub apart : Apart next
+      pub empty : IsEmpty next
+      pub few : IsFew next
+      pub seen : IsSeen answer_of after known k (link.run answer_of after (cond (eqb i k) (round now) []) (view k s n)) next
+      pub fits : MovesFit answer_of after (cond (eqb i k) (round now) []) (view k s n)
+
+    one_round : (k i now : ℕ) (s : Site H) (n : Net H) → site_at k n.sites ≡ Some s → (i ≡ k → reader_address s ≡ address_of s) → Apart n → IsEmpty n
+        → IsFew n → NetMovesFit answer_of after (net_round total (i, now)) n
+        → IsRound k i now s n (run answer_of after (net_round total (i, now)) n)
+    one_round k i now s n is together a empty few fits =
+        subst (IsRound k i now s n) (sym (net_more (all_read total) (ToPanel Delivered now ∷ []) n1)) (record {
+          apart = apart_after answer_of after known (ToPanel Delivered now) n2 tt a2;
+          empty = done.0;
+          few = done.1;
+          seen = (by_turn (eqb_tells i k)).0;
+          fits = (by_turn (eqb_tells i k)).1;
+        })
+      where
+        n1 : Net H
+        n1 = after_net answer_of after (Tick i now) n
+
+        a1 : Apart n1
+        a1 = apart_after answer_of after known (Tick i now) n tt a
+
+        begun : (o : Option Packet) × Between answer_of after known total total i o (Together i n) n1
+        begun = ticked i now (site_at i n.sites) n refl a empty few
+
+        reading_fits : NetMovesFit answer_of after (all_read total) n1
+        reading_fits = fits_first (all_read total) (ToPanel Delivered now ∷ []) n1 fits.1
+
+        n2 : Net H
+        n2 = run answer_of after (all_read total) n1
+
+        read : Apart n2 × Between answer_of after known 0 total i begun.0 (Together i n) n2
+        read = all_between answer_of after known total total i begun.0 (Together i n) n1 reading_fits a1 begun.1
+
+        a2 : Apart n2
+        a2 = read.0
+
+        b2 : Between answer_of after known 0 total i begun.0 (Together i n) n2
+        b2 = read.1
+
+        n3 : Net H
+        n3 = after_net answer_of after (ToPanel Delivered now) n2
+
+        done : IsEmpty n3 × IsFew n3
+        done = emptied b2.said i now n2 b2.panel (λ m u there. b2.read m u there (omega arith)) b2.few
+
+        m1 : IsMoved answer_of after k s (one_if i k (link.Tick now)) n n1
+        m1 = each_is_its_own answer_of after n (Tick i now) (by_own n a) tt k s is
+
+        if_map : {A : Type 0} {P Q : A → Type 0} (x : Option A) → ((y : A) → P y → Q y) → IfSome x P → IfSome x Q
+        if_map None f all = tt
+        if_map (Some y) f all = f y all
+
+        by_turn : ((eqb i k ≡ true) × (i ≡ k)) ⊎ ((eqb i k ≡ false) × (i ≢ k))
+            → IsSeen answer_of after known k (link.run answer_of after (cond (eqb i k) (round now) []) (view k s n)) n3
+            × MovesFit answer_of after (cond (eqb i k) (round now) []) (view k s n)
+        by_turn (inr differs) =
+            let seen = reads_none answer_of after known total total i begun.0 (Together i n) n1 k m1.site m1.there reading_fits a1 begun.1 (inl differs.1) in
+            let m3 = each_is_its_own answer_of after n2 (ToPanel Delivered now) (by_own n2 a2) tt k seen.site seen.there in
+            subst (λ b. IsSeen answer_of after known k (link.run answer_of after (cond b (round now) []) (view k s n)) n3
+            × MovesFit answer_of after (cond b (round now) []) (view k s n)) (sym differs.0) (
+              record {
+                site = m3.site;
+                there = m3.there;
+                seen = m3.moved
+                    ∙ ap (λ ms. link.run answer_of after ms (view k seen.site n2))
+                    (panel_none b2.said k i now (address_of seen.site) n2.to_panel b2.panel differs.1
+                    (if_map b2.said (λ q far. far k seen.site (λ e. differs.1 (sym e)) seen.there) b2.away))
+                    ∙ seen.seen ∙ m1.moved
+                    ∙ ap (λ ms. link.run answer_of after ms (view k s n)) (one_not i k (link.Tick now) differs.1);
+              },
+              tt,
+            )
+        by_turn (inl equal) =
+            let there1 = subst (λ j. site_at j n1.sites ≡ Some m1.site) (sym equal.1) m1.there in
+            let told = reads_own answer_of after known total total i begun.0 (Together i n) n1 m1.site there1 (begun.1.few i m1.site there1) reading_fits a1 begun.1 in
+            let seen = told.1 in
+            let m3 = each_is_its_own answer_of after n2 (ToPanel Delivered now) (by_own n2 a2) tt i seen.site seen.there in
+            let ticks : view i m1.site n1 ≡ after_move answer_of after (link.Tick now) (view i s n) =
+            subst (λ j. view j m1.site n1 ≡ after_move answer_of after (link.Tick now) (view j s n)) (sym equal.1)
+            (m1.moved ∙ ap (λ ms. link.run answer_of after ms (view k s n)) (one_is i k (link.Tick now) equal.1))
+            in
+            let near = if_map b2.said (λ q close. close seen.site seen.there (λ u at.
+            subst (λ v. reader_address v ≡ address_of v) (some_same s u (sym (subst (λ j. site_at j n.sites ≡ Some s) (sym equal.1) is) ∙ at)) (together equal.1)))
+            b2.own
+            in
+            subst (λ b. IsSeen answer_of after known k (link.run answer_of after (cond b (round now) []) (view k s n)) n3
+            × MovesFit answer_of after (cond b (round now) []) (view k s n)) (sym equal.0)
+            (subst (λ j. IsSeen answer_of after known j (link.run answer_of after (round now) (view j s n)) n3
+            × MovesFit answer_of after (round now) (view j s n)) equal.1 (
+              record {
+                site = m3.site;
+                there = m3.there;
+                seen = m3.moved
+                    ∙ panel_own b2.said i now seen.site (own i seen.site.coming) n2.to_panel b2.panel near
+                    ∙ ap (after_move answer_of after (link.ToController Delivered now)) (seen.seen ∙ ap (after_move answer_of after (link.ToReader Delivered)) ticks);
+              },
+              (
+                tt,
+                (subst (λ (l : Link H). SaysWhatFitsIf answer_of after Delivered l.to_reader l.reader) ticks told.0, (tt, tt)),
+              ),
+            ))
+
+    -- ---- one round after another
+
+    all_rounds : (turns : List (ℕ × ℕ)) (k : ℕ) (s : Site H) (n : Net H) → site_at k n.sites ≡ Some s → Apart n → IsEmpty n → IsFew n
+        → IsStill (view k s n) → NetMovesFit answer_of after (net_rounds total turns) n
+        → IsSeen answer_of after known k (link.run answer_of after (rounds (moments_of k turns)) (view k s n)) (run answer_of after (net_rounds total turns) n)
+        × MovesFit answer_of after (rounds (moments_of k turns)) (view k s n)
+    all_rounds [] k s n is a empty few still fits = (record { site = s; there = is; seen = refl }, tt)
+    all_rounds (turn ∷ turns) k s n is a empty few still fits =
+        let next = run answer_of after (net_round total turn) n in
+        let r = one_round k turn.0 turn.1 s n is (λ e. still.together) a empty few (fits_first (net_round total turn) (net_rounds total turns) n fits) in
+        let now_still = subst IsStill (sym r.seen.seen) (stays (eqb turn.0 k) turn.1) in
+        let rest = all_rounds turns k r.seen.site next r.seen.there r.apart r.empty r.few now_still (fits_then (net_round total turn) (net_rounds total turns) n fits) in (
+          subst (IsSeen answer_of after known k (link.run answer_of after (rounds (moments_of k (turn ∷ turns))) (view k s n)))
+              (sym (net_more (net_round total turn) (net_rounds total turns) n)) (record {
+                site = rest.0.site;
+                there = rest.0.there;
+                seen = rest.0.seen ∙ ap (link.run answer_of after (rounds (moments_of k turns))) r.seen.seen ∙ joins (eqb turn.0 k);
+              }),
+          fit (eqb turn.0 k) r.fits (subst (MovesFit answer_of after (rounds (moments_of k turns))) r.seen.seen rest.1),
+        )
+      where
+        stays : (b : Bool) (now : ℕ) → IsStill (link.run answer_of after (cond b (round now) []) (view k s n))
+        stays true now = round_still answer_of after known now (view k s n) (ap (own k) (empty.coming k s is)) still
+        stays false now = still
+
+        joins : (b : Bool) → link.run answer_of after (rounds (moments_of k turns)) (link.run answer_of after (cond b (round turn.1) []) (view k s n))
+            ≡ link.run answer_of after (rounds (cond b (turn.1 ∷ moments_of k turns) (moments_of k turns))) (view k s n)
+        joins true = refl
+        joins false = refl
+
+        fit : (b : Bool) → MovesFit answer_of after (cond b (round turn.1) []) (view k s n)
+            → MovesFit answer_of after (rounds (moments_of k turns)) (link.run answer_of after (cond b (round turn.1) []) (view k s n))
+            → MovesFit answer_of after (rounds (cond b (turn.1 ∷ moments_of k turns) (moments_of k turns))) (view k s n)
+        fit true first more = moves_more answer_of after (round turn.1) (rounds (moments_of k turns)) (view k s n) first more
+        fit false first more = more
+
+  -- ---- from the beginning
+
+  module _ (known : ReadsWhatIsAsked) where
+    come : (n : Net H) (moves : List (NetMove H)) (turns : List (ℕ × ℕ)) (k : ℕ) (first s last : Site H) → AreRounds answer_of after n moves turns k first s last
+        → let later = run answer_of after moves n in
+        (view k last (run answer_of after (net_rounds (length later.sites) turns) later)
+        ≡ link.run answer_of after (rounds (moments_of k turns)) (view k s later))
+        × MovesFit answer_of after (rounds (moments_of k turns)) (view k s later)
+    come n moves turns k first s last h =
+        let later = run answer_of after moves n in
+        let a = apart_all answer_of after known moves n h.fits (apart_first n h.up) in
+        let kept = a.kept k s h.is in
+        let all = all_rounds known (length later.sites) turns k s later h.is a h.empty (λ m u there. at_length m u later.sites there) (record {
+          together = h.ready.clear.address;
+          none = each_of SetsNoAddress (unended s) h.ready.unended;
+          fits = kept.fits;
+          stored = kept.stored;
+        }) h.rounds_fit in (
+          subst (λ v. view k v (run answer_of after (net_rounds (length later.sites) turns) later)
+              ≡ link.run answer_of after (rounds (moments_of k turns)) (view k s later)) (some_same all.0.site last (sym all.0.there ∙ h.there)) all.0.seen,
+          all.1,
+        )
+
+    pub rounds_are_its_own : RoundsAreItsOwn answer_of after
+    rounds_are_its_own n moves turns k first s last h = (come n moves turns k first s last h).0
+
+    -- the link of the site after the moves
+    its_link : (n : Net H) (moves : List (NetMove H)) (turns : List (ℕ × ℕ)) (k : ℕ) (first s last : Site H) → AreRounds answer_of after n moves turns k first s last
+        → IsItsLink answer_of after k first moves n
+    its_link n moves turns k first s last h = each_is_a_link answer_of after known n moves h.up h.fits k first h.was
+
+    pub each_comes_through : ComesThrough answer_of after → EachComesThrough answer_of after
+    each_comes_through through n moves turns k first s last h due =
+        let later = run answer_of after moves n in
+        let own = its_link n moves turns k first s last h in
+        let came = come n moves turns k first s last h in
+        let same = viewed answer_of after (each_is_a_link answer_of after known) n moves k first s own h.is in
+        subst (λ (l : Link H). ComeOn (moments_of k turns) s.account l.account) (sym came.0)
+        (subst (λ (l : Link H). ComeOn (moments_of k turns) l.account (link.run answer_of after (rounds (moments_of k turns)) l).account) (sym same)
+        (through (view k first n) (moves_of answer_of after k moves n) (moments_of k turns) (h.up.begins k first h.was) own.fits
+        (subst IsClear same h.ready.clear) (subst (AreDue answer_of after (moments_of k turns)) same due)
+        (subst (MovesFit answer_of after (rounds (moments_of k turns))) same came.1)))
+
+    pub each_comes_through_in_time : ComesThroughInTime answer_of after → EachComesThroughInTime answer_of after
+    each_comes_through_in_time through n moves turns k first s last h range late =
+        let later = run answer_of after moves n in
+        let own = its_link n moves turns k first s last h in
+        let came = come n moves turns k first s last h in
+        let same = viewed answer_of after (each_is_a_link answer_of after known) n moves k first s own h.is in
+        subst (λ (l : Link H). (l.controller.session.state ≡ Closed) ⊎ ComeOn (moments_of k turns) s.account l.account) (sym came.0)
+        (subst (λ (l : Link H). let end = link.run answer_of after (rounds (moments_of k turns)) l in
+        (end.controller.session.state ≡ Closed) ⊎ ComeOn (moments_of k turns) l.account end.account) (sym same)
+        (through (view k first n) (moves_of answer_of after k moves n) (moments_of k turns) (h.up.begins k first h.was) range own.fits
+        (subst IsClear same h.ready.clear) (subst (AreLate answer_of after (moments_of k turns)) same late)
+        (subst (MovesFit answer_of after (rounds (moments_of k turns))) same came.1)))

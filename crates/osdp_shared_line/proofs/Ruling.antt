@@ -1,0 +1,232 @@
+-- What a program notes holds after each move.
+use Rattle.std.proofs.Common.{◌≡◌, ◌≢◌, ◌⊎◌, ℕ, Bool, true, false, cond, List, [], ◌∷◌, ◌++◌, Option, Some, None, refl, sym, subst, ap, ◌∙◌, inl, inr, append_assoc}
+use Rattle.osdp_frame.specs.Packet.{Packet}
+use Rattle.osdp_msg.specs.declared.command.Command.{Command}
+use Rattle.osdp_controller.specs.Comsets.{has_comset}
+use Rattle.osdp_controller.specs.Hearing.{comset_of}
+use Rattle.osdp_controller.specs.Machine as controllers
+use Rattle.osdp_controller.specs.declared.fault.ControllerFault.{ControllerFault}
+use Rattle.osdp_controller.specs.declared.state.State.{State}
+use Rattle.osdp_controller.specs.declared.state.State.TheVariants.{Closed, Quiet, Idle, Waiting, Pausing}
+use Rattle.osdp_controller.specs.States.{is_closed}
+use Rattle.osdp_msg.specs.declared.event.Event.{Event}
+use Rattle.osdp_reader.specs.declared.handler.Answer.{Answer}
+use Rattle.osdp_link_laws.specs.Link as link
+use Rattle.osdp_link_laws.specs.Link.{Delivered, Delivery, Link, Lost, Repeated, lost_at}
+use Rattle.osdp_link_laws.proofs.Lines.{each_map, each_of}
+use Rattle.osdp_link_laws.proofs.Numbers.{is_false, is_true}
+use Rattle.osdp_shared_line.specs.Addresses.{IsAsked, IsSaid, IsThere, MayComeTo, Sets, Somewhere, asked_in, unended}
+use Rattle.osdp_shared_line.specs.Line as line
+use Rattle.osdp_shared_line.specs.Line.{LoseToPanel, LoseToReader, Net, NetMove, Queue, Reopen, RestartPanel, RestartReader, Retarget, SetBusy, SetHandler, Site, Submit, Tick, ToPanel, ToReader, Withdraw, address_of, after_net, calls, changed, first_gets, gets, is_comset_refused, is_retarget_refused, is_taken_beside, is_told, left_by, link_of, restarts, site_at, tagged}
+use Rattle.osdp_shared_line.specs.Programs.{IsKnown, KeepsRule, Note, also_at, note_after, notes_after, two_addresses}
+use Rattle.osdp_shared_line.specs.Views.{IsQuiet}
+use Rattle.osdp_shared_line.proofs.Apart.{all_left}
+use Rattle.osdp_shared_line.proofs.Changing.{Nothing, or_false, was_closed}
+use Rattle.osdp_shared_line.proofs.Lists.{somewhere_front, somewhere_split}
+use Rattle.osdp_shared_line.proofs.Noting.{AsksFor, Free, Goes, IsIn, IsNoted, Noted, OwnFrom, Softly, TakesNone, are_two, as_is, changes, none_asks, noted_more, plainly, sets_asks, soft, two_are}
+use Rattle.osdp_shared_line.proofs.Sites.{some_same}
+
+pub false_true : false ≡ true → ⊥
+false_true is = cc
+
+module _ {H : Type 0} (answer_of : H → Command → Answer) (after : H → Command → H) where
+  -- ---- calls that set no address
+
+  module _ (n : Net H) (notes : ℕ → Note) (h : Noted n notes) (i : ℕ) where
+    pub quiet_call : (move : NetMove H) (change : Site H → Site H) → ((k : ℕ) (s : Site H) → note_after k s move n (notes k) ≡ notes k)
+        → ((s : Site H) → site_at i n.sites ≡ Some s → Softly s (change s)) → Noted (line.change_at i (site_at i n.sites) change n) (notes_after move n notes)
+    quiet_call move change none goes = changes n notes move h i (λ s. false) change (λ k s other. none k s)
+        (λ s at. (λ e. plainly n notes move h i i s (change s) n.to_panel (none i s) (goes s at) (λ all. all) at, λ e. absurd (false_true e)))
+        (site_at i n.sites) refl
+
+    pub queueing : (full : Bool) (e : Event) (s : Site H) → Softly s (left_by s (link.queues full e (link_of s [] [])))
+    queueing true e s = record { address = refl; left = all_left (unended s); reader = refl; coming = Nothing refl; opens = λ is. is }
+    queueing false e s = record { address = refl; left = all_left (unended s); reader = refl; coming = Nothing refl; opens = λ is. is }
+
+    -- ---- a command
+
+    submitted : (c : Command) (fault : Option ControllerFault) (r : Option ℕ) (s : Site H) (note : Note) → IsNoted i s note n.to_panel
+        → IsNoted i (line.keeping r (left_by s (link.submits fault c (link_of s [] [])))) (also_at (two_addresses (address_of s) (comset_of c)) note) n.to_panel
+    submitted c (Some fault) r s note is =
+        soft i s (line.keeping r s) (also_at (two_addresses (address_of s) (comset_of c)) note) n.to_panel n.to_panel (record {
+          address = refl;
+          left = all_left (unended s);
+          reader = refl;
+          coming = Nothing refl;
+          opens = λ opens. opens;
+        }) (λ all. all) (noted_more i s (two_addresses (address_of s) (comset_of c)) note n.to_panel is)
+    submitted c None r s note is = record { may = may; asked = asked; begun = λ b. let f = is.begun b in record { state = f.state; coming = f.coming; said = f.said } }
+      where
+        more : List ℕ
+        more = two_addresses (address_of s) (comset_of c)
+
+        before : IsNoted i s (also_at more note) n.to_panel
+        before = noted_more i s more note n.to_panel is
+
+        t : Site H
+        t = line.keeping r (left_by s (link.submits None c (link_of s [] [])))
+
+        longer : unended t ≡ unended s ++ c ∷ []
+        longer = sym (append_assoc (asked_in s.controller.session.state) s.controller.waiting (c ∷ []))
+
+        new : (a : ℕ) → AsksFor a c → IsIn a (more ++ note.addresses) × IsIn (address_of s) (more ++ note.addresses)
+        new a (d, asks, at) =
+            let two = are_two (comset_of c) (address_of s) a d asks at in
+            (somewhere_front (λ b. b ≡ a) more note.addresses two.0, somewhere_front (λ b. b ≡ address_of s) more note.addresses two.1)
+
+        asked : (a : ℕ) → Somewhere (AsksFor a) (unended t) → IsIn a (more ++ note.addresses) × IsIn (address_of s) (more ++ note.addresses)
+        asked a found = elim (somewhere_split (AsksFor a) (unended s) (c ∷ []) (subst (Somewhere (AsksFor a)) longer found)) [
+          | inl old ↦ before.asked a old
+          | inr last ↦ elim last [ inl this ↦ new a this | inr none ↦ absurd none ]
+        ]
+
+        may : (a : ℕ) → MayComeTo a i t → IsKnown a t (also_at more note)
+        may a (IsThere there) = before.may a (IsThere there)
+        may a (IsSaid said) = before.may a (IsSaid said)
+        may a (IsAsked found) = inr (asked a (sets_asks a (unended t) found)).0
+
+    pub submitting : (c : Command) → KeepsRule (Submit i c) n notes
+        → Noted (after_net answer_of after (Submit i c) n) (notes_after (Submit i c) n notes)
+    submitting c rule = changes n notes (Submit i c) h i (λ s. is_comset_refused i (comset_of c) s n.sites) (line.submits answer_of after c)
+        (λ k s other. ap (λ b. cond b (also_at (two_addresses (address_of s) (comset_of c)) (notes k)) (notes k)) (is_false i k (λ e. other (sym e))))
+        (λ s at. (
+          λ e. goes s at (line.submits answer_of after c s) (stays (controllers.submit_refusal c s.controller) s) (submitted c (controllers.submit_refusal c s.controller)
+              (line.submits answer_of after c s).reserved s (notes i) (h.sites i s at)),
+          λ e. goes s at s refl (noted_more i s (two_addresses (address_of s) (comset_of c)) (notes i) n.to_panel (h.sites i s at)),
+        ))
+        (site_at i n.sites) refl
+      where
+        stays : (fault : Option ControllerFault) (s : Site H) → address_of (left_by s (link.submits fault c (link_of s [] []))) ≡ address_of s
+        stays None s = refl
+        stays (Some fault) s = refl
+
+        goes : (s : Site H) → site_at i n.sites ≡ Some s → (u : Site H) → address_of u ≡ address_of s
+            → IsNoted i u (also_at (two_addresses (address_of s) (comset_of c)) (notes i)) n.to_panel → Goes n notes (Submit i c) h i i s u n.to_panel
+        goes s at u here noted = record {
+          noted = subst (λ b. IsNoted i u (cond b (also_at (two_addresses (address_of s) (comset_of c)) (notes i)) (notes i)) n.to_panel) (sym (is_true i i refl)) noted;
+          known = λ a is. known a (subst (λ b. IsKnown a u (cond b (also_at (two_addresses (address_of s) (comset_of c)) (notes i)) (notes i))) (is_true i i refl) is);
+        }
+          where
+            known : (a : ℕ) → IsKnown a u (also_at (two_addresses (address_of s) (comset_of c)) (notes i)) → IsKnown a s (notes i) ⊎ ((i ≡ i) × Free n notes (Submit i c) h i a)
+            known a (inl is) = inl (inl (sym here ∙ is))
+            known a (inr is) = elim (somewhere_split (λ b. b ≡ a) (two_addresses (address_of s) (comset_of c)) (notes i).addresses is) [
+              | inl two ↦ elim (two_are (comset_of c) (address_of s) a two) [
+                | inl same ↦ inl (inl same)
+                | inr (d, asks, to) ↦ inr (refl, λ j t other there known. rule d asks j t other there (subst (λ b. IsKnown b t (notes j)) (sym to) known))
+              ]
+              | inr old ↦ inl (inr old)
+            ]
+
+    -- ---- an address is set
+
+    pub retargeting : (x : ℕ) → KeepsRule (Retarget i x) n notes → Noted (after_net answer_of after (Retarget i x) n) (notes_after (Retarget i x) n notes)
+    retargeting x (s0, at0, given) = changes n notes (Retarget i x) h i (λ s. is_retarget_refused i x s n.sites) (line.retargets answer_of after x)
+        (λ k s other. ap (λ b. cond b (also_at (address_of s ∷ []) (notes k)) (notes k)) (is_false i k (λ e. other (sym e))))
+        (λ s at. (
+          λ e. set (controllers.retarget_refusal x s.controller) (line.retargets answer_of after x s).reserved s refl at
+              (or_false (is_taken_beside i x n.sites) (has_comset s.controller.waiting) e).1,
+          λ e. goes s s (noted_more i s (address_of s ∷ []) (notes i) n.to_panel (h.sites i s at)) (λ a is. inl is),
+        ))
+        (site_at i n.sites) refl
+      where
+        goes : (s u : Site H) → IsNoted i u (also_at (address_of s ∷ []) (notes i)) n.to_panel
+            → ((a : ℕ) → address_of u ≡ a → IsKnown a s (notes i)) → Goes n notes (Retarget i x) h i i s u n.to_panel
+        goes s u noted own = record {
+          noted = subst (λ b. IsNoted i u (cond b (also_at (address_of s ∷ []) (notes i)) (notes i)) n.to_panel) (sym (is_true i i refl)) noted;
+          known = λ a is. inl (known a (subst (λ b. IsKnown a u (cond b (also_at (address_of s ∷ []) (notes i)) (notes i))) (is_true i i refl) is));
+        }
+          where
+            known : (a : ℕ) → IsKnown a u (also_at (address_of s ∷ []) (notes i)) → IsKnown a s (notes i)
+            known a (inl is) = own a is
+            known a (inr (inl is)) = inl is
+            known a (inr (inr is)) = inr is
+
+        set : (fault : Option ControllerFault) (r : Option ℕ) (s : Site H) → controllers.retarget_refusal x s.controller ≡ fault → site_at i n.sites ≡ Some s
+            → has_comset s.controller.waiting ≡ false
+            → Goes n notes (Retarget i x) h i i s (line.keeping r (left_by s (link.retargets fault x (link_of s [] [])))) n.to_panel
+        set (Some fault) r s may at none =
+            goes s (line.keeping r s) (soft i s (line.keeping r s) (also_at (address_of s ∷ []) (notes i)) n.to_panel n.to_panel (record {
+              address = refl;
+              left = all_left (unended s);
+              reader = refl;
+              coming = Nothing refl;
+              opens = λ opens. opens;
+            }) (λ all. all) (noted_more i s (address_of s ∷ []) (notes i) n.to_panel (h.sites i s at))) (λ a is. inl is)
+        set None r s may at none =
+            goes s (line.keeping r (left_by s (link.retargets None x (link_of s [] [])))) (record {
+              may = λ a come. known a (old.may a (before a come));
+              asked = λ a found. absurd (none_asks a s.controller.waiting none (subst (λ q. Somewhere (AsksFor a) (asked_in q ++ s.controller.waiting)) closed found));
+              begun = λ b. let f = old.begun b in record { state = f.state; coming = f.coming; said = f.said };
+            }) (λ a is. subst (λ b. IsKnown b s (notes i)) is (subst (λ v. IsKnown x v (notes i)) (some_same s0 s (sym at0 ∙ at)) given))
+          where
+            old : IsNoted i s (notes i) n.to_panel
+            old = h.sites i s at
+
+            first : (f : Option ControllerFault) → controllers.or_no_device f x ≡ None → f ≡ None
+            first None is = refl
+            first (Some g) is = absurd cc
+
+            closed : s.controller.session.state ≡ Closed
+            closed = was_closed s.controller.session.state (first (controllers.refused_unless_closed s.controller.session.state) may)
+
+            before : (a : ℕ) → MayComeTo a i (line.keeping r (left_by s (link.retargets None x (link_of s [] [])))) → MayComeTo a i s
+            before a (IsThere is) = IsThere is
+            before a (IsSaid is) = IsSaid is
+            before a (IsAsked is) = IsAsked is
+
+            known : (a : ℕ) → IsKnown a s (notes i) → IsKnown a (line.keeping r (left_by s (link.retargets None x (link_of s [] [])))) (also_at (address_of s ∷ []) (notes i))
+            known a (inl is) = inr (inl is)
+            known a (inr is) = inr (inr is)
+
+    -- ---- a session is begun
+
+    pub reopening : (now : ℕ) → ((s : Site H) → site_at i n.sites ≡ Some s → controllers.begin_refusal s.controller ≡ None → IsQuiet i s n)
+        → Noted (after_net answer_of after (Reopen i now) n) (notes_after (Reopen i now) n notes)
+    reopening now quiet = changes n notes (Reopen i now) h i (λ s. false) (calls answer_of after (link.Reopen now))
+        (λ k s other. ap (λ b. cond b (cond (is_closed s.controller.session.state) (record (notes k) { begun = true }) (notes k)) (notes k)) (is_false i k (λ e. other (sym e))))
+        (λ s at. (λ e. by_state s at s.controller.session.state refl, λ e. absurd (false_true e))) (site_at i n.sites) refl
+      where
+        left : (s : Site H) → site_at i n.sites ≡ Some s → (state : State) → s.controller.session.state ≡ state → is_closed state ≡ false
+            → Goes n notes (Reopen i now) h i i s s n.to_panel
+        left s at state is unclosed = plainly n notes (Reopen i now) h i i s s n.to_panel
+            (ap (λ b. cond b (cond (is_closed s.controller.session.state) (record (notes i) { begun = true }) (notes i)) (notes i)) (is_true i i refl)
+            ∙ ap (λ b. cond b (record (notes i) { begun = true }) (notes i)) (ap is_closed is ∙ unclosed)) (as_is s) (λ all. all) at
+
+        by_state : (s : Site H) → site_at i n.sites ≡ Some s → (state : State) → s.controller.session.state ≡ state
+            → Goes n notes (Reopen i now) h i i s (left_by s (link.reopens (controllers.refused_unless_closed state) [] [] now (link_of s [] []))) n.to_panel
+        by_state s at (Quiet until) is = left s at (Quiet until) is refl
+        by_state s at (Idle due) is = left s at (Idle due) is refl
+        by_state s at (Waiting until k o) is = left s at (Waiting until k o) is refl
+        by_state s at (Pausing until o) is = left s at (Pausing until o) is refl
+        by_state s at Closed is = record {
+          noted = subst (λ note. IsNoted i u note n.to_panel) (sym noted_begun) (record {
+            may = λ a come. old.may a (before a come);
+            asked = λ a found. old.asked a (subst (λ q. Somewhere (AsksFor a) (asked_in q ++ s.controller.waiting)) (sym is) found);
+            begun = λ b. record {
+              state = tt;
+              coming = each_map (λ (q : ℕ × Packet). q.0 ≢ i) (TakesNone i) (λ q other mine. absurd (other mine)) s.coming
+                  (each_of (λ (q : ℕ × Packet). q.0 ≢ i) s.coming silence.coming);
+              said = each_map (λ (q : ℕ × Packet). (q.0 ≢ i) × (q.1.address ≢ address_of s)) (OwnFrom i u) (λ q other mine. absurd (other.0 mine)) n.to_panel
+                  (each_of (λ (q : ℕ × Packet). (q.0 ≢ i) × (q.1.address ≢ address_of s)) n.to_panel silence.to_panel);
+            };
+          });
+          known = λ a known. inl (subst (λ note. IsKnown a u note) noted_begun known);
+        }
+          where
+            u : Site H
+            u = left_by s (link.reopens None [] [] now (link_of s [] []))
+
+            old : IsNoted i s (notes i) n.to_panel
+            old = h.sites i s at
+
+            silence : IsQuiet i s n
+            silence = quiet s at (ap controllers.refused_unless_closed is)
+
+            noted_begun : note_after i s (Reopen i now) n (notes i) ≡ record (notes i) { begun = true }
+            noted_begun = ap (λ b. cond b (cond (is_closed s.controller.session.state) (record (notes i) { begun = true }) (notes i)) (notes i)) (is_true i i refl)
+                ∙ ap (λ b. cond b (record (notes i) { begun = true }) (notes i)) (ap is_closed is)
+
+            before : (a : ℕ) → MayComeTo a i u → MayComeTo a i s
+            before a (IsThere there) = IsThere there
+            before a (IsSaid said) = IsSaid said
+            before a (IsAsked found) = IsAsked (subst (λ q. Somewhere (Sets a) (asked_in q ++ s.controller.waiting)) (sym is) found)

@@ -1,0 +1,5 @@
+use Rattle.osdp_shared_line.proofs.Linking.{each_refuses_no_number}
+use Rattle.osdp_shared_line.proofs.promises.each_refuses_no_number.Goals as goal
+
+pub returns : goal.returns
+returns g c = each_refuses_no_number g.H.Handler.answer_of g.H.Handler.after c.each_is_a_link.ensures c.refuses_no_number.ensures.endings

@@ -1,0 +1,6 @@
+pub mod Line
+pub mod Views
+pub mod Addresses
+pub mod Runs
+pub mod Progress
+pub mod Programs

@@ -1,0 +1,24 @@
+//! Something comes through for each of several readers. The functions do nothing: their contracts are laws.
+
+ghost use Rattle.osdp_shared_line.specs.Progress.{EachComesThrough, EachComesThroughInTime, RoundsAreItsOwn};
+
+use osdp_reader::Handler;
+
+/// After any moves that leave nothing on the line: rounds of all sites that lose nothing, one after another, are for each site its own rounds
+/// and nothing else, where its ends are at one address and no COMSET to a device's address is under way for it.
+pub fn rounds_are_its_own<H: Handler>()
+    ensures { RoundsAreItsOwn H.answer_of H.after }
+{
+    osdp_link_laws::reads_what_is_asked();
+}
+
+/// So after m rounds of its own, each with a tick that is due, m - 1 more commands and events of its session, or all of them, are settled and
+/// reported, where its reader isn't busy and no COMSET to a device's address was issued. With rounds that come as much later than the greatest
+/// moment seen as the longest of the controller's waits, that is so or its session has ended.
+pub fn each_comes_through<H: Handler>()
+    ensures due { EachComesThrough H.answer_of H.after }
+    ensures in_time { EachComesThroughInTime H.answer_of H.after }
+{
+    osdp_link_laws::reads_what_is_asked();
+    osdp_link_laws::comes_through::<H>();
+}
