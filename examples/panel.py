@@ -6,8 +6,11 @@
 It carries the port's bytes to the program, with the moments at which they come, and what the program sends to the port.
 PROGRAM is the path of the program, with a `/` in it, where it isn't found by its name. Its settings are in its manual.
 
-Each line of standard input is an order: a reader's number, from 1, and a command, as `1 OUT 0:5:30`. Each line of
-standard output is what was ordered, or what the program reports: `opened`, `settled`, `event`, `lost` and others.
+Each line of standard input is an order: a reader's number and a command, as `1 OUT 0:5:30`. The number is the place of
+its ADDRESS in the list, from 1. docs/PROTOCOL.md has the texts of all commands. Each line of standard output is what
+was ordered, or what the program reports: `opened`, `settled`, `event`, `lost` and others.
+
+Where no session opens, docs/GUIDE.md tells the causes: "A device that doesn't answer".
 
 A reader whose session isn't open takes no order: it would be done whenever the reader comes back. Where a session is
 lost or moved, the orders that wait are taken back, and told `withdrawn`. A lost session begins again after a second.

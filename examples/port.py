@@ -23,8 +23,8 @@ class Trace:
         self.held, self.since, self.last = b"", None, 0.0  # what has come, the moment of its first byte, and when its last one came
         try:
             self.file = open(path, "a", encoding="ascii") if path else None
-        except OSError:
-            stop("the trace can't be opened")
+        except OSError as error:
+            stop(f"the trace can't be opened: {error.strerror}")
         atexit.register(self.flush)
 
     def append(self, since, way, burst):
@@ -62,8 +62,8 @@ class Port:
     def __init__(self, path, rate, trace):
         try:
             self.end = os.open(path, os.O_RDWR | os.O_NOCTTY)
-        except OSError:
-            stop("the port can't be opened")
+        except OSError as error:
+            stop(f"the port can't be opened: {error.strerror}")
         if not os.isatty(self.end):
             stop("the port is no serial port")
         if not self.set_rate(rate):

@@ -3,6 +3,7 @@
  *
  * The functions are proved: what each does is stated over the definitions of the machines, and checked by Rattle's prover. They are
  * in the archive libosdp_c.a, which `rt lib` builds from crates/osdp_c. What stands between a caller and the proof is this page.
+ * `./install` puts the archive in place as libosdp.a, with a heap over malloc in it: cc FILE $(pkg-config --cflags --libs osdp).
  *
  * Nothing here reads, writes, sleeps or keeps a clock. The program reads its port, takes the moment after the read, hands both in,
  * and writes what it is given.
@@ -480,6 +481,7 @@ struct osdp_block {
 
 /*
  * The heap, which the program supplies: c/heap_malloc.c has it over malloc, c/heap_pool.c over a fixed pool. Both names are the toolchain's.
+ * libosdp.a has the one over malloc; a heap of the program's own takes its place.
  *
  * `rattle_alloc` gives a block of `size` bytes at a multiple of `align`, a power of two up to 16; or `ok` is false. `rattle_dealloc` takes back
  * a block that it gave.

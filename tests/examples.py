@@ -382,12 +382,12 @@ def wrong_words(words, is_python):
         (panel, [], 2, BAD), (panel, [port], 2, BAD), (panel, [port, 9600], 2, BAD), (panel, ["--trace", nowhere], 2, BAD), (panel, ["--trace"], 2, BAD),
         (panel, ["--traces", port, 9600, 5], 2, BAD), (panel, [port, "fast", 5], 2, r"bad rate: fast\n"), (panel, [port, -9600, 5], 2, r"bad rate: -9600\n"),
         (panel, [port, 12345, 5], 3, r"the port has no such rate\n"), (panel, [port, 0, 5], 3, r"the port has no such rate\n"),
-        (panel, [nowhere, 9600, 5], 3, r"the port can't be opened\n"), (panel, ["/dev/null", 9600, 5], 3, r"the port is no serial port\n"),
-        (panel, ["--trace", nowhere, port, 9600, 5], 3, r"the trace can't be opened\n"),
+        (panel, [nowhere, 9600, 5], 3, r"the port can't be opened: No such file or directory\n"), (panel, ["/dev/null", 9600, 5], 3, r"the port is no serial port\n"),
+        (panel, ["--trace", nowhere, port, 9600, 5], 3, r"the trace can't be opened: No such file or directory\n"),
         (reader, [], 2, BAD), (reader, [port], 2, BAD), (reader, ["--trace", nowhere], 2, BAD), (reader, ["--traces", port, 9600], 2, BAD),
         (reader, [port, "fast"], 2, r"bad rate: fast\n"), (reader, [port, 12345], 3, r"the port has no such rate\n"),
-        (reader, [nowhere, 9600], 3, r"the port can't be opened\n"), (reader, ["/dev/null", 9600], 3, r"the port is no serial port\n"),
-        (reader, ["--trace", nowhere, port, 9600], 3, r"the trace can't be opened\n"),
+        (reader, [nowhere, 9600], 3, r"the port can't be opened: No such file or directory\n"), (reader, ["/dev/null", 9600], 3, r"the port is no serial port\n"),
+        (reader, ["--trace", nowhere, port, 9600], 3, r"the trace can't be opened: No such file or directory\n"),
     ]
     rows += [(panel, [port, 9600, word], 2, rf"bad address: {last}(, refused .*)?\n")
              for word, last in (("127", 127), ("5,128", 128), ("5,5", 5), ("5,", ""), ("x", "x"), ("5,-1", -1), (",".join(map(str, range(17))), 16))]

@@ -27,6 +27,7 @@ passes ./install --check
 passes ./install --proved --prefix "$there"
 passes ./install --proved --prefix "$there"
 grep -qF "export PATH=$there/bin:" "$work/said" || fail 'it does not say that PATH lacks the folder'
+grep -qF "export PKG_CONFIG_PATH=$there/lib/pkgconfig" "$work/said" || fail 'it does not say that pkg-config does not find the library'
 
 [ "$("$there/bin/osdp" --version)" = 'osdp 0.1.0' ] || fail 'another version, or no program'
 cmp -s "$there/bin/osdp" "$1" || fail 'another program than the one that is proved'
@@ -41,9 +42,9 @@ if passes "$CC" -std=c11 -Wall -Wextra -Werror -o "$work/installed" tests/c/inst
   # the packet is that of docs/GUIDE.md: an ID with number 0 to address 5, with a CRC
   [ "$("$work/installed")" = '0.1.0 53050900046100C125' ] || fail 'the program in C prints something else'
 fi
+passes "$there/share/osdp/examples/c/build" "$work" -Werror
 for name in panel reader; do
-  [ "$name" = panel ] && other=reader || other=panel
-  passes "$CC" -std=c11 -o "$work/$name" $(find "$there/share/osdp/examples/c" -name '*.c' ! -name "$other.c") $(pkg-config --cflags --libs osdp)
+  "$work/$name" --help >"$work/said" 2>&1 || fail "the installed example in C isn't built: $name"
 done
 # a heap of the program's own takes the place of the one in the library
 passes "$CC" -std=c11 -o "$work/pool" tests/c/installed.c "$there/share/osdp/c/heap_pool.c" $(pkg-config --cflags --libs osdp) && passes "$work/pool"
@@ -53,6 +54,11 @@ env -u OSDP_C_LIB_DIR cargo run --quiet --offline --locked --manifest-path "$the
 
 for file in panel.py reader.py lines.py door.hex; do
   cmp -s "examples/$file" "$there/share/osdp/examples/$file" || fail "share/osdp/examples has another $file"
+done
+# the pages that the helps and the manual pages name
+helps=$(for command in show check make sim panel reader; do "$1" help "$command"; done; cat man/*.1 examples/panel.py)
+for page in $(grep -o 'docs/[A-Z]*\.md' <<<"$helps" | sort -u); do
+  cmp -s "$page" "$there/share/osdp/$page" || fail "share/osdp has no $page, or another one"
 done
 [ -x "$there/share/osdp/examples/panel.py" ] || fail 'panel.py is no program'
 

@@ -69,7 +69,7 @@ int open_port(const char *path, uint32_t rate)
     const struct sigaction ends = { .sa_handler = note_signal };
     int port = open(path, O_RDWR | O_NOCTTY);
     if (port < 0) {
-        stop(FAILED, "the port can't be opened");
+        stop(FAILED, "the port can't be opened: %s", strerror(errno));
     }
     if (!isatty(port)) {
         stop(FAILED, "the port is no serial port");

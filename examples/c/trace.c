@@ -1,5 +1,6 @@
 /* The trace of what goes over a port. */
 #define _DEFAULT_SOURCE
+#include <errno.h>
 #include <stdio.h>
 #include <stdlib.h>
 #include <string.h>
@@ -48,7 +49,7 @@ void open_trace(const char *path)
 {
     file = fopen(path, "a");
     if (file == NULL) {
-        stop(FAILED, "the trace can't be opened");
+        stop(FAILED, "the trace can't be opened: %s", strerror(errno));
     }
     (void)atexit(flush);
 }
