@@ -6,9 +6,15 @@
 It carries the port's bytes to the program, with the moments at which they come, and what the program sends to the port.
 PROGRAM is the path of the program, with a `/` in it, where it isn't found by its name. Its settings are in its manual.
 
-Each line of standard input is handed to the program too: `event KEYPAD 0 31`, `inputs 0100`, `busy on`. Each line of
-standard output is such a line, or what the program tells: `taken` and a command, `moved`, `refused` and others.
-`refused` and a command is one that was answered by a NAK: nothing of it is done.
+Each line of standard input is handed to the program too: `event KEYPAD 0 31`, `busy on`, `inputs 0100`, `readers 00`,
+`local 0 0`. The program's other calls are made here, and such a line is refused. `inputs` alone tells the panel
+nothing; `event ISTATR 0100` does.
+
+Each line of standard output is such a line, or what the program tells. `taken` and a command is for the device to do,
+once: an OUT is done here. `refused` and a command was answered by a NAK: nothing of it is done. `again` and a command
+came with number 0, and may come once more: nothing of it is done here. A panel of osdp sends nothing but ID with it.
+`moved` is a new address and rate, which aren't kept: a reader that starts again is where its words say, and the panel
+doesn't find it.
 
 The reader has eight outputs, which an OUT switches; the time of an output is counted here. FILE gets each burst, both
 ways, as `osdp show` reads it.
@@ -21,6 +27,7 @@ from port import Port
 
 TURN = 0.01  # how long a read waits, in seconds
 NAK = 0x41  # the code of a reply that says that nothing was done
+CALLS = ("event", "busy", "inputs", "readers", "local")  # what a line of standard input may begin with: all other calls are made here
 
 
 class Output:
@@ -88,7 +95,10 @@ class Reader:
             self.call(f"bytes {read.hex()}")
         for line in lines:
             tell(line)
-            self.call(line)
+            if line.startswith(CALLS):
+                self.call(line)
+            else:
+                tell("refused line")
         self.call("tick")
 
 

@@ -425,7 +425,10 @@ struct osdp_answer {
     uint32_t kind;
     /* OSDP_ORDER_NONE to OSDP_ORDER_REFUSED. */
     uint32_t order;
-    /* 1 where a COMSET was accepted, else 0: the burst is still written at the old rate, and the port is set to the new one after it. */
+    /*
+     * 1 where a COMSET was accepted, else 0: the burst is still written at the old rate, and the port is set to the new one after it. The program
+     * keeps the address and the rate in memory that stays, before it writes the burst: a reader that restarts is to be where it was.
+     */
     uint32_t moved;
     /* The address and the rate in baud that it set; else 0. */
     uint32_t address;

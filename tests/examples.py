@@ -293,6 +293,16 @@ def refused_order(words):
         asks(reader.lines == ["again ID 0", "refused OUT 9:2:0", "taken OUT 7:2:0"], f"refused: the reader tells {reader.lines}")
 
 
+def own_calls(words):
+    """A line that is a call which the reader's example makes itself is refused, and the others are not."""
+    with Line(words) as line:
+        reader = line.reader(0, 5)
+        own, others = ["outputs 00", "at 99999999", "bytes 00", "silence", "tick"], ["inputs 0100", "readers 00", "local 0 1", "busy on", "busy off"]
+        reader.say("\n".join(own + others))
+        told = [each for call in own for each in (call, "refused line")] + others
+        asks(line.run(lambda: reader.lines == told), f"calls: the reader tells {reader.lines}")
+
+
 BAD_LINES = (b"\xff\xfe 1\n", b"1 OUT 0:2:0\0\n", b"x" * 8193 + b"1 OUT 0:2:9\n", "1 OÜT\n".encode())
 
 
@@ -448,6 +458,7 @@ def main(osdp, built=None):
     strange_rates(words)
     refused_rate(words)
     refused_order(words)
+    own_calls(words)
     bad_lines(words)
     before = len(faults)
     for _ in range(3):  # on a busy machine the pause between two pieces may be as long as the gap

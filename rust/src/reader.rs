@@ -76,7 +76,7 @@ pub struct Answer {
     pub said: Said,
     /// What came of a command: whether the device is to do it, after the burst has gone out, or the reader has refused it.
     pub order: Option<Order>,
-    /// What a COMSET that was accepted has set.
+    /// What a COMSET that was accepted has set. Keep it in memory that stays, before the burst is written: a reader that restarts is to be where it was.
     pub moved: Option<Moved>,
     /// What is to be written to the line.
     pub burst: Option<Burst>,
