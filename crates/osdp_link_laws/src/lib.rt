@@ -68,9 +68,9 @@ pub fn answers_of_one_handler<H: Handler>()
     read_each_other::<H>();
 }
 
-/// Where neither end restarts, no command is withdrawn and no address is set, no command is forgotten or removed and no event is thrown away.
-/// So each session leaves its commands but those settled and the one told unsettled, and its events but those reported, or all but the last of
-/// these.
+/// Where neither end restarts, no command is withdrawn, no address or handler is set and no packet is lost out of the middle, no command is
+/// forgotten or removed and no event is thrown away. So each session leaves its commands but those settled and the one told unsettled, and
+/// its events but those reported, or all but the last of these.
 pub fn ordinary_runs_are_undisturbed<H: Handler>()
     ensures accounts { OrdinaryIsUndisturbed H.answer_of H.after }
     ensures leaves { UndisturbedLeaves }

@@ -4,9 +4,10 @@ ghost use Rattle.osdp_shared_line.specs.Runs.{EachHasSessionsInARow, EachHoldsOn
 
 use osdp_reader::Handler;
 
-/// Within each session of each reader, over every list of losses, repeats and detected damage, whatever the devices tell, and whoever
-/// restarts: its commands are taken once and in order, settled with the answers that it gave to them then, and its events are reported once
-/// and in order, but those that a restart of it threw away before they were offered.
+/// Where addresses are given as the premise asks, and sessions begin on a quiet line: within each session of each reader, over every list of
+/// losses, repeats and detected damage, whatever the devices tell, and whoever restarts, its commands are taken once and in order, settled
+/// with the answers that it gave to them then, and its events are reported once and in order, but those that a restart of it threw away
+/// before they were offered.
 pub fn each_holds_once<H: Handler>()
     ensures { EachHoldsOnce H.answer_of H.after }
 {
@@ -14,9 +15,9 @@ pub fn each_holds_once<H: Handler>()
     osdp_link_laws::holds_once::<H>();
 }
 
-/// Over sessions in a row of each reader: no command of it that was settled, told unsettled, forgotten, withdrawn or thrown away in one is one
-/// of a later session, and none is taken twice. No event is skipped but those that a restart of it threw away, and each beginning tells
-/// again one at most.
+/// Under the same premises, over sessions in a row of each reader: no command of it that was settled, told unsettled, forgotten, withdrawn or
+/// thrown away in one is one of a later session, and none is taken twice. No event is skipped but those that a restart of it threw away, and
+/// each beginning tells again one at most.
 pub fn each_has_sessions_in_a_row<H: Handler>()
     ensures { EachHasSessionsInARow H.answer_of H.after }
 {

@@ -1,4 +1,4 @@
-//! The command `monitor`: what happens on a line, and which end breaks its rules.
+//! What a listener prints of whole runs: what happens on a line, and which end breaks its rules. No command of the program uses it yet.
 #![tactic(auto)]
 
 mod counts;
