@@ -15,3 +15,5 @@ pub mod EventReplies
 pub mod Causes
 pub mod CommandCauses
 pub mod ReplyCauses
+pub mod TextLengths
+pub mod LongestTexts

@@ -66,6 +66,11 @@ pub record IsPlainWord (word : Word) : Type 0 where
 abbrev pub HasPlainWords : {M : Type 0} → (M → Type 0) → (M → List Word) → Type 0
 HasPlainWords {M} Fits words = (m : M) → Fits m → AllByRecursion IsPlainWord (words m)
 
+-- the longest text of values has so many bytes: none is longer, and one is as long
+pub record HasLongestText {M : Type 0} (Fits : M → Type 0) (text : M → List ℕ) (most : ℕ) : Type 0 where
+  pub within : (m : M) → Fits m → length (text m) ≤ most
+  pub reached : (m : M) × (Fits m × (length (text m) ≡ most))
+
 -- the number of the reason of a number is that number, and the reason of a reason's number is that reason
 abbrev pub HasOneNumber : Type 0
 HasOneNumber =

@@ -4,11 +4,11 @@
 
 ghost use Rattle.osdp_msg.specs.CommandTable.{CommandFits, IsCommand, command_fault, command_length_allowed, command_of};
 ghost use Rattle.osdp_msg.specs.CommandText.{command_text, command_words};
-ghost use Rattle.osdp_msg.specs.Events.{EventFits, event_words};
+ghost use Rattle.osdp_msg.specs.Events.{EventFits, event_text, event_words};
 ghost use Rattle.osdp_msg.specs.ReplyTable.{ReplyFits, IsReply, reply_fault, reply_length_allowed, reply_of};
 ghost use Rattle.osdp_msg.specs.ReplyText.{reply_text, reply_words};
 ghost use Rattle.osdp_msg_laws.specs.Faults.{CommandCounts, FaultsHaveCauses, ReplyCounts};
-ghost use Rattle.osdp_msg_laws.specs.Laws.{ReadsTheTable, ReadsTheFaults, HasOneValue, HasOneSpelling, FitsAPacket, JoinsItsWords, HasOneMeaning, HasOneText, HasPlainWords, HasOneNumber, HasLowByteFirst, FitsByKind};
+ghost use Rattle.osdp_msg_laws.specs.Laws.{ReadsTheTable, ReadsTheFaults, HasOneValue, HasOneSpelling, FitsAPacket, JoinsItsWords, HasOneMeaning, HasOneText, HasLongestText, HasPlainWords, HasOneNumber, HasLowByteFirst, FitsByKind};
 
 /// Reading a code and data as a command follows the table of commands, and its refusals.
 pub fn command_of_reads_the_table()
@@ -90,6 +90,14 @@ pub fn words_are_plain()
     ensures commands { HasPlainWords CommandFits command_words }
     ensures replies { HasPlainWords ReplyFits reply_words }
     ensures events { HasPlainWords EventFits event_words }
+{}
+
+/// The longest text of a command has 5,511 bytes (LED with 102 records), of a reply 5,729 (PDCAP with 477 capabilities), and of an event
+/// 2,874 (RAW with 11,424 bits).
+pub fn texts_have_a_longest()
+    ensures commands { HasLongestText CommandFits command_text 5511 }
+    ensures replies { HasLongestText ReplyFits reply_text 5729 }
+    ensures events { HasLongestText EventFits event_text 2874 }
 {}
 
 /// A number is that of one reason, and a reason has one number.
