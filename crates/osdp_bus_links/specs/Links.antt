@@ -14,7 +14,7 @@ use Rattle.osdp_bus.specs.Machine.{after_begin_at, after_next_report, after_subm
 use Rattle.osdp_bus.specs.Ticking.{bus_ticks}
 use Rattle.osdp_bus.specs.declared.device.Device.{Device}
 use Rattle.osdp_bus.specs.declared.fault.BusFault.{BusFault}
-use Rattle.osdp_link_laws.specs.Link.{told}
+use Rattle.osdp_link_laws.specs.Link.{after_report}
 use Rattle.osdp_link_laws.specs.Peers.{IsPlainlySaid}
 use Rattle.osdp_link_laws.specs.Refusals.{IsNoRefusal}
 use Rattle.osdp_multidrop.specs.Line.{Net, NetMove, Reopen, Site, Submit, Tick, after_net, changed, first_gets, run, site_at, submits}
@@ -56,7 +56,7 @@ module _ {H : Type 0} where
   -- the reader stays as it is, and the account is told the report; the session ends exactly where that is told
   pub record IsTold (report : Option Report) (s t : Site H) : Type 0 where
     pub reader : t.reader ≡ s.reader
-    pub account : t.account ≡ told report s.account
+    pub account : t.account ≡ after_report report s.account
     pub earlier : t.earlier ≡ s.earlier
     pub closes : is_closed t.controller.session.state ≡ (is_closed s.controller.session.state || tells_end report)
     pub once : is_closed s.controller.session.state ≡ true → tells_end report ≡ false

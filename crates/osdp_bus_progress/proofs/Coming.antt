@@ -16,13 +16,13 @@ use Rattle.osdp_link_laws.specs.Addresses.{StayWhereTheyAre}
 use Rattle.osdp_link_laws.specs.Headline.{MovesFit}
 use Rattle.osdp_link_laws.specs.Link as link
 use Rattle.osdp_link_laws.specs.Link.{Link}
-use Rattle.osdp_link_laws.specs.Ordinary.{IsOrdinary}
+use Rattle.osdp_link_laws.specs.Ordinary.{IsSteady}
 use Rattle.osdp_link_laws.specs.Progress as progress
 use Rattle.osdp_link_laws.specs.Progress.{SetsNoAddress}
 use Rattle.osdp_link_laws.specs.Sessions.{all_submitted, ended_commands}
 use Rattle.osdp_link_laws.proofs.Lines.{each_all, each_of, each_rest}
 use Rattle.osdp_link_laws.proofs.Ordinary.{moves_so}
-use Rattle.osdp_link_laws.proofs.OrdinaryRuns.{begins_so, set_no_other}
+use Rattle.osdp_link_laws.proofs.OrdinaryRuns.{begins_so, set_no_other, steady_ordinary}
 use Rattle.osdp_link_laws.proofs.Stages.{Each}
 use Rattle.osdp_multidrop.specs.Line as line
 use Rattle.osdp_multidrop.specs.Line.{Net, run, site_at}
@@ -200,7 +200,7 @@ module _ {H : Type 0} (answer_of : H → Command → Answer) (after : H → Comm
           let issued = each_of SetsNoAddress u.0.account.issued ready.issued in
           let submitted = subst (Each SetsNoAddress) (u.2.tells.issued ∙ sym l.row.commands) issued in
           let stay = stays old ms begun.begins l.its.fits (each_all SetsNoAddress (old.controller.waiting ++ all_submitted answer_of after ms old) submitted)
-          (set_no_other old.reader.config.address old.controller.session.config.address ms (each_of IsOrdinary ms l.its.ordinary)) in
+          (set_no_other old.reader.config.address old.controller.session.config.address ms (each_of IsSteady ms l.its.ordinary)) in
           let moved = l.moved in
           record {
             to_reader = ap (own k) (none_on n.to_readers (sym follows.to_readers ∙ clear.to_readers));
@@ -285,8 +285,8 @@ module _ {H : Type 0} (answer_of : H → Command → Answer) (after : H → Comm
           let v_same : v_is.0 ≡ v = some_same v_is.0 v (sym v_is.1 ∙ there) in
           let u_long = as_long u_is.0.account t.0.account t.0.earlier (none_earlier u_is.0.account t.0.account t.0.earlier u_is.2.tells (one_at k u_is.0 u_is.1)) u_is.2.tells in
           let v_long = as_long v_is.0.account last.account last.earlier (none_earlier v_is.0.account last.account last.earlier v_is.2.tells (one_later k v_is.0 v_is.1)) v_is.2.tells in
-          let so = moves_so answer_of after (progress.rounds has.moments) (link.run answer_of after ms old) (rounds_ordinary H has.moments)
-          (moves_so answer_of after ms old (each_of IsOrdinary ms l.its.ordinary) (begins_so old begun.begins)) in
+          let so = moves_so answer_of after (progress.rounds has.moments) (link.run answer_of after ms old) (steady_ordinary (progress.rounds has.moments) (rounds_ordinary H has.moments))
+          (moves_so answer_of after ms old (steady_ordinary ms (each_of IsSteady ms l.its.ordinary)) (begins_so old begun.begins)) in
           let kept : last.account.kept ≡ last.account.queued = subst (λ (x : Link H). x.account.kept ≡ x.account.queued) (sym then_) so.0.kept in
           let turns = m / length readers in
           let part = share m (length readers) in

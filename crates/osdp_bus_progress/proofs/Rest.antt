@@ -15,13 +15,13 @@ use Rattle.osdp_link_laws.specs.Headline.{MovesFit, SaysWhatFits}
 use Rattle.osdp_link_laws.specs.Link as link
 use Rattle.osdp_link_laws.specs.Link.{Delivered, Link, Move, Repeated, Tick, ToReader}
 use Rattle.osdp_link_laws.specs.Names.{IsCommandTo, IsReplyFrom, NamesOne}
-use Rattle.osdp_link_laws.specs.Ordinary.{IsOrdinary}
+use Rattle.osdp_link_laws.specs.Ordinary.{IsSteady}
 use Rattle.osdp_link_laws.specs.Peers.{IsPlainlySaid}
 use Rattle.osdp_link_laws.specs.Progress.{ComesToRest, IsAtRest, IsClear, round, rounds}
 use Rattle.osdp_link_laws.specs.Refusals.{SaysAllPlainly}
 use Rattle.osdp_link_laws.proofs.Lines.{each_of}
 use Rattle.osdp_link_laws.proofs.Ordinary.{moves_so}
-use Rattle.osdp_link_laws.proofs.OrdinaryRuns.{begins_so}
+use Rattle.osdp_link_laws.proofs.OrdinaryRuns.{begins_so, steady_ordinary}
 use Rattle.osdp_link_laws.proofs.Stages.{Each}
 use Rattle.osdp_multidrop.proofs.Linked.{OfALink, sends_from}
 use Rattle.osdp_multidrop.proofs.Naming.{IsLed, led_on}
@@ -36,7 +36,7 @@ stays_rests s waiting e = absurd cc
 closed_rests : (state : State) (s : Session) (waiting : List Command) → state ≡ Closed → Acts (ticks_in state s waiting) → ⊥
 closed_rests state s waiting closed due = stays_rests s waiting (subst (λ st. Acts (ticks_in st s waiting)) closed due)
 
-pub rounds_ordinary : (H : Type 0) (moments : List ℕ) → Each (IsOrdinary {H = H}) (rounds moments)
+pub rounds_ordinary : (H : Type 0) (moments : List ℕ) → Each (IsSteady {H = H}) (rounds moments)
 rounds_ordinary H [] = tt
 rounds_ordinary H (now ∷ later) = (tt, (tt, (tt, rounds_ordinary H later)))
 
@@ -143,4 +143,4 @@ module _ {H : Type 0} (answer_of : H → Command → Answer) (after : H → Comm
   pub said_plainly : (first : Link H) (done : List (Move H)) (l : Link H) → IsLed answer_of after first done l → Each IsPlainlySaid l.to_controller
   said_plainly first done l led =
       each_of IsPlainlySaid l.to_controller (subst (λ (k : Link H). All IsPlainlySaid k.to_controller) (sym led.leads)
-      (laws.plainly first done led.begins led.fits (moves_so answer_of after done first led.ordinary (begins_so first led.begins)).0.restarts))
+      (laws.plainly first done led.begins led.fits (moves_so answer_of after done first (steady_ordinary done led.ordinary) (begins_so first led.begins)).0.restarts))

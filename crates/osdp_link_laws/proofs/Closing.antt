@@ -12,7 +12,7 @@ use Rattle.osdp_controller.specs.declared.state.State.TheVariants.{Closed}
 use Rattle.osdp_reader.specs.Table as reader
 use Rattle.osdp_reader.specs.declared.handler.Answer.{Answer}
 use Rattle.osdp_link_laws.specs.Link as link
-use Rattle.osdp_link_laws.specs.Link.{Account, Delivered, Delivery, Link, Lost, Move, Queue as QueueEvent, Reopen, Repeated, RestartController, RestartReader, Retarget, SetBusy, SetHandler, Submit, Tick, ToController, ToReader, Withdraw, after_move, told, LoseToReader, LoseToController}
+use Rattle.osdp_link_laws.specs.Link.{Account, Delivered, Delivery, Link, Lost, Move, Queue as QueueEvent, Reopen, Repeated, RestartController, RestartReader, Retarget, SetBusy, SetHandler, Submit, Tick, ToController, ToReader, Withdraw, after_move, after_report, LoseToReader, LoseToController}
 use Rattle.osdp_link_laws.proofs.Growing.{taken_takes}
 use Rattle.osdp_link_laws.proofs.Removed.{IsInside, closed_hears, closed_tick}
 
@@ -42,7 +42,7 @@ module _ {H : Type 0} (answer_of : H → Command → Answer) (after : H → Comm
 
   controller_gets_over : (q : Packet) (now : ℕ) (l : Link H) → l.controller.session.state ≡ Closed → IsOver l (link.controller_gets q now l)
   controller_gets_over q now l closed =
-      subst (λ (heard : controller.Heard). IsOver l (record l { controller = record l.controller { session = heard.session }; account = told heard.report l.account }))
+      subst (λ (heard : controller.Heard). IsOver l (record l { controller = record l.controller { session = heard.session }; account = after_report heard.report l.account }))
       (sym (closed_hears q now l.controller.session closed)) (refl, closed)
 
   to_controller_over : (how : Delivery) (now : ℕ) (qs : List Packet) (l : Link H) → l.controller.session.state ≡ Closed

@@ -24,7 +24,7 @@ use Rattle.osdp_reader.specs.Table as reader
 use Rattle.osdp_reader_laws.specs.Laws.{IsPlain}
 use Rattle.osdp_link_laws.specs.Headline.{SaysWhatFitsIf}
 use Rattle.osdp_link_laws.specs.Link as link
-use Rattle.osdp_link_laws.specs.Link.{Account, Delivered, Delivery, Link, Lost, Repeated, told, lost_at}
+use Rattle.osdp_link_laws.specs.Link.{Account, Delivered, Delivery, Link, Lost, Repeated, after_report, lost_at}
 use Rattle.osdp_link_laws.specs.Peers.{IsPlainlySaid}
 use Rattle.osdp_link_laws.proofs.Advancing.{SaysWell, goes_on, opens}
 use Rattle.osdp_link_laws.proofs.Hearing.{Ignored, Settles, hears_answer, hears_other, hears_refused, hears_resting, settled_by}
@@ -217,7 +217,7 @@ module _ (fixed : ControllerConfig) {H : Type 0} (answer_of : H → Command → 
 
   -- a packet that settles nothing
   passed_over : (at : Stage) (now : ℕ) (p : Packet) (l : Link H) → let heard = controller.hears p now l.controller.session in
-      told heard.report l.account ≡ record l.account { unsettled = given_up_at at heard.session.state } → ControllerAt fixed at heard.session
+      after_report heard.report l.account ≡ record l.account { unsettled = given_up_at at heard.session.state } → ControllerAt fixed at heard.session
       → AtStage at l → AtStage at (link.controller_gets p now l)
   passed_over at now p l says stands h =
       let s = (controller.hears p now l.controller.session).session in
@@ -310,7 +310,7 @@ module _ (fixed : ControllerConfig) {H : Type 0} (answer_of : H → Command → 
       (Level past x a, passed_over (Level past x a) now p l (i.0 l.account h.account.unsettled) i.1 h)
   controller_gets given (Rest n x a) now p l h front =
       let heard = hears_resting fixed p now n l.controller.session h.controller in
-      let says = ap (λ o. told o l.account) heard.0 ∙ ap (λ (cs : List Command). record l.account { unsettled = cs }) h.account.unsettled in
+      let says = ap (λ o. after_report o l.account) heard.0 ∙ ap (λ (cs : List Command). record l.account { unsettled = cs }) h.account.unsettled in
       (Rest n x a, passed_over (Rest n x a) now p l says heard.1 h)
 
   rest_to_controller : (at : Stage) (p : Packet) (ps : List Packet) → ToControllerAt fixed since at (p ∷ ps) → ToControllerAt fixed since at ps

@@ -30,7 +30,7 @@ use Rattle.osdp_reader.specs.declared.kind.Kind.{Kind}
 use Rattle.osdp_reader.specs.declared.kind.Kind.TheVariants.{Busy, Taken, Zero}
 use Rattle.osdp_link_laws.specs.Headline.{MaySubmit, SaysWhatFits}
 use Rattle.osdp_link_laws.specs.Link as link
-use Rattle.osdp_link_laws.specs.Link.{Account, Link, told}
+use Rattle.osdp_link_laws.specs.Link.{Account, Link, after_report}
 use Rattle.osdp_link_laws.specs.Peers.{TellsItsEvent}
 use Rattle.osdp_link_laws.specs.Progress.{SetsNoAddress}
 use Rattle.osdp_link_laws.proofs.Acting.{kind_next, kind_zero, no_event, taken_is}
@@ -119,7 +119,7 @@ module _ (fixed : ControllerConfig) {H : Type 0} (answer_of : H → Command → 
     reader = o.reader;
     to_reader = [];
     to_controller = [];
-    account = told (report_of x a) (link.taken kind o.command o.said (link.front_of l.reader) l.account);
+    account = after_report (report_of x a) (link.taken kind o.command o.said (link.front_of l.reader) l.account);
   }
 
   -- ---- the opening
@@ -162,16 +162,16 @@ module _ (fixed : ControllerConfig) {H : Type 0} (answer_of : H → Command → 
       → let x = next_exchange waiting in
       let c = exchange_command x in
       let a = event_or_answer answer_of after (event_for c events) r.config r.handler c in
-      told (report_of x a.reply) (link.taken_command c (Some a.reply) (take 1 events) t)
+      after_report (report_of x a.reply) (link.taken_command c (Some a.reply) (take 1 events) t)
       ≡ accounted answer_of after waiting events r t
   account_is tells [] [] r t may = ap (λ es. record t { offered = es }) (append-nil t.offered)
   account_is tells [] (e ∷ events) r t may =
-      ap (λ o. told (poll_told (event_reply e) o) (record t { offered = t.offered ++ e ∷ [] })) (tells e)
+      ap (λ o. after_report (poll_told (event_reply e) o) (record t { offered = t.offered ++ e ∷ [] })) (tells e)
   account_is tells (c ∷ waiting) events r t may =
       let a = answer_to answer_of after r.config r.handler c in
       ap (λ o. let b = event_or_answer answer_of after o r.config r.handler c in
-      told (Some (report.Settled c b.reply)) (link.taken_command c (Some b.reply) (take 1 events) t)) (no_event c events may.0.no_poll)
-      ∙ ap (told (Some (report.Settled c a.reply))) (taken_is c (Some a.reply) (take 1 events) t may.0.no_poll)
+      after_report (Some (report.Settled c b.reply)) (link.taken_command c (Some b.reply) (take 1 events) t)) (no_event c events may.0.no_poll)
+      ∙ ap (after_report (Some (report.Settled c a.reply))) (taken_is c (Some a.reply) (take 1 events) t may.0.no_poll)
 
   -- the link after an exchange from rest: its command has gone, the reader has acted on it and stores its answer, and the next POLL is
   -- due after the interval
@@ -236,6 +236,6 @@ module _ (fixed : ControllerConfig) {H : Type 0} (answer_of : H → Command → 
         });
         to_reader = [];
         to_controller = [];
-        account = told (report_of x a.reply) (link.taken_command (exchange_command x) (Some a.reply) (link.front_of r) l.account);
+        account = after_report (report_of x a.reply) (link.taken_command (exchange_command x) (Some a.reply) (link.front_of r) l.account);
       }) (no_address x none)
       ∙ ap (λ t. record (rested_link now l) { account = t }) (account_is given.tells w (released r.queue).events r l.account h.waiting)

@@ -23,7 +23,7 @@ use Rattle.osdp_reader.specs.declared.kind.Kind.{Kind}
 use Rattle.osdp_reader.specs.declared.kind.Kind.TheVariants as kind
 use Rattle.osdp_link_laws.specs.Headline.{Begins}
 use Rattle.osdp_link_laws.specs.Link as link
-use Rattle.osdp_link_laws.specs.Link.{Account, Delivered, Delivery, Link, LoseToController, LoseToReader, Lost, Move, Queue as QueueEvent, Reopen, Repeated, RestartController, RestartReader, Retarget, SetBusy, SetHandler, Submit, Tick, ToController, ToReader, Withdraw, after_move, given_to, taken_command, told}
+use Rattle.osdp_link_laws.specs.Link.{Account, Delivered, Delivery, Link, LoseToController, LoseToReader, Lost, Move, Queue as QueueEvent, Reopen, Repeated, RestartController, RestartReader, Retarget, SetBusy, SetHandler, Submit, Tick, ToController, ToReader, Withdraw, after_move, given_to, taken_command, after_report}
 use Rattle.osdp_link_laws.proofs.Acting.{no_event, taken_is}
 use Rattle.osdp_link_laws.proofs.Lines.{each_append}
 use Rattle.osdp_link_laws.proofs.Stages.{Each}
@@ -32,7 +32,7 @@ pub poll_or_not : (c : Command) → (c ≡ command.Poll) ⊎ (c ≢ command.Poll
 poll_or_not command.Poll = inl refl
 poll_or_not c = inr (λ e. absurd cc)
 
-told_gives : (r : Option Report) (t : Account) → (told r t).given ≡ t.given
+told_gives : (r : Option Report) (t : Account) → (after_report r t).given ≡ t.given
 told_gives None t = refl
 told_gives (Some (report.Opened id)) t = refl
 told_gives r t = refl

@@ -18,7 +18,7 @@ use Rattle.osdp_reader.specs.declared.kind.Kind.{Kind}
 use Rattle.osdp_reader.specs.declared.kind.Kind.TheVariants as kind
 use Rattle.osdp_reader.specs.Table as reader
 use Rattle.osdp_link_laws.specs.Link as link
-use Rattle.osdp_link_laws.specs.Link.{Account, Delivered, Delivery, Link, Lost, Move, Queue as QueueEvent, Reopen, Repeated, RestartController, RestartReader, Retarget, SetBusy, SetHandler, Submit, Tick, ToController, ToReader, Withdraw, after_move, told, LoseToReader, LoseToController}
+use Rattle.osdp_link_laws.specs.Link.{Account, Delivered, Delivery, Link, Lost, Move, Queue as QueueEvent, Reopen, Repeated, RestartController, RestartReader, Retarget, SetBusy, SetHandler, Submit, Tick, ToController, ToReader, Withdraw, after_move, after_report, LoseToReader, LoseToController}
 use Rattle.osdp_link_laws.specs.Sessions.{accepted, queued, unless_full, submitted}
 use Rattle.osdp_link_laws.proofs.Removed.{IsInside}
 
@@ -44,11 +44,11 @@ as_before t u issued queued = record { issued = issued ∙ sym (append-nil t.iss
 all_before : (t u : Account) → u.issued ≡ t.issued → u.queued ≡ t.queued → u.removed ≡ t.removed → u.forgotten ≡ t.forgotten → Extends [] [] t u
 all_before t u issued queued removed forgotten = record { grows = as_before t u issued queued; removed = removed; forgotten = forgotten }
 
-told_keeps : (r : Option Report) (t : Account) → Extends [] [] t (told r t)
+told_keeps : (r : Option Report) (t : Account) → Extends [] [] t (after_report r t)
 told_keeps (Some (report.Opened id)) t = all_before t t refl refl refl refl
-told_keeps r t = all_before t (told r t) refl refl refl refl
+told_keeps r t = all_before t (after_report r t) refl refl refl refl
 
-pub told_issues : (r : Option Report) (t : Account) → (told r t).issued ≡ t.issued
+pub told_issues : (r : Option Report) (t : Account) → (after_report r t).issued ≡ t.issued
 told_issues r t = (told_keeps r t).grows.issued ∙ append-nil t.issued
 
 -- a taken command changes nothing but the commands taken, the answers given and the events offered

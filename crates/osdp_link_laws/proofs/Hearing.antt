@@ -24,7 +24,7 @@ use Rattle.osdp_controller.specs.Answers.{meaning_of}
 use Rattle.osdp_msg.specs.Events.{event_in}
 use Rattle.osdp_controller.specs.Hearing.{Heard, answered, com_of, command_answered, comset_of, hears, hears_busy, hears_in, ignores, is_ack, is_from_reader, is_numbered, loses, moved_by, pausing_hears, poll_told, rests, waiting_hears}
 use Rattle.osdp_controller.specs.Sessions.{later, seen}
-use Rattle.osdp_link_laws.specs.Link.{Account, told}
+use Rattle.osdp_link_laws.specs.Link.{Account, after_report}
 use Rattle.osdp_link_laws.proofs.Lines.{both}
 use Rattle.osdp_link_laws.proofs.Numbers.{is_false}
 use Rattle.osdp_link_laws.proofs.Stages.{Asks, IsAnswerTo, IsOpen, Rests, given_up}
@@ -152,12 +152,12 @@ module _ (fixed : ControllerConfig) where
   settled_by (Asking c) r t = record t { settled = t.settled ++ (c, r) ∷ [] }
 
   abbrev pub Settles : ℕ → Exchange → Reply → Heard → Type 0
-  Settles n x r h = ((a : Account) → told h.report a ≡ settled_by x r a) × Rests fixed h.session.state n h.session
+  Settles n x r h = ((a : Account) → after_report h.report a ≡ settled_by x r a) × Rests fixed h.session.state n h.session
 
-poll_tells : (event : Option Event) (r : Reply) (a : Account) → told (poll_told r event) a ≡ record a { reported = a.reported ++ option_to_list event }
+poll_tells : (event : Option Event) (r : Reply) (a : Account) → after_report (poll_told r event) a ≡ record a { reported = a.reported ++ option_to_list event }
 poll_tells (Some event) r a = refl
 poll_tells None r a =
-    both (λ o. told o a ≡ a) (is_ack r) None (Some (report.PollAnswered r)) refl refl
+    both (λ o. after_report o a ≡ a) (is_ack r) None (Some (report.PollAnswered r)) refl refl
     ∙ sym (ap (λ l. record a { reported = l }) (append-nil a.reported))
 
 com_is : (r : Reply) (c : Communication) → com_of r ≡ Some c → reply.Com c ≡ r

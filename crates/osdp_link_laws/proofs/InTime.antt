@@ -42,7 +42,7 @@ module _ {H : Type 0} (answer_of : H → Command → Answer) (after : H → Comm
   }
 
   -- every move keeps the controller in its ranges
-  run_range : (moves : List (Move H)) (l : Link H) → MovesFit answer_of after moves l → Ranges l → Ranges (run answer_of after moves l)
+  pub run_range : (moves : List (Move H)) (l : Link H) → MovesFit answer_of after moves l → Ranges l → Ranges (run answer_of after moves l)
   run_range moves l fits is = moves_keep answer_of after IsInRange in_range outside_in_range moves l fits is
 
   -- a session that has ended stays so over all rounds
@@ -56,13 +56,13 @@ module _ {H : Type 0} (answer_of : H → Command → Answer) (after : H → Comm
       let m = after_move answer_of after (ToReader Delivered) t in
       to_controller_closed answer_of after m.to_controller now m (to_reader_closed answer_of after t.to_reader t (tick_closed now l closed))
 
-  rounds_closed : (moments : List ℕ) (l : Link H) → l.controller.session.state ≡ Closed
+  pub rounds_closed : (moments : List ℕ) (l : Link H) → l.controller.session.state ≡ Closed
       → (run answer_of after (rounds moments) l).controller.session.state ≡ Closed
   rounds_closed [] l closed = closed
   rounds_closed (now ∷ later) l closed = rounds_closed later (run answer_of after (round now) l) (round_closed now l closed)
 
   -- so late ticks are due, as long as the session lasts
-  late_due : ComesDue → (moments : List ℕ) (l : Link H) → MovesFit answer_of after (rounds moments) l → Ranges l → AreLate answer_of after moments l
+  pub late_due : ComesDue → (moments : List ℕ) (l : Link H) → MovesFit answer_of after (rounds moments) l → Ranges l → AreLate answer_of after moments l
       → ((run answer_of after (rounds moments) l).controller.session.state ≡ Closed) ⊎ AreDue answer_of after moments l
   late_due comes [] l fits is late = inr tt
   late_due comes (now ∷ later) l fits is late =

@@ -14,7 +14,7 @@ use Rattle.osdp_reader.specs.Table as reader
 use Rattle.osdp_reader.specs.declared.handler.Answer.{Answer}
 use Rattle.osdp_link_laws.specs.Headline.{Begins}
 use Rattle.osdp_link_laws.specs.Link as link
-use Rattle.osdp_link_laws.specs.Link.{Account, Delivered, Delivery, Link, Lost, Move, Queue as QueueEvent, Reopen, Repeated, RestartController, RestartReader, Retarget, SetBusy, SetHandler, Submit, Tick, ToController, ToReader, Withdraw, after_move, run, told, LoseToReader, LoseToController}
+use Rattle.osdp_link_laws.specs.Link.{Account, Delivered, Delivery, Link, Lost, Move, Queue as QueueEvent, Reopen, Repeated, RestartController, RestartReader, Retarget, SetBusy, SetHandler, Submit, Tick, ToController, ToReader, Withdraw, after_move, run, after_report, LoseToReader, LoseToController}
 use Rattle.osdp_link_laws.specs.Refusals.{KeepsReader}
 use Rattle.osdp_link_laws.proofs.Growing.{taken_takes}
 use Rattle.osdp_link_laws.proofs.Stages.{Each}
@@ -33,10 +33,10 @@ AllKept {H} l = KeepAll (l.account ∷ l.earlier)
 same_kept : (t u : Account) → u.kept ≡ t.kept → u.queued ≡ t.queued → u.restarts ≡ t.restarts → KeepsEvents t → KeepsEvents u
 same_kept t u kept queued restarts is = record { kept = kept ∙ is.kept ∙ sym queued; restarts = restarts ∙ is.restarts }
 
-told_kept : (r : Option Report) (t : Account) → KeepsEvents t → KeepsEvents (told r t)
+told_kept : (r : Option Report) (t : Account) → KeepsEvents t → KeepsEvents (after_report r t)
 told_kept None t is = is
 told_kept (Some (report.Opened id)) t is = is
-told_kept r t is = same_kept t (told r t) refl refl refl is
+told_kept r t is = same_kept t (after_report r t) refl refl refl is
 
 module _ {H : Type 0} (answer_of : H → Command → Answer) (after : H → Command → H) where
   submits_kept : (refusal : Option ControllerFault) (c : Command) (l : Link H) → AllKept l → AllKept (link.submits refusal c l)

@@ -44,3 +44,6 @@ pub mod OneDevice
 pub mod ToldMoved
 pub mod Clean
 pub mod Addresses
+pub mod Doing
+pub mod Counting
+pub mod Costing

@@ -28,7 +28,7 @@ use Rattle.osdp_reader.specs.Table.{command_in}
 use Rattle.osdp_reader_laws.specs.Laws.{AnswersPlainly, IsPlain}
 use Rattle.osdp_link_laws.specs.Headline.{MaySubmit}
 use Rattle.osdp_link_laws.specs.Link as link
-use Rattle.osdp_link_laws.specs.Link.{Link, told}
+use Rattle.osdp_link_laws.specs.Link.{Link, after_report}
 use Rattle.osdp_link_laws.specs.Peers.{TellsItsEvent}
 use Rattle.osdp_link_laws.proofs.Since.{events_same, past_same}
 use Rattle.osdp_link_laws.proofs.Lines.{each_append, each_rest, runs_append, runs_first}
@@ -175,14 +175,14 @@ module _ (fixed : ControllerConfig) {H : Type 0} (answer_of : H → Command → 
 
   -- a tick that begins no exchange
   ticked_at : (at : Stage) (t : Ticked) (l : Link H) → t.waiting ≡ l.controller.waiting
-      → told t.step.report l.account ≡ record l.account { unsettled = given_up_at at t.session.state } → ControllerAt fixed at t.session
+      → after_report t.step.report l.account ≡ record l.account { unsettled = given_up_at at t.session.state } → ControllerAt fixed at t.session
       → ToReaderAt fixed at (l.to_reader ++ option_to_list t.step.frame) → AtStage at l → AtStage at (link.ticked t l)
   ticked_at at t l waits says stands line h =
       let ps = l.to_reader ++ option_to_list t.step.frame in
       subst (λ w. AtStage at (record l {
         controller = record l.controller { session = t.session; waiting = w };
         to_reader = ps;
-        account = told t.step.report l.account;
+        account = after_report t.step.report l.account;
       })) (sym waits)
       (subst (λ a. AtStage at (record l { controller = record l.controller { session = t.session }; to_reader = ps; account = a })) (sym says)
       (with_session fixed answer_of after settings since at (record l { to_reader = ps }) t.session
@@ -202,12 +202,12 @@ module _ (fixed : ControllerConfig) {H : Type 0} (answer_of : H → Command → 
     subst (λ o. AtStage (Behind past x) (record l {
       controller = record l.controller { session = t.session; waiting = t.waiting };
       to_reader = l.to_reader ++ option_to_list o;
-      account = told t.step.report l.account;
+      account = after_report t.step.report l.account;
     })) (sym (sent ∙ ap (λ k. Some (frame fixed x k)) number))
         (subst (λ o. AtStage (Behind past x) (record l {
           controller = record l.controller { session = t.session; waiting = t.waiting };
           to_reader = l.to_reader ++ frame fixed x (number_after past) ∷ [];
-          account = told o l.account;
+          account = after_report o l.account;
         })) (sym quiet) (put x t.waiting asked waits none (subst (λ k. Asks fixed t.session.state k x t.session) number asks))),
   )
 
@@ -216,7 +216,7 @@ module _ (fixed : ControllerConfig) {H : Type 0} (answer_of : H → Command → 
       → l.account.unsettled ≡ given_up_at at t.session.state → ControllerAt fixed at t.session → AtStage at l → AtStage at (link.ticked t l)
   stays at t l waits silent quiet kept stands h =
       ticked_at at t l waits
-      (ap (λ o. told o l.account) quiet ∙ ap (λ (cs : List Command). record l.account { unsettled = cs }) kept) stands
+      (ap (λ o. after_report o l.account) quiet ∙ ap (λ (cs : List Command). record l.account { unsettled = cs }) kept) stands
       (subst (λ o. ToReaderAt fixed at (l.to_reader ++ option_to_list o)) (sym silent)
       (subst (ToReaderAt fixed at) (sym (append-nil l.to_reader)) h.to_reader)) h
 

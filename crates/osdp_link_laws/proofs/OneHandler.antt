@@ -28,7 +28,7 @@ use Rattle.osdp_reader.specs.declared.kind.Kind.TheVariants as kind
 use Rattle.osdp_reader_laws.specs.Answering.{handler_after_commands}
 use Rattle.osdp_link_laws.specs.Headline.{EachIsOnce, IsBeginning, MovesFit}
 use Rattle.osdp_link_laws.specs.Link as link
-use Rattle.osdp_link_laws.specs.Link.{Account, Delivered, Delivery, Link, Lost, Move, Queue as QueueEvent, Reopen, Repeated, RestartController, RestartReader, Retarget, SetBusy, SetHandler, Submit, Tick, ToController, ToReader, Withdraw, after_move, run, taken_command, told, LoseToReader, LoseToController}
+use Rattle.osdp_link_laws.specs.Link.{Account, Delivered, Delivery, Link, Lost, Move, Queue as QueueEvent, Reopen, Repeated, RestartController, RestartReader, Retarget, SetBusy, SetHandler, Submit, Tick, ToController, ToReader, Withdraw, after_move, run, taken_command, after_report, LoseToReader, LoseToController}
 use Rattle.osdp_link_laws.specs.OneHandler.{AreItsAnswers, AreOnce, GivesItsAnswers, KeepHandler, KeepsDevice, KeepsHandler, OneHandlerHoldsOnce, handler_after, with_answers}
 use Rattle.osdp_link_laws.specs.Peers.{ReadEachOther}
 use Rattle.osdp_link_laws.specs.Refusals.{KeepsReader}
@@ -72,10 +72,10 @@ module _ {H : Type 0} (answer_of : H → Command → Answer) (after : H → Comm
     handler = same ∙ is.handler ∙ ap (handler_after_commands answer_of after settings first) (sym taken);
   }
 
-  told_answered : (first : H) (r : Option Report) (t : Account) (handler : H) → IsAnswered first t handler → IsAnswered first (told r t) handler
+  told_answered : (first : H) (r : Option Report) (t : Account) (handler : H) → IsAnswered first t handler → IsAnswered first (after_report r t) handler
   told_answered first None t handler is = is
   told_answered first (Some (report.Opened id)) t handler is = is
-  told_answered first r t handler is = same_answered first t (told r t) handler handler refl refl refl is
+  told_answered first r t handler is = same_answered first t (after_report r t) handler handler refl refl refl is
 
   -- ---- a packet comes to the reader
 

@@ -1,4 +1,4 @@
--- Where neither end restarts, nothing is withdrawn and no address is set: no list of such moves grows.
+-- Where neither end restarts and nothing is withdrawn: no list of such moves grows.
 use Rattle.std.proofs.Common.{◌≡◌, ◌⊎◌, ◌≤◌, ℕ, Bool, true, false, List, [], ◌∷◌, ◌++◌, length, map, Option, Some, None, refl, sym, subst, ap, ◌∙◌, inl, inr, arith, append_assoc}
 use Rattle.std.proofs.lemmas.List.{append-nil}
 use Rattle.std.specs.Prelude.{◌==◌}
@@ -15,7 +15,7 @@ use Rattle.osdp_reader.specs.Table as reader
 use Rattle.osdp_reader.specs.declared.handler.Answer.{Answer}
 use Rattle.osdp_link_laws.specs.Headline.{IsWithout}
 use Rattle.osdp_link_laws.specs.Link as link
-use Rattle.osdp_link_laws.specs.Link.{Account, Delivered, Delivery, Link, Lost, Move, Queue as QueueEvent, Removal, Reopen, Repeated, RestartController, RestartReader, Retarget, SetBusy, SetHandler, Submit, Tick, ToController, ToReader, Withdraw, after_move, new_account, run, told, LoseToReader, LoseToController}
+use Rattle.osdp_link_laws.specs.Link.{Account, Delivered, Delivery, Link, Lost, Move, Queue as QueueEvent, Removal, Reopen, Repeated, RestartController, RestartReader, Retarget, SetBusy, SetHandler, Submit, Tick, ToController, ToReader, Withdraw, after_move, new_account, run, after_report, LoseToReader, LoseToController}
 use Rattle.osdp_link_laws.specs.Ordinary.{AreUndisturbed, HaveLeftUndisturbed, IsOrdinary, IsUndisturbed, LeavesUndisturbed, OrdinaryIsUndisturbed, UndisturbedLeaves}
 use Rattle.osdp_link_laws.specs.Sessions.{HaveLeft, Leaves, LeavesEvents, removed_command, settled_commands}
 use Rattle.osdp_link_laws.proofs.Growing.{taken_takes}
@@ -30,7 +30,7 @@ AllSo {H} l = AreUndisturbed (l.account ∷ l.earlier)
 new_so : (ws : List Command) (es : List Event) → IsUndisturbed (new_account ws es)
 new_so ws es = record { forgotten = refl; removed = refl; kept = refl; thrown_away = refl; restarts = refl }
 
-told_so : (r : Option Report) (t : Account) → IsUndisturbed t → IsUndisturbed (told r t)
+told_so : (r : Option Report) (t : Account) → IsUndisturbed t → IsUndisturbed (after_report r t)
 told_so None t so = so
 told_so (Some (report.Opened id)) t so = so
 told_so r t so = record { forgotten = so.forgotten; removed = so.removed; kept = so.kept; thrown_away = so.thrown_away; restarts = so.restarts }
@@ -80,6 +80,10 @@ module _ {H : Type 0} (answer_of : H → Command → Answer) (after : H → Comm
   reopens_so None [] (q ∷ qs) now l so = so
   reopens_so None [] [] now l so = (new_so l.controller.waiting l.reader.queue.events, so)
 
+  retargets_so : (refusal : Option ControllerFault) (address : ℕ) (l : Link H) → AllSo l → AllSo (link.retargets refusal address l)
+  retargets_so (Some fault) address l so = so
+  retargets_so None address l so = so
+
   move_so : (move : Move H) (l : Link H) → IsOrdinary move → AllSo l → AllSo (after_move answer_of after move l)
   move_so (Submit c) l ordinary so = submits_so (controllers.submit_refusal c l.controller) c l so
   move_so (QueueEvent e) l ordinary so = queues_so (length l.reader.queue.events == l.reader.queue.capacity) e l so
@@ -88,11 +92,11 @@ module _ {H : Type 0} (answer_of : H → Command → Answer) (after : H → Comm
   move_so (ToReader how) l ordinary so = to_reader_so how l.to_reader l so
   move_so (ToController how now) l ordinary so = to_controller_so how now l.to_controller l so
   move_so (Reopen now) l ordinary so = reopens_so (controllers.begin_refusal l.controller) l.to_reader l.to_controller now l so
-  move_so (LoseToReader place) l ordinary so = absurd ordinary
-  move_so (LoseToController place) l ordinary so = absurd ordinary
-  move_so (SetHandler handler) l ordinary so = absurd ordinary
+  move_so (LoseToReader place) l ordinary so = so
+  move_so (LoseToController place) l ordinary so = so
+  move_so (SetHandler handler) l ordinary so = so
   move_so Withdraw l ordinary so = absurd ordinary
-  move_so (Retarget address) l ordinary so = absurd ordinary
+  move_so (Retarget address) l ordinary so = retargets_so (controllers.retarget_refusal address l.controller) address l so
   move_so (RestartReader address handler room) l ordinary so = absurd ordinary
   move_so (RestartController config room) l ordinary so = absurd ordinary
 

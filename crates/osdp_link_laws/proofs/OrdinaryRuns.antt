@@ -12,7 +12,7 @@ use Rattle.osdp_link_laws.specs.Headline.{Begins, asked}
 use Rattle.osdp_link_laws.specs.Link as link
 use Rattle.osdp_link_laws.specs.Link.{Account, Link, Move}
 use Rattle.osdp_link_laws.specs.OneHandler.{KeepsDevice, with_answers}
-use Rattle.osdp_link_laws.specs.Ordinary.{AreUndisturbed, IsOrdinary, IsUndisturbed}
+use Rattle.osdp_link_laws.specs.Ordinary.{AreUndisturbed, IsOrdinary, IsSteady, IsUndisturbed}
 use Rattle.osdp_link_laws.specs.Refusals.{KeepsReader}
 use Rattle.osdp_link_laws.specs.Sessions.{ended_in, removed_command, settled_commands}
 use Rattle.osdp_link_laws.proofs.Lines.{each_all, each_map}
@@ -20,30 +20,39 @@ use Rattle.osdp_link_laws.proofs.Stages.{Each}
 
 -- ---- moves
 
-keeps_device : {H : Type 0} (m : Move H) → IsOrdinary m → KeepsDevice m
-keeps_device (link.SetHandler handler) ordinary = absurd ordinary
-keeps_device (link.RestartReader address handler room) ordinary = absurd ordinary
-keeps_device m ordinary = tt
+is_ordinary : {H : Type 0} (m : Move H) → IsSteady m → IsOrdinary m
+is_ordinary link.Withdraw steady = absurd steady
+is_ordinary (link.RestartReader address handler room) steady = absurd steady
+is_ordinary (link.RestartController config room) steady = absurd steady
+is_ordinary m steady = tt
 
-keeps_reader : {H : Type 0} (m : Move H) → IsOrdinary m → KeepsReader m
-keeps_reader (link.RestartReader address handler room) ordinary = absurd ordinary
-keeps_reader m ordinary = tt
+keeps_device : {H : Type 0} (m : Move H) → IsSteady m → KeepsDevice m
+keeps_device (link.SetHandler handler) steady = absurd steady
+keeps_device (link.RestartReader address handler room) steady = absurd steady
+keeps_device m steady = tt
 
-sets_no_other : {H : Type 0} (reader controller : ℕ) (m : Move H) → IsOrdinary m → SetsNoOther reader controller m
-sets_no_other reader controller (link.Retarget address) ordinary = absurd ordinary
-sets_no_other reader controller (link.RestartReader address handler room) ordinary = absurd ordinary
-sets_no_other reader controller (link.RestartController config room) ordinary = absurd ordinary
-sets_no_other reader controller m ordinary = tt
+keeps_reader : {H : Type 0} (m : Move H) → IsSteady m → KeepsReader m
+keeps_reader (link.RestartReader address handler room) steady = absurd steady
+keeps_reader m steady = tt
 
-pub keep_device : {H : Type 0} (ms : List (Move H)) → Each IsOrdinary ms → All KeepsDevice ms
-keep_device ms ordinary = each_all KeepsDevice ms (each_map IsOrdinary KeepsDevice keeps_device ms ordinary)
+sets_no_other : {H : Type 0} (reader controller : ℕ) (m : Move H) → IsSteady m → SetsNoOther reader controller m
+sets_no_other reader controller (link.Retarget address) steady = absurd steady
+sets_no_other reader controller (link.RestartReader address handler room) steady = absurd steady
+sets_no_other reader controller (link.RestartController config room) steady = absurd steady
+sets_no_other reader controller m steady = tt
 
-pub keep_reader : {H : Type 0} (ms : List (Move H)) → Each IsOrdinary ms → All KeepsReader ms
-keep_reader ms ordinary = each_all KeepsReader ms (each_map IsOrdinary KeepsReader keeps_reader ms ordinary)
+pub steady_ordinary : {H : Type 0} (ms : List (Move H)) → Each IsSteady ms → Each IsOrdinary ms
+steady_ordinary ms steady = each_map IsSteady IsOrdinary is_ordinary ms steady
 
-pub set_no_other : {H : Type 0} (reader controller : ℕ) (ms : List (Move H)) → Each IsOrdinary ms → All (SetsNoOther reader controller) ms
-set_no_other reader controller ms ordinary =
-    each_all (SetsNoOther reader controller) ms (each_map IsOrdinary (SetsNoOther reader controller) (sets_no_other reader controller) ms ordinary)
+pub keep_device : {H : Type 0} (ms : List (Move H)) → Each IsSteady ms → All KeepsDevice ms
+keep_device ms steady = each_all KeepsDevice ms (each_map IsSteady KeepsDevice keeps_device ms steady)
+
+pub keep_reader : {H : Type 0} (ms : List (Move H)) → Each IsSteady ms → All KeepsReader ms
+keep_reader ms steady = each_all KeepsReader ms (each_map IsSteady KeepsReader keeps_reader ms steady)
+
+pub set_no_other : {H : Type 0} (reader controller : ℕ) (ms : List (Move H)) → Each IsSteady ms → All (SetsNoOther reader controller) ms
+set_no_other reader controller ms steady =
+    each_all (SetsNoOther reader controller) ms (each_map IsSteady (SetsNoOther reader controller) (sets_no_other reader controller) ms steady)
 
 -- ---- accounts
 

@@ -23,7 +23,7 @@ use Rattle.osdp_reader.specs.declared.kind.Kind.TheVariants as kind
 use Rattle.osdp_reader.specs.Table as reader
 use Rattle.osdp_link_laws.specs.Headline.{MoveFits}
 use Rattle.osdp_link_laws.specs.Link as link
-use Rattle.osdp_link_laws.specs.Link.{Account, Delivered, Delivery, Link, Lost, Move, Queue as QueueEvent, Removal, Reopen, Repeated, RestartController, RestartReader, Retarget, SetBusy, SetHandler, Submit, ThrownAway, Tick, ToController, ToReader, Withdraw, Withdrawn, after_move, outstanding_command, told, LoseToReader, LoseToController}
+use Rattle.osdp_link_laws.specs.Link.{Account, Delivered, Delivery, Link, Lost, Move, Queue as QueueEvent, Removal, Reopen, Repeated, RestartController, RestartReader, Retarget, SetBusy, SetHandler, Submit, ThrownAway, Tick, ToController, ToReader, Withdraw, Withdrawn, after_move, outstanding_command, after_report, LoseToReader, LoseToController}
 use Rattle.osdp_link_laws.specs.Sessions.{removed_command}
 use Rattle.osdp_link_laws.proofs.Deliveries.{coming_to_controller, coming_to_reader, missing_to_controller, missing_to_reader}
 use Rattle.osdp_link_laws.proofs.Lines.{both}
@@ -154,11 +154,11 @@ module _ (fixed : ControllerConfig) {H : Type 0} (answer_of : H → Command → 
       → HoldsAt (link.controller_gets q now (as_if w u l)) → HoldsAt (as_if w u (link.controller_gets q now l))
   controller_gets_as w u q now l closed h =
       let s = l.controller.session in
-      subst (λ (heard : controller.Heard). HoldsAt (as_if w u (record l { controller = record l.controller { session = heard.session }; account = told heard.report l.account })))
+      subst (λ (heard : controller.Heard). HoldsAt (as_if w u (record l { controller = record l.controller { session = heard.session }; account = after_report heard.report l.account })))
       (sym (closed_hears q now s closed))
       (subst (λ (heard : controller.Heard). HoldsAt (record (as_if w u l) {
         controller = record l.controller { session = heard.session; waiting = w ++ l.controller.waiting };
-        account = told heard.report (record l.account { unsettled = u });
+        account = after_report heard.report (record l.account { unsettled = u });
       })) (closed_hears q now s closed) h)
 
   to_controller_as : (w u : List Command) (how : Delivery) (now : ℕ) (qs : List Packet) (l : Link H) → l.controller.session.state ≡ Closed

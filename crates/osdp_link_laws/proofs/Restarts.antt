@@ -32,7 +32,7 @@ front_shown Polling a q offers = front_event (event_in a) q offers
 front_shown (Asking c) a q offers = (q.events, refl)
 
 -- all but so many of the first are those after them
-drop_front : {A : Type 0} (xs ys : List A) → drop (length xs) (xs ++ ys) ≡ ys
+pub drop_front : {A : Type 0} (xs ys : List A) → drop (length xs) (xs ++ ys) ≡ ys
 drop_front [] ys = refl
 drop_front (x ∷ xs) ys = drop_front xs ys
 

@@ -1,18 +1,25 @@
--- A round from a clear link leaves it clear and at rest, or ends the session.
-use Rattle.std.proofs.Common.{◌≡◌, ℕ, ap, sym, ◌∙◌, inl, inr}
+-- A round from a clear link leaves it clear and at rest, or ends the session; and from rest each round brings one more.
+use Rattle.std.proofs.Common.{◌≡◌, ◌+◌, ℕ, length, Some, ap, sym, subst, ◌∙◌, inl, inr, arith}
+use Rattle.std.proofs.Math.Nat.{min-le_left, min-le_right}
 use Rattle.osdp_msg.specs.declared.command.Command.{Command}
 use Rattle.osdp_controller.specs.Sessions.{seen}
+use Rattle.osdp_controller.specs.declared.config.ControllerConfig.{ControllerConfig}
 use Rattle.osdp_controller.specs.declared.state.State.{State}
 use Rattle.osdp_controller.specs.declared.state.State.TheVariants.{Closed, Idle}
+use Rattle.osdp_reader.specs.declared.config.ReaderConfig.{ReaderConfig}
 use Rattle.osdp_reader.specs.declared.handler.Answer.{Answer}
-use Rattle.osdp_link_laws.specs.Link.{run}
+use Rattle.osdp_link_laws.specs.Link.{Link, run}
 use Rattle.osdp_link_laws.specs.Peers.{ReadEachOther}
-use Rattle.osdp_link_laws.specs.Progress.{ComesToRest, SetsNoAddress, round}
+use Rattle.osdp_link_laws.specs.Progress.{ComesThroughFromRest, ComesToRest, SetsNoAddress, round, rounds}
 use Rattle.osdp_link_laws.proofs.Due.{closed_rests}
 use Rattle.osdp_link_laws.proofs.InARow.{assumed_of, stands}
 use Rattle.osdp_link_laws.proofs.Lines.{each_all}
 use Rattle.osdp_link_laws.proofs.Once.{going_bare}
-use Rattle.osdp_link_laws.proofs.Through.{clear_still, config_is, first_round, held_after}
+use Rattle.osdp_link_laws.proofs.Parts.{At}
+use Rattle.osdp_link_laws.proofs.Round.{IsIdle}
+use Rattle.osdp_link_laws.proofs.Rounds.{all_of, counted}
+use Rattle.osdp_link_laws.proofs.Stages.{Asks, Before, Behind, Fresh, Level, Never, Now, Rest, Restarted, Stage, Waits, number_after}
+use Rattle.osdp_link_laws.proofs.Through.{clear_still, config_is, first_round, held_after, through}
 
 idle_lasts : (state : State) → (due : ℕ) × (state ≡ Idle due) → state ≡ Closed → ⊥
 idle_lasts state (due, idle) closed = let same : Idle due ≡ Closed = sym idle ∙ closed in cc
@@ -44,4 +51,44 @@ module _ {H : Type 0} (answer_of : H → Command → Answer) (after : H → Comm
           },
           idle.idle,
         )
+      ]
+
+module _ (fixed : ControllerConfig) {H : Type 0} (answer_of : H → Command → Answer) (after : H → Command → H) (settings : ReaderConfig) where
+  -- at rest a reader that hasn't restarted knows its last number
+  known : (since : Restarted) (at : Stage) (l : Link H) → At fixed answer_of after settings since at l → (due : ℕ) → l.controller.session.state ≡ Idle due
+      → l.reader.config.address ≡ fixed.address → l.account.restarts ≡ 0 → (n : ℕ) × (l.reader.last ≡ Some n)
+  known since Fresh l h due idle here none = absurd (subst (λ st. Waits fixed st l.controller.session) idle h.controller)
+  known since (Behind past x) l h due idle here none = absurd (subst (λ st. Asks fixed st (number_after past) x l.controller.session) idle h.controller)
+  known since (Level past x a) l h due idle here none = absurd (subst (λ st. Asks fixed st (number_after past) x l.controller.session) idle h.controller)
+  known Never (Rest n x a) l h due idle here none = (n, (h.reader.here here).0)
+  known Before (Rest n x a) l h due idle here none = absurd (let some = h.account.restarts in omega (arith, none, some))
+  known Now (Rest n x a) l h due idle here none = absurd (let some = h.account.restarts in omega (arith, none, some))
+
+module _ {H : Type 0} (answer_of : H → Command → Answer) (after : H → Command → H) where
+  pub comes_through_from_rest : ReadEachOther answer_of after → ComesThroughFromRest answer_of after
+  comes_through_from_rest peers l moves moments b fits clear rest hears due more =
+      let settings = l.reader.config in
+      let afterwards = run answer_of after moves l in
+      let last = run answer_of after (rounds moments) afterwards in
+      let s = stands answer_of after peers l moves b fits in
+      let lasts = idle_lasts afterwards.controller.session.state rest in
+      let holds = going_bare s.fixed answer_of after settings afterwards s.goes lasts in
+      let same = config_is s.fixed answer_of after settings holds.0 holds.1 afterwards holds.2 lasts in
+      let still = clear_still s.fixed answer_of after settings afterwards clear same in
+      let idle : IsIdle s.fixed answer_of after settings afterwards = record {
+        idle = rest;
+        still = still;
+        known = elim hears [
+          | inl none ↦ known s.fixed answer_of after settings holds.0 holds.1 afterwards holds.2 rest.0 rest.1 still.ready.here none
+          | inr knows ↦ knows
+        ];
+      } in
+      let all = assumed_of answer_of after peers l s.fixed s.device in
+      let come = through s.fixed answer_of after settings all moments afterwards holds idle due more in
+      let few = min-le_left (counted afterwards.account + length moments) (all_of last.account) in
+      let every = min-le_right (counted afterwards.account + length moments) (all_of last.account) in
+      let whole = come.1 in
+      elim come.0 [
+        | inl far ↦ omega (arith, far, few)
+        | inr done ↦ omega (arith, done, whole, every)
       ]

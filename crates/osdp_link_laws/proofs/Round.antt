@@ -22,7 +22,7 @@ use Rattle.osdp_reader.specs.Table.{hears, kind_of}
 use Rattle.osdp_msg.specs.declared.nak.NakReason.TheVariants.{UnexpectedSequence}
 use Rattle.osdp_link_laws.specs.Headline.{SaysWhatFits}
 use Rattle.osdp_link_laws.specs.Link as link
-use Rattle.osdp_link_laws.specs.Link.{Delivered, Link, told}
+use Rattle.osdp_link_laws.specs.Link.{Delivered, Link, after_report}
 use Rattle.osdp_link_laws.specs.Progress.{SetsNoAddress}
 use Rattle.osdp_link_laws.specs.Sessions.{settled_commands}
 use Rattle.osdp_link_laws.proofs.Deliveries.{refusal_fits}
@@ -91,7 +91,7 @@ module _ (fixed : ControllerConfig) {H : Type 0} (answer_of : H → Command → 
     reader = (hears answer_of after l.reader p).reader;
     to_reader = [];
     to_controller = [];
-    account = told (report_of x a) (link.taken (kind_of l.reader p) (hears answer_of after l.reader p).command (hears answer_of after l.reader p).said (link.front_of l.reader) l.account);
+    account = after_report (report_of x a) (link.taken (kind_of l.reader p) (hears answer_of after l.reader p).command (hears answer_of after l.reader p).said (link.front_of l.reader) l.account);
   }
 
   pub come_through : (now : ℕ) (x : Exchange) (n : ℕ) (a : Reply) (l : Link H) → l.to_reader ≡ frame fixed x n ∷ [] → l.to_controller ≡ []
@@ -110,7 +110,7 @@ module _ (fixed : ControllerConfig) {H : Type 0} (answer_of : H → Command → 
       ∙ ap (λ (heard : Heard). record m {
         to_controller = [];
         controller = record l.controller { session = heard.session };
-        account = told heard.report m.account;
+        account = after_report heard.report m.account;
       }) settles
 
   -- a number that is refused ends the session
@@ -186,7 +186,7 @@ module _ (fixed : ControllerConfig) {H : Type 0} (answer_of : H → Command → 
       let m = at_tick now l in
       let is = awaited since at m x h sends.awaits in
       let line = sent_line now l x at still.to_reader sends is in
-      let issued : m.account.issued ≡ l.account.issued = ap (λ o. (told o l.account).issued) sends.report in
+      let issued : m.account.issued ≡ l.account.issued = ap (λ o. (after_report o l.account).issued) sends.report in
       let none = moves_none since at m h is.out (subst (Each SetsNoAddress) (sym issued) still.issued) in
       let stays = subst MovesNone is.exchange none in
       let fit = subst (λ ps. SaysWhatFits answer_of after ps l.reader) line fits in

@@ -22,7 +22,7 @@ use Rattle.osdp_reader.specs.declared.handler.Answer.{Answer}
 use Rattle.osdp_reader.specs.Table.{hears, kind_of}
 use Rattle.osdp_link_laws.specs.Headline.{MovesFit, SaysWhatFits}
 use Rattle.osdp_link_laws.specs.Link as link
-use Rattle.osdp_link_laws.specs.Link.{Account, Delivered, Link, Move, Tick, ToController, ToReader, run, told}
+use Rattle.osdp_link_laws.specs.Link.{Account, Delivered, Link, Move, Tick, ToController, ToReader, run, after_report}
 use Rattle.osdp_link_laws.specs.Progress.{AreDue, ComeOn, ComesThrough, IsClear, SetsNoAddress, round, rounds}
 use Rattle.osdp_link_laws.specs.Peers.{ReadEachOther}
 use Rattle.osdp_link_laws.proofs.Due.{Acts, closed_rests, due_sends}
@@ -120,7 +120,7 @@ module _ (fixed : ControllerConfig) {H : Type 0} (answer_of : H → Command → 
   abbrev SameAll : Account → Account → Type 0
   SameAll t u = (u.issued ≡ t.issued) × (u.kept ≡ t.kept)
 
-  told_same : (r : Option Report) (t : Account) → SameAll t (told r t)
+  told_same : (r : Option Report) (t : Account) → SameAll t (after_report r t)
   told_same None t = (refl, refl)
   told_same (Some (report.Opened id)) t = (refl, refl)
   told_same r t = (refl, refl)
@@ -147,7 +147,7 @@ module _ (fixed : ControllerConfig) {H : Type 0} (answer_of : H → Command → 
       ∙ same_length l.account (at_tick now l).account (told_same (ticks now l.controller.session l.controller.waiting).step.report l.account)
 
   -- no report makes what is settled and reported less
-  told_more : (r : Option Report) (u : Account) → counted u ≤ counted (told r u)
+  told_more : (r : Option Report) (u : Account) → counted u ≤ counted (after_report r u)
   told_more None u = omega arith
   told_more (Some (report.Opened id)) u = omega arith
   told_more (Some (report.Settled c a)) u = omega (arith, length-append u.settled ((c, a) ∷ []))
@@ -179,7 +179,7 @@ module _ (fixed : ControllerConfig) {H : Type 0} (answer_of : H → Command → 
   Through moments l m =
       ((counted l.account + length moments ≤ counted m.account) ⊎ (all_of l.account ≤ counted m.account)) × (all_of m.account ≡ all_of l.account)
 
-  through : Given → (moments : List ℕ) (l : Link H) → Holds l → IsIdle fixed answer_of after settings l → AreDue answer_of after moments l
+  pub through : Given → (moments : List ℕ) (l : Link H) → Holds l → IsIdle fixed answer_of after settings l → AreDue answer_of after moments l
       → MovesFit answer_of after (rounds moments) l → Through moments l (run answer_of after (rounds moments) l)
   through given [] l held idle due fits = (inl (omega arith), refl)
   through given (now ∷ later) l held idle due fits =

@@ -19,13 +19,13 @@ use Rattle.osdp_controller.specs.Exchanges.{submitted_command}
 use Rattle.osdp_controller.specs.Sessions.{after_send, frame_of, seen}
 use Rattle.osdp_controller.specs.Ticking.{Ticked, begins, gives_up, sends_frame, stays, ticks, ticks_in, tries_again}
 use Rattle.osdp_link_laws.specs.Headline.{MaySubmit}
-use Rattle.osdp_link_laws.specs.Link.{Account, told}
+use Rattle.osdp_link_laws.specs.Link.{Account, after_report}
 use Rattle.osdp_link_laws.proofs.Lines.{both}
 use Rattle.osdp_link_laws.proofs.Stages.{After, Asks, Each, IsAsked, IsFrame, IsOpen, Past, Rests, Start, Waits, frame, given_up, pending}
 
 -- nothing is settled or reported; where the session ends, the outstanding command is unsettled
 abbrev pub LeavesUnsettled : List Command → Exchange → Option Report → State → Type 0
-LeavesUnsettled before x report state = (a : Account) → a.unsettled ≡ before → told report a ≡ record a { unsettled = given_up state x }
+LeavesUnsettled before x report state = (a : Account) → a.unsettled ≡ before → after_report report a ≡ record a { unsettled = given_up state x }
 
 pub nothing_told : (before : List Command) (x : Exchange) (state : State) → given_up state x ≡ before → LeavesUnsettled before x None state
 nothing_told before x state is a e = ap (λ (cs : List Command). record a { unsettled = cs }) (e ∙ sym is)

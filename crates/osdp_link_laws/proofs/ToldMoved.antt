@@ -22,7 +22,7 @@ use Rattle.osdp_reader.specs.declared.handler.Answer.{Answer}
 use Rattle.osdp_reader.specs.Replies.{not_processed}
 use Rattle.osdp_reader.specs.Table.{answer_to}
 use Rattle.osdp_link_laws.specs.Headline.{MovesFit, IsOnce, MoveFits}
-use Rattle.osdp_link_laws.specs.Link.{Account, Delivered, Delivery, Link, LoseToController, LoseToReader, Move, Queue as QueueEvent, Reopen, Repeated, RestartController, RestartReader, Retarget, SetBusy, SetHandler, Submit, Tick, ToController, ToReader, Withdraw, after_move, told}
+use Rattle.osdp_link_laws.specs.Link.{Account, Delivered, Delivery, Link, LoseToController, LoseToReader, Move, Queue as QueueEvent, Reopen, Repeated, RestartController, RestartReader, Retarget, SetBusy, SetHandler, Submit, Tick, ToController, ToReader, Withdraw, after_move, after_report}
 use Rattle.osdp_link_laws.specs.Link as link
 use Rattle.osdp_link_laws.specs.Names.{IsNoDevice, IsToldAsAsked, TellAsAsked}
 use Rattle.osdp_link_laws.specs.Peers.{ReadEachOther}
@@ -90,7 +90,7 @@ module _ {H : Type 0} (answer_of : H → Command → Answer) (after : H → Comm
   answered_by [] ys c a are = are.0
   answered_by (x ∷ xs) ys c a are = answered_by xs ys c a are.1
 
-  told_so : (r : Option Report) (t : Account) → MayTell r → AreAnswers answer_of after (told r t) → IsOnce (told r t) → ToldAsAsked r
+  told_so : (r : Option Report) (t : Account) → MayTell r → AreAnswers answer_of after (after_report r t) → IsOnce (after_report r t) → ToldAsAsked r
   told_so (Some (report.Settled c a)) t is are once =
       let by = answered_by t.settled once.settled.0 c a (subst (Each (IsAnswerOf answer_of after)) once.settled.1 are) in
       no_device by.0 by.1 c a by.2 is

@@ -32,7 +32,7 @@ use Rattle.osdp_reader.specs.declared.kind.Kind.{Kind}
 use Rattle.osdp_reader.specs.declared.kind.Kind.TheVariants as kind
 use Rattle.osdp_link_laws.specs.Headline.{MovesFit, Begins, IsBeginning, IsOnce, MoveFits, asked}
 use Rattle.osdp_link_laws.specs.Link as link
-use Rattle.osdp_link_laws.specs.Link.{Account, Delivered, Delivery, Link, Lost, Move, Queue as QueueEvent, Reopen, Repeated, RestartController, RestartReader, Retarget, SetBusy, SetHandler, Submit, Tick, ToController, ToReader, Withdraw, after_move, run, told, LoseToReader, LoseToController}
+use Rattle.osdp_link_laws.specs.Link.{Account, Delivered, Delivery, Link, Lost, Move, Queue as QueueEvent, Reopen, Repeated, RestartController, RestartReader, Retarget, SetBusy, SetHandler, Submit, Tick, ToController, ToReader, Withdraw, after_move, run, after_report, LoseToReader, LoseToController}
 use Rattle.osdp_link_laws.specs.TwoLists.{IsInStep, IsLevel, IsOneOrNone, IsRead, IsReadOff, IsStepOf, Issue, KeepsInStep, May, MovesInStep, Offer, Offers, OffersOnce, Queue, Report as Tell, Settle, Step, Take, ThrowAway, TwoLists, after_step, two_lists}
 use Rattle.osdp_link_laws.specs.Peers.{ReadEachOther}
 use Rattle.osdp_link_laws.proofs.InARow.{all_once, assumed_of, standing, stands}
@@ -209,7 +209,7 @@ one_longer : {A : Type 0} (xs : List A) (x : A) → length (xs ++ x ∷ []) ≡ 
 one_longer xs x = length-append xs (x ∷ [])
 
 module _ (H : Type 0) where
-  told_would : (r : Option Report) (how : Delivery) (now : ℕ) (t : Account) → Would {H = H} (ToController how now) t (told r t)
+  told_would : (r : Option Report) (how : Delivery) (now : ℕ) (t : Account) → Would {H = H} (ToController how now) t (after_report r t)
   told_would None how now t = inl refl
   told_would (Some (report.Opened id)) how now t = inl refl
   told_would (Some (report.Settled c a)) how now t =
@@ -243,7 +243,7 @@ module _ (H : Type 0) where
 
 -- a tick settles and reports nothing
 abbrev TellsNothing : Option Report → Account → Type 0
-TellsNothing r t = two_lists (told r t) ≡ two_lists t
+TellsNothing r t = two_lists (after_report r t) ≡ two_lists t
 
 quiet_tick : (state : State) (s : Session) (waiting : List Command) (t : Account) → TellsNothing (ticks_in state s waiting).step.report t
 quiet_tick Closed s waiting t = refl
@@ -290,7 +290,7 @@ module _ {H : Type 0} (answer_of : H → Command → Answer) (after : H → Comm
   is_one move t u before later (inr (step, of, is)) = inr (step, of, may step (two_lists t) before (subst IsInStep is later), is)
 
   reopens : (refusal : Option ControllerFault) (ps qs : List Packet) (now : ℕ) (l : Link H)
-      → IsOneOrNone {H = H} (Reopen now) (two_lists l.account) (two_lists (link.reopens refusal ps qs now l).account)
+      → IsOneOrNone (Reopen now) l (two_lists l.account) (two_lists (link.reopens refusal ps qs now l).account)
   reopens None [] [] now l = inr refl
   reopens None [] (q ∷ qs) now l = inl refl
   reopens None (p ∷ ps) qs now l = inl refl
@@ -305,7 +305,7 @@ module _ {H : Type 0} (answer_of : H → Command → Answer) (after : H → Comm
   retargets_would (Some fault) address l = refl
 
   one_or_none : (move : Move H) (l : Link H) → Offers l.account → IsInStep (two_lists l.account) → IsInStep (two_lists (after_move answer_of after move l).account)
-      → IsOneOrNone move (two_lists l.account) (two_lists (after_move answer_of after move l).account)
+      → IsOneOrNone move l (two_lists l.account) (two_lists (after_move answer_of after move l).account)
   one_or_none (Submit c) l offers before later =
       is_one (Submit c) l.account (after_move answer_of after (Submit c) l).account before later (submits_would (controllers.submit_refusal c l.controller) c l)
   one_or_none (QueueEvent e) l offers before later =

@@ -11,3 +11,5 @@ pub mod Names
 pub mod Ends
 pub mod Ordinary
 pub mod Clean
+pub mod Effects
+pub mod Costs

@@ -114,15 +114,15 @@ lost_at zero (x ∷ xs) = xs
 lost_at (suc k) (x ∷ xs) = x ∷ lost_at k xs
 
 -- the account after a report: a COMSET that moves the reader is settled by its COM
-abbrev pub told : Option Report → Account → Account
-told None t = t
-told (Some (report.Opened id)) t = t
-told (Some (report.Settled command answer)) t = record t { settled = t.settled ++ (command, answer) ∷ [] }
-told (Some (report.Moved command answered)) t = record t { settled = t.settled ++ (command, reply.Com answered) ∷ [] }
-told (Some (report.Event event)) t = record t { reported = t.reported ++ event ∷ [] }
-told (Some (report.PollAnswered answer)) t = t
-told (Some (report.Unread command code)) t = t
-told (Some (report.Lost cause command)) t = record t { unsettled = t.unsettled ++ option_to_list command }
+abbrev pub after_report : Option Report → Account → Account
+after_report None t = t
+after_report (Some (report.Opened id)) t = t
+after_report (Some (report.Settled command answer)) t = record t { settled = t.settled ++ (command, answer) ∷ [] }
+after_report (Some (report.Moved command answered)) t = record t { settled = t.settled ++ (command, reply.Com answered) ∷ [] }
+after_report (Some (report.Event event)) t = record t { reported = t.reported ++ event ∷ [] }
+after_report (Some (report.PollAnswered answer)) t = t
+after_report (Some (report.Unread command code)) t = t
+after_report (Some (report.Lost cause command)) t = record t { unsettled = t.unsettled ++ option_to_list command }
 
 -- a command that was taken, with the reply that was said to it
 abbrev pub given_to : Command → Option Reply → List (Command × Reply)
@@ -182,7 +182,7 @@ module _ {H : Type 0} where
   ticked t l = record l {
     controller = record l.controller { session = t.session; waiting = t.waiting };
     to_reader = l.to_reader ++ option_to_list t.step.frame;
-    account = told t.step.report l.account;
+    account = after_report t.step.report l.account;
   }
 
   abbrev pub controller_gets : Packet → ℕ → Link H → Link H
@@ -190,7 +190,7 @@ module _ {H : Type 0} where
       let heard = controller.hears p now l.controller.session in
       record l {
         controller = record l.controller { session = heard.session };
-        account = told heard.report l.account;
+        account = after_report heard.report l.account;
       }
 
   -- a session begins again where nothing is on the line and the controller is closed; else nothing happens

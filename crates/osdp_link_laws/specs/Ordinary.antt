@@ -1,21 +1,29 @@
--- Runs in which neither end restarts, no command is withdrawn and no address is set: the lists that such moves fill are empty.
+-- Runs in which neither end restarts and no command is withdrawn: the lists that such moves fill are empty.
 use Rattle.std.specs.Prelude.{◌≡◌, ◌≤◌, ◌⊎◌, All, List, [], ◌∷◌, ◌++◌, length}
 use Rattle.osdp_msg.specs.declared.command.Command.{Command}
 use Rattle.osdp_msg.specs.declared.event.Event.{Event}
 use Rattle.osdp_reader.specs.declared.handler.Answer.{Answer}
 use Rattle.osdp_link_laws.specs.Headline.{Begins, IsBeginning}
-use Rattle.osdp_link_laws.specs.Link.{Account, Link, Move, RestartController, RestartReader, Retarget, SetHandler, Withdraw, run, LoseToReader, LoseToController}
+use Rattle.osdp_link_laws.specs.Link.{Account, Link, LoseToController, LoseToReader, Move, RestartController, RestartReader, Retarget, SetHandler, Withdraw, run}
 use Rattle.osdp_link_laws.specs.Sessions.{HaveLeft, Leaves, settled_commands}
 
+-- a move with which neither end restarts and no command is withdrawn
 abbrev pub IsOrdinary : {H : Type 0} → Move H → Type 0
-IsOrdinary (SetHandler handler) = ⊥
 IsOrdinary Withdraw = ⊥
-IsOrdinary (Retarget address) = ⊥
 IsOrdinary (RestartReader address handler room) = ⊥
 IsOrdinary (RestartController config room) = ⊥
-IsOrdinary (LoseToReader place) = ⊥
-IsOrdinary (LoseToController place) = ⊥
 IsOrdinary _ = Unit {0}
+
+-- .. that sets no handler and no address, and loses nothing out of the middle: what the steps of a schedule come to
+abbrev pub IsSteady : {H : Type 0} → Move H → Type 0
+IsSteady (SetHandler handler) = ⊥
+IsSteady Withdraw = ⊥
+IsSteady (Retarget address) = ⊥
+IsSteady (RestartReader address handler room) = ⊥
+IsSteady (RestartController config room) = ⊥
+IsSteady (LoseToReader place) = ⊥
+IsSteady (LoseToController place) = ⊥
+IsSteady _ = Unit {0}
 
 -- no command is forgotten or removed, and no event is thrown away
 pub record IsUndisturbed (t : Account) : Type 0 where

@@ -1,5 +1,5 @@
 -- Something comes through: after m rounds that lose nothing m - 1 more commands and events, or all of them, are settled and reported.
-use Rattle.std.specs.Prelude.{◌≡◌, ◌⊎◌, ◌≤◌, ℕ, ◌+◌, ◌-◌, min, true, false, All, List, [], ◌∷◌, ◌++◌, length, None}
+use Rattle.std.specs.Prelude.{◌≡◌, ◌⊎◌, ◌≤◌, ℕ, ◌+◌, ◌-◌, min, true, false, All, List, [], ◌∷◌, ◌++◌, length, Some, None}
 use Rattle.osdp_msg.specs.declared.command.Command.{Command}
 use Rattle.osdp_controller.specs.Hearing.{comset_of}
 use Rattle.osdp_controller.specs.Machine.{Machine, is_due}
@@ -48,6 +48,10 @@ module _ {H : Type 0} where
   abbrev pub IsAtRest : Link H → Type 0
   IsAtRest l = (due : ℕ) × (l.controller.session.state ≡ Idle due)
 
+  -- the reader hasn't restarted in this session, or has heard number 0 since
+  abbrev pub HearsOn : Link H → Type 0
+  HearsOn l = (l.account.restarts ≡ 0) ⊎ ((n : ℕ) × (l.reader.last ≡ Some n))
+
   -- the link is
   abbrev pub IsClear : Link H → Type 0
   IsClear l = AreClear l.to_reader l.to_controller l.reader l.controller l.account.issued
@@ -71,6 +75,15 @@ module _ {H : Type 0} where
         IsClear later → is_due now later.controller ≡ true → MovesFit answer_of after (round now) later
         → let last = run answer_of after (round now) later in
         (last.controller.session.state ≡ Closed) ⊎ (IsClear last × IsAtRest last)
+
+    -- from a link at rest, where the reader knows its last number, each of the rounds brings one more, until it is all
+    abbrev pub ComesThroughFromRest : Type 0
+    ComesThroughFromRest = (l : Link H) (moves : List (Move H)) (moments : List ℕ) → Begins l → MovesFit answer_of after moves l
+        → let later = run answer_of after moves l in
+        IsClear later → IsAtRest later → HearsOn later → AreDue moments later → MovesFit answer_of after (rounds moments) later
+        → let last = run answer_of after (rounds moments) later in
+        min (length later.account.settled + length later.account.reported + length moments) (length last.account.issued + length last.account.kept)
+        ≤ length last.account.settled + length last.account.reported
 
     -- each tick comes so much later than the greatest moment seen as the longest of the controller's waits
     abbrev pub AreLate : List ℕ → Link H → Type 0

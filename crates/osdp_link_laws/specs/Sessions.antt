@@ -49,16 +49,16 @@ pub record Leaves (t : Account) (waiting : List Command) (events : List Event) :
   pub left : List Event
   pub of_events : LeavesEvents t left events
 
--- a session, and one after it
-abbrev pub Follows : Account → Account → Type 0
-Follows t next =
+-- a session, and one after it, which begins with what it leaves
+abbrev pub LeavesTo : Account → Account → Type 0
+LeavesTo t next =
     (waiting : List Command) × (events : List Event)
     × Leaves t waiting events × IsBeginning waiting next.issued × IsBeginning events next.queued
 
 -- sessions, the last of them first
 abbrev pub AreInARow : Account → List Account → Type 0
 AreInARow t [] = Unit {0}
-AreInARow t (before ∷ earlier) = Follows before t × AreInARow before earlier
+AreInARow t (before ∷ earlier) = LeavesTo before t × AreInARow before earlier
 
 -- the commands of these sessions that have ended, session after session
 abbrev pub ended_commands : List Account → List Command

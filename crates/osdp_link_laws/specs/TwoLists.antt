@@ -94,10 +94,10 @@ IsStepOf (link.ToController how now) Report = Unit {0}
 IsStepOf (link.RestartReader address handler room) ThrowAway = Unit {0}
 IsStepOf _ _ = ⊥
 
--- a move of the link is none of them or one, where it may be; or a session begins
-abbrev pub IsOneOrNone : {H : Type 0} → Move H → TwoLists → TwoLists → Type 0
-IsOneOrNone (link.Reopen now) m n = (n ≡ m) ⊎ (n ≡ beginning n.issued n.queued)
-IsOneOrNone move m n = (n ≡ m) ⊎ ((step : Step) × IsStepOf move step × May step m × (n ≡ after_step step m))
+-- a move of the link is none of them or one, where it may be; or a session begins, with the commands and the events that wait
+abbrev pub IsOneOrNone : {H : Type 0} → Move H → Link H → TwoLists → TwoLists → Type 0
+IsOneOrNone (link.Reopen now) l m n = (n ≡ m) ⊎ (n ≡ beginning l.controller.waiting l.reader.queue.events)
+IsOneOrNone move l m n = (n ≡ m) ⊎ ((step : Step) × IsStepOf move step × May step m × (n ≡ after_step step m))
 
 -- the events that the reader has offered are a beginning of those that no restart threw away, and hold those reported. Of the last command
 -- taken and the last event offered at most one isn't told yet.
@@ -127,4 +127,4 @@ module _ {H : Type 0} (answer_of : H → Command → Answer) (after : H → Comm
   MovesInStep = (l : Link H) (moves : List (Move H)) (move : Move H) → Begins l → MovesFit answer_of after moves l
       → let later = run answer_of after moves l in
       MoveFits answer_of after move later
-      → IsOneOrNone move (two_lists later.account) (two_lists (after_move answer_of after move later).account)
+      → IsOneOrNone move later (two_lists later.account) (two_lists (after_move answer_of after move later).account)

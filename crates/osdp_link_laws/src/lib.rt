@@ -7,12 +7,14 @@ ghost use Rattle.osdp_link_laws.specs.Headline.{HoldsOnce};
 ghost use Rattle.osdp_link_laws.specs.OneHandler.{GivesItsAnswers, OneHandlerHoldsOnce};
 ghost use Rattle.osdp_link_laws.specs.Ordinary.{OrdinaryIsUndisturbed, UndisturbedLeaves};
 ghost use Rattle.osdp_link_laws.specs.Addresses.{StayWhereTheyAre};
-ghost use Rattle.osdp_link_laws.specs.Progress.{ComesThrough, ComesThroughInTime, ComesToRest};
+ghost use Rattle.osdp_link_laws.specs.Costs.{ControllerRestartCosts, ReaderRestartCosts, ReportsNoMore};
+ghost use Rattle.osdp_link_laws.specs.Progress.{ComesThrough, ComesThroughFromRest, ComesThroughInTime, ComesToRest};
 ghost use Rattle.osdp_link_laws.specs.Clean.{GoesInTurn};
 ghost use Rattle.osdp_link_laws.specs.Refusals.{RefusesNoNumber, RefusesNoNumberWithoutRestart, SaysAllPlainly};
 ghost use Rattle.osdp_link_laws.specs.Sessions.{CommandsHavePlaces, EventsHavePlaces, LastOneLasts, StayInARow, TakesNoneTwice};
 ghost use Rattle.osdp_link_laws.specs.TwoLists.{IsReadOff, KeepsInStep, MovesInStep, OffersOnce};
 
+pub mod effects;
 pub mod ends;
 pub mod names;
 
@@ -68,9 +70,8 @@ pub fn answers_of_one_handler<H: Handler>()
     read_each_other::<H>();
 }
 
-/// Where neither end restarts, no command is withdrawn, no address or handler is set and no packet is lost out of the middle, no command is
-/// forgotten or removed and no event is thrown away. So each session leaves its commands but those settled and the one told unsettled, and
-/// its events but those reported, or all but the last of these.
+/// Where neither end restarts and no command is withdrawn, no command is forgotten or removed and no event is thrown away. So each session
+/// leaves its commands but those settled and the one told unsettled, and its events but those reported, or all but the last of these.
 pub fn ordinary_runs_are_undisturbed<H: Handler>()
     ensures accounts { OrdinaryIsUndisturbed H.answer_of H.after }
     ensures leaves { UndisturbedLeaves }
@@ -85,6 +86,20 @@ pub fn sessions_in_a_row<H: Handler>()
     ensures commands { CommandsHavePlaces H.answer_of H.after }
     ensures events { EventsHavePlaces H.answer_of H.after }
     ensures taken { TakesNoneTwice H.answer_of H.after }
+{
+    read_each_other::<H>();
+}
+
+/// What a restart costs, exactly. Of the reader: the events in its queue, but the one in front where it has offered that in this session, which
+/// is reported already or may be heard later; and at most the session. No command is lost. Nothing else is reported in that session but what
+/// was offered before and what is queued since.
+///
+/// Of the controller: the outstanding command, of which it isn't known whether the reader has taken it, and those that waited. All others were
+/// settled or told unsettled, and no event is lost.
+pub fn restarts_cost<H: Handler>()
+    ensures reader { ReaderRestartCosts H.answer_of H.after }
+    ensures since { ReportsNoMore H.answer_of H.after }
+    ensures controller { ControllerRestartCosts H.answer_of H.after }
 {
     read_each_other::<H>();
 }
@@ -109,10 +124,12 @@ pub fn stay_where_they_are<H: Handler>()
 /// From a link with nothing on the line, both ends at one address, the reader not busy and no COMSET to a device's address
 /// issued: after m rounds that lose nothing, each with a tick that is due, m - 1 more commands and events of this session, or all of them, are settled and reported.
 /// With ticks that come as much later than the greatest moment seen as the longest of the controller's waits, that is so or the session
-/// has ended. After one such round the link is clear again and nobody waits for an answer, or the session has ended.
+/// has ended. After one such round the link is clear again and nobody waits for an answer, or the session has ended. Where nobody waits for
+/// an answer at first, and the reader knows its last number, m rounds settle and report m more, or all.
 pub fn comes_through<H: Handler>()
     ensures due { ComesThrough H.answer_of H.after }
     ensures in_time { ComesThroughInTime H.answer_of H.after }
+    ensures from_rest { ComesThroughFromRest H.answer_of H.after }
     ensures rest { ComesToRest H.answer_of H.after }
 {
     read_each_other::<H>();

@@ -13,7 +13,7 @@ use Rattle.osdp_link_laws.specs.Headline.{MovesFit, MoveFits, SaysWhatFitsIf}
 use Rattle.osdp_link_laws.specs.Link as link
 use Rattle.osdp_link_laws.specs.Link.{Delivered, Delivery, Lost, Move, Repeated}
 use Rattle.osdp_multidrop.specs.Names.{MayAsk, MayMove, MayMoves}
-use Rattle.osdp_link_laws.specs.Ordinary.{IsOrdinary}
+use Rattle.osdp_link_laws.specs.Ordinary.{IsSteady}
 use Rattle.osdp_link_laws.proofs.Lines.{both}
 use Rattle.osdp_link_laws.proofs.Stages.{Each}
 use Rattle.osdp_multidrop.specs.Line as line
@@ -34,9 +34,9 @@ module _ {H : Type 0} (answer_of : H → Command → Answer) (after : H → Comm
 
   -- so they may be moves of this site's link
   abbrev pub Fit : ℕ → Site H → Net H → List (Move H) → Type 0
-  Fit k s n ms = MovesFit answer_of after ms (view k s n) × MayMoves answer_of after ms (view k s n) s.reserved × Each IsOrdinary ms
+  Fit k s n ms = MovesFit answer_of after ms (view k s n) × MayMoves answer_of after ms (view k s n) s.reserved × Each IsSteady ms
 
-  one_fits : (i k : ℕ) (s : Site H) (n : Net H) (m : Move H) → MoveFits answer_of after m (view k s n) → MayMove m s.reserved → IsOrdinary m
+  one_fits : (i k : ℕ) (s : Site H) (n : Net H) (m : Move H) → MoveFits answer_of after m (view k s n) → MayMove m s.reserved → IsSteady m
       → Fit k s n (one_if i k m)
   one_fits i k s n m fits may ordinary = both (Fit k s n) (eqb i k) (m ∷ []) [] ((fits, tt), (may, tt), (ordinary, tt)) (tt, tt, tt)
 

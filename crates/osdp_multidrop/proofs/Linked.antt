@@ -13,7 +13,7 @@ use Rattle.osdp_link_laws.specs.Link.{Link, Move, run}
 use Rattle.osdp_link_laws.specs.Names.{IsCommandTo, NameOneDevice, NamesOne, TellAsAsked}
 use Rattle.osdp_multidrop.specs.Names.{MayMoves, MovesController, MovesReader}
 use Rattle.osdp_link_laws.specs.Peers.{ReadEachOther}
-use Rattle.osdp_link_laws.specs.Ordinary.{IsOrdinary}
+use Rattle.osdp_link_laws.specs.Ordinary.{IsSteady}
 use Rattle.osdp_link_laws.proofs.Lines.{both, each_map, each_of}
 use Rattle.osdp_multidrop.proofs.Naming.{IsLed, Keeps, keeps_all, led_on}
 use Rattle.osdp_link_laws.proofs.Stages.{Each}
@@ -69,7 +69,7 @@ module _ {H : Type 0} (answer_of : H → Command → Answer) (after : H → Comm
     pub keeps : Keeps s.reserved (view k s n)
 
   pub linked_after : OfALink → (k : ℕ) (s : Site H) (moves : List (Move H)) (n next : Net H) → IsLinked k s n
-      → MovesFit answer_of after moves (view k s n) → MayMoves answer_of after moves (view k s n) s.reserved → Each IsOrdinary moves
+      → MovesFit answer_of after moves (view k s n) → MayMoves answer_of after moves (view k s n) s.reserved → Each IsSteady moves
       → (m : IsMoved answer_of after k s moves n next) → IsLinked k m.site next
   linked_after given k s moves n next h fits may ordinary m =
       record {

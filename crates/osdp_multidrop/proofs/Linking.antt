@@ -1,5 +1,5 @@
 -- Each site is its link after every list of moves, so each law of a link is one of each site.
-use Rattle.std.proofs.Common.{◌≡◌, ℕ, All, List, [], ◌∷◌, ◌++◌, Option, Some, refl, sym, subst, ap, ◌∙◌}
+use Rattle.std.proofs.Common.{◌≡◌, ℕ, List, [], ◌∷◌, ◌++◌, Option, Some, refl, sym, subst, ap, ◌∙◌}
 use Rattle.osdp_msg.specs.declared.command.Command.{Command}
 use Rattle.osdp_msg.specs.declared.event.Event.{Event}
 use Rattle.osdp_reader.specs.declared.handler.Answer.{Answer}
@@ -8,12 +8,12 @@ use Rattle.osdp_link_laws.specs.Link as link
 use Rattle.osdp_link_laws.specs.Link.{Link, Move}
 use Rattle.osdp_multidrop.specs.Names.{reserved_after, reserved_after_moves}
 use Rattle.osdp_link_laws.specs.OneHandler.{AreOnce, OneHandlerHoldsOnce}
-use Rattle.osdp_link_laws.specs.Ordinary.{AreUndisturbed, IsOrdinary}
+use Rattle.osdp_link_laws.specs.Ordinary.{AreUndisturbed, IsSteady}
 use Rattle.osdp_link_laws.specs.Refusals.{RefusesNoNumberWithoutRestart}
 use Rattle.osdp_link_laws.specs.Sessions.{AreInARow, CommandsHavePlaces, EventsHavePlaces, HaveLeft, LastOneLasts, LastsOrLeaves, StayInARow, all_queued, all_submitted, ended_commands}
 use Rattle.osdp_link_laws.proofs.Lines.{each_all, each_append, each_of}
 use Rattle.osdp_link_laws.proofs.Ordinary.{moves_so}
-use Rattle.osdp_link_laws.proofs.OrdinaryRuns.{begins_so, keep_device, keep_reader}
+use Rattle.osdp_link_laws.proofs.OrdinaryRuns.{begins_so, keep_device, keep_reader, steady_ordinary}
 use Rattle.osdp_link_laws.proofs.Stages.{Each}
 use Rattle.osdp_multidrop.specs.Line.{Net, NetMove, Site, after_net, run, site_at}
 use Rattle.osdp_multidrop.specs.Runs.{NetMovesFit, EachHoldsOnce, EachIsALink, EachRefusesNoNumber, EachStaysInARow, IsItsLink, moves_at, moves_of}
@@ -52,7 +52,7 @@ module _ {H : Type 0} (answer_of : H → Command → Answer) (after : H → Comm
     is_its_link [] n fits h k s is = record {
       moved = record { site = s; there = is; moved = refl; reserved = refl };
       fits = tt;
-      ordinary = each_all IsOrdinary [] tt;
+      ordinary = each_all IsSteady [] tt;
     }
     is_its_link (move ∷ moves) n fits h k s is =
         let next = after_net answer_of after move n in
@@ -68,8 +68,8 @@ module _ {H : Type 0} (answer_of : H → Command → Answer) (after : H → Comm
               (joined k s ms more n next (run answer_of after moves next) m rest.moved);
           fits = subst (λ l. MovesFit answer_of after l (view k s n)) (sym same)
               (moves_more answer_of after ms more (view k s n) fit.0 (subst (MovesFit answer_of after more) m.moved rest.fits));
-          ordinary = each_all IsOrdinary (moves_at answer_of after k (site_at k n.sites) move n ++ more)
-              (subst (Each IsOrdinary) (sym same) (each_append IsOrdinary ms more fit.2 (each_of IsOrdinary more rest.ordinary)));
+          ordinary = each_all IsSteady (moves_at answer_of after k (site_at k n.sites) move n ++ more)
+              (subst (Each IsSteady) (sym same) (each_append IsSteady ms more fit.2 (each_of IsSteady more rest.ordinary)));
         }
 
     pub each_is_a_link : EachIsALink answer_of after
@@ -90,13 +90,13 @@ module _ {H : Type 0} (answer_of : H → Command → Answer) (after : H → Comm
       let h = links n moves up fits k s is in
       subst (λ l. AreOnce answer_of after s.reader.config s.reader.handler (l.account ∷ l.earlier)) (sym (viewed n moves k s last h there))
       (once (view k s n) (moves_of answer_of after k moves n) (up.begins k s is).begins h.fits
-      (keep_device (moves_of answer_of after k moves n) (each_of IsOrdinary (moves_of answer_of after k moves n) h.ordinary)))
+      (keep_device (moves_of answer_of after k moves n) (each_of IsSteady (moves_of answer_of after k moves n) h.ordinary)))
 
   pub each_refuses_no_number : EachIsALink answer_of after → RefusesNoNumberWithoutRestart answer_of after → EachRefusesNoNumber answer_of after
   each_refuses_no_number links none n moves up fits k s is =
       let h = links n moves up fits k s is in
       none (view k s n) (moves_of answer_of after k moves n) (up.begins k s is).begins h.fits
-      (keep_reader (moves_of answer_of after k moves n) (each_of IsOrdinary (moves_of answer_of after k moves n) h.ordinary))
+      (keep_reader (moves_of answer_of after k moves n) (each_of IsSteady (moves_of answer_of after k moves n) h.ordinary))
 
   pub each_stays_in_a_row : EachIsALink answer_of after → StayInARow answer_of after → LastOneLasts answer_of after
       → CommandsHavePlaces answer_of after
@@ -108,7 +108,7 @@ module _ {H : Type 0} (answer_of : H → Command → Answer) (after : H → Comm
       let begins = (up.begins k s is).begins in
       let same = sym (viewed n moves k s last h there) in
       record {
-        undisturbed = subst (λ v. AreUndisturbed (v.account ∷ v.earlier)) same (moves_so answer_of after ms l (each_of IsOrdinary ms h.ordinary) (begins_so l begins));
+        undisturbed = subst (λ v. AreUndisturbed (v.account ∷ v.earlier)) same (moves_so answer_of after ms l (steady_ordinary ms (each_of IsSteady ms h.ordinary)) (begins_so l begins));
         row = subst (λ v. AreInARow v.account v.earlier) same (row l ms begins h.fits);
         lasts = subst (λ v. LastsOrLeaves v.controller.session.state v) same (lasts l ms begins h.fits);
         commands = subst (λ v. s.controller.waiting ++ all_submitted answer_of after ms l ≡ ended_commands v.earlier ++ v.account.issued) same (commands l ms begins h.fits);

@@ -25,7 +25,7 @@ use Rattle.osdp_link_laws.specs.Link as link
 use Rattle.osdp_link_laws.specs.Link.{Delivered, Delivery, Link, LoseToController, LoseToReader, Lost, Move, Queue as QueueEvent, Reopen, Repeated, RestartController, RestartReader, Retarget, SetBusy, SetHandler, Submit, Tick, ToController, ToReader, Withdraw, after_move, run}
 use Rattle.osdp_link_laws.specs.Names.{IsCommandTo, IsReplyFrom, IsToldAsAsked, NameOneDevice, NamesOne, TellAsAsked}
 use Rattle.osdp_multidrop.specs.Names.{BeginsTogether, IsName, MayAsk, MayMove, MayMoves, MovesController, MovesReader, accepted_for, asked_for, freed_by, reserved_after, reserved_after_moves}
-use Rattle.osdp_link_laws.specs.Ordinary.{IsOrdinary}
+use Rattle.osdp_link_laws.specs.Ordinary.{IsSteady}
 use Rattle.osdp_link_laws.specs.Peers.{ReadsWhatIsAnswered, ReadsWhatIsAsked}
 use Rattle.osdp_link_laws.specs.Progress.{NoComset}
 use Rattle.osdp_link_laws.specs.Refusals.{reports, told_by, told_by_front}
@@ -356,7 +356,7 @@ module _ {H : Type 0} (answer_of : H → Command → Answer) (after : H → Comm
   -- ---- a move, and a list of them
 
   pub keeps_move : ReadsWhatIsAsked → ReadsWhatIsAnswered → (move : Move H) (r : Option ℕ) (l : Link H) (device : ℕ) → NamesOne device l.to_reader l.to_controller
-      → IsOrdinary move → MoveFits answer_of after move l → ToldAsAsked (told_by move l) → MayMove move r → Keeps r l → Keeps (reserved_after move l r) (after_move answer_of after move l)
+      → IsSteady move → MoveFits answer_of after move l → ToldAsAsked (told_by move l) → MayMove move r → Keeps r l → Keeps (reserved_after move l r) (after_move answer_of after move l)
   keeps_move asked answered (Submit c) r l device one ordinary fits told may h = submitting (controllers.submit_refusal c l.controller) c r l may fits h
   keeps_move asked answered (QueueEvent e) r l device one ordinary fits told may h =
       queueing (length l.reader.queue.events == l.reader.queue.capacity) e r l h
@@ -408,20 +408,20 @@ module _ {H : Type 0} (answer_of : H → Command → Answer) (after : H → Comm
   pub record IsLed (first : Link H) (moves : List (Move H)) (l : Link H) : Type 0 where
     pub begins : Begins first
     pub fits : MovesFit answer_of after moves first
-    pub ordinary : Each IsOrdinary moves
+    pub ordinary : Each IsSteady moves
     pub leads : l ≡ run answer_of after moves first
 
-  pub led_on : (first : Link H) (moves more : List (Move H)) (l : Link H) → IsLed first moves l → MovesFit answer_of after more l → Each IsOrdinary more
+  pub led_on : (first : Link H) (moves more : List (Move H)) (l : Link H) → IsLed first moves l → MovesFit answer_of after more l → Each IsSteady more
       → IsLed first (moves ++ more) (run answer_of after more l)
   led_on first moves more l led fits ordinary = record {
     begins = led.begins;
     fits = moves_more moves more first led.fits (subst (MovesFit answer_of after more) led.leads fits);
-    ordinary = each_append IsOrdinary moves more led.ordinary ordinary;
+    ordinary = each_append IsSteady moves more led.ordinary ordinary;
     leads = ap (run answer_of after more) led.leads ∙ sym (run_more moves more first);
   }
 
   pub keeps_all : ReadsWhatIsAsked → ReadsWhatIsAnswered → NameOneDevice answer_of after → TellAsAsked answer_of after
-      → (first : Link H) (done moves : List (Move H)) (r : Option ℕ) (l : Link H) → IsLed first done l → Each IsOrdinary moves
+      → (first : Link H) (done moves : List (Move H)) (r : Option ℕ) (l : Link H) → IsLed first done l → Each IsSteady moves
       → MovesFit answer_of after moves l → MayMoves answer_of after moves l r → Keeps r l
       → Keeps (reserved_after_moves answer_of after moves l r) (run answer_of after moves l)
   keeps_all asked answered names tells first done [] r l led ordinary fits may h = h

@@ -9,7 +9,7 @@ use Rattle.osdp_link_laws.specs.Headline.{MovesFit, SaysWhatFitsIf}
 use Rattle.osdp_link_laws.specs.Link.{Move}
 use Rattle.osdp_multidrop.specs.Names.{BeginsTogether}
 use Rattle.osdp_link_laws.specs.OneHandler.{AreOnce}
-use Rattle.osdp_link_laws.specs.Ordinary.{AreUndisturbed, IsOrdinary}
+use Rattle.osdp_link_laws.specs.Ordinary.{AreUndisturbed, IsSteady}
 use Rattle.osdp_link_laws.specs.Refusals.{IsNoRefusal, reports}
 use Rattle.osdp_link_laws.specs.Sessions.{AreInARow, HaveLeft, LastsOrLeaves, all_queued, all_submitted, ended_commands}
 use Rattle.osdp_multidrop.specs.Line.{Net, NetMove, Queue, Reopen, SetBusy, Site, Submit, Tick, ToControllers, ToReaders, address_of, after_net, run, site_at}
@@ -60,7 +60,7 @@ module _ {H : Type 0} where
     pub record IsItsLink (k : ℕ) (s : Site H) (moves : List NetMove) (n : Net H) : Type 0 where
       pub moved : IsMoved answer_of after k s (moves_of k moves n) n (run answer_of after moves n)
       pub fits : MovesFit answer_of after (moves_of k moves n) (view k s n)
-      pub ordinary : All IsOrdinary (moves_of k moves n)
+      pub ordinary : All IsSteady (moves_of k moves n)
 
     abbrev pub EachIsALink : Type 0
     EachIsALink = (n : Net H) (moves : List NetMove) → IsSetUp n → NetMovesFit moves n

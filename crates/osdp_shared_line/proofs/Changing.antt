@@ -1,7 +1,7 @@
 -- A site changes, and gives up nothing that keeps it apart: what calls, losses and restarts do.
 use Rattle.std.proofs.Common.{◌≡◌, ◌≢◌, ◌⊎◌, ◌<◌, ℕ, zero, suc, Bool, true, false, cond, leb, ltb, List, [], ◌∷◌, ◌++◌, Option, Some, None, IfSome, refl, sym, subst, ap, ◌∙◌, inl, inr, append_assoc}
 use Rattle.std.proofs.lemmas.Bool.{ltb-true}
-use Rattle.std.specs.Prelude.{◌||◌, is_some}
+use Rattle.std.specs.Prelude.{◌||◌, is_some, not}
 use Rattle.osdp_frame.specs.Packet.{Packet}
 use Rattle.osdp_msg.specs.CommandTable.{CommandFits}
 use Rattle.osdp_msg.specs.declared.command.Command.{Command}
@@ -23,7 +23,7 @@ use Rattle.osdp_link_laws.proofs.Numbers.{is_true}
 use Rattle.osdp_link_laws.proofs.Stages.{Each}
 use Rattle.osdp_shared_line.specs.Addresses.{HasNoOther, IsAsked, IsFreeFor, IsNameOf, IsSaid, IsThere, Sets, Somewhere, asked_in, unended}
 use Rattle.osdp_shared_line.specs.Line as line
-use Rattle.osdp_shared_line.specs.Line.{Net, Site, address_of, calls, changed, is_comset_refused, is_reserved, is_retarget_refused, is_taken, is_taken_beside, site_at, takes_up}
+use Rattle.osdp_shared_line.specs.Line.{Net, Site, address_of, calls, changed, is_command_accepted, is_comset_refused, is_reserved, is_retarget_accepted, is_retarget_refused, is_taken, is_taken_beside, site_at, takes_up}
 use Rattle.osdp_shared_line.specs.Views.{IsQuiet}
 use Rattle.osdp_shared_line.proofs.Apart.{Apart, IsAway, IsClosed, IsKept, IsToClosed, IsToDevice, NamesGo, Ordered, all_left, changes_one, kept_one, names_less, names_one, one_changes, ordered_lost, reader_address}
 use Rattle.osdp_shared_line.proofs.Controllers.{AreLeft}
@@ -35,6 +35,12 @@ use Rattle.osdp_shared_line.proofs.Sites.{some_same}
 pub or_false : (a b : Bool) → a || b ≡ false → (a ≡ false) × (b ≡ false)
 or_false true b is = absurd cc
 or_false false b is = (refl, is)
+
+-- both take a call
+pub both_take : (refused : Bool) (fault : Option ControllerFault) → refused ≡ false → fault ≡ None → not (refused || is_some fault) ≡ true
+both_take true fault given none = absurd cc
+both_take false None given none = refl
+both_take false (Some fault) given none = absurd cc
 
 not_both : (b : Bool) → b ≡ true → b ≡ false → ⊥
 not_both b holds fails = cc
@@ -242,7 +248,7 @@ module _ {H : Type 0} where
     -- ---- a command: a COMSET asks for an address that is free
 
     submitted : (fault : Option ControllerFault) (r : Option ℕ) (i : ℕ) (c : Command) (s : Site H) (n : Net H) → site_at i n.sites ≡ Some s
-        → ((a : ℕ) → Sets a c → (j : ℕ) (u : Site H) → j ≢ i → site_at j n.sites ≡ Some u → IsNameOf a j u → ⊥) → CommandFits c → Apart n
+        → (fault ≡ None → (a : ℕ) → Sets a c → (j : ℕ) (u : Site H) → j ≢ i → site_at j n.sites ≡ Some u → IsNameOf a j u → ⊥) → CommandFits c → Apart n
         → Apart (record n { sites = changed i (line.keeping r (line.left_by s (link.submits fault c (line.link_of s [] [])))) n.sites })
     submitted (Some fault) r i c s n at free fits a = quietly i s (line.keeping r s) n at (record {
       address = refl;
@@ -267,7 +273,7 @@ module _ {H : Type 0} where
         names b (inr (IsAsked is)) =
             elim (somewhere_split (Sets b) (unended s) (c ∷ []) (subst (Somewhere (Sets b)) longer is)) [
               | inl old ↦ inl (inr (IsAsked old))
-              | inr new ↦ elim new [ inl sets ↦ inr (free b sets) | inr none ↦ absurd none ]
+              | inr new ↦ elim new [ inl sets ↦ inr (free refl b sets) | inr none ↦ absurd none ]
             ]
 
         h : IsKept i s
@@ -283,11 +289,13 @@ module _ {H : Type 0} where
           stored = h.stored;
         }
 
-    pub submitting : (i : ℕ) (c : Command) (n : Net H) → CommandFits c → ((d : Communication) → comset_of c ≡ Some d → HasNoOther i d.address n) → Apart n
+    pub submitting : (i : ℕ) (c : Command) (n : Net H) → CommandFits c
+        → ((s : Site H) (d : Communication) → site_at i n.sites ≡ Some s → is_command_accepted i c s n.sites ≡ true → comset_of c ≡ Some d
+        → HasNoOther i d.address n) → Apart n
         → Apart (line.change_unless (λ s. is_comset_refused i (comset_of c) s n.sites) i (site_at i n.sites) (line.submits answer_of after c) n)
     submitting i c n fits none a =
         change_keeps (λ s. is_comset_refused i (comset_of c) s n.sites) i (site_at i n.sites) (line.submits answer_of after c) n refl
-        (λ s at given. submitted (controllers.submit_refusal c s.controller) (line.submits answer_of after c s).reserved i c s n at (free s given) fits a) a
+        (λ s at given. submitted (controllers.submit_refusal c s.controller) (line.submits answer_of after c s).reserved i c s n at (free s at given) fits a) a
       where
         given_to : (o : Option Communication) (d : Communication) (s : Site H) → o ≡ Some d → is_comset_refused i o s n.sites ≡ false
             → is_taken_beside i d.address n.sites ≡ false
@@ -296,18 +304,20 @@ module _ {H : Type 0} where
             subst (λ (f : Communication). is_taken_beside i f.address n.sites ≡ false) (some_same e d is)
             (or_false (is_taken_beside i e.address n.sites) (is_some s.reserved) given).0
 
-        free : (s : Site H) → is_comset_refused i (comset_of c) s n.sites ≡ false → (b : ℕ) → Sets b c
+        free : (s : Site H) → site_at i n.sites ≡ Some s → is_comset_refused i (comset_of c) s n.sites ≡ false
+            → controllers.submit_refusal c s.controller ≡ None → (b : ℕ) → Sets b c
             → (j : ℕ) (u : Site H) → j ≢ i → site_at j n.sites ≡ Some u → IsNameOf b j u → ⊥
-        free s given b sets =
+        free s at given taken b sets =
             let set = set_is c b sets in
             subst (λ to. (j : ℕ) (u : Site H) → j ≢ i → site_at j n.sites ≡ Some u → IsNameOf to j u → ⊥) set.2
-            (free_for i set.0.address n (given_to (comset_of c) set.0 s set.1 given) (none set.0 set.1))
+            (free_for i set.0.address n (given_to (comset_of c) set.0 s set.1 given)
+            (none s set.0 at (both_take (is_comset_refused i (comset_of c) s n.sites) (controllers.submit_refusal c s.controller) given taken) set.1))
 
     -- ---- another address
 
     retargeted : (fault : Option ControllerFault) (r : Option ℕ) (i address : ℕ) (s : Site H) (n : Net H)
         → controllers.retarget_refusal address s.controller ≡ fault → site_at i n.sites ≡ Some s
-        → ((j : ℕ) (u : Site H) → j ≢ i → site_at j n.sites ≡ Some u → IsNameOf address j u → ⊥) → Apart n
+        → (fault ≡ None → (j : ℕ) (u : Site H) → j ≢ i → site_at j n.sites ≡ Some u → IsNameOf address j u → ⊥) → Apart n
         → Apart (record n { sites = changed i (line.keeping r (line.left_by s (link.retargets fault address (line.link_of s [] [])))) n.sites })
     retargeted (Some fault) r i address s n may at free a = quietly i s (line.keeping r s) n at (record {
       address = refl;
@@ -333,17 +343,19 @@ module _ {H : Type 0} where
         t = line.keeping r (line.left_by s (link.retargets None address (line.link_of s [] [])))
 
         names : NamesGo i s t n.sites
-        names b (inl is) = inr (subst (λ to. (j : ℕ) (u : Site H) → j ≢ i → site_at j n.sites ≡ Some u → IsNameOf to j u → ⊥) is free)
+        names b (inl is) = inr (subst (λ to. (j : ℕ) (u : Site H) → j ≢ i → site_at j n.sites ≡ Some u → IsNameOf to j u → ⊥) is (free refl))
         names b (inr (IsThere is)) = inl (inr (IsThere is))
         names b (inr (IsSaid is)) = inl (inr (IsSaid is))
         names b (inr (IsAsked is)) = inl (inr (IsAsked is))
 
-    pub retargeting : (i address : ℕ) (n : Net H) → HasNoOther i address n → Apart n
+    pub retargeting : (i address : ℕ) (n : Net H)
+        → ((s : Site H) → site_at i n.sites ≡ Some s → is_retarget_accepted i address s n.sites ≡ true → HasNoOther i address n) → Apart n
         → Apart (line.change_unless (λ s. is_retarget_refused i address s n.sites) i (site_at i n.sites) (line.retargets answer_of after address) n)
     retargeting i address n none a =
         change_keeps (λ s. is_retarget_refused i address s n.sites) i (site_at i n.sites) (line.retargets answer_of after address) n refl
         (λ s at given. retargeted (controllers.retarget_refusal address s.controller) (line.retargets answer_of after address s).reserved i address s n refl at
-        (free_for i address n (or_false (is_taken_beside i address n.sites) (has_comset s.controller.waiting) given).0 none) a) a
+        (λ taken. free_for i address n (or_false (is_taken_beside i address n.sites) (has_comset s.controller.waiting) given).0
+        (none s at (both_take (is_retarget_refused i address s n.sites) (controllers.retarget_refusal address s.controller) given taken))) a) a
 
     -- ---- a session begins again: nothing that the panel may still read comes from its address
 

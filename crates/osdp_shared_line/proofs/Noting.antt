@@ -127,9 +127,12 @@ module _ {H : Type 0} where
   module _ (answer_of : H → Command → Answer) (after : H → Command → H) where
     pub fits : (move : NetMove H) (n : Net H) (notes : ℕ → Note) → RestFits answer_of after move n → KeepsRule move n notes → Noted n notes
         → NetMoveFits answer_of after move n
-    fits (Submit i c) n notes rest rule h = (rest, λ d asks j t other at may. rule d asks j t other at ((h.sites j t at).may d.address may))
-    fits (Retarget i address) n notes rest (s, at, known) h =
-        λ j t other there may. h.apart j i t s other there at address ((h.sites j t there).may address may) known
+    fits (Submit i c) n notes rest rule h = (
+      rest,
+      λ s d at taken asks j t other there may. rule s d at taken asks j t other there ((h.sites j t there).may d.address may),
+    )
+    fits (Retarget i address) n notes rest rule h =
+        λ s at taken j t other there may. h.apart j i t s other there at address ((h.sites j t there).may address may) (rule s at taken)
     fits (RestartReader i address handler room) n notes rest rule h = λ s at. let r = rest s at in (r.0, inl r.1)
     fits (RestartPanel settings) n notes rest rule h = λ k s at. (rest k s at, λ j t other there name. panel k s at j t other there name)
       where

@@ -54,7 +54,7 @@ module _ {H : Type 0} (answer_of : H → Command → Answer) (after : H → Comm
   fits_then (m ∷ ms) more n fits = fits_then ms more (after_net answer_of after m n) fits.1
 
   module _ (known : ReadsWhatIsAsked) (total : ℕ) where
-    abbrev IsFew : Net H → Type 0
+    abbrev pub IsFew : Net H → Type 0
     IsFew n = (m : ℕ) (u : Site H) → site_at m n.sites ≡ Some u → m < total
 
     -- ---- a controller ticks
@@ -63,17 +63,17 @@ module _ {H : Type 0} (answer_of : H → Command → Answer) (after : H → Comm
     Together i n = (s : Site H) → site_at i n.sites ≡ Some s → reader_address s ≡ address_of s
 
     ticked : (i now : ℕ) (x : Option (Site H)) (n : Net H) → site_at i n.sites ≡ x → Apart n → IsEmpty n → IsFew n
-        → (o : Option Packet) × Between answer_of after known total total i o (Together i n) (line.tick_at answer_of after i now x n)
+        → (o : Option Packet) × Between answer_of after known 0 total i o (Together i n) (line.tick_at answer_of after i now x n)
     ticked i now None n at a empty few = (
       None,
       record {
         few = few;
-        unread = λ m u is lt. empty.coming m u is;
-        read = λ m u is le. empty.coming m u is;
+        unread = λ m u is le. empty.coming m u is;
+        read = λ m u is lt. empty.coming m u is;
         said = None;
         panel = empty.to_panel;
-        before = λ lt. refl;
-        mine = λ lt u is together. together u is;
+        before = λ le. refl;
+        mine = λ le u is together. together u is;
         away = tt;
         own = tt;
       },
@@ -82,12 +82,12 @@ module _ {H : Type 0} (answer_of : H → Command → Answer) (after : H → Comm
       frame,
       record {
         few = λ m u is. let v = from m u is in few m v.0 v.1;
-        unread = λ m u is lt. let v = from m u is in v.2;
-        read = λ m u is le. let v = from m u is in absurd (let small = few m v.0 v.1 in omega (arith, small, le));
+        unread = λ m u is le. let v = from m u is in v.2;
+        read = λ m u is lt. absurd (omega (arith, lt));
         said = None;
         panel = empty.to_panel;
-        before = λ lt. refl;
-        mine = λ lt u is together. own u is (together s at);
+        before = λ le. refl;
+        mine = λ le u is together. own u is (together s at);
         away = tt;
         own = tt;
       },
@@ -186,11 +186,11 @@ module _ {H : Type 0} (answer_of : H → Command → Answer) (after : H → Comm
       pub seen : IsSeen answer_of after known k (link.run answer_of after (cond (eqb i k) (round now) []) (view k s n)) next
       pub fits : MovesFit answer_of after (cond (eqb i k) (round now) []) (view k s n)
 
-    one_round : (k i now : ℕ) (s : Site H) (n : Net H) → site_at k n.sites ≡ Some s → (i ≡ k → reader_address s ≡ address_of s) → Apart n → IsEmpty n
+    pub one_round : (k i now : ℕ) (s : Site H) (n : Net H) → site_at k n.sites ≡ Some s → (i ≡ k → reader_address s ≡ address_of s) → Apart n → IsEmpty n
         → IsFew n → NetMovesFit answer_of after (net_round total (i, now)) n
         → IsRound k i now s n (run answer_of after (net_round total (i, now)) n)
     one_round k i now s n is together a empty few fits =
-        subst (IsRound k i now s n) (sym (net_more (all_read total) (ToPanel Delivered now ∷ []) n1)) (record {
+        subst (IsRound k i now s n) (sym (net_more (all_read 0 total) (ToPanel Delivered now ∷ []) n1)) (record {
           apart = apart_after answer_of after known (ToPanel Delivered now) n2 tt a2;
           empty = done.0;
           few = done.1;
@@ -204,29 +204,29 @@ module _ {H : Type 0} (answer_of : H → Command → Answer) (after : H → Comm
         a1 : Apart n1
         a1 = apart_after answer_of after known (Tick i now) n tt a
 
-        begun : (o : Option Packet) × Between answer_of after known total total i o (Together i n) n1
+        begun : (o : Option Packet) × Between answer_of after known 0 total i o (Together i n) n1
         begun = ticked i now (site_at i n.sites) n refl a empty few
 
-        reading_fits : NetMovesFit answer_of after (all_read total) n1
-        reading_fits = fits_first (all_read total) (ToPanel Delivered now ∷ []) n1 fits.1
+        reading_fits : NetMovesFit answer_of after (all_read 0 total) n1
+        reading_fits = fits_first (all_read 0 total) (ToPanel Delivered now ∷ []) n1 fits.1
 
         n2 : Net H
-        n2 = run answer_of after (all_read total) n1
+        n2 = run answer_of after (all_read 0 total) n1
 
-        read : Apart n2 × Between answer_of after known 0 total i begun.0 (Together i n) n2
-        read = all_between answer_of after known total total i begun.0 (Together i n) n1 reading_fits a1 begun.1
+        read : Apart n2 × Between answer_of after known total total i begun.0 (Together i n) n2
+        read = all_between answer_of after known 0 total total total i begun.0 (Together i n) n1 (omega arith) reading_fits a1 begun.1
 
         a2 : Apart n2
         a2 = read.0
 
-        b2 : Between answer_of after known 0 total i begun.0 (Together i n) n2
+        b2 : Between answer_of after known total total i begun.0 (Together i n) n2
         b2 = read.1
 
         n3 : Net H
         n3 = after_net answer_of after (ToPanel Delivered now) n2
 
         done : IsEmpty n3 × IsFew n3
-        done = emptied b2.said i now n2 b2.panel (λ m u there. b2.read m u there (omega arith)) b2.few
+        done = emptied b2.said i now n2 b2.panel (λ m u there. b2.read m u there (b2.few m u there)) b2.few
 
         m1 : IsMoved answer_of after k s (one_if i k (link.Tick now)) n n1
         m1 = each_is_its_own answer_of after n (Tick i now) (by_own n a) tt k s is
@@ -239,7 +239,7 @@ module _ {H : Type 0} (answer_of : H → Command → Answer) (after : H → Comm
             → IsSeen answer_of after known k (link.run answer_of after (cond (eqb i k) (round now) []) (view k s n)) n3
             × MovesFit answer_of after (cond (eqb i k) (round now) []) (view k s n)
         by_turn (inr differs) =
-            let seen = reads_none answer_of after known total total i begun.0 (Together i n) n1 k m1.site m1.there reading_fits a1 begun.1 (inl differs.1) in
+            let seen = reads_none answer_of after known 0 total total i begun.0 (Together i n) n1 k m1.site m1.there reading_fits a1 begun.1 (inl differs.1) in
             let m3 = each_is_its_own answer_of after n2 (ToPanel Delivered now) (by_own n2 a2) tt k seen.site seen.there in
             subst (λ b. IsSeen answer_of after known k (link.run answer_of after (cond b (round now) []) (view k s n)) n3
             × MovesFit answer_of after (cond b (round now) []) (view k s n)) (sym differs.0) (
@@ -257,7 +257,8 @@ module _ {H : Type 0} (answer_of : H → Command → Answer) (after : H → Comm
             )
         by_turn (inl equal) =
             let there1 = subst (λ j. site_at j n1.sites ≡ Some m1.site) (sym equal.1) m1.there in
-            let told = reads_own answer_of after known total total i begun.0 (Together i n) n1 m1.site there1 (begun.1.few i m1.site there1) reading_fits a1 begun.1 in
+            let few = begun.1.few i m1.site there1 in
+            let told = reads_own answer_of after known 0 total total i begun.0 (Together i n) n1 m1.site there1 (omega arith) (omega (arith, few)) reading_fits a1 begun.1 in
             let seen = told.1 in
             let m3 = each_is_its_own answer_of after n2 (ToPanel Delivered now) (by_own n2 a2) tt i seen.site seen.there in
             let ticks : view i m1.site n1 ≡ after_move answer_of after (link.Tick now) (view i s n) =

@@ -1,5 +1,6 @@
 -- What a program notes holds after each move.
 use Rattle.std.proofs.Common.{◌≡◌, ◌≢◌, ◌⊎◌, ℕ, Bool, true, false, cond, List, [], ◌∷◌, ◌++◌, Option, Some, None, refl, sym, subst, ap, ◌∙◌, inl, inr, append_assoc}
+use Rattle.std.specs.Prelude.{◌&&◌, ◌||◌, ◌==◌, is_some, not}
 use Rattle.osdp_frame.specs.Packet.{Packet}
 use Rattle.osdp_msg.specs.declared.command.Command.{Command}
 use Rattle.osdp_controller.specs.Comsets.{has_comset}
@@ -17,17 +18,38 @@ use Rattle.osdp_link_laws.proofs.Lines.{each_map, each_of}
 use Rattle.osdp_link_laws.proofs.Numbers.{is_false, is_true}
 use Rattle.osdp_shared_line.specs.Addresses.{IsAsked, IsSaid, IsThere, MayComeTo, Sets, Somewhere, asked_in, unended}
 use Rattle.osdp_shared_line.specs.Line as line
-use Rattle.osdp_shared_line.specs.Line.{LoseToPanel, LoseToReader, Net, NetMove, Queue, Reopen, RestartPanel, RestartReader, Retarget, SetBusy, SetHandler, Site, Submit, Tick, ToPanel, ToReader, Withdraw, address_of, after_net, calls, changed, first_gets, gets, is_comset_refused, is_retarget_refused, is_taken_beside, is_told, left_by, link_of, restarts, site_at, tagged}
+use Rattle.osdp_shared_line.specs.Line.{LoseToPanel, LoseToReader, Net, NetMove, Queue, Reopen, RestartPanel, RestartReader, Retarget, SetBusy, SetHandler, Site, Submit, Tick, ToPanel, ToReader, Withdraw, address_of, after_net, calls, changed, first_gets, gets, is_command_accepted, is_comset_refused, is_retarget_accepted, is_retarget_refused, is_taken_beside, is_told, left_by, link_of, restarts, site_at, tagged}
 use Rattle.osdp_shared_line.specs.Programs.{IsKnown, KeepsRule, Note, also_at, note_after, notes_after, two_addresses}
 use Rattle.osdp_shared_line.specs.Views.{IsQuiet}
 use Rattle.osdp_shared_line.proofs.Apart.{all_left}
-use Rattle.osdp_shared_line.proofs.Changing.{Nothing, or_false, was_closed}
+use Rattle.osdp_shared_line.proofs.Changing.{Nothing, both_take, or_false, was_closed}
 use Rattle.osdp_shared_line.proofs.Lists.{somewhere_front, somewhere_split}
-use Rattle.osdp_shared_line.proofs.Noting.{AsksFor, Free, Goes, IsIn, IsNoted, Noted, OwnFrom, Softly, TakesNone, are_two, as_is, changes, none_asks, noted_more, plainly, sets_asks, soft, two_are}
-use Rattle.osdp_shared_line.proofs.Sites.{some_same}
+use Rattle.osdp_shared_line.proofs.Noting.{AsksFor, Free, Goes, IsIn, IsNoted, Noted, OwnFrom, Softly, TakesNone, are_two, as_is, changes, none_asks, noted_more, plainly, sets_asks, two_are}
 
 pub false_true : false ≡ true → ⊥
 false_true is = cc
+
+both_true : (a b : Bool) → a ≡ true → b ≡ true → a && b ≡ true
+both_true true b is also = also
+both_true false b is also = absurd cc
+
+and_false : (a b : Bool) → b ≡ false → a && b ≡ false
+and_false true b is = is
+and_false false b is = refl
+
+-- a call that one of the two refuses
+bus_refuses : (refused : Bool) (fault : Option ControllerFault) → refused ≡ true → not (refused || is_some fault) ≡ false
+bus_refuses true fault is = refl
+bus_refuses false fault is = absurd cc
+
+its_own_refuses : (refused : Bool) (o : Option ControllerFault) (fault : ControllerFault) → o ≡ Some fault → not (refused || is_some o) ≡ false
+its_own_refuses true o fault is = refl
+its_own_refuses false None fault is = absurd cc
+its_own_refuses false (Some f) fault is = refl
+
+-- what is kept for a COMSET of it is no matter
+kept_as_is : {H : Type 0} (r : Option ℕ) (s : Site H) → Softly s (line.keeping r s)
+kept_as_is r s = record { address = refl; left = all_left (unended s); reader = refl; coming = Nothing refl; opens = λ opens. opens }
 
 module _ {H : Type 0} (answer_of : H → Command → Answer) (after : H → Command → H) where
   -- ---- calls that set no address
@@ -45,17 +67,9 @@ module _ {H : Type 0} (answer_of : H → Command → Answer) (after : H → Comm
 
     -- ---- a command
 
-    submitted : (c : Command) (fault : Option ControllerFault) (r : Option ℕ) (s : Site H) (note : Note) → IsNoted i s note n.to_panel
-        → IsNoted i (line.keeping r (left_by s (link.submits fault c (link_of s [] [])))) (also_at (two_addresses (address_of s) (comset_of c)) note) n.to_panel
-    submitted c (Some fault) r s note is =
-        soft i s (line.keeping r s) (also_at (two_addresses (address_of s) (comset_of c)) note) n.to_panel n.to_panel (record {
-          address = refl;
-          left = all_left (unended s);
-          reader = refl;
-          coming = Nothing refl;
-          opens = λ opens. opens;
-        }) (λ all. all) (noted_more i s (two_addresses (address_of s) (comset_of c)) note n.to_panel is)
-    submitted c None r s note is = record { may = may; asked = asked; begun = λ b. let f = is.begun b in record { state = f.state; coming = f.coming; said = f.said } }
+    submitted : (c : Command) (r : Option ℕ) (s : Site H) (note : Note) → IsNoted i s note n.to_panel
+        → IsNoted i (line.keeping r (left_by s (link.submits None c (link_of s [] [])))) (also_at (two_addresses (address_of s) (comset_of c)) note) n.to_panel
+    submitted c r s note is = record { may = may; asked = asked; begun = λ b. let f = is.begun b in record { state = f.state; coming = f.coming; said = f.said } }
       where
         more : List ℕ
         more = two_addresses (address_of s) (comset_of c)
@@ -88,77 +102,101 @@ module _ {H : Type 0} (answer_of : H → Command → Answer) (after : H → Comm
     pub submitting : (c : Command) → KeepsRule (Submit i c) n notes
         → Noted (after_net answer_of after (Submit i c) n) (notes_after (Submit i c) n notes)
     submitting c rule = changes n notes (Submit i c) h i (λ s. is_comset_refused i (comset_of c) s n.sites) (line.submits answer_of after c)
-        (λ k s other. ap (λ b. cond b (also_at (two_addresses (address_of s) (comset_of c)) (notes k)) (notes k)) (is_false i k (λ e. other (sym e))))
+        (λ k s other. ap (λ b. cond (b && is_command_accepted i c s n.sites) (also_at (two_addresses (address_of s) (comset_of c)) (notes k)) (notes k))
+        (is_false i k (λ e. other (sym e))))
         (λ s at. (
-          λ e. goes s at (line.submits answer_of after c s) (stays (controllers.submit_refusal c s.controller) s) (submitted c (controllers.submit_refusal c s.controller)
-              (line.submits answer_of after c s).reserved s (notes i) (h.sites i s at)),
-          λ e. goes s at s refl (noted_more i s (two_addresses (address_of s) (comset_of c)) (notes i) n.to_panel (h.sites i s at)),
+          λ e. by_fault s at e (controllers.submit_refusal c s.controller) (line.submits answer_of after c s).reserved refl,
+          λ e. plainly n notes (Submit i c) h i i s s n.to_panel (unnoted s (bus_refuses (is_comset_refused i (comset_of c) s n.sites)
+              (controllers.submit_refusal c s.controller) e)) (as_is s) (λ all. all) at,
         ))
         (site_at i n.sites) refl
       where
-        stays : (fault : Option ControllerFault) (s : Site H) → address_of (left_by s (link.submits fault c (link_of s [] []))) ≡ address_of s
-        stays None s = refl
-        stays (Some fault) s = refl
+        also : Site H → Note
+        also s = also_at (two_addresses (address_of s) (comset_of c)) (notes i)
 
-        goes : (s : Site H) → site_at i n.sites ≡ Some s → (u : Site H) → address_of u ≡ address_of s
-            → IsNoted i u (also_at (two_addresses (address_of s) (comset_of c)) (notes i)) n.to_panel → Goes n notes (Submit i c) h i i s u n.to_panel
-        goes s at u here noted = record {
-          noted = subst (λ b. IsNoted i u (cond b (also_at (two_addresses (address_of s) (comset_of c)) (notes i)) (notes i)) n.to_panel) (sym (is_true i i refl)) noted;
-          known = λ a is. known a (subst (λ b. IsKnown a u (cond b (also_at (two_addresses (address_of s) (comset_of c)) (notes i)) (notes i))) (is_true i i refl) is);
+        unnoted : (s : Site H) → is_command_accepted i c s n.sites ≡ false → note_after i s (Submit i c) n (notes i) ≡ notes i
+        unnoted s e = ap (λ b. cond b (also s) (notes i)) (and_false (i == i) (is_command_accepted i c s n.sites) e)
+
+        goes : (s : Site H) → site_at i n.sites ≡ Some s → is_command_accepted i c s n.sites ≡ true → (u : Site H) → address_of u ≡ address_of s
+            → IsNoted i u (also s) n.to_panel → Goes n notes (Submit i c) h i i s u n.to_panel
+        goes s at e u here noted = record {
+          noted = subst (λ note. IsNoted i u note n.to_panel) (sym is) noted;
+          known = λ a found. known a (subst (IsKnown a u) is found);
         }
           where
-            known : (a : ℕ) → IsKnown a u (also_at (two_addresses (address_of s) (comset_of c)) (notes i)) → IsKnown a s (notes i) ⊎ ((i ≡ i) × Free n notes (Submit i c) h i a)
+            is : note_after i s (Submit i c) n (notes i) ≡ also s
+            is = ap (λ b. cond b (also s) (notes i)) (both_true (i == i) (is_command_accepted i c s n.sites) (is_true i i refl) e)
+
+            known : (a : ℕ) → IsKnown a u (also s) → IsKnown a s (notes i) ⊎ ((i ≡ i) × Free n notes (Submit i c) h i a)
             known a (inl is) = inl (inl (sym here ∙ is))
             known a (inr is) = elim (somewhere_split (λ b. b ≡ a) (two_addresses (address_of s) (comset_of c)) (notes i).addresses is) [
               | inl two ↦ elim (two_are (comset_of c) (address_of s) a two) [
                 | inl same ↦ inl (inl same)
-                | inr (d, asks, to) ↦ inr (refl, λ j t other there known. rule d asks j t other there (subst (λ b. IsKnown b t (notes j)) (sym to) known))
+                | inr (d, asks, to) ↦ inr (refl, λ j t other there known. rule s d at e asks j t other there (subst (λ b. IsKnown b t (notes j)) (sym to) known))
               ]
               | inr old ↦ inl (inr old)
             ]
 
+        by_fault : (s : Site H) → site_at i n.sites ≡ Some s → is_comset_refused i (comset_of c) s n.sites ≡ false → (fault : Option ControllerFault) (r : Option ℕ)
+            → controllers.submit_refusal c s.controller ≡ fault
+            → Goes n notes (Submit i c) h i i s (line.keeping r (left_by s (link.submits fault c (link_of s [] [])))) n.to_panel
+        by_fault s at given (Some fault) r is = plainly n notes (Submit i c) h i i s (line.keeping r s) n.to_panel
+            (unnoted s (its_own_refuses (is_comset_refused i (comset_of c) s n.sites) (controllers.submit_refusal c s.controller) fault is)) (kept_as_is r s) (λ all. all) at
+        by_fault s at given None r is =
+            goes s at (both_take (is_comset_refused i (comset_of c) s n.sites) (controllers.submit_refusal c s.controller) given is)
+            (line.keeping r (left_by s (link.submits None c (link_of s [] [])))) refl (submitted c r s (notes i) (h.sites i s at))
+
     -- ---- an address is set
 
     pub retargeting : (x : ℕ) → KeepsRule (Retarget i x) n notes → Noted (after_net answer_of after (Retarget i x) n) (notes_after (Retarget i x) n notes)
-    retargeting x (s0, at0, given) = changes n notes (Retarget i x) h i (λ s. is_retarget_refused i x s n.sites) (line.retargets answer_of after x)
-        (λ k s other. ap (λ b. cond b (also_at (address_of s ∷ []) (notes k)) (notes k)) (is_false i k (λ e. other (sym e))))
+    retargeting x rule = changes n notes (Retarget i x) h i (λ s. is_retarget_refused i x s n.sites) (line.retargets answer_of after x)
+        (λ k s other. ap (λ b. cond (b && is_retarget_accepted i x s n.sites) (also_at (address_of s ∷ []) (notes k)) (notes k)) (is_false i k (λ e. other (sym e))))
         (λ s at. (
-          λ e. set (controllers.retarget_refusal x s.controller) (line.retargets answer_of after x s).reserved s refl at
-              (or_false (is_taken_beside i x n.sites) (has_comset s.controller.waiting) e).1,
-          λ e. goes s s (noted_more i s (address_of s ∷ []) (notes i) n.to_panel (h.sites i s at)) (λ a is. inl is),
+          λ e. set (controllers.retarget_refusal x s.controller) (line.retargets answer_of after x s).reserved s refl at e,
+          λ e. plainly n notes (Retarget i x) h i i s s n.to_panel (unnoted s (bus_refuses (is_retarget_refused i x s n.sites)
+              (controllers.retarget_refusal x s.controller) e)) (as_is s) (λ all. all) at,
         ))
         (site_at i n.sites) refl
       where
-        goes : (s u : Site H) → IsNoted i u (also_at (address_of s ∷ []) (notes i)) n.to_panel
+        also : Site H → Note
+        also s = also_at (address_of s ∷ []) (notes i)
+
+        unnoted : (s : Site H) → is_retarget_accepted i x s n.sites ≡ false → note_after i s (Retarget i x) n (notes i) ≡ notes i
+        unnoted s e = ap (λ b. cond b (also s) (notes i)) (and_false (i == i) (is_retarget_accepted i x s n.sites) e)
+
+        goes : (s u : Site H) → is_retarget_accepted i x s n.sites ≡ true → IsNoted i u (also s) n.to_panel
             → ((a : ℕ) → address_of u ≡ a → IsKnown a s (notes i)) → Goes n notes (Retarget i x) h i i s u n.to_panel
-        goes s u noted own = record {
-          noted = subst (λ b. IsNoted i u (cond b (also_at (address_of s ∷ []) (notes i)) (notes i)) n.to_panel) (sym (is_true i i refl)) noted;
-          known = λ a is. inl (known a (subst (λ b. IsKnown a u (cond b (also_at (address_of s ∷ []) (notes i)) (notes i))) (is_true i i refl) is));
+        goes s u e noted own = record {
+          noted = subst (λ note. IsNoted i u note n.to_panel) (sym is) noted;
+          known = λ a found. inl (known a (subst (IsKnown a u) is found));
         }
           where
-            known : (a : ℕ) → IsKnown a u (also_at (address_of s ∷ []) (notes i)) → IsKnown a s (notes i)
+            is : note_after i s (Retarget i x) n (notes i) ≡ also s
+            is = ap (λ b. cond b (also s) (notes i)) (both_true (i == i) (is_retarget_accepted i x s n.sites) (is_true i i refl) e)
+
+            known : (a : ℕ) → IsKnown a u (also s) → IsKnown a s (notes i)
             known a (inl is) = own a is
             known a (inr (inl is)) = inl is
             known a (inr (inr is)) = inr is
 
         set : (fault : Option ControllerFault) (r : Option ℕ) (s : Site H) → controllers.retarget_refusal x s.controller ≡ fault → site_at i n.sites ≡ Some s
-            → has_comset s.controller.waiting ≡ false
+            → is_retarget_refused i x s n.sites ≡ false
             → Goes n notes (Retarget i x) h i i s (line.keeping r (left_by s (link.retargets fault x (link_of s [] [])))) n.to_panel
-        set (Some fault) r s may at none =
-            goes s (line.keeping r s) (soft i s (line.keeping r s) (also_at (address_of s ∷ []) (notes i)) n.to_panel n.to_panel (record {
-              address = refl;
-              left = all_left (unended s);
-              reader = refl;
-              coming = Nothing refl;
-              opens = λ opens. opens;
-            }) (λ all. all) (noted_more i s (address_of s ∷ []) (notes i) n.to_panel (h.sites i s at))) (λ a is. inl is)
-        set None r s may at none =
-            goes s (line.keeping r (left_by s (link.retargets None x (link_of s [] [])))) (record {
+        set (Some fault) r s may at given = plainly n notes (Retarget i x) h i i s (line.keeping r s) n.to_panel
+            (unnoted s (its_own_refuses (is_retarget_refused i x s n.sites) (controllers.retarget_refusal x s.controller) fault may)) (kept_as_is r s) (λ all. all) at
+        set None r s may at given =
+            goes s (line.keeping r (left_by s (link.retargets None x (link_of s [] [])))) taken (record {
               may = λ a come. known a (old.may a (before a come));
               asked = λ a found. absurd (none_asks a s.controller.waiting none (subst (λ q. Somewhere (AsksFor a) (asked_in q ++ s.controller.waiting)) closed found));
               begun = λ b. let f = old.begun b in record { state = f.state; coming = f.coming; said = f.said };
-            }) (λ a is. subst (λ b. IsKnown b s (notes i)) is (subst (λ v. IsKnown x v (notes i)) (some_same s0 s (sym at0 ∙ at)) given))
+            }) (λ a is. subst (λ b. IsKnown b s (notes i)) is (rule s at taken))
           where
+            taken : is_retarget_accepted i x s n.sites ≡ true
+            taken = both_take (is_retarget_refused i x s n.sites) (controllers.retarget_refusal x s.controller) given may
+
+            none : has_comset s.controller.waiting ≡ false
+            none = (or_false (is_taken_beside i x n.sites) (has_comset s.controller.waiting) given).1
+
             old : IsNoted i s (notes i) n.to_panel
             old = h.sites i s at
 
@@ -174,7 +212,7 @@ module _ {H : Type 0} (answer_of : H → Command → Answer) (after : H → Comm
             before a (IsSaid is) = IsSaid is
             before a (IsAsked is) = IsAsked is
 
-            known : (a : ℕ) → IsKnown a s (notes i) → IsKnown a (line.keeping r (left_by s (link.retargets None x (link_of s [] [])))) (also_at (address_of s ∷ []) (notes i))
+            known : (a : ℕ) → IsKnown a s (notes i) → IsKnown a (line.keeping r (left_by s (link.retargets None x (link_of s [] [])))) (also s)
             known a (inl is) = inr (inl is)
             known a (inr is) = inr (inr is)
 

@@ -1,5 +1,5 @@
 -- The addresses of several sites: what their program makes sure of when it gives one, and that nobody else hears what a site says.
-use Rattle.std.specs.Prelude.{◌≡◌, ◌≢◌, ◌⊎◌, ℕ, All, List, [], ◌∷◌, ◌++◌, Option, Some, None, Result, Ok, Err}
+use Rattle.std.specs.Prelude.{◌≡◌, ◌≢◌, ◌⊎◌, ℕ, true, All, List, [], ◌∷◌, ◌++◌, Option, Some, None, Result, Ok, Err}
 use Rattle.osdp_frame.specs.Packet.{Packet}
 use Rattle.osdp_msg.specs.CommandTable.{CommandFits}
 use Rattle.osdp_msg.specs.declared.command.Command.{Command}
@@ -16,7 +16,7 @@ use Rattle.osdp_reader.specs.declared.handler.Answer.{Answer}
 use Rattle.osdp_link_laws.specs.Headline.{Begins, MoveFits, SaysWhatFitsIf}
 use Rattle.osdp_link_laws.specs.Link as link
 use Rattle.osdp_link_laws.specs.Progress.{NoComset}
-use Rattle.osdp_shared_line.specs.Line.{LoseToPanel, LoseToReader, Net, NetMove, Queue, Reopen, RestartPanel, RestartReader, Retarget, SetBusy, SetHandler, Site, Submit, Tick, ToPanel, ToReader, Withdraw, address_of, after_net, restarts, run, site_at}
+use Rattle.osdp_shared_line.specs.Line.{LoseToPanel, LoseToReader, Net, NetMove, Queue, Reopen, RestartPanel, RestartReader, Retarget, SetBusy, SetHandler, Site, Submit, Tick, ToPanel, ToReader, Withdraw, address_of, after_net, is_command_accepted, is_retarget_accepted, restarts, run, site_at}
 use Rattle.osdp_shared_line.specs.Views.{HeardByOwn, OpensQuietly, view}
 
 -- one of a list
@@ -109,17 +109,21 @@ module _ {H : Type 0} where
     pub apart : (j k : ℕ) (s t : Site H) → j ≢ k → site_at j n.sites ≡ Some s → site_at k n.sites ≡ Some t → address_of s ≢ address_of t
 
   module _ (answer_of : H → Command → Answer) (after : H → Command → H) where
-    -- A command's fields are in their ranges, and so are those of what a reader says anew. An address is given by a COMSET, by `Retarget` or
-    -- by a restart, and no other reader may come there. That it is no other controller's the bus sees to by itself where it takes a COMSET or
-    -- a `Retarget`; a restart asks for it too. Nothing is asked of a reader that restarts where it is. Sessions begin again on a quiet line.
+    -- A command's fields are in their ranges, and so are those of what a reader says anew. An address is given by a COMSET or by `Retarget`,
+    -- where it is accepted, or by a restart, and no other reader may come there. That it is no other controller's the bus sees to by itself
+    -- where it takes a COMSET or a `Retarget`; a restart asks for it too. Nothing is asked of a reader that restarts where it is. Sessions
+    -- begin again on a quiet line.
     abbrev pub NetMoveFits : NetMove H → Net H → Type 0
     NetMoveFits (Submit k command) n =
-        CommandFits command × ((asked : Communication) → comset_of command ≡ Some asked → HasNoOther k asked.address n)
+        CommandFits command
+        × ((s : Site H) (asked : Communication) → site_at k n.sites ≡ Some s → is_command_accepted k command s n.sites ≡ true
+        → comset_of command ≡ Some asked → HasNoOther k asked.address n)
     NetMoveFits (Queue k event) n = Unit {0}
     NetMoveFits (SetBusy k busy) n = Unit {0}
     NetMoveFits (SetHandler k handler) n = Unit {0}
     NetMoveFits (Withdraw k) n = Unit {0}
-    NetMoveFits (Retarget k address) n = HasNoOther k address n
+    NetMoveFits (Retarget k address) n =
+        (s : Site H) → site_at k n.sites ≡ Some s → is_retarget_accepted k address s n.sites ≡ true → HasNoOther k address n
     NetMoveFits (Tick k now) n = Unit {0}
     NetMoveFits (ToReader k how) n =
         (s : Site H) → site_at k n.sites ≡ Some s → SaysWhatFitsIf answer_of after how (in_front s.coming) s.reader

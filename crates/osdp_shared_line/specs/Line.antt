@@ -2,7 +2,7 @@
 -- all that the readers said. So there is one list of what was said in each direction, with a place for each end up to which it has read.
 -- Only what each end has not read yet is kept here: nothing before its place is ever read again, and what is lost to one end is not lost to
 -- another.
-use Rattle.std.specs.Prelude.{ℕ, zero, suc, Bool, false, ◌||◌, ◌==◌, if◌then◌else◌, List, [], ◌∷◌, ◌++◌, map, Option, Some, None, is_some}
+use Rattle.std.specs.Prelude.{ℕ, zero, suc, Bool, false, ◌||◌, ◌==◌, if◌then◌else◌, List, [], ◌∷◌, ◌++◌, map, Option, Some, None, is_some, not}
 use Rattle.osdp_frame.specs.Packet.{Packet}
 use Rattle.osdp_msg.specs.declared.command.Command.{Command}
 use Rattle.osdp_msg.specs.declared.command_fields.Communication.{Communication}
@@ -125,6 +125,16 @@ module _ {H : Type 0} where
   -- another address is refused where it is another site's, or a COMSET waits here
   abbrev pub is_retarget_refused : ℕ → ℕ → Site H → List (Site H) → Bool
   is_retarget_refused k address s ss = is_taken_beside k address ss || has_comset s.controller.waiting
+
+  -- ---- what both take: neither the bus nor the controller refuses the command, or the address
+
+  abbrev pub is_command_accepted : ℕ → Command → Site H → List (Site H) → Bool
+  is_command_accepted k command s ss =
+      not (is_comset_refused k (comset_of command) s ss || is_some (controllers.submit_refusal command s.controller))
+
+  abbrev pub is_retarget_accepted : ℕ → ℕ → Site H → List (Site H) → Bool
+  is_retarget_accepted k address s ss =
+      not (is_retarget_refused k address s ss || is_some (controllers.retarget_refusal address s.controller))
 
   -- ---- one site
 

@@ -1,6 +1,6 @@
 -- A rule for programs. Until an entry's next session has opened, neither the address that a COMSET, a `Retarget` or a restart left nor the one
--- that it set goes to another entry; and `Retarget` is called for no other reason than to try one of them. A program that keeps to it gives no
--- address where another device may come.
+-- that it set goes to another entry; and `Retarget` is called for no other reason than to try one of them. Calls that are refused count for
+-- nothing. A program that keeps to the rule gives no address where another device may come.
 use Rattle.std.specs.Prelude.{◌≡◌, ◌≢◌, ◌&&◌, ℕ, Bool, true, false, ◌==◌, if◌then◌else◌, List, [], ◌∷◌, ◌++◌, Option, Some, None}
 use Rattle.osdp_frame.specs.Packet.{Packet}
 use Rattle.osdp_msg.specs.CommandTable.{CommandFits}
@@ -16,7 +16,7 @@ use Rattle.osdp_link_laws.specs.Headline.{MoveFits}
 use Rattle.osdp_link_laws.specs.Link as link
 use Rattle.osdp_link_laws.specs.Link.{Delivered, Delivery, Lost, Repeated}
 use Rattle.osdp_shared_line.specs.Addresses.{IsSetUp, NetMoveFits, NetMovesFit, Somewhere}
-use Rattle.osdp_shared_line.specs.Line.{Net, NetMove, Reopen, RestartPanel, RestartReader, Retarget, Site, Submit, ToPanel, address_of, after_net, site_at}
+use Rattle.osdp_shared_line.specs.Line.{Net, NetMove, Reopen, RestartPanel, RestartReader, Retarget, Site, Submit, ToPanel, address_of, after_net, is_command_accepted, is_retarget_accepted, site_at}
 use Rattle.osdp_shared_line.specs.Views.{view}
 
 -- what a program notes of an entry: whether a session was begun that hasn't opened yet, and the addresses beside its controller's at which its
@@ -62,8 +62,10 @@ module _ {H : Type 0} where
 
   -- what is noted of the site at this place after a move
   abbrev pub note_after : ℕ → Site H → NetMove H → Net H → Note → Note
-  note_after j s (Submit k command) n note = if k == j then also_at (two_addresses (address_of s) (comset_of command)) note else note
-  note_after j s (Retarget k address) n note = if k == j then also_at (address_of s ∷ []) note else note
+  note_after j s (Submit k command) n note =
+      if k == j && is_command_accepted k command s n.sites then also_at (two_addresses (address_of s) (comset_of command)) note else note
+  note_after j s (Retarget k address) n note =
+      if k == j && is_retarget_accepted k address s n.sites then also_at (address_of s ∷ []) note else note
   note_after j s (ToPanel how now) n note = noted_panel n.to_panel how now s note
   note_after j s (Reopen k now) n note =
       if k == j then (if is_closed s.controller.session.state then record note { begun = true } else note) else note
@@ -81,12 +83,15 @@ module _ {H : Type 0} where
   abbrev pub IsKnown : ℕ → Site H → Note → Type 0
   IsKnown address s note = Somewhere (λ a. a ≡ address) (address_of s ∷ note.addresses)
 
-  -- a COMSET goes to no address of another entry; `Retarget` and a restart of the panel set none but one of the own
+  -- a COMSET that is accepted goes to no address of another entry; a `Retarget` that is accepted and a restart of the panel set none but one
+  -- of the own
   abbrev pub KeepsRule : NetMove H → Net H → (ℕ → Note) → Type 0
   KeepsRule (Submit k command) n notes =
-      (asked : Communication) → comset_of command ≡ Some asked
+      (s : Site H) (asked : Communication) → site_at k n.sites ≡ Some s → is_command_accepted k command s n.sites ≡ true
+      → comset_of command ≡ Some asked
       → (j : ℕ) (t : Site H) → j ≢ k → site_at j n.sites ≡ Some t → IsKnown asked.address t (notes j) → ⊥
-  KeepsRule (Retarget k address) n notes = (s : Site H) × (site_at k n.sites ≡ Some s) × IsKnown address s (notes k)
+  KeepsRule (Retarget k address) n notes =
+      (s : Site H) → site_at k n.sites ≡ Some s → is_retarget_accepted k address s n.sites ≡ true → IsKnown address s (notes k)
   KeepsRule (RestartPanel settings) n notes = (k : ℕ) (s : Site H) → site_at k n.sites ≡ Some s → IsKnown (settings k).0.address s (notes k)
   KeepsRule _ n notes = Unit {0}
 

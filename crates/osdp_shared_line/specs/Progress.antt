@@ -17,14 +17,14 @@ moments_of k [] = []
 moments_of k (turn ∷ turns) = if turn.0 == k then turn.1 ∷ moments_of k turns else moments_of k turns
 
 module _ {H : Type 0} where
-  -- so many readers read what comes next for each of them
-  abbrev pub all_read : ℕ → List (NetMove H)
-  all_read zero = []
-  all_read (suc count) = ToReader count Delivered ∷ all_read count
+  -- so many readers read what comes next for each of them, in their order, the first of them at this place
+  abbrev pub all_read : ℕ → ℕ → List (NetMove H)
+  all_read place zero = []
+  all_read place (suc count) = ToReader place Delivered ∷ all_read (suc place) count
 
   -- a round of one site, at a moment, on a line with so many readers: its controller ticks, every reader reads, and the panel reads
   abbrev pub net_round : ℕ → ℕ × ℕ → List (NetMove H)
-  net_round count turn = Tick turn.0 turn.1 ∷ (all_read count ++ ToPanel Delivered turn.1 ∷ [])
+  net_round count turn = Tick turn.0 turn.1 ∷ (all_read 0 count ++ ToPanel Delivered turn.1 ∷ [])
 
   abbrev pub net_rounds : ℕ → List (ℕ × ℕ) → List (NetMove H)
   net_rounds count [] = []

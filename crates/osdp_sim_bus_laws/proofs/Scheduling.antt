@@ -5,11 +5,11 @@ use Rattle.osdp_msg.specs.declared.command.Command.{Command}
 use Rattle.osdp_reader.specs.declared.handler.Answer.{Answer}
 use Rattle.osdp_link_laws.specs.Link as link
 use Rattle.osdp_link_laws.specs.Peers.{IsPlainlySaid}
-use Rattle.osdp_link_laws.specs.Ordinary.{IsOrdinary}
+use Rattle.osdp_link_laws.specs.Ordinary.{IsSteady}
 use Rattle.osdp_link_laws.specs.Refusals.{SaysAllPlainly}
 use Rattle.osdp_link_laws.proofs.Lines.{each_all, each_of}
 use Rattle.osdp_link_laws.proofs.Ordinary.{moves_so}
-use Rattle.osdp_link_laws.proofs.OrdinaryRuns.{begins_so}
+use Rattle.osdp_link_laws.proofs.OrdinaryRuns.{begins_so, steady_ordinary}
 use Rattle.osdp_link_laws.proofs.Stages.{Each}
 use Rattle.osdp_multidrop.specs.Line.{Net, NetMove, after_net, run}
 use Rattle.osdp_multidrop.specs.Runs.{NetMovesFit, EachIsALink, EachStaysInARow, IsSetUp, moves_of}
@@ -66,7 +66,7 @@ module _ {H : Type 0} (answer_of : H → Command → Answer) (after : H → Comm
             let moves = moves_of answer_of after k ms first in
             let begun = (up.begins k old.0 old.1).begins in
             each_of IsPlainlySaid (own k n.to_controllers) (subst (λ (l : link.Link H). All IsPlainlySaid l.to_controller) (sym its.moved.moved)
-            (plainly l moves begun its.fits (moves_so answer_of after moves l (each_of IsOrdinary moves its.ordinary) (begins_so l begun)).0.restarts))
+            (plainly l moves begun its.fits (moves_so answer_of after moves l (steady_ordinary moves (each_of IsSteady moves its.ordinary)) (begins_so l begun)).0.restarts))
 
     scheduled : (steps : List SimStep) (s : LineState H) (first : Net H) (ms : List NetMove) → IsSetUp first → NetMovesFit answer_of after ms first
         → Follows s (run answer_of after ms first) → simulation.is_well answer_of after steps s ≡ true → FitAlong answer_of after steps s

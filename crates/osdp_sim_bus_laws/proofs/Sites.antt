@@ -93,7 +93,7 @@ module _ {H : Type 0} where
   site_told r u s t is plain h = record {
     reader = h.reader ∙ sym is.reader;
     tells = subst (λ a. IsOf (with_report r u.account) a t.earlier) (sym is.account)
-        (subst (λ e. IsOf (with_report r u.account) (link.told r s.account) e) (sym is.earlier) (tells_report r u.account s.account s.earlier h.tells));
+        (subst (λ e. IsOf (with_report r u.account) (link.after_report r s.account) e) (sym is.earlier) (tells_report r u.account s.account s.earlier h.tells));
     ended =
         let was = counts_alike (is_closed s.controller.session.state) in
         let now = counts_alike (is_closed t.controller.session.state) in

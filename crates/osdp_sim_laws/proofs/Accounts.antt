@@ -52,7 +52,7 @@ told_settled more ends a t earlier h = record {
 
 -- a report
 pub tells_report : (r : Option Report) (a : Account) (t : link.Account) (earlier : List link.Account) → IsOf a t earlier
-    → IsOf (with_report r a) (link.told r t) earlier
+    → IsOf (with_report r a) (link.after_report r t) earlier
 tells_report None a t earlier h = h
 tells_report (Some (report.Opened id)) a t earlier h = h
 tells_report (Some (report.Settled command answer)) a t earlier h = told_settled ((command, answer) ∷ []) a.ends a t earlier h

@@ -19,7 +19,7 @@ use Rattle.osdp_link_laws.specs.Addresses.{StayWhereTheyAre}
 use Rattle.osdp_link_laws.specs.Sessions.{HaveLeft, all_queued, all_submitted, ended_commands}
 use Rattle.osdp_link_laws.proofs.Lines.{each_all, each_append, each_front, each_of}
 use Rattle.osdp_link_laws.proofs.Ordinary.{moves_so}
-use Rattle.osdp_link_laws.proofs.OrdinaryRuns.{begins_so, set_no_other}
+use Rattle.osdp_link_laws.proofs.OrdinaryRuns.{begins_so, set_no_other, steady_ordinary}
 use Rattle.osdp_link_laws.proofs.Stages.{Each}
 use Rattle.osdp_link_laws.specs.Ends.{count}
 use Rattle.osdp_sim.specs.Account.{Account}
@@ -152,7 +152,7 @@ module _ {H : Type 0} (answer_of : H → Command → Answer) (after : H → Comm
         reported = ap length (tells.reported ∙ ap (λ e. all_in (λ t. t.reported) (later.account ∷ e)) none);
         issued = carried.issued ∙ given.commands l ms begun follows.moves ∙ ap (λ e. ended_commands e ++ later.account.issued) none;
         queued = ap length (carried.queued ∙ events.2 ∙ ap (λ e. e ++ later.account.queued) gone);
-        kept = (moves_so answer_of after ms l follows.ordinary (begins_so l begun)).0.kept;
+        kept = (moves_so answer_of after ms l (steady_ordinary ms follows.ordinary) (begins_so l begun)).0.kept;
       }
 
   -- ---- steps, and more of them, as moves of the link

@@ -20,7 +20,7 @@ use Rattle.osdp_link_laws.specs.Refusals as refusals
 use Rattle.osdp_link_laws.specs.Sessions.{AreInARow, LastsOrLeaves, ended_commands, ended_in, settled_commands}
 use Rattle.osdp_link_laws.proofs.Lines.{each_all, each_append, each_of}
 use Rattle.osdp_link_laws.proofs.Ordinary.{moves_so, undisturbed_leaves}
-use Rattle.osdp_link_laws.proofs.OrdinaryRuns.{begins_so, ended_so, keep_device, keep_reader, taken_commands}
+use Rattle.osdp_link_laws.proofs.OrdinaryRuns.{begins_so, ended_so, keep_device, keep_reader, steady_ordinary, taken_commands}
 use Rattle.osdp_link_laws.proofs.Stages.{Each}
 use Rattle.osdp_link_laws.specs.Ends.{count}
 use Rattle.osdp_sim.specs.Account.{Account, empty_account, lists_of, with_session}
@@ -134,7 +134,7 @@ module _ {H : Type 0} (answer_of : H → Command → Answer) (after : H → Comm
       let a = s.account in
       let moves = follows.moves in
       let tells = follows.carried.tells in
-      let so = moves_so answer_of after ms l follows.ordinary (begins_so l begun) in
+      let so = moves_so answer_of after ms l (steady_ordinary ms follows.ordinary) (begins_so l begun) in
       let once = given.once l ms begun moves (keep_device ms follows.ordinary) in
       let row = given.row l ms begun moves in
       let ended = subst (λ (state : State). length a.ends + 1 ≡ length a.sessions + count (is_closed state))

@@ -11,12 +11,13 @@ use Rattle.osdp_reader.specs.declared.handler.Answer.{Answer}
 use Rattle.osdp_link_laws.specs.Headline.{MovesFit}
 use Rattle.osdp_link_laws.specs.Link as link
 use Rattle.osdp_link_laws.specs.Link.{Link, after_move}
-use Rattle.osdp_link_laws.specs.Ordinary.{AreUndisturbed, IsOrdinary}
+use Rattle.osdp_link_laws.specs.Ordinary.{AreUndisturbed, IsSteady}
 use Rattle.osdp_link_laws.specs.Refusals as refusals
 use Rattle.osdp_link_laws.specs.Refusals.{reports, told_by}
 use Rattle.osdp_link_laws.specs.Sessions.{LastsOrLeaves, all_queued, all_submitted, queued, submitted}
 use Rattle.osdp_link_laws.proofs.Lines.{each_append, each_front, each_rest}
 use Rattle.osdp_link_laws.proofs.Ordinary.{moves_so}
+use Rattle.osdp_link_laws.proofs.OrdinaryRuns.{steady_ordinary}
 use Rattle.osdp_link_laws.proofs.Stages.{Each}
 use Rattle.osdp_link_laws.specs.Ends.{count}
 use Rattle.osdp_sim.specs.Account.{Account}
@@ -41,7 +42,7 @@ module _ {H : Type 0} (answer_of : H → Command → Answer) (after : H → Comm
   pub record Follows (s : SimState H) (ms : List (link.Move H)) (l : Link H) (clock : ℕ) (a : Account) : Type 0 where
     pub carried : IsCarried s (link.run answer_of after ms l) clock a (all_submitted answer_of after ms l) (all_queued answer_of after ms l) (reports answer_of after ms l)
     pub moves : MovesFit answer_of after ms l
-    pub ordinary : Each IsOrdinary ms
+    pub ordinary : Each IsSteady ms
 
   -- lists of moves, one after the other
   pub run_both : (ms ns : List (link.Move H)) (l : Link H) → link.run answer_of after (ms ++ ns) l ≡ link.run answer_of after ns (link.run answer_of after ms l)
@@ -78,7 +79,7 @@ module _ {H : Type 0} (answer_of : H → Command → Answer) (after : H → Comm
     tells = follows.carried.tells;
     ended = subst HaveEnded follows.carried.state ended;
     leave = leave_after ms l follows.moves from.leave;
-    undisturbed = moves_so answer_of after ms l follows.ordinary from.undisturbed;
+    undisturbed = moves_so answer_of after ms l (steady_ordinary ms follows.ordinary) from.undisturbed;
   }
 
   -- where the controller is closed its session has ended and leaves what the next one begins with
@@ -207,7 +208,7 @@ module _ {H : Type 0} (answer_of : H → Command → Answer) (after : H → Comm
                   (first.carried.causes (each_front refusals.IsNoRefusal (reports answer_of after ms l) (reports answer_of after ns afterwards) all) well);
             });
         moves = moves_both ms ns l first.moves next.moves;
-        ordinary = each_append IsOrdinary ms ns first.ordinary next.ordinary;
+        ordinary = each_append IsSteady ms ns first.ordinary next.ordinary;
       }
 
   -- each schedule

@@ -1,0 +1,243 @@
+-- What each move does to a link, however it stands.
+use Rattle.std.proofs.Common.{◌≡◌, ◌≢◌, ◌⊎◌, ◌≤◌, ◌<◌, ℕ, zero, suc, Bool, true, false, cond, eqb, List, [], ◌∷◌, ◌++◌, length, map, drop, Some, None, refl, sym, subst, ap, ◌∙◌, inl, inr, arith}
+use Rattle.std.proofs.lemmas.Bool.{le-ltb, lt-ltb}
+use Rattle.std.proofs.lemmas.List.{append-nil}
+use Rattle.std.specs.Prelude.{◌||◌, not, option_to_list}
+use Rattle.osdp_frame.specs.Packet.{Packet}
+use Rattle.osdp_msg.specs.declared.command.Command.{Command}
+use Rattle.osdp_msg.specs.declared.event.Event.{Event}
+use Rattle.osdp_msg.specs.declared.nak.NakReason.TheVariants.{UnexpectedSequence}
+use Rattle.osdp_controller.specs.Machine as controllers
+use Rattle.osdp_controller.specs.declared.fault.ControllerFault.{ControllerFault}
+use Rattle.osdp_controller.specs.declared.fault.ControllerFault.TheVariants.{NotClosed, OutOfRange}
+use Rattle.osdp_controller.specs.declared.state.State.{State}
+use Rattle.osdp_controller.specs.declared.state.State.TheVariants.{Closed, Quiet, Idle, Waiting, Pausing}
+use Rattle.osdp_reader.specs.Queue.{released}
+use Rattle.osdp_reader.specs.Replies.{refused}
+use Rattle.osdp_reader.specs.State.{ReaderState, after_set_handler, new_reader}
+use Rattle.osdp_reader.specs.Table as reader
+use Rattle.osdp_reader.specs.Table.{answer_to, command_in, event_or_answer, hears, is_for_another, kind_by_number, kind_of}
+use Rattle.osdp_reader.specs.declared.handler.Answer.{Answer}
+use Rattle.osdp_reader.specs.declared.kind.Kind.TheVariants.{Silent, Secured, Zero, Busy, Wrong}
+use Rattle.osdp_reader_laws.specs.Laws.{ComesTo}
+use Rattle.osdp_link_laws.specs.Effects.{AnswersBy, HasAddress, Loses, LosesOne, RefusesNumbers, RestartsController, RestartsReader, Retargets, SetsHandler, ThrowsAway, Withdraws}
+use Rattle.osdp_link_laws.specs.Link as link
+use Rattle.osdp_link_laws.specs.Link.{Account, Link, Withdrawn, lost_at, reader_restarted}
+use Rattle.osdp_link_laws.proofs.Acting.{no_event}
+use Rattle.osdp_link_laws.proofs.Numbers.{is_false, is_true}
+use Rattle.osdp_link_laws.proofs.Restarts.{drop_front}
+
+-- ---- a reader that knows no number
+
+for_it : (reply same all : Bool) → reply ≡ false → (same ≡ true) ⊎ (all ≡ true) → reply || not (same || all) ≡ false
+for_it true same all command here = absurd cc
+for_it false true all command here = refl
+for_it false false true command here = refl
+for_it false false false command (inl here) = absurd cc
+for_it false false false command (inr here) = absurd cc
+
+module _ {H : Type 0} where
+  comes_here : (r : ReaderState H) (p : Packet) → ComesTo r p → is_for_another r p ≡ false
+  comes_here r p comes = for_it p.reply (eqb p.address r.config.address) (eqb p.address 127) comes.command (elim comes.here [
+    | inl here ↦ inl (is_true p.address r.config.address here)
+    | inr all ↦ inr (is_true p.address 127 all)
+  ])
+
+  knows_none : (r : ReaderState H) (p : Packet) → r.last ≡ None → ComesTo r p → p.block ≡ false → p.sequence ≢ 0 → kind_of r p ≡ Wrong
+  knows_none r p none comes plain above =
+      ap (λ b. cond b Silent (cond p.block Secured (cond (eqb p.sequence 0) (cond r.busy Busy Zero) (kind_by_number r.last p.sequence r.busy))))
+      (comes_here r p comes)
+      ∙ ap (λ b. cond b Secured (cond (eqb p.sequence 0) (cond r.busy Busy Zero) (kind_by_number r.last p.sequence r.busy))) plain
+      ∙ ap (λ b. cond b (cond r.busy Busy Zero) (kind_by_number r.last p.sequence r.busy)) (is_false p.sequence 0 above)
+      ∙ ap (λ last. kind_by_number last p.sequence r.busy) none
+
+  module _ (answer_of : H → Command → Answer) (after : H → Command → H) where
+    refuses_numbers : (r : ReaderState H) → r.last ≡ None → RefusesNumbers answer_of after r
+    refuses_numbers r none p comes plain above =
+        subst (λ k. let o = reader.outcome answer_of after k r p in
+        (o.said ≡ Some (refused UnexpectedSequence)) × (o.command ≡ None) × (o.reader ≡ r))
+        (sym (knows_none r p none comes plain above)) (refl, refl, refl)
+
+    -- ---- another handler
+
+    answers_by : (handler : H) (r : ReaderState H) → AnswersBy answer_of after handler r (after_set_handler handler r)
+    answers_by handler r = record {
+      again = λ p is. subst (λ k. let o = reader.outcome answer_of after k new p in
+          (o.reply ≡ r.stored) × (o.command ≡ None) × (o.reader ≡ new)) (sym is) (refl, refl, refl);
+      next = λ p c is reads other.
+          ap (λ k. (reader.outcome answer_of after k new p).said) is
+          ∙ ap (λ o. (reader.taken answer_of after o new p).said) reads
+          ∙ ap (λ event. Some (event_or_answer answer_of after event r.config handler c).reply) (no_event c (released r.queue).events other);
+    }
+      where
+        new : ReaderState H
+        new = after_set_handler handler r
+
+    pub sets_handler : SetsHandler answer_of after
+    sets_handler l handler = (
+      record {
+        others = record { controller = refl; to_reader = refl; to_controller = refl; earlier = refl };
+        account = refl;
+        handler = refl;
+        stored = refl;
+        reader = record { config = refl; last = refl; queue = refl; busy = refl };
+      },
+      answers_by handler l.reader,
+    )
+
+    -- ---- restarts
+
+    throws_away : (gone : List Event) (t : Account) → t.kept ≡ t.offered ++ gone → ThrowsAway gone t (reader_restarted t)
+    throws_away gone t is = record {
+      commands = record { issued = refl; taken = refl; given = refl; settled = refl; unsettled = refl; forgotten = refl; removed = refl };
+      queued = refl;
+      kept = refl;
+      thrown_away = ap (λ es. t.thrown_away ++ es) (ap (drop (length t.offered)) is ∙ drop_front t.offered gone);
+      offered = refl;
+      reported = refl;
+      restarts = refl;
+    }
+
+    pub restarts_reader : RestartsReader answer_of after
+    restarts_reader l address handler room = record {
+      others = record { controller = refl; to_reader = refl; to_controller = refl; earlier = refl };
+      reader = record {
+        address = refl;
+        id = refl;
+        caps = refl;
+        last = refl;
+        stored = refl;
+        events = refl;
+        capacity = refl;
+        offered = refl;
+        busy = refl;
+        handler = refl;
+      };
+      refuses = refuses_numbers (new_reader (record l.reader.config { address = address }) handler room) refl;
+      account = λ gone is. throws_away gone l.account is;
+    }
+
+    pub restarts_controller : RestartsController answer_of after
+    restarts_controller l config room = record {
+      others = record { reader = refl; to_reader = refl; to_controller = refl; earlier = refl };
+      controller = record { state = refl; config = refl; number = refl; greatest = refl; waiting = refl; capacity = refl };
+      account = record {
+        issued = refl;
+        taken = refl;
+        given = refl;
+        settled = refl;
+        unsettled = refl;
+        forgotten = refl;
+        removed = refl;
+        events = record { queued = refl; kept = refl; thrown_away = refl; offered = refl; reported = refl; restarts = refl };
+      };
+    }
+
+-- ---- a command is taken back
+
+first_back : (state : State) (command : Command) (waiting all : List Command) → state ≡ Closed → all ≡ command ∷ waiting
+    → (controllers.kept_in state all ≡ waiting) × (controllers.withdrawn_in state all ≡ Some command)
+first_back state command waiting all closed is = (
+  ap (λ s. controllers.kept_in s all) closed ∙ ap (controllers.kept_in Closed) is,
+  ap (λ s. controllers.withdrawn_in s all) closed ∙ ap (controllers.withdrawn_in Closed) is,
+)
+
+none_back : (state : State) (all : List Command) → (state ≢ Closed) ⊎ (all ≡ [])
+    → (controllers.kept_in state all ≡ all) × (controllers.withdrawn_in state all ≡ None)
+none_back Closed [] why = (refl, refl)
+none_back Closed (c ∷ cs) (inl unclosed) = absurd (unclosed refl)
+none_back Closed (c ∷ cs) (inr none) = absurd cc
+none_back (Quiet until) all why = (refl, refl)
+none_back (Idle due) all why = (refl, refl)
+none_back (Waiting until k o) all why = (refl, refl)
+none_back (Pausing until o) all why = (refl, refl)
+
+-- ---- an address is set
+
+may_set : (state : State) (address : ℕ) → state ≡ Closed → address < 127 → controllers.or_no_device (controllers.refused_unless_closed state) address ≡ None
+may_set state address closed small =
+    ap (λ s. controllers.or_no_device (controllers.refused_unless_closed s) address) closed
+    ∙ ap (λ b. cond b None (Some OutOfRange)) (lt-ltb address 127 small)
+
+may_not : (state : State) (address : ℕ) → (state ≢ Closed) ⊎ (127 ≤ address)
+    → (fault : ControllerFault) × (controllers.or_no_device (controllers.refused_unless_closed state) address ≡ Some fault)
+may_not Closed address (inl unclosed) = absurd (unclosed refl)
+may_not Closed address (inr large) = (OutOfRange, ap (λ b. cond b None (Some OutOfRange)) (le-ltb address 127 large))
+may_not (Quiet until) address why = (NotClosed, refl)
+may_not (Idle due) address why = (NotClosed, refl)
+may_not (Waiting until k o) address why = (NotClosed, refl)
+may_not (Pausing until o) address why = (NotClosed, refl)
+
+-- ---- a packet is lost
+
+lost_there : {A : Type 0} (front : List A) (x : A) (rest : List A) → lost_at (length front) (front ++ x ∷ rest) ≡ front ++ rest
+lost_there [] x rest = refl
+lost_there (y ∷ front) x rest = ap (λ l. y ∷ l) (lost_there front x rest)
+
+lost_beyond : {A : Type 0} (place : ℕ) (xs : List A) → length xs ≤ place → lost_at place xs ≡ xs
+lost_beyond place [] le = refl
+lost_beyond zero (x ∷ xs) le = absurd (omega (arith, le))
+lost_beyond (suc place) (x ∷ xs) le = ap (λ l. x ∷ l) (lost_beyond place xs (omega (arith, le)))
+
+loses_one : {A : Type 0} (place : ℕ) (xs : List A) → LosesOne place xs (lost_at place xs)
+loses_one place xs = (
+  λ front lost rest is at. ap (lost_at place) is ∙ subst (λ k. lost_at k (front ++ lost ∷ rest) ≡ front ++ rest) at (lost_there front lost rest),
+  lost_beyond place xs,
+)
+
+module _ {H : Type 0} (answer_of : H → Command → Answer) (after : H → Command → H) where
+  pub withdraws : Withdraws answer_of after
+  withdraws = record {
+    first = λ l c ws closed is. let back = first_back l.controller.session.state c ws l.controller.waiting closed is in record {
+      others = record { reader = refl; to_reader = refl; to_controller = refl; earlier = refl };
+      session = refl;
+      waiting = back.0;
+      capacity = refl;
+      account = record {
+        issued = refl;
+        taken = refl;
+        given = refl;
+        settled = refl;
+        unsettled = refl;
+        forgotten = refl;
+        removed = ap (λ o. l.account.removed ++ map Withdrawn (option_to_list o)) back.1;
+        events = record { queued = refl; kept = refl; thrown_away = refl; offered = refl; reported = refl; restarts = refl };
+      };
+    };
+    none = λ l why. let back = none_back l.controller.session.state l.controller.waiting why in
+        ap (λ ws. record l {
+          controller = record l.controller { waiting = ws };
+          account = (link.withdraws l).account;
+        }) back.0
+        ∙ ap (λ o. record l { account = record l.account { removed = l.account.removed ++ map Withdrawn (option_to_list o) } }) back.1
+        ∙ ap (λ rs. record l { account = record l.account { removed = rs } }) (append-nil l.account.removed);
+  }
+
+  pub retargets : Retargets answer_of after
+  retargets = record {
+    set = λ l address closed small.
+        subst (λ fault. HasAddress address l (link.retargets fault address l)) (sym (may_set l.controller.session.state address closed small)) (record {
+          others = record { reader = refl; to_reader = refl; to_controller = refl; earlier = refl };
+          address = refl;
+          config = refl;
+          state = closed;
+          number = refl;
+          greatest = refl;
+          waiting = refl;
+          capacity = refl;
+          account = refl;
+        });
+    refused = λ l address why. ap (λ fault. link.retargets fault address l) (may_not l.controller.session.state address why).1;
+  }
+
+  pub loses : Loses answer_of after
+  loses = record {
+    to_reader = λ l place. (
+      loses_one place l.to_reader,
+      record { controller = refl; reader = refl; to_controller = refl; account = refl; earlier = refl },
+    );
+    to_controller = λ l place. (
+      loses_one place l.to_controller,
+      record { controller = refl; reader = refl; to_reader = refl; account = refl; earlier = refl },
+    );
+  }

@@ -1,0 +1,240 @@
+-- What each move of a program, of a power failure or of the line does to a link, however it stands: what is new, empty or gone after it, and
+-- that all else is as it was.
+use Rattle.std.specs.Prelude.{◌≡◌, ◌≢◌, ◌≤◌, ◌<◌, ◌+◌, ◌⊎◌, ℕ, suc, false, List, [], ◌∷◌, ◌++◌, length, map, Option, Some, None, Ok, option_to_list}
+use Rattle.osdp_frame.specs.Packet.{Packet}
+use Rattle.osdp_msg.specs.declared.command.Command.{Command}
+use Rattle.osdp_msg.specs.declared.command.Command.TheVariants.{Poll}
+use Rattle.osdp_msg.specs.declared.event.Event.{Event}
+use Rattle.osdp_msg.specs.declared.nak.NakReason.TheVariants.{UnexpectedSequence}
+use Rattle.osdp_controller.specs.Machine.{Machine}
+use Rattle.osdp_controller.specs.declared.config.ControllerConfig.{ControllerConfig}
+use Rattle.osdp_controller.specs.declared.state.State.TheVariants.{Closed}
+use Rattle.osdp_reader.specs.Replies.{refused}
+use Rattle.osdp_reader.specs.State.{ReaderState}
+use Rattle.osdp_reader.specs.Table.{answer_to, command_in, hears, kind_of}
+use Rattle.osdp_reader.specs.declared.handler.Answer.{Answer}
+use Rattle.osdp_reader.specs.declared.kind.Kind.TheVariants.{Repeat, Taken}
+use Rattle.osdp_reader_laws.specs.Laws.{ComesTo, DiffersByHandler}
+use Rattle.osdp_link_laws.specs.Link.{Account, Link, LoseToController, LoseToReader, Move, Reopen, RestartController, RestartReader, Retarget, SetHandler, ThrownAway, Withdraw, Withdrawn, after_move, outstanding_command, run}
+
+-- ---- accounts
+
+-- all that is said of commands
+pub record SameCommands (t u : Account) : Type 0 where
+  pub issued : u.issued ≡ t.issued
+  pub taken : u.taken ≡ t.taken
+  pub given : u.given ≡ t.given
+  pub settled : u.settled ≡ t.settled
+  pub unsettled : u.unsettled ≡ t.unsettled
+  pub forgotten : u.forgotten ≡ t.forgotten
+  pub removed : u.removed ≡ t.removed
+
+-- .. and of events
+pub record SameEvents (t u : Account) : Type 0 where
+  pub queued : u.queued ≡ t.queued
+  pub kept : u.kept ≡ t.kept
+  pub thrown_away : u.thrown_away ≡ t.thrown_away
+  pub offered : u.offered ≡ t.offered
+  pub reported : u.reported ≡ t.reported
+  pub restarts : u.restarts ≡ t.restarts
+
+-- a restart of the reader throws these events away, which it had not offered in the session, and is counted; what it had offered stays, and
+-- all that is said of commands
+pub record ThrowsAway (gone : List Event) (t u : Account) : Type 0 where
+  pub commands : SameCommands t u
+  pub queued : u.queued ≡ t.queued
+  pub kept : u.kept ≡ t.offered
+  pub thrown_away : u.thrown_away ≡ t.thrown_away ++ gone
+  pub offered : u.offered ≡ t.offered
+  pub reported : u.reported ≡ t.reported
+  pub restarts : u.restarts ≡ t.restarts + 1
+
+-- a restart of the controller forgets the outstanding command, and throws away those that waited
+pub record Forgets (outstanding : Option Command) (waiting : List Command) (t u : Account) : Type 0 where
+  pub issued : u.issued ≡ t.issued
+  pub taken : u.taken ≡ t.taken
+  pub given : u.given ≡ t.given
+  pub settled : u.settled ≡ t.settled
+  pub unsettled : u.unsettled ≡ t.unsettled
+  pub forgotten : u.forgotten ≡ t.forgotten ++ option_to_list outstanding
+  pub removed : u.removed ≡ t.removed ++ map ThrownAway waiting
+  pub events : SameEvents t u
+
+-- a command that waited is taken back
+pub record TakesBack (command : Command) (t u : Account) : Type 0 where
+  pub issued : u.issued ≡ t.issued
+  pub taken : u.taken ≡ t.taken
+  pub given : u.given ≡ t.given
+  pub settled : u.settled ≡ t.settled
+  pub unsettled : u.unsettled ≡ t.unsettled
+  pub forgotten : u.forgotten ≡ t.forgotten
+  pub removed : u.removed ≡ t.removed ++ Withdrawn command ∷ []
+  pub events : SameEvents t u
+
+-- ---- machines
+
+-- the controller is closed, with these settings and this room; nothing waits, nothing is outstanding, no number was sent and no moment seen
+pub record IsNewController (settings : ControllerConfig) (room : ℕ) (m : Machine) : Type 0 where
+  pub state : m.session.state ≡ Closed
+  pub config : m.session.config ≡ settings
+  pub number : m.session.number ≡ 0
+  pub greatest : m.session.greatest ≡ 0
+  pub waiting : m.waiting ≡ []
+  pub capacity : m.capacity ≡ room
+
+-- ---- the line
+
+-- what stands on the line after so many packets is lost, to the end that would have read it
+abbrev pub LosesOne : {A : Type 0} → ℕ → List A → List A → Type 0
+LosesOne {A} place old new =
+    ((front : List A) (lost : A) (rest : List A) → old ≡ front ++ lost ∷ rest → length front ≡ place → new ≡ front ++ rest)
+    × (length old ≤ place → new ≡ old)
+
+module _ {H : Type 0} where
+  -- the same device at this address, with this handler and this room: nothing was taken and nothing is stored, no event waits, and it isn't
+  -- busy
+  pub record IsNewReader (here : ℕ) (answering : H) (room : ℕ) (old new : ReaderState H) : Type 0 where
+    pub address : new.config.address ≡ here
+    pub id : new.config.id ≡ old.config.id
+    pub caps : new.config.caps ≡ old.config.caps
+    pub last : new.last ≡ None
+    pub stored : new.stored ≡ None
+    pub events : new.queue.events ≡ []
+    pub capacity : new.queue.capacity ≡ room
+    pub offered : new.queue.offered ≡ false
+    pub busy : new.busy ≡ false
+    pub handler : new.handler ≡ answering
+
+  -- ---- links
+
+  -- where the reader alone is another: the controller, the line, and the sessions before
+  pub record SameButReader (l next : Link H) : Type 0 where
+    pub controller : next.controller ≡ l.controller
+    pub to_reader : next.to_reader ≡ l.to_reader
+    pub to_controller : next.to_controller ≡ l.to_controller
+    pub earlier : next.earlier ≡ l.earlier
+
+  -- .. and where the controller alone is
+  pub record SameButController (l next : Link H) : Type 0 where
+    pub reader : next.reader ≡ l.reader
+    pub to_reader : next.to_reader ≡ l.to_reader
+    pub to_controller : next.to_controller ≡ l.to_controller
+    pub earlier : next.earlier ≡ l.earlier
+
+  -- the reader has this handler, and is as it was: its number, its stored reply and its events stay
+  pub record HasHandler (answering : H) (l next : Link H) : Type 0 where
+    pub others : SameButReader l next
+    pub account : next.account ≡ l.account
+    pub handler : next.reader.handler ≡ answering
+    pub stored : next.reader.stored ≡ l.reader.stored
+    pub reader : DiffersByHandler l.reader next.reader
+
+  -- the first of those that wait has been taken back
+  pub record HasTakenBack (command : Command) (left : List Command) (l next : Link H) : Type 0 where
+    pub others : SameButController l next
+    pub session : next.controller.session ≡ l.controller.session
+    pub waiting : next.controller.waiting ≡ left
+    pub capacity : next.controller.capacity ≡ l.controller.capacity
+    pub account : TakesBack command l.account next.account
+
+  -- the controller has this address, and is as it was: closed, with the commands that wait
+  pub record HasAddress (here : ℕ) (l next : Link H) : Type 0 where
+    pub others : SameButController l next
+    pub address : next.controller.session.config.address ≡ here
+    pub config : next.controller.session.config ≡ record l.controller.session.config { address = here }
+    pub state : next.controller.session.state ≡ Closed
+    pub number : next.controller.session.number ≡ l.controller.session.number
+    pub greatest : next.controller.session.greatest ≡ l.controller.session.greatest
+    pub waiting : next.controller.waiting ≡ l.controller.waiting
+    pub capacity : next.controller.capacity ≡ l.controller.capacity
+    pub account : next.account ≡ l.account
+
+  -- the controller is new, and nobody is told of the session that it had
+  pub record HasNewController (config : ControllerConfig) (room : ℕ) (l next : Link H) : Type 0 where
+    pub others : SameButController l next
+    pub controller : IsNewController config room next.controller
+    pub account : Forgets (outstanding_command l.controller.session.state) l.controller.waiting l.account next.account
+
+  pub record SameButToReader (l next : Link H) : Type 0 where
+    pub controller : next.controller ≡ l.controller
+    pub reader : next.reader ≡ l.reader
+    pub to_controller : next.to_controller ≡ l.to_controller
+    pub account : next.account ≡ l.account
+    pub earlier : next.earlier ≡ l.earlier
+
+  pub record SameButToController (l next : Link H) : Type 0 where
+    pub controller : next.controller ≡ l.controller
+    pub reader : next.reader ≡ l.reader
+    pub to_reader : next.to_reader ≡ l.to_reader
+    pub account : next.account ≡ l.account
+    pub earlier : next.earlier ≡ l.earlier
+
+  -- how often the reader restarts
+  abbrev pub restarts_in : List (Move H) → ℕ
+  restarts_in [] = 0
+  restarts_in (RestartReader address handler room ∷ moves) = suc (restarts_in moves)
+  restarts_in (move ∷ moves) = restarts_in moves
+
+  module _ (answer_of : H → Command → Answer) (after : H → Command → H) where
+    -- a repeat of the last number is answered with what was stored, and no handler is asked; the next command that is taken, a POLL with an event
+    -- left out, is answered with this handler
+    pub record AnswersBy (handler : H) (old new : ReaderState H) : Type 0 where
+      pub again : (p : Packet) → kind_of old p ≡ Repeat
+          → ((hears answer_of after new p).reply ≡ old.stored) × ((hears answer_of after new p).command ≡ None)
+          × ((hears answer_of after new p).reader ≡ new)
+      pub next : (p : Packet) (command : Command) → kind_of old p ≡ Taken → command_in p ≡ Ok command → command ≢ Poll
+          → (hears answer_of after new p).said ≡ Some (answer_to answer_of after old.config handler command).reply
+
+    -- every number but 0 is refused, and nothing is acted on
+    abbrev pub RefusesNumbers : ReaderState H → Type 0
+    RefusesNumbers new = (p : Packet) → ComesTo new p → p.block ≡ false → p.sequence ≢ 0
+        → ((hears answer_of after new p).said ≡ Some (refused UnexpectedSequence)) × ((hears answer_of after new p).command ≡ None)
+        × ((hears answer_of after new p).reader ≡ new)
+
+    -- the reader is new, and what its queue held and it had not offered in the session is thrown away
+    pub record HasNewReader (address : ℕ) (handler : H) (room : ℕ) (l next : Link H) : Type 0 where
+      pub others : SameButReader l next
+      pub reader : IsNewReader address handler room l.reader next.reader
+      pub refuses : RefusesNumbers next.reader
+      pub account : (gone : List Event) → l.account.kept ≡ l.account.offered ++ gone → ThrowsAway gone l.account next.account
+
+    -- ---- what each does
+
+    abbrev pub SetsHandler : Type 0
+    SetsHandler = (l : Link H) (handler : H) → let next = after_move answer_of after (SetHandler handler) l in
+        HasHandler handler l next × AnswersBy handler l.reader next.reader
+
+    abbrev pub RestartsReader : Type 0
+    RestartsReader = (l : Link H) (address : ℕ) (handler : H) (room : ℕ)
+        → HasNewReader address handler room l (after_move answer_of after (RestartReader address handler room) l)
+
+    abbrev pub RestartsController : Type 0
+    RestartsController = (l : Link H) (config : ControllerConfig) (room : ℕ)
+        → HasNewController config room l (after_move answer_of after (RestartController config room) l)
+
+    -- where the controller is closed and a command waits, and only there
+    pub record Withdraws : Type 0 where
+      pub first : (l : Link H) (command : Command) (waiting : List Command) → l.controller.session.state ≡ Closed
+          → l.controller.waiting ≡ command ∷ waiting → HasTakenBack command waiting l (after_move answer_of after Withdraw l)
+      pub none : (l : Link H) → (l.controller.session.state ≢ Closed) ⊎ (l.controller.waiting ≡ []) → after_move answer_of after Withdraw l ≡ l
+
+    -- where the controller is closed and the address is a device's, and only there
+    pub record Retargets : Type 0 where
+      pub set : (l : Link H) (address : ℕ) → l.controller.session.state ≡ Closed → address < 127
+          → HasAddress address l (after_move answer_of after (Retarget address) l)
+      pub refused : (l : Link H) (address : ℕ) → (l.controller.session.state ≢ Closed) ⊎ (127 ≤ address)
+          → after_move answer_of after (Retarget address) l ≡ l
+
+    pub record Loses : Type 0 where
+      pub to_reader : (l : Link H) (place : ℕ) → let next = after_move answer_of after (LoseToReader place) l in
+          LosesOne place l.to_reader next.to_reader × SameButToReader l next
+      pub to_controller : (l : Link H) (place : ℕ) → let next = after_move answer_of after (LoseToController place) l in
+          LosesOne place l.to_controller next.to_controller × SameButToController l next
+
+    -- the account counts the restarts of the reader in its session: none where it begins, and one more with each as long as no other session
+    -- begins
+    pub record CountsRestarts : Type 0 where
+      pub none : (l : Link H) (now : ℕ) → let next = after_move answer_of after (Reopen now) l in
+          length next.earlier ≢ length l.earlier → next.account.restarts ≡ 0
+      pub each : (l : Link H) (moves : List (Move H)) → let last = run answer_of after moves l in
+          length last.earlier ≡ length l.earlier → last.account.restarts ≡ l.account.restarts + restarts_in moves
