@@ -53,7 +53,7 @@ was_closed (Waiting until k o) is = absurd cc
 was_closed (Pausing until o) is = absurd cc
 
 -- a controller that may be set to an address is closed, and that is a device's
-may_retarget : (address : ℕ) (state : State) → controllers.or_no_device (controllers.refused_unless_closed state) address ≡ None
+pub may_retarget : (address : ℕ) (state : State) → controllers.or_no_device (controllers.refused_unless_closed state) address ≡ None
     → (state ≡ Closed) × (address < 127)
 may_retarget address Closed is = (refl, by_test (ltb address 127) refl is)
   where

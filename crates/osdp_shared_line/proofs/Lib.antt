@@ -17,3 +17,5 @@ pub mod Noting
 pub mod Ruling
 pub mod Saying
 pub mod Ruled
+pub mod Restarting
+pub mod Doing

@@ -119,7 +119,7 @@ module _ {H : Type 0} (answer_of : H → Command → Answer) (after : H → Comm
   moves_more (m ∷ ms) more l first last = (first.0, moves_more ms more (after_move answer_of after m l) first.1 last)
 
   module _ (reads : ReadsWhatIsAsked) where
-    is_its_link : (moves : List (NetMove H)) (n : Net H) → NetMovesFit answer_of after moves n → Apart n
+    pub is_its_link : (moves : List (NetMove H)) (n : Net H) → NetMovesFit answer_of after moves n → Apart n
         → (k : ℕ) (s : Site H) → site_at k n.sites ≡ Some s → IsItsLink answer_of after k s moves n
     is_its_link [] n fits a k s is = record { moved = record { site = s; there = is; moved = refl }; fits = tt }
     is_its_link (move ∷ moves) n fits a k s is =

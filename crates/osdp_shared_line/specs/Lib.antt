@@ -4,3 +4,5 @@ pub mod Addresses
 pub mod Runs
 pub mod Progress
 pub mod Programs
+pub mod Restarts
+pub mod Effects

@@ -6,9 +6,11 @@ ghost use Rattle.osdp_shared_line.specs.Addresses.{NobodyElseHears, NoTwoAreToge
 ghost use Rattle.osdp_shared_line.specs.Runs.{EachIsALink};
 ghost use Rattle.osdp_shared_line.specs.Views.{EachMoveIsItsOwn};
 
+pub mod effects;
 pub mod programs;
 pub mod progress;
 pub mod promises;
+pub mod restarts;
 
 use osdp_reader::Handler;
 

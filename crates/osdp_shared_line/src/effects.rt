@@ -1,0 +1,25 @@
+//! What each move of a program or of a power failure does to the site that it speaks of, and that it changes no other. The functions do
+//! nothing: their contracts are laws.
+
+ghost use Rattle.osdp_shared_line.specs.Effects.{ChangesNoOther, EachRestartsPanel, EachRestartsReader, EachRetargets, EachSetsHandler, EachWithdraws};
+
+use osdp_reader::Handler;
+
+/// Where nobody else hears what a site says, each of these moves does to the site that it speaks of what it does to a link: another handler, a
+/// command that is withdrawn, an address that is set, a restart of a reader, and one of the panel, which makes every controller new.
+///
+/// A call, a loss to a reader or a restart of a reader changes no other site.
+pub fn each_move_does_as_on_a_link<H: Handler>()
+    ensures handler { EachSetsHandler H.answer_of H.after }
+    ensures withdraws { EachWithdraws H.answer_of H.after }
+    ensures retargets { EachRetargets H.answer_of H.after }
+    ensures reader { EachRestartsReader H.answer_of H.after }
+    ensures panel { EachRestartsPanel H.answer_of H.after }
+    ensures others { ChangesNoOther H.answer_of H.after }
+{
+    osdp_link_laws::effects::set_handler_answers_next::<H>();
+    osdp_link_laws::effects::withdraw_takes_the_oldest_back::<H>();
+    osdp_link_laws::effects::retarget_sets_the_address::<H>();
+    osdp_link_laws::effects::restarted_reader_is_new::<H>();
+    osdp_link_laws::effects::restarted_controller_is_new::<H>();
+}
