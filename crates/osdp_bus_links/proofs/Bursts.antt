@@ -18,8 +18,8 @@ use Rattle.osdp_bus.proofs.Runs.{hears_items-append}
 use Rattle.osdp_link_laws.specs.Peers.{IsPlainlySaid}
 use Rattle.osdp_link_laws.proofs.Lines.{each_of}
 use Rattle.osdp_link_laws.proofs.Reports.{heard_so}
-use Rattle.osdp_multidrop.specs.Line as line
-use Rattle.osdp_multidrop.specs.Line.{Site, changed, first_gets, gets, site_at}
+use Rattle.osdp_shared_line.specs.Line as line
+use Rattle.osdp_shared_line.specs.Line.{Site, changed, first_gets, gets, site_at}
 use Rattle.osdp_bus_links.specs.Links.{HearsAsAMove, IsHeard, IsNoRefusalOf, TellsEach, device_of, heard}
 use Rattle.osdp_bus_links.proofs.Devices.{freed_same, get_device, set_device}
 use Rattle.osdp_bus_links.proofs.Telling.{EndsAreTold, refuses_none, told_nothing, told_one}
@@ -110,7 +110,7 @@ module _ {H : Type 0} (ends : EndsAreTold) where
 
   record Hears (Plain : Type 0) (ds : Devices) (ss next : List (Site H)) : Type 0 where
     entries : ds.entries ≡ map device_of next
-    told : TellsEach ds.report ss next
+    told : TellsEach ds.report [] ss next
     plain : Plain → IsNoRefusalOf ds.report
 
   packet_heard : (p : Packet) (now : ℕ) (ds : Devices) (ss : List (Site H)) → ds.entries ≡ map device_of ss → ds.report ≡ None
@@ -121,7 +121,7 @@ module _ {H : Type 0} (ends : EndsAreTold) where
             subst (λ o. Hears (IsPlainlySaid p) (hears_at p now o ds) ss (first_gets p now ss)) (sym (ap (first_from 0 (is_at p.address)) entries ∙ none.0))
             (subst (Hears (IsPlainlySaid p) ds ss) (sym none.1) (record {
               entries = entries;
-              told = subst (λ o. TellsEach o ss ss) (sym report) (told_nothing ss);
+              told = subst (λ o. TellsEach o [] ss ss) (sym report) (told_nothing ss);
               plain = λ said. subst IsNoRefusalOf (sym report) tt;
             }))
         | inr (k, s, some, is, got) ↦
@@ -133,9 +133,10 @@ module _ {H : Type 0} (ends : EndsAreTold) where
                   ∙ ap (λ r. slice_set (map device_of ss) k (record { controller = controllers.after_frame p now s.controller; reserved = r }))
                   (freed_same (devices.told_of p now (device_of s)) s.reserved)
                   ∙ set_device k (gets p now s) ss;
-              told = subst (λ o. TellsEach (waiting_after k (devices.told_of p now (device_of s)) o) ss (changed k (gets p now s) ss)) (sym report)
+              told = subst (λ o. TellsEach (waiting_after k (devices.told_of p now (device_of s)) o) [] ss (changed k (gets p now s) ss)) (sym report)
                   (told_one k (devices.told_of p now (device_of s)) s (gets p now s) ss is (record {
                     reader = refl;
+                    coming = sym (append-nil s.coming);
                     account = refl;
                     earlier = refl;
                     closes = (ends now s.controller.session).closed_by_frame p;
@@ -156,7 +157,7 @@ module _ {H : Type 0} (ends : EndsAreTold) where
         (subst (λ ds. Hears (All IsPlainlySaid (packets_in bytes)) ds ss ss)
         (sym (run_heard law b now bytes fits h.held ∙ none_heard (max b.greatest now) (reading bytes) b.devices none)) (record {
           entries = h.entries;
-          told = subst (λ o. TellsEach o ss ss) (sym h.report) (told_nothing ss);
+          told = subst (λ o. TellsEach o [] ss ss) (sym h.report) (told_nothing ss);
           plain = λ said. subst IsNoRefusalOf (sym h.report) tt;
         })),
     λ p one.

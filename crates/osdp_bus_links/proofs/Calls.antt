@@ -1,5 +1,5 @@
 -- The calls of a bus's user, as moves of the links.
-use Rattle.std.proofs.Common.{◌≡◌, ◌||◌, ℕ, max, Bool, true, false, cond, List, [], map, Option, Some, None, refl, sym, subst, ap, ◌∙◌}
+use Rattle.std.proofs.Common.{◌≡◌, ◌||◌, ℕ, max, not, Bool, true, false, cond, List, [], map, Option, Some, None, refl, sym, subst, ap, ◌∙◌}
 use Rattle.std.specs.Prelude.{slice_get, slice_set, is_some}
 use Rattle.std.specs.Option.{option_map, option_map_or}
 use Rattle.osdp_msg.specs.declared.command.Command.{Command}
@@ -14,8 +14,9 @@ use Rattle.osdp_bus.specs.Machine as bus
 use Rattle.osdp_bus.specs.Machine.{after_begin_at, after_submit_at, begin_refusal_at, begin_refusal_of, bus_fault, submit_refusal_at, submit_refusal_of}
 use Rattle.osdp_bus.specs.declared.fault.BusFault.TheVariants.{AddressTaken}
 use Rattle.osdp_bus.specs.declared.device.Device.{Device}
-use Rattle.osdp_multidrop.specs.Line as line
-use Rattle.osdp_multidrop.specs.Line.{Net, Reopen, Site, Submit, after_net, changed, site_at, submits}
+use Rattle.osdp_link_laws.specs.Link as link
+use Rattle.osdp_shared_line.specs.Line as line
+use Rattle.osdp_shared_line.specs.Line.{Net, Reopen, Site, Submit, after_net, asked_for, changed, keeping, left_by, link_of, reserved_unless, site_at, submits}
 use Rattle.osdp_bus_links.specs.Links.{BeginsAsAMove, IsBusOf, IsSubmitted, SubmitsAsAMove, device_of}
 use Rattle.osdp_bus_links.proofs.Devices.{asked_same, beside_same, changed_same, get_device, get_none, set_device}
 
@@ -56,10 +57,16 @@ module _ {H : Type 0} where
 module _ {H : Type 0} (answer_of : H → Command → Answer) (after : H → Command → H) where
   -- ---- a command
 
+  -- what a command does to a site whose controller refuses it so
+  abbrev submits_by : Option ControllerFault → Command → Site H → Site H
+  submits_by fault c s =
+      keeping (reserved_unless fault (asked_for (comset_of c) s.reserved) s.reserved) (left_by s (link.submits fault c (link_of s [] [])))
+
   submitted : (o : Option (Site H)) (b : BusState) (n : Net H) (k : ℕ) (c : Command) → IsBusOf b n.sites → site_at k n.sites ≡ o
       → IsSubmitted answer_of after (submit_refusal_at k c b) k c b n
   submitted None b n k c h is =
-      subst (λ d. IsSubmitted answer_of after (submit_refusal_of k c d b) k c b n) (sym (nobody b n.sites k h is)) (ap (λ o. line.submit_at k c o n) is)
+      subst (λ d. IsSubmitted answer_of after (submit_refusal_of k c d b) k c b n) (sym (nobody b n.sites k h is))
+      (ap (λ o. line.change_unless (λ s. line.is_comset_refused k (comset_of c) s n.sites) k o (submits answer_of after c) n) is)
   submitted (Some s) b n k c h is =
       subst (λ d. IsSubmitted answer_of after (submit_refusal_of k c d b) k c b n) (sym (there b n.sites k s h is))
       (by_test (bus.is_comset_refused (comset_of c) k (device_of s) b) (sym (refused_same (comset_of c) k s n.sites b h.entries)))
@@ -67,45 +74,54 @@ module _ {H : Type 0} (answer_of : H → Command → Answer) (after : H → Comm
       fault : Option ControllerFault
       fault = controllers.submit_refusal c s.controller
 
-      by_fault : (f : Option ControllerFault) → after_net answer_of after (Submit k c) n ≡ record n { sites = changed k (submits f c s) n.sites }
+      changes : after_net answer_of after (Submit k c) n
+          ≡ cond (line.is_comset_refused k (comset_of c) s n.sites) n (record n { sites = changed k (submits answer_of after c s) n.sites })
+      changes = ap (λ o. line.change_unless (λ t. line.is_comset_refused k (comset_of c) t n.sites) k o (submits answer_of after c) n) is
+
+      by_fault : (f : Option ControllerFault) → controllers.submit_refusal c s.controller ≡ f → line.is_comset_refused k (comset_of c) s n.sites ≡ false
+          → after_net answer_of after (Submit k c) n ≡ record n { sites = changed k (submits_by f c s) n.sites }
           → IsSubmitted answer_of after (option_map bus_fault f) k c b n
-      by_fault (Some f) same = same ∙ ap (λ ss. record n { sites = ss }) (changed_same k s n.sites is)
-      by_fault None same = (
+      by_fault (Some f) faults test same = same ∙ ap (λ ss. record n { sites = ss }) (changed_same k s n.sites is)
+      by_fault None faults test same = (
         subst (λ (m : Net H). IsBusOf (after_submit_at k c b) m.sites) (sym same)
-            (one_changed b n.sites k s (submits None c s) (bus.device_submits c) h is
+            (one_changed b n.sites k s (submits_by None c s) (bus.device_submits c) h is
             (ap (λ r. record { controller = controllers.after_submit c s.controller; reserved = r }) (asked_same (comset_of c) s.reserved))),
-        (s, is, same),
+        (
+          s,
+          is,
+          ap (λ t. not (t || is_some (controllers.submit_refusal c s.controller))) test ∙ ap (λ f. not (is_some f)) faults,
+          same ∙ ap (λ f. record n { sites = changed k (submits_by f c s) n.sites }) (sym faults),
+        ),
       )
 
       by_test : (refused : Bool) → line.is_comset_refused k (comset_of c) s n.sites ≡ refused
           → IsSubmitted answer_of after (cond refused (Some AddressTaken) (option_map bus_fault fault)) k c b n
-      by_test true test =
-          ap (λ o. line.submit_at k c o n) is ∙ ap (λ t. cond t n (record n { sites = changed k (submits fault c s) n.sites })) test
-      by_test false test = by_fault fault
-          (ap (λ o. line.submit_at k c o n) is ∙ ap (λ t. cond t n (record n { sites = changed k (submits fault c s) n.sites })) test)
+      by_test true test = changes ∙ ap (λ t. cond t n (record n { sites = changed k (submits answer_of after c s) n.sites })) test
+      by_test false test =
+          by_fault fault refl test (changes ∙ ap (λ t. cond t n (record n { sites = changed k (submits answer_of after c s) n.sites })) test)
 
   pub submits_as_a_move : SubmitsAsAMove answer_of after
   submits_as_a_move b n k c h = submitted (site_at k n.sites) b n k c h refl
 
   -- ---- a session
 
-  begun : (o : Option (Site H)) (b : BusState) (n : Net H) (k now : ℕ) → IsBusOf b n.sites → n.to_readers ≡ [] → n.to_controllers ≡ []
-      → begin_refusal_at k b ≡ None → site_at k n.sites ≡ o
+  abbrev begins_by : Option ControllerFault → ℕ → Site H → Site H
+  begins_by fault now s = left_by s (link.reopens fault [] [] now (link_of s [] []))
+
+  begun : (o : Option (Site H)) (b : BusState) (n : Net H) (k now : ℕ) → IsBusOf b n.sites → begin_refusal_at k b ≡ None → site_at k n.sites ≡ o
       → IsBusOf (after_begin_at k now b) (after_net answer_of after (Reopen k (max b.greatest now)) n).sites
-  begun None b n k now h to_readers to_controllers well is =
+  begun None b n k now h well is =
       absurd (let refused : begin_refusal_of None ≡ None = subst (λ d. begin_refusal_of d ≡ None) (nobody b n.sites k h is) well in cc)
-  begun (Some s) b n k now h to_readers to_controllers well is =
+  begun (Some s) b n k now h well is =
       let g = max b.greatest now in
       let none : controllers.begin_refusal s.controller ≡ None =
       some_fault (controllers.begin_refusal s.controller) (subst (λ d. begin_refusal_of d ≡ None) (there b n.sites k s h is) well) in
-      let same : after_net answer_of after (Reopen k g) n ≡ record n { sites = changed k (line.begins g s) n.sites } =
-      ap (λ o. line.reopen_at k g o n.to_readers n.to_controllers n) is
-      ∙ ap (λ ps. line.reopen_at k g (Some s) ps n.to_controllers n) to_readers
-      ∙ ap (λ qs. line.reopen_at k g (Some s) [] qs n) to_controllers
-      ∙ ap (λ f. line.reopen_unless f k g s n) none in
+      let same : after_net answer_of after (Reopen k g) n ≡ record n { sites = changed k (begins_by None g s) n.sites } =
+      ap (λ o. line.change_at k o (line.calls answer_of after (link.Reopen g)) n) is
+      ∙ ap (λ f. record n { sites = changed k (begins_by f g s) n.sites }) none in
       subst (λ (m : Net H). IsBusOf (after_begin_at k now b) m.sites) (sym same)
-      (one_changed (seen now b) n.sites k s (line.begins g s) (bus.device_begins g)
+      (one_changed (seen now b) n.sites k s (begins_by None g s) (bus.device_begins g)
       (record { entries = h.entries; held = h.held; report = h.report }) is refl)
 
   pub begins_as_a_move : BeginsAsAMove answer_of after
-  begins_as_a_move b n k now h to_readers to_controllers well = begun (site_at k n.sites) b n k now h to_readers to_controllers well refl
+  begins_as_a_move b n k now h well = begun (site_at k n.sites) b n k now h well refl

@@ -4,15 +4,13 @@ use Rattle.std.specs.Prelude.{slice_get, slice_set}
 use Rattle.osdp_msg.specs.declared.command.Command.{Command}
 use Rattle.osdp_msg.specs.declared.command.Command.TheVariants as command
 use Rattle.osdp_msg.specs.declared.command_fields.Communication.{Communication}
-use Rattle.osdp_controller.specs.Hearing.{comset_of}
 use Rattle.osdp_controller.specs.declared.report.Report.{Report}
 use Rattle.osdp_controller.specs.declared.report.Report.TheVariants as report
 use Rattle.osdp_bus.specs.Buses.{BusState}
 use Rattle.osdp_bus.specs.Devices as devices
 use Rattle.osdp_bus.specs.Devices.{freed_with, reserved_after, reserved_for}
-use Rattle.osdp_multidrop.specs.Names.{asked_for, freed_by, freed_for}
-use Rattle.osdp_multidrop.specs.Line as line
-use Rattle.osdp_multidrop.specs.Line.{Site, changed, site_at}
+use Rattle.osdp_shared_line.specs.Line as line
+use Rattle.osdp_shared_line.specs.Line.{Site, asked_for, changed, freed_by, freed_for, site_at}
 use Rattle.osdp_bus_links.specs.Links.{IsBusOf, device_of}
 
 or_assoc : (a b c : Bool) → (a || b) || c ≡ a || (b || c)
@@ -66,7 +64,7 @@ pub asked_same : (o : Option Communication) (r : Option ℕ) → reserved_for o 
 asked_same None r = refl
 asked_same (Some d) r = refl
 
-done_same : (c : Command) (r : Option ℕ) → freed_with c r ≡ freed_for (comset_of c) r
+done_same : (c : Command) (r : Option ℕ) → freed_with c r ≡ freed_for c r
 done_same (command.Comset d) r = refl
 done_same _ r = refl
 

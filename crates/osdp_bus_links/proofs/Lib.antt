@@ -3,3 +3,13 @@ pub mod Calls
 pub mod Telling
 pub mod Ticks
 pub mod Bursts
+pub mod Names
+pub mod Reserved
+pub mod ControllerNames
+pub mod ReaderNames
+pub mod Naming
+pub mod Leading
+pub mod Linked
+pub mod Keeping
+pub mod Sufficing
+pub mod Sited

@@ -1,5 +1,7 @@
 -- Which site is told the report that waits, and that its session ends exactly where that is told.
-use Rattle.std.proofs.Common.{◌≡◌, ◌≢◌, ◌||◌, ◌<◌, ◌+◌, ℕ, zero, suc, Bool, true, false, cond, List, [], ◌∷◌, Option, Some, None, refl, sym, subst, ap, arith}
+use Rattle.std.proofs.Common.{◌≡◌, ◌≢◌, ◌||◌, ◌<◌, ◌+◌, ℕ, zero, suc, Bool, true, false, cond, List, [], ◌∷◌, ◌++◌, map, Option, Some, None, refl, sym, subst, ap, ◌∙◌, arith}
+use Rattle.std.proofs.lemmas.List.{append-nil}
+use Rattle.osdp_frame.specs.Packet.{Packet}
 use Rattle.osdp_controller.specs.States.{is_closed}
 use Rattle.osdp_controller.specs.declared.report.Report.{Report}
 use Rattle.osdp_controller.specs.declared.session.Session.{Session}
@@ -8,8 +10,8 @@ use Rattle.osdp_bus.specs.Buses.{waiting_after}
 use Rattle.osdp_link_laws.proofs.Numbers.{is_false, is_true}
 use Rattle.osdp_link_laws.proofs.Refusals.{refuses_none as none_refused}
 use Rattle.osdp_link_laws.proofs.Reports.{MayBring}
-use Rattle.osdp_multidrop.specs.Line.{Site, changed, site_at}
-use Rattle.osdp_multidrop.proofs.Changing.{some_same}
+use Rattle.osdp_shared_line.specs.Line.{Site, changed, is_told, site_at}
+use Rattle.osdp_shared_line.proofs.Sites.{some_same}
 use Rattle.osdp_bus_links.specs.Links.{IsNoRefusalOf, IsTold, TellsEach, TellsFrom, report_for}
 
 -- ---- ends
@@ -37,38 +39,68 @@ or_false true = refl
 or_false false = refl
 
 module _ {H : Type 0} where
-  none_told : (s : Site H) → IsTold None s s
-  none_told s = record { reader = refl; account = refl; earlier = refl; closes = or_false (is_closed s.controller.session.state); once = λ is. refl }
+  -- nothing is said
+  none_told : (s : Site H) → IsTold None [] s s
+  none_told s = record {
+    reader = refl;
+    coming = sym (append-nil s.coming);
+    account = refl;
+    earlier = refl;
+    closes = or_false (is_closed s.controller.session.state);
+    once = λ is. refl;
+  }
 
-  nothing_from : (k : ℕ) (ss : List (Site H)) → TellsFrom k None ss ss
+  nothing_from : (k : ℕ) (ss : List (Site H)) → TellsFrom k None [] ss ss
   nothing_from k [] = tt
   nothing_from k (s ∷ ss) = (none_told s, nothing_from (suc k) ss)
 
-  pub told_nothing : (ss : List (Site H)) → TellsEach None ss ss
+  pub told_nothing : (ss : List (Site H)) → TellsEach None [] ss ss
   told_nothing ss = nothing_from 0 ss
 
   -- those after the one that is told
-  rest_from : (k entry : ℕ) (r : Option Report) (ss : List (Site H)) → entry < k → TellsFrom k (waiting_after entry r None) ss ss
+  rest_from : (k entry : ℕ) (r : Option Report) (ss : List (Site H)) → entry < k → TellsFrom k (waiting_after entry r None) [] ss ss
   rest_from k entry r [] lt = tt
   rest_from k entry r (s ∷ ss) lt = (
-    subst (λ o. IsTold o s s) (sym (for_others k entry r (λ e. absurd (omega (arith, lt, e))))) (none_told s),
+    subst (λ o. IsTold o [] s s) (sym (for_others k entry r (λ e. absurd (omega (arith, lt, e))))) (none_told s),
     rest_from (suc k) entry r ss (omega (arith, lt)),
   )
 
-  one_from : (k i entry : ℕ) (r : Option Report) (s t : Site H) (ss : List (Site H)) → entry ≡ k + i → site_at i ss ≡ Some s → IsTold r s t
-      → TellsFrom k (waiting_after entry r None) ss (changed i t ss)
+  one_from : (k i entry : ℕ) (r : Option Report) (s t : Site H) (ss : List (Site H)) → entry ≡ k + i → site_at i ss ≡ Some s → IsTold r [] s t
+      → TellsFrom k (waiting_after entry r None) [] ss (changed i t ss)
   one_from k i entry r s t [] at is told = absurd cc
   one_from k zero entry r s t (u ∷ ss) at is told =
       let here : k ≡ entry = omega (arith, at) in (
-        subst (λ o. IsTold o u t) (sym (for_entry k entry r here)) (subst (λ v. IsTold r v t) (some_same s u (sym is)) told),
+        subst (λ o. IsTold o [] u t) (sym (for_entry k entry r here)) (subst (λ v. IsTold r [] v t) (some_same s u (sym is)) told),
         rest_from (suc k) entry r ss (omega (arith, at)),
       )
   one_from k (suc i) entry r s t (u ∷ ss) at is told = (
-    subst (λ o. IsTold o u u) (sym (for_others k entry r (λ e. absurd (omega (arith, at, e))))) (none_told u),
+    subst (λ o. IsTold o [] u u) (sym (for_others k entry r (λ e. absurd (omega (arith, at, e))))) (none_told u),
     one_from (suc k) i entry r s t ss (omega (arith, at)) is told,
   )
 
   -- one site is told
-  pub told_one : (entry : ℕ) (r : Option Report) (s t : Site H) (ss : List (Site H)) → site_at entry ss ≡ Some s → IsTold r s t
-      → TellsEach (waiting_after entry r None) ss (changed entry t ss)
+  pub told_one : (entry : ℕ) (r : Option Report) (s t : Site H) (ss : List (Site H)) → site_at entry ss ≡ Some s → IsTold r [] s t
+      → TellsEach (waiting_after entry r None) [] ss (changed entry t ss)
   told_one entry r s t ss at is = one_from 0 entry entry r s t ss (omega arith) at is
+
+  -- .. and something is said to all of them
+  said_to : (said : List (ℕ × Packet)) (r : Option Report) (s t : Site H) → IsTold r [] s t → IsTold r said s (is_told said t)
+  said_to said r s t is = record {
+    reader = is.reader;
+    coming = ap (λ ps. ps ++ said) (is.coming ∙ append-nil s.coming);
+    account = is.account;
+    earlier = is.earlier;
+    closes = is.closes;
+    once = is.once;
+  }
+
+  said_from : (k : ℕ) (r : Option (ℕ × Report)) (said : List (ℕ × Packet)) (ss ts : List (Site H)) → TellsFrom k r [] ss ts
+      → TellsFrom k r said ss (map (is_told said) ts)
+  said_from k r said [] [] told = tt
+  said_from k r said [] (t ∷ ts) told = absurd told
+  said_from k r said (s ∷ ss) [] told = absurd told
+  said_from k r said (s ∷ ss) (t ∷ ts) told = (said_to said (report_for k r) s t told.0, said_from (suc k) r said ss ts told.1)
+
+  pub said_to_each : (r : Option (ℕ × Report)) (said : List (ℕ × Packet)) (ss ts : List (Site H)) → TellsEach r [] ss ts
+      → TellsEach r said ss (map (is_told said) ts)
+  said_to_each r said ss ts told = said_from 0 r said ss ts told

@@ -8,18 +8,18 @@ use Rattle.osdp_controller.specs.States.{is_closed}
 use Rattle.osdp_controller.specs.declared.report.Report.{Report}
 use Rattle.osdp_controller_laws.specs.Commands.{tells_end}
 use Rattle.osdp_reader.specs.declared.handler.Answer.{Answer}
-use Rattle.osdp_bus.specs.Buses.{BusState}
+use Rattle.osdp_bus.specs.Buses.{BusState, holder, seen}
 use Rattle.osdp_bus.specs.Hearing.{after_bytes, after_silence}
 use Rattle.osdp_bus.specs.Machine.{after_begin_at, after_next_report, after_submit_at, begin_refusal_at, submit_refusal_at}
-use Rattle.osdp_bus.specs.Ticking.{bus_ticks}
+use Rattle.osdp_bus.specs.Ticking.{asks_free, asks_holder, bus_ticks, is_due_at}
 use Rattle.osdp_bus.specs.declared.device.Device.{Device}
 use Rattle.osdp_bus.specs.declared.fault.BusFault.{BusFault}
 use Rattle.osdp_link_laws.specs.Link.{after_report}
 use Rattle.osdp_link_laws.specs.Peers.{IsPlainlySaid}
 use Rattle.osdp_link_laws.specs.Refusals.{IsNoRefusal}
-use Rattle.osdp_multidrop.specs.Line.{Net, NetMove, Reopen, Site, Submit, Tick, after_net, changed, first_gets, run, site_at, submits}
+use Rattle.osdp_shared_line.specs.Line.{Net, NetMove, Reopen, Site, Submit, Tick, after_net, changed, first_gets, is_command_accepted, run, site_at, submits}
 
--- the packets on the line, whoever sent them
+-- the packets among these, whoever said them
 abbrev pub packets_on : List (ℕ × Packet) → List Packet
 packets_on ps = map (λ (p : ℕ × Packet). p.1) ps
 
@@ -33,17 +33,30 @@ abbrev pub IsNoRefusalOf : Option (ℕ × Report) → Type 0
 IsNoRefusalOf None = Unit {0}
 IsNoRefusalOf (Some (entry, report)) = IsNoRefusal report
 
--- at this moment one controller ticks, or none
-abbrev pub IsTickAt : ℕ → List NetMove → Type 0
-IsTickAt now [] = Unit {0}
-IsTickAt now (Tick k at ∷ []) = at ≡ now
-IsTickAt now _ = ⊥
+-- ---- who ticks
+
+-- the one that holds the line, where it is due; where nobody holds it, the first in turn that is due; and none while a report waits
+abbrev pub due_by : Option ℕ → BusState → Option ℕ
+due_by None b = asks_free None (λ entry. entry) b
+due_by (Some entry) b = if is_due_at entry b then asks_holder None (λ asked. asked) entry b else None
+
+-- the entry whose controller ticks in a tick of a bus that holds no bytes
+abbrev pub who_ticks : ℕ → BusState → Option ℕ
+who_ticks now b = due_by (holder (seen now b)) (seen now b)
 
 -- a run of bytes comes to the bus, and is over
 abbrev pub heard : List ℕ → ℕ → BusState → BusState
 heard bytes now b = after_silence now (after_bytes bytes now b)
 
 module _ {H : Type 0} where
+  -- one controller ticks, at the greatest moment seen, or none
+  abbrev pub one_ticks : Option ℕ → ℕ → List (NetMove H)
+  one_ticks None now = []
+  one_ticks (Some entry) now = Tick entry now ∷ []
+
+  abbrev pub tick_moves : ℕ → BusState → List (NetMove H)
+  tick_moves now b = one_ticks (who_ticks now b) (max b.greatest now)
+
   abbrev pub device_of : Site H → Device
   device_of s = record { controller = s.controller; reserved = s.reserved }
 
@@ -53,31 +66,32 @@ module _ {H : Type 0} where
     pub held : b.held ≡ []
     pub report : b.devices.report ≡ None
 
-  -- the reader stays as it is, and the account is told the report; the session ends exactly where that is told
-  pub record IsTold (report : Option Report) (s t : Site H) : Type 0 where
+  -- the reader stays as it is, more is said to it, and the account is told the report; the session ends exactly where that is told
+  pub record IsTold (report : Option Report) (said : List (ℕ × Packet)) (s t : Site H) : Type 0 where
     pub reader : t.reader ≡ s.reader
+    pub coming : t.coming ≡ s.coming ++ said
     pub account : t.account ≡ after_report report s.account
     pub earlier : t.earlier ≡ s.earlier
     pub closes : is_closed t.controller.session.state ≡ (is_closed s.controller.session.state || tells_end report)
     pub once : is_closed s.controller.session.state ≡ true → tells_end report ≡ false
 
-  -- each of these sites, the first of them at this place, that of its own
-  abbrev pub TellsFrom : ℕ → Option (ℕ × Report) → List (Site H) → List (Site H) → Type 0
-  TellsFrom k report [] [] = Unit {0}
-  TellsFrom k report (s ∷ ss) (t ∷ ts) = IsTold (report_for k report) s t × TellsFrom (suc k) report ss ts
-  TellsFrom k report _ _ = ⊥
+  -- to each of these sites, the first of them at this place, the same is said, and each is told what is its own
+  abbrev pub TellsFrom : ℕ → Option (ℕ × Report) → List (ℕ × Packet) → List (Site H) → List (Site H) → Type 0
+  TellsFrom k report said [] [] = Unit {0}
+  TellsFrom k report said (s ∷ ss) (t ∷ ts) = IsTold (report_for k report) said s t × TellsFrom (suc k) report said ss ts
+  TellsFrom k report said _ _ = ⊥
 
-  abbrev pub TellsEach : Option (ℕ × Report) → List (Site H) → List (Site H) → Type 0
-  TellsEach report ss next = TellsFrom 0 report ss next
+  abbrev pub TellsEach : Option (ℕ × Report) → List (ℕ × Packet) → List (Site H) → List (Site H) → Type 0
+  TellsEach report said ss next = TellsFrom 0 report said ss next
 
   module _ (answer_of : H → Command → Answer) (after : H → Command → H) where
-    -- a command that the bus refuses is none for its site; one that it accepts is issued there
+    -- a command that the bus refuses changes no site; one that it accepts its controller accepts too, and it is issued there
     abbrev pub IsSubmitted : Option BusFault → ℕ → Command → BusState → Net H → Type 0
     IsSubmitted (Some fault) k command b n = after_net answer_of after (Submit k command) n ≡ n
     IsSubmitted None k command b n =
         IsBusOf (after_submit_at k command b) (after_net answer_of after (Submit k command) n).sites
-        × ((s : Site H) × (site_at k n.sites ≡ Some s)
-        × (after_net answer_of after (Submit k command) n ≡ record n { sites = changed k (submits None command s) n.sites }))
+        × ((s : Site H) × (site_at k n.sites ≡ Some s) × (is_command_accepted k command s n.sites ≡ true)
+        × (after_net answer_of after (Submit k command) n ≡ record n { sites = changed k (submits answer_of after command s) n.sites }))
 
     abbrev pub SubmitsAsAMove : Type 0
     SubmitsAsAMove = (b : BusState) (n : Net H) (k : ℕ) (command : Command) → IsBusOf b n.sites
@@ -85,25 +99,25 @@ module _ {H : Type 0} where
 
     -- a session that the bus begins is one of its site
     abbrev pub BeginsAsAMove : Type 0
-    BeginsAsAMove = (b : BusState) (n : Net H) (k now : ℕ) → IsBusOf b n.sites → n.to_readers ≡ [] → n.to_controllers ≡ []
-        → begin_refusal_at k b ≡ None → IsBusOf (after_begin_at k now b) (after_net answer_of after (Reopen k (max b.greatest now)) n).sites
+    BeginsAsAMove = (b : BusState) (n : Net H) (k now : ℕ) → IsBusOf b n.sites → begin_refusal_at k b ≡ None
+        → IsBusOf (after_begin_at k now b) (after_net answer_of after (Reopen k (max b.greatest now)) n).sites
 
-    -- a tick of the bus is one of one of its controllers, or none: it sends what the bus sends, and tells what waits to be told then
-    pub record IsTicked (b : BusState) (now : ℕ) (moves : List NetMove) (n : Net H) : Type 0 where
-      pub tick : IsTickAt (max b.greatest now) moves
-      pub bus : IsBusOf (after_next_report (bus_ticks now b).bus) (run answer_of after moves n).sites
-      pub sent : packets_on (run answer_of after moves n).to_readers ≡ packets_on n.to_readers ++ option_to_list (bus_ticks now b).sent
-      pub back : (run answer_of after moves n).to_controllers ≡ n.to_controllers
-      pub told : TellsEach (bus_ticks now b).bus.devices.report n.sites (run answer_of after moves n).sites
+    -- a tick of the bus: what one of its controllers sends the bus sends, to every reader, and what it tells waits to be told then
+    pub record IsTicked (b : BusState) (now : ℕ) (n next : Net H) : Type 0 where
+      pub bus : IsBusOf (after_next_report (bus_ticks now b).bus) next.sites
+      pub said : List (ℕ × Packet)
+      pub sent : packets_on said ≡ option_to_list (bus_ticks now b).sent
+      pub told : TellsEach (bus_ticks now b).bus.devices.report said n.sites next.sites
+      pub back : next.to_panel ≡ n.to_panel
       pub plain : IsNoRefusalOf (bus_ticks now b).bus.devices.report
 
     abbrev pub TicksAsAMove : Type 0
-    TicksAsAMove = (b : BusState) (n : Net H) (now : ℕ) → IsBusOf b n.sites → (moves : List NetMove) × IsTicked b now moves n
+    TicksAsAMove = (b : BusState) (n : Net H) (now : ℕ) → IsBusOf b n.sites → IsTicked b now n (run answer_of after (tick_moves now b) n)
 
-  -- one that holds a packet is heard by the first controller at its address, and one that holds none by nobody
+  -- a run that holds a packet is heard by the first controller at its address, and one that holds none by nobody; nothing is said then
   pub record IsHeard (b : BusState) (now : ℕ) (bytes : List ℕ) (ss next : List (Site H)) : Type 0 where
     pub bus : IsBusOf (after_next_report (heard bytes now b)) next
-    pub told : TellsEach (heard bytes now b).devices.report ss next
+    pub told : TellsEach (heard bytes now b).devices.report [] ss next
     pub plain : All IsPlainlySaid (packets_in bytes) → IsNoRefusalOf (heard bytes now b).devices.report
 
 abbrev pub HearsAsAMove : Type 0 → Type 0

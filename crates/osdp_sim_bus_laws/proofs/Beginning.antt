@@ -1,5 +1,5 @@
 -- The line on which the first sessions of a bus's readers begin, as sites: it is set up, and the simulation begins as these.
-use Rattle.std.proofs.Common.{◌≡◌, ◌≢◌, ◌<◌, ◌&&◌, ◌||◌, not, ℕ, zero, suc, Bool, true, false, List, [], ◌∷◌, length, map, Some, None, refl, sym, subst, ap, ◌∙◌, arith}
+use Rattle.std.proofs.Common.{◌≡◌, ◌≢◌, ◌<◌, ◌&&◌, ◌||◌, not, ℕ, zero, suc, Bool, true, false, All, List, [], ◌∷◌, length, map, Some, None, refl, sym, subst, ap, ◌∙◌, arith}
 use Rattle.std.proofs.lemmas.Bool.{leb-true}
 use Rattle.std.specs.Prelude.{nat_le, slice_get}
 use Rattle.std.specs.List.{list_all, list_any}
@@ -7,18 +7,21 @@ use Rattle.osdp_reader.specs.State.{new_reader}
 use Rattle.osdp_bus.specs.Machine.{most_devices}
 use Rattle.osdp_bus.specs.Settings.{controller_config}
 use Rattle.osdp_bus.specs.declared.config.BusConfig.{BusConfig}
+use Rattle.osdp_link_laws.specs.Headline.{Begins}
 use Rattle.osdp_link_laws.specs.Link.{new_account}
-use Rattle.osdp_multidrop.specs.Names.{BeginsTogether}
+use Rattle.osdp_link_laws.specs.Progress.{NoComset}
+use Rattle.osdp_link_laws.proofs.Stages.{Each}
 use Rattle.osdp_link_laws.proofs.Numbers.{is_true}
-use Rattle.osdp_multidrop.specs.Line as line
-use Rattle.osdp_multidrop.specs.Line.{Net, site_at}
-use Rattle.osdp_multidrop.specs.Runs.{IsSetUp}
-use Rattle.osdp_multidrop.specs.Views.{view}
+use Rattle.osdp_shared_line.specs.Line as line
+use Rattle.osdp_shared_line.specs.Line.{Net, site_at}
+use Rattle.osdp_shared_line.specs.Addresses.{IsSetUp}
+use Rattle.osdp_shared_line.specs.Views.{view}
 use Rattle.osdp_bus_links.specs.Links.{device_of}
+use Rattle.osdp_bus_links.specs.Premises.{NoneIsKept}
 use Rattle.osdp_sim_bus.specs.Runs.{AreSettings, are_apart, is_at, is_reader_in_range}
 use Rattle.osdp_sim_bus.specs.State.{Given, address_of, begun_device, new_site, set_up}
 use Rattle.osdp_sim_laws.proofs.Holding.{begins, tells_nothing}
-use Rattle.osdp_sim_bus_laws.specs.Moves.{Follows, SitesOf}
+use Rattle.osdp_sim_bus_laws.specs.Moves.{FollowsSites, SitesOf}
 
 -- ---- tests of lists
 
@@ -78,6 +81,7 @@ module _ {H : Type 0} where
     controller = (begun_device config given).controller;
     reserved = None;
     reader = new_reader given.0 given.2 given.1;
+    coming = [];
     account = new_account [] [];
     earlier = [];
   }
@@ -86,7 +90,7 @@ module _ {H : Type 0} where
   first_sites config readers = map (first_site config) readers
 
   abbrev pub first_net : BusConfig → List (Given H) → Net H
-  first_net config readers = record { sites = first_sites config readers; to_readers = []; to_controllers = [] }
+  first_net config readers = record { sites = first_sites config readers; to_panel = [] }
 
   -- each of them is that of a reader, and each reader has one
   site_of : (config : BusConfig) (k : ℕ) (s : line.Site H) (readers : List (Given H)) → site_at k (first_sites config readers) ≡ Some s
@@ -101,26 +105,30 @@ module _ {H : Type 0} where
   has_site config zero given (g ∷ readers) is = let same : g ≡ given = cc in ap (λ (h : Given H). Some (first_site config h)) same
   has_site config (suc k) given (g ∷ readers) is = has_site config k given readers is
 
-  begins_together : (config : BusConfig) (readers : List (Given H)) (k : ℕ) (given : Given H) → address_of given < 127
-      → BeginsTogether (view k (first_site config given) (first_net config readers))
-  begins_together config readers k given device = record {
-    begins = begins (record { reader = given.0; events = given.1; controller = controller_config (address_of given) config; commands = config.capacity })
-        given.2 device;
-    together = refl;
-    stored = refl;
-    waiting = λ k d lt. absurd (omega (arith, lt));
-  }
+  -- what holds of each first site holds of each site
+  each_first : (P : line.Site H → Type 0) (config : BusConfig) (readers : List (Given H)) → ((given : Given H) → P (first_site config given))
+      → (k : ℕ) (s : line.Site H) → site_at k (first_sites config readers) ≡ Some s → P s
+  each_first P config readers all k s is = let its = site_of config k s readers is in subst P its.2 (all its.0)
+
+  pub none_is_kept : (config : BusConfig) (readers : List (Given H)) → NoneIsKept (first_net config readers)
+  none_is_kept config readers = each_first (λ (s : line.Site H). s.reserved ≡ None) config readers (λ given. refl)
 
   pub is_set_up : (config : BusConfig) (readers : List (Given H)) → AreSettings config readers → IsSetUp (first_net config readers)
   is_set_up config readers settings = record {
-    to_readers = refl;
-    to_controllers = refl;
+    coming = each_first (λ (s : line.Site H). s.coming ≡ []) config readers (λ given. refl);
+    to_panel = refl;
     begins = λ k s is.
         let its = site_of config k s readers is in
-        subst (λ (u : line.Site H). BeginsTogether (view k u (first_net config readers))) its.2
-        (begins_together config readers k its.0 (in_range k its.0 readers all its.1));
-    reserved = λ k s is.
-        let its = site_of config k s readers is in subst (λ (u : line.Site H). u.reserved ≡ None) its.2 refl;
+        subst (λ (u : line.Site H). Begins (view k u (first_net config readers))) its.2
+        (begins (record {
+          reader = its.0.0;
+          events = its.0.1;
+          controller = controller_config (address_of its.0) config;
+          commands = config.capacity;
+        }) its.0.2 (in_range k its.0 readers all its.1));
+    together = each_first (λ (s : line.Site H). s.reader.config.address ≡ line.address_of s) config readers (λ given. refl);
+    stored = each_first (λ (s : line.Site H). s.reader.stored ≡ None) config readers (λ given. refl);
+    waiting = each_first (λ (s : line.Site H). All NoComset s.controller.waiting) config readers (λ given k d lt. absurd (omega (arith, lt)));
     apart = λ j k s t other at_j at_k.
         let first = site_of config j s readers at_j in
         let second = site_of config k t readers at_k in
@@ -149,10 +157,16 @@ module _ {H : Type 0} where
   sites_are config (g ∷ readers) =
       (record { reader = refl; tells = tells_nothing; ended = refl; causes = tt }, sites_are config readers)
 
-  pub follows_first : (config : BusConfig) (readers : List (Given H)) → Follows (set_up config readers) (first_net config readers)
+  none_come : (config : BusConfig) (readers : List (Given H)) → Each (λ (s : line.Site H). s.coming ≡ []) (first_sites config readers)
+  none_come config [] = tt
+  none_come config (g ∷ readers) = (refl, none_come config readers)
+
+  pub follows_first : (config : BusConfig) (readers : List (Given H)) → FollowsSites (set_up config readers) (first_net config readers)
   follows_first config readers = record {
     bus = record { entries = devices_are config readers; held = refl; report = refl };
     sites = sites_are config readers;
+    said = [];
+    coming = none_come config readers;
     to_readers = refl;
     to_bus = refl;
     asked = tt;

@@ -1,3 +1,4 @@
+pub mod Reading
 pub mod Sites
 pub mod Following
 pub mod Delivering

@@ -28,7 +28,7 @@ use Rattle.osdp_sim_bus.specs.Steps.{after_step, all_hear, all_hear_each, change
 use Rattle.osdp_sim_laws.specs.Accounts.{AreOver, IsInSession, IsOf}
 use Rattle.osdp_sim_laws.proofs.Ends.{sessions_of_report}
 use Rattle.osdp_sim_laws.proofs.Holding.{of_one}
-use Rattle.osdp_sim_bus_laws.specs.Accounts.{HoldsOnce, StaysInARow, accounts_in}
+use Rattle.osdp_sim_bus_laws.specs.Accounts.{AccountsAreOnce, StaysInARow, accounts_in}
 use Rattle.osdp_sim_bus_laws.proofs.Rows.{answers, told_by}
 
 get_each : {A : Type 0} (P : A → Type 0) (k : ℕ) (x : A) (xs : List A) → Each P xs → slice_get xs k ≡ Some x → P x
@@ -145,7 +145,7 @@ none_earlier a t (u ∷ earlier) lists one =
     let many = sessions_are a.sessions t.queued (u ∷ earlier) lists.queued.0 lists.queued.1 in absurd (omega (arith, many, one))
 
 module _ {H : Type 0} (answer_of : H → Command → Answer) (after : H → Command → H) where
-  pub all_once : StaysInARow answer_of after → HoldsOnce answer_of after
+  pub all_once : StaysInARow answer_of after → AccountsAreOnce answer_of after
   all_once rows config readers steps answer is was within =
       let ones : Each HasOne (accounts_in answer) =
       answers answer_of after (Each HasOne) config readers steps answer is was

@@ -8,14 +8,20 @@ use Rattle.osdp_reader.specs.declared.config.ReaderConfig.{ReaderConfig}
 use Rattle.osdp_reader.specs.declared.handler.Answer.{Answer}
 use Rattle.osdp_bus.specs.declared.config.BusConfig.{BusConfig}
 use Rattle.osdp_link_laws.specs.Link as link
-use Rattle.osdp_link_laws.specs.OneHandler.{AreOnce}
-use Rattle.osdp_link_laws.specs.Ordinary.{AreUndisturbed}
-use Rattle.osdp_link_laws.specs.Sessions.{AreInARow, LastsOrLeaves, ended_commands, ended_in}
-use Rattle.osdp_link_laws.proofs.Lines.{each_all}
-use Rattle.osdp_multidrop.specs.Line as line
-use Rattle.osdp_multidrop.specs.Line.{Net, run}
-use Rattle.osdp_multidrop.specs.Runs.{EachHoldsOnce, EachIsALink, EachStaysInARow, IsSetUp}
-use Rattle.osdp_multidrop.specs.Views.{view}
+use Rattle.osdp_link_laws.specs.OneHandler.{AreOnce, OneHandlerHoldsOnce}
+use Rattle.osdp_link_laws.specs.Ordinary.{AreUndisturbed, IsOrdinary, OrdinaryIsUndisturbed}
+use Rattle.osdp_link_laws.specs.Sessions.{AreInARow, LastOneLasts, LastsOrLeaves, StayInARow, ended_commands, ended_in}
+use Rattle.osdp_link_laws.proofs.Lines.{each_all, each_of}
+use Rattle.osdp_link_laws.proofs.OrdinaryRuns.{keep_device, steady_ordinary}
+use Rattle.osdp_shared_line.specs.Addresses.{IsSetUp}
+use Rattle.osdp_shared_line.specs.Line as line
+use Rattle.osdp_shared_line.specs.Line.{Net, NetMove, run}
+use Rattle.osdp_shared_line.specs.Runs.{EachIsALink}
+use Rattle.osdp_shared_line.specs.Runs as runs
+use Rattle.osdp_shared_line.specs.Views.{view}
+use Rattle.osdp_bus_links.specs.Premises.{IsScheduled}
+use Rattle.osdp_bus_links.proofs.Keeping.{moves_usual}
+use Rattle.osdp_bus_links.proofs.Names.{are_steady}
 use Rattle.osdp_sim.specs.Account.{Account}
 use Rattle.osdp_sim.specs.declared.fault.Cause.{Cause}
 use Rattle.osdp_sim.specs.declared.step.SimStep.{SimStep}
@@ -26,12 +32,12 @@ use Rattle.osdp_sim_bus.specs.State.{Given, LineState, Site, accounts, set_up}
 use Rattle.osdp_sim_laws.specs.Accounts.{IsInARow, IsNoRefusal, LastsOrHasEnded}
 use Rattle.osdp_sim_laws.proofs.Holding.{each_one, last_one, one_unsettled, told_first}
 use Rattle.osdp_sim_bus_laws.specs.Accounts.{BusAnswer, EachMeets, IsAnswer, StaysInARow, WasSetUp, accounts_in}
-use Rattle.osdp_sim_bus_laws.specs.Moves.{Done, IsSiteOf, SchedulesAreMoves}
-use Rattle.osdp_sim_bus_laws.proofs.Beginning.{first_net, first_site, follows_first, has_site, is_set_up}
+use Rattle.osdp_sim_bus_laws.specs.Moves.{AreItsMoves, IsSiteOf, SchedulesAreMoves, moves_of}
+use Rattle.osdp_sim_bus_laws.proofs.Beginning.{first_net, first_site, follows_first, has_site, is_set_up, none_is_kept}
 use Rattle.osdp_sim_bus_laws.proofs.Sites.{counts_alike, get_site}
 
 module _ {H : Type 0} where
-  account_at : (k : ℕ) (u : Site H) (us : List (Site H)) → slice_get us k ≡ Some u
+  pub account_at : (k : ℕ) (u : Site H) (us : List (Site H)) → slice_get us k ≡ Some u
       → slice_get (map (λ (site : Site H). site.account) us) k ≡ Some u.account
   account_at k u us is =
       slice_get-map (λ (site : Site H). site.account) us k ∙ ap (option_map (λ (site : Site H). site.account)) is
@@ -92,8 +98,9 @@ module _ {H : Type 0} where
         by_step (suc before) why lists stops fits was holds =
             subst P (sym stops.1.account) (holds (record { settings = stops.0; well = stops.1.well; fits = fits }))
 
-    module _ (schedules : SchedulesAreMoves answer_of after) (links : EachIsALink answer_of after) (holds : EachHoldsOnce answer_of after)
-        (rows : EachStaysInARow answer_of after) (counts : HasAnAccountEach answer_of after) where
+    module _ (schedules : SchedulesAreMoves answer_of after) (links : EachIsALink answer_of after) (once : OneHandlerHoldsOnce answer_of after)
+        (so : OrdinaryIsUndisturbed answer_of after) (row : StayInARow answer_of after) (lasts : LastOneLasts answer_of after)
+        (counts : HasAnAccountEach answer_of after) where
       each_in_a_row : (config : BusConfig) (readers : List (Given H)) (steps : List SimStep) → IsRun config readers steps
           → EachMeets (IsInARow answer_of after) readers (told_by config readers steps)
       each_in_a_row config readers steps is = record { count = counts config readers steps; each = each }
@@ -104,26 +111,38 @@ module _ {H : Type 0} where
           up : IsSetUp first
           up = is_set_up config readers is.settings
 
+          moves : List (NetMove H)
+          moves = moves_of answer_of after steps (set_up config readers)
+
           s : LineState H
           s = simulation.run answer_of after steps (set_up config readers)
 
-          done : Done answer_of after s first
-          done = schedules steps (set_up config readers) first up (follows_first config readers) is.well is.fits
+          done : AreItsMoves answer_of after steps (set_up config readers) first
+          done = schedules steps (set_up config readers) first up (none_is_kept config readers) (follows_first config readers) is.well is.fits
 
           each : (k : ℕ) (given : Given H) → slice_get readers k ≡ Some given
               → (a : Account) × (slice_get (accounts s) k ≡ Some a) × IsInARow answer_of after given.0 given.2 a
           each k given at =
               let site = first_site config given in
               let there = has_site config k given readers at in
-              let its = links first done.0 up done.1 k site there in
+              let its = links first moves up done.fits k site there in
               let t = its.moved.site in
-              let last = run answer_of after done.0 first in
-              let mine = get_site k t s.sites last.sites done.2.sites its.moved.there in
-              let row = rows first done.0 up done.1 k site t there its.moved.there in
-              let once = holds first done.0 up done.1 k site t there its.moved.there in (
+              let last = run answer_of after moves first in
+              let mine = get_site k t s.sites last.sites done.follows.sites its.moved.there in
+              let l = view k site first in
+              let its_moves = runs.moves_of answer_of after k moves first in
+              let begins = up.begins k site there in
+              let steady = are_steady its_moves (moves_usual answer_of after moves k first (each_of IsScheduled moves done.scheduled)) in
+              let same = sym its.moved.moved in (
                 mine.0.account,
                 account_at k mine.0 s.sites mine.1,
-                site_in_a_row given.0 given.2 k mine.0 t last mine.2 once row.undisturbed row.row row.lasts,
+                site_in_a_row given.0 given.2 k mine.0 t last mine.2
+                    (subst (λ (v : link.Link H). AreOnce answer_of after given.0 given.2 (v.account ∷ v.earlier)) same
+                    (once l its_moves begins its.fits (keep_device its_moves steady)))
+                    (subst (λ (v : link.Link H). AreUndisturbed (v.account ∷ v.earlier)) same
+                    (so l its_moves begins (each_all IsOrdinary its_moves (steady_ordinary its_moves steady))))
+                    (subst (λ (v : link.Link H). AreInARow v.account v.earlier) same (row l its_moves begins its.fits))
+                    (subst (λ (v : link.Link H). LastsOrLeaves v.controller.session.state v) same (lasts l its_moves begins its.fits)),
               )
 
       pub all_in_a_row : StaysInARow answer_of after

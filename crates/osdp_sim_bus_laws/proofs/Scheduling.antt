@@ -1,83 +1,115 @@
 -- Each schedule is a list of moves of the sites: what each step asks of them is known of sites after any moves.
-use Rattle.std.proofs.Common.{◌≡◌, ℕ, true, List, [], ◌∷◌, ◌++◌, All, refl, sym, subst}
+use Rattle.std.proofs.Common.{◌≡◌, ℕ, true, List, [], ◌∷◌, ◌++◌, All, Some, refl, sym, subst, ap, ◌∙◌, append_assoc}
 use Rattle.osdp_frame.specs.Packet.{Packet}
 use Rattle.osdp_msg.specs.declared.command.Command.{Command}
 use Rattle.osdp_reader.specs.declared.handler.Answer.{Answer}
 use Rattle.osdp_link_laws.specs.Link as link
 use Rattle.osdp_link_laws.specs.Peers.{IsPlainlySaid}
-use Rattle.osdp_link_laws.specs.Ordinary.{IsSteady}
+use Rattle.osdp_link_laws.specs.Ordinary.{AreUndisturbed, IsOrdinary, OrdinaryIsUndisturbed}
 use Rattle.osdp_link_laws.specs.Refusals.{SaysAllPlainly}
-use Rattle.osdp_link_laws.proofs.Lines.{each_all, each_of}
-use Rattle.osdp_link_laws.proofs.Ordinary.{moves_so}
-use Rattle.osdp_link_laws.proofs.OrdinaryRuns.{begins_so, steady_ordinary}
+use Rattle.osdp_link_laws.specs.Sessions.{LastOneLasts, LastsOrLeaves}
+use Rattle.osdp_link_laws.proofs.Lines.{each_all, each_append, each_of}
+use Rattle.osdp_link_laws.proofs.OrdinaryRuns.{steady_ordinary}
 use Rattle.osdp_link_laws.proofs.Stages.{Each}
-use Rattle.osdp_multidrop.specs.Line.{Net, NetMove, after_net, run}
-use Rattle.osdp_multidrop.specs.Runs.{NetMovesFit, EachIsALink, EachStaysInARow, IsSetUp, moves_of}
-use Rattle.osdp_multidrop.specs.Views.{own, view}
-use Rattle.osdp_multidrop.proofs.Apart.{IsSited, each_by_owner}
-use Rattle.osdp_multidrop.proofs.Fitting.{was_there}
-use Rattle.osdp_multidrop.proofs.Linked.{OfALink}
-use Rattle.osdp_multidrop.proofs.Running.{holds_all, holds_first}
+use Rattle.osdp_shared_line.specs.Addresses.{IsSetUp, NobodyElseHears}
+use Rattle.osdp_shared_line.specs.Line.{Net, NetMove, Site, run, site_at}
+use Rattle.osdp_shared_line.specs.Views.{EachMoveIsItsOwn, own}
+use Rattle.osdp_bus_links.specs.Premises.{AllOthersFit, BusSuffices, IsScheduled, NoneIsKept}
+use Rattle.osdp_bus_links.proofs.Linked.{AreLinked, IsLinked, OfALink}
+use Rattle.osdp_bus_links.proofs.Names.{are_steady}
+use Rattle.osdp_bus_links.proofs.Sited.{IsSited, all_sited, each_own}
+use Rattle.osdp_bus_links.proofs.Sufficing.{all_linked, net_run_more, others_more}
 use Rattle.osdp_sim.specs.declared.step.SimStep.{SimStep}
 use Rattle.osdp_sim_bus.specs.Runs as simulation
 use Rattle.osdp_sim_bus.specs.Runs.{FitAlong}
 use Rattle.osdp_sim_bus.specs.State.{LineState}
 use Rattle.osdp_sim_bus.specs.Steps.{after_step, fault_of}
 use Rattle.osdp_sim.proofs.Schedules.{first_well}
-use Rattle.osdp_sim_bus_laws.specs.Moves.{Done, Follows, IsKnown, SchedulesAreMoves, StepsAreMoves}
+use Rattle.osdp_sim_bus_laws.specs.Moves.{FollowsSites, IsKnown, SchedulesAreMoves, StepsAreMoves, moves_for, moves_of}
 
 module _ {H : Type 0} (answer_of : H → Command → Answer) (after : H → Command → H) where
-  -- ---- one list of moves after another
+  -- ---- what is known after any moves
 
-  run_more : (ms more : List NetMove) (n : Net H) → run answer_of after (ms ++ more) n ≡ run answer_of after more (run answer_of after ms n)
-  run_more [] more n = refl
-  run_more (m ∷ ms) more n = run_more ms more (after_net answer_of after m n)
+  module _ (plainly : SaysAllPlainly answer_of after) (lasts : LastOneLasts answer_of after) (so : OrdinaryIsUndisturbed answer_of after) where
+    undisturbed : (k : ℕ) (t : Site H) (n : Net H) → IsLinked answer_of after k t n → AreUndisturbed (t.account ∷ t.earlier)
+    undisturbed k t n h =
+        subst (λ (l : link.Link H). AreUndisturbed (l.account ∷ l.earlier)) (sym h.led.leads)
+        (so h.first h.moves h.led.begins (each_all IsOrdinary h.moves (steady_ordinary h.moves (are_steady h.moves h.led.usual))))
 
-  fits_more : (ms more : List NetMove) (n : Net H) → NetMovesFit answer_of after ms n → NetMovesFit answer_of after more (run answer_of after ms n)
-      → NetMovesFit answer_of after (ms ++ more) n
-  fits_more [] more n first last = last
-  fits_more (m ∷ ms) more n first last = (first.0, fits_more ms more (after_net answer_of after m n) first.1 last)
-
-  was_always : (ms : List NetMove) (k : ℕ) (n : Net H) → IsSited (run answer_of after ms n).sites k → IsSited n.sites k
-  was_always [] k n is = is
-  was_always (m ∷ ms) k n is = was_there answer_of after m k n (was_always ms k (after_net answer_of after m n) is)
-
-  module _ (steps_move : StepsAreMoves answer_of after) (given : OfALink answer_of after) (links : EachIsALink answer_of after)
-      (plainly : SaysAllPlainly answer_of after) (rows : EachStaysInARow answer_of after) where
-    known : (first : Net H) (ms : List NetMove) → IsSetUp first → NetMovesFit answer_of after ms first → IsKnown (run answer_of after ms first)
-    known first ms up fits = record {
-      plain = each_all (λ (q : ℕ × Packet). IsPlainlySaid q.1) n.to_controllers
-          (each_by_owner (IsSited n.sites) (λ k p. IsPlainlySaid p) n.to_controllers own_are
-          (holds_all answer_of after given ms first fits (holds_first answer_of after given first up)).apart.controllers.sited);
-      accounts = λ k t is.
-          let old = was_always ms k first (t, is) in
-          (rows first ms up fits k old.0 t old.1 is).undisturbed.0;
-      leaves = λ k t is. let old = was_always ms k first (t, is) in (rows first ms up fits k old.0 t old.1 is).lasts;
+    known : (n : Net H) → AreLinked answer_of after n → Each (λ (q : ℕ × Packet). IsSited n.sites q.0) n.to_panel → IsKnown n
+    known n linked sited = record {
+      plain = each_all (λ (q : ℕ × Packet). IsPlainlySaid q.1) n.to_panel (each_own IsPlainlySaid n.sites n.to_panel sited own_are);
+      accounts = λ k t is. (undisturbed k t n (linked k t is)).0;
+      leaves = λ k t is.
+          let h = linked k t is in
+          subst (λ (l : link.Link H). LastsOrLeaves l.controller.session.state l) (sym h.led.leads) (lasts h.first h.moves h.led.begins h.led.fits);
     }
       where
-        n : Net H
-        n = run answer_of after ms first
+        own_are : (k : ℕ) (t : Site H) → site_at k n.sites ≡ Some t → Each IsPlainlySaid (own k n.to_panel)
+        own_are k t is =
+            let h = linked k t is in
+            each_of IsPlainlySaid (own k n.to_panel) (subst (λ (l : link.Link H). All IsPlainlySaid l.to_controller) (sym h.led.leads)
+            (plainly h.first h.moves h.led.begins h.led.fits
+            (ap (λ (l : link.Link H). l.account.restarts) (sym h.led.leads) ∙ (undisturbed k t n h).0.restarts)))
 
-        own_are : (k : ℕ) → IsSited n.sites k → Each IsPlainlySaid (own k n.to_controllers)
-        own_are k is =
-            let old = was_always ms k first is in
-            let its = links first ms up fits k old.0 old.1 in
-            let l = view k old.0 first in
-            let moves = moves_of answer_of after k ms first in
-            let begun = (up.begins k old.0 old.1).begins in
-            each_of IsPlainlySaid (own k n.to_controllers) (subst (λ (l : link.Link H). All IsPlainlySaid l.to_controller) (sym its.moved.moved)
-            (plainly l moves begun its.fits (moves_so answer_of after moves l (steady_ordinary moves (each_of IsSteady moves its.ordinary)) (begins_so l begun)).0.restarts))
+  -- ---- the moves of one list of steps after another
 
-    scheduled : (steps : List SimStep) (s : LineState H) (first : Net H) (ms : List NetMove) → IsSetUp first → NetMovesFit answer_of after ms first
-        → Follows s (run answer_of after ms first) → simulation.is_well answer_of after steps s ≡ true → FitAlong answer_of after steps s
-        → Done answer_of after (simulation.run answer_of after steps s) first
-    scheduled [] s first ms up fits h well along = (ms, fits, h)
-    scheduled (step ∷ steps) s first ms up fits h well along =
+  pub moves_more : (steps more : List SimStep) (s : LineState H) → moves_of answer_of after (steps ++ more) s
+      ≡ moves_of answer_of after steps s ++ moves_of answer_of after more (simulation.run answer_of after steps s)
+  moves_more [] more s = refl
+  moves_more (step ∷ steps) more s =
+      let next = after_step answer_of after step s in
+      ap (λ ms. moves_for step s ++ ms) (moves_more steps more next)
+      ∙ sym (append_assoc (moves_for step s) (moves_of answer_of after steps next) (moves_of answer_of after more (simulation.run answer_of after steps next)))
+
+  -- what a schedule comes to from a state on
+  record Goes (steps : List SimStep) (s : LineState H) (n : Net H) : Type 0 where
+    scheduled : Each IsScheduled (moves_of answer_of after steps s)
+    others : AllOthersFit answer_of after (moves_of answer_of after steps s) n
+    follows : FollowsSites (simulation.run answer_of after steps s) (run answer_of after (moves_of answer_of after steps s) n)
+
+  module _ (steps_move : StepsAreMoves answer_of after) (suffices : BusSuffices answer_of after)
+      (always : (n : Net H) → AreLinked answer_of after n → Each (λ (q : ℕ × Packet). IsSited n.sites q.0) n.to_panel → IsKnown n)
+      (links : (first : Net H) (moves : List (NetMove H)) → IsSetUp first → NoneIsKept first → Each IsScheduled moves
+      → AllOthersFit answer_of after moves first → AreLinked answer_of after (run answer_of after moves first)) where
+    goes : (steps : List SimStep) (s : LineState H) (first : Net H) (ms : List (NetMove H)) → IsSetUp first → NoneIsKept first → Each IsScheduled ms
+        → AllOthersFit answer_of after ms first → FollowsSites s (run answer_of after ms first) → simulation.is_well answer_of after steps s ≡ true
+        → FitAlong answer_of after steps s → Goes steps s (run answer_of after ms first)
+    goes [] s first ms up none scheduled others h well along = record { scheduled = tt; others = tt; follows = h }
+    goes (step ∷ steps) s first ms up none scheduled others h well along =
+        let n = run answer_of after ms first in
         let next = after_step answer_of after step s in
+        let moves = moves_for step s in
+        let rest = moves_of answer_of after steps next in
         let both = first_well (fault_of step s) (simulation.is_well answer_of after steps next) well in
-        let done = steps_move step s (run answer_of after ms first) both.0 along.0 (known first ms up fits) h in
-        scheduled steps next first (ms ++ done.0) up (fits_more ms done.0 first fits done.1)
-        (subst (Follows next) (sym (run_more ms done.0 first)) done.2) both.1 along.1
+        let sited = all_sited answer_of after ms first scheduled (subst (Each (λ (q : ℕ × Packet). IsSited first.sites q.0)) (sym up.to_panel) tt) in
+        let one = steps_move step s n both.0 along.0 (always n (links first ms up none scheduled others) sited) h in
+        let more = each_of IsScheduled moves one.scheduled in
+        let same : run answer_of after (ms ++ moves) first ≡ run answer_of after moves n = net_run_more answer_of after ms moves first in
+        let later = goes steps next first (ms ++ moves) up none (each_append IsScheduled ms moves scheduled more)
+        (others_more answer_of after ms moves first others one.fits) (subst (FollowsSites next) (sym same) one.follows) both.1 along.1 in
+        record {
+          scheduled = each_append IsScheduled moves rest more later.scheduled;
+          others = others_more answer_of after moves rest n one.fits (subst (AllOthersFit answer_of after rest) same later.others);
+          follows = subst (FollowsSites (simulation.run answer_of after steps next)) (sym (net_run_more answer_of after moves rest n))
+              (subst (λ m. FollowsSites (simulation.run answer_of after steps next) (run answer_of after rest m)) same later.follows);
+        }
 
-    pub schedules_are_moves : SchedulesAreMoves answer_of after
-    schedules_are_moves steps s first up h well along = scheduled steps s first [] up tt h well along
+    pub schedules_so : SchedulesAreMoves answer_of after
+    schedules_so steps s first up none h well along =
+        let g = goes steps s first [] up none tt tt h well along in
+        let scheduled = each_all IsScheduled (moves_of answer_of after steps s) g.scheduled in
+        record {
+          scheduled = scheduled;
+          fits = suffices first (moves_of answer_of after steps s) up none scheduled g.others;
+          follows = g.follows;
+        }
+
+  pub schedules_are_moves : StepsAreMoves answer_of after → BusSuffices answer_of after → OfALink answer_of after → EachMoveIsItsOwn answer_of after
+      → NobodyElseHears answer_of after → SaysAllPlainly answer_of after → LastOneLasts answer_of after → OrdinaryIsUndisturbed answer_of after
+      → SchedulesAreMoves answer_of after
+  schedules_are_moves steps_move suffices given its_own nobody plainly lasts so =
+      schedules_so steps_move suffices (known plainly lasts so)
+      (λ first moves up none scheduled others.
+      all_linked answer_of after given its_own nobody first moves up none scheduled
+      (suffices first moves up none (each_all IsScheduled moves scheduled) others))

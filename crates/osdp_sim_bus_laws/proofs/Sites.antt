@@ -1,5 +1,5 @@
 -- The readers of a simulated line and the sites whose readers they are, place by place.
-use Rattle.std.proofs.Common.{◌≡◌, ◌<◌, ◌+◌, ℕ, zero, suc, Bool, true, false, cond, List, [], ◌∷◌, ◌++◌, map, Option, Some, None, refl, sym, subst, ap, ◌∙◌, arith}
+use Rattle.std.proofs.Common.{◌≡◌, ◌<◌, ◌+◌, ℕ, zero, suc, Bool, true, false, cond, List, [], ◌∷◌, ◌++◌, length, map, Option, Some, None, refl, sym, subst, ap, ◌∙◌, arith}
 use Rattle.std.proofs.lemmas.List.{map-append}
 use Rattle.std.specs.Prelude.{slice_get, slice_set, option_to_list, ◌==◌}
 use Rattle.std.specs.Option.{option_map_or}
@@ -13,12 +13,13 @@ use Rattle.osdp_reader.specs.Table as reader
 use Rattle.osdp_reader.specs.State.{ReaderState}
 use Rattle.osdp_reader.specs.declared.handler.Answer.{Answer}
 use Rattle.osdp_link_laws.specs.Link as link
+use Rattle.osdp_link_laws.specs.Link.{Delivered}
 use Rattle.osdp_link_laws.specs.Refusals as refusals
 use Rattle.osdp_link_laws.proofs.Numbers.{is_false, is_true}
 use Rattle.osdp_link_laws.proofs.Stages.{Each}
 use Rattle.osdp_link_laws.specs.Ends as ends
-use Rattle.osdp_multidrop.specs.Line as line
-use Rattle.osdp_multidrop.specs.Line.{changed, said_from, site_at, tagged}
+use Rattle.osdp_shared_line.specs.Line as line
+use Rattle.osdp_shared_line.specs.Line.{changed, site_at, tagged}
 use Rattle.osdp_bus_links.specs.Links.{IsNoRefusalOf, IsTold, TellsFrom, packets_on, report_for}
 use Rattle.osdp_sim.specs.Account.{with_report}
 use Rattle.osdp_sim.specs.Line.{sent}
@@ -26,6 +27,7 @@ use Rattle.osdp_sim_bus.specs.State.{Site}
 use Rattle.osdp_sim_bus.specs.Steps.{changed_site, site_hears, site_is_told, site_says}
 use Rattle.osdp_sim_laws.specs.Accounts.{IsOf}
 use Rattle.osdp_sim_bus_laws.specs.Moves.{IsSiteOf, SitesOf, count}
+use Rattle.osdp_sim_bus_laws.proofs.Reading.{hearing, said_from}
 use Rattle.osdp_sim_laws.proofs.Ends.{ends_after}
 use Rattle.osdp_sim_laws.proofs.Accounts.{causes_of, tells_report, tells_taken}
 
@@ -88,9 +90,9 @@ module _ {H : Type 0} where
   told_sites k r [] = []
   told_sites k r (u ∷ us) = told_as (report_for k r) u ∷ told_sites (suc k) r us
 
-  site_told : (r : Option Report) (u : Site H) (s t : line.Site H) → IsTold r s t → Each refusals.IsNoRefusal (option_to_list r ++ []) → IsSiteOf u s
+  site_told : (r : Option Report) (said : List (ℕ × Packet)) (u : Site H) (s t : line.Site H) → IsTold r said s t → Each refusals.IsNoRefusal (option_to_list r ++ []) → IsSiteOf u s
       → IsSiteOf (told_as r u) t
-  site_told r u s t is plain h = record {
+  site_told r said u s t is plain h = record {
     reader = h.reader ∙ sym is.reader;
     tells = subst (λ a. IsOf (with_report r u.account) a t.earlier) (sym is.account)
         (subst (λ e. IsOf (with_report r u.account) (link.after_report r s.account) e) (sym is.earlier) (tells_report r u.account s.account s.earlier h.tells));
@@ -104,15 +106,24 @@ module _ {H : Type 0} where
     causes = causes_of r u.account plain h.causes;
   }
 
-  pub all_told : (k : ℕ) (r : Option (ℕ × Report)) (us : List (Site H)) (ss ts : List (line.Site H)) → IsNoRefusalOf r → SitesOf us ss → TellsFrom k r ss ts
-      → SitesOf (told_sites k r us) ts
-  all_told k r [] [] [] plain all told = tt
-  all_told k r [] [] (t ∷ ts) plain all told = absurd told
-  all_told k r [] (s ∷ ss) ts plain all told = absurd all
-  all_told k r (u ∷ us) [] ts plain all told = absurd all
-  all_told k r (u ∷ us) (s ∷ ss) [] plain all told = absurd told
-  all_told k r (u ∷ us) (s ∷ ss) (t ∷ ts) plain all told =
-      (site_told (report_for k r) u s t told.0 (plain_for k r plain) all.0, all_told (suc k) r us ss ts plain all.1 told.1)
+  pub all_told : (k : ℕ) (r : Option (ℕ × Report)) (said : List (ℕ × Packet)) (us : List (Site H)) (ss ts : List (line.Site H)) → IsNoRefusalOf r
+      → SitesOf us ss → TellsFrom k r said ss ts → SitesOf (told_sites k r us) ts
+  all_told k r said [] [] [] plain all told = tt
+  all_told k r said [] [] (t ∷ ts) plain all told = absurd told
+  all_told k r said [] (s ∷ ss) ts plain all told = absurd all
+  all_told k r said (u ∷ us) [] ts plain all told = absurd all
+  all_told k r said (u ∷ us) (s ∷ ss) [] plain all told = absurd told
+  all_told k r said (u ∷ us) (s ∷ ss) (t ∷ ts) plain all told =
+      (site_told (report_for k r) said u s t told.0 (plain_for k r plain) all.0, all_told (suc k) r said us ss ts plain all.1 told.1)
+
+  -- .. and more is said to each
+  pub all_coming : (k : ℕ) (r : Option (ℕ × Report)) (before said : List (ℕ × Packet)) (ss ts : List (line.Site H)) → TellsFrom k r said ss ts
+      → Each (λ (s : line.Site H). s.coming ≡ before) ss → Each (λ (t : line.Site H). t.coming ≡ before ++ said) ts
+  all_coming k r before said [] [] told all = tt
+  all_coming k r before said [] (t ∷ ts) told all = absurd told
+  all_coming k r before said (s ∷ ss) [] told all = absurd told
+  all_coming k r before said (s ∷ ss) (t ∷ ts) told all =
+      (told.0.coming ∙ ap (λ ps. ps ++ said) all.0, all_coming (suc k) r before said ss ts told.1 all.1)
 
   pub none_told : (k : ℕ) (us : List (Site H)) → told_sites k None us ≡ us
   none_told k [] = refl
@@ -140,41 +151,61 @@ module _ {H : Type 0} where
       later None vs = refl
       later (Some v) vs = refl
 
+-- ---- there are as many of the one as of the other
+
+pub same_count : {H : Type 0} (us : List (Site H)) (ts : List (line.Site H)) → SitesOf us ts → length us ≡ length ts
+same_count [] [] all = refl
+same_count [] (t ∷ ts) all = absurd all
+same_count (u ∷ us) [] all = absurd all
+same_count (u ∷ us) (t ∷ ts) all = ap suc (same_count us ts all.1)
+
 -- ---- a packet that all readers hear
 
+sent_tagged : (k : ℕ) (o : Option Packet) → sent o ≡ map spelling (packets_on (tagged k (option_to_list o)))
+sent_tagged k None = refl
+sent_tagged k (Some p) = refl
+
+pub both_on : (xs ys : List (ℕ × Packet)) → map spelling (packets_on (xs ++ ys)) ≡ map spelling (packets_on xs) ++ map spelling (packets_on ys)
+both_on xs ys = ap (map spelling) (map-append (λ (q : ℕ × Packet). q.1) xs ys) ∙ map-append spelling (packets_on xs) (packets_on ys)
+
+module _ {H : Type 0} where
+  -- none of them hears it
+  pub none_heard : (rest : List (ℕ × Packet)) (us : List (Site H)) (ts : List (line.Site H)) → SitesOf us ts
+      → SitesOf us (map (λ (t : line.Site H). record t { coming = rest }) ts)
+  none_heard rest [] [] all = tt
+  none_heard rest [] (t ∷ ts) all = absurd all
+  none_heard rest (u ∷ us) [] all = absurd all
+  none_heard rest (u ∷ us) (t ∷ ts) all =
+      (record { reader = all.0.reader; tells = all.0.tells; ended = all.0.ended; causes = all.0.causes }, none_heard rest us ts all.1)
+
 module _ {H : Type 0} (answer_of : H → Command → Answer) (after : H → Command → H) where
-  site_heard : (p : Packet) (u : Site H) (t : line.Site H) → IsSiteOf u t → IsSiteOf (site_hears answer_of after p u) (line.hears answer_of after p t)
-  site_heard p u t h =
+  site_heard : (p : Packet) (rest : List (ℕ × Packet)) (u : Site H) (t : line.Site H) → IsSiteOf u t
+      → IsSiteOf (site_hears answer_of after p u) (hearing answer_of after p rest t)
+  site_heard p rest u t h =
       let o = reader.hears answer_of after t.reader p in
-      subst (λ r. IsSiteOf (site_hears answer_of after p (record { reader = r; account = u.account })) (line.hears answer_of after p t)) (sym h.reader) (record {
+      subst (λ r. IsSiteOf (site_hears answer_of after p (record { reader = r; account = u.account })) (hearing answer_of after p rest t)) (sym h.reader) (record {
         reader = refl;
         tells = tells_taken (reader.kind_of t.reader p) o.command o.said (link.front_of t.reader) u.account t.account t.earlier h.tells;
         ended = h.ended;
         causes = h.causes;
       })
 
-  pub all_heard : (p : Packet) (us : List (Site H)) (ts : List (line.Site H)) → SitesOf us ts
-      → SitesOf (map (site_hears answer_of after p) us) (map (line.hears answer_of after p) ts)
-  all_heard p [] [] all = tt
-  all_heard p [] (t ∷ ts) all = absurd all
-  all_heard p (u ∷ us) [] all = absurd all
-  all_heard p (u ∷ us) (t ∷ ts) all = (site_heard p u t all.0, all_heard p us ts all.1)
-
-  sent_tagged : (k : ℕ) (o : Option Packet) → sent o ≡ map spelling (packets_on (tagged k o))
-  sent_tagged k None = refl
-  sent_tagged k (Some p) = refl
-
-  both_on : (xs ys : List (ℕ × Packet)) → map spelling (packets_on (xs ++ ys)) ≡ map spelling (packets_on xs) ++ map spelling (packets_on ys)
-  both_on xs ys = ap (map spelling) (map-append (λ (q : ℕ × Packet). q.1) xs ys) ∙ map-append spelling (packets_on xs) (packets_on ys)
+  pub all_heard : (p : Packet) (rest : List (ℕ × Packet)) (us : List (Site H)) (ts : List (line.Site H)) → SitesOf us ts
+      → SitesOf (map (site_hears answer_of after p) us) (map (hearing answer_of after p rest) ts)
+  all_heard p rest [] [] all = tt
+  all_heard p rest [] (t ∷ ts) all = absurd all
+  all_heard p rest (u ∷ us) [] all = absurd all
+  all_heard p rest (u ∷ us) (t ∷ ts) all = (site_heard p rest u t all.0, all_heard p rest us ts all.1)
 
   pub all_said : (p : Packet) (k : ℕ) (us : List (Site H)) (ts : List (line.Site H)) → SitesOf us ts
-      → flat_map (site_says answer_of after p) us ≡ map spelling (packets_on (said_from answer_of after k p ts))
+      → flat_map (site_says answer_of after p) us ≡ map spelling (packets_on (said_from answer_of after Delivered k p ts))
   all_said p k [] [] all = refl
   all_said p k [] (t ∷ ts) all = absurd all
   all_said p k (u ∷ us) [] all = absurd all
   all_said p k (u ∷ us) (t ∷ ts) all =
-      let r = (reader.hears answer_of after t.reader p).reply in
+      let o = (reader.hears answer_of after t.reader p).reply in
+      let says = tagged k (option_to_list o) in
       ap (λ (s : ReaderState H). sent (reader.hears answer_of after s p).reply ++ flat_map (site_says answer_of after p) us) all.0.reader
-      ∙ ap (λ l. l ++ flat_map (site_says answer_of after p) us) (sent_tagged k r)
-      ∙ ap (λ l. map spelling (packets_on (tagged k r)) ++ l) (all_said p (suc k) us ts all.1)
-      ∙ sym (both_on (tagged k r) (said_from answer_of after (suc k) p ts))
+      ∙ ap (λ l. l ++ flat_map (site_says answer_of after p) us) (sent_tagged k o)
+      ∙ ap (λ l. map spelling (packets_on says) ++ l) (all_said p (suc k) us ts all.1)
+      ∙ sym (both_on says (said_from answer_of after Delivered (suc k) p ts))

@@ -1,5 +1,5 @@
 -- Each step of a schedule is a list of moves of the sites.
-use Rattle.std.proofs.Common.{◌≡◌, ◌-◌, ◌&&◌, ◌==◌, not, ℕ, max, Bool, true, false, if◌then◌else◌, List, [], ◌∷◌, length, map, Option, Some, None, refl, sym, subst, ap, ◌∙◌, arith}
+use Rattle.std.proofs.Common.{◌≡◌, ◌≢◌, ◌-◌, ◌&&◌, ◌==◌, not, ℕ, zero, suc, Bool, true, false, if◌then◌else◌, List, [], ◌∷◌, length, map, Option, Some, None, refl, sym, subst, ap, ◌∙◌, arith}
 use Rattle.std.proofs.lemmas.Bool.{ne_eqb}
 use Rattle.std.proofs.lemmas.List.{length-append}
 use Rattle.std.specs.Prelude.{slice_get}
@@ -11,6 +11,7 @@ use Rattle.osdp_msg.specs.declared.command.Command.{Command}
 use Rattle.osdp_controller.specs.Machine as controllers
 use Rattle.osdp_controller.specs.States.{is_closed}
 use Rattle.osdp_controller_laws.proofs.Closed.{may_begin}
+use Rattle.osdp_controller.specs.declared.fault.ControllerFault.{ControllerFault}
 use Rattle.osdp_controller.specs.declared.state.State.{State}
 use Rattle.osdp_controller.specs.declared.state.State.TheVariants.{Closed, Quiet, Idle, Waiting, Pausing}
 use Rattle.osdp_reader.specs.declared.handler.Answer.{Answer}
@@ -20,24 +21,27 @@ use Rattle.osdp_link_laws.specs.Peers.{IsPlainlySaid}
 use Rattle.osdp_link_laws.specs.Link as link
 use Rattle.osdp_link_laws.specs.Ordinary.{IsUndisturbed}
 use Rattle.osdp_link_laws.specs.Sessions.{LastsOrLeaves, Leaves}
-use Rattle.osdp_link_laws.proofs.Lines.{each_of}
-use Rattle.osdp_multidrop.specs.Line as line
-use Rattle.osdp_multidrop.specs.Line.{Net, Reopen, changed, site_at}
-use Rattle.osdp_multidrop.specs.Views.{view}
+use Rattle.osdp_link_laws.proofs.Lines.{each_all, each_of}
+use Rattle.osdp_link_laws.proofs.Stages.{Each}
+use Rattle.osdp_shared_line.specs.Line as line
+use Rattle.osdp_shared_line.specs.Line.{Net, NetMove, Reopen, changed, site_at}
+use Rattle.osdp_shared_line.specs.Views.{IsQuiet, view}
 use Rattle.osdp_bus_links.specs.Links.{IsBusOf, device_of, packets_on}
+use Rattle.osdp_bus_links.specs.Premises.{IsScheduled}
 use Rattle.osdp_bus_links.proofs.Devices.{get_device, get_none}
 use Rattle.osdp_sim.specs.Account.{lengths_of}
 use Rattle.osdp_sim.specs.declared.fault.Cause.TheVariants.{NotQuiet}
 use Rattle.osdp_sim.specs.Line.{handed}
 use Rattle.osdp_sim.specs.Steps.{SaysFit, moment_after}
+use Rattle.osdp_sim.specs.declared.step.SimStep.{SimStep}
 use Rattle.osdp_sim.specs.declared.step.SimStep.TheVariants as step
 use Rattle.osdp_sim_bus.specs.State.{LineState, Site}
 use Rattle.osdp_sim_bus.specs.Steps as steps
 use Rattle.osdp_sim_bus.specs.Steps.{StepFits, after_step, fault_of, is_quiet, is_there, reopened, site_begins}
 use Rattle.osdp_sim_laws.proofs.Accounts.{tells_session}
-use Rattle.osdp_sim_bus_laws.specs.Moves.{Done, Follows, count, IsKnown, IsSiteOf, OneBus, StepsAreMoves}
+use Rattle.osdp_sim_bus_laws.specs.Moves.{FollowsSites, IsKnown, IsSiteOf, OneBus, StepsAreMoves, count, moment_of, moves_for}
 use Rattle.osdp_sim_bus_laws.proofs.Delivering.{to_bus, to_readers}
-use Rattle.osdp_sim_bus_laws.proofs.Following.{issuing, nothing, queueing, setting, waiting}
+use Rattle.osdp_sim_bus_laws.proofs.Following.{Comes, issuing, nothing, queueing, same_coming, setting, unsaid, waiting}
 use Rattle.osdp_sim_bus_laws.proofs.Sites.{one_changes}
 
 -- ---- a line that is quiet
@@ -75,9 +79,13 @@ module _ {H : Type 0} (answer_of : H → Command → Answer) (after : H → Comm
   leaves_closed (Waiting until sends o) l e lasts = absurd cc
   leaves_closed (Pausing until o) l e lasts = absurd cc
 
+  -- a session of a site begins
+  abbrev begins_by : Option ControllerFault → ℕ → line.Site H → line.Site H
+  begins_by fault now t = line.left_by t (link.reopens fault [] [] now (line.link_of t [] []))
+
   site_begun : (now : ℕ) (u : Site H) (t : line.Site H) → is_closed t.controller.session.state ≡ true
       → Leaves t.account t.controller.waiting t.reader.queue.events → IsUndisturbed t.account → IsSiteOf u t
-      → IsSiteOf (site_begins u) (line.begins now t)
+      → IsSiteOf (site_begins u) (begins_by None now t)
   site_begun now u t closed leaves so is =
       let one : count (is_closed t.controller.session.state) ≡ 1 = ap count closed in
       let before = is.ended in
@@ -90,56 +98,76 @@ module _ {H : Type 0} (answer_of : H → Command → Answer) (after : H → Comm
         causes = is.causes;
       }
 
+  -- a quiet line is quiet for each site
+  is_quiet_for : (k : ℕ) (t : line.Site H) (n : Net H) → t.coming ≡ [] → n.to_panel ≡ [] → IsQuiet k t n
+  is_quiet_for k t n coming back = record {
+    coming = each_all (λ (q : ℕ × Packet). q.0 ≢ k) t.coming (subst (Each (λ (q : ℕ × Packet). q.0 ≢ k)) (sym coming) tt);
+    to_panel = each_all (λ (q : ℕ × Packet). (q.0 ≢ k) × (q.1.address ≢ line.address_of t)) n.to_panel
+        (subst (Each (λ (q : ℕ × Packet). (q.0 ≢ k) × (q.1.address ≢ line.address_of t))) (sym back) tt);
+  }
+
+  coming_at : (k : ℕ) (t : line.Site H) (ts : List (line.Site H)) (said : List (ℕ × Packet)) → Each (λ (u : line.Site H). u.coming ≡ said) ts
+      → site_at k ts ≡ Some t → t.coming ≡ said
+  coming_at k t [] said all at = absurd cc
+  coming_at zero t (u ∷ ts) said all at = let same : u ≡ t = cc in subst (λ (v : line.Site H). v.coming ≡ said) same all.0
+  coming_at (suc k) t (u ∷ ts) said all at = coming_at k t ts said all.1 at
+
   module _ (given : OneBus answer_of after) where
-    reopening : (place : ℕ) (s : LineState H) (n : Net H) → is_quiet place s ≡ true → IsKnown n → Follows s n → Done answer_of after (reopened place s) n
+    reopening : (place : ℕ) (s : LineState H) (n : Net H) → is_quiet place s ≡ true → IsKnown n → FollowsSites s n
+        → Comes answer_of after (Reopen place (moment_of s) ∷ []) (reopened place s) n
     reopening place s n quiet known h =
         let all = all_true (length s.to_readers == 0) (length s.to_bus == 0) (steps.is_ended place s.bus) quiet in
-        by_site (site_at place n.sites) refl
-        (none_on n.to_readers (subst (λ l. (length l == 0) ≡ true) h.to_readers all.0))
-        (none_on n.to_controllers (subst (λ l. (length l == 0) ≡ true) h.to_bus all.1)) all.2
+        let said : h.said ≡ [] = none_on h.said (subst (λ l. (length l == 0) ≡ true) h.to_readers all.0) in
+        let back : n.to_panel ≡ [] = none_on n.to_panel (subst (λ l. (length l == 0) ≡ true) h.to_bus all.1) in
+        by_site (site_at place n.sites) refl said back all.2
       where
-        by_site : (o : Option (line.Site H)) → site_at place n.sites ≡ o → n.to_readers ≡ [] → n.to_controllers ≡ [] → steps.is_ended place s.bus ≡ true
-            → Done answer_of after (reopened place s) n
-        by_site None at to_readers to_controllers ended =
+        by_site : (o : Option (line.Site H)) → site_at place n.sites ≡ o → h.said ≡ [] → n.to_panel ≡ [] → steps.is_ended place s.bus ≡ true
+            → Comes answer_of after (Reopen place (moment_of s) ∷ []) (reopened place s) n
+        by_site None at said back ended =
             absurd (nobody_ended (slice_get s.bus.devices.entries place) (ap (λ ds. slice_get ds place) h.bus.entries ∙ get_none place n.sites at) ended)
-        by_site (Some t) at to_readers to_controllers ended =
+        by_site (Some t) at said back ended =
             let there = ap (λ ds. slice_get ds place) h.bus.entries ∙ get_device place t n.sites at in
             let closed : is_closed t.controller.session.state ≡ true = ended_closed (slice_get s.bus.devices.entries place) (device_of t) there ended in
             let none : controllers.begin_refusal t.controller ≡ None = may_begin t.controller.session.state closed in
-            let g = max s.bus.greatest s.clock in
+            let g = moment_of s in
             let refusal : begin_refusal_at place s.bus ≡ None = ap begin_refusal_of there ∙ ap (option_map bus_fault) none in
-            let same : line.after_net answer_of after (Reopen place g) n ≡ record n { sites = changed place (line.begins g t) n.sites } =
-            ap (λ o. line.reopen_at place g o n.to_readers n.to_controllers n) at
-            ∙ ap (λ ps. line.reopen_at place g (Some t) ps n.to_controllers n) to_readers
-            ∙ ap (λ qs. line.reopen_at place g (Some t) [] qs n) to_controllers
-            ∙ ap (λ f. line.reopen_unless f place g t n) none in
-            let leaves = leaves_closed t.controller.session.state (view place t n) closed (known.leaves place t at) in (
-              Reopen place g ∷ [],
-              (tt, tt),
-              subst (Follows (reopened place s)) (sym same) (record {
-                bus = subst (λ (m : Net H). IsBusOf (reopened place s).bus m.sites) same (given.begins s.bus n place s.clock h.bus to_readers to_controllers refusal);
-                sites = one_changes place site_begins t (line.begins g t) s.sites n.sites h.sites at (λ u is. site_begun g u t closed leaves (known.accounts place t at) is);
-                to_readers = h.to_readers;
-                to_bus = h.to_bus;
-                asked = h.asked;
-                answered = h.answered;
-              }),
-            )
+            let next : Net H = record n { sites = changed place (begins_by None g t) n.sites } in
+            let same : line.after_net answer_of after (Reopen place g) n ≡ next =
+            ap (λ o. line.change_at place o (line.calls answer_of after (link.Reopen g)) n) at
+            ∙ ap (λ f. record n { sites = changed place (begins_by f g t) n.sites }) none in
+            let leaves = leaves_closed t.controller.session.state (view place t n) closed (known.leaves place t at) in
+            record {
+              scheduled = (tt, tt);
+              fits = (
+                λ u is may. is_quiet_for place u n (coming_at place u n.sites [] (subst (λ l. Each (λ (v : line.Site H). v.coming ≡ l) n.sites) said h.coming) is) back,
+                tt,
+              );
+              follows = subst (FollowsSites (reopened place s)) (sym same) (unsaid answer_of after s (reopened place s) n next h
+                  (subst (λ (m : Net H). IsBusOf (reopened place s).bus m.sites) same (given.begins s.bus n place s.clock h.bus refusal))
+                  (one_changes place site_begins t (begins_by None g t) s.sites n.sites h.sites at (λ u is. site_begun g u t closed leaves (known.accounts place t at) is))
+                  (λ before all. same_coming place t (begins_by None g t) before n.sites at refl all) refl refl refl);
+            }
 
-    where_reopened : (there : Bool) (place : ℕ) (s : LineState H) (n : Net H) → (there ≡ true → is_quiet place s ≡ true) → IsKnown n → Follows s n
-        → Done answer_of after (if there then reopened place s else s) n
+    where_reopened : (there : Bool) (place : ℕ) (s : LineState H) (n : Net H) → (there ≡ true → is_quiet place s ≡ true) → IsKnown n → FollowsSites s n
+        → Comes answer_of after (if there then Reopen place (moment_of s) ∷ [] else []) (if there then reopened place s else s) n
     where_reopened true place s n quiet known h = reopening place s n (quiet refl) known h
     where_reopened false place s n quiet known h = nothing answer_of after s n h
 
-    pub steps_are_moves : StepsAreMoves answer_of after
-    steps_are_moves (step.Issue number c) s n well fits known h = issuing answer_of after given.submits number c s n fits h
-    steps_are_moves (step.Queue number e) s n well fits known h = queueing answer_of after number e s n h
-    steps_are_moves (step.Busy number busy) s n well fits known h = setting answer_of after number busy s n h
-    steps_are_moves (step.Wait wait) s n well fits known h = waiting answer_of after given.ticks (moment_after wait s.clock) s n fits h
-    steps_are_moves (step.ToReader move) s n well fits known h =
-        to_readers answer_of after given.reads n.to_readers move s n refl well (each_of (λ (u : Site H). SaysFit answer_of after (packets_in (handed move s.to_readers)) u.reader) s.sites fits) h
-    steps_are_moves (step.ToController move) s n well fits known h =
-        to_bus answer_of after given.hears given.reads given.spells n.to_controllers move s n refl well fits given.no_bytes
-        (each_of (λ (q : ℕ × Packet). IsPlainlySaid q.1) n.to_controllers known.plain) h
-    steps_are_moves (step.Reopen number) s n well fits known h =
+    step_comes : (step : SimStep) (s : LineState H) (n : Net H) → fault_of step s ≡ None → StepFits answer_of after step s
+        → IsKnown n → FollowsSites s n → Comes answer_of after (moves_for step s) (after_step answer_of after step s) n
+    step_comes (step.Issue number c) s n well fits known h = issuing answer_of after given.submits number c s n fits h
+    step_comes (step.Queue number e) s n well fits known h = queueing answer_of after number e s n h
+    step_comes (step.Busy number busy) s n well fits known h = setting answer_of after number busy s n h
+    step_comes (step.Wait wait) s n well fits known h = waiting answer_of after given.ticks (moment_after wait s.clock) s n fits h
+    step_comes (step.ToReader move) s n well fits known h =
+        to_readers answer_of after given.reads move s n well (each_of (λ (u : Site H). SaysFit answer_of after (packets_in (handed move s.to_readers)) u.reader) s.sites fits) h
+    step_comes (step.ToController move) s n well fits known h =
+        to_bus answer_of after given.hears given.reads given.spells n.to_panel move s n refl well fits given.no_bytes
+        (each_of (λ (q : ℕ × Packet). IsPlainlySaid q.1) n.to_panel known.plain) h
+    step_comes (step.Reopen number) s n well fits known h =
         where_reopened (is_there number s) (number - 1) s n (quiet_where (is_there number s) (is_quiet (number - 1) s) well) known h
+
+    pub steps_are_moves : StepsAreMoves answer_of after
+    steps_are_moves step s n well fits known h =
+        let c = step_comes step s n well fits known h in
+        record { scheduled = each_all IsScheduled (moves_for step s) c.scheduled; fits = c.fits; follows = c.follows }

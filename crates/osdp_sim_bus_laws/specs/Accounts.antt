@@ -48,7 +48,7 @@ module _ {H : Type 0} where
 
     -- where no session begins again, for each reader: commands are taken once and in order, settled with their own answers, and events are
     -- reported once and in order
-    abbrev pub HoldsOnce : Type 0
-    HoldsOnce = (config : BusConfig) (readers : List (Given H)) (steps : List SimStep) (answer : BusAnswer)
+    abbrev pub AccountsAreOnce : Type 0
+    AccountsAreOnce = (config : BusConfig) (readers : List (Given H)) (steps : List SimStep) (answer : BusAnswer)
         → IsAnswer config readers steps answer → WasSetUp answer → All IsInSession (steps_done steps answer)
         → EachMeets (IsOnce answer_of after) readers (accounts_in answer)

@@ -1,27 +1,32 @@
 -- What the steps of a schedule are to several links: a simulated line with a bus, seen as sites on a line of packets.
 use Rattle.std.specs.List.{AllByRecursion}
-use Rattle.std.specs.Prelude.{◌≡◌, ◌+◌, ℕ, Bool, true, false, All, List, [], ◌∷◌, length, map, Some, None}
+use Rattle.std.specs.Prelude.{◌≡◌, ◌+◌, ◌-◌, ℕ, zero, suc, Bool, true, false, All, if◌then◌else◌, List, [], ◌∷◌, ◌++◌, length, map, max, Some, None}
 use Rattle.osdp_frame.specs.Bytes.{AreBytes}
 use Rattle.osdp_frame.specs.Packet.{IsPacket, Packet}
 use Rattle.osdp_frame.specs.Spelling.{spelling}
 use Rattle.osdp_msg.specs.declared.command.Command.{Command}
 use Rattle.osdp_controller.specs.States.{is_closed}
 use Rattle.osdp_reader.specs.declared.handler.Answer.{Answer}
+use Rattle.osdp_link_laws.specs.Link.{Delivery}
 use Rattle.osdp_link_laws.specs.Peers.{IsPlainlySaid}
 use Rattle.osdp_link_laws.specs.Ordinary.{IsUndisturbed}
 use Rattle.osdp_link_laws.specs.Sessions.{LastsOrLeaves}
-use Rattle.osdp_multidrop.specs.Line as line
-use Rattle.osdp_multidrop.specs.Line.{Net, NetMove, run, site_at}
-use Rattle.osdp_multidrop.specs.Runs.{NetMovesFit, IsSetUp}
-use Rattle.osdp_multidrop.specs.Views.{view}
+use Rattle.osdp_shared_line.specs.Addresses.{IsSetUp, NetMovesFit}
+use Rattle.osdp_shared_line.specs.Line as line
+use Rattle.osdp_shared_line.specs.Line.{Net, NetMove, run, site_at}
+use Rattle.osdp_shared_line.specs.Views.{view}
 use Rattle.osdp_bus.specs.declared.config.BusConfig.{BusConfig}
-use Rattle.osdp_bus_links.specs.Links.{BeginsAsAMove, HearsAsAMove, IsBusOf, SubmitsAsAMove, TicksAsAMove, packets_on}
+use Rattle.osdp_bus_links.specs.Links.{BeginsAsAMove, HearsAsAMove, IsBusOf, SubmitsAsAMove, TicksAsAMove, packets_on, tick_moves}
+use Rattle.osdp_bus_links.specs.Premises.{AllOthersFit, BusSuffices, IsScheduled, NoneIsKept}
+use Rattle.osdp_sim.specs.Steps.{moment_after}
 use Rattle.osdp_sim.specs.declared.step.SimStep.{SimStep}
+use Rattle.osdp_sim.specs.declared.step.SimStep.TheVariants.{Issue, Queue, Busy, Wait, ToReader, ToController, Reopen}
 use Rattle.osdp_sim_bus.specs.Runs as simulation
 use Rattle.osdp_sim_bus.specs.Runs.{AreSettings, FitAlong}
 use Rattle.osdp_sim_bus.specs.State.{Given, LineState, Site, set_up}
-use Rattle.osdp_sim_bus.specs.Steps.{StepFits, after_step, fault_of}
+use Rattle.osdp_sim_bus.specs.Steps.{StepFits, after_step, fault_of, is_there}
 use Rattle.osdp_sim_laws.specs.Accounts.{IsNoRefusal, IsOf}
+use Rattle.osdp_sim_laws.specs.Moves.{delivery}
 use Rattle.osdp_sim_laws.specs.OneLink.{ReadsPackets}
 
 abbrev pub count : Bool → ℕ
@@ -33,6 +38,32 @@ abbrev pub SpellsBytes : Type 0
 SpellsBytes = (p : Packet) → IsPacket p → AreBytes (spelling p)
 
 module _ {H : Type 0} where
+  -- ---- which moves a step is
+
+  -- readers count from 1, and sites from 0
+  abbrev pub for_reader : ℕ → LineState H → (ℕ → NetMove H) → List (NetMove H)
+  for_reader number s move = if is_there number s then move (number - 1) ∷ [] else []
+
+  -- so many readers read what comes next for each of them, in their order, the first of them at this place
+  abbrev pub each_reads : Delivery → ℕ → ℕ → List (NetMove H)
+  each_reads how k zero = []
+  each_reads how k (suc more) = line.ToReader k how ∷ each_reads how (suc k) more
+
+  -- the greatest moment that the bus has seen, with the line's
+  abbrev pub moment_of : LineState H → ℕ
+  moment_of s = max s.bus.greatest s.clock
+
+  abbrev pub moves_for : SimStep → LineState H → List (NetMove H)
+  moves_for (Issue number command) s = for_reader number s (λ k. line.Submit k command)
+  moves_for (Queue number event) s = for_reader number s (λ k. line.Queue k event)
+  moves_for (Busy number busy) s = for_reader number s (λ k. line.SetBusy k busy)
+  moves_for (Wait wait) s = tick_moves (moment_after wait s.clock) s.bus
+  moves_for (ToReader move) s = each_reads (delivery move) 0 (length s.sites)
+  moves_for (ToController move) s = line.ToPanel (delivery move) (moment_of s) ∷ []
+  moves_for (Reopen number) s = for_reader number s (λ k. line.Reopen k (moment_of s))
+
+  -- ---- a simulation and its sites
+
   -- a reader is that of a site, and its account holds what the sessions of the site came to: each has ended once, or each but the last
   pub record IsSiteOf (u : Site H) (t : line.Site H) : Type 0 where
     pub reader : u.reader ≡ t.reader
@@ -45,48 +76,67 @@ module _ {H : Type 0} where
   SitesOf (u ∷ us) (t ∷ ts) = IsSiteOf u t × SitesOf us ts
   SitesOf _ _ = ⊥
 
-  -- the simulation is these sites, with the bus as their controllers and their packets as bytes
-  pub record Follows (s : LineState H) (n : Net H) : Type 0 where
+  -- the simulation is these sites, with the bus as their controllers and their packets as bytes. Every reader has the same before it.
+  pub record FollowsSites (s : LineState H) (n : Net H) : Type 0 where
     pub bus : IsBusOf s.bus n.sites
     pub sites : SitesOf s.sites n.sites
-    pub to_readers : s.to_readers ≡ map spelling (packets_on n.to_readers)
-    pub to_bus : s.to_bus ≡ map spelling (packets_on n.to_controllers)
-    pub asked : AllByRecursion IsPacket (packets_on n.to_readers)
-    pub answered : AllByRecursion IsPacket (packets_on n.to_controllers)
+    pub said : List (ℕ × Packet)
+    pub coming : AllByRecursion (λ (t : line.Site H). t.coming ≡ said) n.sites
+    pub to_readers : s.to_readers ≡ map spelling (packets_on said)
+    pub to_bus : s.to_bus ≡ map spelling (packets_on n.to_panel)
+    pub asked : AllByRecursion IsPacket (packets_on said)
+    pub answered : AllByRecursion IsPacket (packets_on n.to_panel)
 
   -- what is known of sites after any moves: all that their readers say settles, nobody restarts in their sessions, and one that is over leaves
   -- what the next begins with
   pub record IsKnown (n : Net H) : Type 0 where
-    pub plain : All (λ (q : ℕ × Packet). IsPlainlySaid q.1) n.to_controllers
+    pub plain : All (λ (q : ℕ × Packet). IsPlainlySaid q.1) n.to_panel
     pub accounts : (k : ℕ) (t : line.Site H) → site_at k n.sites ≡ Some t → IsUndisturbed t.account
     pub leaves : (k : ℕ) (t : line.Site H) → site_at k n.sites ≡ Some t → LastsOrLeaves t.controller.session.state (view k t n)
 
   module _ (answer_of : H → Command → Answer) (after : H → Command → H) where
-    abbrev pub Done : LineState H → Net H → Type 0
-    Done s n = (moves : List NetMove) × NetMovesFit answer_of after moves n × Follows s (run answer_of after moves n)
-
     -- what this stands on: the calls of a bus, and what its bytes are
     pub record OneBus : Type 0 where
       pub submits : SubmitsAsAMove answer_of after
       pub begins : BeginsAsAMove answer_of after
       pub ticks : TicksAsAMove answer_of after
       pub hears : HearsAsAMove H
+      pub suffices : BusSuffices answer_of after
       pub reads : ReadsPackets
       pub spells : SpellsBytes
       pub no_bytes : AreBytes []
 
-    -- each step that is not refused is a list of moves of these sites, and the simulation follows them
+    -- a step is its moves, which are moves of a schedule: the simulation follows them
+    pub record IsItsMoves (step : SimStep) (s : LineState H) (n : Net H) : Type 0 where
+      pub scheduled : All IsScheduled (moves_for step s)
+      pub fits : AllOthersFit answer_of after (moves_for step s) n
+      pub follows : FollowsSites (after_step answer_of after step s) (run answer_of after (moves_for step s) n)
+
+    -- so is each step that is not refused
     abbrev pub StepsAreMoves : Type 0
     StepsAreMoves = (step : SimStep) (s : LineState H) (n : Net H) → fault_of step s ≡ None → StepFits answer_of after step s
-        → IsKnown n → Follows s n → Done (after_step answer_of after step s) n
+        → IsKnown n → FollowsSites s n → IsItsMoves step s n
+
+    -- ---- which moves a schedule is
+
+    -- those of each step, at the state before it
+    abbrev pub moves_of : List SimStep → LineState H → List (NetMove H)
+    moves_of [] s = []
+    moves_of (step ∷ steps) s = moves_for step s ++ moves_of steps (after_step answer_of after step s)
+
+    -- the run of a schedule is the run of these moves: the premises of the line hold of them, that on addresses too
+    pub record AreItsMoves (steps : List SimStep) (s : LineState H) (first : Net H) : Type 0 where
+      pub scheduled : All IsScheduled (moves_of steps s)
+      pub fits : NetMovesFit answer_of after (moves_of steps s) first
+      pub follows : FollowsSites (simulation.run answer_of after steps s) (run answer_of after (moves_of steps s) first)
 
     -- so is each schedule, as far as it isn't refused, from a line on which the first sessions begin
     abbrev pub SchedulesAreMoves : Type 0
-    SchedulesAreMoves = (steps : List SimStep) (s : LineState H) (first : Net H) → IsSetUp first → Follows s first
+    SchedulesAreMoves = (steps : List SimStep) (s : LineState H) (first : Net H) → IsSetUp first → NoneIsKept first → FollowsSites s first
         → simulation.is_well answer_of after steps s ≡ true → FitAlong answer_of after steps s
-        → Done (simulation.run answer_of after steps s) first
+        → AreItsMoves steps s first
 
 -- where the settings are in their ranges, the line that is set up follows sites on which the first sessions begin
 abbrev pub BeginsAsSites : Type 0 → Type 0
 BeginsAsSites H = (config : BusConfig) (readers : List (Given H)) → AreSettings config readers
-    → (first : Net H) × IsSetUp first × Follows (set_up config readers) first
+    → (first : Net H) × IsSetUp first × NoneIsKept first × FollowsSites (set_up config readers) first

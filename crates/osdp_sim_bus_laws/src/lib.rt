@@ -3,16 +3,17 @@
 #![tactic(auto)]
 
 ghost use Rattle.osdp_sim_bus_laws.specs.Accepted.{EachAccepts};
-ghost use Rattle.osdp_sim_bus_laws.specs.Accounts.{HoldsOnce, StaysInARow};
+ghost use Rattle.osdp_sim_bus_laws.specs.Accounts.{AccountsAreOnce, StaysInARow};
 ghost use Rattle.osdp_sim_bus_laws.specs.Moves.{BeginsAsSites, OneBus, SchedulesAreMoves, StepsAreMoves};
 
 use osdp_reader::Handler;
 
 /// The calls of a bus are moves, and a packet is read as it is spelled.
 ///
-/// So each step of a schedule that isn't refused is a list of moves of several links: the simulated line follows it, with the bus as their
-/// controllers, their packets as bytes, and each reader's account as what the sessions of its site come to. So is each schedule, as far as it
-/// isn't refused, from a line on which the first sessions begin. The line that is set up is one, where the settings are in their ranges.
+/// So each step of a schedule that isn't refused is its moves of several links, at the state before it: the simulated line follows them, with
+/// the bus as their controllers, their packets as bytes, and each reader's account as what the sessions of its site come to. So the run of a
+/// schedule, as far as it isn't refused, is the run of the moves of its steps, from a line on which the first sessions begin: all premises of
+/// the line hold of them, that on addresses too. The line that is set up is one, where the settings are in their ranges.
 pub fn schedules_are_moves<H: Handler>()
     ensures bus { OneBus H.answer_of H.after }
     ensures steps { StepsAreMoves H.answer_of H.after }
@@ -23,10 +24,14 @@ pub fn schedules_are_moves<H: Handler>()
     osdp_frame_laws::one_spelling();
     osdp_frame_laws::spelling_of_bytes();
     osdp_bus_links::calls_are_moves::<H>();
+    osdp_bus_links::bus_suffices::<H>();
     osdp_link_laws::read_each_other::<H>();
     osdp_link_laws::refuses_no_number::<H>();
+    osdp_link_laws::sessions_in_a_row::<H>();
+    osdp_link_laws::ordinary_runs_are_undisturbed::<H>();
     osdp_link_laws::names::name_one_device::<H>();
-    osdp_multidrop::each_is_a_link::<H>();
+    osdp_shared_line::each_move_is_its_own::<H>();
+    osdp_shared_line::nobody_else_hears::<H>();
 }
 
 /// Whatever a schedule over a bus says, for each reader: its account is that of sessions in a row, with the last session's unsettled commands
@@ -38,10 +43,13 @@ pub fn schedules_are_moves<H: Handler>()
 /// at most once, and not by a refused number.
 pub fn each_account_holds_once<H: Handler>()
     ensures row { StaysInARow H.answer_of H.after }
-    ensures once { HoldsOnce H.answer_of H.after }
+    ensures once { AccountsAreOnce H.answer_of H.after }
 {
     schedules_are_moves::<H>();
-    osdp_multidrop::each_is_a_link::<H>();
+    osdp_shared_line::each_is_a_link::<H>();
+    osdp_link_laws::answers_of_one_handler::<H>();
+    osdp_link_laws::ordinary_runs_are_undisturbed::<H>();
+    osdp_link_laws::sessions_in_a_row::<H>();
     osdp_sim_bus::laws::has_an_account_each::<H>();
 }
 

@@ -1,6 +1,6 @@
 use Rattle.std.proofs.Common.{refl, arith}
 use Rattle.osdp_frame.specs.Spelling.{spelling}
-use Rattle.osdp_sim_bus_laws.proofs.Beginning.{first_net, follows_first, is_set_up}
+use Rattle.osdp_sim_bus_laws.proofs.Beginning.{first_net, follows_first, is_set_up, none_is_kept}
 use Rattle.osdp_sim_bus_laws.proofs.Scheduling.{schedules_are_moves}
 use Rattle.osdp_sim_bus_laws.proofs.Stepping.{steps_are_moves}
 use Rattle.osdp_sim_bus_laws.proofs.schedules_are_moves.Goals as goal
@@ -11,6 +11,7 @@ returns-clause-bus g c = record {
   begins = c.calls_are_moves.ensures.begins;
   ticks = c.calls_are_moves.ensures.ticks;
   hears = c.calls_are_moves.ensures.hears;
+  suffices = c.bus_suffices.ensures;
   reads = record {
     one = λ p packet. c.reads_packets.ensures.one p (spelling p) ((c.one_spelling.ensures p (spelling p)).1 (packet, refl));
     none = c.reads_packets.ensures.none;
@@ -24,9 +25,11 @@ returns-clause-steps g c = steps_are_moves g.H.Handler.answer_of g.H.Handler.aft
 
 pub returns-clause-schedules : goal.returns-clause-schedules
 returns-clause-schedules g c =
-    schedules_are_moves g.H.Handler.answer_of g.H.Handler.after (returns-clause-steps g c)
-    (record { peers = c.read_each_other.ensures; device = c.name_one_device.ensures.device; told = c.name_one_device.ensures.told }) c.each_is_a_link.ensures.link
-    c.refuses_no_number.ensures.packets c.each_is_a_link.ensures.row
+    schedules_are_moves g.H.Handler.answer_of g.H.Handler.after (returns-clause-steps g c) c.bus_suffices.ensures
+    (record { peers = c.read_each_other.ensures; device = c.name_one_device.ensures.device; told = c.name_one_device.ensures.told })
+    c.each_move_is_its_own.ensures c.nobody_else_hears.ensures.hears c.refuses_no_number.ensures.packets c.sessions_in_a_row.ensures.last
+    c.ordinary_runs_are_undisturbed.ensures.accounts
 
 pub returns-clause-set_up : goal.returns-clause-set_up
-returns-clause-set_up g c config readers settings = (first_net config readers, is_set_up config readers settings, follows_first config readers)
+returns-clause-set_up g c config readers settings =
+    (first_net config readers, is_set_up config readers settings, none_is_kept config readers, follows_first config readers)

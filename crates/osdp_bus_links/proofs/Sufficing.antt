@@ -1,0 +1,252 @@
+-- What a bus accepts it gives to nobody else: where nobody restarts and no address is set but by COMSETs, all addresses at which a device is, or
+-- may come, are its controller's or kept for it.
+use Rattle.std.proofs.Common.{◌≡◌, ◌≢◌, ◌||◌, ◌==◌, ℕ, zero, suc, not, Bool, true, false, List, [], ◌∷◌, ◌++◌, Option, Some, None, refl, sym, subst, ap, ◌∙◌, inl, inr}
+use Rattle.std.proofs.lemmas.Bool.Decides.{eqb_tells}
+use Rattle.std.specs.Prelude.{is_some}
+use Rattle.osdp_frame.specs.Packet.{Packet}
+use Rattle.osdp_msg.specs.declared.command.Command.{Command}
+use Rattle.osdp_msg.specs.declared.command_fields.Communication.{Communication}
+use Rattle.osdp_controller.specs.Hearing.{comset_of}
+use Rattle.osdp_controller.specs.Machine as controllers
+use Rattle.osdp_controller.specs.declared.exchange.Exchange.{Exchange}
+use Rattle.osdp_controller.specs.declared.exchange.Exchange.TheVariants.{Asking, Opening, Polling}
+use Rattle.osdp_controller.specs.declared.state.State.{State}
+use Rattle.osdp_controller.specs.declared.state.State.TheVariants.{Closed, Idle, Pausing, Quiet, Waiting}
+use Rattle.osdp_reader.specs.declared.handler.Answer.{Answer}
+use Rattle.osdp_link_laws.proofs.Lines.{each_of}
+use Rattle.osdp_link_laws.proofs.Numbers.{is_true}
+use Rattle.osdp_link_laws.proofs.Stages.{Each, pending}
+use Rattle.osdp_shared_line.specs.Addresses as addresses
+use Rattle.osdp_shared_line.specs.Addresses.{HasNoOther, IsAsked, IsSaid, IsSetUp, IsThere, MayComeTo, NetMoveFits, NetMovesFit, NobodyElseHears, Sets, SetsReader, Somewhere, asked_by, unended}
+use Rattle.osdp_shared_line.specs.Line.{LoseToPanel, LoseToReader, Net, NetMove, Queue, Reopen, RestartPanel, RestartReader, Retarget, SetBusy, SetHandler, Site, Submit, Tick, ToPanel, ToReader, Withdraw, address_of, after_net, is_command_accepted, is_comset_refused, is_reserved, is_taken, is_taken_beside, run, site_at, takes_up}
+use Rattle.osdp_shared_line.specs.Views.{EachMoveIsItsOwn, OpensQuietly, move_of, own, view}
+use Rattle.osdp_shared_line.proofs.Linking.{move_fits}
+use Rattle.osdp_shared_line.proofs.Sites.{own_first, own_rest, some_same}
+use Rattle.osdp_bus_links.specs.Premises.{AllOthersFit, BusSuffices, IsScheduled, NoneIsKept, OthersFit}
+use Rattle.osdp_bus_links.proofs.Keeping.{before, moves_may, neither}
+use Rattle.osdp_bus_links.proofs.Leading.{starts}
+use Rattle.osdp_bus_links.proofs.Linked.{AreLinked, IsLinked, OfALink, linked_after}
+use Rattle.osdp_bus_links.proofs.Names.{IsName}
+use Rattle.osdp_bus_links.proofs.Naming.{Keeps}
+use Rattle.osdp_bus_links.proofs.Reserved.{One, asked_in, front_is, new_is}
+
+-- ---- what is under way
+
+asked_so : (x : Exchange) → asked_by x ≡ pending x
+asked_so Opening = refl
+asked_so Polling = refl
+asked_so (Asking c) = refl
+
+asked_alike : (state : State) → addresses.asked_in state ≡ asked_in state
+asked_alike Closed = refl
+asked_alike (Quiet until) = refl
+asked_alike (Idle due) = refl
+asked_alike (Waiting until k o) = asked_so o.exchange
+asked_alike (Pausing until o) = asked_so o.exchange
+
+-- the one COMSET sets the address that is kept
+one_sets : (r : Option ℕ) (a : ℕ) (cs : List Command) → One r cs → Somewhere (Sets a) cs → r ≡ Some a
+one_sets r a [] one found = absurd found
+one_sets r a (c ∷ cs) one (inl sets) =
+    let set = new_is c a sets in (front_is (comset_of c) set.0 r cs set.1 one.0).0 ∙ ap Some set.2
+one_sets r a (c ∷ cs) one (inr found) = one_sets r a cs one.1 found
+
+-- what holds of all that is one's own holds of one
+of_own : (P : Packet → Type 0) (Q : Packet → Type 0) (R : Type 0) (k : ℕ) (ps : List (ℕ × Packet)) → ((p : Packet) → P p → Q p → R) → Each P (own k ps)
+    → Somewhere (λ (q : ℕ × Packet). (q.0 ≡ k) × Q q.1) ps → R
+of_own P Q R k [] gives all found = absurd found
+of_own P Q R k (p ∷ ps) gives all (inl (mine, is)) = gives p.1 (subst (Each P) (own_first k p ps mine) all).0 is
+of_own P Q R k (p ∷ ps) gives all (inr found) = elim (eqb_tells p.0 k) [
+  | inl equal ↦ of_own P Q R k ps gives (subst (Each P) (own_first k p ps equal.1) all).1 found
+  | inr differs ↦ of_own P Q R k ps gives (subst (Each P) (own_rest k p ps differs.1) all) found
+]
+
+-- ---- what is taken
+
+not_both : (b : Bool) → b ≡ true → b ≡ false → ⊥
+not_both true is free = cc
+not_both false is free = cc
+
+accepts_so : (a b : Bool) → not (a || b) ≡ true → a ≡ false
+accepts_so true b is = absurd cc
+accepts_so false b is = refl
+
+either_so : (a b : Bool) → b ≡ true → a || b ≡ true
+either_so true b is = refl
+either_so false b is = is
+
+kept_is : (r : Option ℕ) (a : ℕ) → r ≡ Some a → is_reserved a r ≡ true
+kept_is None a is = absurd cc
+kept_is (Some b) a is = is_true b a cc
+
+module _ {H : Type 0} where
+  -- an address of a site is one that the bus takes for taken
+  name_taken : (a : ℕ) (s : Site H) → IsName (address_of s) s.reserved a → takes_up a s ≡ true
+  name_taken a s (inl here) = ap (λ b. b || is_reserved a s.reserved) (is_true (address_of s) a (sym here))
+  name_taken a s (inr kept) = either_so (address_of s == a) (is_reserved a s.reserved) (kept_is s.reserved a kept)
+
+  none_takes : (a k : ℕ) (s : Site H) (ss : List (Site H)) → is_taken a ss ≡ false → site_at k ss ≡ Some s → takes_up a s ≡ true → ⊥
+  none_takes a k s [] free is taken = cc
+  none_takes a zero s (t ∷ ss) free is taken =
+      not_both (takes_up a t) (ap (takes_up a) (some_same t s is) ∙ taken) (neither (takes_up a t) (is_taken a ss) free).0
+  none_takes a (suc k) s (t ∷ ss) free is taken = none_takes a k s ss (neither (takes_up a t) (is_taken a ss) free).1 is taken
+
+  none_beside : (i a k : ℕ) (s : Site H) (ss : List (Site H)) → is_taken_beside i a ss ≡ false → k ≢ i → site_at k ss ≡ Some s → takes_up a s ≡ true → ⊥
+  none_beside i a k s [] free other is taken = cc
+  none_beside zero a zero s (t ∷ ss) free other is taken = other refl
+  none_beside zero a (suc k) s (t ∷ ss) free other is taken = none_takes a k s ss free is taken
+  none_beside (suc i) a zero s (t ∷ ss) free other is taken =
+      not_both (takes_up a t) (ap (takes_up a) (some_same t s is) ∙ taken) (neither (takes_up a t) (is_taken_beside i a ss) free).0
+  none_beside (suc i) a (suc k) s (t ∷ ss) free other is taken =
+      none_beside i a k s ss (neither (takes_up a t) (is_taken_beside i a ss) free).1 (λ e. other (ap suc e)) is taken
+
+module _ {H : Type 0} (answer_of : H → Command → Answer) (after : H → Command → H) where
+  -- ---- where a device is or may come
+
+  named : (a k : ℕ) (s : Site H) (n : Net H) → IsLinked answer_of after k s n → MayComeTo a k s → IsName (address_of s) s.reserved a
+  named a k s n h (IsThere is) = subst (IsName (address_of s) s.reserved) is h.keeps.names.reader
+  named a k s n h (IsAsked found) =
+      inr (one_sets s.reserved a (asked_in s.controller.session.state ++ s.controller.waiting) h.keeps.one
+      (subst (λ cs. Somewhere (Sets a) (cs ++ s.controller.waiting)) (asked_alike s.controller.session.state) found))
+  named a k s n h (IsSaid found) =
+      of_own (λ p. (to : ℕ) → SetsReader to p → IsName (address_of s) s.reserved to) (SetsReader a) (IsName (address_of s) s.reserved a) k s.coming
+      (λ p names sets. names a sets) h.keeps.names.commands found
+
+  has_no_other : (k : ℕ) (c : Command) (asked : Communication) (s : Site H) (n : Net H) → AreLinked answer_of after n
+      → is_command_accepted k c s n.sites ≡ true → comset_of c ≡ Some asked → HasNoOther k asked.address n
+  has_no_other k c asked s n linked accepted is j t other there may =
+      let free : is_comset_refused k (Some asked) s n.sites ≡ false =
+      ap (λ o. is_comset_refused k o s n.sites) (sym is)
+      ∙ accepts_so (is_comset_refused k (comset_of c) s n.sites) (is_some (controllers.submit_refusal c s.controller)) accepted in
+      none_beside k asked.address j t n.sites (neither (is_taken_beside k asked.address n.sites) (is_some s.reserved) free).0 other there
+      (name_taken asked.address t (named asked.address j t n (linked j t there) may))
+
+  fits : (move : NetMove H) (n : Net H) → IsScheduled move → OthersFit answer_of after move n → AreLinked answer_of after n
+      → NetMoveFits answer_of after move n
+  fits (Submit k c) n scheduled others linked = (others, λ s asked at accepted is. has_no_other k c asked s n linked accepted is)
+  fits (Queue k e) n scheduled others linked = tt
+  fits (SetBusy k busy) n scheduled others linked = tt
+  fits (Tick k now) n scheduled others linked = tt
+  fits (ToReader k how) n scheduled others linked = others
+  fits (ToPanel how now) n scheduled others linked = tt
+  fits (Reopen k now) n scheduled others linked = others
+  fits (SetHandler k h) n scheduled others linked = absurd scheduled
+  fits (Withdraw k) n scheduled others linked = absurd scheduled
+  fits (Retarget k address) n scheduled others linked = absurd scheduled
+  fits (LoseToReader k place) n scheduled others linked = absurd scheduled
+  fits (LoseToPanel place) n scheduled others linked = absurd scheduled
+  fits (RestartReader k address h room) n scheduled others linked = absurd scheduled
+  fits (RestartPanel settings) n scheduled others linked = absurd scheduled
+
+  opens : (move : NetMove H) (n : Net H) → IsScheduled move → OthersFit answer_of after move n → OpensQuietly move n
+  opens (Submit k c) n scheduled others = tt
+  opens (Queue k e) n scheduled others = tt
+  opens (SetBusy k busy) n scheduled others = tt
+  opens (Tick k now) n scheduled others = tt
+  opens (ToReader k how) n scheduled others = tt
+  opens (ToPanel how now) n scheduled others = tt
+  opens (Reopen k now) n scheduled others = others
+  opens (SetHandler k h) n scheduled others = absurd scheduled
+  opens (Withdraw k) n scheduled others = absurd scheduled
+  opens (Retarget k address) n scheduled others = absurd scheduled
+  opens (LoseToReader k place) n scheduled others = absurd scheduled
+  opens (LoseToPanel place) n scheduled others = absurd scheduled
+  opens (RestartReader k address h room) n scheduled others = absurd scheduled
+  opens (RestartPanel settings) n scheduled others = absurd scheduled
+
+  -- ---- one list of moves after another
+
+  pub net_run_more : (ms more : List (NetMove H)) (n : Net H) → run answer_of after (ms ++ more) n ≡ run answer_of after more (run answer_of after ms n)
+  net_run_more [] more n = refl
+  net_run_more (m ∷ ms) more n = net_run_more ms more (after_net answer_of after m n)
+
+  pub net_fits_more : (ms more : List (NetMove H)) (n : Net H) → NetMovesFit answer_of after ms n
+      → NetMovesFit answer_of after more (run answer_of after ms n) → NetMovesFit answer_of after (ms ++ more) n
+  net_fits_more [] more n first last = last
+  net_fits_more (m ∷ ms) more n first last = (first.0, net_fits_more ms more (after_net answer_of after m n) first.1 last)
+
+  pub others_more : (ms more : List (NetMove H)) (n : Net H) → AllOthersFit answer_of after ms n
+      → AllOthersFit answer_of after more (run answer_of after ms n) → AllOthersFit answer_of after (ms ++ more) n
+  others_more [] more n first last = last
+  others_more (m ∷ ms) more n first last = (first.0, others_more ms more (after_net answer_of after m n) first.1 last)
+
+  others : (move : NetMove H) (n : Net H) → IsScheduled move → NetMoveFits answer_of after move n → OthersFit answer_of after move n
+  others (Submit k c) n scheduled fit = fit.0
+  others (Queue k e) n scheduled fit = tt
+  others (SetBusy k busy) n scheduled fit = tt
+  others (Tick k now) n scheduled fit = tt
+  others (ToReader k how) n scheduled fit = fit
+  others (ToPanel how now) n scheduled fit = tt
+  others (Reopen k now) n scheduled fit = fit
+  others (SetHandler k h) n scheduled fit = absurd scheduled
+  others (Withdraw k) n scheduled fit = absurd scheduled
+  others (Retarget k address) n scheduled fit = absurd scheduled
+  others (LoseToReader k place) n scheduled fit = absurd scheduled
+  others (LoseToPanel place) n scheduled fit = absurd scheduled
+  others (RestartReader k address h room) n scheduled fit = absurd scheduled
+  others (RestartPanel settings) n scheduled fit = absurd scheduled
+
+  module _ (given : OfALink answer_of after) (its_own : EachMoveIsItsOwn answer_of after) (nobody : NobodyElseHears answer_of after) where
+    linked_on : (first : Net H) (ms : List (NetMove H)) (move : NetMove H) → IsSetUp first → NetMovesFit answer_of after ms first
+        → IsScheduled move → OthersFit answer_of after move (run answer_of after ms first)
+        → NetMoveFits answer_of after move (run answer_of after ms first) → AreLinked answer_of after (run answer_of after ms first)
+        → AreLinked answer_of after (after_net answer_of after move (run answer_of after ms first))
+    linked_on first ms move up along scheduled others fit linked k t is =
+        let n = run answer_of after ms first in
+        let next = after_net answer_of after move n in
+        let heard = (nobody first ms up along).heard in
+        let old = before answer_of after move k t n scheduled heard is in
+        let moved = its_own n move heard (opens move n scheduled others) k old.site old.there in
+        let may = moves_may answer_of after move k old.site n scheduled in
+        let same : t ≡ moved.site = some_same t moved.site (sym is ∙ moved.there) in
+        subst (λ (u : Site H). IsLinked answer_of after k u next) (sym same)
+        (linked_after answer_of after given k old.site (move_of k old.site move n) n next (linked k old.site old.there)
+        (move_fits answer_of after move k old.site n old.there fit) may.0 may.1 moved (ap (λ (u : Site H). u.reserved) (sym same) ∙ old.reserved))
+
+    linked_first : (n : Net H) → IsSetUp n → NoneIsKept n → AreLinked answer_of after n
+    linked_first n up none k s is = record {
+      first = view k s n;
+      moves = [];
+      led = record { begins = up.begins k s is; fits = tt; usual = tt; leads = refl };
+      keeps = subst (λ r. Keeps r (view k s n)) (sym (none k s is)) (starts answer_of after (view k s n) (record {
+        begins = up.begins k s is;
+        together = up.together k s is;
+        stored = up.stored k s is;
+        waiting = up.waiting k s is;
+      }));
+    }
+
+    sufficing : (first : Net H) (ms moves : List (NetMove H)) → IsSetUp first → NetMovesFit answer_of after ms first → Each IsScheduled moves
+        → AllOthersFit answer_of after moves (run answer_of after ms first) → AreLinked answer_of after (run answer_of after ms first)
+        → NetMovesFit answer_of after moves (run answer_of after ms first)
+    sufficing first ms [] up along scheduled others linked = tt
+    sufficing first ms (move ∷ moves) up along scheduled others linked =
+        let n = run answer_of after ms first in
+        let fit = fits move n scheduled.0 others.0 linked in
+        let same : run answer_of after (ms ++ move ∷ []) first ≡ after_net answer_of after move n = net_run_more ms (move ∷ []) first in (
+          fit,
+          subst (NetMovesFit answer_of after moves) same (sufficing first (ms ++ move ∷ []) moves up (net_fits_more ms (move ∷ []) first along (fit, tt))
+              scheduled.1 (subst (AllOthersFit answer_of after moves) (sym same) others.1)
+              (subst (AreLinked answer_of after) (sym same) (linked_on first ms move up along scheduled.0 others.0 fit linked))),
+        )
+
+    -- each site is a link that such moves have led to
+    linked_all : (first : Net H) (ms moves : List (NetMove H)) → IsSetUp first → NetMovesFit answer_of after ms first → Each IsScheduled moves
+        → NetMovesFit answer_of after moves (run answer_of after ms first) → AreLinked answer_of after (run answer_of after ms first)
+        → AreLinked answer_of after (run answer_of after moves (run answer_of after ms first))
+    linked_all first ms [] up along scheduled fit linked = linked
+    linked_all first ms (move ∷ moves) up along scheduled fit linked =
+        let n = run answer_of after ms first in
+        let same : run answer_of after (ms ++ move ∷ []) first ≡ after_net answer_of after move n = net_run_more ms (move ∷ []) first in
+        let next = linked_on first ms move up along scheduled.0 (others move n scheduled.0 fit.0) fit.0 linked in
+        subst (λ m. AreLinked answer_of after (run answer_of after moves m)) same
+        (linked_all first (ms ++ move ∷ []) moves up (net_fits_more ms (move ∷ []) first along (fit.0, tt)) scheduled.1
+        (subst (NetMovesFit answer_of after moves) (sym same) fit.1) (subst (AreLinked answer_of after) (sym same) next))
+
+    pub all_linked : (first : Net H) (moves : List (NetMove H)) → IsSetUp first → NoneIsKept first → Each IsScheduled moves
+        → NetMovesFit answer_of after moves first → AreLinked answer_of after (run answer_of after moves first)
+    all_linked first moves up none scheduled fit = linked_all first [] moves up tt scheduled fit (linked_first first up none)
+
+    pub bus_suffices : BusSuffices answer_of after
+    bus_suffices n moves up none scheduled others =
+        sufficing n [] moves up tt (each_of IsScheduled moves scheduled) others (linked_first n up none)
