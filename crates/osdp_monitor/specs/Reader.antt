@@ -104,6 +104,11 @@ after_reply_of Answer k p r = after_answer (is_some (repeat_reply k p)) p.sequen
 abbrev pub after_reply : Known → Packet → Packet → Known
 after_reply k p r = after_reply_of (said r) k p r
 
--- the packet with number 0 is answered for the first time
+-- a NAK, whatever its reason
+abbrev pub is_nak : Result Reply MsgFault → Bool
+is_nak (Ok (Nak n)) = true
+is_nak _ = false
+
+-- the packet with number 0 is answered for the first time, and not by a NAK: then no session is open
 abbrev pub is_opening : Known → Packet → Packet → Bool
-is_opening k p r = p.sequence == 0 && r.sequence == 0 && not k.answered && is_answer (said r)
+is_opening k p r = p.sequence == 0 && r.sequence == 0 && not k.answered && is_answer (said r) && not (is_nak (told r))

@@ -13,7 +13,7 @@ use crate::found::{Found, Notice};
 use crate::kept::{KeptPacket, same_packet};
 use crate::panel::{is_number, sent_after};
 use crate::reader::{answer_accused, busy_accused, refusal_accused};
-use crate::said::{Said, moved_by, read_command, said_in};
+use crate::said::{Said, is_nak, moved_by, read_command, said_in};
 use osdp_frame::{Address, Burst, FrameView, Seq};
 use osdp_msg::{MsgFault, Reply};
 use std::marker::Model;
@@ -179,21 +179,23 @@ impl Device {
         moved: Option<Address>,
         last: &FrameView<'_>,
         reply: &FrameView<'_>,
-        meant: Said,
+        read: &Result<Reply, MsgFault>,
     ) -> Option<Notice>
-        requires { meant ≡ said reply.now }
+        requires { read.now ≡ told reply.now }
         ensures { result ≡ reply_notice moved self.now last.now reply.now }
     {
         if let Some(address) = moved {
             return Some(Notice::Moved(address.get()));
         }
+        let meant = said_in(read);
         if matches!(meant, Said::Refusal) {
             return Some(Notice::Restarted);
         }
         let is_opening = last.seq().get() == 0
             && reply.seq().get() == 0
             && !self.answered
-            && matches!(meant, Said::Answer);
+            && matches!(meant, Said::Answer)
+            && !is_nak(read);
         if is_opening {
             Some(Notice::Opened)
         } else {
@@ -215,7 +217,7 @@ impl Device {
         let moved = self.moves_to(reply, read);
         Found {
             accusation: self.reader_accused(&last, reply, read),
-            notice: self.reply_notice(moved, &last, reply, said_in(read)),
+            notice: self.reply_notice(moved, &last, reply, read),
         }
     }
 

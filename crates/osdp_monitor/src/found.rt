@@ -5,11 +5,11 @@ use crate::accusation::Accusation;
 /// What is worth a look and breaks no rule.
 #[derive(Clone, Copy, Debug, PartialEq, Eq)]
 pub enum Notice {
-    /// A packet with number 0 was answered for the first time: a session is open.
+    /// A packet with number 0 was answered for the first time, and not by a NAK: a session is open.
     Opened,
     /// The device has gone to this address.
     Moved(u8),
-    /// NAK 4: the device has no last number, as after a restart.
+    /// NAK 4: the device has no last number, as after a restart, or the number was none that it takes.
     Restarted,
     /// The packet before this one had no reply, and it is the first in a row.
     Unanswered,

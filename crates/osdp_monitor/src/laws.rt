@@ -1,8 +1,18 @@
 //! What the rules come to. The functions have no code: each states a law, and its proof is the law's.
 
-ghost use Rattle.osdp_monitor.specs.Laws.{ComparesPackets};
+ghost use Rattle.osdp_monitor.specs.Laws.{ComparesPackets, MovesByCom, PassesOver};
 
 /// Packets are compared as a whole: none of their bytes is passed over.
 pub fn compares_packets()
     ensures { ComparesPackets }
+{}
+
+/// What these rules pass over: a packet with a security block, and one whose code the tables don't have; and nothing else.
+pub fn passes_over_what_it_cannot_read()
+    ensures { PassesOver }
+{}
+
+/// A device moves exactly where a COM that names another address, up to 126, answers a COMSET, whatever numbers the two have.
+pub fn moves_by_com()
+    ensures { MovesByCom }
 {}

@@ -2,6 +2,7 @@
 
 ghost use Rattle.std.specs.Prelude.{◌≡◌, ℕ};
 ghost use Rattle.osdp_controller.specs.Answers.{meaning_by_reading, meaning_by_reason};
+ghost use Rattle.osdp_monitor.specs.Reader.{is_nak};
 ghost use Rattle.osdp_monitor.specs.Saying.{asked, is_foreign, is_unknown, moved_by, said_by, told};
 
 use osdp_frame::{Address, FrameView};
@@ -64,6 +65,13 @@ fn said_by_reason(nak: &Nak) -> Said
         NakReason::UnexpectedSequence => Said::Refusal,
         _ => Said::Answer,
     }
+}
+
+/// Whether it is a NAK, whatever its reason.
+pub(crate) fn is_nak(read: &Result<Reply, MsgFault>) -> bool
+    ensures { result ≡ is_nak read.now }
+{
+    matches!(read, Ok(Reply::Nak(_)))
 }
 
 /// The address that a COM names which answers a COMSET, where it is another one and that of a device.

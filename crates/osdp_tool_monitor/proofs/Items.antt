@@ -1,14 +1,18 @@
 -- The items of a run, one after the other.
-use Rattle.std.proofs.Common.{◌≡◌, ℕ, ◌+◌, ◌-◌, ◌≤◌, Bool, false, List, [], ◌∷◌, ◌++◌, length, take, drop, refl, sym, ◌∙◌, ap, subst, append_assoc, append-nil, take-append-drop, arith, length-drop}
+use Rattle.std.proofs.Common.{◌≡◌, ℕ, ◌+◌, ◌-◌, ◌*◌, ◌≤◌, Bool, false, List, [], ◌∷◌, ◌++◌, length, take, drop, refl, sym, ◌∙◌, ap, subst, append_assoc, append-nil, take-append-drop, arith, length-drop}
 use Rattle.std.specs.Prelude.{IsTrue}
 use Rattle.std.proofs.lemmas.List.{drop_all, drop-drop, take_all}
 use Rattle.osdp_frame.specs.Bytes.{AreBytes}
 use Rattle.osdp_frame.specs.Items.{reading}
-use Rattle.osdp_frame.specs.Reading.{IsFirst, RunItem, Stands, item_size}
+use Rattle.osdp_frame.specs.Reading.{IsFirst, PacketItem, RefusedItem, RunItem, SkippedItem, Stands, item_size}
 use Rattle.osdp_frame.proofs.Head.{AreBytes-drop}
-use Rattle.osdp_frame_laws.proofs.Readings.{is_reading, reading_is, sizes_reading}
+use Rattle.osdp_frame_laws.proofs.Readings.{is_reading, item_size-positive, reading_is, sizes_reading}
 use Rattle.osdp_tool_monitor.specs.declared.listener.Listener.{Listener}
-use Rattle.osdp_tool_monitor.specs.Listening.{HearsFirst, Listening, heard_item, heard_items, item_report, items_report, listening_of, tells_all}
+use Rattle.osdp_tool_streams.specs.declared.fault.ToolFault.{ToolFault}
+use Rattle.osdp_tool_streams.specs.declared.fault.ToolFault.TheVariants.{NoMemory, TooLong}
+use Rattle.osdp_tool_lines.specs.Tally.{counted}
+use Rattle.osdp_tool_lines.proofs.Lines.{counted-tally_after}
+use Rattle.osdp_tool_monitor.specs.Listening.{HearsFirst, IsLineFault, Listening, heard_item, heard_items, item_report, items_report, listening_of, tells_all}
 
 not_true : IsTrue false → ⊥
 not_true never = cc
@@ -98,3 +102,23 @@ text_end run at packets l text all past so_far =
     sym (append-nil text)
     ∙ ap (λ t. text ++ t) (sym (ap (λ r. items_report packets l (reading r)) (drop_all at run past) ∙ ap (items_report packets l) reading_nothing ∙ report_nil packets l))
     ∙ so_far
+
+-- no item has more bytes than a packet may have
+pub stands_small : (rest : List ℕ) (part : RunItem) → Stands rest part → item_size part ≤ 1440
+stands_small rest (PacketItem p) begins = begins.spelled.fits.room
+stands_small rest (SkippedItem b) stands = omega arith
+stands_small rest (RefusedItem f) stands = omega arith
+
+-- ---- what is counted
+
+pub count_step : (run : List ℕ) (at size : ℕ) (old new : Listener) (before after : List ℕ) (count : ℕ) → HearsFirst (drop at run) old new before after size
+    → at + size ≤ length run → counted old.tally + 5 * (length run - at) ≤ count → counted new.tally + 5 * (length run - (at + size)) ≤ count
+count_step run at size old new before after count first within so_far =
+    let tally : counted new.tally ≡ counted (heard_item (listening_of old) first.part).tally = ap (λ (l : Listening). counted l.tally) first.hears.heard in
+    let is = first.size_is in
+    omega (arith, counted-tally_after old.tally first.part, item_size-positive first.part)
+
+pub fault_more : (a b : ℕ) (fault : ToolFault) → a ≤ b → IsLineFault a fault → IsLineFault b fault
+fault_more a b NoMemory more is = is
+fault_more a b TooLong more is = omega arith
+fault_more a b fault more is = absurd is

@@ -1,3 +1,4 @@
 pub mod Spelling
 pub mod Rows
 pub mod Items
+pub mod OpenRuns

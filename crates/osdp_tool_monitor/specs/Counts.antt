@@ -100,22 +100,26 @@ counts_after p copy found counts =
 
 -- ---- the table
 
--- digits to the right of a column
+-- a number to the right of a column: a space stands before it, however many digits it has
 abbrev pub column : ℕ → ℕ → List ℕ
-column width count = replicate (width - length (decimal count)) 32 ++ decimal count
+column room count = codes " " ++ (replicate (room - length (decimal count)) 32 ++ decimal count)
+
+-- an address to the left of its column
+abbrev pub address_column : ℕ → List ℕ
+address_column address = decimal address ++ replicate (6 - length (decimal address)) 32
 
 unfoldable pub heading : List ℕ
 heading = codes "device  asked  polls repeats  answered  busy  nak  events  opened  moved  accused\n"
 
 -- a line for each address to which or from which something came: what was asked, what was answered, and the rest
 abbrev pub asked_columns : ℕ → Counts → List ℕ
-asked_columns address c = column 6 address ++ (column 7 c.asked ++ (column 7 c.polls ++ column 8 c.repeats))
+asked_columns address c = address_column address ++ (column 6 c.asked ++ (column 6 c.polls ++ column 7 c.repeats))
 
 abbrev pub answered_columns : Counts → List ℕ
-answered_columns c = column 10 c.answered ++ (column 6 c.busy ++ (column 5 c.nak ++ column 8 c.events))
+answered_columns c = column 9 c.answered ++ (column 5 c.busy ++ (column 4 c.nak ++ column 7 c.events))
 
 abbrev pub other_columns : Counts → List ℕ
-other_columns c = column 8 c.opened ++ (column 7 c.moved ++ (column 9 c.accused ++ codes "\n"))
+other_columns c = column 7 c.opened ++ (column 6 c.moved ++ (column 8 c.accused ++ codes "\n"))
 
 abbrev pub row : ℕ → Counts → List ℕ
 row address c = asked_columns address c ++ (answered_columns c ++ other_columns c)

@@ -1,3 +1,4 @@
 pub mod Text
 pub mod Counts
 pub mod Listening
+pub mod Hearing

@@ -1,5 +1,5 @@
 -- What has been heard of a line so far, and what is printed of it, item by item.
-use Rattle.std.specs.Prelude.{◌≡◌, ℕ, ◌+◌, ◌==◌, not, ◌&&◌, Bool, is_some, List, [], ◌∷◌, ◌++◌, replicate}
+use Rattle.std.specs.Prelude.{◌≡◌, ℕ, ◌+◌, ◌^◌, ◌≤◌, ◌==◌, not, ◌&&◌, Bool, is_some, List, [], ◌∷◌, ◌++◌, replicate}
 use Rattle.osdp_frame.specs.Items.{reading}
 use Rattle.osdp_frame.specs.Reading.{RunItem, PacketItem, SkippedItem, RefusedItem, Stands, item_size}
 use Rattle.osdp_monitor.specs.Monitors.{knowledge_of}
@@ -7,6 +7,8 @@ use Rattle.osdp_monitor.specs.Line.{Knowledge, after_item, copies_last, expected
 use Rattle.osdp_tool_lines.specs.declared.tally.Tally.{Tally}
 use Rattle.osdp_tool_lines.specs.Tally.{after_run, no_tally, tally_after}
 use Rattle.osdp_tool_lines.specs.Told.{shown_line}
+use Rattle.osdp_tool_streams.specs.declared.fault.ToolFault.{ToolFault}
+use Rattle.osdp_tool_streams.specs.declared.fault.ToolFault.TheVariants.{NoMemory, TooLong}
 use Rattle.osdp_tool_monitor.specs.declared.counts.Counts.{Counts}
 use Rattle.osdp_tool_monitor.specs.declared.listener.Listener.{Listener}
 use Rattle.osdp_tool_monitor.specs.Counts.{counts_after, more_if, no_counts, table_of}
@@ -91,6 +93,12 @@ table l = table_of l.tally l.counts l.accused
 -- somebody was accused, or something refused
 abbrev pub is_wrong : Listening → Bool
 is_wrong l = not (l.accused == 0 && l.tally.refused == 0)
+
+-- why a line is not told any more: out of memory, or 2^60 were counted
+abbrev pub IsLineFault : ℕ → ToolFault → Type 0
+IsLineFault count NoMemory = Unit {0}
+IsLineFault count TooLong = 2 ^ 60 ≤ count
+IsLineFault count fault = ⊥
 
 -- ---- a listener
 

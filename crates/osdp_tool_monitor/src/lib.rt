@@ -1,10 +1,12 @@
-//! What a listener prints of whole runs: what happens on a line, and which end breaks its rules. No command of the program uses it yet.
+//! What a listener prints of a line: what happens on it, and which end breaks its rules.
 #![tactic(auto)]
 
 mod counts;
 mod listener;
+mod open_line;
 mod table;
 mod text;
 
 pub use counts::Counts;
 pub use listener::Listener;
+pub use open_line::OpenLine;

@@ -1,6 +1,6 @@
 //! A listener that prints what it finds.
 
-ghost use Rattle.std.specs.Prelude.{◌≡◌, ◌++◌, ◌+◌, ◌<◌, ◌^◌, Ok, true, length, drop, is_some, IfOk, OnOk, string_bytes};
+ghost use Rattle.std.specs.Prelude.{◌≡◌, ◌++◌, ◌+◌, ◌*◌, ◌<◌, ◌≤◌, ◌^◌, Ok, true, false, length, drop, is_some, IfErr, IfOk, OnOk, string_bytes};
 ghost use Rattle.osdp_frame.specs.Bytes.{AreBytes};
 ghost use Rattle.osdp_frame.specs.Reading.{item_size};
 ghost use Rattle.osdp_frame.specs.Shown.{item_of, item_read};
@@ -9,7 +9,7 @@ ghost use Rattle.osdp_tool_lines.specs.Tally.{counted};
 use crate::counts::{Counts, more_if};
 use crate::table::push_table;
 use crate::text::push_found;
-use osdp_frame::{Burst, FrameView, Item, MAX_PACKET, ReadItem, read_at, whole_item};
+use osdp_frame::{Burst, FrameView, Item, ReadItem, read_at, whole_item};
 use osdp_monitor::Monitor;
 use osdp_tool_lines::{Tally, tell};
 use osdp_tool_streams::ToolFault;
@@ -37,13 +37,14 @@ impl Listener {
     ghost use Rattle.osdp_monitor.specs.Line.{after_packet, copies_last, expected_in, found_in};
     ghost use Rattle.osdp_monitor.specs.Monitors.{knowledge_of};
     ghost use Rattle.osdp_tool_monitor.specs.Counts.{counts_after, more_if};
-    ghost use Rattle.osdp_tool_monitor.specs.Listening.{HearsFirst, HearsItem, HearsRun, ended, is_wrong, listening_of, nothing_heard, table, tells_all};
+    ghost use Rattle.osdp_tool_monitor.specs.Listening.{HearsFirst, HearsItem, HearsRun, IsLineFault, ended, is_wrong, listening_of, nothing_heard, table, tells_all};
     ghost use Rattle.osdp_tool_monitor.specs.Text.{expected_bytes, found_text};
 
     /// A listener that has heard nothing. It prints each item of the line, or refusals and what it finds alone.
     pub fn new(alloc: Global, packets: bool) -> Result<Listener, ToolFault>
         ensures heard { IfOk result (λ l. listening_of l ≡ nothing_heard) }
         ensures tells { IfOk result (λ l. tells_all l ≡ packets) }
+        ensures fault { IfErr result (λ fault. fault ≡ ToolFault.NoMemory) }
     {
         let monitor = told(Monitor::new(alloc))?;
         let counts = told(vec![in alloc; Counts::NONE; ADDRESSES])?;
@@ -65,6 +66,7 @@ impl Listener {
         place: u64,
         text: &mut String,
     ) -> Result<(), ToolFault>
+        ensures fault { IfErr result (λ fault. fault ≡ ToolFault.NoMemory) }
         ensures tells { OnOk result (tells_all self.new ≡ tells_all self.old) }
         ensures tally { OnOk result (self.new.tally ≡ self.old.tally) }
         ensures knowledge { OnOk result (knowledge_of self.new.monitor ≡ after_packet (knowledge_of self.old.monitor) packet.now) }
@@ -89,11 +91,13 @@ impl Listener {
         }
     }
 
-    /// Takes an item.
-    fn hear_item(&mut self, item: &Item<'_>, text: &mut String) -> Result<(), ToolFault>
-        ensures { OnOk result (HearsItem (item_of item.now) self.old self.new (string_bytes text.old) (string_bytes text.new)) }
+    /// Takes an item. TooLong once 2^60 are counted.
+    pub(crate) fn hear_item(&mut self, item: &Item<'_>, text: &mut String) -> Result<(), ToolFault>
+        requires { item_size (item_of item.now) ≤ 1440 }
+        ensures hears { OnOk result (HearsItem (item_of item.now) self.old self.new (string_bytes text.old) (string_bytes text.new)) }
+        ensures fault { IfErr result (IsLineFault (counted self.old.tally)) }
     {
-        if !has_room(&self.tally, item.size()) {
+        if !has_room(&self.tally) {
             return Err(ToolFault::TooLong);
         }
         let run = self.tally.runs + 1;
@@ -112,6 +116,7 @@ impl Listener {
 
     /// Takes an item that has a packet of its own, and gives how many bytes it has.
     fn hear_owned(&mut self, item: &ReadItem, text: &mut String) -> Result<usize, ToolFault>
+        ensures fault { IfErr result (IsLineFault (counted self.old.tally)) }
         ensures hears { OnOk result (HearsItem (item_read item.now) self.old self.new (string_bytes text.old) (string_bytes text.new)) }
         ensures size { IfOk result (λ size. size ≡ item_size (item_read item.now)) }
     {
@@ -127,7 +132,8 @@ impl Listener {
     /// Takes the item of a run at a place, where the reading has come to it, and gives how many bytes it has.
     fn hear_next(&mut self, run: &[u8], at: usize, text: &mut String) -> Result<usize, ToolFault>
         requires { at < length run.now }
-        ensures { IfOk result (λ size. HearsFirst (drop at run.now) self.old self.new (string_bytes text.old) (string_bytes text.new) size) }
+        ensures hears { IfOk result (λ size. HearsFirst (drop at run.now) self.old self.new (string_bytes text.old) (string_bytes text.new) size) }
+        ensures fault { IfErr result (IsLineFault (counted self.old.tally)) }
     {
         let rest = &run[at..];
         let Some(item) = whole_item(rest) else {
@@ -138,8 +144,11 @@ impl Listener {
     }
 
     /// Takes a whole run.
+    ///
+    /// TooLong only where 2^60 were counted, with five for each byte of the run; else out of memory.
     pub fn hear_run(&mut self, run: &[u8], text: &mut String) -> Result<(), ToolFault>
-        ensures { OnOk result (HearsRun run.now self.old self.new (string_bytes text.old) (string_bytes text.new)) }
+        ensures hears { OnOk result (HearsRun run.now self.old self.new (string_bytes text.old) (string_bytes text.new)) }
+        ensures fault { IfErr result (IsLineFault (counted self.old.tally + 5 * length run.now)) }
     {
         are_bytes(run);
         let mut at = 0;
@@ -150,12 +159,13 @@ impl Listener {
         Ok(())
     }
 
-    /// The run has ended.
-    fn end_run(&mut self) -> Result<(), ToolFault>
+    /// The run has ended. TooLong once 2^60 are counted.
+    pub(crate) fn end_run(&mut self) -> Result<(), ToolFault>
         ensures tells { OnOk result (tells_all self.new ≡ tells_all self.old) }
         ensures heard { OnOk result (listening_of self.new ≡ ended (listening_of self.old)) }
+        ensures fault { IfErr result (IsLineFault (counted self.old.tally)) }
     {
-        if !has_room(&self.tally, 0) {
+        if !has_room(&self.tally) {
             return Err(ToolFault::TooLong);
         }
         self.tally.end_run();
@@ -164,7 +174,8 @@ impl Listener {
 
     /// Writes the table of what was heard.
     pub fn push_table(&self, text: &mut String) -> Result<(), ToolFault>
-        ensures { OnOk result (string_bytes text.new ≡ string_bytes text.old ++ table (listening_of self.now)) }
+        ensures text { OnOk result (string_bytes text.new ≡ string_bytes text.old ++ table (listening_of self.now)) }
+        ensures fault { IfErr result (λ fault. fault ≡ ToolFault.NoMemory) }
     {
         match push_table(text, &self.tally, &self.counts, self.accused) {
             Ok(()) => Ok(()),
@@ -181,12 +192,11 @@ impl Listener {
 }
 
 /// Whether more may be counted.
-fn has_room(tally: &Tally, size: usize) -> bool
-    ensures counts { result ≡ true → counted tally.now + size < 2 ^ 63 }
-    ensures runs { result ≡ true → tally.now.runs + 1 < 2 ^ 64 }
+fn has_room(tally: &Tally) -> bool
+    ensures some { result ≡ true → counted tally.now + 1440 < 2 ^ 63 }
+    ensures none { result ≡ false → 2 ^ 60 ≤ counted tally.now }
 {
-    size < MAX_PACKET + 1
-        && tally.runs < MOST
+    tally.runs < MOST
         && tally.place < MOST
         && tally.packets < MOST
         && tally.skipped < MOST
@@ -195,7 +205,8 @@ fn has_room(tally: &Tally, size: usize) -> bool
 
 /// Without memory nothing more is told.
 fn told<T: Drop>(done: Result<T, AllocError>) -> Result<T, ToolFault>
-    ensures { (x : T) → result ≡ Ok x → done ≡ Ok x }
+    ensures value { (x : T) → result ≡ Ok x → done ≡ Ok x }
+    ensures fault { IfErr result (λ fault. fault ≡ ToolFault.NoMemory) }
 {
     match done {
         Ok(value) => Ok(value),

@@ -1,58 +1,71 @@
 //! The table of what was counted.
 
 ghost use Rattle.std.specs.Prelude.{◌≡◌, ◌++◌, ◌-◌, ◌<◌, ◌≤◌, OnOk, Some, slice_get, length, replicate, string_bytes};
-ghost use Rattle.osdp_tool_monitor.specs.Counts.{answered_columns, asked_columns, column, counts_line, heading, other_columns, row, row_if, rows_from, table_of};
+ghost use Rattle.osdp_tool_monitor.specs.Counts.{address_column, answered_columns, asked_columns, column, counts_line, heading, other_columns, row, row_if, rows_from, table_of};
 
 use crate::counts::Counts;
 use itoa::Buffer;
 use osdp_tool_lines::Tally;
 use std::alloc::AllocError;
 
-/// Writes spaces up to a width, and then digits.
-fn push_padded(text: &mut String, width: usize, digits: &str) -> Result<(), AllocError>
-    ensures { OnOk result (string_bytes text.new ≡ string_bytes text.old ++ (replicate (width - length digits.now) 32 ++ digits.now)) }
+/// Writes so many spaces.
+fn push_spaces(text: &mut String, count: usize) -> Result<(), AllocError>
+    ensures { OnOk result (string_bytes text.new ≡ string_bytes text.old ++ replicate count 32) }
 {
-    'spaces: for _ in 0..width.saturating_sub(digits.len()) {
+    'spaces: for _ in 0..count {
         text.push(' ')?;
     }
+    Ok(())
+}
+
+/// Writes a number to the right of a column, which has room for so many digits after a space.
+fn push_column(text: &mut String, room: usize, count: u64) -> Result<(), AllocError>
+    ensures { OnOk result (string_bytes text.new ≡ string_bytes text.old ++ column room count) }
+{
+    let mut buffer = Buffer::new();
+    let digits = buffer.format(count);
+    text.push(' ')?;
+    push_spaces(text, room.saturating_sub(digits.len()))?;
     text.push_str(digits)
 }
 
-/// Writes a number to the right of a column.
-fn push_column(text: &mut String, width: usize, count: u64) -> Result<(), AllocError>
-    ensures { OnOk result (string_bytes text.new ≡ string_bytes text.old ++ column width count) }
+/// Writes an address to the left of its column.
+fn push_address(text: &mut String, address: u64) -> Result<(), AllocError>
+    ensures { OnOk result (string_bytes text.new ≡ string_bytes text.old ++ address_column address) }
 {
     let mut buffer = Buffer::new();
-    push_padded(text, width, buffer.format(count))
+    let digits = buffer.format(address);
+    text.push_str(digits)?;
+    push_spaces(text, 6_usize.saturating_sub(digits.len()))
 }
 
 /// Writes what was asked of an address.
 fn push_asked(text: &mut String, address: u64, counts: &Counts) -> Result<(), AllocError>
     ensures { OnOk result (string_bytes text.new ≡ string_bytes text.old ++ asked_columns address counts.now) }
 {
-    push_column(text, 6, address)?;
-    push_column(text, 7, counts.asked)?;
-    push_column(text, 7, counts.polls)?;
-    push_column(text, 8, counts.repeats)
+    push_address(text, address)?;
+    push_column(text, 6, counts.asked)?;
+    push_column(text, 6, counts.polls)?;
+    push_column(text, 7, counts.repeats)
 }
 
 /// Writes what it answered.
 fn push_answered(text: &mut String, counts: &Counts) -> Result<(), AllocError>
     ensures { OnOk result (string_bytes text.new ≡ string_bytes text.old ++ answered_columns counts.now) }
 {
-    push_column(text, 10, counts.answered)?;
-    push_column(text, 6, counts.busy)?;
-    push_column(text, 5, counts.nak)?;
-    push_column(text, 8, counts.events)
+    push_column(text, 9, counts.answered)?;
+    push_column(text, 5, counts.busy)?;
+    push_column(text, 4, counts.nak)?;
+    push_column(text, 7, counts.events)
 }
 
 /// Writes what was found of it, and the end of the line.
 fn push_others(text: &mut String, counts: &Counts) -> Result<(), AllocError>
     ensures { OnOk result (string_bytes text.new ≡ string_bytes text.old ++ other_columns counts.now) }
 {
-    push_column(text, 8, counts.opened)?;
-    push_column(text, 7, counts.moved)?;
-    push_column(text, 9, counts.accused)?;
+    push_column(text, 7, counts.opened)?;
+    push_column(text, 6, counts.moved)?;
+    push_column(text, 8, counts.accused)?;
     text.push_str("\n")
 }
 

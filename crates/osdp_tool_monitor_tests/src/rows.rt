@@ -26,7 +26,7 @@ const REPORT: &str = "\
 8:0 device 5: unanswered
 8:0 panel to 5: the next number, but the last one was not answered
 device  asked  polls repeats  answered  busy  nak  events  opened  moved  accused
-     5      5      5       1         3     0    0       1       1      0        2
+5           5      5       1         3     0    0       1       1      0        2
 runs 9 packets 8 skipped 1 refused 0 accused 2
 ";
 

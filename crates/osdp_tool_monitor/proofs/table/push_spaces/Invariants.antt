@@ -1,5 +1,5 @@
 use Rattle.std.proofs.Common.{◌≡◌, ◌++◌, replicate, string_bytes}
-use Rattle.osdp_tool_monitor.proofs.table.push_padded.Given as goal
+use Rattle.osdp_tool_monitor.proofs.table.push_spaces.Given as goal
 
 abbrev pub invariant-spaces : goal.invariant-spaces
 invariant-spaces l = string_bytes l.text ≡ string_bytes l.initial.text ++ replicate l.counter 32

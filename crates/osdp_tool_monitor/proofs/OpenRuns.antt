@@ -1,0 +1,410 @@
+-- Open lines: items that are taken off one by one, and pieces of a run one after the other.
+use Rattle.std.proofs.Common.{◌≡◌, ℕ, ◌+◌, ◌-◌, ◌*◌, ◌<◌, ◌≤◌, ◌==◌, ◌&&◌, not, Bool, true, false, List, [], ◌∷◌, ◌++◌, length, take, drop, Option, Some, None, Result, Ok, Err, IfErr, IsErrAnd, OnOk, refl, sym, subst, ap, ◌∙◌, arith, append_assoc, append-nil, length-append, length-drop}
+use Rattle.std.proofs.Math.Seq.{drop-drop, take-add}
+use Rattle.std.proofs.lemmas.Bool.{ne_eqb}
+use Rattle.std.proofs.lemmas.List.{drop_all, take-take, length-take}
+use Rattle.osdp_frame.specs.Bytes.{AreBytes}
+use Rattle.osdp_frame.specs.Held.{Held, decided, after_advance, after_first, after_push, later, taken_count}
+use Rattle.osdp_frame.specs.Items.{items, left_over}
+use Rattle.osdp_frame.specs.Reading.{RunItem, item_size, total_size}
+use Rattle.osdp_frame.proofs.Head.{AreBytes-drop, AreBytes-take}
+use Rattle.osdp_frame.proofs.Decided.{undecided_none, undecided_ended}
+use Rattle.osdp_frame_laws.proofs.LawsOfSpellings.{AreBytes-append, AreBytes-nil}
+use Rattle.osdp_frame_laws.proofs.LeftOver.{left_is, left_over-append, reading_split, total_size-append}
+use Rattle.osdp_frame_laws.proofs.Readings.{decided_nothing, is_reading, item_size-positive, item_size-decided, items-append, items_decided, items_undecided, sizes_reading}
+use Rattle.osdp_tool_lines.specs.Tally.{counted}
+use Rattle.osdp_tool_lines.proofs.Lines.{counted-tally_after}
+use Rattle.osdp_tool_monitor.specs.declared.listener.Listener.{Listener}
+use Rattle.osdp_tool_monitor.specs.declared.open_line.OpenLine.{OpenLine}
+use Rattle.osdp_tool_monitor.specs.Hearing.{Come, Drained, Hearing, Hears, HearsItems, IsOpen, LineEvent, RunEnds, TableDue, after_event, after_events, event_report, events_report, hearing_of, load, prints_all}
+use Rattle.osdp_tool_monitor.specs.Listening.{HearsItem, Listening, ended, heard_item, heard_items, item_report, items_report, listening_of, table, tells_all}
+
+pub on_ok : {T E : Type 0} {A B : Type 0} (r : Result T E) → (A → B) → OnOk r A → OnOk r B
+on_ok (Ok x) f a = f a
+on_ok (Err e) f a = tt
+
+pub on_both : {T E : Type 0} {A B C : Type 0} (r : Result T E) → (A → B → C) → OnOk r A → OnOk r B → OnOk r C
+on_both (Ok x) f a b = f a b
+on_both (Err e) f a b = tt
+
+pub on_each_err : {T E : Type 0} {P Q : E → Type 0} (r : Result T E) → ((e : E) → P e → Q e) → IfErr r P → IfErr r Q
+on_each_err (Ok x) f p = tt
+on_each_err (Err e) f p = f e p
+
+pub on_err : {T E : Type 0} (Q : Result T E → Type 0) (r : Result T E) (e : E) → IsErrAnd r (λ x. x ≡ e) → Q (Err e) → Q r
+on_err Q (Ok x) e is q = absurd is
+on_err Q (Err x) e is q = subst (λ y. Q (Err y)) (sym is) q
+
+-- ---- items, one after the other
+
+pub heard_items-append : (l : Listening) (xs ys : List RunItem) → heard_items l (xs ++ ys) ≡ heard_items (heard_items l xs) ys
+unfolding heard_items
+heard_items-append l [] ys = refl
+heard_items-append l (x ∷ xs) ys = heard_items-append (heard_item l x) xs ys
+
+pub items_report-append : (packets : Bool) (l : Listening) (xs ys : List RunItem)
+    → items_report packets l (xs ++ ys) ≡ items_report packets l xs ++ items_report packets (heard_items l xs) ys
+unfolding heard_items items_report
+items_report-append packets l [] ys = refl
+items_report-append packets l (x ∷ xs) ys =
+    ap (λ t. item_report packets l x ++ t) (items_report-append packets (heard_item l x) xs ys)
+    ∙ sym (append_assoc (item_report packets l x) (items_report packets (heard_item l x) xs) (items_report packets (heard_items (heard_item l x) xs) ys))
+
+pub hears_none : (l : Listener) (text : List ℕ) → HearsItems [] l l text text
+unfolding heard_items items_report
+hears_none l text = record { tells = refl; heard = refl; text = sym (append-nil text) }
+
+pub hears_one : (part : RunItem) (old new : Listener) (before after : List ℕ) → HearsItem part old new before after → HearsItems (part ∷ []) old new before after
+unfolding heard_items items_report
+hears_one part old new before after h = record {
+  tells = h.tells;
+  heard = h.heard;
+  text = h.text ∙ ap (λ t. before ++ t) (sym (append-nil (item_report (tells_all old) (listening_of old) part)));
+}
+
+pub hears_more : (xs ys : List RunItem) (old mid new : Listener) (before middle after : List ℕ) → HearsItems xs old mid before middle
+    → HearsItems ys mid new middle after → HearsItems (xs ++ ys) old new before after
+hears_more xs ys old mid new before middle after a b =
+    let p = tells_all old in
+    let l = listening_of old in
+    let front = items_report p l xs in
+    let back : items_report (tells_all mid) (listening_of mid) ys ≡ items_report p (heard_items l xs) ys =
+    ap (λ q. items_report q (listening_of mid) ys) a.tells ∙ ap (λ k. items_report p k ys) a.heard in
+    record {
+      tells = b.tells ∙ a.tells;
+      heard = b.heard ∙ ap (λ k. heard_items k ys) a.heard ∙ sym (heard_items-append l xs ys);
+      text = b.text ∙ ap (λ t. t ++ items_report (tells_all mid) (listening_of mid) ys) a.text ∙ append_assoc before front (items_report (tells_all mid) (listening_of mid) ys)
+          ∙ ap (λ t. before ++ (front ++ t)) back ∙ ap (λ t. before ++ t) (sym (items_report-append p l xs ys));
+    }
+
+-- ---- what is counted
+
+pub counted_items : (l : Listening) (parts : List RunItem) → counted (heard_items l parts).tally ≤ counted l.tally + 3 * total_size parts
+unfolding heard_items
+counted_items l [] = omega arith
+counted_items l (part ∷ parts) = omega (arith, counted_items (heard_item l part) parts, counted-tally_after l.tally part, item_size-positive part)
+
+-- ---- items that are taken off
+
+-- some of the items that the bytes held decide have been told and taken off
+pub record Draining (start now : Held) (old new : Listener) (before after : List ℕ) : Type 0 where
+  pub parts : List RunItem
+  pub hears : HearsItems parts old new before after
+  pub whole : items start.ended start.bytes ≡ parts ++ items now.ended now.bytes
+  pub rest : drop (total_size (items now.ended now.bytes)) now.bytes ≡ drop (total_size (items start.ended start.bytes)) start.bytes
+  pub bytes : AreBytes now.bytes
+  pub some : now.ended ≡ true → 0 < length now.bytes
+  pub size : total_size parts + length now.bytes ≡ length start.bytes
+
+-- of a run that has ended nothing but its end is left where no byte is
+still_ended : (ended : Bool) (rest : List ℕ) → items (ended && not (length rest == 0)) rest ≡ items ended rest
+still_ended ended [] = items_undecided (ended && false) [] (decided_nothing (ended && false)) ∙ sym (items_undecided ended [] (decided_nothing ended))
+still_ended true (b ∷ rest) = ap (λ t. items (true && not t) (b ∷ rest)) (ne_eqb (length (b ∷ rest)) 0 (λ h. omega arith))
+still_ended false (b ∷ rest) = refl
+
+ended_some : (ended : Bool) (rest : List ℕ) → (ended && not (length rest == 0)) ≡ true → 0 < length rest
+ended_some true [] h = cc
+ended_some false [] h = cc
+ended_some ended (b ∷ rest) h = omega arith
+
+pub draining_start : (start : Held) (old : Listener) (before : List ℕ) → AreBytes start.bytes → (start.ended ≡ true → 0 < length start.bytes)
+    → Draining start start old old before before
+draining_start start old before fits some =
+    record { parts = []; hears = hears_none old before; whole = refl; rest = refl; bytes = fits; some = some; size = omega arith }
+
+pub draining_step : (start now next : Held) (old mid new : Listener) (before middle after : List ℕ) (part : RunItem)
+    → Draining start now old mid before middle → decided now.ended now.bytes ≡ Some part → next ≡ after_advance now
+    → HearsItem part mid new middle after → Draining start next old new before after
+draining_step start now next old mid new before middle after part d is advanced hears =
+    let n = item_size part in
+    let short : n ≤ length now.bytes = item_size-decided now.ended now.bytes part d.bytes is in
+    let left = drop n now.bytes in
+    let here : next ≡ later now part = advanced ∙ ap (after_first now) is in
+    let first : items now.ended now.bytes ≡ part ∷ items now.ended left = items_decided now.ended now.bytes part d.bytes is in
+    let same : items next.ended next.bytes ≡ items now.ended left =
+    ap (λ (h : Held). items h.ended h.bytes) here ∙ still_ended now.ended left in
+    let bytes_are : next.bytes ≡ left = ap (λ (h : Held). h.bytes) here in
+    let lengths : length next.bytes ≡ length left = ap length bytes_are in
+    let sizes = d.size in
+    record {
+      parts = d.parts ++ part ∷ [];
+      hears = hears_more d.parts (part ∷ []) old mid new before middle after d.hears (hears_one part mid new middle after hears);
+      whole = d.whole ∙ ap (λ l. d.parts ++ l) (first ∙ ap (λ l. part ∷ l) (sym same)) ∙ sym (append_assoc d.parts (part ∷ []) (items next.ended next.bytes));
+      rest = ap (λ l. drop (total_size l) next.bytes) same ∙ ap (λ l. drop (total_size (items now.ended left)) l) bytes_are
+          ∙ drop-drop (total_size (items now.ended left)) n now.bytes ∙ sym (ap (λ l. drop (total_size l) now.bytes) first) ∙ d.rest;
+      bytes = subst AreBytes (sym bytes_are) (AreBytes-drop n now.bytes d.bytes);
+      some = λ e. subst (λ (l : List ℕ). 0 < length l) (sym bytes_are) (ended_some now.ended left (sym (ap (λ (h : Held). h.ended) here) ∙ e));
+      size = omega (arith, total_size-append d.parts (part ∷ []), length-drop n now.bytes);
+    }
+
+pub draining_end : (start now : Held) (old new : Listener) (before after : List ℕ) → Draining start now old new before after
+    → decided now.ended now.bytes ≡ None → Drained start now old new before after
+draining_end start now old new before after d is =
+    let none : items now.ended now.bytes ≡ [] = items_undecided now.ended now.bytes is in
+    let whole : items start.ended start.bytes ≡ d.parts = d.whole ∙ ap (λ l. d.parts ++ l) none ∙ append-nil d.parts in
+    let bytes_are : now.bytes ≡ drop (total_size (items start.ended start.bytes)) start.bytes =
+    sym (ap (λ l. drop (total_size l) now.bytes) none) ∙ d.rest in
+    let open_ended : now.ended ≡ false = goes_on now.ended refl in
+    record {
+      hears = subst (λ l. HearsItems l old new before after) (sym whole) d.hears;
+      left = bytes_are;
+      goes_on = open_ended;
+      none = ap (λ e. decided e now.bytes) (sym open_ended) ∙ is;
+      bytes = d.bytes;
+    }
+  where
+    goes_on : (e : Bool) → now.ended ≡ e → now.ended ≡ false
+    goes_on false h = h
+    goes_on true h =
+        let bytes_none : now.bytes ≡ [] = undecided_ended now.bytes (undecided_none true now.bytes (ap (λ e. decided e now.bytes) (sym h) ∙ is)) in
+        let some = d.some h in
+        let none : length now.bytes ≡ 0 = ap length bytes_none in
+        absurd (omega arith)
+
+-- where one more is too many
+pub draining_long : (start now : Held) (old mid : Listener) (before middle : List ℕ) → Draining start now old mid before middle
+    → counted mid.tally ≤ counted old.tally + 5 * length start.bytes
+draining_long start now old mid before middle d =
+    let tally : counted mid.tally ≡ counted (heard_items (listening_of old) d.parts).tally = ap (λ (l : Listening). counted l.tally) d.hears.heard in
+    let size = d.size in
+    omega (arith, counted_items (listening_of old) d.parts)
+
+-- ---- events
+
+one_heard : (h : Hearing) (event : LineEvent) → after_events h (event ∷ []) ≡ after_event h event
+unfolding after_events
+one_heard h event = refl
+
+one_told : (packets : Bool) (h : Hearing) (event : LineEvent) → events_report packets h (event ∷ []) ≡ event_report packets h event
+unfolding events_report
+one_told packets h event = append-nil (event_report packets h event)
+
+pub hears_event : (event : LineEvent) (old new : OpenLine) (before after : List ℕ) → prints_all new ≡ prints_all old
+    → hearing_of new ≡ after_event (hearing_of old) event → after ≡ before ++ event_report (prints_all old) (hearing_of old) event → IsOpen new
+    → Hears (event ∷ []) old new before after
+hears_event event old new before after prints heard text is_open = record {
+  prints = prints;
+  heard = heard ∙ sym (one_heard (hearing_of old) event);
+  text = text ∙ ap (λ t. before ++ t) (sym (one_told (prints_all old) (hearing_of old) event));
+  is_open = is_open;
+}
+
+-- ---- bytes that come
+
+-- what a listener knows, and these bytes held
+abbrev hearing : Listening → List ℕ → Hearing
+hearing l bytes = record { heard = l; held = bytes }
+
+pub come_drained : (given : List ℕ) (old new : OpenLine) (pushed : Held) (before after : List ℕ) → AreBytes given → IsOpen old
+    → pushed ≡ record { bytes = old.framer.bytes ++ given; ended = false } → Drained pushed new.framer old.listener new.listener before after
+    → Hears (Come given ∷ []) old new before after
+come_drained given old new pushed before after fits is_open is d =
+    let all = old.framer.bytes ++ given in
+    let parts : items pushed.ended pushed.bytes ≡ items false all = ap (λ (h : Held). items h.ended h.bytes) is in
+    let left : new.framer.bytes ≡ left_over all =
+    d.left ∙ ap (λ l. drop (total_size l) pushed.bytes) parts ∙ ap (λ (h : Held). drop (total_size (items false all)) h.bytes) is ∙ left_is all in
+    let hears : HearsItems (items false all) old.listener new.listener before after = subst (λ l. HearsItems l old.listener new.listener before after) parts d.hears in
+    hears_event (Come given) old new before after hears.tells
+    (ap (λ l. hearing l new.framer.bytes) hears.heard ∙ ap (hearing (heard_items (listening_of old.listener) (items false all))) left) hears.text
+    (record { bytes = d.bytes; goes_on = d.goes_on; none = d.none })
+
+come_heard : (h : Hearing) (a b : List ℕ) → AreBytes ((h.held ++ a) ++ b) → after_event (after_event h (Come a)) (Come b) ≡ after_event h (Come (a ++ b))
+come_heard h a b fits =
+    let whole : (h.held ++ a) ++ b ≡ h.held ++ (a ++ b) = append_assoc h.held a b in
+    let first = items false (h.held ++ a) in
+    let second = items false (left_over (h.held ++ a) ++ b) in
+    let parts : items false (h.held ++ (a ++ b)) ≡ first ++ second = ap (items false) (sym whole) ∙ items-append false (h.held ++ a) b fits in
+    let heard : heard_items (heard_items h.heard first) second ≡ heard_items h.heard (items false (h.held ++ (a ++ b))) =
+    sym (heard_items-append h.heard first second) ∙ ap (heard_items h.heard) (sym parts) in
+    let left : left_over (left_over (h.held ++ a) ++ b) ≡ left_over (h.held ++ (a ++ b)) = sym (left_over-append (h.held ++ a) b fits) ∙ ap left_over whole in
+    ap (λ l. hearing l (left_over (left_over (h.held ++ a) ++ b))) heard ∙ ap (hearing (heard_items h.heard (items false (h.held ++ (a ++ b))))) left
+
+come_told : (packets : Bool) (h : Hearing) (a b : List ℕ) → AreBytes ((h.held ++ a) ++ b)
+    → event_report packets h (Come a) ++ event_report packets (after_event h (Come a)) (Come b) ≡ event_report packets h (Come (a ++ b))
+come_told packets h a b fits =
+    let first = items false (h.held ++ a) in
+    let second = items false (left_over (h.held ++ a) ++ b) in
+    sym (items_report-append packets h.heard first second)
+    ∙ ap (items_report packets h.heard) (sym (items-append false (h.held ++ a) b fits) ∙ ap (items false) (append_assoc h.held a b))
+
+pub come_more : (a b : List ℕ) (old mid new : OpenLine) (before middle after : List ℕ) → AreBytes a → AreBytes b → IsOpen old
+    → Hears (Come a ∷ []) old mid before middle → Hears (Come b ∷ []) mid new middle after → Hears (Come (a ++ b) ∷ []) old new before after
+come_more a b old mid new before middle after a_fits b_fits is_open x y =
+    let h = hearing_of old in
+    let p = prints_all old in
+    let fits : AreBytes ((h.held ++ a) ++ b) = AreBytes-append (h.held ++ a) b (AreBytes-append h.held a is_open.bytes a_fits) b_fits in
+    let x_heard : hearing_of mid ≡ after_event h (Come a) = x.heard ∙ one_heard h (Come a) in
+    let y_heard : hearing_of new ≡ after_event (hearing_of mid) (Come b) = y.heard ∙ one_heard (hearing_of mid) (Come b) in
+    let x_text : middle ≡ before ++ event_report p h (Come a) = x.text ∙ ap (λ t. before ++ t) (one_told p h (Come a)) in
+    let y_told : events_report (prints_all mid) (hearing_of mid) (Come b ∷ []) ≡ event_report p (after_event h (Come a)) (Come b) =
+    one_told (prints_all mid) (hearing_of mid) (Come b) ∙ ap (λ q. event_report q (hearing_of mid) (Come b)) x.prints ∙ ap (λ k. event_report p k (Come b)) x_heard in
+    hears_event (Come (a ++ b)) old new before after (y.prints ∙ x.prints)
+    (y_heard ∙ ap (λ k. after_event k (Come b)) x_heard ∙ come_heard h a b fits)
+    (y.text ∙ ap (λ t. middle ++ t) y_told ∙ ap (λ t. t ++ event_report p (after_event h (Come a)) (Come b)) x_text
+    ∙ append_assoc before (event_report p h (Come a)) (event_report p (after_event h (Come a)) (Come b)) ∙ ap (λ t. before ++ t) (come_told p h a b fits))
+    y.is_open
+
+heard_none : (l : Listening) → heard_items l [] ≡ l
+unfolding heard_items
+heard_none l = refl
+
+come_nothing : (h : Hearing) → decided false h.held ≡ None → after_event h (Come []) ≡ h
+come_nothing h none =
+    let same : h.held ++ [] ≡ h.held = append-nil h.held in
+    let parts : items false (h.held ++ []) ≡ [] = ap (items false) same ∙ items_undecided false h.held none in
+    ap (λ l. hearing (heard_items h.heard l) (left_over (h.held ++ []))) parts
+    ∙ ap (λ l. hearing l (left_over (h.held ++ []))) (heard_none h.heard)
+    ∙ ap (hearing h.heard) (sym (left_is (h.held ++ [])) ∙ ap (λ l. drop (total_size l) (h.held ++ [])) parts ∙ same)
+
+told_none : (packets : Bool) (l : Listening) → items_report packets l [] ≡ []
+unfolding items_report
+told_none packets l = refl
+
+-- no bytes
+pub come_none : (old : OpenLine) (text : List ℕ) → IsOpen old → Hears (Come [] ∷ []) old old text text
+come_none old text is_open =
+    let h = hearing_of old in
+    hears_event (Come []) old old text text refl (sym (come_nothing h is_open.none))
+    (sym (append-nil text) ∙ ap (λ t. text ++ t) (sym (ap (items_report (prints_all old) h.heard) (ap (items false) (append-nil h.held) ∙ items_undecided false h.held is_open.none)
+    ∙ told_none (prints_all old) h.heard)))
+    is_open
+
+-- ---- events, one after the other
+
+pub after_events-append : (h : Hearing) (xs ys : List LineEvent) → after_events h (xs ++ ys) ≡ after_events (after_events h xs) ys
+unfolding after_events
+after_events-append h [] ys = refl
+after_events-append h (x ∷ xs) ys = after_events-append (after_event h x) xs ys
+
+pub events_report-append : (packets : Bool) (h : Hearing) (xs ys : List LineEvent)
+    → events_report packets h (xs ++ ys) ≡ events_report packets h xs ++ events_report packets (after_events h xs) ys
+unfolding after_events events_report
+events_report-append packets h [] ys = refl
+events_report-append packets h (x ∷ xs) ys =
+    ap (λ t. event_report packets h x ++ t) (events_report-append packets (after_event h x) xs ys)
+    ∙ sym (append_assoc (event_report packets h x) (events_report packets (after_event h x) xs) (events_report packets (after_events (after_event h x) xs) ys))
+
+pub hears_nothing : (l : OpenLine) (text : List ℕ) → IsOpen l → Hears [] l l text text
+unfolding after_events events_report
+hears_nothing l text is_open = record { prints = refl; heard = refl; text = sym (append-nil text); is_open = is_open }
+
+pub hears_then : (xs ys : List LineEvent) (old mid new : OpenLine) (before middle after : List ℕ) → Hears xs old mid before middle
+    → Hears ys mid new middle after → Hears (xs ++ ys) old new before after
+hears_then xs ys old mid new before middle after a b =
+    let h = hearing_of old in
+    let p = prints_all old in
+    let told : events_report (prints_all mid) (hearing_of mid) ys ≡ events_report p (after_events h xs) ys =
+    ap (λ q. events_report q (hearing_of mid) ys) a.prints ∙ ap (λ k. events_report p k ys) a.heard in
+    record {
+      prints = b.prints ∙ a.prints;
+      heard = b.heard ∙ ap (λ k. after_events k ys) a.heard ∙ sym (after_events-append h xs ys);
+      text = b.text ∙ ap (λ t. middle ++ t) told ∙ ap (λ t. t ++ events_report p (after_events h xs) ys) a.text
+          ∙ append_assoc before (events_report p h xs) (events_report p (after_events h xs) ys) ∙ ap (λ t. before ++ t) (sym (events_report-append p h xs ys));
+      is_open = b.is_open;
+    }
+
+-- the table
+pub table_told : (l : OpenLine) (before after : List ℕ) → IsOpen l → after ≡ before ++ table (listening_of l.listener) → Hears (TableDue ∷ []) l l before after
+table_told l before after is_open text = hears_event TableDue l l before after refl refl text is_open
+
+-- a whole run, where none was held
+pub run_heard : (run : List ℕ) (old new : OpenLine) (before after : List ℕ) → old.framer.bytes ≡ [] → new.framer ≡ old.framer → IsOpen old
+    → tells_all new.listener ≡ tells_all old.listener → listening_of new.listener ≡ ended (heard_items (listening_of old.listener) (items true run))
+    → after ≡ before ++ items_report (tells_all old.listener) (listening_of old.listener) (items true run) → Hears (RunEnds run ∷ []) old new before after
+run_heard run old new before after none same is_open tells heard text =
+    let whole : old.framer.bytes ++ run ≡ run = ap (λ l. l ++ run) none in
+    hears_event (RunEnds run) old new before after tells
+    (ap (λ l. hearing l new.framer.bytes) (heard ∙ ap (λ l. ended (heard_items (listening_of old.listener) (items true l))) (sym whole))
+    ∙ ap (hearing (ended (heard_items (listening_of old.listener) (items true (old.framer.bytes ++ run))))) (ap (λ (h : Held). h.bytes) same ∙ none))
+    (text ∙ ap (λ l. before ++ items_report (tells_all old.listener) (listening_of old.listener) (items true l)) (sym whole))
+    (open_same is_open)
+  where
+    open_same : IsOpen old → IsOpen new
+    open_same o = record {
+      bytes = subst (λ (h : Held). AreBytes h.bytes) (sym same) o.bytes;
+      goes_on = ap (λ (h : Held). h.ended) same ∙ o.goes_on;
+      none = ap (λ (h : Held). decided false h.bytes) same ∙ o.none;
+    }
+
+-- ---- the end of a run
+
+-- the bytes held, as a run that has ended where there are any
+pub gap_items : (bytes : List ℕ) → items (not (length bytes == 0)) bytes ≡ items true bytes
+gap_items [] = items_undecided (not (length {A = ℕ} [] == 0)) [] (decided_nothing (not (length {A = ℕ} [] == 0))) ∙ sym (items_undecided true [] (decided_nothing true))
+gap_items (b ∷ bytes) = ap (λ t. items (not t) (b ∷ bytes)) (ne_eqb (length (b ∷ bytes)) 0 (λ h. omega arith))
+
+pub gap_some : (bytes : List ℕ) → not (length bytes == 0) ≡ true → 0 < length bytes
+gap_some [] e = absurd cc
+gap_some (b ∷ bytes) e = omega arith
+
+-- nothing is left of it
+all_taken : (bytes : List ℕ) → AreBytes bytes → drop (total_size (items true bytes)) bytes ≡ []
+all_taken bytes fits = drop_all (total_size (items true bytes)) bytes (omega (arith, sizes_reading bytes (items true bytes) (is_reading bytes fits)))
+
+pub ended_heard : (old new : OpenLine) (gapped : Held) (mid : Listener) (before after : List ℕ) → IsOpen old
+    → gapped ≡ record { bytes = old.framer.bytes; ended = not (length old.framer.bytes == 0) } → Drained gapped new.framer old.listener mid before after
+    → tells_all new.listener ≡ tells_all mid → listening_of new.listener ≡ ended (listening_of mid) → Hears (RunEnds [] ∷ []) old new before after
+ended_heard old new gapped mid before after is_open is d tells heard =
+    let held = old.framer.bytes in
+    let whole : held ++ [] ≡ held = append-nil held in
+    let parts : items gapped.ended gapped.bytes ≡ items true held = ap (λ (h : Held). items h.ended h.bytes) is ∙ gap_items held in
+    let hears : HearsItems (items true held) old.listener mid before after = subst (λ l. HearsItems l old.listener mid before after) parts d.hears in
+    let left : new.framer.bytes ≡ [] =
+    d.left ∙ ap (λ l. drop (total_size l) gapped.bytes) parts ∙ ap (λ (h : Held). drop (total_size (items true held)) h.bytes) is ∙ all_taken held is_open.bytes in
+    hears_event (RunEnds []) old new before after (tells ∙ hears.tells)
+    (ap (λ l. hearing l new.framer.bytes) (heard ∙ ap ended hears.heard ∙ ap (λ l. ended (heard_items (listening_of old.listener) (items true l))) (sym whole))
+    ∙ ap (hearing (ended (heard_items (listening_of old.listener) (items true (held ++ []))))) left)
+    (hears.text ∙ ap (λ l. before ++ items_report (tells_all old.listener) (listening_of old.listener) (items true l)) (sym whole))
+    (record { bytes = d.bytes; goes_on = d.goes_on; none = d.none })
+
+-- ---- pieces of a piece
+
+pub pushed_is : (held : Held) (given : List ℕ) (count : ℕ) → count ≡ taken_count held given → held.ended ≡ false
+    → after_push held given ≡ record { bytes = held.bytes ++ take count given; ended = false }
+pushed_is held given count is goes_on =
+    ap (λ (e : Bool). record { bytes = held.bytes ++ take (taken_count held given) given; ended = e }) goes_on
+    ∙ ap (λ (n : ℕ). record { bytes = held.bytes ++ take n given; ended = false }) (sym is)
+
+pub come_after : (bytes : List ℕ) (at n m : ℕ) (old mid new : OpenLine) (before middle after : List ℕ) → n ≤ length (take m (drop at bytes)) → AreBytes bytes → IsOpen old
+    → Hears (Come (take at bytes) ∷ []) old mid before middle → Hears (Come (take n (take m (drop at bytes))) ∷ []) mid new middle after
+    → Hears (Come (take (at + n) bytes) ∷ []) old new before after
+come_after bytes at n m old mid new before middle after there fits is_open x y =
+    subst (λ l. Hears (Come l ∷ []) old new before after) (sym (take-add at n bytes))
+    (come_more (take at bytes) (take n (drop at bytes)) old mid new before middle after (AreBytes-take at bytes fits) (AreBytes-take n (drop at bytes) (AreBytes-drop at bytes fits)) is_open x
+    (subst (λ l. Hears (Come l ∷ []) mid new middle after) (take-take n m (drop at bytes) (omega (arith, there, length-take m (drop at bytes)))) y))
+
+-- ---- what is counted, with five for each byte held
+
+size_left : (bytes : List ℕ) → AreBytes bytes → total_size (items false bytes) + length (left_over bytes) ≡ length bytes
+size_left bytes fits =
+    let split = ap total_size (reading_split bytes fits) in
+    let all = sizes_reading bytes (items true bytes) (is_reading bytes fits) in
+    let left = ap length (left_is bytes) in
+    omega (arith, total_size-append (items false bytes) (items true (left_over bytes)), length-drop (total_size (items false bytes)) bytes)
+
+load_come : (h : Hearing) (bytes : List ℕ) → AreBytes (h.held ++ bytes) → load (after_event h (Come bytes)) ≤ load h + 5 * length bytes
+load_come h bytes fits =
+    omega (arith, counted_items h.heard (items false (h.held ++ bytes)), size_left (h.held ++ bytes) fits, length-append h.held bytes)
+
+pub load_came : (bytes : List ℕ) (old new : OpenLine) (before after : List ℕ) → AreBytes bytes → IsOpen old → Hears (Come bytes ∷ []) old new before after
+    → load (hearing_of new) ≤ load (hearing_of old) + 5 * length bytes
+load_came bytes old new before after fits is_open h =
+    let is : load (hearing_of new) ≡ load (after_event (hearing_of old) (Come bytes)) = ap load (h.heard ∙ one_heard (hearing_of old) (Come bytes)) in
+    omega (arith, load_come (hearing_of old) bytes (AreBytes-append old.framer.bytes bytes is_open.bytes fits))
+
+-- of bytes that come after others
+pub load_more : (bytes : List ℕ) (at : ℕ) (old mid : OpenLine) (before middle : List ℕ) → at ≤ length bytes → AreBytes bytes → IsOpen old
+    → Hears (Come (take at bytes) ∷ []) old mid before middle
+    → load (hearing_of mid) + 5 * length (take (length bytes - at) (drop at bytes)) ≤ load (hearing_of old) + 5 * length bytes
+load_more bytes at old mid before middle within fits is_open h =
+    omega (arith, load_came (take at bytes) old mid before middle (AreBytes-take at bytes fits) is_open h, length-take at bytes, length-take (length bytes - at) (drop at bytes), length-drop at bytes)
+
+pub load_gapped : (old : OpenLine) (gapped now : Held) (mid : Listener) (before after : List ℕ) → IsOpen old
+    → gapped ≡ record { bytes = old.framer.bytes; ended = not (length old.framer.bytes == 0) } → Drained gapped now old.listener mid before after
+    → counted mid.tally ≤ load (hearing_of old)
+load_gapped old gapped now mid before after is_open is d =
+    let held = old.framer.bytes in
+    let tally : counted mid.tally ≡ counted (heard_items (listening_of old.listener) (items gapped.ended gapped.bytes)).tally = ap (λ (l : Listening). counted l.tally) d.hears.heard in
+    let all : total_size (items gapped.ended gapped.bytes) ≡ length held =
+    ap (λ (h : Held). total_size (items h.ended h.bytes)) is ∙ ap total_size (gap_items held) ∙ sizes_reading held (items true held) (is_reading held is_open.bytes) in
+    omega (arith, counted_items (listening_of old.listener) (items gapped.ended gapped.bytes))

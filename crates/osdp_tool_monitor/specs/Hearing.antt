@@ -1,0 +1,98 @@
+-- What has been heard of a line whose run goes on, and what is printed of what happens on it.
+use Rattle.std.specs.Prelude.{◌≡◌, ℕ, ◌+◌, ◌*◌, Bool, false, true, List, [], ◌∷◌, ◌++◌, length, drop, None}
+use Rattle.osdp_frame.specs.Bytes.{AreBytes}
+use Rattle.osdp_frame.specs.Held.{Held, decided}
+use Rattle.osdp_frame.specs.Items.{items, left_over}
+use Rattle.osdp_frame.specs.Reading.{RunItem, total_size}
+use Rattle.osdp_tool_lines.specs.Tally.{counted}
+use Rattle.osdp_tool_monitor.specs.declared.listener.Listener.{Listener}
+use Rattle.osdp_tool_monitor.specs.declared.open_line.OpenLine.{OpenLine}
+use Rattle.osdp_tool_monitor.specs.Listening.{Listening, ended, heard_items, items_report, listening_of, nothing_heard, table, tells_all}
+
+pub record Hearing : Type 0 where
+  -- what has been heard of the items that its bytes decide
+  pub heard : Listening
+  -- the bytes after them
+  pub held : List ℕ
+
+abbrev pub nothing_yet : Hearing
+nothing_yet = record { heard = nothing_heard; held = [] }
+
+-- what happens: bytes come, the run ends after these bytes, or the table is due
+pub data LineEvent : Type 0 where
+  Come : List ℕ → LineEvent
+  RunEnds : List ℕ → LineEvent
+  TableDue : LineEvent
+
+abbrev pub after_event : Hearing → LineEvent → Hearing
+after_event h (Come bytes) =
+    record { heard = heard_items h.heard (items false (h.held ++ bytes)); held = left_over (h.held ++ bytes) }
+after_event h (RunEnds bytes) = record { heard = ended (heard_items h.heard (items true (h.held ++ bytes))); held = [] }
+after_event h TableDue = h
+
+-- what is printed: of the items that bytes decide, at once; and the table
+abbrev pub event_report : Bool → Hearing → LineEvent → List ℕ
+event_report packets h (Come bytes) = items_report packets h.heard (items false (h.held ++ bytes))
+event_report packets h (RunEnds bytes) = items_report packets h.heard (items true (h.held ++ bytes))
+event_report packets h TableDue = table h.heard
+
+-- one after the other
+unfoldable pub after_events : Hearing → List LineEvent → Hearing
+after_events h [] = h
+after_events h (event ∷ events) = after_events (after_event h event) events
+
+unfoldable pub events_report : Bool → Hearing → List LineEvent → List ℕ
+events_report packets h [] = []
+events_report packets h (event ∷ events) = event_report packets h event ++ events_report packets (after_event h event) events
+
+-- how many bytes came
+abbrev pub event_size : LineEvent → ℕ
+event_size (Come bytes) = length bytes
+event_size (RunEnds bytes) = length bytes
+event_size TableDue = 0
+
+unfoldable pub events_size : List LineEvent → ℕ
+events_size [] = 0
+events_size (event ∷ events) = event_size event + events_size events
+
+-- all that is counted, with five for each byte held
+abbrev pub load : Hearing → ℕ
+load h = counted h.heard.tally + 5 * length h.held
+
+-- ---- an open line
+
+abbrev pub hearing_of : OpenLine → Hearing
+hearing_of l = record { heard = listening_of l.listener; held = l.framer.bytes }
+
+-- all items are printed
+abbrev pub prints_all : OpenLine → Bool
+prints_all l = tells_all l.listener
+
+-- a run goes on, and none of the bytes held is decided
+pub record IsOpen (l : OpenLine) : Type 0 where
+  pub bytes : AreBytes l.framer.bytes
+  pub goes_on : l.framer.ended ≡ false
+  pub none : decided false l.framer.bytes ≡ None
+
+-- it went on by these events
+pub record Hears (events : List LineEvent) (old new : OpenLine) (before after : List ℕ) : Type 0 where
+  pub prints : prints_all new ≡ prints_all old
+  pub heard : hearing_of new ≡ after_events (hearing_of old) events
+  pub text : after ≡ before ++ events_report (prints_all old) (hearing_of old) events
+  pub is_open : IsOpen new
+
+-- ---- items that are taken off
+
+-- a listener went on by items
+pub record HearsItems (parts : List RunItem) (old new : Listener) (before after : List ℕ) : Type 0 where
+  pub tells : tells_all new ≡ tells_all old
+  pub heard : listening_of new ≡ heard_items (listening_of old) parts
+  pub text : after ≡ before ++ items_report (tells_all old) (listening_of old) parts
+
+-- the items that the bytes held decide were told and taken off, and no other is decided
+pub record Drained (start now : Held) (old new : Listener) (before after : List ℕ) : Type 0 where
+  pub hears : HearsItems (items start.ended start.bytes) old new before after
+  pub left : now.bytes ≡ drop (total_size (items start.ended start.bytes)) start.bytes
+  pub goes_on : now.ended ≡ false
+  pub none : decided false now.bytes ≡ None
+  pub bytes : AreBytes now.bytes
