@@ -1,3 +1,4 @@
 pub mod Cuts
 pub mod Taken
 pub mod Sessions
+mod OneSession

@@ -10,7 +10,7 @@ use Rattle.osdp_link_laws.specs.Headline.{IsBeginning}
 use Rattle.osdp_link_laws.specs.OneHandler.{with_answers}
 use Rattle.osdp_sim.specs.Account.{Account, lengths_of}
 use Rattle.osdp_sim.specs.declared.account.Lengths.{Lengths}
-use Rattle.osdp_sim_laws.specs.Accounts.{IsInARow, IsNoRefusal, no_lengths}
+use Rattle.osdp_sim_laws.specs.Accounts.{IsInARow, IsNoRefusal, IsOnce, no_lengths}
 use Rattle.osdp_session.specs.Taken.{AreTakenOnce}
 
 -- the items of a list from one place up to another
@@ -99,3 +99,8 @@ module _ {H : Type 0} (answer_of : H → Command → Answer) (after : H → Comm
   abbrev pub AreInSessions : Type 0
   AreInSessions = (config : ReaderConfig) (handler : H) (a : Account) → IsInARow answer_of after config handler a
       → HoldsInSessions config handler a
+
+  -- an account of one session that holds so says what is said where no session begins again
+  abbrev pub OneSessionIsOnce : Type 0
+  OneSessionIsOnce = (config : ReaderConfig) (handler : H) (a : Account) → HoldsInSessions config handler a → length a.sessions ≡ 1
+      → IsOnce answer_of after config handler a

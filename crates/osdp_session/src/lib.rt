@@ -12,7 +12,7 @@ mod laws;
 mod several_readers;
 
 use laws::holds_of_each_run;
-pub use laws::{each_holds_in_sessions, holds_in_sessions};
+pub use laws::{each_holds_in_sessions, holds_in_sessions, one_session_is_once};
 use osdp_reader::Handler;
 use osdp_sim::{Account, Fault, Schedule, SimConfig, SimStep};
 pub use several_readers::{run_bus, run_bus_schedule};
@@ -33,6 +33,10 @@ use std::alloc::Global;
 ///   are those after the ones that the sessions before it settled or told unsettled, and its events those after the ones that were
 ///   reported before it, with the last of them again or without it. Each session tells one command unsettled at most. Over all sessions the
 ///   commands taken are a beginning of those issued, with some of those told unsettled left out; so none is taken twice.
+/// - `begun`: there is one session more than the steps taken had Reopens of reader 1. The first began with nothing. Each other one began after what the
+///   steps before its Reopen come to: the account keeps how long all lists were then, and its commands and events begin with those that these
+///   steps had accepted.
+/// - `one_session`: what `once` says, where no step begins a session of reader 1 again. A Reopen that names another reader does nothing.
 ///
 /// Each session ends at most once, and none ends because the reader refused a number.
 pub fn run_session<H: Handler>(

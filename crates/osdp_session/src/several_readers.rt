@@ -21,6 +21,10 @@ use std::alloc::Global;
 ///   with the answer that it gave, and one more at most; the events reported are a beginning of those queued at it, each once and in order.
 /// - `sessions`: where sessions begin again, that holds of each of them, at the places that `sessions` of the account gives. Over all sessions
 ///   the commands taken are a beginning of those issued to it, with some of those told unsettled left out; so none is taken twice.
+/// - `begun`: its account has one session more than the steps taken had Reopens of it. The first began with nothing, and each other one after what the
+///   steps before its Reopen come to for it: the account keeps how long all its lists were then, and its commands and events begin with those that
+///   these steps had accepted.
+/// - `one_session`: what `once` says, where no step begins a session of this reader again, whatever the sessions of others do.
 ///
 /// Each session of a reader ends at most once, and none ends because a number was refused.
 pub fn run_bus<H: Handler>(

@@ -387,7 +387,7 @@ module _ {H : Type 0} (answer_of : H → Command → Answer) (after : H → Comm
     site_at : slice_get (set_up config readers).sites k ≡ Some (new_site given)
     site_at = slice_get-map new_site readers k ∙ ap (option_map new_site) at
 
-    all_accepted : (a : Account) × (slice_get (told_by answer_of after config readers list) k ≡ Some a) × AcceptsFor config.capacity given.1 (suc k) list a
+    pub all_accepted : (a : Account) × (slice_get (told_by answer_of after config readers list) k ≡ Some a) × AcceptsFor config.capacity given.1 (suc k) list a
     all_accepted =
         let s = set_up config readers in
         let final = run answer_of after list s in

@@ -11,3 +11,4 @@ pub mod Waiting
 pub mod Accepting
 pub mod Places
 pub mod Idling
+pub mod Begun

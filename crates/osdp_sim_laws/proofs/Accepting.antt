@@ -398,7 +398,7 @@ module _ {H : Type 0} (answer_of : H → Command → Answer) (after : H → Comm
 
   -- ---- whatever is answered
 
-  from_set_up : (config : SimConfig) (handler : H) (list : List SimStep) → IsAcceptedByRoom config list (run answer_of after list (set_up config handler)).account
+  pub from_set_up : (config : SimConfig) (handler : H) (list : List SimStep) → IsAcceptedByRoom config list (run answer_of after list (set_up config handler)).account
   from_set_up config handler list =
       let s = set_up config handler in
       let last = (run answer_of after list s).account in

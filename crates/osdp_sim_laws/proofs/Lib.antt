@@ -1,5 +1,6 @@
 pub mod Accepting
 pub mod Accounts
+pub mod Begun
 pub mod Carrying
 pub mod Clean
 pub mod Clearing

@@ -4,3 +4,4 @@ pub mod Progress
 pub mod Accepted
 pub mod Clean
 pub mod OneLink
+pub mod Begun

@@ -3,6 +3,7 @@
 
 ghost use Rattle.osdp_sim_laws.specs.Accepted.{AcceptsByRoom};
 ghost use Rattle.osdp_sim_laws.specs.Accounts.{HoldsOnce, StaysInARow};
+ghost use Rattle.osdp_sim_laws.specs.Begun.{BeginsByReopens};
 ghost use Rattle.osdp_sim_laws.specs.Clean.{GoesInTurn};
 ghost use Rattle.osdp_sim_laws.specs.Moves.{ScheduleIsMoves};
 ghost use Rattle.osdp_sim_laws.specs.OneLink.{OneLink};
@@ -41,6 +42,13 @@ pub fn schedule_holds_once<H: Handler>()
 {
     stands_on_one_link::<H>();
 }
+
+/// Whatever a schedule says, once both ends were set up: an account has one session more than the steps taken had Reopens of its reader. The first began
+/// with nothing. Each other one began after what the steps before its Reopen come to: the account keeps how long all lists were then, and its
+/// commands and events begin with those that these steps had accepted, by the room that there was.
+pub fn sessions_begin_by_reopens<H: Handler>()
+    ensures { BeginsByReopens H.answer_of H.after }
+{}
 
 /// After steps of one session that leave nothing on the line, both ends at one address, the reader not busy and no COMSET to a device's
 /// address issued: over m rounds that lose nothing, each as long as the longest of the controller's waits or longer, m - 1 more commands

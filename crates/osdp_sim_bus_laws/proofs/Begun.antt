@@ -1,0 +1,177 @@
+-- How many sessions the account of each reader has, and how long its lists were where each of them began.
+use Rattle.std.proofs.Common.{◌≡◌, ◌-◌, ℕ, zero, suc, arith, Bool, true, false, ◌==◌, if◌then◌else◌, List, [], ◌∷◌, length, Option, Some, None, refl, sym, subst, ap, ◌∙◌}
+use Rattle.std.proofs.lemmas.Bool.{eq-eqb}
+use Rattle.std.proofs.lemmas.Option.{slice_get-map}
+use Rattle.std.specs.Prelude.{option_map, slice_get}
+use Rattle.osdp_frame.specs.Items.{packets_in}
+use Rattle.osdp_frame.specs.Packet.{Packet}
+use Rattle.osdp_msg.specs.declared.command.Command.{Command}
+use Rattle.osdp_msg.specs.declared.event.Event.{Event}
+use Rattle.osdp_controller.specs.declared.report.Report.{Report}
+use Rattle.osdp_reader.specs.declared.handler.Answer.{Answer}
+use Rattle.osdp_bus.specs.Machine.{submit_refusal_at}
+use Rattle.osdp_bus.specs.declared.config.BusConfig.{BusConfig}
+use Rattle.osdp_bus.specs.declared.fault.BusFault.{BusFault}
+use Rattle.osdp_sim.specs.Account.{Account, lengths_of}
+use Rattle.osdp_sim.specs.Line.{handed, left}
+use Rattle.osdp_sim.specs.Steps.{moment_after}
+use Rattle.osdp_sim.specs.declared.step.SimStep.{SimStep}
+use Rattle.osdp_sim.specs.declared.step.SimStep.TheVariants.{Busy, Issue, Queue, Reopen, ToController, ToReader, Wait}
+use Rattle.osdp_sim_bus.specs.Runs.{run, steps_done}
+use Rattle.osdp_sim_bus.specs.State.{Given, LineState, Site, accounts, new_site, set_up}
+use Rattle.osdp_sim_bus.specs.Steps.{after_step, all_hear, all_hear_each, changed_site, hears_run, is_there, issued, reopened, site_begins, site_hears, site_is_busy, site_is_told, site_issues, site_queues, site_queues_unless, told, waited}
+use Rattle.osdp_sim_laws.specs.Begun.{AreBegun}
+use Rattle.osdp_sim_laws.proofs.Accepting.{counts}
+use Rattle.osdp_sim_laws.proofs.Begun.{Grows, are_begun, begun_by, grows_by_command, grows_by_event, grows_by_report, grows_by_session, grows_on, has_grown, stays}
+use Rattle.osdp_sim_bus_laws.specs.Accepted.{AcceptsFor}
+use Rattle.osdp_sim_bus_laws.specs.Begun.{CameTo, EachBeginsByReopens}
+use Rattle.osdp_sim_bus_laws.proofs.Accepting.{all_accepted}
+use Rattle.osdp_sim_bus_laws.proofs.Idling.{there_is}
+use Rattle.osdp_sim_bus_laws.proofs.Places.{StaysAt, get_changed, other_changed, stays_all, stays_changed, stays_each, stays_then}
+use Rattle.osdp_sim_bus_laws.proofs.Rows.{account_at, answers, told_by}
+
+same_item : {A : Type 0} {x y : A} → Some x ≡ Some y → x ≡ y
+same_item is = cc
+
+module _ {H : Type 0} (answer_of : H → Command → Answer) (after : H → Command → H) (k : ℕ) where
+  -- no session begins
+  abbrev Stays : Site H → Site H → Type 0
+  Stays u v = Grows [] u.account v.account
+
+  same : (u : Site H) → Stays u u
+  same u = stays u.account u.account refl refl refl
+
+  both : (u v w : Site H) → Stays u v → Stays v w → Stays u w
+  both u v w one more = grows_on [] [] u.account v.account w.account one more
+
+  where_stays : (there : Bool) (s t : LineState H) → StaysAt Stays k s.sites t.sites → StaysAt Stays k s.sites (if there then t else s).sites
+  where_stays true s t is = is
+  where_stays false s t is = stays_all Stays same k s.sites
+
+  told_stays : (o : Option (ℕ × Report)) (s : LineState H) → StaysAt Stays k s.sites (told o s).sites
+  told_stays None s = stays_all Stays same k s.sites
+  told_stays (Some (entry, r)) s = stays_changed Stays same k entry (site_is_told r) s.sites (λ u. grows_by_report (Some r) u.account)
+
+  heard_stays : (packets : List Packet) (s : LineState H) → StaysAt Stays k s.sites (all_hear_each answer_of after packets s).sites
+  heard_stays [] s = stays_all Stays same k s.sites
+  heard_stays (p ∷ packets) s =
+      let t = all_hear answer_of after p s in
+      stays_then Stays both k s.sites t.sites (all_hear_each answer_of after packets t).sites
+      (stays_each Stays same k (site_hears answer_of after p) s.sites
+      (λ u. stays u.account (site_hears answer_of after p u).account refl refl refl))
+      (heard_stays packets t)
+
+  issued_stays : (fault : Option BusFault) (place : ℕ) (c : Command) (s : LineState H) → StaysAt Stays k s.sites (issued fault place c s).sites
+  issued_stays (Some fault) place c s = stays_all Stays same k s.sites
+  issued_stays None place c s = stays_changed Stays same k place (site_issues c) s.sites (λ u. grows_by_command c u.account)
+
+  queued_stays : (full : Bool) (e : Event) (u : Site H) → Stays u (site_queues_unless full e u)
+  queued_stays true e u = same u
+  queued_stays false e u = grows_by_event e u.account
+
+  -- the account at the place, where a step begins its session again or doesn't
+  abbrev GrowsBy : SimStep → LineState H → Site H → Type 0
+  GrowsBy step s u =
+      (v : Site H) × (slice_get (after_step answer_of after step s).sites k ≡ Some v) × Grows (begun_by (suc k) step u.account) u.account v.account
+
+  begun_here : (s : LineState H) (u : Site H) → slice_get s.sites k ≡ Some u
+      → (v : Site H) × (slice_get (after_step answer_of after (Reopen (suc k)) s).sites k ≡ Some v) × Grows (lengths_of u.account ∷ []) u.account v.account
+  begun_here s u at =
+      let less : suc k - 1 ≡ k = omega arith in
+      let there = there_is answer_of after k u s at in (
+        site_begins u,
+        ap (λ b. slice_get (if b then reopened (suc k - 1) s else s).sites k) there
+            ∙ ap (λ j. slice_get (reopened j s).sites k) less ∙ get_changed k site_begins u s.sites at,
+        grows_by_session u.account,
+      )
+
+  other_stays : (number : ℕ) (s : LineState H) → (number ≡ suc k → ⊥)
+      → StaysAt Stays k s.sites (after_step answer_of after (Reopen number) s).sites
+  other_stays zero s other = stays_all Stays same k s.sites
+  other_stays (suc j) s other =
+      where_stays (is_there (suc j) s) s (reopened (suc j - 1) s)
+      (other_changed Stays same k (suc j - 1) site_begins s.sites (λ is. other (omega (arith, is))))
+
+  reopen_grows : (number : ℕ) (s : LineState H) (u : Site H) → slice_get s.sites k ≡ Some u → GrowsBy (Reopen number) s u
+  reopen_grows number s u at = by_number (number == suc k) refl
+    where
+      by_number : (named : Bool) → (number == suc k) ≡ named
+          → (v : Site H) × (slice_get (after_step answer_of after (Reopen number) s).sites k ≡ Some v)
+          × Grows (if named then lengths_of u.account ∷ [] else []) u.account v.account
+      by_number true is =
+          subst (λ i. (v : Site H) × (slice_get (after_step answer_of after (Reopen i) s).sites k ≡ Some v)
+          × Grows (lengths_of u.account ∷ []) u.account v.account) (sym (counts number (suc k) is)) (begun_here s u at)
+      by_number false is =
+          other_stays number s (λ e. let named = eq-eqb number (suc k) e in absurd (let both = sym is ∙ named in cc)) u at
+
+  step_grows : (step : SimStep) (s : LineState H) (u : Site H) → slice_get s.sites k ≡ Some u → GrowsBy step s u
+  step_grows (Issue number c) s u at =
+      let next = issued (submit_refusal_at (number - 1) c s.bus) (number - 1) c s in
+      where_stays (is_there number s) s next (issued_stays (submit_refusal_at (number - 1) c s.bus) (number - 1) c s) u at
+  step_grows (Queue number e) s u at =
+      where_stays (is_there number s) s (record s { sites = changed_site (number - 1) (site_queues e) s.sites })
+      (stays_changed Stays same k (number - 1) (site_queues e) s.sites
+      (λ v. queued_stays (length v.reader.queue.events == v.reader.queue.capacity) e v)) u at
+  step_grows (Busy number busy) s u at =
+      where_stays (is_there number s) s (record s { sites = changed_site (number - 1) (site_is_busy busy) s.sites })
+      (stays_changed Stays same k (number - 1) (site_is_busy busy) s.sites
+      (λ v. stays v.account (site_is_busy busy v).account refl refl refl)) u at
+  step_grows (Wait wait) s u at =
+      let t = waited (moment_after wait s.clock) s in
+      told_stays t.bus.devices.report (record t { bus = record t.bus { devices = record t.bus.devices { report = None } } }) u at
+  step_grows (ToReader move) s u at =
+      heard_stays (packets_in (handed move s.to_readers)) (record s { to_readers = left move s.to_readers }) u at
+  step_grows (ToController move) s u at =
+      let t = record s { bus = hears_run (handed move s.to_bus) s.clock s.bus; to_bus = left move s.to_bus } in
+      told_stays t.bus.devices.report (record t { bus = record t.bus { devices = record t.bus.devices { report = None } } }) u at
+  step_grows (Reopen number) s u at = reopen_grows number s u at
+
+  -- the account of the reader at the place
+  abbrev pub Tells : LineState H → Account → Type 0
+  Tells s a = (u : Site H) × (slice_get s.sites k ≡ Some u) × (a ≡ u.account)
+
+  one_account : (s : LineState H) (a b : Account) → Tells s a → Tells s b → a ≡ b
+  one_account s a b (u, at, is) (v, also, other) =
+      is ∙ ap (λ (w : Site H). w.account) (same_item (sym at ∙ also)) ∙ sym other
+
+  grow : (step : SimStep) (s : LineState H) (a : Account) → Tells s a
+      → (b : Account) × Tells (after_step answer_of after step s) b × Grows (begun_by (suc k) step a) a b
+  grow step s a (u, at, is) =
+      let next = step_grows step s u at in (
+        next.0.account,
+        (next.0, next.1, refl),
+        subst (λ (b : Account). Grows (begun_by (suc k) step b) b next.0.account) (sym is) next.2,
+      )
+
+  -- ---- from the set-up on
+
+  module _ (config : BusConfig) (readers : List (Given H)) (given : Given H) (at : slice_get readers k ≡ Some given) where
+    first_tells : Tells (set_up config readers) (new_site given).account
+    first_tells = (new_site given, slice_get-map new_site readers k ∙ ap (option_map new_site) at, refl)
+
+    came_to : (list : List SimStep) (was : Account) → Tells (run answer_of after list (set_up config readers)) was
+        → CameTo answer_of after config readers k given list was
+    came_to list was (u, there, is) =
+        let s = run answer_of after list (set_up config readers) in
+        let here : slice_get (accounts s) k ≡ Some was = account_at k u s.sites there ∙ ap Some (sym is) in
+        let room = all_accepted answer_of after config readers list k given at in
+        record { run = here; room = subst (λ a. AcceptsFor config.capacity given.1 (suc k) list a) (same_item (sym room.1 ∙ here)) room.2 }
+
+    pub all_begun : (list : List SimStep) → (a : Account) × (slice_get (told_by answer_of after config readers list) k ≡ Some a)
+        × AreBegun (suc k) (CameTo answer_of after config readers k given) list a
+    all_begun list =
+        let first = set_up config readers in
+        let grown = has_grown (after_step answer_of after) Tells one_account (suc k) grow list first (new_site given).account first_tells in (
+          grown.last,
+          (came_to list grown.last grown.tells).run,
+          are_begun (after_step answer_of after) Tells one_account (suc k) grow first (new_site given).account first_tells refl list grown.last grown.tells
+              (CameTo answer_of after config readers k given) came_to,
+        )
+
+module _ {H : Type 0} (answer_of : H → Command → Answer) (after : H → Command → H) where
+  pub each_begins : EachBeginsByReopens answer_of after
+  each_begins config readers steps answer is was k given at =
+      let done = steps_done steps answer in
+      answers answer_of after
+      (λ told. (a : Account) × (slice_get told k ≡ Some a) × AreBegun (suc k) (CameTo answer_of after config readers k given) done a)
+      config readers steps answer is was (λ taken. all_begun answer_of after k config readers given at done)
