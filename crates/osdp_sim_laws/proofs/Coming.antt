@@ -116,7 +116,7 @@ module _ {H : Type 0} (answer_of : H → Command → Answer) (after : H → Comm
       controller_in_time answer_of after now wait Delivered heard.to_controller heard (reader_in_time answer_of after now wait Delivered t.to_reader t ticked)
 
   -- so the rounds are late
-  are_late : (m wait clock : ℕ) (l : Link H) → clock ≤ last_moment → LinkInTime clock wait l → progress.AreLate answer_of after (moments_of m wait clock) l
+  pub are_late : (m wait clock : ℕ) (l : Link H) → clock ≤ last_moment → LinkInTime clock wait l → progress.AreLate answer_of after (moments_of m wait clock) l
   are_late zero wait clock l fits is = tt
   are_late (suc m) wait clock l fits is =
       let now = moment_after wait clock in
@@ -128,14 +128,14 @@ module _ {H : Type 0} (answer_of : H → Command → Answer) (after : H → Comm
   -- ---- the lists of one session
 
   -- as long as those of the link's account
-  record AsLong (a : Account) (t : link.Account) : Type 0 where
+  pub record AsLong (a : Account) (t : link.Account) : Type 0 where
     pub settled : length a.settled ≡ length t.settled
     pub reported : length a.reported ≡ length t.reported
     pub issued : a.issued ≡ t.issued
     pub queued : length a.queued ≡ length t.queued
     pub kept : t.kept ≡ t.queued
 
-  as_long : (given : OneLink answer_of after) (config : SimConfig) (handler : H) (device : config.controller.address < 127) (s : SimState H) (ms : List (link.Move H)) (clock : ℕ)
+  pub as_long : (given : OneLink answer_of after) (config : SimConfig) (handler : H) (device : config.controller.address < 127) (s : SimState H) (ms : List (link.Move H)) (clock : ℕ)
       → Follows answer_of after s ms (first_link config handler) clock no_account → Each (IsWithin answer_of after) ms
       → AsLong s.account (link.run answer_of after ms (first_link config handler)).account
   as_long given config handler device s ms clock follows within =
@@ -157,7 +157,7 @@ module _ {H : Type 0} (answer_of : H → Command → Answer) (after : H → Comm
 
   -- ---- steps, and more of them, as moves of the link
 
-  record InTwo (config : SimConfig) (handler : H) (steps more : List SimStep) : Type 0 where
+  pub record InTwo (config : SimConfig) (handler : H) (steps more : List SimStep) : Type 0 where
     pub first : Follows answer_of after (run answer_of after steps (set_up config handler)) (moves_of steps 0) (first_link config handler)
         (clock_after steps 0) no_account
     pub next : let later = link.run answer_of after (moves_of steps 0) (first_link config handler) in
@@ -165,7 +165,7 @@ module _ {H : Type 0} (answer_of : H → Command → Answer) (after : H → Comm
         let a = (run answer_of after steps (set_up config handler)).account in
         Follows answer_of after (run answer_of after more (in_bytes later clock a)) (moves_of more clock) later (clock_after more clock) a
 
-  in_two : OneLink answer_of after → (config : SimConfig) (handler : H) (steps more : List SimStep) → IsRun answer_of after config handler (steps ++ more)
+  pub in_two : OneLink answer_of after → (config : SimConfig) (handler : H) (steps more : List SimStep) → IsRun answer_of after config handler (steps ++ more)
       → InTwo config handler steps more
   in_two given config handler steps more is =
       let l = first_link config handler in
@@ -185,10 +185,30 @@ module _ {H : Type 0} (answer_of : H → Command → Answer) (after : H → Comm
             (subst (λ s. is_well answer_of after more s ≡ true) there well.1) (subst (FitAlong answer_of after more) there fits.1);
       }
 
+  -- where the simulation is clear its link is
+  pub clear_link : (given : OneLink answer_of after) (config : SimConfig) (handler : H) (steps more : List SimStep) → IsRun answer_of after config handler (steps ++ more)
+      → All IsInSession steps → IsClear (run answer_of after steps (set_up config handler))
+      → progress.IsClear (link.run answer_of after (moves_of steps 0) (first_link config handler))
+  clear_link given config handler steps more is within clear =
+      let first = (in_two given config handler steps more is).first in
+      let later = link.run answer_of after (moves_of steps 0) (first_link config handler) in
+      let before = run answer_of after steps (set_up config handler) in
+      let clock = clock_after steps 0 in
+      let there : before ≡ in_bytes later clock before.account = first.carried.state in
+      let lists = as_long given config handler is.settings.controller.config_in_range.address before (moves_of steps 0) clock first
+      (steps_within answer_of after steps 0 (each_of IsInSession steps within)) in
+      record {
+        to_reader = none_on later.to_reader (sym (ap (λ (s : SimState H). s.to_reader) there) ∙ clear.to_reader);
+        to_controller = none_on later.to_controller (sym (ap (λ (s : SimState H). s.to_controller) there) ∙ clear.to_controller);
+        address = sym (ap (λ (s : SimState H). s.reader.config.address) there) ∙ clear.address ∙ ap (λ (s : SimState H). s.controller.session.config.address) there;
+        ready = sym (ap (λ (s : SimState H). s.reader.busy) there) ∙ clear.ready;
+        issued = subst (All SetsNoAddress) lists.issued clear.issued;
+      }
+
   -- ---- something comes through
 
   -- a session that is over has an end
-  not_over : (s : SimState H) → s.controller.session.state ≡ Closed → HaveEnded s → 0 < length s.account.sessions → s.account.ends ≡ [] → ⊥
+  pub not_over : (s : SimState H) → s.controller.session.state ≡ Closed → HaveEnded s → 0 < length s.account.sessions → s.account.ends ≡ [] → ⊥
   not_over s shut ended some none =
       let closed : is_closed s.controller.session.state ≡ true = ap is_closed shut in
       let counted : length s.account.ends + 1 ≡ length s.account.sessions + 1 = ended ∙ ap (λ b. length s.account.sessions + count b) closed in
@@ -220,13 +240,7 @@ module _ {H : Type 0} (answer_of : H → Command → Answer) (after : H → Comm
       let last_lists = as_long given config handler device end (ms ++ ns) (clock_after more clock) whole both in
       let timely = steps_in_time wait steps 0 l (omega arith) (omega arith, long) in
       let range : IsInRange l.controller.session = ranges.later (new_machine config.controller config.commands) (Begin 0 ∷ []) (ranges.new config.controller config.commands) in
-      let quiet : progress.IsClear later = record {
-        to_reader = none_on later.to_reader (sym (ap (λ (s : SimState H). s.to_reader) there) ∙ clear.to_reader);
-        to_controller = none_on later.to_controller (sym (ap (λ (s : SimState H). s.to_controller) there) ∙ clear.to_controller);
-        address = sym (ap (λ (s : SimState H). s.reader.config.address) there) ∙ clear.address ∙ ap (λ (s : SimState H). s.controller.session.config.address) there;
-        ready = sym (ap (λ (s : SimState H). s.reader.busy) there) ∙ clear.ready;
-        issued = subst (All SetsNoAddress) first_lists.issued clear.issued;
-      } in
+      let quiet = clear_link given config handler steps more is within clear in
       let moves = subst (λ list. headline.MovesFit answer_of after list later) (rounds_are m wait clock) two.next.moves in
       let found = in_time l ms (moments_of m wait clock) begun range first.moves quiet (are_late m wait clock later timely.0 timely.1) moves in
       let same : link.run answer_of after (progress.rounds (moments_of m wait clock)) later ≡ last =
@@ -249,12 +263,25 @@ module _ {H : Type 0} (answer_of : H → Command → Answer) (after : H → Comm
 
   -- ---- whatever was before
 
-  moves_on : (xs ys : List SimStep) (clock : ℕ) → moves_of {H = H} (xs ++ ys) clock ≡ moves_of xs clock ++ moves_of ys (clock_after xs clock)
+  pub moves_on : (xs ys : List SimStep) (clock : ℕ) → moves_of {H = H} (xs ++ ys) clock ≡ moves_of xs clock ++ moves_of ys (clock_after xs clock)
   moves_on [] ys clock = refl
   moves_on (x ∷ xs) ys clock =
       let now = step_clock x clock in
       ap (λ ms. move_of x clock ++ ms) (moves_on xs ys now)
       ∙ sym (append_assoc (move_of x clock) (moves_of xs now) (moves_of ys (clock_after xs now)))
+
+  -- the link after a line that was cleared
+  pub is_cleared : (config : SimConfig) (handler : H) (steps : List SimStep)
+      → Cleared answer_of after (link.run answer_of after (moves_of (steps ++ clear steps) 0) (first_link config handler))
+  is_cleared config handler steps =
+      let l = first_link config handler in
+      let clock = clock_after steps 0 in
+      let middle = link.run answer_of after (moves_of steps 0) l in
+      let at_most = steps_few answer_of after 0 steps 0 l (omega arith, omega arith) in
+      let few : AtMost (length steps) middle = (omega (arith, at_most.0), omega (arith, at_most.1)) in
+      subst (Cleared answer_of after)
+      (sym (ap (λ list. link.run answer_of after list l) (moves_on steps (clear steps) 0) ∙ run_both answer_of after (moves_of steps 0) (moves_of (clear steps) clock) l))
+      (clears answer_of after steps clock middle few)
 
   pub recovers : OneLink answer_of after → progress.ComesThroughInTime answer_of after → StaysInRange → StayWhereTheyAre answer_of after
       → Recovers answer_of after
@@ -280,13 +307,7 @@ module _ {H : Type 0} (answer_of : H → Command → Answer) (after : H → Comm
       let begun = begins config handler device in
       let kept = stays l ms begun first.moves (each_all SetsNoAddress (all_submitted answer_of after ms l) (subst (Each SetsNoAddress) first.carried.issued none_before))
       (set_no_other l.reader.config.address l.controller.session.config.address ms first.ordinary) in
-      let middle = link.run answer_of after (moves_of steps 0) l in
-      let at_most = steps_few answer_of after 0 steps 0 l (omega arith, omega arith) in
-      let few : AtMost (length steps) middle = (omega (arith, at_most.0), omega (arith, at_most.1)) in
-      let over = clears answer_of after steps (clock_after steps 0) middle few in
-      let is_after : later ≡ link.run answer_of after (moves_of (clear steps) (clock_after steps 0)) middle =
-      ap (λ list. link.run answer_of after list l) (moves_on steps (clear steps) 0) ∙ run_both answer_of after (moves_of steps 0) (moves_of (clear steps) (clock_after steps 0)) l in
-      let quiet : Cleared answer_of after later = subst (Cleared answer_of after) (sym is_after) over in
+      let quiet = is_cleared config handler steps in
       let is_clear : IsClear before = record {
         to_reader = ap (λ (s : SimState H). s.to_reader) there ∙ ap (map spelling) quiet.to_reader;
         to_controller = ap (λ (s : SimState H). s.to_controller) there ∙ ap (map spelling) quiet.to_controller;

@@ -11,3 +11,4 @@ pub mod Holding
 pub mod Moments
 pub mod Schedules
 pub mod Answered
+pub mod Resting

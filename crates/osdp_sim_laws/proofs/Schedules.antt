@@ -49,7 +49,7 @@ module _ {H : Type 0} (answer_of : H → Command → Answer) (after : H → Comm
   run_both [] ns l = refl
   run_both (m ∷ ms) ns l = run_both ms ns (after_move answer_of after m l)
 
-  moves_both : (ms ns : List (link.Move H)) (l : Link H) → MovesFit answer_of after ms l → MovesFit answer_of after ns (link.run answer_of after ms l)
+  pub moves_both : (ms ns : List (link.Move H)) (l : Link H) → MovesFit answer_of after ms l → MovesFit answer_of after ns (link.run answer_of after ms l)
       → MovesFit answer_of after (ms ++ ns) l
   moves_both [] ns l first next = next
   moves_both (m ∷ ms) ns l first next = (first.0, moves_both ms ns (after_move answer_of after m l) first.1 next)

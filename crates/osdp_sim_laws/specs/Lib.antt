@@ -5,3 +5,4 @@ pub mod Accepted
 pub mod Clean
 pub mod OneLink
 pub mod Begun
+pub mod Resting

@@ -8,6 +8,7 @@ ghost use Rattle.osdp_sim_laws.specs.Clean.{GoesInTurn};
 ghost use Rattle.osdp_sim_laws.specs.Moves.{ScheduleIsMoves};
 ghost use Rattle.osdp_sim_laws.specs.OneLink.{OneLink};
 ghost use Rattle.osdp_sim_laws.specs.Progress.{AnswerRecovers, ComesThrough, Recovers};
+ghost use Rattle.osdp_sim_laws.specs.Resting.{ClearsTheLine, EachRoundBringsOneMore, EachRoundRests};
 
 use osdp_reader::Handler;
 
@@ -70,6 +71,20 @@ pub fn schedule_comes_through<H: Handler>()
     osdp_link_laws::comes_through::<H>();
     osdp_link_laws::stay_where_they_are::<H>();
     osdp_controller_laws::stays_in_range();
+}
+
+/// Between the clearing of a line and the rounds after it, and between these: once what was on the line is lost no burst is on it. After steps of one
+/// session that leave nothing on the line, as `schedule_comes_through` asks, each round that loses nothing ends with no burst on the line and
+/// with the controller idle; each but the first brings one more command or event than those before it had, unless all are settled and reported.
+pub fn rests_between_rounds<H: Handler>()
+    ensures cleared { ClearsTheLine H.answer_of H.after }
+    ensures rest { EachRoundRests H.answer_of H.after }
+    ensures more { EachRoundBringsOneMore H.answer_of H.after }
+{
+    stands_on_one_link::<H>();
+    osdp_link_laws::comes_through::<H>();
+    osdp_controller_laws::stays_in_range();
+    osdp_controller_laws::ticks_come_due();
 }
 
 /// Whatever a schedule says: of the steps that were taken, all commands for the reader but POLL are issued, and all events for it queued,
