@@ -35,7 +35,7 @@ use Rattle.osdp_sim_bus.specs.State.{Given, LineState, begun_bus, begun_device}
 use Rattle.osdp_sim_bus.specs.Steps.{after_step, all_hear_each, hears_run, is_there, issued, told}
 use Rattle.osdp_sim_laws.specs.Accounts.{IsInSession}
 use Rattle.osdp_sim_laws.proofs.Moments.{InTime, clock_on, hears_so, last_moment, tick_so}
-use Rattle.osdp_bus_progress.proofs.BusRounds.{heard_bus, heard_clock, told_bus, told_clock}
+use Rattle.osdp_bus_progress.proofs.Unmoved.{heard_bus, heard_clock, told_bus, told_clock}
 
 -- ---- devices
 

@@ -22,7 +22,7 @@ use Rattle.osdp_sim_laws.specs.Progress.{done, losses}
 use Rattle.osdp_sim_laws.proofs.Accepting.{IsNoOrder}
 use Rattle.osdp_sim_laws.proofs.Answered.{all_done}
 use Rattle.osdp_sim_laws.proofs.Coming.{rounds_within}
-use Rattle.osdp_sim_bus_laws.specs.Accounts.{HoldsOnce}
+use Rattle.osdp_sim_bus_laws.specs.Accounts.{AccountsAreOnce}
 use Rattle.osdp_sim_bus_laws.proofs.Idling.{SameIssued, idle_sites, issued_idle}
 use Rattle.osdp_sim_bus_laws.proofs.Places.{StaysAt, stays_all, stays_then}
 use Rattle.osdp_bus_progress.specs.Progress.{ComesOn, EachAnswerRecovers, EachRecovers, NoneMoves, all_ready, clear}
@@ -82,7 +82,7 @@ module _ {H : Type 0} (answer_of : H → Command → Answer) (after : H → Comm
 
   -- ---- the answer
 
-  pub answer_recovers : EachRecovers answer_of after → HoldsOnce answer_of after → HasAnAccountEach answer_of after → EachAnswerRecovers answer_of after
+  pub answer_recovers : EachRecovers answer_of after → AccountsAreOnce answer_of after → HasAnAccountEach answer_of after → EachAnswerRecovers answer_of after
   answer_recovers recovers holds counts config readers steps m wait told is within long none =
       let start = set_up config readers in
       let lost = clear (length readers) steps in

@@ -1,5 +1,5 @@
 -- How many bursts are on the line: each step adds one at most in each direction, since one reader alone answers a packet.
-use Rattle.std.proofs.Common.{◌≡◌, ◌≤◌, ◌+◌, ◌-◌, ℕ, zero, suc, Bool, true, false, if◌then◌else◌, List, [], ◌∷◌, length, map, Option, Some, None, inl, inr, refl, sym, subst, ap, ◌∙◌, arith}
+use Rattle.std.proofs.Common.{◌≡◌, ◌≢◌, ◌≤◌, ◌+◌, ◌-◌, ℕ, zero, suc, Bool, true, false, if◌then◌else◌, List, [], ◌∷◌, length, map, Option, Some, None, inl, inr, refl, sym, subst, ap, ◌∙◌, arith}
 use Rattle.std.proofs.lemmas.List.{length-append}
 use Rattle.std.specs.List.{flat_map}
 use Rattle.std.specs.Prelude.{◌⊎◌, ◌<◌}
@@ -17,12 +17,13 @@ use Rattle.osdp_bus.specs.declared.config.BusConfig.{BusConfig}
 use Rattle.osdp_bus.specs.declared.fault.BusFault.{BusFault}
 use Rattle.osdp_link_laws.proofs.Lines.{each_of}
 use Rattle.osdp_link_laws.proofs.Stages.{Each}
-use Rattle.osdp_multidrop.specs.Line as line
-use Rattle.osdp_multidrop.specs.Line.{Net, site_at}
-use Rattle.osdp_multidrop.specs.Runs.{IsSetUp}
-use Rattle.osdp_multidrop.specs.Views.{HeardByOwn}
-use Rattle.osdp_multidrop.proofs.Hearing.{silent}
-use Rattle.osdp_multidrop.proofs.Running.{by_own, holds_all, holds_first}
+use Rattle.osdp_shared_line.specs.Line as line
+use Rattle.osdp_shared_line.specs.Line.{Net, site_at}
+use Rattle.osdp_shared_line.specs.Addresses.{IsSetUp}
+use Rattle.osdp_shared_line.specs.Views.{HeardByOwn}
+use Rattle.osdp_shared_line.proofs.Hearing.{for_reader}
+use Rattle.osdp_shared_line.proofs.Running.{apart_all, apart_first, by_own}
+use Rattle.osdp_shared_line.proofs.Sites.{some_same}
 use Rattle.osdp_bus_links.specs.Links.{packets_on}
 use Rattle.osdp_sim.proofs.Bursts.{no_packets}
 use Rattle.osdp_sim.proofs.Schedules.{HasCome, begins, first_well, goes_on}
@@ -37,9 +38,14 @@ use Rattle.osdp_sim_bus.specs.Runs.{AreSettings, FitAlong, is_well}
 use Rattle.osdp_sim_bus.specs.State.{Given, LineState, Site, set_up}
 use Rattle.osdp_sim_bus.specs.Steps.{StepFits, after_step, all_hear_each, fault_of, hears_run, is_there, issued, site_says, told, waited}
 use Rattle.osdp_sim_laws.specs.OneLink.{ReadsPackets}
-use Rattle.osdp_sim_bus_laws.specs.Moves.{Follows, SchedulesAreMoves, SitesOf}
-use Rattle.osdp_sim_bus_laws.proofs.Beginning.{first_net, follows_first, is_set_up}
-use Rattle.osdp_bus_progress.proofs.Rest.{LinkLaws}
+use Rattle.osdp_sim_bus_laws.specs.Moves.{FollowsSites, SchedulesAreMoves, SitesOf, moves_of}
+use Rattle.osdp_sim_bus_laws.proofs.Beginning.{first_net, follows_first, is_set_up, none_is_kept}
+use Rattle.osdp_bus_progress.proofs.Round.{LinkLaws}
+
+pub at_each : {A : Type 0} (P : A → Type 0) (k : ℕ) (x : A) (xs : List A) → Each P xs → site_at k xs ≡ Some x → P x
+at_each P k x [] all is = absurd cc
+at_each P zero x (y ∷ xs) all is = subst P (some_same y x is) all.0
+at_each P (suc k) x (y ∷ xs) all is = at_each P k x xs all.1 is
 
 one_sent : (o : Option Packet) → length (sent o) ≤ 1
 one_sent None = omega arith
@@ -78,65 +84,81 @@ module _ {H : Type 0} (answer_of : H → Command → Answer) (after : H → Comm
   abbrev answers : Packet → List (Site H) → List (List ℕ)
   answers p us = flat_map (site_says answer_of after p) us
 
-  -- no reader of these is at the packet's address ..
+  abbrev IsToDevice : ℕ × Packet → Type 0
+  IsToDevice q = q.1.address < 127
+
+  abbrev IsAwayFrom : ℕ → line.Site H → ℕ × Packet → Type 0
+  IsAwayFrom k t q = q.0 ≢ k → t.reader.config.address ≢ q.1.address
+
+  -- the packet is to a device, and no reader is at its address but the one at this place
+  abbrev OwnAlone : ℕ → Packet → List (line.Site H) → Type 0
+  OwnAlone own p ts = (k : ℕ) (t : line.Site H) → site_at k ts ≡ Some t → IsToDevice (own, p) × IsAwayFrom k t (own, p)
+
+  -- .. or but none of these
   abbrev NoneAt : Packet → List (line.Site H) → Type 0
-  NoneAt p ts = (k : ℕ) (t : line.Site H) → site_at k ts ≡ Some t → t.reader.config.address ≡ p.address → ⊥
+  NoneAt p ts = (k : ℕ) (t : line.Site H) → site_at k ts ≡ Some t → (p.address < 127) × (t.reader.config.address ≢ p.address)
 
-  -- .. or none but the one at this place
-  abbrev NoneButAt : ℕ → Packet → List (line.Site H) → Type 0
-  NoneButAt own p ts = (k : ℕ) (t : line.Site H) → (k ≡ own → ⊥) → site_at k ts ≡ Some t → t.reader.config.address ≡ p.address → ⊥
-
-  says_nothing : (p : Packet) (u : Site H) (t : line.Site H) → u.reader ≡ t.reader → p.address < 127 → (t.reader.config.address ≡ p.address → ⊥)
+  says_nothing : (p : Packet) (u : Site H) (t : line.Site H) → u.reader ≡ t.reader → p.address < 127 → t.reader.config.address ≢ p.address
       → length (site_says answer_of after p u) ≡ 0
   says_nothing p u t same device away =
       ap (λ (r : ReaderState H). length (sent (reader.hears answer_of after r p).reply)) same
-      ∙ ap (λ o. length (sent o)) (silent answer_of after p t device away).1
+      ∙ elim (for_reader t.reader p device) [
+        | inl here ↦ absurd (away (sym here))
+        | inr is ↦ ap (λ k. length (sent (reader.outcome answer_of after k t.reader p).reply)) is
+      ]
 
-  none_answer : (p : Packet) (us : List (Site H)) (ts : List (line.Site H)) → SitesOf us ts → p.address < 127 → NoneAt p ts → length (answers p us) ≤ 0
-  none_answer p [] [] all device away = omega arith
-  none_answer p [] (t ∷ ts) all device away = absurd all
-  none_answer p (u ∷ us) [] all device away = absurd all
-  none_answer p (u ∷ us) (t ∷ ts) all device away =
-      let first = says_nothing p u t all.0.reader device (away 0 t refl) in
-      let rest = none_answer p us ts all.1 device (λ k v at. away (suc k) v at) in
+  none_answer : (p : Packet) (us : List (Site H)) (ts : List (line.Site H)) → SitesOf us ts → NoneAt p ts → length (answers p us) ≤ 0
+  none_answer p [] [] all away = omega arith
+  none_answer p [] (t ∷ ts) all away = absurd all
+  none_answer p (u ∷ us) [] all away = absurd all
+  none_answer p (u ∷ us) (t ∷ ts) all away =
+      let its = away 0 t refl in
+      let first = says_nothing p u t all.0.reader its.0 its.1 in
+      let rest = none_answer p us ts all.1 (λ k v at. away (suc k) v at) in
       omega (arith, length-append (site_says answer_of after p u) (answers p us), first, rest)
 
-  one_answers : (own : ℕ) (p : Packet) (us : List (Site H)) (ts : List (line.Site H)) → SitesOf us ts → p.address < 127 → NoneButAt own p ts
-      → length (answers p us) ≤ 1
-  one_answers own p [] [] all device away = omega arith
-  one_answers own p [] (t ∷ ts) all device away = absurd all
-  one_answers own p (u ∷ us) [] all device away = absurd all
-  one_answers zero p (u ∷ us) (t ∷ ts) all device away =
+  answers_few : (own : ℕ) (p : Packet) (us : List (Site H)) (ts : List (line.Site H)) → SitesOf us ts → OwnAlone own p ts → length (answers p us) ≤ 1
+  answers_few own p [] [] all away = omega arith
+  answers_few own p [] (t ∷ ts) all away = absurd all
+  answers_few own p (u ∷ us) [] all away = absurd all
+  answers_few zero p (u ∷ us) (t ∷ ts) all away =
       let first = one_sent (reader.hears answer_of after u.reader p).reply in
-      let rest = none_answer p us ts all.1 device (λ k v at. away (suc k) v (λ e. absurd (omega (arith, e))) at) in
+      let rest = none_answer p us ts all.1 (λ k v at. let its = away (suc k) v at in (its.0, its.1 (λ e. absurd (omega (arith, e))))) in
       omega (arith, length-append (site_says answer_of after p u) (answers p us), first, rest)
-  one_answers (suc own) p (u ∷ us) (t ∷ ts) all device away =
-      let first = says_nothing p u t all.0.reader device (away 0 t (λ e. absurd (omega (arith, e))) refl) in
-      let rest = one_answers own p us ts all.1 device (λ k v other at. away (suc k) v (λ e. other (omega (arith, e))) at) in
+  answers_few (suc own) p (u ∷ us) (t ∷ ts) all away =
+      let its = away 0 t refl in
+      let first = says_nothing p u t all.0.reader its.0 (its.1 (λ e. absurd (omega (arith, e)))) in
+      let rest = answers_few own p us ts all.1 (λ k v at. let also = away (suc k) v at in (also.0, λ e. also.1 (λ same. e (omega (arith, same))))) in
       omega (arith, length-append (site_says answer_of after p u) (answers p us), first, rest)
 
   -- so what is handed over to the readers is no packet, or one with an answer at most
   abbrev OneAnswers : List ℕ → List (Site H) → Type 0
   OneAnswers bytes us = (packets_in bytes ≡ []) ⊎ ((p : Packet) × (packets_in bytes ≡ p ∷ []) × (length (answers p us) ≤ 1))
 
-  handed_over : ReadsPackets → (move : way.Move) (s : LineState H) (n : Net H) → damage_fault move ≡ None → HeardByOwn n → Follows s n
+  handed_over : ReadsPackets → (move : way.Move) (s : LineState H) (n : Net H) → damage_fault move ≡ None → HeardByOwn n → FollowsSites s n
       → OneAnswers (handed move s.to_readers) s.sites
   handed_over reads move s n well heard h =
-      subst (λ l. OneAnswers (handed move l) s.sites) (sym h.to_readers)
-      (by_front n.to_readers move h.asked well (each_of (λ (p : ℕ × Packet). p.1.address < 127) n.to_readers heard.devices)
-      (each_of (λ (p : ℕ × Packet). NoneButAt p.0 p.1 n.sites) n.to_readers heard.readers))
+      subst (λ l. OneAnswers (handed move l) s.sites) (sym h.to_readers) (by_front h.said move h.coming h.asked well)
     where
-      owner : (p : ℕ × Packet) → IsPacket p.1 → p.1.address < 127 → NoneButAt p.0 p.1 n.sites → OneAnswers (spelling p.1) s.sites
-      owner p packet device away = inr (p.1, reads.one p.1 packet, one_answers p.0 p.1 s.sites n.sites h.sites device away)
+      owner : (p : ℕ × Packet) (rest : List (ℕ × Packet)) → Each (λ (t : line.Site H). t.coming ≡ p ∷ rest) n.sites → IsPacket p.1
+          → OneAnswers (spelling p.1) s.sites
+      owner p rest same packet =
+          inr (p.1, reads.one p.1 packet, answers_few p.0 p.1 s.sites n.sites h.sites same_front)
+        where
+          same_front : OwnAlone p.0 p.1 n.sites
+          same_front k t at =
+              let here : t.coming ≡ p ∷ rest = at_each (λ (u : line.Site H). u.coming ≡ p ∷ rest) k t n.sites same at in (
+                (subst (Each IsToDevice) here (each_of IsToDevice t.coming (heard.devices k t at))).0,
+                (subst (Each (IsAwayFrom k t)) here (each_of (IsAwayFrom k t) t.coming (heard.readers k t at))).0,
+              )
 
-      by_front : (ps : List (ℕ × Packet)) (move : way.Move) → Each IsPacket (packets_on ps) → damage_fault move ≡ None
-          → Each (λ (p : ℕ × Packet). p.1.address < 127) ps → Each (λ (p : ℕ × Packet). NoneButAt p.0 p.1 n.sites) ps
-          → OneAnswers (handed move (map spelling (packets_on ps))) s.sites
-      by_front [] move asked well devices away = inl reads.none
-      by_front (p ∷ rest) Deliver asked well devices away = owner p asked.0 devices.0 away.0
-      by_front (p ∷ rest) Drop asked well devices away = inl reads.none
-      by_front (p ∷ rest) Repeat asked well devices away = owner p asked.0 devices.0 away.0
-      by_front (p ∷ rest) (Damage bytes) asked well devices away = inl (no_packets (reading bytes.items) well)
+      by_front : (ps : List (ℕ × Packet)) (move : way.Move) → Each (λ (t : line.Site H). t.coming ≡ ps) n.sites → Each IsPacket (packets_on ps)
+          → damage_fault move ≡ None → OneAnswers (handed move (map spelling (packets_on ps))) s.sites
+      by_front [] move same asked well = inl reads.none
+      by_front (p ∷ rest) Deliver same asked well = owner p rest same asked.0
+      by_front (p ∷ rest) Drop same asked well = inl reads.none
+      by_front (p ∷ rest) Repeat same asked well = owner p rest same asked.0
+      by_front (p ∷ rest) (Damage bytes) same asked well = inl (no_packets (reading bytes.items) well)
 
   -- ---- each step
 
@@ -177,21 +199,22 @@ module _ {H : Type 0} (answer_of : H → Command → Answer) (after : H → Comm
     abbrev Come : List SimStep → ℕ → List SimStep → LineState H → Type 0
     Come steps count rest s = HasCome (after_step answer_of after) fault_of (StepFits answer_of after) steps count rest (set_up config readers) s
 
-    answers_few : (steps : List SimStep) (count : ℕ) (rest : List SimStep) (move : SimStep) (s : LineState H) → Come steps count rest s
+    one_answer : (steps : List SimStep) (count : ℕ) (rest : List SimStep) (move : SimStep) (s : LineState H) → Come steps count rest s
         → fault_of move s ≡ None → FewAnswer move s
-    answers_few steps count rest (step.ToReader move) s come well =
+    one_answer steps count rest (step.ToReader move) s come well =
         let first = first_net config readers in
         let up : IsSetUp first = is_set_up config readers settings in
-        let goes = schedules come.done (set_up config readers) first up (follows_first config readers) come.taken.well come.taken.along in
-        let n = line.run answer_of after goes.0 first in
-        let heard = by_own answer_of after laws.names n (holds_all answer_of after laws.names goes.0 first goes.1 (holds_first answer_of after laws.names first up)) in
-        handed_over reads move s n well heard (subst (λ (t : LineState H). Follows t n) (sym come.taken.here) goes.2)
-    answers_few steps count rest (step.Issue number command) s come well = tt
-    answers_few steps count rest (step.Queue number event) s come well = tt
-    answers_few steps count rest (step.Busy number busy) s come well = tt
-    answers_few steps count rest (step.Wait wait) s come well = tt
-    answers_few steps count rest (step.ToController move) s come well = tt
-    answers_few steps count rest (step.Reopen number) s come well = tt
+        let begun = set_up config readers in
+        let its = schedules come.done begun first up (none_is_kept config readers) (follows_first config readers) come.taken.well come.taken.along in
+        let n = line.run answer_of after (moves_of answer_of after come.done begun) first in
+        let heard = by_own n (apart_all answer_of after laws.known (moves_of answer_of after come.done begun) first its.fits (apart_first first up)) in
+        handed_over reads move s n well heard (subst (λ (t : LineState H). FollowsSites t n) (sym come.taken.here) its.follows)
+    one_answer steps count rest (step.Issue number command) s come well = tt
+    one_answer steps count rest (step.Queue number event) s come well = tt
+    one_answer steps count rest (step.Busy number busy) s come well = tt
+    one_answer steps count rest (step.Wait wait) s come well = tt
+    one_answer steps count rest (step.ToController move) s come well = tt
+    one_answer steps count rest (step.Reopen number) s come well = tt
 
     few_on : (steps : List SimStep) (count : ℕ) (rest : List SimStep) (s : LineState H) → Come steps count rest s → is_well answer_of after rest s ≡ true
         → FitAlong answer_of after rest s → AtMost count s → AtMost (count + length rest) (simulation.run answer_of after rest s)
@@ -199,7 +222,7 @@ module _ {H : Type 0} (answer_of : H → Command → Answer) (after : H → Comm
     few_on steps count (move ∷ rest) s come well fits few =
         let next = after_step answer_of after move s in
         let both = first_well (fault_of move s) (is_well answer_of after rest next) well in
-        let one = step_few count move s (answers_few steps count (move ∷ rest) move s come both.0) few in
+        let one = step_few count move s (one_answer steps count (move ∷ rest) move s come both.0) few in
         let later = goes_on (after_step answer_of after) fault_of (StepFits answer_of after) steps count move (move ∷ rest) rest (set_up config readers) s next
         come refl both.0 refl fits.0 in
         let all = few_on steps (count + 1) rest next later both.1 fits.1 one in

@@ -1,7 +1,7 @@
 -- Something comes through for each of several readers.
-use Rattle.std.proofs.Common.{◌≡◌, ◌≤◌, ◌<◌, ◌+◌, ◌++◌, ℕ, zero, suc, All, List, [], ◌∷◌, length, map, Some, inl, inr, refl, sym, subst, ap, ◌∙◌, arith}
+use Rattle.std.proofs.Common.{◌≡◌, ◌≤◌, ◌<◌, ◌+◌, ◌++◌, ℕ, zero, suc, All, List, [], ◌∷◌, length, map, Some, inl, inr, refl, sym, subst, ap, ◌∙◌, arith, append_assoc}
 use Rattle.std.proofs.Math.Nat.{div-mul-le_self, suc-mul}
-use Rattle.std.proofs.lemmas.List.{length-map}
+use Rattle.std.proofs.lemmas.List.{append-nil, length-map}
 use Rattle.std.specs.Prelude.{◌/◌, ◌*◌, ◌-◌, slice_get}
 use Rattle.osdp_frame.specs.Packet.{Packet}
 use Rattle.osdp_frame.specs.Spelling.{spelling}
@@ -16,7 +16,7 @@ use Rattle.osdp_link_laws.specs.Addresses.{StayWhereTheyAre}
 use Rattle.osdp_link_laws.specs.Headline.{MovesFit}
 use Rattle.osdp_link_laws.specs.Link as link
 use Rattle.osdp_link_laws.specs.Link.{Link}
-use Rattle.osdp_link_laws.specs.Ordinary.{IsSteady}
+use Rattle.osdp_link_laws.specs.Ordinary.{IsOrdinary, IsSteady}
 use Rattle.osdp_link_laws.specs.Progress as progress
 use Rattle.osdp_link_laws.specs.Progress.{SetsNoAddress}
 use Rattle.osdp_link_laws.specs.Sessions.{all_submitted, ended_commands}
@@ -24,16 +24,22 @@ use Rattle.osdp_link_laws.proofs.Lines.{each_all, each_of, each_rest}
 use Rattle.osdp_link_laws.proofs.Ordinary.{moves_so}
 use Rattle.osdp_link_laws.proofs.OrdinaryRuns.{begins_so, set_no_other, steady_ordinary}
 use Rattle.osdp_link_laws.proofs.Stages.{Each}
-use Rattle.osdp_multidrop.specs.Line as line
-use Rattle.osdp_multidrop.specs.Line.{Net, run, site_at}
-use Rattle.osdp_multidrop.specs.Runs.{EachIsALink, EachStaysInARow, IsInARow, IsItsLink, IsSetUp, moves_of}
-use Rattle.osdp_multidrop.specs.Views.{own, view}
-use Rattle.osdp_multidrop.proofs.Changing.{some_same}
-use Rattle.osdp_multidrop.proofs.Running.{holds_all, holds_first}
+use Rattle.osdp_shared_line.specs.Addresses.{IsSetUp, NetMovesFit}
+use Rattle.osdp_shared_line.specs.Line as line
+use Rattle.osdp_shared_line.specs.Line.{Net, NetMove, run, site_at}
+use Rattle.osdp_shared_line.specs.Progress.{IsEmpty}
+use Rattle.osdp_shared_line.specs.Runs.{AreItsSessions, EachHasSessionsInARow, EachIsALink, IsItsLink}
+use Rattle.osdp_shared_line.specs.Runs as runs
+use Rattle.osdp_shared_line.specs.Views.{own, view}
+use Rattle.osdp_shared_line.proofs.Running.{apart_all, apart_first}
+use Rattle.osdp_shared_line.proofs.Sites.{some_same}
+use Rattle.osdp_bus_links.proofs.Sufficing.{net_run_more}
 use Rattle.osdp_bus_links.specs.Links.{device_of, packets_on}
-use Rattle.osdp_bus_links.proofs.Telling.{EndsAreTold}
+use Rattle.osdp_bus_links.specs.Premises.{IsScheduled}
+use Rattle.osdp_bus_links.proofs.Keeping.{moves_usual}
+use Rattle.osdp_bus_links.proofs.Names.{are_steady}
 use Rattle.osdp_sim.specs.Account.{Account}
-use Rattle.osdp_sim.specs.Rounds.{rounds}
+use Rattle.osdp_sim.specs.Rounds.{round, rounds}
 use Rattle.osdp_sim.specs.declared.step.SimStep.{SimStep}
 use Rattle.osdp_sim_bus.specs.Laws.{HasAnAccountEach}
 use Rattle.osdp_sim_bus.specs.Runs as simulation
@@ -43,15 +49,17 @@ use Rattle.osdp_sim_bus.specs.Steps.{StepFits, after_step, fault_of}
 use Rattle.osdp_sim_laws.specs.Accounts.{IsInSession, IsOf}
 use Rattle.osdp_sim_laws.proofs.Coming.{rounds_within}
 use Rattle.osdp_sim.proofs.Schedules.{holds_on, runs_on, well_on}
-use Rattle.osdp_sim_bus_laws.specs.Moves.{Done, Follows, OneBus, SchedulesAreMoves, SitesOf}
-use Rattle.osdp_sim_bus_laws.proofs.Beginning.{first_net, first_site, follows_first, has_site, is_set_up}
+use Rattle.osdp_sim_bus_laws.specs.Moves.{AreItsMoves, FollowsSites, SchedulesAreMoves, moves_of}
+use Rattle.osdp_sim_bus_laws.proofs.Beginning.{first_net, first_site, follows_first, has_site, is_set_up, none_is_kept}
 use Rattle.osdp_sim_bus_laws.proofs.OneSession.{HasOne, none_earlier, one_first, one_run}
-use Rattle.osdp_sim_bus_laws.proofs.Sites.{get_site}
+use Rattle.osdp_sim_bus_laws.proofs.Scheduling.{moves_more}
+use Rattle.osdp_sim_bus_laws.proofs.Sites.{get_site, same_count}
 use Rattle.osdp_bus_progress.specs.Progress.{ComesOn, EachComesThrough, IsClear, IsReady, IsRun}
 use Rattle.osdp_bus_progress.proofs.Along.{first_at, run_at_all}
+use Rattle.osdp_bus_progress.proofs.Bursts.{at_each}
 use Rattle.osdp_bus_progress.proofs.Ends.{NoEnd, lasts_there, none_before_rounds}
-use Rattle.osdp_bus_progress.proofs.Rest.{LinkLaws, rounds_ordinary}
-use Rattle.osdp_bus_progress.proofs.Rounds.{AtRest, HasRounds, all_rounds, all_turns, site_within}
+use Rattle.osdp_bus_progress.proofs.Round.{fits_first, fits_then, AtRest, LinkLaws, site_within, sited}
+use Rattle.osdp_bus_progress.proofs.Rounds.{HasRounds, all_rounds, all_turns}
 use Rattle.osdp_bus_progress.proofs.Turns.{IsTurn, once_around, some_turn}
 
 -- ---- lists
@@ -79,6 +87,18 @@ pub get_within : {A : Type 0} (k : ℕ) (x : A) (xs : List A) → slice_get xs k
 get_within k x [] at = absurd cc
 get_within zero x (y ∷ xs) at = omega arith
 get_within (suc k) x (y ∷ xs) at = omega (arith, get_within k x xs at)
+
+-- so many rounds, and the others
+split_rounds : (r m wait : ℕ) → r ≤ m → rounds m wait ≡ rounds r wait ++ rounds (m - r) wait
+split_rounds zero m wait few = let all : m - 0 ≡ m = omega arith in sym (ap (λ k. rounds k wait) all)
+split_rounds (suc r) zero wait few = absurd (omega (arith, few))
+split_rounds (suc r) (suc m) wait few =
+    let less : suc m - suc r ≡ m - r = omega arith in
+    ap (λ l. round wait ++ l) (split_rounds r m wait (omega (arith, few))) ∙ ap (λ k. round wait ++ (rounds r wait ++ rounds k wait)) (sym less)
+
+rounds_ordinary : (H : Type 0) (moments : List ℕ) → Each (IsOrdinary {H = H}) (progress.rounds moments)
+rounds_ordinary H [] = tt
+rounds_ordinary H (now ∷ later) = (tt, (tt, (tt, rounds_ordinary H later)))
 
 -- so many turns as go into m
 all_is : (turns count : ℕ) → all_turns turns count ≡ turns * count
@@ -110,9 +130,9 @@ module _ {H : Type 0} (answer_of : H → Command → Answer) (after : H → Comm
         queued = ap length (lists.queued.2 ∙ ap (λ es. es ++ t.queued) gone);
       }
 
-  module _ (bus : OneBus answer_of after) (schedules : SchedulesAreMoves answer_of after) (counts : HasAnAccountEach answer_of after)
-      (links : EachIsALink answer_of after) (rows : EachStaysInARow answer_of after) (laws : LinkLaws answer_of after)
-      (in_time : progress.ComesThroughInTime answer_of after) (stays : StayWhereTheyAre answer_of after) (ends : EndsAreTold) (ranges : StaysInRange)
+  module _ (schedules : SchedulesAreMoves answer_of after) (counts : HasAnAccountEach answer_of after)
+      (links : EachIsALink answer_of after) (rows : EachHasSessionsInARow answer_of after) (laws : LinkLaws answer_of after)
+      (in_time : progress.ComesThroughInTime answer_of after) (stays : StayWhereTheyAre answer_of after) (ranges : StaysInRange)
       (comes : ComesDue) where
     module _ (config : BusConfig) (readers : List (Given H)) (steps : List SimStep) (m wait : ℕ)
         (is : IsRun answer_of after config readers (steps ++ rounds m wait)) (within : All IsInSession steps)
@@ -133,17 +153,46 @@ module _ {H : Type 0} (answer_of : H → Command → Answer) (after : H → Comm
       up : IsSetUp first
       up = is_set_up config readers is.settings
 
-      fits : FitAlong answer_of after steps start × FitAlong answer_of after (rounds m wait) s
-      fits = holds_on (after_step answer_of after) (StepFits answer_of after) steps (rounds m wait) start is.fits
+      -- the steps, and the first so many of the rounds after them, are moves of all sites
+      done : (r : ℕ) → r ≤ m → AreItsMoves answer_of after (steps ++ rounds r wait) start first
+      done r few =
+          let all = subst (λ l. IsRun answer_of after config readers (steps ++ l)) (split_rounds r m wait few) is in
+          let before = subst (IsRun answer_of after config readers) (sym (append_assoc steps (rounds r wait) (rounds (m - r) wait))) all in
+          schedules (steps ++ rounds r wait) start first up (none_is_kept config readers) (follows_first config readers)
+          (well_on (after_step answer_of after) fault_of (steps ++ rounds r wait) (rounds (m - r) wait) start before.well).0
+          (holds_on (after_step answer_of after) (StepFits answer_of after) (steps ++ rounds r wait) (rounds (m - r) wait) start before.fits).0
 
-      goes : Done answer_of after s first
-      goes = schedules steps start first up (follows_first config readers) (well_on (after_step answer_of after) fault_of steps (rounds m wait) start is.well).0 fits.0
+      no_rounds : moves_of answer_of after (steps ++ rounds 0 wait) start ≡ moves_of answer_of after steps start
+      no_rounds = ap (λ l. moves_of answer_of after l start) (append-nil steps)
 
       abbrev n : Net H
-      n = run answer_of after goes.0 first
+      n = run answer_of after (moves_of answer_of after steps start) first
 
-      follows : Follows s n
-      follows = goes.2
+      abbrev round_moves : ℕ → List (NetMove H)
+      round_moves r = moves_of answer_of after (rounds r wait) s
+
+      -- what comes of the steps and so many rounds, in two
+      both_are : (r : ℕ) → run answer_of after (moves_of answer_of after (steps ++ rounds r wait) start) first ≡ run answer_of after (round_moves r) n
+      both_are r =
+          ap (λ ms. run answer_of after ms first) (moves_more answer_of after steps (rounds r wait) start)
+          ∙ net_run_more answer_of after (moves_of answer_of after steps start) (round_moves r) first
+
+      goes : (r : ℕ) → r ≤ m → FollowsSites (simulation.run answer_of after (rounds r wait) s) (run answer_of after (round_moves r) n)
+      goes r few =
+          subst (λ t. FollowsSites t (run answer_of after (round_moves r) n)) (runs_on (after_step answer_of after) steps (rounds r wait) start)
+          (subst (FollowsSites (simulation.run answer_of after (steps ++ rounds r wait) start)) (both_are r) (done r few).follows)
+
+      all_fit : NetMovesFit answer_of after (moves_of answer_of after steps start ++ round_moves m) first
+      all_fit = subst (λ ms. NetMovesFit answer_of after ms first) (moves_more answer_of after steps (rounds m wait) start) (done m (omega arith)).fits
+
+      fits : NetMovesFit answer_of after (moves_of answer_of after steps start) first
+      fits = fits_first answer_of after (moves_of answer_of after steps start) (round_moves m) first all_fit
+
+      rounds_fit : NetMovesFit answer_of after (round_moves m) n
+      rounds_fit = fits_then answer_of after (moves_of answer_of after steps start) (round_moves m) first all_fit
+
+      follows : FollowsSites s n
+      follows = goes 0 (omega arith)
 
       -- each reader has its site from the beginning on
       counted : length s.sites ≡ length readers
@@ -155,57 +204,61 @@ module _ {H : Type 0} (answer_of : H → Command → Answer) (after : H → Comm
 
       sites_count : length n.sites ≡ length readers
       sites_count = sym (same_count s.sites n.sites follows.sites) ∙ counted
-        where
-          same_count : (us : List (Site H)) (ts : List (line.Site H)) → SitesOf us ts → length us ≡ length ts
-          same_count [] [] all = refl
-          same_count [] (t ∷ ts) all = absurd all
-          same_count (u ∷ us) [] all = absurd all
-          same_count (u ∷ us) (t ∷ ts) all = ap suc (same_count us ts all.1)
 
       -- its link so far
       record HasLink (k : ℕ) (t : line.Site H) : Type 0 where
         pub given : Given H
         pub begins : site_at k first.sites ≡ Some (first_site config given)
-        pub its : IsItsLink answer_of after k (first_site config given) goes.0 first
-        pub moved : view k t n ≡ link.run answer_of after (moves_of answer_of after k goes.0 first) (view k (first_site config given) first)
-        pub row : IsInARow answer_of after k (first_site config given) t goes.0 first
+        pub its : IsItsLink answer_of after k (first_site config given) (moves_of answer_of after steps start) first
+        pub moved : view k t n ≡ link.run answer_of after (runs.moves_of answer_of after k (moves_of answer_of after steps start) first) (view k (first_site config given) first)
+        pub row : AreItsSessions answer_of after k (first_site config given) t (moves_of answer_of after steps start) first
+        pub steady : Each IsSteady (runs.moves_of answer_of after k (moves_of answer_of after steps start) first)
 
       link_at : (k : ℕ) (t : line.Site H) → site_at k n.sites ≡ Some t → HasLink k t
       link_at k t at =
-          let few = site_within answer_of after laws k t n.sites at in
+          let few = site_within k t n.sites at in
           let same = sites_count in
           let given = there_is k readers (omega (arith, few, same)) in
           let begins = has_site config k given.0 readers given.1 in
-          let its = links first goes.0 up goes.1 k (first_site config given.0) begins in
+          let ms = moves_of answer_of after steps start in
+          let its = links first ms up fits k (first_site config given.0) begins in
           record {
             given = given.0;
             begins = begins;
             its = its;
-            moved = subst (λ u. view k u n ≡ link.run answer_of after (moves_of answer_of after k goes.0 first) (view k (first_site config given.0) first))
+            moved = subst (λ u. view k u n ≡ link.run answer_of after (runs.moves_of answer_of after k ms first) (view k (first_site config given.0) first))
                 (some_same its.moved.site t (sym its.moved.there ∙ at)) its.moved.moved;
-            row = rows first goes.0 up goes.1 k (first_site config given.0) t begins at;
+            row = rows first ms up fits k (first_site config given.0) t begins at;
+            steady = are_steady (runs.moves_of answer_of after k ms first)
+                (moves_usual answer_of after ms k first (each_of IsScheduled ms (subst (λ r. All IsScheduled r) no_rounds (done 0 (omega arith)).scheduled)));
           }
 
       ready_at : (k : ℕ) (u : Site H) → slice_get s.sites k ≡ Some u → IsReady u
       ready_at k u at = get_each IsReady k u s.sites (each_of IsReady s.sites clear.readers) at
+
+      empty : IsEmpty n
+      empty = record {
+        coming = λ k t at. at_each (λ (u : line.Site H). u.coming ≡ follows.said) k t n.sites follows.coming at ∙ none_on follows.said (sym follows.to_readers ∙ clear.to_readers);
+        to_panel = none_on n.to_panel (sym follows.to_bus ∙ clear.to_bus);
+      }
 
       clear_at : (k : ℕ) (t : line.Site H) → site_at k n.sites ≡ Some t → progress.IsClear (view k t n)
       clear_at k t at =
           let l = link_at k t at in
           let u = get_site k t s.sites n.sites follows.sites at in
           let ready = ready_at k u.0 u.1 in
-          let ms = moves_of answer_of after k goes.0 first in
+          let ms = runs.moves_of answer_of after k (moves_of answer_of after steps start) first in
           let old = view k (first_site config l.given) first in
           let begun = up.begins k (first_site config l.given) l.begins in
           let issued = each_of SetsNoAddress u.0.account.issued ready.issued in
           let submitted = subst (Each SetsNoAddress) (u.2.tells.issued ∙ sym l.row.commands) issued in
-          let stay = stays old ms begun.begins l.its.fits (each_all SetsNoAddress (old.controller.waiting ++ all_submitted answer_of after ms old) submitted)
-          (set_no_other old.reader.config.address old.controller.session.config.address ms (each_of IsSteady ms l.its.ordinary)) in
+          let stay = stays old ms begun l.its.fits (each_all SetsNoAddress (old.controller.waiting ++ all_submitted answer_of after ms old) submitted)
+          (set_no_other old.reader.config.address old.controller.session.config.address ms l.steady) in
           let moved = l.moved in
           record {
-            to_reader = ap (own k) (none_on n.to_readers (sym follows.to_readers ∙ clear.to_readers));
-            to_controller = ap (own k) (none_on n.to_controllers (sym follows.to_bus ∙ clear.to_bus));
-            address = ap (λ (v : Link H). v.reader.config.address) moved ∙ stay.0 ∙ begun.together ∙ sym stay.1
+            to_reader = ap (own k) (empty.coming k t at);
+            to_controller = ap (own k) empty.to_panel;
+            address = ap (λ (v : Link H). v.reader.config.address) moved ∙ stay.0 ∙ up.together k (first_site config l.given) l.begins ∙ sym stay.1
                 ∙ sym (ap (λ (v : Link H). v.controller.session.config.address) moved);
             ready = sym (ap (λ r. r.busy) u.2.reader) ∙ ready.ready;
             issued = each_all SetsNoAddress t.account.issued
@@ -219,11 +272,15 @@ module _ {H : Type 0} (answer_of : H → Command → Answer) (after : H → Comm
           → AtRest answer_of after laws (length readers) wait k entry s n
       at_rest k t at none entry below turn = record {
         follows = follows;
-        holds = holds_all answer_of after laws.names goes.0 first goes.1 (holds_first answer_of after laws.names first up);
+        apart = apart_all answer_of after laws.known (moves_of answer_of after steps start) first fits (apart_first first up);
         in_time = run_at_all answer_of after ranges wait steps start (each_of IsInSession steps within) (first_at answer_of after ranges wait config readers long);
-        quiet = record {
-          to_readers = none_on n.to_readers (sym follows.to_readers ∙ clear.to_readers);
-          to_controllers = none_on n.to_controllers (sym follows.to_bus ∙ clear.to_bus);
+        empty = empty;
+        led = λ i u there. let l = link_at i u there in record {
+          first = view i (first_site config l.given) first;
+          moves = runs.moves_of answer_of after i (moves_of answer_of after steps start) first;
+          begins = up.begins i (first_site config l.given) l.begins;
+          fits = l.its.fits;
+          leads = l.moved;
         };
         clear = λ i u there unended. clear_at i u there;
         lasts = none_before_rounds answer_of after k m wait s none;
@@ -247,15 +304,15 @@ module _ {H : Type 0} (answer_of : H → Command → Answer) (after : H → Comm
 
       -- the rounds of one reader
       its_rounds : (k : ℕ) (t : line.Site H) → site_at k n.sites ≡ Some t → NoEnd k later
-          → HasRounds answer_of after laws bus ends ranges comes (length readers) wait k t m (length readers - 1) s n
+          → HasRounds answer_of after laws ranges comes (length readers) wait k t m (length readers - 1) s n
       its_rounds k t at none =
-          let few = site_within answer_of after laws k t n.sites at in
+          let few = site_within k t n.sites at in
           let same = sites_count in
           let entries = entries_count in
           let turn = some_turn s.bus (omega (arith, few, same, entries)) in
           let below : turn.0 < length readers = let under = turn.1 in omega (arith, under, entries) in
-          all_rounds answer_of after laws bus ends ranges comes (length readers) wait k m turn.0 (length readers - 1) s n
-          (at_rest k t at none turn.0 below turn.2) fits.1 none t at (once_around (length readers) turn.0 k below (omega (arith, few, same)))
+          all_rounds answer_of after laws ranges comes (length readers) wait k m turn.0 (length readers - 1) s n
+          (at_rest k t at none turn.0 below turn.2) goes rounds_fit none t at (once_around (length readers) turn.0 k below (omega (arith, few, same)))
 
       comes_on : (k : ℕ) (u v : Site H) → slice_get s.sites k ≡ Some u → slice_get later.sites k ≡ Some v → v.account.ends ≡ []
           → ComesOn m (length readers) u.account v.account
@@ -267,26 +324,28 @@ module _ {H : Type 0} (answer_of : H → Command → Answer) (after : H → Comm
           let t = sited k n.sites (omega (arith, few, same, total)) in
           let l = link_at k t.0 t.1 in
           let has = its_rounds k t.0 t.1 no_end in
-          let ms = moves_of answer_of after k goes.0 first in
+          let ms = runs.moves_of answer_of after k (moves_of answer_of after steps start) first in
           let old = view k (first_site config l.given) first in
           let begun = up.begins k (first_site config l.given) l.begins in
+          let last_net = run answer_of after (round_moves m) n in
+          let last_follows = goes m (omega arith) in
           let machine = controller_config l.given.0.address config in
           let range : IsInRange old.controller.session = ranges.later (new_machine machine config.capacity) (Begin 0 ∷ []) (ranges.new machine config.capacity) in
-          let through = in_time old ms has.moments begun.begins range l.its.fits
+          let through = in_time old ms has.moments begun range l.its.fits
           (subst progress.IsClear l.moved (clear_at k t.0 t.1))
           (subst (progress.AreLate answer_of after has.moments) l.moved has.late)
           (subst (MovesFit answer_of after (progress.rounds has.moments)) l.moved has.fits) in
           let last = has.seen_then.site in
-          let then_ : view k last has.last ≡ link.run answer_of after (progress.rounds has.moments) (link.run answer_of after ms old) =
-          has.seen_then.moved ∙ ap (link.run answer_of after (progress.rounds has.moments)) l.moved in
+          let then_ : view k last last_net ≡ link.run answer_of after (progress.rounds has.moments) (link.run answer_of after ms old) =
+          has.seen_then.seen ∙ ap (link.run answer_of after (progress.rounds has.moments)) l.moved in
           let u_is = get_site k t.0 s.sites n.sites follows.sites t.1 in
-          let v_is = get_site k last later.sites has.last.sites has.follows.sites has.seen_then.there in
+          let v_is = get_site k last later.sites last_net.sites last_follows.sites has.seen_then.there in
           let u_same : u_is.0 ≡ u = some_same u_is.0 u (sym u_is.1 ∙ at) in
           let v_same : v_is.0 ≡ v = some_same v_is.0 v (sym v_is.1 ∙ there) in
           let u_long = as_long u_is.0.account t.0.account t.0.earlier (none_earlier u_is.0.account t.0.account t.0.earlier u_is.2.tells (one_at k u_is.0 u_is.1)) u_is.2.tells in
           let v_long = as_long v_is.0.account last.account last.earlier (none_earlier v_is.0.account last.account last.earlier v_is.2.tells (one_later k v_is.0 v_is.1)) v_is.2.tells in
-          let so = moves_so answer_of after (progress.rounds has.moments) (link.run answer_of after ms old) (steady_ordinary (progress.rounds has.moments) (rounds_ordinary H has.moments))
-          (moves_so answer_of after ms old (steady_ordinary ms (each_of IsSteady ms l.its.ordinary)) (begins_so old begun.begins)) in
+          let so = moves_so answer_of after (progress.rounds has.moments) (link.run answer_of after ms old) (rounds_ordinary H has.moments)
+          (moves_so answer_of after ms old (steady_ordinary ms l.steady) (begins_so old begun)) in
           let kept : last.account.kept ≡ last.account.queued = subst (λ (x : Link H). x.account.kept ≡ x.account.queued) (sym then_) so.0.kept in
           let turns = m / length readers in
           let part = share m (length readers) in
@@ -294,18 +353,13 @@ module _ {H : Type 0} (answer_of : H → Command → Answer) (after : H → Comm
           subst (λ (x : Site H). ComesOn m (length readers) x.account v.account) u_same
           (subst (λ (y : Site H). ComesOn m (length readers) u_is.0.account y.account) v_same
           (elim through [
-            | inl closed ↦ absurd (lasts_there k later has.last has.follows no_end last has.seen_then.there (ap (λ (x : Link H). x.controller.session.state) then_ ∙ closed))
+            | inl closed ↦ absurd (lasts_there k later last_net last_follows no_end last has.seen_then.there (ap (λ (x : Link H). x.controller.session.state) then_ ∙ closed))
             | inr on ↦ (
                 let counted_on : progress.ComeOn has.moments t.0.account last.account =
                 subst (λ (x : Link H). progress.ComeOn has.moments x.account last.account) (sym l.moved)
                 (subst (λ (x : Link H). progress.ComeOn has.moments (link.run answer_of after ms old).account x.account) (sym then_) on) in
                 omega (arith, counted_on, enough, u_long.settled, u_long.reported, v_long.settled, v_long.reported, v_long.issued, v_long.queued, ap length kept))
           ]))
-        where
-          sited : (k : ℕ) (ts : List (line.Site H)) → k < length ts → (t : line.Site H) × (site_at k ts ≡ Some t)
-          sited k [] few = absurd (omega (arith, few))
-          sited zero (t ∷ ts) few = (t, refl)
-          sited (suc k) (t ∷ ts) few = sited k ts (omega (arith, few))
 
     pub each_comes_through : EachComesThrough answer_of after
     each_comes_through config readers steps m wait is within long clear k old new at there none =

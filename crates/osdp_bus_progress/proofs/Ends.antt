@@ -8,8 +8,8 @@ use Rattle.osdp_controller.specs.declared.report.Report.TheVariants as report
 use Rattle.osdp_controller.specs.declared.state.State.TheVariants.{Closed}
 use Rattle.osdp_reader.specs.declared.handler.Answer.{Answer}
 use Rattle.osdp_link_laws.proofs.Stages.{Each}
-use Rattle.osdp_multidrop.specs.Line as line
-use Rattle.osdp_multidrop.specs.Line.{Net, site_at}
+use Rattle.osdp_shared_line.specs.Line as line
+use Rattle.osdp_shared_line.specs.Line.{Net, site_at}
 use Rattle.osdp_sim.specs.Account.{Account, with_report}
 use Rattle.osdp_sim.specs.Rounds.{rounds}
 use Rattle.osdp_sim.specs.declared.step.SimStep.{SimStep}
@@ -18,7 +18,7 @@ use Rattle.osdp_sim_bus.specs.State.{LineState, Site}
 use Rattle.osdp_sim_bus.specs.Steps.{after_step}
 use Rattle.osdp_sim_laws.proofs.Accepting.{IsNoOrder}
 use Rattle.osdp_sim_laws.proofs.Accounts.{some_begun}
-use Rattle.osdp_sim_bus_laws.specs.Moves.{Follows, count}
+use Rattle.osdp_sim_bus_laws.specs.Moves.{FollowsSites, count}
 use Rattle.osdp_sim_bus_laws.proofs.Idling.{IsIdle, idle_sites}
 use Rattle.osdp_sim_bus_laws.proofs.Places.{StaysAt, stays_all, stays_then}
 use Rattle.osdp_sim_bus_laws.proofs.Sites.{get_site}
@@ -42,7 +42,7 @@ module _ {H : Type 0} where
   NoEnd k s = (u : Site H) → slice_get s.sites k ≡ Some u → u.account.ends ≡ []
 
   -- so its session lasts
-  pub lasts_there : (k : ℕ) (s : LineState H) (n : Net H) → Follows s n → NoEnd k s → (t : line.Site H) → site_at k n.sites ≡ Some t
+  pub lasts_there : (k : ℕ) (s : LineState H) (n : Net H) → FollowsSites s n → NoEnd k s → (t : line.Site H) → site_at k n.sites ≡ Some t
       → t.controller.session.state ≡ Closed → ⊥
   lasts_there k s n h none t at closed =
       let u = get_site k t s.sites n.sites h.sites at in

@@ -1,11 +1,10 @@
+pub mod Unmoved
 pub mod Along
 pub mod Turns
-pub mod Rest
-pub mod NetRounds
-pub mod BusRounds
 pub mod Ends
+pub mod Round
 pub mod Rounds
-pub mod Coming
 pub mod Bursts
+pub mod Coming
 pub mod Clearing
 pub mod Answered

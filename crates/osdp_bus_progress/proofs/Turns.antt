@@ -9,13 +9,14 @@ use Rattle.osdp_controller.specs.declared.state.State.TheVariants.{Closed}
 use Rattle.osdp_bus.specs.Buses.{BusState, device_of, has_report, holder, seen}
 use Rattle.osdp_bus.specs.Devices.{holds, is_device_due}
 use Rattle.osdp_bus.specs.Hearing.{ends_run, ends_silent}
-use Rattle.osdp_bus.specs.Ticking.{bus_ticks, is_due_at, is_held_and_due, next_due, stays, ticks_at, ticks_by, ticks_free, ticks_held, ticks_on, ticks_with}
+use Rattle.osdp_bus.specs.Ticking.{asks_holder, bus_ticks, is_due_at, is_held_and_due, next_due, stays, ticks_at, ticks_by, ticks_free, ticks_held, ticks_on, ticks_with}
 use Rattle.osdp_bus.specs.declared.device.Device.{Device}
 use Rattle.osdp_bus_laws.proofs.Exchanging.{has_exchange}
 use Rattle.osdp_bus_laws.proofs.Sound.{nobody}
 use Rattle.osdp_bus_laws.proofs.Turning.{due_is_next, none_is_due, strictly}
 use Rattle.osdp_bus_laws.specs.Turns.{IsBefore, IsDueEntry}
 use Rattle.osdp_bus.proofs.Waiting.{nothing_ends, nothing_silent}
+use Rattle.osdp_bus_links.specs.Links.{due_by, who_ticks}
 use Rattle.osdp_bus_progress.proofs.Along.{AllAre, OneHolds}
 
 -- the entry that is asked first: around, where the number is past the last
@@ -85,6 +86,14 @@ pub record Ticks (entry k : ℕ) (b : BusState) : Type 0 where
   pub alone : (i : ℕ) (d : Device) → slice_get b.devices.entries i ≡ Some d → holds d ≡ true → i ≡ at
   pub before : (at ≡ k → ⊥) → IsBefore entry at k
   pub ticks : ticks_on b ≡ ticks_with at (Some device) b
+  pub who : due_by (holder b) b ≡ Some at
+
+-- the entry that ticks, or none
+abbrev one_or_none : Bool → Option ℕ → Option ℕ
+one_or_none ticks o = if ticks then o else None
+
+abbrev none_or_one : Bool → Option ℕ → Option ℕ
+none_or_one rests o = if rests then None else o
 
 module _ (b : BusState) (due : LastingDue b.greatest b.devices.entries) (one : OneHolds b.devices) where
   is_due_here : (entry : ℕ) (d : Device) → device_of entry b ≡ Some d → is_device_due b.greatest d ≡ true → is_due_at entry b ≡ true
@@ -112,6 +121,10 @@ module _ (b : BusState) (due : LastingDue b.greatest b.devices.entries) (one : O
             ∙ ap (λ t. if t || not (is_held_and_due entry b) then stays b else ticks_at (Some entry) b) none
             ∙ ap (λ t. if not t then stays b else ticks_at (Some entry) b) both
             ∙ ap (λ o. ticks_with entry o b) x.there;
+        who = ap (λ o. due_by o b) here
+            ∙ ap (λ t. one_or_none t (asks_holder None (λ asked. asked) entry b)) (is_due_here entry d x.there due_d)
+            ∙ ap (λ t. none_or_one (t || not (is_held_and_due entry b)) (Some entry)) none
+            ∙ ap (λ t. none_or_one (not t) (Some entry)) both;
       }
   turn_ticks entry k held none (inr (free, first)) mine = by_next (next_due b) refl
     where
@@ -135,12 +148,14 @@ module _ (b : BusState) (due : LastingDue b.greatest b.devices.entries) (one : O
                 ∙ ap (λ t. if t then stays b else ticks_at (next_due b) b) none
                 ∙ ap (λ o. ticks_at o b) is
                 ∙ ap (λ o. ticks_with at o b) next.due.there;
+            who = ap (λ o. due_by o b) free ∙ ap (λ t. none_or_one t (next_due b)) none ∙ is;
           }
 
 -- so it is of a tick of the whole bus
 pub record BusTicks (now entry k : ℕ) (b : BusState) : Type 0 where
   pub turn : Ticks entry k (seen now b)
   pub ticks : bus_ticks now b ≡ ticks_with turn.at (Some turn.device) (seen now b)
+  pub who : who_ticks now b ≡ Some turn.at
 
 pub tick_is : (now entry k : ℕ) (b : BusState) → LastingDue (max b.greatest now) b.devices.entries → OneHolds b.devices → b.held ≡ []
     → b.devices.report ≡ None → IsTurn entry b → (d : Device) → device_of k b ≡ Some d → is_device_due (max b.greatest now) d ≡ true
@@ -153,6 +168,7 @@ tick_is now entry k b due one held none turn d at mine =
       ticks = ap (λ t. if t then stays (seen now b) else ticks_on (ends_silent (seen now b))) silent
           ∙ ap ticks_on (nothing_silent (seen now b) held)
           ∙ is.ticks;
+      who = is.who;
     }
 
 -- ---- the next

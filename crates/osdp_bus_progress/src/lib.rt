@@ -14,13 +14,11 @@ pub fn each_comes_through<H: Handler>()
 {
     osdp_sim_bus_laws::schedules_are_moves::<H>();
     osdp_sim_bus::laws::has_an_account_each::<H>();
-    osdp_multidrop::each_is_a_link::<H>();
-    osdp_link_laws::read_each_other::<H>();
-    osdp_link_laws::names::name_one_device::<H>();
-    osdp_link_laws::refuses_no_number::<H>();
+    osdp_shared_line::each_is_a_link::<H>();
+    osdp_shared_line::promises::each_has_sessions_in_a_row::<H>();
+    osdp_link_laws::reads_what_is_asked();
     osdp_link_laws::comes_through::<H>();
     osdp_link_laws::stay_where_they_are::<H>();
-    osdp_controller_laws::endings_are_told();
     osdp_controller_laws::stays_in_range();
     osdp_controller_laws::ticks_come_due();
 }
@@ -39,9 +37,7 @@ pub fn each_recovers<H: Handler>()
     each_comes_through::<H>();
     osdp_sim_bus_laws::schedules_are_moves::<H>();
     osdp_sim_bus_laws::each_account_holds_once::<H>();
-    osdp_link_laws::read_each_other::<H>();
-    osdp_link_laws::names::name_one_device::<H>();
-    osdp_link_laws::refuses_no_number::<H>();
+    osdp_link_laws::reads_what_is_asked();
     osdp_link_laws::comes_through::<H>();
     osdp_sim_bus::laws::tells_at_once::<H>();
     osdp_sim_bus::laws::has_an_account_each::<H>();

@@ -3,12 +3,7 @@ use Rattle.osdp_bus_progress.proofs.each_comes_through.Goals as goal
 
 pub returns : goal.returns
 returns g c =
-    each_comes_through g.H.Handler.answer_of g.H.Handler.after c.schedules_are_moves.ensures.bus c.schedules_are_moves.ensures.schedules c.has_an_account_each.ensures
-    c.each_is_a_link.ensures.link c.each_is_a_link.ensures.row
-    (record {
-      names = record { peers = c.read_each_other.ensures; device = c.name_one_device.ensures.device; told = c.name_one_device.ensures.told };
-      plainly = c.refuses_no_number.ensures.packets;
-      rests = c.comes_through.ensures.rest;
-    })
-    c.comes_through.ensures.in_time c.stay_where_they_are.ensures
-    c.endings_are_told.ensures c.stays_in_range.ensures c.ticks_come_due.ensures
+    each_comes_through g.H.Handler.answer_of g.H.Handler.after c.schedules_are_moves.ensures.schedules c.has_an_account_each.ensures
+    c.each_is_a_link.ensures c.each_has_sessions_in_a_row.ensures
+    (record { known = c.reads_what_is_asked.ensures; rests = c.comes_through.ensures.rest })
+    c.comes_through.ensures.in_time c.stay_where_they_are.ensures c.stays_in_range.ensures c.ticks_come_due.ensures

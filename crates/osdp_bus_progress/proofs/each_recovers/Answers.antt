@@ -4,13 +4,8 @@ use Rattle.osdp_bus_progress.proofs.each_recovers.Goals as goal
 
 pub returns-clause-state : goal.returns-clause-state
 returns-clause-state g c =
-    each_recovers g.H.Handler.answer_of g.H.Handler.after c.each_comes_through.ensures c.schedules_are_moves.ensures.bus
-    c.schedules_are_moves.ensures.schedules
-    (record {
-      names = record { peers = c.read_each_other.ensures; device = c.name_one_device.ensures.device; told = c.name_one_device.ensures.told };
-      plainly = c.refuses_no_number.ensures.packets;
-      rests = c.comes_through.ensures.rest;
-    })
+    each_recovers g.H.Handler.answer_of g.H.Handler.after c.each_comes_through.ensures c.schedules_are_moves.ensures.bus.reads
+    c.schedules_are_moves.ensures.schedules (record { known = c.reads_what_is_asked.ensures; rests = c.comes_through.ensures.rest })
     c.tells_at_once.ensures c.has_an_account_each.ensures
 
 pub returns-clause-answer : goal.returns-clause-answer
