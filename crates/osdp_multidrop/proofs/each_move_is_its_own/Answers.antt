@@ -1,5 +1,0 @@
-use Rattle.osdp_multidrop.proofs.Moving.{each_is_its_own}
-use Rattle.osdp_multidrop.proofs.each_move_is_its_own.Goals as goal
-
-pub returns : goal.returns
-returns g c = each_is_its_own g.H.Handler.answer_of g.H.Handler.after
