@@ -1,0 +1,116 @@
+-- What a list of moves of a net comes to, and what is lost on the line.
+use Rattle.std.proofs.Common.{◌≡◌, ℕ, zero, suc, Bool, true, false, cond, List, [], ◌∷◌, ◌++◌, length, Some, refl, sym, subst, ap, ◌∙◌, append_assoc}
+use Rattle.osdp_frame.specs.Packet.{Packet}
+use Rattle.osdp_msg.specs.declared.command.Command.{Command}
+use Rattle.osdp_reader.specs.declared.handler.Answer.{Answer}
+use Rattle.osdp_link_laws.specs.Link.{lost_at}
+use Rattle.osdp_shared_line.specs.Addresses.{NetMoveFits, NetMovesFit}
+use Rattle.osdp_shared_line.specs.Line as line
+use Rattle.osdp_shared_line.specs.Line.{LoseToPanel, LoseToReader, Net, NetMove, Site, after_net, changed, run, site_at}
+use Rattle.osdp_shared_line.proofs.Sites.{at_changed}
+use Rattle.osdp_calls.specs.Lines.{Burst, those}
+
+-- ---- a list without some of it
+
+pub data Sub {A : Type 0} : List A → List A → Type 0 where
+  SubNil : Sub [] []
+  SubKeep : (x : A) (xs ys : List A) → Sub xs ys → Sub (x ∷ xs) (x ∷ ys)
+  SubLeave : (x : A) (xs ys : List A) → Sub xs ys → Sub xs (x ∷ ys)
+
+pub sub_all : {A : Type 0} (xs : List A) → Sub xs xs
+sub_all [] = SubNil
+sub_all (x ∷ xs) = SubKeep x xs xs (sub_all xs)
+
+-- what passes a test that fewer pass
+pub those_sub : (f g : ℕ → Burst → Bool) (i : ℕ) (bs : List Burst) → ((j : ℕ) (b : Burst) → f j b ≡ true → g j b ≡ true) → Sub (those f i bs) (those g i bs)
+those_sub f g i [] fewer = SubNil
+those_sub f g i (b ∷ bs) fewer = by_tests (f i b) (g i b) (fewer i b) (those_sub f g (suc i) bs fewer)
+  where
+    by_tests : (x y : Bool) → (x ≡ true → y ≡ true) → Sub (those f (suc i) bs) (those g (suc i) bs)
+        → Sub (cond x ((b.entry, b.packet) ∷ those f (suc i) bs) (those f (suc i) bs)) (cond y ((b.entry, b.packet) ∷ those g (suc i) bs) (those g (suc i) bs))
+    by_tests true true both rest = SubKeep (b.entry, b.packet) (those f (suc i) bs) (those g (suc i) bs) rest
+    by_tests false true both rest = SubLeave (b.entry, b.packet) (those f (suc i) bs) (those g (suc i) bs) rest
+    by_tests false false both rest = rest
+    by_tests true false both rest = absurd (let e = both refl in cc)
+
+pub changed_twice : {A : Type 0} (k : ℕ) (new old : A) (xs : List A) → changed k new (changed k old xs) ≡ changed k new xs
+changed_twice k new old [] = refl
+changed_twice zero new old (x ∷ xs) = refl
+changed_twice (suc k) new old (x ∷ xs) = ap (λ l. x ∷ l) (changed_twice k new old xs)
+
+pub lost_middle : {A : Type 0} (xs : List A) (x : A) (ys : List A) → lost_at (length xs) (xs ++ x ∷ ys) ≡ xs ++ ys
+lost_middle [] x ys = refl
+lost_middle (z ∷ xs) x ys = ap (λ l. z ∷ l) (lost_middle xs x ys)
+
+module _ {H : Type 0} (answer_of : H → Command → Answer) (after : H → Command → H) where
+  -- ---- what moves come to
+
+  pub record Reaches (n m : Net H) : Type 0 where
+    pub moves : List (NetMove H)
+    pub fit : NetMovesFit answer_of after moves n
+    pub run : run answer_of after moves n ≡ m
+
+  pub stays : (n : Net H) → Reaches n n
+  stays n = record { moves = []; fit = tt; run = refl }
+
+  run_then : (ms more : List (NetMove H)) (n : Net H) → run answer_of after (ms ++ more) n ≡ run answer_of after more (run answer_of after ms n)
+  run_then [] more n = refl
+  run_then (m ∷ ms) more n = run_then ms more (after_net answer_of after m n)
+
+  fit_then : (ms more : List (NetMove H)) (n : Net H) → NetMovesFit answer_of after ms n → NetMovesFit answer_of after more (run answer_of after ms n)
+      → NetMovesFit answer_of after (ms ++ more) n
+  fit_then [] more n first last = last
+  fit_then (m ∷ ms) more n first last = (first.0, fit_then ms more (after_net answer_of after m n) first.1 last)
+
+  pub then_reaches : (a b c : Net H) → Reaches a b → Reaches b c → Reaches a c
+  then_reaches a b c x y = record {
+    moves = x.moves ++ y.moves;
+    fit = fit_then x.moves y.moves a x.fit (subst (NetMovesFit answer_of after y.moves) (sym x.run) y.fit);
+    run = run_then x.moves y.moves a ∙ ap (run answer_of after y.moves) x.run ∙ y.run;
+  }
+
+  pub one_move : (move : NetMove H) (n : Net H) → NetMoveFits answer_of after move n → Reaches n (after_net answer_of after move n)
+  one_move move n fits = record { moves = move ∷ []; fit = (fits, tt); run = refl }
+
+  -- ---- losses
+
+  abbrev pub with_panel : List (ℕ × Packet) → Net H → Net H
+  with_panel qs n = record n { to_panel = qs }
+
+  pub lose_to_panel : (xs ys front : List (ℕ × Packet)) (n : Net H) → Sub xs ys → Reaches (with_panel (front ++ ys) n) (with_panel (front ++ xs) n)
+  lose_to_panel us vs front n SubNil = stays (with_panel (front ++ []) n)
+  lose_to_panel us vs front n (SubKeep x xs ys sub) =
+      subst (λ l. Reaches (with_panel l n) (with_panel (front ++ x ∷ xs) n)) (append_assoc front (x ∷ []) ys)
+      (subst (λ l. Reaches (with_panel ((front ++ x ∷ []) ++ ys) n) (with_panel l n)) (append_assoc front (x ∷ []) xs)
+      (lose_to_panel xs ys (front ++ x ∷ []) n sub))
+  lose_to_panel us vs front n (SubLeave x xs ys sub) =
+      then_reaches (with_panel (front ++ x ∷ ys) n) (with_panel (front ++ ys) n) (with_panel (front ++ xs) n)
+      (subst (λ l. Reaches (with_panel (front ++ x ∷ ys) n) (with_panel l n)) (lost_middle front x ys)
+      (one_move (LoseToPanel (length front)) (with_panel (front ++ x ∷ ys) n) tt))
+      (lose_to_panel xs ys front n sub)
+
+  abbrev pub with_coming : ℕ → Site H → List (ℕ × Packet) → Net H → Net H
+  with_coming k s qs n = record n { sites = changed k (record s { coming = qs }) n.sites }
+
+  -- one is lost to a reader out of the middle
+  lose_one : (k : ℕ) (s : Site H) (front ys : List (ℕ × Packet)) (x : ℕ × Packet) (n : Net H) → site_at k n.sites ≡ Some s
+      → after_net answer_of after (LoseToReader k (length front)) (with_coming k s (front ++ x ∷ ys) n) ≡ with_coming k s (front ++ ys) n
+  lose_one k s front ys x n is =
+      let old = record s { coming = front ++ x ∷ ys } in
+      ap (λ o. line.change_at k o (λ t. record t { coming = lost_at (length front) t.coming }) (with_coming k s (front ++ x ∷ ys) n))
+      (at_changed k old s n.sites is)
+      ∙ ap (λ ss. record n { sites = ss }) (changed_twice k (record old { coming = lost_at (length front) (front ++ x ∷ ys) }) old n.sites)
+      ∙ ap (λ l. with_coming k s l n) (lost_middle front x ys)
+
+  pub lose_to_reader : (k : ℕ) (s : Site H) (xs ys front : List (ℕ × Packet)) (n : Net H) → site_at k n.sites ≡ Some s → Sub xs ys
+      → Reaches (with_coming k s (front ++ ys) n) (with_coming k s (front ++ xs) n)
+  lose_to_reader k s us vs front n is SubNil = stays (with_coming k s (front ++ []) n)
+  lose_to_reader k s us vs front n is (SubKeep x xs ys sub) =
+      subst (λ l. Reaches (with_coming k s l n) (with_coming k s (front ++ x ∷ xs) n)) (append_assoc front (x ∷ []) ys)
+      (subst (λ l. Reaches (with_coming k s ((front ++ x ∷ []) ++ ys) n) (with_coming k s l n)) (append_assoc front (x ∷ []) xs)
+      (lose_to_reader k s xs ys (front ++ x ∷ []) n is sub))
+  lose_to_reader k s us vs front n is (SubLeave x xs ys sub) =
+      then_reaches (with_coming k s (front ++ x ∷ ys) n) (with_coming k s (front ++ ys) n) (with_coming k s (front ++ xs) n)
+      (subst (λ m. Reaches (with_coming k s (front ++ x ∷ ys) n) m) (lose_one k s front ys x n is)
+      (one_move (LoseToReader k (length front)) (with_coming k s (front ++ x ∷ ys) n) tt))
+      (lose_to_reader k s xs ys front n is sub)

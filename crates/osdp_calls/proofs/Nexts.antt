@@ -1,0 +1,262 @@
+-- What a device reads: what stands before it is lost to it, and what it reads stays in front of it and may be read again.
+use Rattle.std.proofs.Common.{◌≡◌, ◌≤◌, ◌<◌, ℕ, zero, suc, ◌+◌, not, Bool, true, false, cond, List, [], ◌∷◌, ◌++◌, length, Option, Some, None, IfSome, refl, sym, subst, ap, ◌∙◌, arith, append-nil}
+use Rattle.std.specs.Prelude.{option_to_list}
+use Rattle.osdp_frame.specs.Packet.{Packet}
+use Rattle.osdp_msg.specs.ReplyTable.{ReplyFits}
+use Rattle.osdp_msg.specs.declared.command.Command.{Command}
+use Rattle.osdp_device.specs.Saying.{speaks}
+use Rattle.osdp_link_laws.specs.Headline.{SaysWhatFitsIf}
+use Rattle.osdp_link_laws.specs.Link as link
+use Rattle.osdp_link_laws.specs.Link.{Repeated}
+use Rattle.osdp_link_laws.proofs.Lines.{each_append}
+use Rattle.osdp_link_laws.proofs.Stages.{Each}
+use Rattle.osdp_reader.specs.State.{ReaderState}
+use Rattle.osdp_reader.specs.Table.{hears, kind_of}
+use Rattle.osdp_reader.specs.declared.handler.Answer.{Answer}
+use Rattle.osdp_shared_line.specs.Addresses.{in_front}
+use Rattle.osdp_shared_line.specs.Line as line
+use Rattle.osdp_shared_line.specs.Line.{Net, Site, ToReader, after_net, changed, left_by, link_of, site_at, tagged}
+use Rattle.osdp_shared_line.proofs.Sites.{at_changed, some_same}
+use Rattle.osdp_calls.specs.Calls.{answers, by_device, first_answered, last_of, reply_to}
+use Rattle.osdp_calls.specs.Lines.{Burst, InUse, Opening, Station, ahead_of_device, is_past_for_device}
+use Rattle.osdp_calls.specs.Premises.{AreSaid}
+use Rattle.osdp_calls.proofs.Ahead.{AreBehind, device_front, device_further, device_told_device, device_told_panel, from_device}
+use Rattle.osdp_calls.proofs.Losing.{Reaches, changed_twice, lose_to_reader, then_reaches, with_coming}
+use Rattle.osdp_calls.proofs.Matching.{FoundAt, Nobody, Somebody, changed_same, found, matched, set_station}
+use Rattle.osdp_calls.proofs.Replying.{IsReply, hears_replies, reader_with, silent_to_replies}
+use Rattle.osdp_calls.proofs.Same.{IsNetOf, IsRightly, IsSiteOf}
+use Rattle.osdp_calls.proofs.Stations.{Refines, Sites, by_move, by_none}
+
+pub length_more : {A : Type 0} (xs : List A) (x : A) → length (xs ++ x ∷ []) ≡ length xs + 1
+length_more [] x = refl
+length_more (y ∷ xs) x = let rest = length_more xs x in omega (arith, rest)
+
+pub place_within : {A : Type 0} (i : ℕ) (x : A) (xs : List A) → site_at i xs ≡ Some x → i < length xs
+place_within i x [] is = absurd cc
+place_within zero x (y ∷ xs) is = omega arith
+place_within (suc i) x (y ∷ xs) is = let rest = place_within i x xs is in omega (arith, rest)
+
+pub each_at : {A : Type 0} (P : A → Type 0) (i : ℕ) (x : A) (xs : List A) → Each P xs → site_at i xs ≡ Some x → P x
+each_at P i x [] all is = absurd cc
+each_at P zero x (y ∷ xs) all is = subst P (some_same y x is) all.0
+each_at P (suc i) x (y ∷ xs) all is = each_at P i x xs all.1 is
+
+pub longer : {A : Type 0} (xs ys : List A) → length xs ≤ length (xs ++ ys)
+longer [] ys = omega arith
+longer (x ∷ xs) ys = let rest = longer xs ys in omega (arith, rest)
+
+pub behind_more : (n m : ℕ) (os : List Opening) → n ≤ m → AreBehind n os → AreBehind m os
+behind_more n m [] le all = tt
+behind_more n m (o ∷ os) le all = (let h = all.0 in omega (arith, h, le), behind_more n m os le all.1)
+
+module _ {H : Type 0} where
+  abbrev pub with_station : ℕ → Station H → InUse H → InUse H
+  with_station k t l = record l { stations = changed k t l.stations }
+
+  -- a device says more
+  abbrev pub device_says : ℕ → List Packet → InUse H → InUse H
+  device_says k ps l = record l { said = l.said ++ by_device k ps }
+
+  pub device_said : (k : ℕ) (o : Option Packet) (l : InUse H) (n : Net H) → IfSome o IsReply → IsNetOf l n
+      → IsNetOf (device_says k (option_to_list o) l) (record n { to_panel = n.to_panel ++ tagged k (option_to_list o) })
+  device_said k None l n is h =
+      subst (λ bs. IsNetOf (record l { said = bs }) (record n { to_panel = n.to_panel ++ [] })) (sym (append-nil l.said))
+      (subst (λ qs. IsNetOf l (record n { to_panel = qs })) (sym (append-nil n.to_panel)) h)
+  device_said k (Some p) l n is h = record {
+    sites = matched (Sites l) (IsSiteOf l.openings (l.said ++ from_device k p ∷ []) l.bus.greatest) 0 l.bus.devices.entries l.stations n.sites
+        (λ j d t s at. record {
+          controller = at.controller;
+          reserved = at.reserved;
+          reader = at.reader;
+          coming = at.coming ∙ sym (device_told_device j t.place k p l.openings l.said);
+          account = at.account;
+          earlier = at.earlier;
+          place = let le = at.place in let more = length_more l.said (from_device k p) in omega (arith, le, more);
+          stored = at.stored;
+        }) h.sites;
+    to_panel = ap (λ qs. qs ++ (k, p) ∷ []) h.to_panel ∙ sym (device_told_panel l.place k p l.openings l.said h.place h.openings);
+    place = let le = h.place in let more = length_more l.said (from_device k p) in omega (arith, le, more);
+    openings = behind_more (length l.said) (length (l.said ++ from_device k p ∷ [])) l.openings (let more = length_more l.said (from_device k p) in omega (arith, more)) h.openings;
+    said = each_append IsRightly l.said (from_device k p ∷ []) h.said (is, tt);
+  }
+
+  module _ (answer_of : H → Command → Answer) (after : H → Command → H) where
+    -- ---- a place moves on
+
+    pub moves_on : (k i : ℕ) (t : Station H) (l : InUse H) (n : Net H) → IsNetOf l n → site_at k l.stations ≡ Some t → t.place ≤ i → i ≤ length l.said
+        → Refines answer_of after n (with_station k (record t { place = i }) l)
+    moves_on k i t l n h is le within = by_found (found (Sites l) k l.bus.devices.entries l.stations n.sites h.sites)
+      where
+        by_found : FoundAt (Sites l) k k l.bus.devices.entries l.stations n.sites → Refines answer_of after n (with_station k (record t { place = i }) l)
+        by_found (Nobody a b c) = absurd (let e = sym b ∙ is in cc)
+        by_found (Somebody d t1 s a b c here) =
+            let at : Sites l k d t s = subst (λ u. Sites l k d u s) (some_same t1 t (sym b ∙ is)) here in
+            let before : n ≡ with_coming answer_of after k s (ahead_of_device k t.place l.openings l.said) n =
+            sym (ap (λ ss. record n { sites = ss }) (changed_same k s n.sites c)) ∙ ap (λ q. with_coming answer_of after k s q n) at.coming in
+            record {
+              net = with_coming answer_of after k s (ahead_of_device k i l.openings l.said) n;
+              reached = subst (λ m. Reaches answer_of after m (with_coming answer_of after k s (ahead_of_device k i l.openings l.said) n)) (sym before)
+                  (lose_to_reader answer_of after k s (ahead_of_device k i l.openings l.said) (ahead_of_device k t.place l.openings l.said) [] n c
+                  (device_further k t.place i l.openings l.said le));
+              same = record {
+                sites = set_station (Sites l) k d (record t { place = i }) (record s { coming = ahead_of_device k i l.openings l.said }) l.bus.devices.entries
+                    l.stations n.sites h.sites a (record {
+                      controller = at.controller;
+                      reserved = at.reserved;
+                      reader = at.reader;
+                      coming = refl;
+                      account = at.account;
+                      earlier = at.earlier;
+                      place = within;
+                      stored = at.stored;
+                    });
+                to_panel = h.to_panel;
+                place = h.place;
+                openings = h.openings;
+                said = h.said;
+              };
+            }
+
+    -- ---- a packet is read
+
+    abbrev pub has_read : Packet → Station H → Station H
+    has_read p t = record (answers answer_of after (Some p) t) { reader = (hears answer_of after t.reader p).reader }
+
+    pub reads_front : (k : ℕ) (p : Packet) (b : Burst) (t : Station H) (l : InUse H) (n : Net H) → IsNetOf l n → site_at k l.stations ≡ Some t
+        → site_at t.place l.said ≡ Some b → b.packet ≡ p → b.by_panel ≡ true → is_past_for_device k l.openings t.place b ≡ false
+        → IfSome (hears answer_of after t.reader p).said ReplyFits
+        → Refines answer_of after n (device_says k (option_to_list (hears answer_of after t.reader p).reply) (with_station k (has_read p t) l))
+    reads_front k p b t l n h is said_it same by past fits = by_found (found (Sites l) k l.bus.devices.entries l.stations n.sites h.sites)
+      where
+        by_found : FoundAt (Sites l) k k l.bus.devices.entries l.stations n.sites
+            → Refines answer_of after n (device_says k (option_to_list (hears answer_of after t.reader p).reply) (with_station k (has_read p t) l))
+        by_found (Nobody a none c) = absurd (let e = sym none ∙ is in cc)
+        by_found (Somebody d t1 s a there c here) =
+            let at : Sites l k d t s = subst (λ u. Sites l k d u s) (some_same t1 t (sym there ∙ is)) here in
+            let front = device_front k t.place l.openings l.said b said_it by past in
+            let coming : s.coming ≡ (b.entry, b.packet) ∷ front.0 = at.coming ∙ front.1 in
+            let next : after_net answer_of after (ToReader k Repeated) n ≡ line.hears_at answer_of after k p s n =
+            ap (λ o. line.to_reader answer_of after k Repeated o n) c ∙ ap (λ qs. line.reads_at answer_of after k qs Repeated s n) coming
+            ∙ ap (λ q. line.hears_at answer_of after k q s n) same in
+            let replies = hears_replies answer_of after t.reader p at.stored in
+            let l1 = with_station k (has_read p t) l in
+            let o = hears answer_of after t.reader p in
+            let n1 : Net H = record n { sites = changed k (left_by s (link.reader_gets answer_of after p (link_of s [] []))) n.sites } in
+            let read : IsNetOf l1 n1 =
+            record {
+              sites = set_station (Sites l) k d (has_read p t) (left_by s (link.reader_gets answer_of after p (link_of s [] []))) l.bus.devices.entries l.stations
+                  n.sites h.sites a (record {
+                    controller = at.controller;
+                    reserved = at.reserved;
+                    reader = ap (λ (r : ReaderState H). (hears answer_of after r p).reader) at.reader;
+                    coming = at.coming;
+                    account = (λ i. (link.taken (kind_of (at.reader i) p) (hears answer_of after (at.reader i) p).command
+                        (hears answer_of after (at.reader i) p).said (link.front_of (at.reader i)) (at.account i)));
+                    earlier = at.earlier;
+                    place = at.place;
+                    stored = replies.stored;
+                  });
+              to_panel = h.to_panel;
+              place = h.place;
+              openings = h.openings;
+              said = h.said;
+            } in
+            let done : IsNetOf (device_says k (option_to_list o.reply) l1) (record n1 { to_panel = n1.to_panel ++ tagged k (option_to_list o.reply) }) =
+            device_said k o.reply l1 n1 replies.said read in
+            let there_too : line.hears_at answer_of after k p s n ≡ record n1 { to_panel = n1.to_panel ++ tagged k (option_to_list o.reply) } =
+            ap (λ (r : ReaderState H). record n1 { to_panel = n1.to_panel ++ tagged k (option_to_list (hears answer_of after r p).reply) }) at.reader in
+            by_move answer_of after (ToReader k Repeated) (device_says k (option_to_list o.reply) l1) n
+            (λ s1 at1. subst (λ u. SaysWhatFitsIf answer_of after Repeated (in_front u.coming) u.reader) (some_same s s1 (sym c ∙ at1))
+            (subst (λ qs. SaysWhatFitsIf answer_of after Repeated (in_front qs) s.reader) (sym coming)
+            (subst (λ q. IfSome (hears answer_of after s.reader q).said ReplyFits) (sym same)
+            (subst (λ r. IfSome (hears answer_of after r p).said ReplyFits) (sym at.reader) fits))))
+            (subst (λ m. IsNetOf (device_says k (option_to_list o.reply) l1) m) (sym (next ∙ there_too)) done)
+
+    -- ---- all that a `next` reads
+
+    pub then_refines : (n : Net H) (l m : InUse H) → (x : Refines answer_of after n l) → ((k : Net H) → IsNetOf l k → Refines answer_of after k m)
+        → Refines answer_of after n m
+    then_refines n l m x f =
+        let y = f x.net x.same in
+        record { net = y.net; reached = then_reaches answer_of after n x.net y.net x.reached y.reached; same = y.same }
+
+    last_within : (said : List Burst) (ps : List Packet) (places : List ℕ) (before : ℕ) → before ≤ length said → AreSaid said ps places before
+        → (before ≤ last_of places before) × (last_of places before ≤ length said)
+    last_within said [] [] before le all = (omega arith, le)
+    last_within said (p ∷ ps) (i ∷ places) before le all =
+        let within = place_within i all.0 said all.1 in
+        let first = all.3 in
+        let rest = last_within said ps places i (omega (arith, within)) all.4 in
+        let more = rest.0 in
+        (omega (arith, first, more), rest.1)
+    last_within said [] (i ∷ places) before le all = absurd all
+    last_within said (p ∷ ps) [] before le all = absurd all
+
+    -- the station and what was said, where this is answered
+    abbrev pub read_to : ℕ → Option Packet → ℕ → Station H → InUse H → InUse H
+    read_to k o place t l =
+        device_says k (reply_to answer_of after o t.reader)
+        (with_station k (record (answers answer_of after o t) { reader = reader_with answer_of after o t.reader; place = place }) l)
+
+    moved_first : (k : ℕ) (o : Option Packet) (i place : ℕ) (t : Station H) (l : InUse H)
+        → read_to k o place (record t { place = i }) (with_station k (record t { place = i }) l) ≡ read_to k o place t l
+    moved_first k None i place t l =
+        ap (λ ts. record l { stations = ts; said = l.said ++ [] }) (changed_twice k (record t { place = place }) (record t { place = i }) l.stations)
+    moved_first k (Some p) i place t l =
+        ap (λ ts. record l { stations = ts; said = l.said ++ by_device k (option_to_list (hears answer_of after t.reader p).reply) })
+        (changed_twice k (record (has_read p t) { place = place }) (record t { place = i }) l.stations)
+
+    said_by_panel : (t : Station H) (p : Packet) (b : Burst) → IsRightly b → b.packet ≡ p → speaks (kind_of t.reader p) ≡ true → b.by_panel ≡ true
+    said_by_panel t p b right same speaks_so = by_test b.by_panel refl
+      where
+        by_test : (x : Bool) → b.by_panel ≡ x → b.by_panel ≡ true
+        by_test true is = is
+        by_test false is =
+            let reply : p.reply ≡ true = sym (ap (λ (q : Packet). q.reply) same) ∙ right ∙ ap not is in
+            let silent = silent_to_replies t.reader p reply in
+            absurd (let e = sym silent ∙ speaks_so in cc)
+
+    pub reads_all : (k : ℕ) (ps : List Packet) (places : List ℕ) (t : Station H) (l : InUse H) (n : Net H) → IsNetOf l n
+        → site_at k l.stations ≡ Some t → t.place ≤ length l.said → AreSaid l.said ps places t.place
+        → Each (λ i. (b : Burst) → site_at i l.said ≡ Some b → is_past_for_device k l.openings i b ≡ false) places
+        → Each (λ p. IfSome (hears answer_of after t.reader p).said ReplyFits) ps
+        → Refines answer_of after n (read_to k (first_answered t.reader ps) (last_of places t.place) t l)
+    reads_all k [] [] t l n h is within all past fits =
+        subst (λ bs. Refines answer_of after n (record l { stations = changed k t l.stations; said = bs })) (sym (append-nil l.said))
+        (subst (λ ts. Refines answer_of after n (record l { stations = ts })) (sym (changed_same k t l.stations is)) (by_none answer_of after l n h))
+    reads_all k [] (i ∷ places) t l n h is within all past fits = absurd all
+    reads_all k (p ∷ ps) [] t l n h is within all past fits = absurd all
+    reads_all k (p ∷ ps) (i ∷ places) t l n h is within all past fits =
+        let inside = place_within i all.0 l.said all.1 in
+        let t1 = record t { place = i } in
+        let l1 = with_station k t1 l in
+        let there : site_at k l1.stations ≡ Some t1 = at_changed k t1 t l.stations is in
+        let goal : Option Packet → Type 0 = λ o. Refines answer_of after n (read_to k o (last_of places i) t l) in
+        let first = moves_on k i t l n h is all.3 (omega (arith, inside)) in
+        by_answer (speaks (kind_of t.reader p)) refl
+        (subst (Refines answer_of after n) (moved_first k (first_answered t.reader ps) i (last_of places i) t l)
+        (then_refines n l1 (read_to k (first_answered t.reader ps) (last_of places i) t1 l1) first
+        (λ m h1. reads_all k ps places t1 l1 m h1 there (omega (arith, inside)) all.4 past.1 fits.1)))
+        (λ speaks_so.
+        let by = said_by_panel t p all.0 (each_at IsRightly i all.0 l.said h.said all.1) all.2 speaks_so in
+        let o = hears answer_of after t.reader p in
+        let t2 = has_read p t1 in
+        let l2 = device_says k (option_to_list o.reply) (with_station k t2 l1) in
+        let last = last_within l.said ps places i (omega (arith, inside)) all.4 in
+        let more : length l.said ≤ length (l.said ++ by_device k (option_to_list o.reply)) = longer l.said (by_device k (option_to_list o.reply)) in
+        let least = last.0 in
+        let most = last.1 in
+        subst (Refines answer_of after n)
+        (ap (λ ts. record l { stations = ts; said = l.said ++ by_device k (option_to_list o.reply) })
+        (changed_twice k (record t2 { place = last_of places i }) t2 (changed k t1 l.stations)
+        ∙ changed_twice k (record t2 { place = last_of places i }) t1 l.stations))
+        (then_refines n l2 (with_station k (record t2 { place = last_of places i }) l2)
+        (then_refines n l1 l2 first (λ m h1. reads_front k p all.0 t1 l1 m h1 there all.1 all.2 by (past.0 all.0 all.1) fits.0))
+        (λ m h2. moves_on k (last_of places i) t2 l2 m h2 (at_changed k t2 t1 (changed k t1 l.stations) there) least (omega (arith, most, more)))))
+      where
+        by_answer : (x : Bool) → speaks (kind_of t.reader p) ≡ x
+            → Refines answer_of after n (read_to k (first_answered t.reader ps) (last_of places i) t l)
+            → (speaks (kind_of t.reader p) ≡ true → Refines answer_of after n (read_to k (Some p) (last_of places i) t l))
+            → Refines answer_of after n (read_to k (cond x (Some p) (first_answered t.reader ps)) (last_of places i) t l)
+        by_answer true is silent answered = answered is
+        by_answer false is silent answered = silent

@@ -1,0 +1,438 @@
+-- The calls of a panel's program that read nothing: sessions, commands and addresses.
+use Rattle.std.proofs.Common.{◌≡◌, ◌||◌, ℕ, zero, suc, ◌+◌, max, Bool, true, false, cond, List, [], ◌∷◌, ◌++◌, length, map, take, drop, Option, Some, None, refl, sym, subst, ap, ◌∙◌, arith, append-nil}
+use Rattle.std.specs.Prelude.{is_some, nat_lt, option_map, option_to_list, slice_get, slice_set}
+use Rattle.osdp_frame.specs.Packet.{Packet}
+use Rattle.osdp_msg.specs.CommandTable.{CommandFits}
+use Rattle.osdp_msg.specs.declared.command.Command.{Command}
+use Rattle.osdp_msg.specs.declared.command.Command.TheVariants.{Poll}
+use Rattle.osdp_msg.specs.declared.command_fields.Communication.{Communication}
+use Rattle.osdp_controller.specs.Comsets.{has_comset}
+use Rattle.osdp_controller.specs.Hearing.{comset_of}
+use Rattle.osdp_controller.specs.Machine as controllers
+use Rattle.osdp_controller.specs.Machine.{Machine, after_begin, begin_refusal, retarget_refusal, submit_refusal}
+use Rattle.osdp_controller.specs.declared.fault.ControllerFault.{ControllerFault}
+use Rattle.osdp_controller.specs.declared.fault.ControllerFault.TheVariants.{Full}
+use Rattle.osdp_controller.specs.declared.state.State.TheVariants.{Closed}
+use Rattle.osdp_bus.specs.Buses.{BusState, seen}
+use Rattle.osdp_bus.specs.Devices as devices
+use Rattle.osdp_bus.specs.Devices.{reserved_for}
+use Rattle.osdp_bus.specs.Machine as bus
+use Rattle.osdp_bus.specs.Machine.{after_begin_at, after_submit_at, begin_refusal_at, bus_fault, changed_unless, changes_device, device_begins, submit_refusal_at}
+use Rattle.osdp_bus.specs.declared.device.Device.{Device}
+use Rattle.osdp_bus.specs.declared.fault.BusFault.{BusFault}
+use Rattle.osdp_bus.specs.declared.fault.BusFault.TheVariants.{AddressTaken}
+use Rattle.osdp_link_laws.specs.Link as link
+use Rattle.osdp_reader.specs.declared.handler.Answer.{Answer}
+use Rattle.osdp_shared_line.specs.Addresses as addresses
+use Rattle.osdp_shared_line.specs.Addresses.{HasNoOther, Sets, Somewhere, asked_in}
+use Rattle.osdp_shared_line.specs.Line as line
+use Rattle.osdp_shared_line.specs.Line.{Net, Retarget, Site, Submit, Withdraw, after_net, changed, site_at}
+use Rattle.osdp_shared_line.proofs.Sites.{some_same}
+use Rattle.osdp_calls.specs.Calls.{change_at, changes_at, is_to_begin, issues, takes_back, withdrawn}
+use Rattle.osdp_calls.specs.Lines.{InUse, Station}
+use Rattle.osdp_calls.specs.Premises.{IsAsked, IsNoOthers, IsSaid, IsThere, MayBeAt}
+use Rattle.osdp_calls.proofs.Controllers.{closed_of, config_same, is_to_open, retargeted_same, submitted_same, waiting_same, withdrawn_same}
+use Rattle.osdp_calls.proofs.Matching.{And, Done, FoundAt, Match, Nobody, Somebody, changed_same, found, set, set_same}
+use Rattle.osdp_calls.proofs.Panel.{at_seen}
+use Rattle.osdp_calls.proofs.Same.{Controls, IsNetOf, IsSame, IsToOpen}
+use Rattle.osdp_calls.proofs.Stations.{Refines, Sites, by_move, by_none}
+
+some_fault : (o : Option ControllerFault) → option_map bus_fault o ≡ None → o ≡ None
+some_fault None none = refl
+some_fault (Some fault) none = absurd cc
+
+-- no session of it was begun where its controller is closed
+not_begun : (o : Option ℕ) (top : ℕ) (m c : Machine) → Controls o top m c → m.session.state ≡ Closed → o ≡ None
+not_begun None top m c is shut = refl
+not_begun (Some began) top m c is shut = absurd (let e = sym is.quiet ∙ shut in cc)
+
+or_assoc : (a b c : Bool) → (a || b) || c ≡ a || (b || c)
+or_assoc true b c = refl
+or_assoc false b c = refl
+
+asked_same : (o : Option ℕ) (top : ℕ) (m c : Machine) → Controls o top m c → asked_in c.session.state ≡ asked_in m.session.state
+asked_same None top m c is = ap (λ (x : Machine). asked_in x.session.state) is.same
+asked_same (Some began) top m c is = ap (λ (x : Machine). asked_in x.session.state) is.same ∙ sym (ap asked_in is.quiet)
+
+submit_alike : (command : Command) (m c : Machine) → c.waiting ≡ m.waiting → c.capacity ≡ m.capacity → submit_refusal command c ≡ submit_refusal command m
+submit_alike Poll m c waiting room = refl
+submit_alike _ m c waiting room = (λ i. cond (nat_lt (length (waiting i)) (room i)) None (Some Full))
+
+module _ {H : Type 0} where
+  -- the device of an entry and its station change
+  changes_one : (k : ℕ) (change : Device → Device) (tchange : Station H → Station H) (l : InUse H) (d : Device) (t : Station H)
+      → slice_get l.bus.devices.entries k ≡ Some d → site_at k l.stations ≡ Some t
+      → record l { bus = changes_device k change l.bus; stations = change_at k tchange l.stations }
+      ≡ record l {
+        bus = record l.bus { devices = record l.bus.devices { entries = slice_set l.bus.devices.entries k (change d) } };
+        stations = changed k (tchange t) l.stations;
+      }
+  changes_one k change tchange l d t a b =
+      (λ i. record l { bus = by_device (a i); stations = changes_at k tchange (b i) l.stations })
+    where
+      by_device : Option Device → BusState
+      by_device o = Rattle.std.specs.Option.option_map_or (λ (e : Device). record l.bus {
+        devices = record l.bus.devices { entries = slice_set l.bus.devices.entries k (change e) };
+      }) o l.bus
+
+  -- ---- addresses that are taken
+
+  taken_same : (l : InUse H) (i a : ℕ) (ds : List Device) (ts : List (Station H)) (ss : List (Site H)) → Match (Sites l) i ds ts ss
+      → devices.is_taken a ds ≡ line.is_taken a ss
+  taken_same l i a ds1 ts1 ss1 (Done i1) = refl
+  taken_same l i a ds1 ts1 ss1 (And i1 d t s ds ts ss is rest) =
+      (λ x. up x || taken_same l (suc i) a ds ts ss rest x)
+    where
+      up : devices.takes_up a d ≡ line.takes_up a s
+      up =
+          (λ x. (Rattle.std.specs.Prelude.◌==◌ (sym (ap (λ (c : _). c.address) (config_same t.begun l.bus.greatest d.controller s.controller is.controller)) x) a)
+          || line.is_reserved a (sym is.reserved x))
+
+  beside_from : (l : InUse H) (i k a : ℕ) (ds : List Device) (ts : List (Station H)) (ss : List (Site H)) → Match (Sites l) i ds ts ss
+      → devices.is_taken a (take k ds) || devices.is_taken a (drop (suc k) ds) ≡ line.is_taken_beside k a ss
+  beside_from l i zero a ds1 ts1 ss1 (Done i1) = refl
+  beside_from l i (suc k) a ds1 ts1 ss1 (Done i1) = refl
+  beside_from l i zero a ds1 ts1 ss1 (And i1 d t s ds ts ss is rest) = taken_same l (suc i) a ds ts ss rest
+  beside_from l i (suc k) a ds1 ts1 ss1 (And i1 d t s ds ts ss is rest) =
+      or_assoc (devices.takes_up a d) (devices.is_taken a (take k ds)) (devices.is_taken a (drop (suc k) ds))
+      ∙ (λ x. up x || beside_from l (suc i) k a ds ts ss rest x)
+    where
+      up : devices.takes_up a d ≡ line.takes_up a s
+      up =
+          (λ x. (Rattle.std.specs.Prelude.◌==◌ (sym (ap (λ (c : _). c.address) (config_same t.begun l.bus.greatest d.controller s.controller is.controller)) x) a)
+          || line.is_reserved a (sym is.reserved x))
+
+  pub beside_same : (k a : ℕ) (l : InUse H) (n : Net H) → IsNetOf l n
+      → devices.is_taken_beside k a l.bus.devices.entries ≡ line.is_taken_beside k a n.sites
+  beside_same k a l n h =
+      let next : k + 1 ≡ suc k = omega arith in
+      ap (λ m. devices.is_taken a (take k l.bus.devices.entries) || devices.is_taken a (drop m l.bus.devices.entries)) next
+      ∙ beside_from l 0 k a l.bus.devices.entries l.stations n.sites h.sites
+
+  -- ---- no other device is there
+
+  pub no_other : (k address : ℕ) (l : InUse H) (n : Net H) → IsNetOf l n → IsNoOthers k address l → HasNoOther k address n
+  no_other k address l n h none j s other at may = by_found (found (Sites l) j l.bus.devices.entries l.stations n.sites h.sites)
+    where
+      by_found : FoundAt (Sites l) j j l.bus.devices.entries l.stations n.sites → ⊥
+      by_found (Nobody a b c) = absurd (let e = sym c ∙ at in cc)
+      by_found (Somebody d t s1 a b c has) = none j other (by_may may)
+        where
+          is : Sites l j d t s
+          is = subst (λ u. Sites l j d t u) (some_same s1 s (sym c ∙ at)) has
+
+          by_may : addresses.MayComeTo address j s → MayBeAt address j l
+          by_may (addresses.IsThere there) =
+              let mine = subst (λ u. Sites l j d t u) (some_same s1 s (sym c ∙ at)) has in
+              IsThere t b (sym (ap (λ (r : _). r.config.address) mine.reader) ∙ there)
+          by_may (addresses.IsAsked asked) =
+              let mine = subst (λ u. Sites l j d t u) (some_same s1 s (sym c ∙ at)) has in
+              IsAsked d a (subst (Somewhere (Sets address))
+              (λ i. asked_same t.begun l.bus.greatest d.controller s.controller mine.controller i ++ waiting_same t.begun l.bus.greatest d.controller s.controller mine.controller i) asked)
+          by_may (addresses.IsSaid said) =
+              let mine = subst (λ u. Sites l j d t u) (some_same s1 s (sym c ∙ at)) has in
+              IsSaid t b (subst (Somewhere (λ (q : ℕ × Packet). (q.0 ≡ j) × addresses.SetsReader address q.1)) mine.coming said)
+
+  module _ (answer_of : H → Command → Answer) (after : H → Command → H) where
+    -- ---- a session is to begin
+
+    pub beginning : (entry now : ℕ) (l : InUse H) (n : Net H) → IsNetOf l n → Refines answer_of after n (record l {
+      bus = changed_unless (begin_refusal_at entry l.bus) l.bus (after_begin_at entry now l.bus);
+      stations = changed_unless (begin_refusal_at entry l.bus) l.stations (change_at entry (is_to_begin (max l.bus.greatest now)) l.stations);
+    })
+    beginning entry now l n h = by_fault (begin_refusal_at entry l.bus) refl
+      where
+        at : ℕ
+        at = max l.bus.greatest now
+
+        by_fault : (f : Option BusFault) → begin_refusal_at entry l.bus ≡ f → Refines answer_of after n (record l {
+          bus = changed_unless f l.bus (after_begin_at entry now l.bus);
+          stations = changed_unless f l.stations (change_at entry (is_to_begin (max l.bus.greatest now)) l.stations);
+        })
+        by_fault (Some fault) is = by_none answer_of after l n h
+        by_fault None is = by_found (found (Sites l) entry l.bus.devices.entries l.stations n.sites h.sites)
+          where
+            Goal : Type 0
+            Goal = Refines answer_of after n (record l { bus = after_begin_at entry now l.bus; stations = change_at entry (is_to_begin (max l.bus.greatest now)) l.stations })
+
+            by_found : FoundAt (Sites l) entry entry l.bus.devices.entries l.stations n.sites → Refines answer_of after n (record l {
+              bus = after_begin_at entry now l.bus;
+              stations = change_at entry (is_to_begin (max l.bus.greatest now)) l.stations;
+            })
+            by_found (Nobody a b c) = absurd (let e = sym (ap bus.begin_refusal_of a) ∙ is in cc)
+            by_found (Somebody d t s a b c has) =
+                let moment = max l.bus.greatest now in
+                let l1 = record l { bus = seen now l.bus } in
+                let h1 = at_seen now l n h in
+                let shut : d.controller.session.state ≡ Closed =
+                closed_of d.controller.session.state (some_fault (begin_refusal d.controller) (sym (ap bus.begin_refusal_of a) ∙ is)) in
+                let begun : t.begun ≡ None = not_begun t.begun l.bus.greatest d.controller s.controller has.controller shut in
+                let control : IsSame l.bus.greatest d.controller s.controller = subst (λ o. Controls o l.bus.greatest d.controller s.controller) begun has.controller in
+                let e : Device = device_begins moment d in
+                let u : Station H = is_to_begin moment t in
+                subst (Refines answer_of after n) (sym (changes_one entry (device_begins moment) (is_to_begin moment) l1 d t a b))
+                (by_none answer_of after (record l1 {
+                  bus = record l1.bus { devices = record l1.bus.devices { entries = slice_set l.bus.devices.entries entry e } };
+                  stations = changed entry u l.stations;
+                }) n (record {
+                  sites = subst (λ ss. Match (Sites l1) 0 (slice_set l.bus.devices.entries entry e) (changed entry u l.stations) ss) (changed_same entry s n.sites c)
+                      (set (Sites l1) entry e u s l.bus.devices.entries l.stations n.sites h1.sites (record {
+                        controller = is_to_open l.bus.greatest moment d.controller s.controller (omega arith) shut control;
+                        reserved = has.reserved;
+                        reader = has.reader;
+                        coming = has.coming;
+                        account = has.account;
+                        earlier = has.earlier;
+                        place = has.place;
+                        stored = has.stored;
+                      }));
+                  to_panel = h.to_panel;
+                  place = h.place;
+                  openings = h.openings;
+                  said = h.said;
+                }))
+
+    -- ---- a command
+
+    or_left : (a b : Bool) → a || b ≡ false → (a ≡ false) × (b ≡ false)
+    or_left true b is = absurd cc
+    or_left false b is = (refl, is)
+
+    refused_same : (o : Option Communication) (k : ℕ) (d : Device) (t : Station H) (s : Site H) (l : InUse H) (n : Net H) → IsNetOf l n → Sites l k d t s
+        → line.is_comset_refused k o s n.sites ≡ bus.is_comset_refused o k d l.bus
+    refused_same None k d t s l n h is = refl
+    refused_same (Some asked) k d t s l n h is =
+        (λ i. sym (beside_same k asked.address l n h) i || is_some (is.reserved i))
+
+    reserves_same : (o : Option Communication) (r : Option ℕ) → line.asked_for o r ≡ reserved_for o r
+    reserves_same None r = refl
+    reserves_same (Some asked) r = refl
+
+    unrefused : (x : Bool) (o : Option ControllerFault) → cond x (Some AddressTaken) (option_map bus_fault o) ≡ None → (x ≡ false) × (o ≡ None)
+    unrefused true o is = absurd cc
+    unrefused false o is = (refl, some_fault o is)
+
+    refusal_same : (command : Command) (o : Option ℕ) (top : ℕ) (m c : Machine) → Controls o top m c → submit_refusal command c ≡ submit_refusal command m
+    refusal_same command None top m c is =
+        submit_alike command m c (ap (λ (x : Machine). x.waiting) is.same) (ap (λ (x : Machine). x.capacity) is.same)
+    refusal_same command (Some began) top m c is =
+        submit_alike command m c (ap (λ (x : Machine). x.waiting) is.same) (ap (λ (x : Machine). x.capacity) is.same)
+
+    pub submitting : (k : ℕ) (command : Command) (l : InUse H) (n : Net H) → IsNetOf l n → CommandFits command
+        → (submit_refusal_at k command l.bus ≡ None → (asked : Communication) → comset_of command ≡ Some asked → IsNoOthers k asked.address l)
+        → Refines answer_of after n (record l {
+          bus = changed_unless (submit_refusal_at k command l.bus) l.bus (after_submit_at k command l.bus);
+          stations = changed_unless (submit_refusal_at k command l.bus) l.stations (change_at k (issues command) l.stations);
+        })
+    submitting k command l n h fits addresses = by_fault (submit_refusal_at k command l.bus) refl
+      where
+        by_found : submit_refusal_at k command l.bus ≡ None → FoundAt (Sites l) k k l.bus.devices.entries l.stations n.sites
+            → Refines answer_of after n (record l { bus = after_submit_at k command l.bus; stations = change_at k (issues command) l.stations })
+        by_found is (Nobody a b c) = absurd (let e = sym (ap (λ o. bus.submit_refusal_of k command o l.bus) a) ∙ is in cc)
+        by_found is (Somebody d t s a b c has) =
+            let taken = bus.is_comset_refused (comset_of command) k d l.bus in
+            let accepted = unrefused taken (submit_refusal command d.controller) (sym (ap (λ o. bus.submit_refusal_of k command o l.bus) a) ∙ is) in
+            let control = has.controller in
+            let same : submit_refusal command s.controller ≡ None = refusal_same command t.begun l.bus.greatest d.controller s.controller control ∙ accepted.1 in
+            let s1 : Site H = record s {
+              controller = controllers.after_submit command s.controller;
+              reserved = line.asked_for (comset_of command) s.reserved;
+              account = record s.account { issued = s.account.issued ++ command ∷ [] };
+            } in
+            let next : after_net answer_of after (Submit k command) n ≡ record n { sites = changed k s1 n.sites } =
+            ap (λ o. line.change_unless (λ u. line.is_comset_refused k (comset_of command) u n.sites) k o (line.submits answer_of after command) n) c
+            ∙ ap (λ x. cond x n (record n { sites = changed k (line.submits answer_of after command s) n.sites }))
+            (refused_same (comset_of command) k d t s l n h has ∙ accepted.0)
+            ∙ ap (λ f. record n {
+              sites = changed k (line.keeping (line.reserved_unless f (line.asked_for (comset_of command) s.reserved) s.reserved)
+                  (line.left_by s (link.submits f command (line.link_of s [] [])))) n.sites;
+            }) same in
+            let e : Device = bus.device_submits command d in
+            let u : Station H = issues command t in
+            subst (Refines answer_of after n) (sym (changes_one k (bus.device_submits command) (issues command) l d t a b))
+            (by_move answer_of after (Submit k command) (record l {
+              bus = record l.bus { devices = record l.bus.devices { entries = slice_set l.bus.devices.entries k e } };
+              stations = changed k u l.stations;
+            }) n (fits, λ s2 asked at2 ok moves. no_other k asked.address l n h (addresses is asked moves))
+            (subst (IsNetOf (record l {
+              bus = record l.bus { devices = record l.bus.devices { entries = slice_set l.bus.devices.entries k e } };
+              stations = changed k u l.stations;
+            })) (sym next) (record {
+              sites = set (Sites l) k e u s1 l.bus.devices.entries l.stations n.sites h.sites (record {
+                controller = submitted_same t.begun l.bus.greatest command d.controller s.controller control;
+                reserved = ap (line.asked_for (comset_of command)) has.reserved ∙ reserves_same (comset_of command) d.reserved;
+                reader = has.reader;
+                coming = has.coming;
+                account = ap (λ (x : link.Account). record x { issued = x.issued ++ command ∷ [] }) has.account;
+                earlier = has.earlier;
+                place = has.place;
+                stored = has.stored;
+              });
+              to_panel = h.to_panel;
+              place = h.place;
+              openings = h.openings;
+              said = h.said;
+            })))
+
+        by_fault : (f : Option BusFault) → submit_refusal_at k command l.bus ≡ f → Refines answer_of after n (record l {
+          bus = changed_unless f l.bus (after_submit_at k command l.bus);
+          stations = changed_unless f l.stations (change_at k (issues command) l.stations);
+        })
+        by_fault (Some fault) is = by_none answer_of after l n h
+        by_fault None is = by_found is (found (Sites l) k l.bus.devices.entries l.stations n.sites h.sites)
+
+    -- ---- a command is taken back
+
+    frees_same : (o : Option Command) (r : Option ℕ) → line.freed_without o r ≡ bus.reserved_without o r
+    frees_same None r = refl
+    frees_same (Some command) r = refl
+
+    pub withdrawing : (k : ℕ) (l : InUse H) (n : Net H) → IsNetOf l n → Refines answer_of after n (record l {
+      bus = bus.after_withdraw_at k l.bus;
+      stations = change_at k (takes_back (withdrawn (bus.withdrawal_at k l.bus))) l.stations;
+    })
+    withdrawing k l n h = by_found (found (Sites l) k l.bus.devices.entries l.stations n.sites h.sites)
+      where
+        to : Option Device → InUse H
+        to o = record l { bus = changes_device k bus.device_withdraws l.bus; stations = change_at k (takes_back (withdrawn (bus.withdrawal_of o))) l.stations }
+
+        by_begun : (d : Device) (t : Station H) (s : Site H) → slice_get l.bus.devices.entries k ≡ Some d → site_at k l.stations ≡ Some t
+            → site_at k n.sites ≡ Some s → Sites l k d t s → (o : Option ℕ) → t.begun ≡ o → Refines answer_of after n (record l {
+              bus = record l.bus { devices = record l.bus.devices { entries = slice_set l.bus.devices.entries k (bus.device_withdraws d) } };
+              stations = changed k (takes_back (option_to_list (bus.withdrawn_of d)) t) l.stations;
+            })
+        by_begun d t s a b c has None begun =
+            let control : IsSame l.bus.greatest d.controller s.controller = subst (λ o. Controls o l.bus.greatest d.controller s.controller) begun has.controller in
+            let e : Device = bus.device_withdraws d in
+            let u : Station H = takes_back (option_to_list (bus.withdrawn_of d)) t in
+            let same : controllers.withdrawn_in s.controller.session.state s.controller.waiting ≡ bus.withdrawn_of d =
+            ap (λ (x : Machine). controllers.withdrawn_in x.session.state x.waiting) control.same in
+            by_move answer_of after (Withdraw k) (record l {
+              bus = record l.bus { devices = record l.bus.devices { entries = slice_set l.bus.devices.entries k e } };
+              stations = changed k u l.stations;
+            }) n tt
+            (subst (IsNetOf (record l {
+              bus = record l.bus { devices = record l.bus.devices { entries = slice_set l.bus.devices.entries k e } };
+              stations = changed k u l.stations;
+            })) (sym (ap (λ o. line.change_at k o (line.withdraws answer_of after) n) c)) (record {
+              sites = set (Sites l) k e u (line.withdraws answer_of after s) l.bus.devices.entries l.stations n.sites h.sites (record {
+                controller = subst (λ o. Controls o l.bus.greatest e.controller (line.withdraws answer_of after s).controller) (sym begun)
+                    (withdrawn_same l.bus.greatest d.controller s.controller control);
+                reserved = (λ i. line.freed_without (same i) (has.reserved i)) ∙ frees_same (bus.withdrawn_of d) d.reserved;
+                reader = has.reader;
+                coming = has.coming;
+                account = (λ i. record (has.account i) { removed = (has.account i).removed ++ map link.Withdrawn (option_to_list (same i)) });
+                earlier = has.earlier;
+                place = has.place;
+                stored = has.stored;
+              });
+              to_panel = h.to_panel;
+              place = h.place;
+              openings = h.openings;
+              said = h.said;
+            }))
+        by_begun d t s a b c has (Some began) begun =
+            let control : IsToOpen began l.bus.greatest d.controller s.controller = subst (λ o. Controls o l.bus.greatest d.controller s.controller) begun has.controller in
+            let nothing : bus.withdrawn_of d ≡ None = ap (λ st. controllers.withdrawn_in st d.controller.waiting) control.quiet in
+            let kept : bus.device_withdraws d ≡ d =
+            (λ i. record {
+              controller = record d.controller { waiting = controllers.kept_in (control.quiet i) d.controller.waiting };
+              reserved = bus.reserved_without (nothing i) d.reserved;
+            }) in
+            let stays : takes_back (option_to_list (bus.withdrawn_of d)) t ≡ t =
+            (λ i. record t { account = record t.account { removed = t.account.removed ++ map link.Withdrawn (option_to_list (nothing i)) } })
+            ∙ ap (λ xs. record t { account = record t.account { removed = xs } }) (append-nil t.account.removed) in
+            subst (λ x. Refines answer_of after n (record l {
+              bus = record l.bus { devices = record l.bus.devices { entries = x } };
+              stations = changed k (takes_back (option_to_list (bus.withdrawn_of d)) t) l.stations;
+            })) (sym (ap (slice_set l.bus.devices.entries k) kept ∙ set_same k d l.bus.devices.entries a))
+            (subst (λ x. Refines answer_of after n (record l { stations = x })) (sym (ap (λ x. changed k x l.stations) stays ∙ changed_same k t l.stations b))
+            (by_none answer_of after l n h))
+
+        by_found : FoundAt (Sites l) k k l.bus.devices.entries l.stations n.sites → Refines answer_of after n (record l {
+          bus = bus.after_withdraw_at k l.bus;
+          stations = change_at k (takes_back (withdrawn (bus.withdrawal_at k l.bus))) l.stations;
+        })
+        by_found (Nobody a b c) =
+            subst (λ x. Refines answer_of after n x)
+            (λ i. record l {
+              bus = Rattle.std.specs.Option.option_map_or (λ (e : Device). record l.bus {
+                devices = record l.bus.devices { entries = slice_set l.bus.devices.entries k (bus.device_withdraws e) };
+              }) (sym a i) l.bus;
+              stations = changes_at k (takes_back (withdrawn (bus.withdrawal_at k l.bus))) (sym b i) l.stations;
+            }) (by_none answer_of after l n h)
+        by_found (Somebody d t s a b c has) =
+            subst (λ o. Refines answer_of after n (record l {
+              bus = bus.after_withdraw_at k l.bus;
+              stations = change_at k (takes_back (withdrawn (bus.withdrawal_of o))) l.stations;
+            })) (sym a)
+            (subst (Refines answer_of after n) (sym (changes_one k bus.device_withdraws (takes_back (option_to_list (bus.withdrawn_of d))) l d t a b))
+            (by_begun d t s a b c has t.begun refl))
+
+    -- ---- another address
+
+    or_taken_none : (o : Option ControllerFault) (x : Bool) → bus.or_taken (option_map bus_fault o) x ≡ None → (o ≡ None) × (x ≡ false)
+    or_taken_none None false is = (refl, refl)
+    or_taken_none None true is = absurd cc
+    or_taken_none (Some fault) x is = absurd cc
+
+    no_device_none : (o : Option ControllerFault) (address : ℕ) → controllers.or_no_device o address ≡ None → o ≡ None
+    no_device_none None address is = refl
+    no_device_none (Some fault) address is = absurd cc
+
+    pub retargeting : (k address : ℕ) (l : InUse H) (n : Net H) → IsNetOf l n
+        → (bus.retarget_refusal_at k address l.bus ≡ None → IsNoOthers k address l)
+        → Refines answer_of after n (record l { bus = changed_unless (bus.retarget_refusal_at k address l.bus) l.bus (bus.after_retarget_at k address l.bus) })
+    retargeting k address l n h free = by_fault (bus.retarget_refusal_at k address l.bus) refl
+      where
+        by_found : bus.retarget_refusal_at k address l.bus ≡ None → FoundAt (Sites l) k k l.bus.devices.entries l.stations n.sites
+            → Refines answer_of after n (record l { bus = bus.after_retarget_at k address l.bus })
+        by_found is (Nobody a b c) = absurd (let e = sym (ap (λ o. bus.retarget_refusal_of k address o l.bus) a) ∙ is in cc)
+        by_found is (Somebody d t s a b c has) =
+            let taken = devices.is_taken_beside k address l.bus.devices.entries || has_comset d.controller.waiting in
+            let accepted = or_taken_none (retarget_refusal address d.controller) taken (sym (ap (λ o. bus.retarget_refusal_of k address o l.bus) a) ∙ is) in
+            let shut : d.controller.session.state ≡ Closed =
+            closed_of d.controller.session.state (no_device_none (controllers.refused_unless_closed d.controller.session.state) address accepted.0) in
+            let begun : t.begun ≡ None = not_begun t.begun l.bus.greatest d.controller s.controller has.controller shut in
+            let control : IsSame l.bus.greatest d.controller s.controller = subst (λ o. Controls o l.bus.greatest d.controller s.controller) begun has.controller in
+            let same : retarget_refusal address s.controller ≡ None = ap (retarget_refusal address) control.same ∙ accepted.0 in
+            let taken_too : line.is_retarget_refused k address s n.sites ≡ false =
+            (λ i. sym (beside_same k address l n h) i || has_comset (ap (λ (x : Machine). x.waiting) control.same i)) ∙ accepted.1 in
+            let s1 : Site H = record s { controller = controllers.after_retarget address s.controller; reserved = None } in
+            let next : after_net answer_of after (Retarget k address) n ≡ record n { sites = changed k s1 n.sites } =
+            ap (λ o. line.change_unless (λ u. line.is_retarget_refused k address u n.sites) k o (line.retargets answer_of after address) n) c
+            ∙ ap (λ x. cond x n (record n { sites = changed k (line.retargets answer_of after address s) n.sites })) taken_too
+            ∙ ap (λ f. record n {
+              sites = changed k (line.keeping (line.reserved_unless f None s.reserved) (line.left_by s (link.retargets f address (line.link_of s [] [])))) n.sites;
+            }) same in
+            let e : Device = bus.device_retargets address d in
+            let l1 : InUse H = record l { bus = record l.bus { devices = record l.bus.devices { entries = slice_set l.bus.devices.entries k e } } } in
+            subst (λ (o : Option Device). Refines answer_of after n (record l {
+              bus = Rattle.std.specs.Option.option_map_or (λ (f : Device). record l.bus {
+                devices = record l.bus.devices { entries = slice_set l.bus.devices.entries k (bus.device_retargets address f) };
+              }) o l.bus;
+            })) (sym a)
+            (by_move answer_of after (Retarget k address) l1 n (λ s2 at2 ok. no_other k address l n h (free is))
+            (subst (IsNetOf l1) (sym next) (record {
+              sites = subst (λ ts. Match (Sites l1) 0 (slice_set l.bus.devices.entries k e) ts (changed k s1 n.sites)) (changed_same k t l.stations b)
+                  (set (Sites l) k e t s1 l.bus.devices.entries l.stations n.sites h.sites (record {
+                    controller = subst (λ o. Controls o l.bus.greatest e.controller s1.controller) (sym begun)
+                        (retargeted_same l.bus.greatest address d.controller s.controller control);
+                    reserved = refl;
+                    reader = has.reader;
+                    coming = has.coming;
+                    account = has.account;
+                    earlier = has.earlier;
+                    place = has.place;
+                    stored = has.stored;
+                  }));
+              to_panel = h.to_panel;
+              place = h.place;
+              openings = h.openings;
+              said = h.said;
+            })))
+
+        by_fault : (f : Option BusFault) → bus.retarget_refusal_at k address l.bus ≡ f
+            → Refines answer_of after n (record l { bus = changed_unless f l.bus (bus.after_retarget_at k address l.bus) })
+        by_fault (Some fault) is = by_none answer_of after l n h
+        by_fault None is = by_found is (found (Sites l) k l.bus.devices.entries l.stations n.sites h.sites)

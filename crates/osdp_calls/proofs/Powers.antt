@@ -1,0 +1,195 @@
+-- Restarts: a device made anew, and the panel made anew with its devices at their addresses.
+use Rattle.std.proofs.Common.{◌≡◌, ◌≢◌, ◌≤◌, ◌<◌, ◌⊎◌, ℕ, zero, suc, ◌+◌, List, [], ◌∷◌, ◌++◌, length, map, All, Option, Some, None, refl, sym, subst, ap, ◌∙◌, arith, inl, inr}
+use Rattle.std.specs.Prelude.{option_to_list}
+use Rattle.osdp_frame.specs.Packet.{Packet}
+use Rattle.osdp_msg.specs.declared.command.Command.{Command}
+use Rattle.osdp_controller.specs.Machine.{AreSettings, Machine, new_machine}
+use Rattle.osdp_controller.specs.declared.config.ControllerConfig.{ControllerConfig}
+use Rattle.osdp_bus.specs.Machine.{new_device}
+use Rattle.osdp_bus.specs.Settings.{IsBusConfig, controller_config}
+use Rattle.osdp_bus.specs.declared.config.BusConfig.{BusConfig}
+use Rattle.osdp_bus.specs.declared.device.Device.{Device}
+use Rattle.osdp_link_laws.specs.Link as link
+use Rattle.osdp_link_laws.proofs.Lines.{each_of}
+use Rattle.osdp_reader.specs.State.{ReaderState, new_reader}
+use Rattle.osdp_reader.specs.declared.handler.Answer.{Answer}
+use Rattle.osdp_shared_line.specs.Addresses as addresses
+use Rattle.osdp_shared_line.specs.Addresses.{IsNameOf, Somewhere}
+use Rattle.osdp_shared_line.specs.Line as line
+use Rattle.osdp_shared_line.specs.Line.{Net, RestartPanel, RestartReader, Site, address_of, after_net, all_restart, restarts, site_at}
+use Rattle.osdp_shared_line.proofs.Sites.{some_same}
+use Rattle.osdp_calls.specs.Calls.{all_forget, made_anew, on_station, panel_made_anew}
+use Rattle.osdp_calls.specs.Lines.{InUse, Station}
+use Rattle.osdp_calls.specs.Premises.{IsFreeFor, PanelIsApart}
+use Rattle.osdp_calls.proofs.Controllers.{config_same, equal_same}
+use Rattle.osdp_calls.proofs.Matching.{And, Done, FoundAt, Match, Nobody, Somebody, found}
+use Rattle.osdp_calls.proofs.Nexts.{each_at}
+use Rattle.osdp_calls.proofs.Orders.{no_other}
+use Rattle.osdp_calls.proofs.Same.{Controls, IsNetOf, IsSiteOf}
+use Rattle.osdp_calls.proofs.Stations.{Refines, Sites, both_change, by_move}
+
+-- the settings of the controllers of a bus with these addresses
+abbrev pub address_at : ℕ → List ℕ → ℕ
+address_at k [] = 0
+address_at zero (a ∷ xs) = a
+address_at (suc k) (a ∷ xs) = address_at k xs
+
+abbrev pub settings_of : BusConfig → List ℕ → ℕ → ControllerConfig × ℕ
+settings_of config xs k = (controller_config (address_at k xs) config, config.capacity)
+
+pub there_is : (k : ℕ) (xs : List ℕ) → k < length xs → site_at k xs ≡ Some (address_at k xs)
+there_is k [] lt = absurd (omega (arith, lt))
+there_is zero (a ∷ xs) lt = refl
+there_is (suc k) (a ∷ xs) lt = there_is k xs (omega (arith, lt))
+
+pub within : {A : Type 0} (k : ℕ) (x : A) (xs : List A) → site_at k xs ≡ Some x → k < length xs
+within k x [] is = absurd cc
+within zero x (y ∷ xs) is = omega arith
+within (suc k) x (y ∷ xs) is = let rest = within k x xs is in omega (arith, rest)
+
+pub are_settings : (config : BusConfig) (a : ℕ) → IsBusConfig config → a < 127 → AreSettings (controller_config a config) config.capacity
+are_settings config a is lt = record {
+  config_in_range = record {
+    address = lt;
+    reply_wait = is.controllers.config_in_range.reply_wait;
+    poll_interval = is.controllers.config_in_range.poll_interval;
+    busy_wait = is.controllers.config_in_range.busy_wait;
+    quiet_wait = is.controllers.config_in_range.quiet_wait;
+    sends = is.controllers.config_in_range.sends;
+    busy_limit = is.controllers.config_in_range.busy_limit;
+  };
+  room = is.controllers.room;
+  limit = is.controllers.limit;
+}
+
+outstanding_same : (o : Option ℕ) (top : ℕ) (m c : Machine) → Controls o top m c → link.outstanding_command c.session.state ≡ link.outstanding_command m.session.state
+outstanding_same None top m c is = ap (λ (x : Machine). link.outstanding_command x.session.state) is.same
+outstanding_same (Some began) top m c is = ap (λ (x : Machine). link.outstanding_command x.session.state) is.same ∙ sym (ap link.outstanding_command is.quiet)
+
+waiting_too : (o : Option ℕ) (top : ℕ) (m c : Machine) → Controls o top m c → c.waiting ≡ m.waiting
+waiting_too None top m c is = ap (λ (d : Machine). d.waiting) is.same
+waiting_too (Some began) top m c is = ap (λ (d : Machine). d.waiting) is.same
+
+module _ {H : Type 0} where
+  -- how many sites there are
+  pub as_many : (P : ℕ → Device → Station H → Site H → Type 0) (i : ℕ) (ds : List Device) (ts : List (Station H)) (ss : List (Site H))
+      → Match P i ds ts ss → length ss ≡ length ts
+  as_many P i ds1 ts1 ss1 (Done i1) = refl
+  as_many P i ds1 ts1 ss1 (And i1 d t s ds ts ss is rest) = let more = as_many P (suc i) ds ts ss rest in omega (arith, more)
+
+  module _ (answer_of : H → Command → Answer) (after : H → Command → H) where
+    -- ---- a device
+
+    pub device_anew : (k address : ℕ) (handler : H) (room gap : ℕ) (l : InUse H) (n : Net H) → IsNetOf l n
+        → ((t : Station H) → site_at k l.stations ≡ Some t → (t.reader.config.address ≡ address) ⊎ IsFreeFor k address t l)
+        → (address < 127) × (1 ≤ room) × (room ≤ 1024) → Refines answer_of after n (on_station k (made_anew address handler room gap) l)
+    device_anew k address handler room gap l n h free fits =
+        by_move answer_of after (RestartReader k address handler room) (on_station k (made_anew address handler room gap) l) n
+        (λ s at. (fits, by_found s at (found (Sites l) k l.bus.devices.entries l.stations n.sites h.sites)))
+        (both_change k (made_anew address handler room gap) (line.calls answer_of after (link.RestartReader address handler room)) l n h (λ d t s is. record {
+          controller = is.controller;
+          reserved = is.reserved;
+          reader = ap (λ (r : ReaderState H). new_reader (record r.config { address = address }) handler room) is.reader;
+          coming = is.coming;
+          account = ap link.reader_restarted is.account;
+          earlier = is.earlier;
+          place = is.place;
+          stored = tt;
+        }))
+      where
+        by_found : (s : Site H) → site_at k n.sites ≡ Some s → FoundAt (Sites l) k k l.bus.devices.entries l.stations n.sites
+            → (s.reader.config.address ≡ address) ⊎ addresses.IsFreeFor k address s n
+        by_found s at (Nobody a b c) = absurd (let e = sym c ∙ at in cc)
+        by_found s at (Somebody d t s1 a b c has) =
+            let is : Sites l k d t s = subst (λ u. Sites l k d t u) (some_same s1 s (sym c ∙ at)) has in
+            elim (free t b) [
+              | inl here ↦ inl (ap (λ (r : ReaderState H). r.config.address) is.reader ∙ here)
+              | inr frees ↦ inr (record {
+                others = λ j u other there name. by_name frees j u other there (found (Sites l) j l.bus.devices.entries l.stations n.sites h.sites) name;
+                coming = subst (λ qs. All (λ (q : ℕ × Packet). q.0 ≢ k → q.1.address ≢ address) qs) (sym is.coming) frees.said;
+              })
+            ]
+          where
+            by_name : {t : Station H} → IsFreeFor k address t l → (j : ℕ) (u : Site H) → j ≢ k → site_at j n.sites ≡ Some u
+                → FoundAt (Sites l) j j l.bus.devices.entries l.stations n.sites → IsNameOf address j u → ⊥
+            by_name frees j u other there (Nobody a b c) name = absurd (let e = sym c ∙ there in cc)
+            by_name frees j u other there (Somebody d1 t1 s2 a b c has) (inl is) =
+                frees.entries j d1 other a (sym (ap (λ (x : _). x.address) (config_same t1.begun l.bus.greatest d1.controller s2.controller has.controller))
+                ∙ ap address_of (some_same s2 u (sym c ∙ there)) ∙ is)
+            by_name frees j u other there (Somebody d1 t1 s2 a b c has) (inr may) = no_other k address l n h frees.devices j u other there may
+
+    -- ---- the panel
+
+    each_made : (config : BusConfig) (settings : ℕ → ControllerConfig × ℕ) (l : InUse H) (i : ℕ) (xs : List ℕ) (ds : List Device) (ts : List (Station H)) (ss : List (Site H))
+        → length xs ≡ length ts → ((k a : ℕ) → site_at k xs ≡ Some a → settings (i + k) ≡ (controller_config a config, config.capacity))
+        → Match (Sites l) i ds ts ss
+        → Match (IsSiteOf l.openings l.said 0) i (map (λ a. new_device a config) xs) (all_forget ds ts) (all_restart answer_of after i settings ss)
+    each_made config settings l i [] ds1 ts1 ss1 same set_so (Done i1) = Done i
+    each_made config settings l i (a ∷ xs) ds1 ts1 ss1 same set_so (Done i1) = absurd (omega (arith, same))
+    each_made config settings l i [] ds1 ts1 ss1 same set_so (And i1 d t s ds ts ss is rest) = absurd (omega (arith, same))
+    each_made config settings l i (a ∷ xs) ds1 ts1 ss1 same set_so (And i1 d t s ds ts ss is rest) =
+        let here : settings i ≡ (controller_config a config, config.capacity) =
+        ap settings (let e : i ≡ i + 0 = omega arith in e) ∙ set_so 0 a refl in
+        And i (new_device a config) (Rattle.osdp_calls.specs.Calls.forgets (Some d) t) (restarts answer_of after (settings i) s)
+        (map (λ b. new_device b config) xs) (all_forget ds ts) (all_restart answer_of after (suc i) settings ss)
+        (record {
+          controller = equal_same 0 (new_machine (controller_config a config) config.capacity) (new_machine (settings i).0 (settings i).1)
+              (λ x. new_machine (here x).0 (here x).1);
+          reserved = refl;
+          reader = is.reader;
+          coming = is.coming;
+          account = (λ x. record (is.account x) {
+            forgotten = (is.account x).forgotten ++ option_to_list (outstanding_same t.begun l.bus.greatest d.controller s.controller is.controller x);
+            removed = (is.account x).removed ++ map link.ThrownAway (waiting_too t.begun l.bus.greatest d.controller s.controller is.controller x);
+          });
+          earlier = is.earlier;
+          place = is.place;
+          stored = is.stored;
+        })
+        (each_made config settings l (suc i) xs ds ts ss (omega (arith, same))
+        (λ k b is2. ap settings (let e : suc i + k ≡ i + suc k = omega arith in e) ∙ set_so (suc k) b is2) rest)
+
+    set_at : (config : BusConfig) (ys xs : List ℕ) (k a : ℕ) → site_at k xs ≡ Some a → settings_of config xs (0 + k) ≡ (controller_config a config, config.capacity)
+    set_at config ys xs k a is =
+        ap (settings_of config xs) (let e : 0 + k ≡ k = omega arith in e)
+        ∙ ap (λ b. (controller_config b config, config.capacity)) (some_same (address_at k xs) a (sym (there_is k xs (within k a xs is)) ∙ is))
+
+    pub panel_anew : (config : BusConfig) (xs : List ℕ) (l : InUse H) (n : Net H) → IsNetOf l n → PanelIsApart xs l
+        → IsBusConfig config × All (λ a. a < 127) xs × (length xs ≡ length l.stations) → Refines answer_of after n (panel_made_anew config xs l)
+    panel_anew config xs l n h apart fits =
+        by_move answer_of after (RestartPanel (settings_of config xs)) (panel_made_anew config xs l) n
+        (λ k s at. (
+          are_settings config (address_at k xs) fits.0 (each_at (λ a. a < 127) k (address_at k xs) xs (each_of (λ a. a < 127) xs fits.1) (there_is k xs (count k s at))),
+          λ j t other there. by_name k j other (there_is k xs (count k s at)) t there (found (Sites l) j l.bus.devices.entries l.stations n.sites h.sites),
+        ))
+        (record {
+          sites = each_made config (settings_of config xs) l 0 xs l.bus.devices.entries l.stations n.sites fits.2 (set_at config [] xs) h.sites;
+          to_panel = h.to_panel;
+          place = h.place;
+          openings = h.openings;
+          said = h.said;
+        })
+      where
+        count : (k : ℕ) (s : Site H) → site_at k n.sites ≡ Some s → k < length xs
+        count k s at =
+            let less = within k s n.sites at in
+            let many = as_many (Sites l) 0 l.bus.devices.entries l.stations n.sites h.sites in
+            let same = fits.2 in
+            omega (arith, less, many, same)
+
+        by_name : (k j : ℕ) → j ≢ k → site_at k xs ≡ Some (address_at k xs) → (t : Site H) → site_at j n.sites ≡ Some t
+            → FoundAt (Sites l) j j l.bus.devices.entries l.stations n.sites → IsNameOf (address_at k xs) j (restarts answer_of after (settings_of config xs j) t) → ⊥
+        by_name k j other here t there (Nobody a b c) name = absurd (let e = sym c ∙ there in cc)
+        by_name k j other here t there (Somebody d t1 s2 a b c has) (inl is) =
+            let less = within j t n.sites there in
+            let many = as_many (Sites l) 0 l.bus.devices.entries l.stations n.sites h.sites in
+            let same = fits.2 in
+            apart.own j k (address_at j xs) (address_at k xs) other (there_is j xs (omega (arith, less, many, same))) here is
+        by_name k j other here t there (Somebody d t1 s2 a b c has) (inr (addresses.IsThere is)) =
+            apart.there j k (address_at k xs) t1 other here b
+            (sym (ap (λ (r : ReaderState H). r.config.address) (sym (ap (λ (s : Site H). s.reader) (some_same s2 t (sym c ∙ there))) ∙ has.reader)) ∙ is)
+        by_name k j other here t there (Somebody d t1 s2 a b c has) (inr (addresses.IsAsked none)) = absurd none
+        by_name k j other here t there (Somebody d t1 s2 a b c has) (inr (addresses.IsSaid is)) =
+            apart.said j k (address_at k xs) t1 other here b
+            (subst (Somewhere (λ (q : ℕ × Packet). (q.0 ≡ j) × addresses.SetsReader (address_at k xs) q.1))
+            (sym (ap (λ (s : Site H). s.coming) (some_same s2 t (sym c ∙ there))) ∙ has.coming) is)

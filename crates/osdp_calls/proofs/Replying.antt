@@ -1,0 +1,114 @@
+-- What readers say are replies, and a reader that stays silent stays as it is.
+use Rattle.std.proofs.Common.{◌≡◌, ℕ, Bool, true, false, cond, List, [], ◌∷◌, Option, Some, None, IfSome, Result, Ok, Err, refl, sym, ap}
+use Rattle.std.specs.Prelude.{◌==◌, ◌||◌, not}
+use Rattle.osdp_frame.specs.Packet.{Packet}
+use Rattle.osdp_frame.specs.Held.{Held, later}
+use Rattle.osdp_frame.specs.Reading.{RunItem, PacketItem, SkippedItem, RefusedItem}
+use Rattle.osdp_msg.specs.declared.command.Command.{Command}
+use Rattle.osdp_msg.specs.declared.fault.MsgFault.{MsgFault}
+use Rattle.osdp_device.specs.Saying.{speaks}
+use Rattle.osdp_device.specs.Telling.{told_by}
+use Rattle.osdp_reader.specs.Queue.{event_for, offering, released, withdrawn}
+use Rattle.osdp_reader.specs.State.{ReaderState}
+use Rattle.osdp_reader.specs.Table.{Outcome, answer_to, begun, command_in, event_or_answer, hears, is_for_another, kind_of, moved, new_address, outcome, taken}
+use Rattle.osdp_reader.specs.declared.handler.Answer.{Answer}
+use Rattle.osdp_reader.specs.declared.kind.Kind.{Kind}
+use Rattle.osdp_reader.specs.declared.kind.Kind.TheVariants as kind
+use Rattle.osdp_calls.specs.Calls.{first_answered, read_up_to}
+
+abbrev pub IsReply : Packet → Type 0
+IsReply p = p.reply ≡ true
+
+module _ {H : Type 0} where
+  abbrev pub StoresReply : ReaderState H → Type 0
+  StoresReply r = IfSome r.stored IsReply
+
+  pub record SaysReplies (o : Outcome H) : Type 0 where
+    pub said : IfSome o.reply IsReply
+    pub stored : StoresReply o.reader
+
+  moved_stores : (o : Option ℕ) (r : ReaderState H) → StoresReply r → StoresReply (moved o r)
+  moved_stores None r is = is
+  moved_stores (Some to) r is = by_test (to == r.config.address)
+    where
+      by_test : (b : Bool) → StoresReply (cond b r (record r { config = record r.config { address = to }; last = None; stored = None }))
+      by_test true = is
+      by_test false = tt
+
+  -- a packet of a device is for no reader
+  pub silent_to_replies : (r : ReaderState H) (p : Packet) → p.reply ≡ true → speaks (kind_of r p) ≡ false
+  silent_to_replies r p is = ap (λ b. speaks (by_first b)) is
+    where
+      by_first : Bool → Kind
+      by_first b = cond (b || not ((p.address == r.config.address) || (p.address == 127))) kind.Silent (cond p.block kind.Secured (cond (p.sequence == 0) (cond r.busy kind.Busy kind.Zero) (Rattle.osdp_reader.specs.Table.kind_by_number r.last p.sequence r.busy)))
+
+  module _ (answer_of : H → Command → Answer) (after : H → Command → H) where
+    begun_replies : (c : Result Command MsgFault) (r : ReaderState H) (p : Packet) → StoresReply r → SaysReplies (begun answer_of after c r p)
+    begun_replies (Err fault) r p is = record { said = refl; stored = is }
+    begun_replies (Ok c) r p is = record {
+      said = refl;
+      stored = moved_stores (new_address c)
+          (record r { last = Some 0; queue = withdrawn r.queue; handler = (answer_to answer_of after r.config r.handler c).handler }) is;
+    }
+
+    taken_replies : (c : Result Command MsgFault) (r : ReaderState H) (p : Packet) → StoresReply r → SaysReplies (taken answer_of after c r p)
+    taken_replies (Err fault) r p is = record { said = refl; stored = refl }
+    taken_replies (Ok c) r p is =
+        let queue = released r.queue in
+        let event = event_for c queue.events in
+        let a = event_or_answer answer_of after event r.config r.handler c in
+        record {
+          said = refl;
+          stored = moved_stores (new_address c) (record r {
+            last = Some p.sequence;
+            stored = Some (Rattle.osdp_reader.specs.Replies.reply_packet p p.sequence a.reply);
+            queue = offering event queue;
+            handler = a.handler;
+          }) refl;
+        }
+
+    says_replies : (k : Kind) (r : ReaderState H) (p : Packet) → StoresReply r → SaysReplies (outcome answer_of after k r p)
+    says_replies kind.Silent r p is = record { said = tt; stored = is }
+    says_replies kind.Secured r p is = record { said = refl; stored = is }
+    says_replies kind.Zero r p is = begun_replies (command_in p) r p is
+    says_replies kind.Repeat r p is = record { said = is; stored = is }
+    says_replies kind.Taken r p is = taken_replies (command_in p) r p is
+    says_replies kind.Busy r p is = record { said = refl; stored = is }
+    says_replies kind.Wrong r p is = record { said = refl; stored = is }
+
+    pub hears_replies : (r : ReaderState H) (p : Packet) → StoresReply r → SaysReplies (hears answer_of after r p)
+    hears_replies r p is = says_replies (kind_of r p) r p is
+
+    -- ---- the reader after a `next`
+
+    abbrev pub reader_with : Option Packet → ReaderState H → ReaderState H
+    reader_with None r = r
+    reader_with (Some p) r = (hears answer_of after r p).reader
+
+    told_reader : (parts : List RunItem) (r : ReaderState H) (held : Held)
+        → (told_by answer_of after parts r held).reader ≡ reader_with (first_answered r (read_up_to r parts)) r
+    told_reader [] r held = refl
+    told_reader (SkippedItem byte ∷ parts) r held = told_reader parts r (later held (SkippedItem byte))
+    told_reader (RefusedItem fault ∷ parts) r held = told_reader parts r (later held (RefusedItem fault))
+    told_reader (PacketItem p ∷ parts) r held = by_kind (kind_of r p) refl (told_reader parts r (later held (PacketItem p)))
+      where
+        Goal : Kind → Type 0
+        Goal k = (Rattle.osdp_device.specs.Telling.told_or answer_of after
+            (Rattle.osdp_device.specs.Saying.unless_silent k (Rattle.osdp_device.specs.Saying.said_to answer_of after r p))
+            (outcome answer_of after k r p).reader (later held (PacketItem p))
+            (told_by answer_of after parts (outcome answer_of after k r p).reader (later held (PacketItem p)))).reader
+            ≡ reader_with (cond (speaks k) (Some p) (first_answered r (cond (speaks k) [] (read_up_to r parts)))) r
+
+        by_kind : (k : Kind) → kind_of r p ≡ k
+            → (told_by answer_of after parts r (later held (PacketItem p))).reader ≡ reader_with (first_answered r (read_up_to r parts)) r → Goal k
+        by_kind kind.Silent is rest = rest
+        by_kind kind.Secured is rest = ap (λ k. (outcome answer_of after k r p).reader) (sym is)
+        by_kind kind.Zero is rest = ap (λ k. (outcome answer_of after k r p).reader) (sym is)
+        by_kind kind.Repeat is rest = ap (λ k. (outcome answer_of after k r p).reader) (sym is)
+        by_kind kind.Taken is rest = ap (λ k. (outcome answer_of after k r p).reader) (sym is)
+        by_kind kind.Busy is rest = ap (λ k. (outcome answer_of after k r p).reader) (sym is)
+        by_kind kind.Wrong is rest = ap (λ k. (outcome answer_of after k r p).reader) (sym is)
+
+    pub next_reader : (parts : List RunItem) (r : ReaderState H) (held : Held)
+        → (told_by answer_of after parts r held).reader ≡ reader_with (first_answered r (read_up_to r parts)) r
+    next_reader parts r held = told_reader parts r held

@@ -1,0 +1,163 @@
+-- Bytes, silences and the ends of runs: what a call of the panel reads, packet after packet.
+use Rattle.std.proofs.Common.{◌≡◌, ℕ, Bool, true, false, cond, List, [], ◌∷◌, ◌++◌, Some, refl, sym, subst, ap, ◌∙◌, arith}
+use Rattle.osdp_frame.specs.Items.{items, left_over, whole_packets}
+use Rattle.osdp_frame.specs.Packet.{Packet}
+use Rattle.osdp_frame.specs.Reading.{RunItem, PacketItem, SkippedItem, RefusedItem}
+use Rattle.osdp_msg.specs.declared.command.Command.{Command}
+use Rattle.osdp_bus.specs.Buses.{is_silent, seen}
+use Rattle.osdp_bus.specs.Hearing.{after_bytes, ends_run, ends_silent, hears_bytes, hears_item, hears_items}
+use Rattle.osdp_bus_laws.specs.Reports.{told_by_bytes, told_by_end, told_by_item, told_by_items, told_by_silence}
+use Rattle.osdp_link_laws.proofs.Stages.{Each}
+use Rattle.osdp_reader.specs.declared.handler.Answer.{Answer}
+use Rattle.osdp_shared_line.specs.Line.{Net, site_at}
+use Rattle.osdp_calls.specs.Calls.{all_hear, last_of, read_at_end, read_at_silence, read_of_bytes}
+use Rattle.osdp_calls.specs.Lines.{Burst, InUse, is_past_for_panel}
+use Rattle.osdp_calls.specs.Premises.{AreSaid}
+use Rattle.osdp_calls.proofs.Nexts.{place_within, then_refines}
+use Rattle.osdp_calls.proofs.Panel.{at_seen, hears_one, panel_on, reads_here, told_then}
+use Rattle.osdp_calls.proofs.Same.{IsNetOf}
+use Rattle.osdp_calls.proofs.Stations.{Refines, by_none}
+
+-- ---- places, one part after the other
+
+pub record Split (said : List Burst) (ps qs : List Packet) (places : List ℕ) (before : ℕ) : Type 0 where
+  pub front : List ℕ
+  pub back : List ℕ
+  pub parts : places ≡ front ++ back
+  pub first : AreSaid said ps front before
+  pub second : AreSaid said qs back (last_of front before)
+
+pub split : (said : List Burst) (ps qs : List Packet) (places : List ℕ) (before : ℕ) → AreSaid said (ps ++ qs) places before → Split said ps qs places before
+split said [] qs places before all = record { front = []; back = places; parts = refl; first = tt; second = all }
+split said (p ∷ ps) qs [] before all = absurd all
+split said (p ∷ ps) qs (i ∷ places) before all =
+    let rest = split said ps qs places i all.4 in
+    record {
+      front = i ∷ rest.front;
+      back = rest.back;
+      parts = ap (λ l. i ∷ l) rest.parts;
+      first = (all.0, all.1, all.2, all.3, rest.first);
+      second = rest.second;
+    }
+
+pub last_then : (xs ys : List ℕ) (before : ℕ) → last_of (xs ++ ys) before ≡ last_of ys (last_of xs before)
+last_then [] ys before = refl
+last_then (x ∷ xs) ys before = last_then xs ys x
+
+pub each_first : (Q : ℕ → Type 0) (xs ys : List ℕ) → Each Q (xs ++ ys) → Each Q xs
+each_first Q [] ys all = tt
+each_first Q (x ∷ xs) ys all = (all.0, each_first Q xs ys all.1)
+
+pub each_second : (Q : ℕ → Type 0) (xs ys : List ℕ) → Each Q (xs ++ ys) → Each Q ys
+each_second Q [] ys all = all
+each_second Q (x ∷ xs) ys all = each_second Q xs ys all.1
+
+module _ {H : Type 0} where
+  abbrev pub NotPast : InUse H → ℕ → Type 0
+  NotPast l i = (b : Burst) → site_at i l.said ≡ Some b → is_past_for_panel l.openings i b ≡ false
+
+  -- all of these items are heard
+  abbrev pub reads_items : List RunItem → List ℕ → InUse H → InUse H
+  reads_items parts places l = record l {
+    bus = record l.bus { devices = hears_items l.bus.greatest parts l.bus.devices };
+    stations = all_hear (told_by_items l.bus.greatest parts l.bus.devices) l.stations;
+    place = last_of places l.place;
+  }
+
+  module _ (answer_of : H → Command → Answer) (after : H → Command → H) where
+    pub panel_reads : (parts : List RunItem) (places : List ℕ) (l : InUse H) (n : Net H) → IsNetOf l n → AreSaid l.said (whole_packets parts) places l.place
+        → Each (NotPast l) places → Refines answer_of after n (reads_items parts places l)
+    panel_reads [] [] l n h all past = by_none answer_of after l n h
+    panel_reads [] (i ∷ places) l n h all past = absurd all
+    panel_reads (SkippedItem byte ∷ parts) places l n h all past = panel_reads parts places l n h all past
+    panel_reads (RefusedItem fault ∷ parts) places l n h all past = panel_reads parts places l n h all past
+    panel_reads (PacketItem p ∷ parts) [] l n h all past = absurd all
+    panel_reads (PacketItem p ∷ parts) (i ∷ places) l n h all past =
+        let inside = place_within i all.0 l.said all.1 in
+        let l1 = record l { place = i } in
+        let l2 = hears_one answer_of after p l1 in
+        let g = l.bus.greatest in
+        let ds = l.bus.devices in
+        let first = panel_on answer_of after i l n h all.3 (omega (arith, inside)) in
+        let second = then_refines answer_of after n l1 l2 first (λ m h1. reads_here answer_of after p all.0 l1 m h1 all.1 all.2 (past.0 all.0 all.1)) in
+        subst (λ ts. Refines answer_of after n (record l {
+          bus = record l.bus { devices = hears_items g parts (hears_item g (PacketItem p) ds) };
+          stations = ts;
+          place = last_of places i;
+        })) (sym (told_then (told_by_item g (PacketItem p) ds) (told_by_items g parts (hears_item g (PacketItem p) ds)) l.stations))
+        (then_refines answer_of after n l2 (reads_items parts places l2) second (λ m h2. panel_reads parts places l2 m h2 all.4 past.1))
+
+    -- what is held is nothing to the net
+    pub then_is : (l m : InUse H) (n : Net H) → Refines answer_of after n l → ((k : Net H) → IsNetOf l k → IsNetOf m k) → Refines answer_of after n m
+    then_is l m n r f = record { net = r.net; reached = r.reached; same = f r.net r.same }
+
+    holds_else : (held : List ℕ) (last : ℕ) (l : InUse H) (n : Net H) → IsNetOf l n → IsNetOf (record l { bus = record l.bus { held = held; last = last } }) n
+    holds_else held last l n h = record { sites = h.sites; to_panel = h.to_panel; place = h.place; openings = h.openings; said = h.said }
+
+    -- ---- the end of a run
+
+    abbrev pub at_end : List ℕ → InUse H → InUse H
+    at_end places l = record l { bus = ends_run l.bus; stations = all_hear (told_by_end l.bus) l.stations; place = last_of places l.place }
+
+    pub reads_end : (places : List ℕ) (l : InUse H) (n : Net H) → IsNetOf l n → AreSaid l.said (read_at_end l.bus) places l.place → Each (NotPast l) places
+        → Refines answer_of after n (at_end places l)
+    reads_end places l n h all past =
+        then_is (reads_items (items true l.bus.held) places l) (at_end places l) n (panel_reads (items true l.bus.held) places l n h all past)
+        (λ k h1. holds_else [] l.bus.last (reads_items (items true l.bus.held) places l) k h1)
+
+    abbrev pub at_silence : List ℕ → InUse H → InUse H
+    at_silence places l = record l { bus = ends_silent l.bus; stations = all_hear (told_by_silence l.bus) l.stations; place = last_of places l.place }
+
+    pub reads_silence : (places : List ℕ) (l : InUse H) (n : Net H) → IsNetOf l n → AreSaid l.said (read_at_silence l.bus) places l.place → Each (NotPast l) places
+        → Refines answer_of after n (at_silence places l)
+    reads_silence places l n h all past = by_test (is_silent l.bus) all
+      where
+        by_test : (x : Bool) → AreSaid l.said (cond x (read_at_end l.bus) []) places l.place
+            → Refines answer_of after n (record l {
+              bus = cond x (ends_run l.bus) l.bus;
+              stations = all_hear (cond x (told_by_end l.bus) []) l.stations;
+              place = last_of places l.place;
+            })
+        by_test true all = reads_end places l n h all past
+        by_test false all = nothing places all
+          where
+            nothing : (places : List ℕ) → AreSaid l.said [] places l.place → Refines answer_of after n (record l { place = last_of places l.place })
+            nothing [] all = by_none answer_of after l n h
+            nothing (i ∷ places) all = absurd all
+
+    -- ---- bytes
+
+    abbrev pub at_bytes : List ℕ → ℕ → List ℕ → InUse H → InUse H
+    at_bytes bytes now places l = record l {
+      bus = after_bytes bytes now l.bus;
+      stations = all_hear (told_by_bytes bytes (seen now l.bus)) l.stations;
+      place = last_of places l.place;
+    }
+
+    pub reads_bytes : (bytes : List ℕ) (now : ℕ) (places : List ℕ) (l : InUse H) (n : Net H) → IsNetOf l n
+        → AreSaid l.said (read_of_bytes bytes (seen now l.bus)) places l.place → Each (NotPast l) places → Refines answer_of after n (at_bytes bytes now places l)
+    reads_bytes [] now [] l n h all past = by_none answer_of after (record l { bus = seen now l.bus }) n (at_seen now l n h)
+    reads_bytes [] now (i ∷ places) l n h all past = absurd all
+    reads_bytes (byte ∷ bytes) now places l n h all past =
+        let l1 = record l { bus = seen now l.bus } in
+        let given = byte ∷ bytes in
+        let quiet = ends_silent l1.bus in
+        let parts = items false (quiet.held ++ given) in
+        let s = split l.said (read_at_silence l1.bus) (whole_packets parts) places l.place all in
+        let past_parts : Each (NotPast l) (s.front ++ s.back) = subst (Each (NotPast l)) s.parts past in
+        let l2 = at_silence s.front l1 in
+        let first = reads_silence s.front l1 n (at_seen now l n h) s.first (each_first (NotPast l) s.front s.back past_parts) in
+        let l3 = reads_items parts s.back l2 in
+        let second = then_refines answer_of after n l2 l3 first (λ m h2. panel_reads parts s.back l2 m h2 s.second (each_second (NotPast l) s.front s.back past_parts)) in
+        subst (λ i. Refines answer_of after n (record l {
+          bus = hears_bytes given quiet;
+          stations = all_hear (told_by_bytes given (seen now l.bus)) l.stations;
+          place = i;
+        })) (sym (last_then s.front s.back l.place) ∙ sym (ap (λ ps. last_of ps l.place) s.parts))
+        (subst (λ ts. Refines answer_of after n (record l {
+          bus = hears_bytes given quiet;
+          stations = ts;
+          place = last_of s.back (last_of s.front l.place);
+        })) (sym (told_then (told_by_silence l1.bus) (told_by_items quiet.greatest parts quiet.devices) l.stations))
+        (then_is l3 (record l3 { bus = record l3.bus { held = left_over (quiet.held ++ given); last = quiet.greatest } }) n second
+        (λ k h3. holds_else (left_over (quiet.held ++ given)) quiet.greatest l3 k h3)))

@@ -1,0 +1,405 @@
+-- A tick of one of the bus's controllers: what it says goes to every device. Where a session was to begin, it begins with that.
+use Rattle.std.proofs.Common.{◌≡◌, ◌≢◌, ℕ, zero, suc, ◌+◌, Bool, true, false, cond, List, [], ◌∷◌, ◌++◌, length, Option, Some, None, IfSome, refl, sym, subst, ap, ◌∙◌, arith, append-nil}
+use Rattle.std.specs.Prelude.{map, nat_le, nat_lt, option_to_list, slice_get, slice_set}
+use Rattle.osdp_frame.specs.Packet.{Packet, next_sequence}
+use Rattle.osdp_msg.specs.declared.command.Command.{Command}
+use Rattle.osdp_controller.specs.Machine.{Machine, after_begin, begin_refusal}
+use Rattle.osdp_controller.specs.Sessions as clocks
+use Rattle.osdp_controller.specs.Sessions.{frame_of}
+use Rattle.osdp_controller.specs.Ticking as ticking
+use Rattle.osdp_controller.specs.Ticking.{Ticked, ticks, ticks_in}
+use Rattle.osdp_controller.specs.declared.exchange.Exchange.TheVariants.{Opening as OpeningExchange, Polling}
+use Rattle.osdp_controller.specs.declared.session.Session.{Session}
+use Rattle.osdp_controller.specs.declared.state.State.{State}
+use Rattle.osdp_controller.specs.declared.state.State.TheVariants.{Closed, Quiet, Idle, Waiting, Pausing}
+use Rattle.osdp_bus.specs.Buses.{waiting_after}
+use Rattle.osdp_bus.specs.Devices.{reserved_after}
+use Rattle.osdp_bus.specs.Ticking.{ticks_at, ticks_with}
+use Rattle.osdp_bus.specs.declared.device.Device.{Device}
+use Rattle.osdp_bus_laws.specs.Reports.{told_at, told_by_device, told_by_ticking}
+use Rattle.osdp_link_laws.specs.Link as link
+use Rattle.osdp_link_laws.specs.Link.{after_report}
+use Rattle.osdp_link_laws.proofs.Lines.{both, each_all, each_append}
+use Rattle.osdp_link_laws.proofs.Reports.{tick_so}
+use Rattle.osdp_reader.specs.declared.handler.Answer.{Answer}
+use Rattle.osdp_shared_line.specs.Line as line
+use Rattle.osdp_shared_line.specs.Line.{Net, Reopen, Site, Tick, address_of, after_net, changed, is_told, site_at, tagged}
+use Rattle.osdp_shared_line.specs.Views.{IsQuiet}
+use Rattle.osdp_shared_line.proofs.Sites.{at_changed, some_same}
+use Rattle.osdp_calls.specs.Calls.{all_hear, begins_session, begins_with, begun_of, change_at, changes_at, panel_says, waiting_of}
+use Rattle.osdp_calls.specs.Lines.{InUse, Opening, Station}
+use Rattle.osdp_calls.proofs.Ahead.{device_quiet, from_panel, panel_quiet, panel_told_device, panel_told_panel}
+use Rattle.osdp_calls.proofs.Controllers.{equal_same, opened_ticks, saw, ticked_same, ticks_same}
+use Rattle.osdp_calls.proofs.Losing.{Reaches, changed_twice, one_move, then_reaches}
+use Rattle.osdp_calls.proofs.Matching.{FoundAt, Match, Nobody, Somebody, changed_same, found, matched_map, set}
+use Rattle.osdp_calls.proofs.Nexts.{behind_more, length_more, then_refines}
+use Rattle.osdp_calls.proofs.Opens.{opens}
+use Rattle.osdp_calls.proofs.Panel.{one_told}
+use Rattle.osdp_calls.proofs.Same.{Controls, IsNetOf, IsRightly, IsSame, IsSiteOf, IsToOpen}
+use Rattle.osdp_calls.proofs.Stations.{Refines, Sites, by_move, by_none}
+
+-- ---- what a controller sends are commands
+
+pub frames_so : (st : State) (s : Session) (waiting : List Command) → IfSome (ticks_in st s waiting).step.frame (λ p. p.reply ≡ false)
+frames_so Closed s waiting = tt
+frames_so (Quiet until) s waiting =
+    both (λ (t : Ticked). IfSome t.step.frame (λ p. p.reply ≡ false)) (nat_le until s.greatest) (ticking.begins OpeningExchange 0 s waiting) (ticking.stays s waiting) refl tt
+frames_so (Idle due) s (command ∷ rest) = refl
+frames_so (Idle due) s [] =
+    both (λ (t : Ticked). IfSome t.step.frame (λ p. p.reply ≡ false)) (nat_le due s.greatest) (ticking.begins Polling (next_sequence s.number) s []) (ticking.stays s []) refl tt
+frames_so (Waiting until sends o) s waiting =
+    both (λ (t : Ticked). IfSome t.step.frame (λ p. p.reply ≡ false)) (nat_le until s.greatest) (ticking.tries_again sends o s waiting) (ticking.stays s waiting)
+    (both (λ (t : Ticked). IfSome t.step.frame (λ p. p.reply ≡ false)) (nat_lt sends s.config.sends) (ticking.sends_frame (sends + 1) o s waiting) (ticking.gives_up o s waiting) refl tt) tt
+frames_so (Pausing until o) s waiting =
+    both (λ (t : Ticked). IfSome t.step.frame (λ p. p.reply ≡ false)) (nat_le until s.greatest) (ticking.sends_frame 1 o s waiting) (ticking.stays s waiting) refl tt
+
+pub got_set : {A : Type 0} (k : ℕ) (new old : A) (xs : List A) → slice_get xs k ≡ Some old → slice_get (slice_set xs k new) k ≡ Some new
+got_set k new old [] is = absurd cc
+got_set zero new old (x ∷ xs) is = refl
+got_set (suc k) new old (x ∷ xs) is = got_set k new old xs is
+
+module _ {H : Type 0} where
+  -- ---- what the panel says goes to every device
+
+  pub panel_said : (k : ℕ) (p : Packet) (l : InUse H) (n : Net H) → p.reply ≡ false → IsNetOf l n
+      → IsNetOf (record l { said = l.said ++ from_panel k p ∷ [] }) (record n { sites = map (is_told ((k, p) ∷ [])) n.sites })
+  panel_said k p l n command h = record {
+    sites = matched_map (Sites l) (IsSiteOf l.openings (l.said ++ from_panel k p ∷ []) l.bus.greatest) 0 (is_told ((k, p) ∷ [])) l.bus.devices.entries l.stations
+        n.sites (λ j d t s at. record {
+          controller = at.controller;
+          reserved = at.reserved;
+          reader = at.reader;
+          coming = ap (λ qs. qs ++ (k, p) ∷ []) at.coming ∙ sym (panel_told_device j t.place k p l.openings l.said at.place h.openings);
+          account = at.account;
+          earlier = at.earlier;
+          place = let le = at.place in let more = length_more l.said (from_panel k p) in omega (arith, le, more);
+          stored = at.stored;
+        }) h.sites;
+    to_panel = h.to_panel ∙ sym (panel_told_panel l.place k p l.openings l.said);
+    place = let le = h.place in let more = length_more l.said (from_panel k p) in omega (arith, le, more);
+    openings = behind_more (length l.said) (length (l.said ++ from_panel k p ∷ [])) l.openings (let more = length_more l.said (from_panel k p) in omega (arith, more)) h.openings;
+    said = each_append IsRightly l.said (from_panel k p ∷ []) h.said (command, tt);
+  }
+
+  pub nothing_said : (l : InUse H) (n : Net H) → IsNetOf l n → IsNetOf l (record n { sites = map (is_told []) n.sites })
+  nothing_said l n h = record {
+    sites = matched_map (Sites l) (Sites l) 0 (is_told []) l.bus.devices.entries l.stations n.sites (λ j d t s at. record {
+      controller = at.controller;
+      reserved = at.reserved;
+      reader = at.reader;
+      coming = append-nil s.coming ∙ at.coming;
+      account = at.account;
+      earlier = at.earlier;
+      place = at.place;
+      stored = at.stored;
+    }) h.sites;
+    to_panel = h.to_panel;
+    place = h.place;
+    openings = h.openings;
+    said = h.said;
+  }
+
+  -- the bus, and what is told, after its controller of an entry has come to this
+  abbrev pub ticked_bus : ℕ → Device → Ticked → InUse H → InUse H
+  ticked_bus k d t l = record l {
+    bus = record l.bus {
+      devices = record {
+        entries = slice_set l.bus.devices.entries k (record {
+          controller = record d.controller { session = t.session; waiting = t.waiting };
+          reserved = reserved_after t.step.report d.reserved;
+        });
+        report = waiting_after k t.step.report l.bus.devices.report;
+      };
+      first = k + 1;
+    };
+    stations = all_hear (told_at k t.step.report) l.stations;
+  }
+
+  abbrev pub ticked_line : ℕ → Device → Ticked → InUse H → InUse H
+  ticked_line k d t l = panel_says (Some k) t.step.frame (ticked_bus k d t l)
+
+  module _ (answer_of : H → Command → Answer) (after : H → Command → H) where
+    -- ---- a controller whose session has begun, or is not to begin
+
+    pub ticks_on : (k : ℕ) (d : Device) (t : Station H) (s : Site H) (l : InUse H) (n : Net H) → IsNetOf l n
+        → slice_get l.bus.devices.entries k ≡ Some d → site_at k l.stations ≡ Some t → site_at k n.sites ≡ Some s → Sites l k d t s → t.begun ≡ None
+        → Refines answer_of after n (ticked_line k d (ticks l.bus.greatest d.controller.session d.controller.waiting) l)
+    ticks_on k d t s l n h a b c is begun = by_frame x.step.frame refl (frames_so d.controller.session.state (clocks.seen g d.controller.session) d.controller.waiting)
+      where
+        g : ℕ
+        g = l.bus.greatest
+
+        x : Ticked
+        x = ticks l.bus.greatest d.controller.session d.controller.waiting
+
+        control : IsSame l.bus.greatest d.controller s.controller
+        control = subst (λ o. Controls o l.bus.greatest d.controller s.controller) begun is.controller
+
+        same : ticks l.bus.greatest s.controller.session s.controller.waiting ≡ ticks l.bus.greatest d.controller.session d.controller.waiting
+        same = ticks_same l.bus.greatest d.controller s.controller (subst (λ o. Controls o l.bus.greatest d.controller s.controller) begun is.controller)
+
+        after_bus : InUse H
+        after_bus = ticked_bus k d (ticks l.bus.greatest d.controller.session d.controller.waiting) l
+
+        n1 : Net H
+        n1 = record n { sites = changed k (line.ticks answer_of after l.bus.greatest s) n.sites }
+
+        first : IsNetOf (ticked_bus k d (ticks l.bus.greatest d.controller.session d.controller.waiting) l)
+            (record n { sites = changed k (line.ticks answer_of after l.bus.greatest s) n.sites })
+        first =
+            let y = ticks l.bus.greatest d.controller.session d.controller.waiting in
+            let e : Device = record { controller = record d.controller { session = y.session; waiting = y.waiting }; reserved = reserved_after y.step.report d.reserved } in
+            let u : Station H = record t { account = after_report y.step.report t.account } in
+            let ctl = subst (λ o. Controls o l.bus.greatest d.controller s.controller) begun is.controller in
+            let room : s.controller.capacity ≡ d.controller.capacity = ap (λ (m : Machine). m.capacity) ctl.same in
+            let eq = ticks_same l.bus.greatest d.controller s.controller ctl in
+            record {
+              sites = subst (λ ts. Match (Sites l) 0 (slice_set l.bus.devices.entries k e) ts (changed k (line.ticks answer_of after l.bus.greatest s) n.sites))
+                  (sym (one_told k y.step.report t l.stations b))
+                  (set (Sites l) k e u (line.ticks answer_of after l.bus.greatest s) l.bus.devices.entries l.stations n.sites h.sites (record {
+                    controller = subst (λ o. Controls o l.bus.greatest e.controller (line.ticks answer_of after l.bus.greatest s).controller) (sym begun)
+                        (ticked_same l.bus.greatest d.controller s.controller y room eq);
+                    reserved = is.reserved ∙ sym (tick_so (λ r. reserved_after r d.reserved ≡ d.reserved) refl (λ o. refl) d.controller.session.state
+                        (clocks.seen l.bus.greatest d.controller.session) d.controller.waiting);
+                    reader = is.reader;
+                    coming = is.coming;
+                    account = ap (λ (z : Ticked). after_report z.step.report s.account) eq ∙ ap (after_report y.step.report) is.account;
+                    earlier = is.earlier;
+                    place = is.place;
+                    stored = is.stored;
+                  }));
+              to_panel = h.to_panel;
+              place = h.place;
+              openings = h.openings;
+              said = h.said;
+            }
+
+        next : after_net answer_of after (Tick k l.bus.greatest) n
+            ≡ record n {
+              sites = map (is_told (tagged k (option_to_list (ticks l.bus.greatest d.controller.session d.controller.waiting).step.frame)))
+                  (changed k (line.ticks answer_of after l.bus.greatest s) n.sites);
+            }
+        next =
+            ap (λ o. line.tick_at answer_of after k l.bus.greatest o n) c
+            ∙ ap (λ (z : Ticked). record n { sites = map (is_told (tagged k (option_to_list z.step.frame))) (changed k (line.ticks answer_of after l.bus.greatest s) n.sites) })
+            (ticks_same l.bus.greatest d.controller s.controller (subst (λ o. Controls o l.bus.greatest d.controller s.controller) begun is.controller))
+
+        not_begun : begun_of (site_at k (ticked_bus k d (ticks l.bus.greatest d.controller.session d.controller.waiting) l).stations) ≡ None
+        not_begun =
+            let y = ticks l.bus.greatest d.controller.session d.controller.waiting in
+            ap (λ ts. begun_of (site_at k ts)) (one_told k y.step.report t l.stations b)
+            ∙ ap begun_of (at_changed k (record t { account = after_report y.step.report t.account }) t l.stations b) ∙ begun
+
+        by_frame : (o : Option Packet) → (ticks l.bus.greatest d.controller.session d.controller.waiting).step.frame ≡ o
+            → IfSome (ticks l.bus.greatest d.controller.session d.controller.waiting).step.frame (λ p. p.reply ≡ false)
+            → Refines answer_of after n (ticked_line k d (ticks l.bus.greatest d.controller.session d.controller.waiting) l)
+        by_frame None none so =
+            let l1 = ticked_bus k d (ticks l.bus.greatest d.controller.session d.controller.waiting) l in
+            subst (λ o. Refines answer_of after n (panel_says (Some k) o l1)) (sym none)
+            (by_move answer_of after (Tick k l.bus.greatest) l1 n tt
+            (subst (IsNetOf l1) (sym (next ∙ ap (λ o. record n { sites = map (is_told (tagged k (option_to_list o))) (changed k (line.ticks answer_of after l.bus.greatest s) n.sites) }) none))
+            (nothing_said l1 (record n { sites = changed k (line.ticks answer_of after l.bus.greatest s) n.sites }) first)))
+        by_frame (Some p) some so =
+            let l1 = ticked_bus k d (ticks l.bus.greatest d.controller.session d.controller.waiting) l in
+            let command : p.reply ≡ false = subst (λ o. IfSome o (λ q. q.reply ≡ false)) some so in
+            subst (λ o. Refines answer_of after n (panel_says (Some k) o l1)) (sym some)
+            (subst (λ o. Refines answer_of after n (record (begins_with k p o l1) { said = l1.said ++ from_panel k p ∷ [] })) (sym not_begun)
+            (by_move answer_of after (Tick k l.bus.greatest) (record l1 { said = l1.said ++ from_panel k p ∷ [] }) n tt
+            (subst (IsNetOf (record l1 { said = l1.said ++ from_panel k p ∷ [] }))
+            (sym (next ∙ ap (λ o. record n { sites = map (is_told (tagged k (option_to_list o))) (changed k (line.ticks answer_of after l.bus.greatest s) n.sites) }) some))
+            (panel_said k p l1 (record n { sites = changed k (line.ticks answer_of after l.bus.greatest s) n.sites }) command first))))
+
+    -- ---- a session begins with its opening ID
+
+    -- the opening that this is
+    abbrev pub opening_of : ℕ → Device → InUse H → Opening
+    opening_of k d l = record { entry = k; address = d.controller.session.config.address; place = length l.said }
+
+    abbrev pub opened : Machine → ℕ → Ticked
+    opened m g = ticking.begins OpeningExchange 0 (clocks.seen g m.session) m.waiting
+
+    abbrev pub opening_packet : Machine → Packet
+    opening_packet m = frame_of OpeningExchange (record m.session { number = 0 })
+
+    -- the line after it
+    abbrev pub with_opening : ℕ → Device → Station H → InUse H → InUse H
+    with_opening k d t l = record (ticked_bus k d (opened d.controller l.bus.greatest) l) {
+      stations = changed k (begins_session d.controller.waiting t) l.stations;
+      openings = opening_of k d l ∷ l.openings;
+      said = l.said ++ from_panel k (opening_packet d.controller) ∷ [];
+    }
+
+    -- the session of a site begins, and its controller ticks
+    begins_then : (k began : ℕ) (d : Device) (t : Station H) (s : Site H) (l : InUse H) (m : Net H) → IsNetOf (record l { openings = opening_of k d l ∷ l.openings }) m
+        → slice_get l.bus.devices.entries k ≡ Some d → site_at k l.stations ≡ Some t → site_at k m.sites ≡ Some s
+        → Sites (record l { openings = opening_of k d l ∷ l.openings }) k d t s → IsToOpen began l.bus.greatest d.controller s.controller
+        → ticks l.bus.greatest d.controller.session d.controller.waiting ≡ opened d.controller l.bus.greatest
+        → Refines answer_of after m (with_opening k d t l)
+    begins_then k began d t s l m h a b c is control ticked =
+        let g = l.bus.greatest in
+        let lo : InUse H = record l { openings = opening_of k d l ∷ l.openings } in
+        let shut : begin_refusal s.controller ≡ None = ap begin_refusal control.same in
+        let quiet : (s1 : Site H) → site_at k m.sites ≡ Some s1 → begin_refusal s1.controller ≡ None → IsQuiet k s1 m = λ s1 at1 open_so.
+        subst (λ u. IsQuiet k u m) (some_same s s1 (sym c ∙ at1)) (record {
+          coming = each_all (λ (q : ℕ × Packet). q.0 ≢ k) s.coming
+              (subst (Rattle.osdp_link_laws.proofs.Stages.Each (λ (q : ℕ × Packet). q.0 ≢ k)) (sym is.coming)
+              (device_quiet k t.place (opening_of k d l) l.openings l.said refl refl));
+          to_panel = each_all (λ (q : ℕ × Packet). (q.0 ≢ k) × (q.1.address ≢ address_of s)) m.to_panel
+              (subst (λ address. Rattle.osdp_link_laws.proofs.Stages.Each (λ (q : ℕ × Packet). (q.0 ≢ k) × (q.1.address ≢ address)) m.to_panel)
+              (sym (ap (λ (x : Machine). x.session.config.address) control.same))
+              (subst (Rattle.osdp_link_laws.proofs.Stages.Each (λ (q : ℕ × Packet). (q.0 ≢ k) × (q.1.address ≢ d.controller.session.config.address))) (sym h.to_panel)
+              (panel_quiet l.place (opening_of k d l) l.openings l.said refl)));
+        }) in
+        let s1 : Site H = record s {
+          controller = after_begin began s.controller;
+          account = link.new_account s.controller.waiting s.reader.queue.events;
+          earlier = s.account ∷ s.earlier;
+        } in
+        let m1 : Net H = record m { sites = changed k s1 m.sites } in
+        let reopened : after_net answer_of after (Reopen k began) m ≡ m1 =
+        ap (λ o. line.change_at k o (line.calls answer_of after (link.Reopen began)) m) c
+        ∙ ap (λ f. record m { sites = changed k (line.left_by s (link.reopens f [] [] began (line.link_of s [] []))) m.sites }) shut in
+        let first : Reaches answer_of after m m1 = subst (Reaches answer_of after m) reopened (one_move answer_of after (Reopen k began) m quiet) in
+        let there : site_at k m1.sites ≡ Some s1 = at_changed k s1 s m.sites c in
+        let eq : ticks g s1.controller.session s1.controller.waiting ≡ opened d.controller g = opened_ticks began g d.controller s.controller control ∙ ticked in
+        let s2 : Site H = line.ticks answer_of after g s1 in
+        let m2 : Net H = record m { sites = map (is_told ((k, opening_packet d.controller) ∷ [])) (changed k s2 m.sites) } in
+        let next : after_net answer_of after (Tick k g) m1 ≡ m2 =
+        ap (λ o. line.tick_at answer_of after k g o m1) there
+        ∙ ap (λ (z : Ticked). record m1 { sites = map (is_told (tagged k (option_to_list z.step.frame))) (changed k s2 (changed k s1 m.sites)) }) eq
+        ∙ ap (λ ss. record m { sites = map (is_told ((k, opening_packet d.controller) ∷ [])) ss }) (changed_twice k s2 s1 m.sites) in
+        let second : Reaches answer_of after m1 m2 = subst (Reaches answer_of after m1) next (one_move answer_of after (Tick k g) m1 tt) in
+        let waiting : s.controller.waiting ≡ d.controller.waiting = ap (λ (x : Machine). x.waiting) control.same in
+        let room : s.controller.capacity ≡ d.controller.capacity = ap (λ (x : Machine). x.capacity) control.same in
+        let y : Ticked = opened d.controller g in
+        let e : Device = record { controller = record d.controller { session = y.session; waiting = y.waiting }; reserved = d.reserved } in
+        let u : Station H = begins_session d.controller.waiting t in
+        let lb : InUse H = record (ticked_bus k d y lo) { stations = changed k u l.stations } in
+        let before : IsNetOf lb (record m { sites = changed k s2 m.sites }) =
+        record {
+          sites = set (Sites lo) k e u s2 l.bus.devices.entries l.stations m.sites h.sites (record {
+            controller = equal_same g e.controller s2.controller (λ i. record { session = (eq i).session; waiting = (eq i).waiting; capacity = room i });
+            reserved = is.reserved;
+            reader = is.reader;
+            coming = is.coming;
+            account = ap (λ (z : Ticked). after_report z.step.report s1.account) eq ∙ (λ i. link.new_account (waiting i) (is.reader i).queue.events);
+            earlier = (λ i. is.account i ∷ is.earlier i);
+            place = is.place;
+            stored = is.stored;
+          });
+          to_panel = h.to_panel;
+          place = h.place;
+          openings = h.openings;
+          said = h.said;
+        } in
+        record {
+          net = m2;
+          reached = then_reaches answer_of after m m1 m2 first second;
+          same = panel_said k (opening_packet d.controller) lb (record m { sites = changed k s2 m.sites }) refl before;
+        }
+
+    pub opens_then : (k began : ℕ) (d : Device) (t : Station H) (s : Site H) (l : InUse H) (n : Net H) → IsNetOf l n
+        → slice_get l.bus.devices.entries k ≡ Some d → site_at k l.stations ≡ Some t → site_at k n.sites ≡ Some s → Sites l k d t s → t.begun ≡ Some began
+        → ticks l.bus.greatest d.controller.session d.controller.waiting ≡ opened d.controller l.bus.greatest
+        → Refines answer_of after n (with_opening k d t l)
+    opens_then k began d t s l n h a b c is begun ticked =
+        then_refines answer_of after n (record l { openings = opening_of k d l ∷ l.openings }) (with_opening k d t l)
+        (opens answer_of after (opening_of k d l) d t s l n h (omega arith) a b c is)
+        (λ m h1. by_found m h1 (found (Sites (record l { openings = opening_of k d l ∷ l.openings })) k l.bus.devices.entries l.stations m.sites h1.sites))
+      where
+        by_found : (m : Net H) → IsNetOf (record l { openings = opening_of k d l ∷ l.openings }) m
+            → FoundAt (Sites (record l { openings = opening_of k d l ∷ l.openings })) k k l.bus.devices.entries l.stations m.sites
+            → Refines answer_of after m (with_opening k d t l)
+        by_found m h1 (Nobody x y z) = absurd (let e = sym y ∙ b in cc)
+        by_found m h1 (Somebody d1 t1 s1 x y z has) =
+            let lo : InUse H = record l { openings = opening_of k d l ∷ l.openings } in
+            let mine : Sites lo k d t s1 =
+            subst (λ u. Sites lo k d u s1) (some_same t1 t (sym y ∙ b)) (subst (λ f. Sites lo k f t1 s1) (some_same d1 d (sym x ∙ a)) has) in
+            begins_then k began d t s1 l m h1 a b z mine (subst (λ o. Controls o l.bus.greatest d.controller s1.controller) begun mine.controller) ticked
+
+    -- ---- a controller whose session is to begin
+
+    pub ticks_to_open : (k began : ℕ) (d : Device) (t : Station H) (s : Site H) (l : InUse H) (n : Net H) → IsNetOf l n
+        → slice_get l.bus.devices.entries k ≡ Some d → site_at k l.stations ≡ Some t → site_at k n.sites ≡ Some s → Sites l k d t s → t.begun ≡ Some began
+        → Refines answer_of after n (ticked_line k d (ticks l.bus.greatest d.controller.session d.controller.waiting) l)
+    ticks_to_open k began d t s l n h a b c is begun =
+        by_due (nat_le control_until (clocks.seen l.bus.greatest d.controller.session).greatest) (ap (λ st. ticks_in st (clocks.seen l.bus.greatest d.controller.session) d.controller.waiting) control.quiet)
+      where
+        control : IsToOpen began l.bus.greatest d.controller s.controller
+        control = subst (λ o. Controls o l.bus.greatest d.controller s.controller) begun is.controller
+
+        control_until : ℕ
+        control_until =
+            let ctl = subst (λ o. Controls o l.bus.greatest d.controller s.controller) begun is.controller in
+            clocks.later d.controller.session.config.quiet_wait (clocks.seen began (record d.controller.session { greatest = ctl.moment }))
+
+        waits : Refines answer_of after n (ticked_line k d (ticking.stays (clocks.seen l.bus.greatest d.controller.session) d.controller.waiting) l)
+        waits =
+            let e : Device = record { controller = record d.controller { session = clocks.seen l.bus.greatest d.controller.session }; reserved = d.reserved } in
+            by_none answer_of after (ticked_bus k d (ticking.stays (clocks.seen l.bus.greatest d.controller.session) d.controller.waiting) l) n (record {
+              sites = subst (λ ts. Match (Sites l) 0 (slice_set l.bus.devices.entries k e) ts n.sites) (changed_same k t l.stations b)
+                  (subst (λ ss. Match (Sites l) 0 (slice_set l.bus.devices.entries k e) (changed k t l.stations) ss) (changed_same k s n.sites c)
+                  (set (Sites l) k e t s l.bus.devices.entries l.stations n.sites h.sites (record {
+                    controller = saw t.begun l.bus.greatest d.controller s.controller is.controller;
+                    reserved = is.reserved;
+                    reader = is.reader;
+                    coming = is.coming;
+                    account = is.account;
+                    earlier = is.earlier;
+                    place = is.place;
+                    stored = is.stored;
+                  })));
+              to_panel = h.to_panel;
+              place = h.place;
+              openings = h.openings;
+              said = h.said;
+            })
+
+        by_due : (x : Bool) → ticks l.bus.greatest d.controller.session d.controller.waiting
+            ≡ cond x (opened d.controller l.bus.greatest) (ticking.stays (clocks.seen l.bus.greatest d.controller.session) d.controller.waiting)
+            → Refines answer_of after n (ticked_line k d (ticks l.bus.greatest d.controller.session d.controller.waiting) l)
+        by_due false eq = subst (λ z. Refines answer_of after n (ticked_line k d z l)) (sym eq) waits
+        by_due true eq =
+            let y = opened d.controller l.bus.greatest in
+            let lb = ticked_bus k d y l in
+            let p = opening_packet d.controller in
+            let e : Device = record { controller = record d.controller { session = y.session; waiting = y.waiting }; reserved = d.reserved } in
+            subst (λ z. Refines answer_of after n (ticked_line k d z l)) (sym eq)
+            (subst (λ o. Refines answer_of after n (record (begins_with k p o lb) { said = l.said ++ from_panel k p ∷ [] })) (sym (ap begun_of b ∙ begun))
+            (subst (λ (o : Option Device). Refines answer_of after n (record lb {
+              stations = change_at k (begins_session (waiting_of o)) l.stations;
+              openings = opening_of k d l ∷ l.openings;
+              said = l.said ++ from_panel k p ∷ [];
+            })) (sym (got_set k e d l.bus.devices.entries a))
+            (subst (λ o. Refines answer_of after n (record lb {
+              stations = changes_at k (begins_session d.controller.waiting) o l.stations;
+              openings = opening_of k d l ∷ l.openings;
+              said = l.said ++ from_panel k p ∷ [];
+            })) (sym b) (opens_then k began d t s l n h a b c is begun eq))))
+
+    -- ---- a tick of the controller of an entry, or of none
+
+    pub ticks_entry : (o : Option ℕ) (l : InUse H) (n : Net H) → IsNetOf l n
+        → Refines answer_of after n (panel_says o (ticks_at o l.bus).sent (record l { bus = (ticks_at o l.bus).bus; stations = all_hear (told_by_ticking o l.bus) l.stations }))
+    ticks_entry None l n h = by_none answer_of after l n h
+    ticks_entry (Some k) l n h = by_found (found (Sites l) k l.bus.devices.entries l.stations n.sites h.sites)
+      where
+        Goal : Option Device → Type 0
+        Goal o = Refines answer_of after n (panel_says (Some k) (ticks_with k o l.bus).sent (record l {
+          bus = (ticks_with k o l.bus).bus;
+          stations = all_hear (told_by_device k o l.bus) l.stations;
+        }))
+
+        by_begun : (d : Device) (t : Station H) (s : Site H) → slice_get l.bus.devices.entries k ≡ Some d → site_at k l.stations ≡ Some t
+            → site_at k n.sites ≡ Some s → Sites l k d t s → (o : Option ℕ) → t.begun ≡ o
+            → Refines answer_of after n (ticked_line k d (ticks l.bus.greatest d.controller.session d.controller.waiting) l)
+        by_begun d t s a b c is None begun = ticks_on k d t s l n h a b c is begun
+        by_begun d t s a b c is (Some began) begun = ticks_to_open k began d t s l n h a b c is begun
+
+        by_found : FoundAt (Sites l) k k l.bus.devices.entries l.stations n.sites
+            → Refines answer_of after n (panel_says (Some k) (ticks_at (Some k) l.bus).sent (record l {
+              bus = (ticks_at (Some k) l.bus).bus;
+              stations = all_hear (told_by_ticking (Some k) l.bus) l.stations;
+            }))
+        by_found (Nobody a b c) = subst Goal (sym a) (by_none answer_of after l n h)
+        by_found (Somebody d t s a b c is) = subst Goal (sym a) (by_begun d t s a b c is t.begun refl)

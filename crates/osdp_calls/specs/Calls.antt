@@ -1,0 +1,274 @@
+-- What the calls of a bus and its devices do to a line in use: each by the definition that the call's own contract cites.
+use Rattle.std.specs.Prelude.{ℕ, ◌++◌, max, Bool, true, false, ◌==◌, if◌then◌else◌, List, [], ◌∷◌, map, length, Option, Some, None, Result, Ok, Err, option_to_list}
+use Rattle.osdp_frame.specs.Items.{items, whole_packets}
+use Rattle.osdp_frame.specs.Packet.{Packet}
+use Rattle.osdp_frame.specs.Reading.{RunItem, PacketItem, SkippedItem, RefusedItem}
+use Rattle.osdp_msg.specs.declared.command.Command.{Command}
+use Rattle.osdp_msg.specs.declared.event.Event.{Event}
+use Rattle.osdp_controller.specs.declared.report.Report.{Report}
+use Rattle.osdp_bus.specs.Buses.{BusState, device_of, has_report, holder, is_silent, seen}
+use Rattle.osdp_bus.specs.Hearing.{ends_run, ends_silent}
+use Rattle.osdp_bus.specs.Machine.{begin_refusal_at, changed_unless, submit_refusal_at, withdrawal_at}
+use Rattle.osdp_bus.specs.Ticking.{asks_free, asks_holder, bus_ticks, is_due_at}
+use Rattle.osdp_bus.specs.declared.config.BusConfig.{BusConfig}
+use Rattle.osdp_bus.specs.declared.device.Device.{Device}
+use Rattle.osdp_bus.specs.declared.fault.BusFault.{BusFault}
+use Rattle.osdp_bus_laws.specs.Calls as bus
+use Rattle.osdp_bus_laws.specs.Reports.{told_in}
+use Rattle.osdp_bus_laws.specs.Turns.{judged}
+use Rattle.osdp_device.specs.Receiving.{after_silence, after_take, after_tick, new_line}
+use Rattle.osdp_device.specs.Saying.{speaks}
+use Rattle.osdp_device.specs.Telling.{items_of, next_told}
+use Rattle.osdp_link_laws.specs.Link.{Withdrawn, front_of, new_account, reader_restarted, taken, after_report}
+use Rattle.osdp_link_laws.specs.Link as link
+use Rattle.osdp_reader.specs.State.{ReaderState, after_set_busy, after_set_handler, after_submit, new_reader}
+use Rattle.osdp_reader.specs.Table.{hears, kind_of}
+use Rattle.osdp_reader.specs.declared.handler.Answer.{Answer}
+use Rattle.osdp_shared_line.specs.Line.{changed, site_at}
+use Rattle.osdp_calls.specs.Lines.{Burst, InUse, Station, bus_with}
+
+-- the calls of a panel's program; those of a device's program, each with the entry of the device; and power: a device made anew, with its
+-- address, its handler, its room for events and its gap, and the panel made anew, with its settings and the addresses of its entries
+pub data Call (H : Type 0) : Type 0 where
+  OfPanel : bus.Call → Call H
+  SubmitEvent : ℕ → Event → Call H
+  SetBusy : ℕ → Bool → Call H
+  SetHandler : ℕ → H → Call H
+  Take : ℕ → List ℕ → ℕ → Call H
+  TickDevice : ℕ → ℕ → Call H
+  Silence : ℕ → ℕ → Call H
+  Next : ℕ → Call H
+  NewDevice : ℕ → ℕ → H → ℕ → ℕ → Call H
+  NewPanel : BusConfig → List ℕ → Call H
+
+-- a call, and for each packet that it reads the place in what was said of the burst that it is a copy of
+pub record Step (H : Type 0) : Type 0 where
+  pub call : Call H
+  pub places : List ℕ
+
+-- the last of these places, or else the one before
+abbrev pub last_of : List ℕ → ℕ → ℕ
+last_of [] place = place
+last_of (i ∷ places) place = last_of places i
+
+-- ---- what a call of the panel reads: what it hands to the controllers
+
+abbrev pub read_at_end : BusState → List Packet
+read_at_end b = whole_packets (items true b.held)
+
+abbrev pub read_at_silence : BusState → List Packet
+read_at_silence b = if is_silent b then read_at_end b else []
+
+abbrev pub read_of_bytes : List ℕ → BusState → List Packet
+read_of_bytes [] b = []
+read_of_bytes (byte ∷ bytes) b = read_at_silence b ++ whole_packets (items false ((ends_silent b).held ++ (byte ∷ bytes)))
+
+abbrev pub read_by_holder : Option ℕ → BusState → List Packet
+read_by_holder None b = read_at_end b
+read_by_holder (Some entry) b = if is_due_at entry b then read_at_end b else []
+
+abbrev pub read_at_tick : ℕ → BusState → List Packet
+read_at_tick now b = if has_report b then [] else read_at_silence (seen now b) ++ read_by_holder (holder (judged now b)) (judged now b)
+
+abbrev pub read_by : bus.Call → BusState → List Packet
+read_by (bus.OnBytes bytes now) b = read_of_bytes bytes (seen now b)
+read_by (bus.OnSilence now) b = read_at_end (seen now b)
+read_by (bus.Tick now) b = read_at_tick now b
+read_by _ b = []
+
+-- the entry whose controller ticks then, if any
+abbrev pub asked_by_holder : Option ℕ → BusState → Option ℕ
+asked_by_holder None b = asks_free None (λ asked. asked) (ends_run b)
+asked_by_holder (Some entry) b = if is_due_at entry b then asks_holder None (λ asked. asked) entry (ends_run b) else None
+
+abbrev pub asked_at : ℕ → BusState → Option ℕ
+asked_at now b = if has_report b then None else asked_by_holder (holder (judged now b)) (judged now b)
+
+-- what `withdraw` takes back, and the commands that wait for a device
+abbrev pub withdrawn : Result (Option Command) BusFault → List Command
+withdrawn (Ok command) = option_to_list command
+withdrawn (Err fault) = []
+
+abbrev pub waiting_of : Option Device → List Command
+waiting_of None = []
+waiting_of (Some d) = d.controller.waiting
+
+-- bursts of the device of an entry
+abbrev pub by_device : ℕ → List Packet → List Burst
+by_device k [] = []
+by_device k (p ∷ ps) = record { by_panel = false; entry = k; packet = p } ∷ by_device k ps
+
+-- ---- what a device's `next` reads: all packets up to and including the first that its reader answers
+
+module _ {H : Type 0} where
+  abbrev pub read_up_to : ReaderState H → List RunItem → List Packet
+  read_up_to r [] = []
+  read_up_to r (PacketItem p ∷ parts) = p ∷ (if speaks (kind_of r p) then [] else read_up_to r parts)
+  read_up_to r (SkippedItem byte ∷ parts) = read_up_to r parts
+  read_up_to r (RefusedItem fault ∷ parts) = read_up_to r parts
+
+  -- that one
+  abbrev pub first_answered : ReaderState H → List Packet → Option Packet
+  first_answered r [] = None
+  first_answered r (p ∷ ps) = if speaks (kind_of r p) then Some p else first_answered r ps
+
+  -- ---- accounts
+
+  -- what controllers tell
+  abbrev pub hears_of : Report → Station H → Station H
+  hears_of report t = record t { account = after_report (Some report) t.account }
+
+  abbrev pub changes_at : ℕ → (Station H → Station H) → Option (Station H) → List (Station H) → List (Station H)
+  changes_at k change None ts = ts
+  changes_at k change (Some t) ts = changed k (change t) ts
+
+  abbrev pub change_at : ℕ → (Station H → Station H) → List (Station H) → List (Station H)
+  change_at k change ts = changes_at k change (site_at k ts) ts
+
+  abbrev pub all_hear : List (ℕ × Report) → List (Station H) → List (Station H)
+  all_hear [] ts = ts
+  all_hear (said ∷ more) ts = all_hear more (change_at said.0 (hears_of said.1) ts)
+
+  -- a command is accepted, and one is taken back
+  abbrev pub issues : Command → Station H → Station H
+  issues command t = record t { account = record t.account { issued = t.account.issued ++ command ∷ [] } }
+
+  abbrev pub takes_back : List Command → Station H → Station H
+  takes_back commands t = record t { account = record t.account { removed = t.account.removed ++ map Withdrawn commands } }
+
+  -- a session is to begin: it does so where its opening ID goes out
+  abbrev pub is_to_begin : ℕ → Station H → Station H
+  is_to_begin moment t = record t { begun = Some moment }
+
+  abbrev pub begins_session : List Command → Station H → Station H
+  begins_session waiting t = record t {
+    begun = None;
+    account = new_account waiting t.reader.queue.events;
+    earlier = t.account ∷ t.earlier;
+  }
+
+  -- what a call of the panel notes
+  abbrev pub noted : bus.Call → BusState → List (Station H) → List (Station H)
+  noted (bus.Begin entry now) b ts = changed_unless (begin_refusal_at entry b) ts (change_at entry (is_to_begin (max b.greatest now)) ts)
+  noted (bus.Submit entry command) b ts = changed_unless (submit_refusal_at entry command b) ts (change_at entry (issues command) ts)
+  noted (bus.Withdraw entry) b ts = change_at entry (takes_back (withdrawn (withdrawal_at entry b))) ts
+  noted call b ts = all_hear (told_in call b) ts
+
+  -- ---- what the panel says
+
+  -- where a session was to begin, it begins with what goes out for its entry
+  abbrev pub begins_with : ℕ → Packet → Option ℕ → InUse H → InUse H
+  begins_with entry p None l = l
+  begins_with entry p (Some moment) l = record l {
+    stations = change_at entry (begins_session (waiting_of (device_of entry l.bus))) l.stations;
+    openings = record { entry = entry; address = p.address; place = length l.said } ∷ l.openings;
+  }
+
+  abbrev pub begun_of : Option (Station H) → Option ℕ
+  begun_of None = None
+  begun_of (Some t) = t.begun
+
+  abbrev pub panel_says : Option ℕ → Option Packet → InUse H → InUse H
+  panel_says (Some entry) (Some p) l =
+      let begins = begins_with entry p (begun_of (site_at entry l.stations)) l in
+      record begins { said = l.said ++ record { by_panel = true; entry = entry; packet = p } ∷ [] }
+  panel_says (Some entry) None l = l
+  panel_says None p l = l
+
+  abbrev pub said_at : bus.Call → BusState → InUse H → InUse H
+  said_at (bus.Tick now) b l = panel_says (asked_at now b) (bus_ticks now b).sent l
+  said_at _ b l = l
+
+  abbrev pub after_panel : bus.Call → List ℕ → InUse H → InUse H
+  after_panel call places l = said_at call l.bus (record l {
+    bus = bus.after_call call l.bus;
+    stations = noted call l.bus l.stations;
+    place = last_of places l.place;
+  })
+
+  -- ---- what a device does
+
+  abbrev pub on_station : ℕ → (Station H → Station H) → InUse H → InUse H
+  on_station k change l = record l { stations = change_at k change l.stations }
+
+  abbrev pub queues : Bool → Event → Station H → Station H
+  queues true event t = t
+  queues false event t = record t {
+    reader = after_submit event t.reader;
+    account = record t.account { queued = t.account.queued ++ event ∷ []; kept = t.account.kept ++ event ∷ [] };
+  }
+
+  -- the same device, with nothing taken, nothing stored and no event
+  abbrev pub made_anew : ℕ → H → ℕ → ℕ → Station H → Station H
+  made_anew address handler room gap t = record t {
+    reader = new_reader (record t.reader.config { address = address }) handler room;
+    line = new_line gap;
+    account = reader_restarted t.account;
+  }
+
+  -- the panel is made anew: what waited is thrown away, and the session ends untold
+  abbrev pub forgets : Option Device → Station H → Station H
+  forgets None t = t
+  forgets (Some d) t = record t { begun = None; account = link.controller_restarted d.controller t.account }
+
+  abbrev pub all_forget : List Device → List (Station H) → List (Station H)
+  all_forget (d ∷ ds) (t ∷ ts) = forgets (Some d) t ∷ all_forget ds ts
+  all_forget [] ts = ts
+  all_forget (d ∷ ds) [] = []
+
+  abbrev pub panel_made_anew : BusConfig → List ℕ → InUse H → InUse H
+  panel_made_anew config addresses l = record l {
+    bus = bus_with config addresses;
+    stations = all_forget l.bus.devices.entries l.stations;
+  }
+
+  module _ (answer_of : H → Command → Answer) (after : H → Command → H) where
+    -- ---- what a device says
+
+    -- the account after the packet that is answered, and what is said to it
+    abbrev pub answers : Option Packet → Station H → Station H
+    answers None t = t
+    answers (Some p) t =
+        let outcome = hears answer_of after t.reader p in
+        record t { account = taken (kind_of t.reader p) outcome.command outcome.said (front_of t.reader) t.account }
+
+    abbrev pub reply_to : Option Packet → ReaderState H → List Packet
+    reply_to None r = []
+    reply_to (Some p) r = option_to_list (hears answer_of after r p).reply
+
+    abbrev pub nexts : List ℕ → Station H → Station H
+    nexts places t =
+        let said = next_told answer_of after t.reader t.line.held in
+        let t_read = answers (first_answered t.reader (read_up_to t.reader (items_of t.line.held))) t in
+        record t_read {
+          reader = said.reader;
+          line = record t.line { held = said.held };
+          place = last_of places t.place;
+        }
+
+    abbrev pub after_next : ℕ → List ℕ → Option (Station H) → InUse H → InUse H
+    after_next k places None l = l
+    after_next k places (Some t) l = record l {
+      stations = changed k (nexts places t) l.stations;
+      said = l.said ++ by_device k (reply_to (first_answered t.reader (read_up_to t.reader (items_of t.line.held))) t.reader);
+    }
+
+    -- ---- a call
+
+    abbrev pub after_call : Call H → List ℕ → InUse H → InUse H
+    after_call (OfPanel call) places l = after_panel call places l
+    after_call (SubmitEvent k event) places l =
+        on_station k (λ t. queues (length t.reader.queue.events == t.reader.queue.capacity) event t) l
+    after_call (SetBusy k busy) places l = on_station k (λ t. record t { reader = after_set_busy busy t.reader }) l
+    after_call (SetHandler k handler) places l = on_station k (λ t. record t { reader = after_set_handler handler t.reader }) l
+    after_call (Take k bytes now) places l = on_station k (λ t. record t { line = after_take bytes now t.line }) l
+    after_call (TickDevice k now) places l = on_station k (λ t. record t { line = after_tick now t.line }) l
+    after_call (Silence k now) places l = on_station k (λ t. record t { line = after_silence now t.line }) l
+    after_call (Next k) places l = after_next k places (site_at k l.stations) l
+    after_call (NewDevice k address handler room gap) places l = on_station k (made_anew address handler room gap) l
+    after_call (NewPanel config addresses) places l = panel_made_anew config addresses l
+
+    -- the line after a list of them
+    abbrev pub after_calls : List (Step H) → InUse H → InUse H
+    after_calls [] l = l
+    after_calls (step ∷ steps) l = after_calls steps (after_call step.call step.places l)
