@@ -34,7 +34,7 @@ is_set = record {
   controller = record { config_in_range = is_config; room = omega arith; limit = omega arith };
 }
 
-no_moves : All SetsNoAddress (out ∷ buz ∷ [])
+pub no_moves : All SetsNoAddress (out ∷ buz ∷ [])
 no_moves = All-cons SetsNoAddress out (buz ∷ []) refl (All-cons SetsNoAddress buz [] refl (All-nil SetsNoAddress))
 
 -- an order is one by its kind alone

@@ -1,9 +1,11 @@
 //! Rows of the program, proved from the laws of progress: named settings, a schedule and numbers. The functions do nothing: their contracts are
 //! laws.
 //!
-//! A law of progress that is weakened no longer gives these numbers. The program prints them: the first row of `tests/rows/scripts.txt` is this one.
+//! A law of progress that is weakened no longer gives these numbers. The program prints them, in rows of `tests/rows/scripts.txt` and
+//! `tests/rows/buses.txt` that name the law.
 #![tactic(auto)]
 
+ghost use Rattle.osdp_row_laws.specs.Recovering.{FourRoundsBringThree, SixRoundsBringThreeOfTwo};
 ghost use Rattle.osdp_row_laws.specs.Rounds.{ThreeRoundsSettleTwoAndReportOne};
 
 use osdp_script_reader::ScriptReader;
@@ -15,4 +17,23 @@ pub fn three_rounds_settle_two_and_report_one()
 {
     osdp_sim_laws::accepts_by_room::<ScriptReader>();
     osdp_sim_laws::schedule_goes_in_turn::<ScriptReader>();
+}
+
+/// An OUT, a BUZ and an event of a reader at 5, and a first frame that is lost: once the line is cleared, four rounds of 400 ms settle both commands by ACK and
+/// report the event, where there is memory and the session lasts.
+pub fn four_rounds_bring_three()
+    ensures { FourRoundsBringThree }
+{
+    osdp_sim_laws::accepts_by_room::<ScriptReader>();
+    osdp_sim_laws::schedule_comes_through::<ScriptReader>();
+}
+
+/// An OUT for a reader at 5, a BUZ for one at 6 and an event of it, and a first frame that is lost: once the line is cleared, six rounds of 400 ms, three for
+/// each reader, settle each command by ACK and report the event, where there is memory and both sessions last.
+pub fn six_rounds_bring_three_of_two()
+    ensures { SixRoundsBringThreeOfTwo }
+{
+    osdp_sim_bus_laws::each_accepts_by_room::<ScriptReader>();
+    osdp_bus_progress::each_recovers::<ScriptReader>();
+    osdp_sim_bus::laws::has_an_account_each::<ScriptReader>();
 }
