@@ -30,8 +30,9 @@ use Rattle.osdp_controller.specs.declared.state.State.TheVariants.{Closed, Quiet
 use Rattle.osdp_link_laws.specs.Names.{IsNoDevice, IsToldAsAsked}
 use Rattle.osdp_bus_links.proofs.Names.{freed_by, freed_for}
 use Rattle.osdp_link_laws.proofs.Lines.{both, each_rest}
-use Rattle.osdp_bus_links.proofs.Reserved.{One, asked_in, front_is, one_of_none, one_rest}
-use Rattle.osdp_link_laws.proofs.Stages.{Each, pending}
+use Rattle.osdp_bus_links.proofs.Reserved.{One, front_is, one_of_none, one_rest}
+use Rattle.osdp_link_laws.proofs.Stages.{Each}
+use Rattle.osdp_shared_line.specs.Addresses.{asked_by, asked_in}
 
 abbrev pub ToldAsAsked : Option Report → Type 0
 ToldAsAsked r = IfSome r IsToldAsAsked
@@ -136,7 +137,7 @@ module _ (r : Option ℕ) (here : ℕ) (ws : List Command) where
       }))
 
   answered_well : (x : Exchange) (a : Reply) (s : Session) → s.config.address ≡ here → Each CommandFits (asked_in s.state ++ ws) → One r (asked_in s.state ++ ws)
-      → Each CommandFits (pending x ++ ws) → One r (pending x ++ ws) → HeardWell (Plain a) (answered x a s)
+      → Each CommandFits (asked_by x ++ ws) → One r (asked_by x ++ ws) → HeardWell (Plain a) (answered x a s)
   answered_well Opening a s at fits one left rest = opened_well (Plain a) (pd_id_of a) s at fits one left rest
   answered_well Polling a s at fits one left rest =
       stays_well (Plain a) (answered Polling a s) (polls_free_none r (event_in a) a) at left rest
@@ -144,25 +145,25 @@ module _ (r : Option ℕ) (here : ℕ) (ws : List Command) where
       command_well (moved_by (comset_of c) (com_of a)) c a s refl at left.1 rest
 
   unread_well : (said : ReplyMeaning) (x : Exchange) (code : ℕ) (s : Session) → s.config.address ≡ here → Each CommandFits (asked_in s.state ++ ws)
-      → One r (asked_in s.state ++ ws) → Each CommandFits (pending x ++ ws) → One r (pending x ++ ws) → HeardWell said (answered_unread x code s)
+      → One r (asked_in s.state ++ ws) → Each CommandFits (asked_by x ++ ws) → One r (asked_by x ++ ws) → HeardWell said (answered_unread x code s)
   unread_well said Opening code s at fits one left rest = stays_well said (ignores s) refl at fits one
   unread_well said Polling code s at fits one left rest = stays_well said (answered_unread Polling code s) refl at left rest
   unread_well said (Asking c) code s at fits one left rest = stays_well said (answered_unread (Asking c) code s) refl at left.1 rest.1
 
-  loses_well : (said : ReplyMeaning) (cause : LostCause) (o : Outstanding) (s : Session) → s.config.address ≡ here → Each CommandFits (pending o.exchange ++ ws)
-      → One r (pending o.exchange ++ ws) → HeardWell said (loses cause o s)
+  loses_well : (said : ReplyMeaning) (cause : LostCause) (o : Outstanding) (s : Session) → s.config.address ≡ here → Each CommandFits (asked_by o.exchange ++ ws)
+      → One r (asked_by o.exchange ++ ws) → HeardWell said (loses cause o s)
   loses_well said cause o s at left rest =
-      stays_well said (loses cause o s) refl at (each_rest CommandFits (pending o.exchange) ws left) (one_rest r (pending o.exchange) ws rest)
+      stays_well said (loses cause o s) refl at (each_rest CommandFits (asked_by o.exchange) ws left) (one_rest r (asked_by o.exchange) ws rest)
 
-  busy_well : (said : ReplyMeaning) (o : Outstanding) (s : Session) → s.config.address ≡ here → Each CommandFits (pending o.exchange ++ ws)
-      → One r (pending o.exchange ++ ws) → HeardWell said (hears_busy o s)
+  busy_well : (said : ReplyMeaning) (o : Outstanding) (s : Session) → s.config.address ≡ here → Each CommandFits (asked_by o.exchange ++ ws)
+      → One r (asked_by o.exchange ++ ws) → HeardWell said (hears_busy o s)
   busy_well said o s at left rest =
       let paused : Heard = record { session = record s { state = Pausing (later s.config.busy_wait s) (record o { busies = o.busies + 1 }) }; report = None } in
       both (HeardWell said) (ltb s.config.busy_limit (o.busies + 1)) (loses causes.TooBusy o s) paused
       (loses_well said causes.TooBusy o s at left rest) (stays_well said paused refl at left rest)
 
   waiting_well : (a : ReplyMeaning) (k : ℕ) (o : Outstanding) (s : Session) → s.config.address ≡ here → Each CommandFits (asked_in s.state ++ ws)
-      → One r (asked_in s.state ++ ws) → Each CommandFits (pending o.exchange ++ ws) → One r (pending o.exchange ++ ws) → HeardWell a (waiting_hears a k o s)
+      → One r (asked_in s.state ++ ws) → Each CommandFits (asked_by o.exchange ++ ws) → One r (asked_by o.exchange ++ ws) → HeardWell a (waiting_hears a k o s)
   waiting_well NotTaken k o s at fits one left rest = busy_well NotTaken o s at left rest
   waiting_well Damaged k o s at fits one left rest = stays_well Damaged (waiting_hears Damaged k o s) refl at left rest
   waiting_well NumberRefused k o s at fits one left rest = loses_well NumberRefused causes.NumberRefused o s at left rest
@@ -170,7 +171,7 @@ module _ (r : Option ℕ) (here : ℕ) (ws : List Command) where
   waiting_well (Unreadable code) k o s at fits one left rest = unread_well (Unreadable code) o.exchange code s at fits one left rest
 
   pausing_well : (a : ReplyMeaning) (o : Outstanding) (s : Session) → s.config.address ≡ here → Each CommandFits (asked_in s.state ++ ws)
-      → One r (asked_in s.state ++ ws) → Each CommandFits (pending o.exchange ++ ws) → One r (pending o.exchange ++ ws) → HeardWell a (pausing_hears a o s)
+      → One r (asked_in s.state ++ ws) → Each CommandFits (asked_by o.exchange ++ ws) → One r (asked_by o.exchange ++ ws) → HeardWell a (pausing_hears a o s)
   pausing_well NotTaken o s at fits one left rest = stays_well NotTaken (ignores s) refl at fits one
   pausing_well Damaged o s at fits one left rest = stays_well Damaged (ignores s) refl at fits one
   pausing_well NumberRefused o s at fits one left rest = loses_well NumberRefused causes.NumberRefused o s at left rest

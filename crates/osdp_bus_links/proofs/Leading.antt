@@ -14,11 +14,12 @@ use Rattle.osdp_link_laws.specs.Refusals.{reports, told_by}
 use Rattle.osdp_link_laws.proofs.Lines.{each_append, each_of, each_rest}
 use Rattle.osdp_link_laws.proofs.Stages.{Each}
 use Rattle.osdp_shared_line.proofs.Linking.{moves_more, run_more}
+use Rattle.osdp_shared_line.specs.Addresses.{asked_in}
 use Rattle.osdp_bus_links.proofs.ControllerNames.{ToldAsAsked}
 use Rattle.osdp_bus_links.proofs.Names.{BeginsTogether, IsUsual, MayMoves, reserved_after, reserved_after_moves}
 use Rattle.osdp_bus_links.proofs.Naming.{CommandNames, InOrder, Keeps, ReplyNames, SetsOnly, keeps_move}
 use Rattle.osdp_bus_links.proofs.ReaderNames.{IsFrom, IsStill}
-use Rattle.osdp_bus_links.proofs.Reserved.{One, asked_in, one_of_none}
+use Rattle.osdp_bus_links.proofs.Reserved.{One, one_of_none}
 
 module _ {H : Type 0} (answer_of : H → Command → Answer) (after : H → Command → H) where
   told_last : (ms : List (Move H)) (m : Move H) (l : Link H) → Each IsToldAsAsked (reports answer_of after (ms ++ m ∷ []) l)

@@ -20,7 +20,7 @@ use Rattle.osdp_controller_laws.proofs.Closed.{was_closed}
 use Rattle.osdp_msg.specs.declared.fault.MsgFault.{MsgFault}
 use Rattle.osdp_reader.specs.Table as reader
 use Rattle.osdp_reader.specs.Table.{command_in}
-use Rattle.osdp_shared_line.specs.Addresses.{SetsReader, address_in}
+use Rattle.osdp_shared_line.specs.Addresses.{SetsReader, address_in, asked_in}
 use Rattle.osdp_reader.specs.declared.handler.Answer.{Answer}
 use Rattle.osdp_link_laws.specs.Headline.{MoveFits, SaysWhatFitsIf}
 use Rattle.osdp_link_laws.specs.Link as link
@@ -32,7 +32,7 @@ use Rattle.osdp_link_laws.specs.Refusals.{told_by, told_by_front}
 use Rattle.osdp_bus_links.proofs.ControllerNames.{HeardWell, StaysHere, ToldAsAsked, heard_well}
 use Rattle.osdp_link_laws.proofs.Lines.{each_append, each_map, each_of}
 use Rattle.osdp_bus_links.proofs.ReaderNames.{IsFrom, IsStill, KeepsStill, ReaderGoes, ReaderStays, reader_well}
-use Rattle.osdp_bus_links.proofs.Reserved.{One, Sends, TickedWell, asked_in, moves_below, new_is, one_accepted, tick_frees_none, ticked_well}
+use Rattle.osdp_bus_links.proofs.Reserved.{One, Sends, TickedWell, moves_below, new_is, one_accepted, tick_frees_none, ticked_well}
 use Rattle.osdp_link_laws.proofs.Stages.{Each}
 
 -- what a command on the line, and a reply, may name

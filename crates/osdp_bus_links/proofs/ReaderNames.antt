@@ -1,7 +1,7 @@
 -- What a packet may make of the reader's address, and what the reader says then.
-use Rattle.std.proofs.Common.{◌≡◌, ◌≢◌, ◌⊎◌, ◌<◌, ℕ, Bool, true, false, cond, eqb, List, [], ◌∷◌, Option, Some, None, IfSome, Result, Ok, Err, refl, sym, subst, ap, ◌∙◌, inl, inr, arith}
+use Rattle.std.proofs.Common.{◌≡◌, ◌≢◌, ◌⊎◌, ◌<◌, ℕ, Bool, true, false, cond, List, [], ◌∷◌, Option, Some, None, IfSome, Result, Ok, Err, refl, sym, subst, ap, ◌∙◌, inl, inr}
 use Rattle.std.proofs.lemmas.Bool.Decides.{eqb_tells}
-use Rattle.std.specs.Prelude.{◌||◌, not, nat_le}
+use Rattle.std.specs.Prelude.{not, nat_le}
 use Rattle.osdp_frame.specs.Packet.{Packet}
 use Rattle.osdp_msg.specs.ReplyTable.{ReplyFits}
 use Rattle.osdp_msg.specs.declared.command.Command.{Command}
@@ -20,7 +20,7 @@ use Rattle.osdp_controller.specs.declared.meaning.ReplyMeaning.TheVariants.{Plai
 use Rattle.osdp_reader.specs.Queue.{event_for, offering, released, withdrawn}
 use Rattle.osdp_reader.specs.Replies.{done_reply, list_reply, local_reply, maker_reply, not_processed, refusal_reply, refused, reply_for, reply_packet, unread_reason}
 use Rattle.osdp_reader.specs.State.{ReaderState}
-use Rattle.osdp_reader.specs.Table.{Outcome, answer_to, begun, command_in, event_or_answer, hears, kind_by_number, kind_of, moved, new_address, outcome, refuses, taken}
+use Rattle.osdp_reader.specs.Table.{Outcome, answer_to, begun, command_in, event_or_answer, hears, kind_of, moved, new_address, outcome, refuses, taken}
 use Rattle.osdp_reader.specs.declared.config.ReaderConfig.{ReaderConfig}
 use Rattle.osdp_reader.specs.declared.handler.Answer.{Answer}
 use Rattle.osdp_reader.specs.declared.handler.Answer.TheVariants as answer
@@ -28,6 +28,7 @@ use Rattle.osdp_reader.specs.declared.kind.Kind.{Kind}
 use Rattle.osdp_reader.specs.declared.kind.Kind.TheVariants as kind
 use Rattle.osdp_bus_links.proofs.Names.{MovesController, MovesReader}
 use Rattle.osdp_link_laws.specs.Peers.{ReadsWhatIsAnswered}
+use Rattle.osdp_shared_line.proofs.Hearing.{for_reader}
 
 -- ---- which answers are COM
 
@@ -126,27 +127,6 @@ pub record ReaderWell {H : Type 0} (here : ℕ) (p : Packet) (o : Outcome H) : T
   pub stored : KeepsStill o.reader
   pub named : IfSome o.reply (IsFrom here)
   pub goes : ReaderStays here o ⊎ ReaderGoes here p o
-
-module _ {H : Type 0} where
-  -- a packet to a device's address is for this reader, or it is silent
-  pub for_reader : (r : ReaderState H) (p : Packet) → p.address < 127 → (p.address ≡ r.config.address) ⊎ (kind_of r p ≡ kind.Silent)
-  for_reader r p device =
-      elim (eqb_tells p.address r.config.address) [
-        | inl equal ↦ inl equal.1
-        | inr differs ↦ elim (eqb_tells p.address 127) [
-          | inl far ↦ absurd (let is = far.1 in omega (arith, device, is))
-          | inr near ↦ inr (silent p.reply (eqb p.address r.config.address) (eqb p.address 127) differs.0 near.0)
-        ]
-      ]
-    where
-      rest : Kind
-      rest = cond p.block kind.Secured (cond (eqb p.sequence 0) (cond r.busy kind.Busy kind.Zero) (kind_by_number r.last p.sequence r.busy))
-
-      silent : (reply here all : Bool) → here ≡ false → all ≡ false → cond (reply || not (here || all)) kind.Silent rest ≡ kind.Silent
-      silent true here all h a = refl
-      silent false true all h a = absurd cc
-      silent false false true h a = absurd cc
-      silent false false false h a = refl
 
 module _ (reads : ReadsWhatIsAnswered) where
   -- only a COM sends the controller anywhere

@@ -20,17 +20,9 @@ use Rattle.osdp_link_laws.specs.Peers.{ReadsWhatIsAsked}
 use Rattle.osdp_link_laws.specs.Progress.{NoComset}
 use Rattle.osdp_link_laws.proofs.Lines.{both, each_append, each_rest}
 use Rattle.osdp_link_laws.proofs.Reports.{tick_so}
-use Rattle.osdp_link_laws.proofs.Stages.{Each, pending}
+use Rattle.osdp_link_laws.proofs.Stages.{Each}
 use Rattle.osdp_reader.specs.Table.{new_address}
-use Rattle.osdp_shared_line.specs.Addresses.{SetsReader, address_in}
-
--- the command that is outstanding
-abbrev pub asked_in : State → List Command
-asked_in Closed = []
-asked_in (Quiet until) = []
-asked_in (Idle due) = []
-asked_in (Waiting until k o) = pending o.exchange
-asked_in (Pausing until o) = pending o.exchange
+use Rattle.osdp_shared_line.specs.Addresses.{SetsReader, address_in, asked_by, asked_in}
 
 abbrev Front : Option Communication → Option ℕ → List Command → Type 0
 Front None r cs = Unit {0}
@@ -113,21 +105,21 @@ module _ (reads : ReadsWhatIsAsked) (r : Option ℕ) (here : ℕ) where
     pub address : t.session.config.address ≡ here
     pub frame : IfSome t.step.frame Sends
 
-  frame_sets : (x : Exchange) (s : Session) (ws : List Command) → Each CommandFits (pending x ++ ws) → One r (pending x ++ ws) → Sends (frame_of x s)
+  frame_sets : (x : Exchange) (s : Session) (ws : List Command) → Each CommandFits (asked_by x ++ ws) → One r (asked_by x ++ ws) → Sends (frame_of x s)
   frame_sets Opening s ws fits one to sets = absurd (let none = sym (ap address_in (reads Opening s (omega arith))) ∙ sets in cc)
   frame_sets Polling s ws fits one to sets = absurd (let none = sym (ap address_in (reads Polling s tt)) ∙ sets in cc)
   frame_sets (Asking c) s ws fits one to sets =
       let set = new_is c to (sym (ap address_in (reads (Asking c) s fits.0)) ∙ sets) in
       (front_is (comset_of c) set.0 r ws set.1 one.0).0 ∙ ap Some set.2
 
-  sending : (k : ℕ) (o : Outstanding) (s : Session) (ws : List Command) → s.config.address ≡ here → Each CommandFits (pending o.exchange ++ ws)
-      → One r (pending o.exchange ++ ws) → TickedWell (sends_frame k o s ws)
+  sending : (k : ℕ) (o : Outstanding) (s : Session) (ws : List Command) → s.config.address ≡ here → Each CommandFits (asked_by o.exchange ++ ws)
+      → One r (asked_by o.exchange ++ ws) → TickedWell (sends_frame k o s ws)
   sending k o s ws is fits one = record { one = one; fits = fits; address = is; frame = frame_sets o.exchange s ws fits one }
 
-  giving_up : (o : Outstanding) (s : Session) (ws : List Command) → s.config.address ≡ here → Each CommandFits (pending o.exchange ++ ws)
-      → One r (pending o.exchange ++ ws) → TickedWell (gives_up o s ws)
+  giving_up : (o : Outstanding) (s : Session) (ws : List Command) → s.config.address ≡ here → Each CommandFits (asked_by o.exchange ++ ws)
+      → One r (asked_by o.exchange ++ ws) → TickedWell (gives_up o s ws)
   giving_up o s ws is fits one =
-      record { one = one_rest r (pending o.exchange) ws one; fits = each_rest CommandFits (pending o.exchange) ws fits; address = is; frame = tt }
+      record { one = one_rest r (asked_by o.exchange) ws one; fits = each_rest CommandFits (asked_by o.exchange) ws fits; address = is; frame = tt }
 
   resting : (s : Session) (ws : List Command) → s.config.address ≡ here → Each CommandFits (asked_in s.state ++ ws) → One r (asked_in s.state ++ ws)
       → TickedWell (stays s ws)

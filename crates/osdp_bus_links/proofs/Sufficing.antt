@@ -8,16 +8,11 @@ use Rattle.osdp_msg.specs.declared.command.Command.{Command}
 use Rattle.osdp_msg.specs.declared.command_fields.Communication.{Communication}
 use Rattle.osdp_controller.specs.Hearing.{comset_of}
 use Rattle.osdp_controller.specs.Machine as controllers
-use Rattle.osdp_controller.specs.declared.exchange.Exchange.{Exchange}
-use Rattle.osdp_controller.specs.declared.exchange.Exchange.TheVariants.{Asking, Opening, Polling}
-use Rattle.osdp_controller.specs.declared.state.State.{State}
-use Rattle.osdp_controller.specs.declared.state.State.TheVariants.{Closed, Idle, Pausing, Quiet, Waiting}
 use Rattle.osdp_reader.specs.declared.handler.Answer.{Answer}
 use Rattle.osdp_link_laws.proofs.Lines.{each_of}
 use Rattle.osdp_link_laws.proofs.Numbers.{is_true}
-use Rattle.osdp_link_laws.proofs.Stages.{Each, pending}
-use Rattle.osdp_shared_line.specs.Addresses as addresses
-use Rattle.osdp_shared_line.specs.Addresses.{HasNoOther, IsAsked, IsSaid, IsSetUp, IsThere, MayComeTo, NetMoveFits, NetMovesFit, NobodyElseHears, Sets, SetsReader, Somewhere, asked_by, unended}
+use Rattle.osdp_link_laws.proofs.Stages.{Each}
+use Rattle.osdp_shared_line.specs.Addresses.{HasNoOther, IsAsked, IsSaid, IsSetUp, IsThere, MayComeTo, NetMoveFits, NetMovesFit, NobodyElseHears, Sets, SetsReader, Somewhere, asked_in}
 use Rattle.osdp_shared_line.specs.Line.{LoseToPanel, LoseToReader, Net, NetMove, Queue, Reopen, RestartPanel, RestartReader, Retarget, SetBusy, SetHandler, Site, Submit, Tick, ToPanel, ToReader, Withdraw, address_of, after_net, is_command_accepted, is_comset_refused, is_reserved, is_taken, is_taken_beside, run, site_at, takes_up}
 use Rattle.osdp_shared_line.specs.Views.{EachMoveIsItsOwn, OpensQuietly, move_of, own, view}
 use Rattle.osdp_shared_line.proofs.Linking.{move_fits}
@@ -28,21 +23,9 @@ use Rattle.osdp_bus_links.proofs.Leading.{starts}
 use Rattle.osdp_bus_links.proofs.Linked.{AreLinked, IsLinked, OfALink, linked_after}
 use Rattle.osdp_bus_links.proofs.Names.{IsName}
 use Rattle.osdp_bus_links.proofs.Naming.{Keeps}
-use Rattle.osdp_bus_links.proofs.Reserved.{One, asked_in, front_is, new_is}
+use Rattle.osdp_bus_links.proofs.Reserved.{One, front_is, new_is}
 
 -- ---- what is under way
-
-asked_so : (x : Exchange) → asked_by x ≡ pending x
-asked_so Opening = refl
-asked_so Polling = refl
-asked_so (Asking c) = refl
-
-asked_alike : (state : State) → addresses.asked_in state ≡ asked_in state
-asked_alike Closed = refl
-asked_alike (Quiet until) = refl
-asked_alike (Idle due) = refl
-asked_alike (Waiting until k o) = asked_so o.exchange
-asked_alike (Pausing until o) = asked_so o.exchange
 
 -- the one COMSET sets the address that is kept
 one_sets : (r : Option ℕ) (a : ℕ) (cs : List Command) → One r cs → Somewhere (Sets a) cs → r ≡ Some a
@@ -106,8 +89,7 @@ module _ {H : Type 0} (answer_of : H → Command → Answer) (after : H → Comm
   named : (a k : ℕ) (s : Site H) (n : Net H) → IsLinked answer_of after k s n → MayComeTo a k s → IsName (address_of s) s.reserved a
   named a k s n h (IsThere is) = subst (IsName (address_of s) s.reserved) is h.keeps.names.reader
   named a k s n h (IsAsked found) =
-      inr (one_sets s.reserved a (asked_in s.controller.session.state ++ s.controller.waiting) h.keeps.one
-      (subst (λ cs. Somewhere (Sets a) (cs ++ s.controller.waiting)) (asked_alike s.controller.session.state) found))
+      inr (one_sets s.reserved a (asked_in s.controller.session.state ++ s.controller.waiting) h.keeps.one found)
   named a k s n h (IsSaid found) =
       of_own (λ p. (to : ℕ) → SetsReader to p → IsName (address_of s) s.reserved to) (SetsReader a) (IsName (address_of s) s.reserved a) k s.coming
       (λ p names sets. names a sets) h.keeps.names.commands found
