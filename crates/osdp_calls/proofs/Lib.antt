@@ -16,3 +16,4 @@ mod Orders
 mod Powers
 mod Setting
 mod Holding
+mod Sayings

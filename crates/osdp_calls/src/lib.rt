@@ -2,7 +2,9 @@
 //! nothing: their contracts are laws.
 #![tactic(auto)]
 
+ghost use Rattle.osdp_calls.specs.Lines.{InUse};
 ghost use Rattle.osdp_calls.specs.Promises.{CallsHoldOnce, CallsKeepApart};
+ghost use Rattle.osdp_calls.specs.Sayings.{AddsMakeTheBus, SaysWhatGoesOut};
 
 use osdp_reader::Handler;
 
@@ -29,3 +31,14 @@ pub fn calls_keep_apart<H: Handler>()
 {
     osdp_shared_line::nobody_else_hears::<H>();
 }
+
+/// What is said is what goes out: at a tick of the panel the frame that it gives, for the entry that it is of, and at a `next` of a device the
+/// packet whose bytes the response has. A response is that of the first packet that the reader answers.
+pub fn says_what_goes_out<H: Handler>()
+    ensures { (l : InUse H) → SaysWhatGoesOut H.answer_of H.after l }
+{}
+
+/// The bus of a set-up is a new one to which the entries were added, one after the other, where none was refused.
+pub fn adds_make_the_bus()
+    ensures { AddsMakeTheBus }
+{}

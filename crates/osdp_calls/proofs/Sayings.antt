@@ -1,0 +1,155 @@
+-- What goes out at a call is what is said.
+use Rattle.std.proofs.Common.{◌≡◌, ◌||◌, ℕ, not, Bool, true, false, cond, List, [], ◌∷◌, ◌++◌, map, All, Option, Some, None, refl, sym, subst, ap, ◌∙◌, append-nil, append_assoc}
+use Rattle.std.specs.Option.{option_map}
+use Rattle.std.specs.Prelude.{option_to_list}
+use Rattle.osdp_frame.specs.Held.{Held, later}
+use Rattle.osdp_frame.specs.Packet.{Packet}
+use Rattle.osdp_frame.specs.Reading.{RunItem, PacketItem, SkippedItem, RefusedItem}
+use Rattle.osdp_msg.specs.declared.command.Command.{Command}
+use Rattle.osdp_bus.specs.Buses.{BusState, has_report, holder, new_bus, seen}
+use Rattle.osdp_bus.specs.Hearing.{ends_run}
+use Rattle.osdp_bus.specs.Machine.{add_refusal, after_add, changed_unless, new_device}
+use Rattle.osdp_bus.specs.Ticking.{BusTicked, bus_ticks, is_due_at, is_held_and_due, next_due, stays, ticks_at, ticks_by}
+use Rattle.osdp_bus.specs.declared.config.BusConfig.{BusConfig}
+use Rattle.osdp_bus_laws.specs.Calls as bus
+use Rattle.osdp_bus_laws.specs.Turns.{judged}
+use Rattle.osdp_device.specs.Saying as saying
+use Rattle.osdp_device.specs.Saying.{said_to, speaks, unless_silent}
+use Rattle.osdp_device.specs.Telling as telling
+use Rattle.osdp_device.specs.Telling.{items_of, told_by}
+use Rattle.osdp_link_laws.proofs.Lines.{each_all}
+use Rattle.osdp_reader.specs.State.{ReaderState}
+use Rattle.osdp_reader.specs.Table.{hears, kind_of, outcome}
+use Rattle.osdp_reader.specs.declared.handler.Answer.{Answer}
+use Rattle.osdp_reader.specs.declared.kind.Kind.{Kind}
+use Rattle.osdp_reader.specs.declared.kind.Kind.TheVariants as kind
+use Rattle.osdp_shared_line.specs.Line.{site_at}
+use Rattle.osdp_calls.specs.Calls.{after_next, asked_at, asked_by_holder, begins_with, begun_of, by_device, first_answered, panel_says, read_up_to, reply_to}
+use Rattle.osdp_calls.specs.Lines.{Burst, InUse, Station, bus_with}
+use Rattle.osdp_calls.specs.Sayings.{AddsMakeTheBus, IsSaidBy, NextSays, NoneRefused, SaysWhatGoesOut}
+
+-- ---- who is asked says what goes out
+
+abbrev Asked : BusTicked → Option ℕ → Type 0
+Asked t None = t.sent ≡ None
+Asked t (Some entry) = Unit {0}
+
+asks : (rests : Bool) (o : Option ℕ) (b : BusState) → Asked (cond rests (stays b) (ticks_at o b)) (cond rests None o)
+asks true o b = refl
+asks false None b = refl
+asks false (Some entry) b = tt
+
+by_holder : (o : Option ℕ) (b : BusState) → Asked (ticks_by o b) (asked_by_holder o b)
+by_holder None b = asks (has_report (ends_run b)) (next_due (ends_run b)) (ends_run b)
+by_holder (Some entry) b = by_due (is_due_at entry b)
+  where
+    by_due : (x : Bool) → Asked
+        (cond x (cond (has_report (ends_run b) || not (is_held_and_due entry (ends_run b))) (stays (ends_run b)) (ticks_at (Some entry) (ends_run b))) (stays b))
+        (cond x (cond (has_report (ends_run b) || not (is_held_and_due entry (ends_run b))) None (Some entry)) None)
+    by_due true = asks (has_report (ends_run b) || not (is_held_and_due entry (ends_run b))) (Some entry) (ends_run b)
+    by_due false = refl
+
+asked_says : (now : ℕ) (b : BusState) → Asked (bus_ticks now b) (asked_at now b)
+asked_says now b = by_report (has_report b)
+  where
+    by_report : (x : Bool) → Asked (cond x (stays (seen now b)) (ticks_by (holder (judged now b)) (judged now b)))
+        (cond x None (asked_by_holder (holder (judged now b)) (judged now b)))
+    by_report true = refl
+    by_report false = by_holder (holder (judged now b)) (judged now b)
+
+-- ---- entries
+
+adds_after : (config : BusConfig) (xs ys : List ℕ) → NoneRefused xs (bus_with config ys)
+    → bus.after_calls (map bus.Add xs) (bus_with config ys) ≡ bus_with config (ys ++ xs)
+adds_after config [] ys none = ap (bus_with config) (sym (append-nil ys))
+adds_after config (a ∷ xs) ys none =
+    let added : after_add a (bus_with config ys) ≡ bus_with config (ys ++ a ∷ []) = one ys in
+    ap (λ f. bus.after_calls (map bus.Add xs) (changed_unless f (bus_with config ys) (after_add a (bus_with config ys)))) none.0
+    ∙ ap (bus.after_calls (map bus.Add xs)) added
+    ∙ adds_after config xs (ys ++ a ∷ []) (subst (NoneRefused xs) added none.1)
+    ∙ ap (bus_with config) (append_assoc ys (a ∷ []) xs)
+  where
+    entries : (ys : List ℕ) → map (λ b. new_device b config) ys ++ new_device a config ∷ [] ≡ map (λ b. new_device b config) (ys ++ a ∷ [])
+    entries [] = refl
+    entries (y ∷ ys) = ap (λ l. new_device y config ∷ l) (entries ys)
+
+    one : (ys : List ℕ) → after_add a (bus_with config ys) ≡ bus_with config (ys ++ a ∷ [])
+    one ys = ap (λ l. record (new_bus config) { devices = record { entries = l; report = None } }) (entries ys)
+
+pub adds_make_the_bus : AddsMakeTheBus
+adds_make_the_bus config xs none = adds_after config xs [] none
+
+module _ {H : Type 0} (answer_of : H → Command → Answer) (after : H → Command → H) where
+  -- ---- the panel
+
+  says : (o : Option ℕ) (t : BusTicked) (l : InUse H) (old : List Burst) → l.said ≡ old → Asked t o
+      → IsSaidBy true (option_to_list t.sent) old (panel_says o t.sent l).said
+  says None t l old is none =
+      subst (λ p. IsSaidBy true (option_to_list p) old (panel_says None p l).said) (sym none)
+      (record { bursts = []; more = is ∙ sym (append-nil old); are = refl; ends = each_all (λ (b : Burst). b.by_panel ≡ true) [] tt })
+  says (Some entry) t l old is asked = by_sent t.sent
+    where
+      by_sent : (p : Option Packet) → IsSaidBy true (option_to_list p) old (panel_says (Some entry) p l).said
+      by_sent None = record { bursts = []; more = is ∙ sym (append-nil old); are = refl; ends = each_all (λ (b : Burst). b.by_panel ≡ true) [] tt }
+      by_sent (Some p) = record {
+        bursts = record { by_panel = true; entry = entry; packet = p } ∷ [];
+        more = ap (λ bs. bs ++ record { by_panel = true; entry = entry; packet = p } ∷ []) is;
+        are = refl;
+        ends = each_all (λ (b : Burst). b.by_panel ≡ true) (record { by_panel = true; entry = entry; packet = p } ∷ []) (refl, tt);
+      }
+
+  -- ---- a device
+
+  response_is : (parts : List RunItem) (r : ReaderState H) (held : Held)
+      → (told_by answer_of after parts r held).said ≡ option_map (said_to answer_of after r) (first_answered r (read_up_to r parts))
+  response_is [] r held = refl
+  response_is (SkippedItem byte ∷ parts) r held = response_is parts r (later held (SkippedItem byte))
+  response_is (RefusedItem fault ∷ parts) r held = response_is parts r (later held (RefusedItem fault))
+  response_is (PacketItem p ∷ parts) r held = by_kind (kind_of r p) refl (response_is parts r (later held (PacketItem p)))
+    where
+      Goal : Kind → Type 0
+      Goal k = (telling.told_or answer_of after (unless_silent k (said_to answer_of after r p)) (outcome answer_of after k r p).reader (later held (PacketItem p))
+          (told_by answer_of after parts (outcome answer_of after k r p).reader (later held (PacketItem p)))).said
+          ≡ option_map (said_to answer_of after r) (cond (speaks k) (Some p) (first_answered r (cond (speaks k) [] (read_up_to r parts))))
+
+      by_kind : (k : Kind) → kind_of r p ≡ k
+          → (told_by answer_of after parts r (later held (PacketItem p))).said ≡ option_map (said_to answer_of after r) (first_answered r (read_up_to r parts)) → Goal k
+      by_kind kind.Silent is rest = rest
+      by_kind kind.Secured is rest = refl
+      by_kind kind.Zero is rest = refl
+      by_kind kind.Repeat is rest = refl
+      by_kind kind.Taken is rest = refl
+      by_kind kind.Busy is rest = refl
+      by_kind kind.Wrong is rest = refl
+
+  device_bursts : (k : ℕ) (ps : List Packet) (old : List Burst) → IsSaidBy false ps old (old ++ by_device k ps)
+  device_bursts k ps old = record {
+    bursts = by_device k ps;
+    more = refl;
+    are = packets ps;
+    ends = each_all (λ (b : Burst). b.by_panel ≡ false) (by_device k ps) (ends ps);
+  }
+    where
+      packets : (ps : List Packet) → map (λ (b : Burst). b.packet) (by_device k ps) ≡ ps
+      packets [] = refl
+      packets (p ∷ ps) = ap (λ l. p ∷ l) (packets ps)
+
+      ends : (ps : List Packet) → Rattle.osdp_link_laws.proofs.Stages.Each (λ (b : Burst). b.by_panel ≡ false) (by_device k ps)
+      ends [] = tt
+      ends (p ∷ ps) = (refl, ends ps)
+
+  pub says_what_goes_out : (l : InUse H) → SaysWhatGoesOut answer_of after l
+  says_what_goes_out l = record {
+    panel = λ now places. says (asked_at now l.bus) (bus_ticks now l.bus) (record l {
+      bus = (bus_ticks now l.bus).bus;
+      stations = Rattle.osdp_calls.specs.Calls.noted (bus.Tick now) l.bus l.stations;
+      place = Rattle.osdp_calls.specs.Calls.last_of places l.place;
+    }) l.said refl (asked_says now l.bus);
+    device = λ k places t is. record {
+      answered = first_answered t.reader (read_up_to t.reader (items_of t.line.held));
+      response = response_is (items_of t.line.held) t.reader t.line.held;
+      said = subst (λ o. IsSaidBy false (reply_to answer_of after (first_answered t.reader (read_up_to t.reader (items_of t.line.held))) t.reader) l.said
+          (after_next answer_of after k places o l).said) (sym is)
+          (device_bursts k (reply_to answer_of after (first_answered t.reader (read_up_to t.reader (items_of t.line.held))) t.reader) l.said);
+    };
+  }
