@@ -1,5 +1,5 @@
 -- What goes out at a call is what is said.
-use Rattle.std.proofs.Common.{◌≡◌, ◌||◌, ℕ, not, Bool, true, false, cond, List, [], ◌∷◌, ◌++◌, map, All, Option, Some, None, refl, sym, subst, ap, ◌∙◌, append-nil, append_assoc}
+use Rattle.std.proofs.Common.{◌≡◌, ◌||◌, ℕ, not, Bool, true, false, cond, List, [], ◌∷◌, ◌++◌, map, Option, Some, None, refl, sym, subst, ap, ◌∙◌, append-nil, append_assoc}
 use Rattle.std.specs.Option.{option_map}
 use Rattle.std.specs.Prelude.{option_to_list}
 use Rattle.osdp_frame.specs.Held.{Held, later}
@@ -8,25 +8,23 @@ use Rattle.osdp_frame.specs.Reading.{RunItem, PacketItem, SkippedItem, RefusedIt
 use Rattle.osdp_msg.specs.declared.command.Command.{Command}
 use Rattle.osdp_bus.specs.Buses.{BusState, has_report, holder, new_bus, seen}
 use Rattle.osdp_bus.specs.Hearing.{ends_run}
-use Rattle.osdp_bus.specs.Machine.{add_refusal, after_add, changed_unless, new_device}
+use Rattle.osdp_bus.specs.Machine.{after_add, changed_unless, new_device}
 use Rattle.osdp_bus.specs.Ticking.{BusTicked, bus_ticks, is_due_at, is_held_and_due, next_due, stays, ticks_at, ticks_by}
 use Rattle.osdp_bus.specs.declared.config.BusConfig.{BusConfig}
 use Rattle.osdp_bus_laws.specs.Calls as bus
 use Rattle.osdp_bus_laws.specs.Turns.{judged}
-use Rattle.osdp_device.specs.Saying as saying
 use Rattle.osdp_device.specs.Saying.{said_to, speaks, unless_silent}
 use Rattle.osdp_device.specs.Telling as telling
 use Rattle.osdp_device.specs.Telling.{items_of, told_by}
 use Rattle.osdp_link_laws.proofs.Lines.{each_all}
 use Rattle.osdp_reader.specs.State.{ReaderState}
-use Rattle.osdp_reader.specs.Table.{hears, kind_of, outcome}
+use Rattle.osdp_reader.specs.Table.{kind_of, outcome}
 use Rattle.osdp_reader.specs.declared.handler.Answer.{Answer}
 use Rattle.osdp_reader.specs.declared.kind.Kind.{Kind}
 use Rattle.osdp_reader.specs.declared.kind.Kind.TheVariants as kind
-use Rattle.osdp_shared_line.specs.Line.{site_at}
 use Rattle.osdp_calls.specs.Calls.{after_next, asked_at, asked_by_holder, begins_with, begun_of, by_device, first_answered, panel_says, read_up_to, reply_to}
-use Rattle.osdp_calls.specs.Lines.{Burst, InUse, Station, bus_with}
-use Rattle.osdp_calls.specs.Sayings.{AddsMakeTheBus, IsSaidBy, NextSays, NoneRefused, SaysWhatGoesOut}
+use Rattle.osdp_calls.specs.Lines.{Burst, InUse, bus_with}
+use Rattle.osdp_calls.specs.Sayings.{AddsMakeTheBus, IsSaidBy, NoneRefused, SaysWhatGoesOut}
 
 -- ---- who is asked says what goes out
 
