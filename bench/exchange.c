@@ -14,7 +14,7 @@
 #include "osdp.h"
 
 static struct osdp_panel panel;
-static struct osdp_reader reader;
+static struct osdp_device reader;
 static struct osdp_burst burst;
 static struct osdp_answer answer;
 static struct osdp_report report;
@@ -38,7 +38,10 @@ static void tick(void)
 
 static void step(void)
 {
-    (void)osdp_reader_step(&reader, burst.bytes, burst.length, now, &taken, &answer);
+    (void)osdp_device_step(&reader, burst.bytes, burst.length, now, &taken, &answer);
+    if (answer.kind == OSDP_SAID_PENDING) { /* it is answered as it was set beforehand */
+        (void)osdp_device_step(&reader, burst.bytes, 0, now, &taken, &answer);
+    }
 }
 
 static void bytes(void)
@@ -63,7 +66,7 @@ static void submit(void)
 
 static void event(void)
 {
-    (void)osdp_reader_event_text(&reader, "RAW 0 0 26 12345640", 19);
+    (void)osdp_device_event_text(&reader, "RAW 0 0 26 12345640", 19);
 }
 
 static void text(void)
@@ -84,9 +87,9 @@ static void new_panel(void)
 static void new_reader(void)
 {
     const uint8_t outputs[] = { 0 };
-    struct osdp_reader_config config = { .address = 5, .capacity = 16, .gap = 20 };
-    demand(osdp_reader_new(&reader, &config, outputs, 0) == OSDP_OK, "no reader");
-    demand(osdp_reader_set_outputs(&reader, outputs, 1) == OSDP_OK, "no outputs");
+    struct osdp_device_config config = { .address = 5, .capacity = 16, .gap = 20 };
+    demand(osdp_device_new(&reader, &config, outputs, 0) == OSDP_OK, "no reader");
+    demand(osdp_device_set_outputs(&reader, outputs, 1) == OSDP_OK, "no outputs");
 }
 
 static void nothing(void)
@@ -160,7 +163,7 @@ int main(int count, char **words)
 {
     long exchanges = count > 1 ? atol(words[1]) : 200000, rounds = count > 2 ? atol(words[2]) : 5;
     print_depth("osdp_panel_new and add", new_panel);
-    print_depth("osdp_reader_new", new_reader);
+    print_depth("osdp_device_new", new_reader);
     demand(osdp_panel_begin(&panel, 0, now) == OSDP_OK, "no session");
     now = 400;
     tick();
@@ -172,10 +175,10 @@ int main(int count, char **words)
     printf("POLL exchanges %10.0f for a second, %.2f microseconds each\n", 1 / spent, spent * 1e6);
 
     print_depth("osdp_panel_submit_text", submit);
-    print_depth("osdp_reader_event_text", event);
+    print_depth("osdp_device_event_text", event);
     now += 50;
     print_depth("osdp_panel_tick", tick);
-    print_depth("osdp_reader_step", step);
+    print_depth("osdp_device_step", step);
     print_depth("osdp_panel_bytes", bytes);
     print_depth("osdp_panel_next_report", next_report);
     print_depth("osdp_panel_next_deadline", next_deadline);

@@ -8,8 +8,13 @@ static unsigned char none;
 
 struct osdp_block rattle_alloc(size_t size, size_t align)
 {
-    void *block = malloc(size != 0 ? size : align);
-    return (struct osdp_block){ block != NULL, block != NULL ? block : &none };
+    struct osdp_block given;
+    given.block = malloc(size != 0 ? size : align);
+    given.ok = given.block != NULL;
+    if (!given.ok) {
+        given.block = &none;
+    }
+    return given;
 }
 
 void rattle_dealloc(void *block)

@@ -15,7 +15,8 @@ union unit {
         size_t units;
         bool used;
     } head;
-    _Alignas(16) unsigned char bytes[16];
+    long double aligned; /* on the targets of the archive it has 16 bytes, and stands at multiples of 16 */
+    unsigned char bytes[16];
 };
 
 #define UNITS (OSDP_POOL / 16)
@@ -33,6 +34,15 @@ static size_t joined(size_t at)
     return pool[at].head.units;
 }
 
+/* A block, or none. */
+static struct osdp_block given(bool ok, void *block)
+{
+    struct osdp_block result;
+    result.ok = ok;
+    result.block = block;
+    return result;
+}
+
 /* Uses so many units of a free block, and leaves the others free where they are worth a head. */
 static struct osdp_block used(size_t at, size_t wanted)
 {
@@ -43,13 +53,13 @@ static struct osdp_block used(size_t at, size_t wanted)
         pool[at + 1 + wanted].head.used = false;
     }
     pool[at].head.used = true;
-    return (struct osdp_block){ true, &pool[at + 1] };
+    return given(true, &pool[at + 1]);
 }
 
 struct osdp_block rattle_alloc(size_t size, size_t align)
 {
-    (void)align;
     size_t wanted = size / 16 + (size % 16 != 0 || size == 0);
+    (void)align;
     if (pool[0].head.units == 0) {
         pool[0].head.units = UNITS - 1; /* the first call of all */
     }
@@ -58,7 +68,7 @@ struct osdp_block rattle_alloc(size_t size, size_t align)
             return used(at, wanted);
         }
     }
-    return (struct osdp_block){ false, pool };
+    return given(false, pool);
 }
 
 void rattle_dealloc(void *block)

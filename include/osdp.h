@@ -1,5 +1,5 @@
 /*
- * OSDP, the panel's and the reader's end of the link, for C and for whatever calls C.
+ * OSDP, the panel's and the device's end of the link, for C and for whatever calls C.
  *
  * The functions are proved: what each does is stated over the definitions of the machines, and checked by Rattle's prover. They are
  * in the archive libosdp_c.a, which `rt lib` builds from crates/osdp_c. What stands between a caller and the proof is this page.
@@ -17,9 +17,9 @@
  * Writing.    A struct is written whole but for its arrays: of an array as many bytes as its length says are written, and the others
  *             stay as they were. Nothing beyond a struct is written. No struct that a call reads or writes has padding.
  * Heap.       `osdp_panel_new` takes 43,088 bytes in two blocks, and `osdp_panel_add` 1,648 for each command that may wait, in one.
- *             `osdp_reader_new` takes 18,904 bytes, and 1,456 for each event that may wait, in two blocks. `free` gives all back. No other call
+ *             `osdp_device_new` takes 20,360 bytes, and 1,456 for each event that may wait, in two blocks. `free` gives all back. No other call
  *             takes memory. Where there is none, a call says so, and nothing has changed.
- * Stack.      `osdp_reader_new` takes 93 KiB of stack, each other call at most 68 KiB, as measured on 64-bit x86.
+ * Stack.      `osdp_device_new` takes 98 KiB of stack, each other call at most 68 KiB, as measured on 64-bit x86.
  * Targets.    64-bit x86 and ARM, where a `size_t` has 64 bits.
  *
  * What the caller owes, which no proof checks:
@@ -49,9 +49,7 @@ extern "C" {
 /* ---- Statuses ---- */
 
 /* What became of a call. The two digits from 11 on are those of the machines' own refusals: 1 for M, 2 for B, 3 for C, 4 for N. */
-typedef uint32_t osdp_status;
-
-enum {
+typedef enum osdp_status {
     /* The call was done. */
     OSDP_OK = 0,
     /* The handle holds no machine. */
@@ -64,8 +62,10 @@ enum {
     OSDP_NO_EVENT = 4,
     /* The text is longer than the room for it. The length that it has is written. */
     OSDP_TOO_SMALL = 5,
-    /* The text has no room in the call's own 6,144 bytes. No message of the tables has a text as long. */
-    OSDP_NO_TEXT = 6,
+    /* No call has stopped before a command, so none is to be answered. */
+    OSDP_NOT_ASKED = 7,
+    /* The message is another than the call reads. */
+    OSDP_OTHER_MESSAGE = 8,
 
     /* M1: the code isn't in the table of commands, or of replies. */
     OSDP_UNKNOWN_CODE = 11,
@@ -93,14 +93,80 @@ enum {
     OSDP_NOT_CLOSED = 35,
 
     /* N1: there is no memory for a reader. */
-    OSDP_READER_NO_MEMORY = 41,
+    OSDP_DEVICE_NO_MEMORY = 41,
     /* N2: as many events wait as there is room for. */
     OSDP_EVENTS_FULL = 42,
     /* N3: the address is above 126, or the capacity or the gap is out of its range. */
-    OSDP_READER_OUT_OF_RANGE = 43
-};
+    OSDP_DEVICE_OUT_OF_RANGE = 43
+} osdp_status;
+
+/* What a status says, in a few words that end with a zero; never null. In c/osdp_texts.c, and in libosdp.a. */
+const char *osdp_status_text(osdp_status status);
+
+/* The version of what is linked, as OSDP_VERSION is that of this page. In c/osdp_texts.c, and in libosdp.a. */
+const char *osdp_version(void);
 
 /* ---- What both ends share ---- */
+
+/* How much there is at most. */
+enum {
+    /* The data of a message, in bytes. */
+    OSDP_MOST_DATA = 1432,
+    /* A packet, in bytes. */
+    OSDP_MOST_PACKET = 1440,
+    /* The devices of a panel. */
+    OSDP_MOST_DEVICES = 16,
+    /* The text of a message, in bytes; a zero after it is one more. */
+    OSDP_MOST_TEXT = 5729
+};
+
+/* The codes of commands. */
+enum {
+    OSDP_POLL = 0x60,
+    OSDP_ID = 0x61,
+    OSDP_CAP = 0x62,
+    OSDP_LSTAT = 0x64,
+    OSDP_ISTAT = 0x65,
+    OSDP_OSTAT = 0x66,
+    OSDP_RSTAT = 0x67,
+    OSDP_OUT = 0x68,
+    OSDP_LED = 0x69,
+    OSDP_BUZ = 0x6A,
+    OSDP_TEXT = 0x6B,
+    OSDP_COMSET = 0x6E,
+    OSDP_MFG = 0x80
+};
+
+/* The codes of replies. */
+enum {
+    OSDP_ACK = 0x40,
+    OSDP_NAK = 0x41,
+    OSDP_PDID = 0x45,
+    OSDP_PDCAP = 0x46,
+    OSDP_LSTATR = 0x48,
+    OSDP_ISTATR = 0x49,
+    OSDP_OSTATR = 0x4A,
+    OSDP_RSTATR = 0x4B,
+    OSDP_RAW = 0x50,
+    OSDP_FMT = 0x51,
+    OSDP_KEYPAD = 0x53,
+    OSDP_COM = 0x54,
+    OSDP_BUSY = 0x79,
+    OSDP_MFGREP = 0x90
+};
+
+/* Why a command wasn't done: the reason of a NAK. */
+enum {
+    OSDP_NAK_CHECK_CHARACTERS = 1,
+    OSDP_NAK_COMMAND_LENGTH = 2,
+    OSDP_NAK_UNKNOWN_COMMAND = 3,
+    OSDP_NAK_UNEXPECTED_SEQUENCE = 4,
+    OSDP_NAK_SECURITY_BLOCK = 5,
+    OSDP_NAK_SECURITY_CONDITIONS = 6,
+    OSDP_NAK_BIOMETRIC_TYPE = 7,
+    OSDP_NAK_BIOMETRIC_FORMAT = 8,
+    OSDP_NAK_RECORD_NOT_PROCESSED = 9
+};
 
 /* A command or a reply: its code and its data. 1,436 bytes. */
 struct osdp_message {
@@ -122,10 +188,10 @@ struct osdp_burst {
 /*
  * The text of the command that a code and data stand for, as in `OUT 0:5:30`. docs/PROTOCOL.md has the texts.
  *
- * `room` is how many bytes may be written to `text`. The text's length is written to `text_length`, and the text to `text`, with no zero
- * after it; the bytes after it stay as they were.
+ * `room` is how many bytes may be written to `text`. The text's length is written to `text_length`, and the text to `text`, and a zero after it where
+ * there is room for one more byte; the bytes after these stay as they were. OSDP_MOST_TEXT + 1 bytes are room for each text and its zero.
  *
- * OSDP_UNKNOWN_CODE (M1), OSDP_BAD_LENGTH (M2), OSDP_BAD_COUNT (M3): the code and data stand for no command. OSDP_NO_TEXT.
+ * OSDP_UNKNOWN_CODE (M1), OSDP_BAD_LENGTH (M2), OSDP_BAD_COUNT (M3): the code and data stand for no command.
  * OSDP_TOO_SMALL: the text is longer than the room; its length is written, and no text.
  */
 osdp_status osdp_command_text(uint8_t code, const uint8_t *data, size_t length, char *text, size_t room, size_t *text_length);
@@ -133,13 +199,159 @@ osdp_status osdp_command_text(uint8_t code, const uint8_t *data, size_t length, 
 /* The same of a reply. An event's text is that of the reply that tells it, as in `KEYPAD 0 31`. */
 osdp_status osdp_reply_text(uint8_t code, const uint8_t *data, size_t length, char *text, size_t room, size_t *text_length);
 
+/* ---- The fields of a message ---- */
+
+/* A card's bits: of a RAW. 1,434 bytes. */
+struct osdp_raw {
+    /* Which reader of the device, counted from 0. */
+    uint8_t reader;
+    /* How the bits are to be understood. */
+    uint8_t format;
+    /* How many bits there are. */
+    uint16_t bits;
+    /* How many bytes they stand in, 0 to 1,428. */
+    uint16_t length;
+    /* The bits, the first in the highest place of the first byte. */
+    uint8_t bytes[1428];
+};
+
+/* Pressed keys: of a KEYPAD. 257 bytes. */
+struct osdp_keypad {
+    /* Which reader of the device, counted from 0. */
+    uint8_t reader;
+    /* How many keys there are, 0 to 255, */
+    uint8_t count;
+    /* in their order. */
+    uint8_t digits[255];
+};
+
+/* A byte for each input or output: of an ISTATR or an OSTATR. 1,434 bytes. */
+struct osdp_states {
+    /* How many there are, 0 to 1,432. */
+    uint16_t length;
+    /* 1 where the input is active or the output on, else 0. */
+    uint8_t states[1432];
+};
+
+/* What a device is: of a PDID. 12 bytes. */
+struct osdp_pd_id {
+    uint32_t serial;
+    uint8_t vendor[3];
+    uint8_t model;
+    uint8_t version;
+    uint8_t firmware_major;
+    uint8_t firmware_minor;
+    uint8_t firmware_build;
+};
+
+/* Why a command wasn't done: of a NAK. 1,434 bytes. */
+struct osdp_nak {
+    /* How many bytes of detail there are, 0 to 1,431. */
+    uint16_t length;
+    /* OSDP_NAK_CHECK_CHARACTERS to OSDP_NAK_RECORD_NOT_PROCESSED, or another number. */
+    uint8_t reason;
+    uint8_t detail[1431];
+};
+
+/* What one output is to do: a record of an OUT. 4 bytes. */
+struct osdp_output {
+    /* In 100 ms: how long it lasts, where the control is 5 or 6. */
+    uint16_t timer;
+    /* The output of the device, counted from 0. */
+    uint8_t output;
+    /*
+     * 0 no change; 1 off for good and 2 on for good, and a timed operation ends; 3 off for good and 4 on for good, and a timed operation goes on to its
+     * end; 5 on for a time; 6 off for a time.
+     */
+    uint8_t control;
+};
+
+/* What one LED of a reader is to do: a record of a LED. Times are in 100 ms. Colors: 0 off, 1 red, 2 green, 3 amber, 4 blue, 5 magenta, 6 cyan,
+ * 7 white. 14 bytes. */
+struct osdp_led {
+    /* How long the temporary state lasts. */
+    uint16_t timer;
+    uint8_t reader;
+    uint8_t led;
+    /* 0 nothing, 1 cancel, 2 set. */
+    uint8_t temporary_control;
+    uint8_t temporary_on_time;
+    uint8_t temporary_off_time;
+    uint8_t temporary_on_color;
+    uint8_t temporary_off_color;
+    /* 0 nothing, 1 set. */
+    uint8_t permanent_control;
+    uint8_t permanent_on_time;
+    uint8_t permanent_off_time;
+    uint8_t permanent_on_color;
+    uint8_t permanent_off_color;
+};
+
+/* How the buzzer of a reader sounds: a BUZ. Times are in 100 ms. 5 bytes. */
+struct osdp_buzzer {
+    uint8_t reader;
+    /* 0 none, 1 off, 2 default. */
+    uint8_t tone;
+    uint8_t on_time;
+    uint8_t off_time;
+    /* How often; 0 means until another command. */
+    uint8_t count;
+};
+
+/* What the display of a reader shows: a TEXT. 261 bytes. */
+struct osdp_text {
+    uint8_t reader;
+    /* 1 permanent, 2 permanent with wrap, 3 temporary, 4 temporary with wrap. */
+    uint8_t command;
+    /* In seconds, of a temporary text. */
+    uint8_t time;
+    /* Where the first character stands, counted from 1. */
+    uint8_t row;
+    uint8_t column;
+    /* How many characters there are. */
+    uint8_t count;
+    uint8_t characters[255];
+};
+
+/*
+ * Each reads the fields of one reply, such as that of a report, and writes them.
+ *
+ * OSDP_OTHER_MESSAGE: it is another reply; nothing is written. OSDP_UNKNOWN_CODE (M1), OSDP_BAD_LENGTH (M2), OSDP_BAD_COUNT (M3): it is no reply;
+ * where `present` is 0 its code is 0, and no reply has that.
+ */
+osdp_status osdp_raw_of(const struct osdp_message *reply, struct osdp_raw *raw);
+osdp_status osdp_keypad_of(const struct osdp_message *reply, struct osdp_keypad *keypad);
+osdp_status osdp_inputs_of(const struct osdp_message *reply, struct osdp_states *inputs);
+osdp_status osdp_outputs_of(const struct osdp_message *reply, struct osdp_states *outputs);
+osdp_status osdp_pd_id_of(const struct osdp_message *reply, struct osdp_pd_id *id);
+osdp_status osdp_nak_of(const struct osdp_message *reply, struct osdp_nak *nak);
+
+/*
+ * Reads the record of an OUT at a place, counted from 0: call it for 0, 1, 2 and so on while it gives OSDP_OK.
+ *
+ * OSDP_OTHER_MESSAGE: it is another command, or has no record there; nothing is written. OSDP_UNKNOWN_CODE (M1), OSDP_BAD_LENGTH (M2),
+ * OSDP_BAD_COUNT (M3): it is no command.
+ */
+osdp_status osdp_output_of(const struct osdp_message *command, size_t at, struct osdp_output *output);
+
+/*
+ * Each writes a command: `osdp_panel_submit(&panel, entry, command.code, command.data, command.length)` orders it.
+ *
+ * OSDP_BAD_LENGTH (M2): there is no record, or more than 358 of an OUT or 102 of a LED; nothing is written.
+ */
+osdp_status osdp_out(const struct osdp_output *outputs, size_t count, struct osdp_message *command);
+osdp_status osdp_led(const struct osdp_led *leds, size_t count, struct osdp_message *command);
+void osdp_buzzer(const struct osdp_buzzer *buzzer, struct osdp_message *command);
+void osdp_text(const struct osdp_text *text, struct osdp_message *command);
+void osdp_comset(uint8_t address, uint32_t baud_rate, struct osdp_message *command);
+
 /* ---- A panel: the controller's end of a line with up to sixteen readers ---- */
 
-/* A panel. All zeros is none: `struct osdp_panel panel = {0};`. Its words are not read or written by the caller. 16 bytes. */
-struct osdp_panel {
-    void *machine;
-    size_t live;
-};
+/* A panel. All zeros is none: `osdp_panel panel = {0};`. Its words are not read or written by the caller. 16 bytes. */
+typedef struct osdp_panel {
+    void *panel;
+    size_t panel_live;
+} osdp_panel;
 
 enum {
     /* A checksum ends each packet, one byte. */
@@ -179,10 +391,10 @@ void osdp_panel_defaults(struct osdp_panel_config *config);
  * OSDP_IN_USE: the handle holds a panel, which stays. OSDP_PANEL_OUT_OF_RANGE (B5): a setting is out of its range.
  * OSDP_PANEL_NO_MEMORY (B1).
  */
-osdp_status osdp_panel_new(struct osdp_panel *panel, const struct osdp_panel_config *config);
+osdp_status osdp_panel_new(osdp_panel *panel, const struct osdp_panel_config *config);
 
 /* Frees a panel and all that belongs to it; the handle is none after it. OSDP_NO_MACHINE. */
-osdp_status osdp_panel_free(struct osdp_panel *panel);
+osdp_status osdp_panel_free(osdp_panel *panel);
 
 /*
  * Adds a device at an address, 0 to 126, whose session is closed. Its number is written to `entry`: 0 to 15, in the order of adding.
@@ -190,14 +402,14 @@ osdp_status osdp_panel_free(struct osdp_panel *panel);
  * OSDP_NO_MACHINE. OSDP_TOO_MANY (B2): sixteen are there. OSDP_PANEL_OUT_OF_RANGE (B5): the address is above 126. OSDP_ADDRESS_TAKEN (B3):
  * it is that of a device or reserved for one. OSDP_PANEL_NO_MEMORY (B1).
  */
-osdp_status osdp_panel_add(struct osdp_panel *panel, uint32_t address, size_t *entry);
+osdp_status osdp_panel_add(osdp_panel *panel, uint32_t address, size_t *entry);
 
 /*
  * Begins a session of a device: it is left quiet for `quiet_wait`, then the opening ID goes out in its turn.
  *
  * OSDP_NO_MACHINE. OSDP_NO_ENTRY (B4). OSDP_NOT_CLOSED (C5): its session has begun.
  */
-osdp_status osdp_panel_begin(struct osdp_panel *panel, size_t entry, uint64_t now);
+osdp_status osdp_panel_begin(osdp_panel *panel, size_t entry, uint64_t now);
 
 /*
  * Puts a command after those that wait for a device, whether or not its session has begun. What becomes of it comes as a report.
@@ -206,14 +418,14 @@ osdp_status osdp_panel_begin(struct osdp_panel *panel, size_t entry, uint64_t no
  * OSDP_NO_ENTRY (B4). OSDP_ADDRESS_TAKEN (B3): a COMSET to an address of another device or reserved for one, or where one is reserved
  * for this device already. OSDP_POLL_SUBMITTED (C4): a POLL. OSDP_COMMANDS_FULL (C3).
  */
-osdp_status osdp_panel_submit(struct osdp_panel *panel, size_t entry, uint8_t code, const uint8_t *data, size_t length);
+osdp_status osdp_panel_submit(osdp_panel *panel, size_t entry, uint8_t code, const uint8_t *data, size_t length);
 
 /*
  * The same of a command's text, such as `OUT 0:5:30`. Its words have one or more spaces between each two, and it ends after `length` bytes.
  *
  * OSDP_NO_MACHINE. OSDP_BAD_TEXT: it is the text of no command. The others are those of `osdp_panel_submit`.
  */
-osdp_status osdp_panel_submit_text(struct osdp_panel *panel, size_t entry, const char *text, size_t length);
+osdp_status osdp_panel_submit_text(osdp_panel *panel, size_t entry, const char *text, size_t length);
 
 /*
  * Takes back the command that has waited longest for a device: it won't be sent. None (`present` is 0) where none waits, or where its session
@@ -221,7 +433,7 @@ osdp_status osdp_panel_submit_text(struct osdp_panel *panel, size_t entry, const
  *
  * OSDP_NO_MACHINE. OSDP_NO_ENTRY (B4).
  */
-osdp_status osdp_panel_withdraw(struct osdp_panel *panel, size_t entry, struct osdp_message *command);
+osdp_status osdp_panel_withdraw(osdp_panel *panel, size_t entry, struct osdp_message *command);
 
 /*
  * Sets the address of a device, 0 to 126, and frees the one that is reserved for it.
@@ -229,7 +441,7 @@ osdp_status osdp_panel_withdraw(struct osdp_panel *panel, size_t entry, struct o
  * OSDP_NO_MACHINE. OSDP_NO_ENTRY (B4). OSDP_NOT_CLOSED (C5): its session has begun. OSDP_PANEL_OUT_OF_RANGE (B5): the address is above 126.
  * OSDP_ADDRESS_TAKEN (B3): it is that of another device or reserved for one, or a COMSET waits for this one.
  */
-osdp_status osdp_panel_retarget(struct osdp_panel *panel, size_t entry, uint32_t address);
+osdp_status osdp_panel_retarget(osdp_panel *panel, size_t entry, uint32_t address);
 
 /*
  * Bytes have come from the line, in any pieces. Each packet that they finish goes to the device of its address. No bytes move the
@@ -237,13 +449,13 @@ osdp_status osdp_panel_retarget(struct osdp_panel *panel, size_t entry, uint32_t
  *
  * OSDP_NO_MACHINE.
  */
-osdp_status osdp_panel_bytes(struct osdp_panel *panel, const uint8_t *bytes, size_t length, uint64_t now);
+osdp_status osdp_panel_bytes(osdp_panel *panel, const uint8_t *bytes, size_t length, uint64_t now);
 
 /* The line was seen silent: the run of bytes is over, and what was begun is no packet. OSDP_NO_MACHINE. */
-osdp_status osdp_panel_silence(struct osdp_panel *panel, uint64_t now);
+osdp_status osdp_panel_silence(osdp_panel *panel, uint64_t now);
 
 /* What is due at a moment: a burst to write. While a report waits, none. OSDP_NO_MACHINE. */
-osdp_status osdp_panel_tick(struct osdp_panel *panel, uint64_t now, struct osdp_burst *burst);
+osdp_status osdp_panel_tick(osdp_panel *panel, uint64_t now, struct osdp_burst *burst);
 
 /* A moment, where there is one. 16 bytes. */
 struct osdp_moment {
@@ -258,7 +470,7 @@ struct osdp_moment {
  *
  * OSDP_NO_MACHINE.
  */
-osdp_status osdp_panel_next_deadline(struct osdp_panel *panel, struct osdp_moment *deadline);
+osdp_status osdp_panel_next_deadline(osdp_panel *panel, struct osdp_moment *deadline);
 
 /* What a report tells. docs/GUIDE.md says what a panel does with each. */
 enum {
@@ -303,19 +515,31 @@ struct osdp_report {
     struct osdp_message reply;
 };
 
+/* How many devices the panel has. OSDP_NO_MACHINE. */
+osdp_status osdp_panel_entries(osdp_panel *panel, size_t *count);
+
+/* The address that a device has now. OSDP_NO_MACHINE. OSDP_NO_ENTRY (B4). */
+osdp_status osdp_panel_address(osdp_panel *panel, size_t entry, uint32_t *address);
+
+/* How many commands wait for a device; the one that is under way isn't counted. OSDP_NO_MACHINE. OSDP_NO_ENTRY (B4). */
+osdp_status osdp_panel_waiting(osdp_panel *panel, size_t entry, size_t *count);
+
+/* Whether the session of a device is closed: 1, else 0. OSDP_NO_MACHINE. OSDP_NO_ENTRY (B4). */
+osdp_status osdp_panel_is_closed(osdp_panel *panel, size_t entry, uint32_t *closed);
+
 /* Takes the report that waits. OSDP_NO_MACHINE. */
-osdp_status osdp_panel_next_report(struct osdp_panel *panel, struct osdp_report *report);
+osdp_status osdp_panel_next_report(osdp_panel *panel, struct osdp_report *report);
 
-/* ---- A reader: the device's end of the link ---- */
+/* ---- A device: the reader's end of the link ---- */
 
-/* A reader. All zeros is none: `struct osdp_reader reader = {0};`. Its words are not read or written by the caller. 16 bytes. */
-struct osdp_reader {
-    void *machine;
-    size_t live;
-};
+/* A device. All zeros is none: `osdp_device device = {0};`. Its words are not read or written by the caller. 16 bytes. */
+typedef struct osdp_device {
+    void *device;
+    size_t device_live;
+} osdp_device;
 
 /* What a reader is. 24 bytes. */
-struct osdp_reader_config {
+struct osdp_device_config {
     /* The address on the line, 0 to 126. */
     uint32_t address;
     /* How many events may wait, 1 to 1,024. */
@@ -341,18 +565,18 @@ struct osdp_reader_config {
  * `capabilities` is what it answers to CAP: three bytes for each, of which the first is the function, the second the level and the third the
  * count; `length` is how many bytes there are. It has no inputs, outputs and readers, no tamper and no failure of power until it is told of them.
  *
- * No call changes how these are answered. LED, BUZ and TEXT are answered ACK, and so is an OUT whose outputs are all there, whatever its controls are.
- * Each other OUT is answered NAK 9, and so is each MFG. The answer is made before the program sees the command. So the program does what was
- * confirmed, or tells the panel by an event that it didn't, such as OSTATR.
+ * Before each command but POLL, ID, CAP and COMSET `osdp_device_step` stops, and the program may set what is said to it (`osdp_device_answer_done` and the
+ * others). Where it sets nothing, LED, BUZ and TEXT are answered ACK, and so is an OUT whose outputs are all there, whatever its controls are; each other OUT
+ * is answered NAK 9, and so is each MFG.
  *
  * OSDP_IN_USE: the handle holds a reader, which stays. OSDP_BAD_LENGTH (M2): the capabilities have more than 1,432 bytes, or a number that isn't a
- * multiple of three. OSDP_READER_OUT_OF_RANGE (N3): the address, the capacity or the gap. OSDP_READER_NO_MEMORY (N1).
+ * multiple of three. OSDP_DEVICE_OUT_OF_RANGE (N3): the address, the capacity or the gap. OSDP_DEVICE_NO_MEMORY (N1).
  */
-osdp_status osdp_reader_new(
-    struct osdp_reader *reader, const struct osdp_reader_config *config, const uint8_t *capabilities, size_t length);
+osdp_status osdp_device_new(
+    osdp_device *device, const struct osdp_device_config *config, const uint8_t *capabilities, size_t length);
 
 /* Frees a reader and all that belongs to it; the handle is none after it. OSDP_NO_MACHINE. */
-osdp_status osdp_reader_free(struct osdp_reader *reader);
+osdp_status osdp_device_free(osdp_device *device);
 
 /*
  * Sets what ISTAT, OSTAT and RSTAT are answered from now on: a byte for each input, 1 where it is active; for each output, 1 where it is on; for each
@@ -360,15 +584,15 @@ osdp_status osdp_reader_free(struct osdp_reader *reader);
  *
  * OSDP_NO_MACHINE. OSDP_BAD_LENGTH (M2): more than 1,432.
  */
-osdp_status osdp_reader_set_inputs(struct osdp_reader *reader, const uint8_t *states, size_t length);
-osdp_status osdp_reader_set_outputs(struct osdp_reader *reader, const uint8_t *states, size_t length);
-osdp_status osdp_reader_set_readers(struct osdp_reader *reader, const uint8_t *states, size_t length);
+osdp_status osdp_device_set_inputs(osdp_device *device, const uint8_t *states, size_t length);
+osdp_status osdp_device_set_outputs(osdp_device *device, const uint8_t *states, size_t length);
+osdp_status osdp_device_set_readers(osdp_device *device, const uint8_t *states, size_t length);
 
 /* Sets what LSTAT is answered from now on: 1 where the device is tampered with, 1 where its power fails, else 0. OSDP_NO_MACHINE. */
-osdp_status osdp_reader_set_local(struct osdp_reader *reader, uint8_t tamper, uint8_t power);
+osdp_status osdp_device_set_local(osdp_device *device, uint8_t tamper, uint8_t power);
 
 /* Sets whether the reader is busy: 0 not, else it is. A busy reader takes nothing, but repeats its last reply. OSDP_NO_MACHINE. */
-osdp_status osdp_reader_set_busy(struct osdp_reader *reader, uint32_t busy);
+osdp_status osdp_device_set_busy(osdp_device *device, uint32_t busy);
 
 /*
  * Puts an event after those that wait: it is told when the panel polls. Its code and data are those of the reply that tells it: LSTATR, ISTATR, OSTATR,
@@ -377,17 +601,20 @@ osdp_status osdp_reader_set_busy(struct osdp_reader *reader, uint32_t busy);
  * OSDP_NO_MACHINE. OSDP_UNKNOWN_CODE (M1), OSDP_BAD_LENGTH (M2), OSDP_BAD_COUNT (M3): the code and data stand for no reply. OSDP_NO_EVENT: for one that
  * tells no event. OSDP_EVENTS_FULL (N2).
  */
-osdp_status osdp_reader_event(struct osdp_reader *reader, uint8_t code, const uint8_t *data, size_t length);
+osdp_status osdp_device_event(osdp_device *device, uint8_t code, const uint8_t *data, size_t length);
 
 /*
  * The same of an event's text, such as `KEYPAD 0 31`. Its words have one or more spaces between each two, and it ends after `length` bytes.
  *
  * OSDP_NO_MACHINE. OSDP_BAD_TEXT: it is the text of no event. OSDP_EVENTS_FULL (N2).
  */
-osdp_status osdp_reader_event_text(struct osdp_reader *reader, const char *text, size_t length);
+osdp_status osdp_device_event_text(osdp_device *device, const char *text, size_t length);
+
+/* The address that the device has now. OSDP_NO_MACHINE. */
+osdp_status osdp_device_address(osdp_device *device, uint32_t *address);
 
 /* How many events wait, the one that is offered included. OSDP_NO_MACHINE. */
-osdp_status osdp_reader_waiting(struct osdp_reader *reader, size_t *count);
+osdp_status osdp_device_waiting(osdp_device *device, size_t *count);
 
 /* How a packet was answered. */
 enum {
@@ -404,7 +631,9 @@ enum {
     /* The reader is busy: nothing was taken. */
     OSDP_SAID_BUSY = 5,
     /* NAK 4: the number isn't expected. */
-    OSDP_SAID_WRONG = 6
+    OSDP_SAID_WRONG = 6,
+    /* Nothing is said yet: the device has stopped before the command, and the next call answers it. */
+    OSDP_SAID_PENDING = 7
 };
 
 /* What the device is to do. */
@@ -412,18 +641,20 @@ enum {
     /* Nothing: a POLL, a command that couldn't be read, or none. */
     OSDP_ORDER_NONE = 0,
     /* The command came with a number that had its turn: do it, once. */
-    OSDP_ORDER_TAKEN = 1,
+    OSDP_ORDER_ONCE = 1,
     /* The command came with number 0, where the same order may come again: do what may be done twice. */
     OSDP_ORDER_AGAIN = 2,
     /* The command came with either number, and the reader has refused it: the burst is a NAK. Nothing of it is to be done. */
-    OSDP_ORDER_REFUSED = 3
+    OSDP_ORDER_REFUSED = 3,
+    /* Nothing yet: the program may set what is said to the command, and the next call says it. Nothing of it is done before. */
+    OSDP_ORDER_PENDING = 4
 };
 
-/* What a reader says to a packet. 2,900 bytes. */
+/* What a device says to a packet, or the command before which it has stopped. 2,900 bytes. */
 struct osdp_answer {
-    /* OSDP_SAID_NONE to OSDP_SAID_WRONG. */
+    /* OSDP_SAID_NONE to OSDP_SAID_PENDING. */
     uint32_t kind;
-    /* OSDP_ORDER_NONE to OSDP_ORDER_REFUSED. */
+    /* OSDP_ORDER_NONE to OSDP_ORDER_PENDING. */
     uint32_t order;
     /*
      * 1 where a COMSET was accepted, else 0: the burst is still written at the old rate, and the port is set to the new one after it. The program
@@ -441,16 +672,20 @@ struct osdp_answer {
 
 /*
  * Bytes have come up to a moment. Takes as many of them as it has room for, and writes to `taken` how many; then hands the packets that are whole to
- * the reader, in their order, up to and including the first that it answers, and writes what it says to `answer`.
+ * the reader, in their order, up to and including the first that it answers, and writes what it says to `answer`. Before a command that the reader doesn't
+ * answer by itself it stops once: `kind` is OSDP_SAID_PENDING, and the next call of `osdp_device_step`, `osdp_device_tick` or `osdp_device_silence` answers it.
  *
  * The caller calls again with the bytes that weren't taken, at the same moment, until all are taken and nothing is said: `length` 0 is good then.
  * A read that gave no bytes is told as no bytes, and ends no run.
  *
  *     size_t at = 0, taken;
- *     while (osdp_reader_step(&reader, bytes + at, length - at, now, &taken, &answer) == OSDP_OK) {
+ *     while (osdp_device_step(&device, bytes + at, length - at, now, &taken, &answer) == OSDP_OK) {
  *         at += taken;
  *         .. answer.burst is written ..
- *         if (answer.order == OSDP_ORDER_TAKEN) {
+ *         if (answer.order == OSDP_ORDER_PENDING && .. the lock is jammed ..) {
+ *             osdp_device_answer_refused(&device, OSDP_NAK_RECORD_NOT_PROCESSED);
+ *         }
+ *         if (answer.order == OSDP_ORDER_ONCE) {
  *             .. answer.command is done ..
  *         }
  *         if (at == length && answer.kind == OSDP_SAID_NONE) {
@@ -460,19 +695,42 @@ struct osdp_answer {
  *
  * OSDP_NO_MACHINE.
  */
-osdp_status osdp_reader_step(
-    struct osdp_reader *reader, const uint8_t *bytes, size_t length, uint64_t now, size_t *taken, struct osdp_answer *answer);
+osdp_status osdp_device_step(
+    osdp_device *device, const uint8_t *bytes, size_t length, uint64_t now, size_t *taken, struct osdp_answer *answer);
 
 /*
- * No bytes have come up to a moment: a run after which the line was silent for the gap is over. What the reader says is written as by `osdp_reader_step`;
- * where something is said, `osdp_reader_step` with no bytes is called until nothing is.
+ * No bytes have come up to a moment: a run after which the line was silent for the gap is over. What the reader says is written as by `osdp_device_step`;
+ * where something is said, `osdp_device_step` with no bytes is called until nothing is.
  *
  * OSDP_NO_MACHINE.
  */
-osdp_status osdp_reader_tick(struct osdp_reader *reader, uint64_t now, struct osdp_answer *answer);
+osdp_status osdp_device_tick(osdp_device *device, uint64_t now, struct osdp_answer *answer);
 
-/* The line was seen silent: the run is over. Else as `osdp_reader_tick`. OSDP_NO_MACHINE. */
-osdp_status osdp_reader_silence(struct osdp_reader *reader, uint64_t now, struct osdp_answer *answer);
+/* The line was seen silent: the run is over. Else as `osdp_device_tick`. OSDP_NO_MACHINE. */
+osdp_status osdp_device_silence(osdp_device *device, uint64_t now, struct osdp_answer *answer);
+
+/*
+ * The command that the next packet will have acted on, where the reader doesn't answer it by itself; none (`present` is 0) where there is no such
+ * command, and while the device is busy. It is that before which `osdp_device_step` stops.
+ *
+ * OSDP_NO_MACHINE.
+ */
+osdp_status osdp_device_pending(osdp_device *device, struct osdp_message *command);
+
+/*
+ * Sets what is said to the command before which the last call has stopped, in place of what was set before. It is said once, to that command and no
+ * other, and is gone with its packet, also where that is answered BUSY. An answer that doesn't belong to the command is told as NAK 9.
+ *
+ * `done` is an ACK: of OUT, LED, BUZ, TEXT and MFG. `local` is of LSTAT, and `list`, a byte for each input, output or reader, of ISTAT, OSTAT and RSTAT.
+ * `refused` is a NAK: reasons 2, 3 and 9 are told as they are, all others as 9. `maker` is of MFG: the three bytes of the maker's code, and his own bytes, 1,429 at most.
+ *
+ * OSDP_NO_MACHINE. OSDP_NOT_ASKED: no call has stopped before a command since the last answer. OSDP_BAD_LENGTH (M2): the list or the bytes are too long.
+ */
+osdp_status osdp_device_answer_done(osdp_device *device);
+osdp_status osdp_device_answer_local(osdp_device *device, uint8_t tamper, uint8_t power);
+osdp_status osdp_device_answer_list(osdp_device *device, const uint8_t *states, size_t length);
+osdp_status osdp_device_answer_refused(osdp_device *device, uint8_t reason);
+osdp_status osdp_device_answer_maker(osdp_device *device, const uint8_t *vendor, const uint8_t *bytes, size_t length);
 
 /* ---- What the archive needs from outside ---- */
 

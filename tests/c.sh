@@ -2,7 +2,7 @@
 # Builds the archive for C and for Rust, as `rt lib` does (`archive.py`), and looks at it from outside: the names in it against those of the header and of
 # rust/, and their numbers against the definitions; the structs, each with the bytes around it; a whole session in C over malloc, with each block refused in
 # turn, over the fixed pool, and with the address sanitizer and its leak detection; the examples in C, with all warnings as errors; and the example in Rust,
-# with no crate from outside. Where a compiler, cargo or another tool isn't there, it fails and names it.
+# with no crate from outside, also without the archive as far as nothing is linked. Where a compiler, cargo or another tool isn't there, it fails and names it.
 set -u
 cd "$(dirname "$0")/.." || exit 1
 CC=${CC:-cc}
@@ -57,6 +57,14 @@ export ASAN_OPTIONS=detect_leaks=1:allocator_may_return_null=1
 for heap in malloc pool; do
   build "heap_$heap" tests/c/heap.c "c/heap_$heap.c" -DOSDP_POOL=131072 "${checked[@]}" && passes "$work/heap_$heap" "$heap"
 done
+# what stands beside the archive compiles without a word as C99, C11 and C++
+for language in "-std=c99 -xc" "-std=c11 -xc" "-std=c++17 -xc++"; do
+  for file in heap_malloc heap_pool osdp_texts; do
+    "$CC" $language -Wall -Wextra -Wpedantic -Werror -Iinclude -c -o "$work/beside.o" "c/$file.c" 2>"$work/said" ||
+      { cat "$work/said"; fail "$file.c as $language says something"; }
+  done
+done
+build texts tests/c/texts.c c/osdp_texts.c && passes "$work/texts"
 build structs tests/c/structs.c c/heap_malloc.c "$archive" && passes "$work/structs"
 build structs_checked tests/c/structs.c c/heap_malloc.c "$archive" "${checked[@]}" && passes "$work/structs_checked"
 build limits tests/c/limits.c c/heap_malloc.c "$archive" "${checked[@]}" && passes "$work/limits"
@@ -67,7 +75,7 @@ for heap in malloc pool; do
   grep -q "^session: $wanted, each refused once$" "$work/said" || fail "session_$heap: not $wanted"
 done
 build session_checked "${session[@]}" c/heap_malloc.c "${counted[@]}" "$archive" "${checked[@]}" && passes "$work/session_checked"
-# `osdp_reader_new` takes 93 KiB of stack, and no other call as much: the session needs no more than 128 for the whole program
+# `osdp_device_new` takes 98 KiB of stack, and no other call as much: the session needs no more than 128 for the whole program
 (ulimit -s 128 && passes "$work/session_malloc") || fail "the session needs more stack"
 
 build leak tests/c/leak.c c/heap_malloc.c "$archive" "${checked[@]}" &&
@@ -86,7 +94,13 @@ in_rust() {
   passes cargo "$1" --quiet --offline --locked --manifest-path rust/Cargo.toml --target-dir "$work/target" "${@:2}"
 }
 in_rust build --no-default-features
+in_rust clippy --all-targets -- -D warnings
 in_rust test
 in_rust run --example session
+# without the archive the crate is checked, and its pages and their code are made
+export OSDP_C_LIB_DIR=$work/none
+in_rust check --all-targets
+in_rust doc
+in_rust test --doc
 
 exit "$failed"

@@ -4,7 +4,7 @@
 - The functions that the header declares, those that rust/ declares, and those that the archive has are the same.
 - What the archive needs from outside is what the header says: its heap, and three calls of C.
 - The constants of both have the same names and values, and the structs the same fields, in their order and of the same types.
-- Each constant has the number that a definition of crates/osdp_c_values/specs gives it, and each such number has a constant.
+- Each constant has the number that a definition of crates/osdp_c_values/specs, or of the crates below, gives it, and each such number has a constant.
 - The functions of both have the same parameters, by names and types."""
 import re
 import subprocess
@@ -13,6 +13,8 @@ from pathlib import Path
 
 TOP = Path(__file__).resolve().parent.parent
 HEAP = {"rattle_alloc", "rattle_dealloc"}
+# What stands beside the archive: c/osdp_texts.c
+BESIDE = {"osdp_version", "osdp_status_text"}
 OUTSIDE = HEAP | {"memcpy", "memmove", "memset"}
 TYPES = {
     "uint8_t": "u8", "uint16_t": "u16", "uint32_t": "u32", "uint64_t": "u64", "size_t": "usize", "char": "c_char", "void": "c_void",
@@ -27,15 +29,31 @@ NUMBERED = (
     ("Reports", r"^report_struct (?P<name>None) r = tells (?P<number>\d+) ", "OSDP_REPORT_"),
     ("Reports", r"^cause_number (?P<name>\w+) = (?P<number>\d+)$", "OSDP_LOST_"),
     ("Answers", r"^kind_number (?P<name>\w+) = (?P<number>\d+)$", "OSDP_SAID_"),
-    ("Answers", r"^orders_of (?P<name>.*) a = ordered (?P<number>\d+) ", "OSDP_ORDER_"),
+    ("Answers", r"^order_number (?P<name>\w+) = (?P<number>\d+)$", "OSDP_ORDER_"),
+    ("Answers", r"^(?P<name>pends) .* \(ordered (?P<number>\d+) ", "OSDP_ORDER_"),
+    ("Answers", r"^(?P<name>pends) .* kind = (?P<number>\d+) ", "OSDP_SAID_"),
+    ("/osdp_msg/specs/CommandTable", r"^command_code \(?(?P<name>\w+).* = (?P<number>0x\w+)$", "OSDP_"),
+    ("/osdp_msg/specs/ReplyTable", r"^reply_code \(?(?P<name>\w+).* = (?P<number>0x\w+)$", "OSDP_"),
+    ("/osdp_msg/specs/NakReasons", r"^reason_number (?P<name>\w+) = (?P<number>\d+)$", "OSDP_NAK_"),
+    ("/osdp_msg/specs/Limits", r"^(?P<name>most_data) = (?P<number>\d+)$", "OSDP_"),
+    ("/osdp_frame/specs/Packet", r"^(?P<name>largest) = (?P<number>\d+)$", "OSDP_"),
+    ("/osdp_bus/specs/Machine", r"^(?P<name>most_devices) = (?P<number>\d+)$", "OSDP_"),
+    ("/osdp_msg_texts/src/pieces.rt", r"^pub const (?P<name>MAX_TEXT): usize = (?P<number>\d+);$", "OSDP_"),
 )
+# What the standard calls otherwise than the definitions do
+TERMS = {
+    "Poll": "POLL", "Id": "ID", "Cap": "CAP", "LocalStatus": "LSTAT", "InputStatus": "ISTAT", "OutputStatus": "OSTAT", "ReaderStatus": "RSTAT",
+    "Output": "OUT", "Led": "LED", "Buzzer": "BUZ", "Text": "TEXT", "Comset": "COMSET", "Maker": "MFG",
+    "Ack": "ACK", "Nak": "NAK", "PdId": "PDID", "PdCap": "PDCAP", "LocalState": "LSTATR", "Inputs": "ISTATR", "Outputs": "OSTATR",
+    "Readers": "RSTATR", "Raw": "RAW", "Formatted": "FMT", "Keypad": "KEYPAD", "Com": "COM", "MakerReply": "MFGREP",
+    "most_data": "MOST_DATA", "largest": "MOST_PACKET", "most_devices": "MOST_DEVICES", "MAX_TEXT": "MOST_TEXT", "pends": "PENDING",
+}
 # What a constant calls otherwise than its definition does
 OTHERWISE = {
     "Done": "OK", "message.Length": "BAD_LENGTH", "message.Count": "BAD_COUNT", "bus.NoMemory": "PANEL_NO_MEMORY",
-    "bus.OutOfRange": "PANEL_OUT_OF_RANGE", "bus.Full": "COMMANDS_FULL", "reader.NoMemory": "READER_NO_MEMORY",
-    "reader.OutOfRange": "READER_OUT_OF_RANGE", "check": "CRC", "PollAnswered": "ANSWERED", "Silent": "NONE",
-    "refused None None": "NONE", "false (Some command) again": "TAKEN", "false None (Some command)": "AGAIN",
-    "true (Some command) again": "REFUSED", "true None (Some command)": "REFUSED",
+    "bus.OutOfRange": "PANEL_OUT_OF_RANGE", "bus.Full": "COMMANDS_FULL", "reader.NoMemory": "DEVICE_NO_MEMORY",
+    "reader.OutOfRange": "DEVICE_OUT_OF_RANGE", "check": "CRC", "PollAnswered": "ANSWERED", "Silent": "NONE",
+    "Nothing": "NONE",
 }
 faults = []
 
@@ -48,15 +66,16 @@ def compare(what, ours, theirs, where="rust/src/sys.rs"):
 
 def constant(name):
     """What a constant calls what a definition names: its words in capitals."""
-    return OTHERWISE.get(name) or re.sub(r"(?<=[a-z])(?=[A-Z])", "_", name.rpartition(".")[2]).upper()
+    return OTHERWISE.get(name) or TERMS.get(name) or re.sub(r"(?<=[a-z])(?=[A-Z])", "_", name.rpartition(".")[2]).upper()
 
 
 def defined():
     """The numbers that the definitions give, by the constants that have them."""
     found = {}
     for file, line, front in NUMBERED:
-        for each in re.finditer(line, (TOP / SPECS / f"{file}.antt").read_text(), re.M):
-            found[front + constant(each["name"])] = int(each["number"])
+        folder = TOP / "crates" if file.startswith("/") else TOP / SPECS
+        for each in re.finditer(line, (folder / (file.lstrip("/") + ("" if file.endswith(".rt") else ".antt"))).read_text(), re.M):
+            found[front + constant(each["name"])] = int(each["number"], 0)
     return found
 
 
@@ -82,10 +101,10 @@ def header():
     """What the header declares: its functions, constants and structs."""
     text = re.sub(r"/\*.*?\*/", "", (TOP / "include/osdp.h").read_text(), flags=re.S)
     functions = {}
-    for gives, name, takes in re.findall(r"^([\w ]+?)\b((?:osdp|rattle)_\w+)\(([^)]*)\);", text, re.M | re.S):
-        functions[name] = ([c_field(one) for one in parts(takes, ",")], TYPES.get(gives.strip(), gives.strip()))
-    constants = {name: int(value) for name, value in re.findall(r"\b(OSDP_\w+) = (\d+)", text)}
-    structs = {name: [c_field(one) for one in parts(body, ";")] for name, body in re.findall(r"^struct (\w+) \{(.*?)^\};", text, re.M | re.S)}
+    for gives, name, takes in re.findall(r"^([\w ]+?[ *])((?:osdp|rattle)_\w+)\(([^)]*)\);", text, re.M | re.S):
+        functions[name] = ([c_field(one) for one in parts(takes, ",") if one != "void"], TYPES.get(gives.strip(), gives.strip()))
+    constants = {name: int(value, 0) for name, value in re.findall(r"\b(OSDP_\w+) = (\w+)", text)}
+    structs = {name: [c_field(one) for one in parts(body, ";")] for name, body in re.findall(r"^(?:typedef )?struct (\w+) \{(.*?)^\}[ \w]*;", text, re.M | re.S)}
     return functions, constants, structs
 
 
@@ -95,7 +114,7 @@ def rust():
     functions = {}
     for name, takes, gives in re.findall(r"pub fn (\w+)\(([^)]*)\)(?:\s*-> (\w+))?;", text):
         functions[name] = ([tuple(one.split(": ")) for one in parts(takes, ",")], gives or "c_void")
-    constants = {name: int(value) for name, value in re.findall(r"pub const (OSDP_\w+): u32 = (\d+);", text)}
+    constants = {name: int(value, 0) for name, value in re.findall(r"pub const (OSDP_\w+): u32 = (\w+);", text)}
     fields = {name: parts(body, ",") for name, body in re.findall(r"pub struct (\w+) \{(.*?)\n\}", text, re.S)}
     numbers = {name: "u32" for name in re.findall(r"#\[repr\(u32\)\]\n(?:#.*\n)*pub enum (\w+)", text)}
     structs = {}
@@ -113,16 +132,16 @@ def names(archive, *words):
 
 def main():
     declared, constants, structs = header()
-    compare("function", {name: one for name, one in declared.items() if name not in HEAP}, rust()[0])
+    compare("function", {name: one for name, one in declared.items() if name not in HEAP | BESIDE}, rust()[0])
     compare("constant", constants, rust()[1])
     compare("constant", constants, defined(), SPECS)
     compare("struct", {name: one for name, one in structs.items() if name != "osdp_block"}, rust()[2])
-    for name in sorted((declared.keys() - HEAP) ^ names(sys.argv[1], "--defined-only", "--extern-only")):
+    for name in sorted((declared.keys() - HEAP - BESIDE) ^ names(sys.argv[1], "--defined-only", "--extern-only")):
         faults.append(f"{name}: only {'the header' if name in declared else 'the archive'} has it")
     for name in sorted(names(sys.argv[1], "--undefined-only") - OUTSIDE):
         faults.append(f"{name}: the archive needs it, and the header doesn't say so")
-    if not HEAP <= declared.keys():
-        faults.append("the header doesn't declare the heap")
+    if not HEAP | BESIDE <= declared.keys():
+        faults.append("the header doesn't declare the heap and what stands beside the archive")
     if len(declared) < 20 or len(constants) < 30 or len(structs) < 9:
         faults.append("declarations are not there")
     for fault in faults:

@@ -7,7 +7,6 @@
 #include "words.h"
 
 #define PAUSE 1000 /* from a lost session to the next one, in milliseconds */
-#define COMSET 0x6E
 
 static const char usage[] =
     "panel [--trace FILE] PORT RATE ADDRESS,ADDRESS.. [SETTING VALUE]..\n"
@@ -39,7 +38,7 @@ static void close_reader(size_t entry, struct known *reader, uint64_t pause)
     reader_closed(reader, moment() + pause);
     while (osdp_panel_withdraw(&panel, entry, &command) == OSDP_OK && command.present) {
         tell("withdrawn %zu %s\n", entry + 1, command_text(&command));
-        if (command.code == COMSET) {
+        if (command.code == OSDP_COMSET) {
             comset_over(reader);
         }
     }
@@ -65,7 +64,7 @@ static void take_reports(void)
         tell_report(&report);
         if (report.kind == OSDP_REPORT_OPENED) {
             reader_opened(reader);
-        } else if (report.kind == OSDP_REPORT_SETTLED && report.command.code == COMSET) {
+        } else if (report.kind == OSDP_REPORT_SETTLED && report.command.code == OSDP_COMSET) {
             comset_over(reader);
         } else if (report.kind == OSDP_REPORT_MOVED) {
             move_reader(reader, report.reply.data);

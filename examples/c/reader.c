@@ -32,7 +32,7 @@ struct output {
     uint64_t until;
 };
 
-static struct osdp_reader reader;
+static struct osdp_device reader;
 static int port;
 static struct output outputs[OUTPUTS];
 
@@ -43,7 +43,7 @@ static void tell_outputs(uint64_t now)
     for (size_t i = 0; i < OUTPUTS; i++) {
         states[i] = now < outputs[i].until ? outputs[i].for_a_time : outputs[i].for_good;
     }
-    (void)osdp_reader_set_outputs(&reader, states, OUTPUTS);
+    (void)osdp_device_set_outputs(&reader, states, OUTPUTS);
 }
 
 /* Does what one record of an OUT says. 1 and 2 are off and on for good, at once. 3 and 4 are the same, but a time that runs goes on. 5 and 6 are on and
@@ -75,10 +75,10 @@ static void act(const struct osdp_answer *answer, uint64_t now)
 {
     write_all(port, &answer->burst);
     static const char *const names[] = { "", "taken", "again", "refused" };
-    if (answer->order != OSDP_ORDER_NONE) {
+    if (answer->order != OSDP_ORDER_NONE && answer->order != OSDP_ORDER_PENDING) { /* what is pending is answered as it was set beforehand */
         tell("%s %s\n", names[answer->order & 3], command_text(&answer->command));
     }
-    if (answer->order == OSDP_ORDER_TAKEN && answer->command.code == 0x68) {
+    if (answer->order == OSDP_ORDER_ONCE && answer->command.code == OSDP_OUT) {
         switch_outputs(&answer->command, now);
     }
     if (answer->moved) {
@@ -94,7 +94,7 @@ static void hear(const uint8_t *bytes, size_t length, uint64_t now)
 {
     static struct osdp_answer answer;
     size_t at = 0, taken;
-    while (osdp_reader_step(&reader, bytes + at, length - at, now, &taken, &answer) == OSDP_OK) {
+    while (osdp_device_step(&reader, bytes + at, length - at, now, &taken, &answer) == OSDP_OK) {
         at += taken;
         act(&answer, now);
         if (at == length && answer.kind == OSDP_SAID_NONE) {
@@ -111,19 +111,19 @@ static osdp_status call(const char *line)
     const char *rest = strchr(line, ' ') != NULL ? strchr(line, ' ') + 1 : "";
     size_t length = digits(rest, bytes, sizeof bytes);
     if (strncmp(line, "event ", 6) == 0) {
-        return osdp_reader_event_text(&reader, rest, strlen(rest));
+        return osdp_device_event_text(&reader, rest, strlen(rest));
     }
     if (strcmp(line, "busy on") == 0 || strcmp(line, "busy off") == 0) {
-        return osdp_reader_set_busy(&reader, strcmp(rest, "on") == 0);
+        return osdp_device_set_busy(&reader, strcmp(rest, "on") == 0);
     }
     if (sscanf(line, "local %u %u", &tamper, &power) == 2 && tamper < 256 && power < 256) {
-        return osdp_reader_set_local(&reader, (uint8_t)tamper, (uint8_t)power);
+        return osdp_device_set_local(&reader, (uint8_t)tamper, (uint8_t)power);
     }
     if (strncmp(line, "inputs ", 7) == 0 && length <= sizeof bytes) {
-        return osdp_reader_set_inputs(&reader, bytes, length);
+        return osdp_device_set_inputs(&reader, bytes, length);
     }
     if (strncmp(line, "readers ", 8) == 0 && length <= sizeof bytes) {
-        return osdp_reader_set_readers(&reader, bytes, length);
+        return osdp_device_set_readers(&reader, bytes, length);
     }
     return OSDP_BAD_TEXT;
 }
@@ -147,7 +147,7 @@ static void turn(struct lines *lines)
     tell_outputs(now);
     hear(bytes, count, now);
     take_lines(lines);
-    if (osdp_reader_tick(&reader, now, &answer) == OSDP_OK) {
+    if (osdp_device_tick(&reader, now, &answer) == OSDP_OK) {
         act(&answer, now);
         hear(bytes, 0, now);
     }
@@ -162,8 +162,8 @@ int main(int count, char **words)
         set_reader(&settings, words[i], words[i + 1]);
     }
     uint32_t rate = number(words[1], "rate");
-    osdp_status status = osdp_reader_new(&reader, &settings.config, settings.capabilities, settings.length);
-    if (status == OSDP_READER_NO_MEMORY) {
+    osdp_status status = osdp_device_new(&reader, &settings.config, settings.capabilities, settings.length);
+    if (status == OSDP_DEVICE_NO_MEMORY) {
         stop(OUT_OF_MEMORY, "out of memory");
     }
     if (status != OSDP_OK) {

@@ -83,7 +83,7 @@ void set_panel(struct osdp_panel_config *config, const char *name, const char *v
 /* Sets what has several numbers, or digits. Whether the name and the value are such. */
 static bool set_bytes(struct reader_settings *settings, const char *name, const char *value)
 {
-    struct osdp_reader_config *config = &settings->config;
+    struct osdp_device_config *config = &settings->config;
     if (strcmp(name, "vendor") == 0) {
         return strlen(value) == 6 && digits(value, config->vendor, 3) == 3;
     }
@@ -110,7 +110,7 @@ static bool set_bytes(struct reader_settings *settings, const char *name, const 
 
 void set_reader(struct reader_settings *settings, const char *name, const char *value)
 {
-    struct osdp_reader_config *config = &settings->config;
+    struct osdp_device_config *config = &settings->config;
     const struct {
         const char *name;
         uint32_t *field;

@@ -9,7 +9,7 @@ enum { BAD_WORDS = 2, FAILED = 3, OUT_OF_MEMORY = 4 };
 
 /* What a reader is made of: its capabilities are three bytes each. */
 struct reader_settings {
-    struct osdp_reader_config config;
+    struct osdp_device_config config;
     uint8_t capabilities[1434];
     size_t length;
 };

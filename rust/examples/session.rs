@@ -1,11 +1,19 @@
 //! A panel and a reader in one program, joined in memory: a card opens a door. One answer in seven is lost on the way.
-use osdp::{Error, Order, Panel, PanelConfig, Reader, ReaderConfig, Report};
+use osdp::{
+    Card, Command, Device, DeviceConfig, Error, Moment, Order, Output, Panel, PanelConfig, Reply,
+    Report,
+};
+use std::time::Duration;
 
 const CARD: &str = "RAW 0 0 26 12345640";
-const OPEN: &str = "OUT 0:5:30";
+const STRIKE: Output = Output {
+    output: 0,
+    control: 5,
+    timer: 30,
+};
 const CARDS: usize = 20;
 
-/// The line from the reader to the panel. It loses one answer in seven.
+/// The line from the device to the panel. It loses one answer in seven.
 #[derive(Default)]
 struct Line {
     answers: usize,
@@ -21,11 +29,11 @@ impl Line {
     }
 }
 
-/// Hands bytes to the reader, puts its answers on the line, and counts how often the door was opened.
-fn reader_hears(reader: &mut Reader, mut bytes: &[u8], now: u64, line: &mut Line) -> usize {
+/// Hands bytes to the device, puts its answers on the line, and counts how often the door was opened.
+fn device_hears(device: &mut Device, mut bytes: &[u8], now: Moment, line: &mut Line) -> usize {
     let mut opened = 0;
     loop {
-        let (taken, answer) = reader.step(bytes, now);
+        let (taken, answer) = device.step(bytes, now);
         bytes = &bytes[taken..];
         let Some(answer) = answer else {
             if bytes.is_empty() {
@@ -36,8 +44,8 @@ fn reader_hears(reader: &mut Reader, mut bytes: &[u8], now: u64, line: &mut Line
         if let Some(burst) = &answer.burst {
             line.carry(burst);
         }
-        if let Some(Order::Taken(command)) = &answer.order {
-            opened += usize::from(command.to_string() == OPEN);
+        if let Some(Order::Once(command)) = &answer.order {
+            opened += usize::from(command.outputs().eq([STRIKE]));
         }
     }
 }
@@ -45,10 +53,10 @@ fn reader_hears(reader: &mut Reader, mut bytes: &[u8], now: u64, line: &mut Line
 fn main() -> Result<(), Error> {
     let mut panel = Panel::new(&PanelConfig::default())?;
     let door = panel.add(5)?;
-    let mut reader = Reader::new(&ReaderConfig {
+    let mut device = Device::new(&DeviceConfig {
         address: 5,
         capacity: 64,
-        gap: 20,
+        gap: Duration::from_millis(20),
         vendor: *b"SIM",
         model: 1,
         version: 1,
@@ -56,39 +64,40 @@ fn main() -> Result<(), Error> {
         firmware: [1, 0, 0],
         capabilities: &[[3, 1, 0]],
     })?;
-    reader.set_outputs(&[0])?;
+    device.set_outputs(&[0])?;
     for _ in 0..CARDS {
-        reader.event_text(CARD)?;
+        device.event_text(CARD)?;
     }
-    panel.begin(door, 0)?;
+    let mut now = Moment::from_millis(0);
+    panel.begin(door, now)?;
 
     let (mut cards, mut settled, mut opened) = (0, 0, 0);
     let mut line = Line::default();
-    let mut now = 0;
     for _ in 0..1000 {
         panel.on_bytes(&std::mem::take(&mut line.bytes), now);
         while let Some((entry, report)) = panel.next_report() {
             match report {
-                Report::Opened(id) => println!("opened by {id}"),
-                Report::Event(card) => {
-                    assert_eq!(card.to_string(), CARD);
+                Report::Opened(id) => println!("opened by {id:?}"),
+                Report::Event(Reply::Raw(card)) => {
+                    assert_eq!(Some(card), Card::new(0, 0, 26, &[0x12, 0x34, 0x56, 0x40]));
                     cards += 1;
-                    panel.submit_text(entry, OPEN)?;
+                    panel.submit(entry, &Command::out(&[STRIKE])?)?;
                 }
                 Report::Settled(command, reply) => {
-                    assert_eq!(
-                        (command.to_string().as_str(), reply.to_string().as_str()),
-                        (OPEN, "ACK")
-                    );
+                    assert_eq!(command.to_string(), "OUT 0:5:30");
+                    assert_eq!(reply, Reply::Ack);
                     settled += 1;
                 }
                 other => panic!("{other:?}"),
             }
         }
         match panel.tick(now) {
-            Some(burst) => opened += reader_hears(&mut reader, &burst, now, &mut line),
+            Some(burst) => opened += device_hears(&mut device, &burst, now, &mut line),
             None if line.bytes.is_empty() => {
-                now = panel.next_deadline().unwrap_or(now + 1).max(now)
+                now = panel
+                    .next_deadline()
+                    .unwrap_or(now + Duration::from_millis(1))
+                    .max(now)
             }
             None => {}
         }
@@ -104,7 +113,7 @@ fn main() -> Result<(), Error> {
         Err(Error::BadText)
     );
     assert_eq!(panel.add(5), Err(Error::AddressTaken));
-    assert_eq!(reader.event(0x40, &[]), Err(Error::NoEvent));
-    assert_eq!(reader.waiting(), 0);
+    assert_eq!(device.event(0x40, &[]), Err(Error::NoEvent));
+    assert_eq!(device.waiting(), 0);
     Ok(())
 }

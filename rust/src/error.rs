@@ -33,6 +33,8 @@ pub enum Error {
     PollSubmitted,
     /// The session isn't closed.
     NotClosed,
+    /// No command waits for an answer.
+    NotAsked,
     /// A status that this crate doesn't know.
     Other(u32),
 }
@@ -53,6 +55,7 @@ impl fmt::Display for Error {
             Error::Full => "there is no room for one more",
             Error::PollSubmitted => "a POLL can't be submitted",
             Error::NotClosed => "the session isn't closed",
+            Error::NotAsked => "no command waits for an answer",
             Error::Other(status) => return write!(f, "status {status}"),
         })
     }
@@ -69,14 +72,15 @@ pub(crate) fn check(status: sys::osdp_status) -> Result<(), Error> {
         sys::OSDP_UNKNOWN_CODE => Error::UnknownCode,
         sys::OSDP_BAD_LENGTH => Error::BadLength,
         sys::OSDP_BAD_COUNT => Error::BadCount,
-        sys::OSDP_PANEL_NO_MEMORY | sys::OSDP_READER_NO_MEMORY => Error::NoMemory,
+        sys::OSDP_PANEL_NO_MEMORY | sys::OSDP_DEVICE_NO_MEMORY => Error::NoMemory,
         sys::OSDP_TOO_MANY => Error::TooManyDevices,
         sys::OSDP_ADDRESS_TAKEN => Error::AddressTaken,
         sys::OSDP_NO_ENTRY => Error::NoEntry,
-        sys::OSDP_PANEL_OUT_OF_RANGE | sys::OSDP_READER_OUT_OF_RANGE => Error::OutOfRange,
+        sys::OSDP_PANEL_OUT_OF_RANGE | sys::OSDP_DEVICE_OUT_OF_RANGE => Error::OutOfRange,
         sys::OSDP_COMMANDS_FULL | sys::OSDP_EVENTS_FULL => Error::Full,
         sys::OSDP_POLL_SUBMITTED => Error::PollSubmitted,
         sys::OSDP_NOT_CLOSED => Error::NotClosed,
+        sys::OSDP_NOT_ASKED => Error::NotAsked,
         other => Error::Other(other),
     })
 }

@@ -1,55 +1,68 @@
-//! Panel and reader of an OSDP line, over machines that are proved in Rattle.
+//! Panel and device of an OSDP line, over machines that are proved in Rattle.
 //!
 //! This crate links `libosdp_c.a`, which `rt lib` builds from `crates/osdp_c`. What is proved is the archive; this crate is ordinary Rust, with
-//! `unsafe` calls into it. `docs/GUIDE.md` says what a panel and a reader do, and what each report asks for.
+//! `unsafe` calls into it. `docs/GUIDE.md` says what a panel and a device do, and what each report asks for.
 //!
 //! ```no_run
-//! use osdp::{Entry, Error, Panel, PanelConfig, Reply, Report};
+//! use core::time::Duration;
+//! use osdp::{Card, Command, Entry, Error, Moment, Output, Panel, PanelConfig, Reply, Report};
 //!
-//! # fn read(_: &mut [u8], _: Option<u64>) -> usize { 0 }
+//! # fn read(_: &mut [u8], _: Option<Moment>) -> usize { 0 }
 //! # fn write(_: &[u8]) {}
-//! # fn now() -> u64 { 0 }
-//! # fn may_enter(_: &Reply) -> bool { false }
-//! const CARD: u8 = 0x50; // the code of RAW
+//! # fn now() -> Moment { Moment::from_millis(0) }
+//! const PAUSE: Duration = Duration::from_secs(1); // from a lost session to the next one
+//!
+//! fn may_enter(card: &Card) -> bool {
+//!     (card.bits(), card.bytes()) == (26, &[0x12, 0x34, 0x56, 0x40])
+//! }
 //!
 //! fn open(panel: &mut Panel, door: Entry) -> Result<(), Error> {
-//!     match panel.submit_text(door, "OUT 0:5:30") {
+//!     let strike = Output { output: 0, control: 5, timer: 30 }; // on for three seconds
+//!     match panel.submit(door, &Command::out(&[strike])?) {
 //!         Err(Error::Full) => Ok(()), // as many orders wait as may: the door stays closed
 //!         done => done,
 //!     }
 //! }
 //!
 //! /// The orders that wait for a door that was out of reach are stale.
-//! fn begin_again(panel: &mut Panel, door: Entry, now: u64) -> Result<(), Error> {
+//! fn begin_again(panel: &mut Panel, door: Entry, at: Moment) -> Result<(), Error> {
 //!     while panel.withdraw(door)?.is_some() {}
-//!     panel.begin(door, now)
+//!     panel.begin(door, at)
 //! }
 //!
-//! fn take_reports(panel: &mut Panel, now: u64) -> Result<(), Error> {
+//! /// Takes what the panel reports; gives the moment at which a lost session is to begin again.
+//! fn take_reports(panel: &mut Panel, now: Moment) -> Result<Option<Moment>, Error> {
+//!     let mut begins = None;
 //!     while let Some((door, report)) = panel.next_report() {
 //!         match report {
-//!             Report::Event(card) if card.code() == CARD && may_enter(&card) => open(panel, door)?,
-//!             Report::Lost(..) | Report::Moved(..) => begin_again(panel, door, now)?,
+//!             Report::Event(Reply::Raw(card)) if may_enter(&card) => open(panel, door)?,
+//!             Report::Moved(..) => begin_again(panel, door, now)?,
+//!             Report::Lost(..) => begins = Some(now + PAUSE),
 //!             _ => {}
 //!         }
 //!     }
-//!     Ok(())
+//!     Ok(begins)
 //! }
 //!
 //! # fn main() -> Result<(), Error> {
 //! let mut panel = Panel::new(&PanelConfig::default())?;
 //! let door = panel.add(5)?;
-//! panel.begin(door, now())?;
+//! let mut begins = Some(now());
 //! let mut bytes = [0; 256];
 //! loop {
-//!     let count = read(&mut bytes, panel.next_deadline()); // waits for bytes, at most until that moment
+//!     let until = [panel.next_deadline(), begins].into_iter().flatten().min();
+//!     let count = read(&mut bytes, until); // waits for bytes, at most until that moment
 //!     let now = now();
 //!     panel.on_bytes(&bytes[..count], now);
-//!     take_reports(&mut panel, now)?;
+//!     begins = take_reports(&mut panel, now)?.or(begins);
+//!     if begins.is_some_and(|at| at <= now) {
+//!         begin_again(&mut panel, door, now)?;
+//!         begins = None;
+//!     }
 //!     if let Some(burst) = panel.tick(now) {
 //!         write(&burst);
 //!     }
-//!     take_reports(&mut panel, now)?;
+//!     begins = take_reports(&mut panel, now)?.or(begins);
 //! }
 //! # }
 //! ```
@@ -58,17 +71,20 @@
 //! program links a heap of its own, such as `c/heap_pool.c`.
 #![no_std]
 
+mod device;
 mod error;
+mod fields;
 #[cfg(feature = "heap")]
 mod heap;
 mod message;
 mod numbered;
 mod panel;
-mod reader;
 pub mod sys;
+mod time;
 
+pub use device::{Answer, Device, DeviceAnswer, DeviceConfig, Moved, Order, Said};
 pub use error::Error;
-pub use message::{Burst, Command, Reply};
-pub use panel::{Entry, LostCause, Panel, PanelConfig, Report};
-pub use reader::{Answer, Moved, Order, Reader, ReaderConfig, Said};
-pub use sys::Check;
+pub use fields::{Buzzer, Bytes, Card, Led, NakReason, Output, PdId, Reply, Text};
+pub use message::{Burst, Command, RawReply};
+pub use panel::{Check, Entry, LostCause, Panel, PanelConfig, Report};
+pub use time::Moment;

@@ -1,58 +1,112 @@
-//! What both ends share: commands, replies, and the bytes of the line.
+//! What both ends share: commands, messages, and the bytes of the line.
 
+use crate::error::{Error, check};
+use crate::fields::{Buzzer, Led, Output, Text};
 use crate::sys;
 use core::ffi::c_char;
 use core::fmt;
 
-/// The text of each command and reply has room in so many bytes.
-const LONGEST_TEXT: usize = 6144;
+/// The text of each command and reply, and a zero after it, have room in so many bytes.
+const TEXT_ROOM: usize = sys::OSDP_MOST_TEXT as usize + 1;
 
 type TextCall =
     unsafe extern "C" fn(u8, *const u8, usize, *mut c_char, usize, *mut usize) -> sys::osdp_status;
 
-/// Writes the text that a call gives for a code and data.
+/// What a call for texts says of a code and data, with this room for the text.
+fn text_of(
+    call: TextCall,
+    code: u8,
+    data: &[u8],
+    text: &mut [u8],
+    length: &mut usize,
+) -> sys::osdp_status {
+    // SAFETY: each pointer is to as much as the call is told, and none is null, also of a slice that is empty.
+    unsafe {
+        call(
+            code,
+            data.as_ptr(),
+            data.len(),
+            text.as_mut_ptr().cast(),
+            text.len(),
+            length,
+        )
+    }
+}
+
+/// Whether a code and data are a message: else why not. Its text isn't written, as there is no room for any.
+fn judge(call: TextCall, code: u8, data: &[u8]) -> Result<(), Error> {
+    match text_of(call, code, data, &mut [], &mut 0) {
+        sys::OSDP_OK | sys::OSDP_TOO_SMALL => Ok(()),
+        status => check(status),
+    }
+}
+
+/// Writes the text that a call gives for a message.
 fn write_text(
     f: &mut fmt::Formatter<'_>,
     call: TextCall,
     message: &sys::osdp_message,
 ) -> fmt::Result {
-    let data = message_data(message);
-    let mut text = [0; LONGEST_TEXT];
+    let mut text = [0; TEXT_ROOM];
     let mut length = 0;
-    // SAFETY: each pointer is to as much as the call is told, and the text has so much room.
-    let status = unsafe {
-        call(
-            message.code,
-            data.as_ptr(),
-            data.len(),
-            text.as_mut_ptr().cast(),
-            text.len(),
-            &mut length,
-        )
-    };
-    match (
-        status,
-        text.get(..length)
-            .and_then(|bytes| str::from_utf8(bytes).ok()),
-    ) {
+    let status = text_of(
+        call,
+        message.code,
+        message_data(message),
+        &mut text,
+        &mut length,
+    );
+    let written = text
+        .get(..length)
+        .and_then(|bytes| str::from_utf8(bytes).ok());
+    match (status, written) {
         (sys::OSDP_OK, Some(text)) => f.write_str(text),
         _ => Err(fmt::Error),
     }
 }
 
-fn message_data(message: &sys::osdp_message) -> &[u8] {
+pub(crate) fn message_data(message: &sys::osdp_message) -> &[u8] {
     &message.data[..usize::from(message.length)]
+}
+
+pub(crate) fn no_message() -> sys::osdp_message {
+    sys::osdp_message {
+        length: 0,
+        present: 0,
+        code: 0,
+        data: [0; 1432],
+    }
+}
+
+/// The message of a code and data that a table has been asked about.
+fn message_of(code: u8, data: &[u8]) -> sys::osdp_message {
+    let mut message = no_message();
+    message.data[..data.len()].copy_from_slice(data);
+    message.length = data.len() as u16;
+    message.present = 1;
+    message.code = code;
+    message
 }
 
 macro_rules! message {
     ($(#[$about:meta])* $name:ident, $call:ident) => {
         $(#[$about])*
-        #[derive(Clone)]
-        pub struct $name(sys::osdp_message);
+        #[derive(Clone, Copy)]
+        pub struct $name(pub(crate) sys::osdp_message);
 
         impl $name {
-            pub(crate) fn from_raw(raw: &sys::osdp_message) -> Option<$name> {
-                (raw.present != 0).then_some($name(*raw))
+            pub(crate) fn from_sys(message: &sys::osdp_message) -> Option<$name> {
+                (message.present != 0).then_some($name(*message))
+            }
+
+            /// The one of a code and data.
+            ///
+            /// # Errors
+            ///
+            /// `UnknownCode`, `BadLength`, `BadCount`: they are none.
+            pub fn raw(code: u8, data: &[u8]) -> Result<$name, Error> {
+                judge(sys::$call, code, data)?;
+                Ok($name(message_of(code, data)))
             }
 
             /// Its code.
@@ -98,8 +152,68 @@ message! {
 }
 
 message! {
-    /// A reply: what a reader answers. An event is the reply that tells it.
-    Reply, osdp_reply_text
+    /// A reply as its code and data. `Reply::read` gives its fields.
+    RawReply, osdp_reply_text
+}
+
+impl Command {
+    /// What the outputs are to do.
+    ///
+    /// # Errors
+    ///
+    /// `BadLength`: there are none, or more than 358.
+    pub fn out(outputs: &[Output]) -> Result<Command, Error> {
+        let mut message = no_message();
+        // SAFETY: an `Output` is an `osdp_output`, so many are there, and the message is apart.
+        check(unsafe { sys::osdp_out(outputs.as_ptr(), outputs.len(), &mut message) })?;
+        Ok(Command(message))
+    }
+
+    /// What LEDs of readers are to do.
+    ///
+    /// # Errors
+    ///
+    /// `BadLength`: there are none, or more than 102.
+    pub fn led(leds: &[Led]) -> Result<Command, Error> {
+        let mut message = no_message();
+        // SAFETY: a `Led` is an `osdp_led`, so many are there, and the message is apart.
+        check(unsafe { sys::osdp_led(leds.as_ptr(), leds.len(), &mut message) })?;
+        Ok(Command(message))
+    }
+
+    /// How the buzzer of a reader sounds.
+    pub fn buzzer(buzzer: &Buzzer) -> Command {
+        let mut message = no_message();
+        // SAFETY: a `Buzzer` is an `osdp_buzzer`, and the message is apart.
+        unsafe { sys::osdp_buzzer(buzzer, &mut message) };
+        Command(message)
+    }
+
+    /// What the display of a reader shows.
+    pub fn text(text: &Text) -> Command {
+        let mut message = no_message();
+        // SAFETY: a `Text` is an `osdp_text`, and the message is apart.
+        unsafe { sys::osdp_text(text.as_sys(), &mut message) };
+        Command(message)
+    }
+
+    /// The address, and the rate in baud, that a device is to have.
+    pub fn comset(address: u8, baud_rate: u32) -> Command {
+        let mut message = no_message();
+        // SAFETY: the message is good.
+        unsafe { sys::osdp_comset(address, baud_rate, &mut message) };
+        Command(message)
+    }
+
+    /// The records of an OUT, in their order; none of another command.
+    pub fn outputs(&self) -> impl Iterator<Item = Output> + '_ {
+        (0..).map_while(|at| {
+            let mut output = Output::default();
+            // SAFETY: the command is a message, and the output is apart.
+            let status = unsafe { sys::osdp_output_of(&self.0, at, &mut output) };
+            (status == sys::OSDP_OK).then_some(output)
+        })
+    }
 }
 
 /// Bytes to write to the line, at once and in their order. It derefs to them.
@@ -107,8 +221,15 @@ message! {
 pub struct Burst(sys::osdp_burst);
 
 impl Burst {
-    pub(crate) fn from_raw(raw: &sys::osdp_burst) -> Option<Burst> {
-        (raw.length != 0).then_some(Burst(*raw))
+    pub(crate) fn from_sys(burst: &sys::osdp_burst) -> Option<Burst> {
+        (burst.length != 0).then_some(Burst(*burst))
+    }
+}
+
+pub(crate) fn no_burst() -> sys::osdp_burst {
+    sys::osdp_burst {
+        length: 0,
+        bytes: [0; 1440],
     }
 }
 

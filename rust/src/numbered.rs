@@ -16,10 +16,17 @@ macro_rules! numbered {
         }
 
         impl $name {
-            fn of(number: u32) -> Option<$name> {
+            pub(crate) fn of(number: u32) -> Option<$name> {
                 match number {
                     $($crate::sys::$number => Some($name::$case),)*
                     _ => None,
+                }
+            }
+
+            #[allow(dead_code)]
+            pub(crate) fn number(self) -> u32 {
+                match self {
+                    $($name::$case => $crate::sys::$number,)*
                 }
             }
         }

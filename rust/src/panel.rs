@@ -1,35 +1,100 @@
 //! The panel's end of a line.
 
 use crate::error::{Error, check};
-use crate::message::{Burst, Command, Reply};
+use crate::fields::{PdId, Reply};
+use crate::message::{Burst, Command, no_burst, no_message};
 use crate::numbered::numbered;
 use crate::sys;
+use crate::time::Moment;
 use core::mem::MaybeUninit;
 use core::ptr::null_mut;
+use core::sync::atomic::{AtomicU32, Ordering};
+use core::time::Duration;
 
-pub use crate::sys::osdp_panel_config as PanelConfig;
+pub use crate::sys::Check;
+
+/// The settings of a panel. Each time is 1 ms to an hour, in whole milliseconds.
+#[derive(Clone, Copy, Debug, PartialEq, Eq)]
+pub struct PanelConfig {
+    /// Which check the frames end with.
+    pub check: Check,
+    /// How long an answer is waited for.
+    pub reply_wait: Duration,
+    /// From an answer to the next POLL.
+    pub poll_interval: Duration,
+    /// How often a frame is sent while no answer comes, 1 to 255.
+    pub sends: u8,
+    /// From a BUSY to the next send.
+    pub busy_wait: Duration,
+    /// How often a device may answer BUSY in one exchange.
+    pub busy_limit: u8,
+    /// How long a device is left quiet before a session opens.
+    pub quiet_wait: Duration,
+    /// After how long a silence a run of bytes is over.
+    pub gap: Duration,
+    /// How many commands may wait for each device, 1 to 1,024.
+    pub capacity: u32,
+}
+
+/// A time of a setting, as the archive takes it; one that is too long is above what it takes.
+pub(crate) fn milliseconds(time: Duration) -> u32 {
+    u32::try_from(time.as_millis()).unwrap_or(u32::MAX)
+}
+
+impl PanelConfig {
+    fn to_sys(self) -> sys::osdp_panel_config {
+        sys::osdp_panel_config {
+            check: self.check,
+            reply_wait: milliseconds(self.reply_wait),
+            poll_interval: milliseconds(self.poll_interval),
+            sends: self.sends.into(),
+            busy_wait: milliseconds(self.busy_wait),
+            busy_limit: self.busy_limit.into(),
+            quiet_wait: milliseconds(self.quiet_wait),
+            gap: milliseconds(self.gap),
+            capacity: self.capacity,
+        }
+    }
+}
 
 impl Default for PanelConfig {
     fn default() -> PanelConfig {
         let mut config = MaybeUninit::uninit();
         // SAFETY: the call writes each field, and as the check one of the two.
-        unsafe {
+        let config: sys::osdp_panel_config = unsafe {
             sys::osdp_panel_defaults(config.as_mut_ptr());
             config.assume_init()
+        };
+        PanelConfig {
+            check: config.check,
+            reply_wait: Duration::from_millis(config.reply_wait.into()),
+            poll_interval: Duration::from_millis(config.poll_interval.into()),
+            sends: config.sends as u8,
+            busy_wait: Duration::from_millis(config.busy_wait.into()),
+            busy_limit: config.busy_limit as u8,
+            quiet_wait: Duration::from_millis(config.quiet_wait.into()),
+            gap: Duration::from_millis(config.gap.into()),
+            capacity: config.capacity,
         }
     }
 }
 
-/// A device of a panel.
+/// A device of a panel. Another panel refuses it.
 #[derive(Clone, Copy, Debug, PartialEq, Eq, PartialOrd, Ord, Hash)]
-pub struct Entry(usize);
+pub struct Entry {
+    panel: u32,
+    index: usize,
+}
 
 impl Entry {
     /// Its number, in the order of adding, from 0.
     pub fn index(self) -> usize {
-        self.0
+        self.index
     }
 }
+
+/// How many panels were made: each has a number of its own, until there were four billion.
+static PANELS: AtomicU32 = AtomicU32::new(0);
 
 numbered! {
     /// Why a session was lost.
@@ -48,8 +113,8 @@ numbered! {
 #[non_exhaustive]
 #[allow(clippy::large_enum_variant)]
 pub enum Report {
-    /// The session is open. The reply says what the device is.
-    Opened(Reply),
+    /// The session is open, with what the device is.
+    Opened(PdId),
     /// A command was answered. The reply may be a NAK.
     Settled(Command, Reply),
     /// A COMSET was confirmed: the device is at its new address, and the session has ended.
@@ -64,11 +129,14 @@ pub enum Report {
     Lost(LostCause, Option<Command>),
 }
 
-fn report_of(raw: &sys::osdp_report) -> Option<(Entry, Report)> {
-    let command = Command::from_raw(&raw.command);
-    let reply = Reply::from_raw(&raw.reply);
+fn report_of(panel: u32, raw: &sys::osdp_report) -> Option<(Entry, Report)> {
+    let command = Command::from_sys(&raw.command);
+    let reply = Reply::from_sys(&raw.reply);
     let report = match raw.kind {
-        sys::OSDP_REPORT_OPENED => Report::Opened(reply?),
+        sys::OSDP_REPORT_OPENED => match reply? {
+            Reply::PdId(id) => Report::Opened(id),
+            _ => return None,
+        },
         sys::OSDP_REPORT_SETTLED => Report::Settled(command?, reply?),
         sys::OSDP_REPORT_MOVED => Report::Moved(command?, reply?),
         sys::OSDP_REPORT_EVENT => Report::Event(reply?),
@@ -77,14 +145,24 @@ fn report_of(raw: &sys::osdp_report) -> Option<(Entry, Report)> {
         sys::OSDP_REPORT_LOST => Report::Lost(LostCause::of(raw.detail)?, command),
         _ => return None,
     };
-    Some((Entry(raw.entry), report))
+    let index = raw.entry;
+    Some((Entry { panel, index }, report))
 }
 
 /// The panel's end of a line with up to sixteen devices. It reads and writes nothing: its program hands bytes and moments in.
 ///
-/// Moments are milliseconds of any clock that doesn't go backwards. It stays on the thread that made it.
+/// With the feature `heap` it may be moved to another thread: its memory is that of the program's global allocator, which every thread may use. Without
+/// it the program's own heap may be one of a single thread, so there it stays on the thread that made it.
 #[derive(Debug)]
-pub struct Panel(sys::osdp_panel);
+pub struct Panel {
+    handle: sys::osdp_panel,
+    number: u32,
+}
+
+// SAFETY: the handle is owned, nothing else points to what it holds, and a call uses nothing of its thread. What it takes and gives back is memory of the
+// global allocator, which is that of all threads.
+#[cfg(feature = "heap")]
+unsafe impl Send for Panel {}
 
 impl Panel {
     /// A panel without devices. It takes memory.
@@ -93,13 +171,24 @@ impl Panel {
     ///
     /// `OutOfRange` for a setting, `NoMemory`.
     pub fn new(config: &PanelConfig) -> Result<Panel, Error> {
-        let mut panel = Panel(sys::osdp_panel {
-            machine: null_mut(),
-            live: 0,
-        });
+        let mut panel = Panel {
+            handle: sys::osdp_panel {
+                panel: null_mut(),
+                panel_live: 0,
+            },
+            number: PANELS.fetch_add(1, Ordering::Relaxed),
+        };
         // SAFETY: the handle is none, and both pointers are good.
-        check(unsafe { sys::osdp_panel_new(&mut panel.0, config) })?;
+        check(unsafe { sys::osdp_panel_new(&mut panel.handle, &config.to_sys()) })?;
         Ok(panel)
+    }
+
+    /// The number of a device of this panel.
+    fn index(&self, entry: Entry) -> Result<usize, Error> {
+        match entry.panel == self.number {
+            true => Ok(entry.index),
+            false => Err(Error::NoEntry),
+        }
     }
 
     /// Adds a device at an address, 0 to 126, whose session is closed. It takes memory.
@@ -110,8 +199,11 @@ impl Panel {
     pub fn add(&mut self, address: u8) -> Result<Entry, Error> {
         let mut entry = 0;
         // SAFETY: the handle is ours alone, and the entry is written.
-        check(unsafe { sys::osdp_panel_add(&mut self.0, address.into(), &mut entry) })?;
-        Ok(Entry(entry))
+        check(unsafe { sys::osdp_panel_add(&mut self.handle, address.into(), &mut entry) })?;
+        Ok(Entry {
+            panel: self.number,
+            index: entry,
+        })
     }
 
     /// Begins a session of a device.
@@ -119,20 +211,23 @@ impl Panel {
     /// # Errors
     ///
     /// `NoEntry`, `NotClosed`.
-    pub fn begin(&mut self, entry: Entry, now: u64) -> Result<(), Error> {
+    pub fn begin(&mut self, entry: Entry, now: Moment) -> Result<(), Error> {
+        let index = self.index(entry)?;
         // SAFETY: the handle is ours alone.
-        check(unsafe { sys::osdp_panel_begin(&mut self.0, entry.0, now) })
+        check(unsafe { sys::osdp_panel_begin(&mut self.handle, index, now.as_millis()) })
     }
 
-    /// Puts a command, by its code and data, after those that wait for a device.
+    /// Puts a command after those that wait for a device.
     ///
     /// # Errors
     ///
-    /// `UnknownCode`, `BadLength`, `BadCount`, `NoEntry`, `AddressTaken`, `PollSubmitted`, `Full`.
-    pub fn submit(&mut self, entry: Entry, code: u8, data: &[u8]) -> Result<(), Error> {
+    /// `NoEntry`, `AddressTaken`, `PollSubmitted`, `Full`.
+    pub fn submit(&mut self, entry: Entry, command: &Command) -> Result<(), Error> {
+        let index = self.index(entry)?;
+        let (code, data) = (command.code(), command.data());
         // SAFETY: the handle is ours alone, and the data have so many bytes.
         check(unsafe {
-            sys::osdp_panel_submit(&mut self.0, entry.0, code, data.as_ptr(), data.len())
+            sys::osdp_panel_submit(&mut self.handle, index, code, data.as_ptr(), data.len())
         })
     }
 
@@ -142,9 +237,10 @@ impl Panel {
     ///
     /// `BadText`, and those of `submit`.
     pub fn submit_text(&mut self, entry: Entry, text: &str) -> Result<(), Error> {
+        let index = self.index(entry)?;
         // SAFETY: the handle is ours alone, and the text has so many bytes.
         check(unsafe {
-            sys::osdp_panel_submit_text(&mut self.0, entry.0, text.as_ptr().cast(), text.len())
+            sys::osdp_panel_submit_text(&mut self.handle, index, text.as_ptr().cast(), text.len())
         })
     }
 
@@ -154,10 +250,11 @@ impl Panel {
     ///
     /// `NoEntry`.
     pub fn withdraw(&mut self, entry: Entry) -> Result<Option<Command>, Error> {
+        let index = self.index(entry)?;
         let mut command = no_message();
         // SAFETY: the handle is ours alone, and the command is one.
-        check(unsafe { sys::osdp_panel_withdraw(&mut self.0, entry.0, &mut command) })?;
-        Ok(Command::from_raw(&command))
+        check(unsafe { sys::osdp_panel_withdraw(&mut self.handle, index, &mut command) })?;
+        Ok(Command::from_sys(&command))
     }
 
     /// Sets the address of a device, 0 to 126, and frees the one that is reserved for it.
@@ -166,39 +263,95 @@ impl Panel {
     ///
     /// `NoEntry`, `NotClosed`, `OutOfRange`, `AddressTaken`.
     pub fn retarget(&mut self, entry: Entry, address: u8) -> Result<(), Error> {
+        let index = self.index(entry)?;
         // SAFETY: the handle is ours alone.
-        check(unsafe { sys::osdp_panel_retarget(&mut self.0, entry.0, address.into()) })
+        check(unsafe { sys::osdp_panel_retarget(&mut self.handle, index, address.into()) })
+    }
+
+    /// The devices, in the order of adding.
+    pub fn entries(&mut self) -> impl Iterator<Item = Entry> + use<> {
+        let panel = self.number;
+        let mut count = 0;
+        // SAFETY: the handle is ours alone, and the count is one. It holds a machine, so the call isn't refused.
+        let _ = unsafe { sys::osdp_panel_entries(&mut self.handle, &mut count) };
+        (0..count).map(move |index| Entry { panel, index })
+    }
+
+    /// The address that a device has now.
+    ///
+    /// # Errors
+    ///
+    /// `NoEntry`.
+    pub fn address(&mut self, entry: Entry) -> Result<u8, Error> {
+        let index = self.index(entry)?;
+        let mut address = 0;
+        // SAFETY: the handle is ours alone, and the address is one.
+        check(unsafe { sys::osdp_panel_address(&mut self.handle, index, &mut address) })?;
+        Ok(address as u8)
+    }
+
+    /// How many commands wait for a device; the one that is under way isn't counted.
+    ///
+    /// # Errors
+    ///
+    /// `NoEntry`.
+    pub fn waiting(&mut self, entry: Entry) -> Result<usize, Error> {
+        let index = self.index(entry)?;
+        let mut count = 0;
+        // SAFETY: the handle is ours alone, and the count is one.
+        check(unsafe { sys::osdp_panel_waiting(&mut self.handle, index, &mut count) })?;
+        Ok(count)
+    }
+
+    /// Whether the session of a device is closed.
+    ///
+    /// # Errors
+    ///
+    /// `NoEntry`.
+    pub fn is_closed(&mut self, entry: Entry) -> Result<bool, Error> {
+        let index = self.index(entry)?;
+        let mut closed = 0;
+        // SAFETY: the handle is ours alone, and the number is one.
+        check(unsafe { sys::osdp_panel_is_closed(&mut self.handle, index, &mut closed) })?;
+        Ok(closed != 0)
     }
 
     /// Bytes have come from the line, in any pieces.
-    pub fn on_bytes(&mut self, bytes: &[u8], now: u64) {
+    pub fn on_bytes(&mut self, bytes: &[u8], now: Moment) {
         // SAFETY: the handle is ours alone, and so many bytes are there. It holds a machine, so the call isn't refused.
-        let _ = unsafe { sys::osdp_panel_bytes(&mut self.0, bytes.as_ptr(), bytes.len(), now) };
+        let _ = unsafe {
+            sys::osdp_panel_bytes(
+                &mut self.handle,
+                bytes.as_ptr(),
+                bytes.len(),
+                now.as_millis(),
+            )
+        };
     }
 
     /// The line was seen silent: the run of bytes is over.
-    pub fn on_silence(&mut self, now: u64) {
+    pub fn on_silence(&mut self, now: Moment) {
         // SAFETY: the handle is ours alone. It holds a machine, so the call isn't refused.
-        let _ = unsafe { sys::osdp_panel_silence(&mut self.0, now) };
+        let _ = unsafe { sys::osdp_panel_silence(&mut self.handle, now.as_millis()) };
     }
 
     /// What is due at a moment: a burst to write. While a report waits, none.
-    pub fn tick(&mut self, now: u64) -> Option<Burst> {
+    pub fn tick(&mut self, now: Moment) -> Option<Burst> {
         let mut burst = no_burst();
         // SAFETY: the handle is ours alone, and the burst is one. It holds a machine, so the call isn't refused.
-        let _ = unsafe { sys::osdp_panel_tick(&mut self.0, now, &mut burst) };
-        Burst::from_raw(&burst)
+        let _ = unsafe { sys::osdp_panel_tick(&mut self.handle, now.as_millis(), &mut burst) };
+        Burst::from_sys(&burst)
     }
 
     /// The moment at which `tick` is to be called next, if no call comes before.
-    pub fn next_deadline(&mut self) -> Option<u64> {
+    pub fn next_deadline(&mut self) -> Option<Moment> {
         let mut deadline = sys::osdp_moment {
             moment: 0,
             present: 0,
         };
         // SAFETY: the handle is ours alone, and the moment is one. It holds a machine, so the call isn't refused.
-        let _ = unsafe { sys::osdp_panel_next_deadline(&mut self.0, &mut deadline) };
-        (deadline.present != 0).then_some(deadline.moment)
+        let _ = unsafe { sys::osdp_panel_next_deadline(&mut self.handle, &mut deadline) };
+        (deadline.present != 0).then_some(Moment::from_millis(deadline.moment))
     }
 
     /// Takes the report that waits, with the device of which it tells.
@@ -211,30 +364,14 @@ impl Panel {
             reply: no_message(),
         };
         // SAFETY: the handle is ours alone, and the report is one. It holds a machine, so the call isn't refused.
-        let _ = unsafe { sys::osdp_panel_next_report(&mut self.0, &mut report) };
-        report_of(&report)
+        let _ = unsafe { sys::osdp_panel_next_report(&mut self.handle, &mut report) };
+        report_of(self.number, &report)
     }
 }
 
 impl Drop for Panel {
     fn drop(&mut self) {
         // SAFETY: the handle is ours alone. One that is none is refused, which changes nothing.
-        let _ = unsafe { sys::osdp_panel_free(&mut self.0) };
-    }
-}
-
-pub(crate) fn no_message() -> sys::osdp_message {
-    sys::osdp_message {
-        length: 0,
-        present: 0,
-        code: 0,
-        data: [0; 1432],
-    }
-}
-
-pub(crate) fn no_burst() -> sys::osdp_burst {
-    sys::osdp_burst {
-        length: 0,
-        bytes: [0; 1440],
+        let _ = unsafe { sys::osdp_panel_free(&mut self.handle) };
     }
 }

@@ -1,10 +1,10 @@
-//! Memory: what a panel and a reader take is given back when they are dropped, and each block that is refused is told.
+//! Memory: what a panel and a device take is given back when they are dropped, and each block that is refused is told.
 //!
 //! It is a program of one thread, since the allocator counts what the whole program takes.
 mod settings;
 
-use osdp::{Error, Panel, PanelConfig, Reader};
-use settings::READER;
+use osdp::{Device, Error, Panel, PanelConfig};
+use settings::DEVICE;
 use std::alloc::{GlobalAlloc, Layout, System};
 use std::ptr::null_mut;
 use std::sync::atomic::{AtomicUsize, Ordering::SeqCst};
@@ -36,11 +36,11 @@ unsafe impl GlobalAlloc for Counted {
 #[global_allocator]
 static ALLOCATOR: Counted = Counted;
 
-fn both() -> Result<(Panel, Reader), Error> {
+fn both() -> Result<(Panel, Device), Error> {
     let mut panel = Panel::new(&PanelConfig::default())?;
     panel.add(5)?;
-    let reader = Reader::new(&READER)?;
-    Ok((panel, reader))
+    let device = Device::new(&DEVICE)?;
+    Ok((panel, device))
 }
 
 fn main() {

@@ -1,17 +1,20 @@
 //! What a reader's program is told of a command: that it is to be done, or that the reader has refused it.
 mod settings;
 
-use osdp::{Answer, Order, Reader, Said};
-use settings::READER;
+use osdp::{Answer, Device, Moment, Order, Said};
+use settings::DEVICE;
 
 /// `OUT 0:2:0` and `OUT 9:2:0` with number 0, worked by hand: the reader has the first of both outputs alone.
 const OUT: [u8; 11] = [0x53, 0x05, 0x0B, 0, 0, 0x68, 0, 2, 0, 0, 0x33];
 const OUT_OF_NONE: [u8; 11] = [0x53, 0x05, 0x0B, 0, 0, 0x68, 9, 2, 0, 0, 0x2A];
 
 fn answer_to(packet: &[u8]) -> Option<Answer> {
-    let mut reader = Reader::new(&READER).ok()?;
-    reader.set_outputs(&[0]).ok()?;
-    reader.step(packet, 0).1
+    let mut device = Device::new(&DEVICE).ok()?;
+    device.set_outputs(&[0]).ok()?;
+    let now = Moment::from_millis(0);
+    let (_, asked) = device.step(packet, now);
+    assert!(matches!(asked?.order, Some(Order::Pending(_))));
+    device.step(&[], now).1
 }
 
 #[test]

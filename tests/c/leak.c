@@ -9,6 +9,6 @@ int main(void)
     if (osdp_panel_new(&panel, &config) != OSDP_OK) {
         return 0;
     }
-    panel.machine = NULL;
+    panel.panel = NULL;
     return 0;
 }

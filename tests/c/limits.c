@@ -56,9 +56,9 @@ static struct osdp_panel_config panel_config(void)
     return config;
 }
 
-static struct osdp_reader_config reader_config(void)
+static struct osdp_device_config reader_config(void)
 {
-    struct osdp_reader_config config = { .address = 6, .capacity = 2, .gap = 20, .vendor = { 'S', 'I', 'M' } };
+    struct osdp_device_config config = { .address = 6, .capacity = 2, .gap = 20, .vendor = { 'S', 'I', 'M' } };
     return config;
 }
 
@@ -78,19 +78,19 @@ static void capacities(void)
     demand(osdp_panel_submit_text(&panel, entry, "LSTAT", 5) == OSDP_COMMANDS_FULL);
     demand(osdp_panel_free(&panel) == OSDP_OK);
 
-    struct osdp_reader reader = { 0 };
-    struct osdp_reader_config what = reader_config();
+    struct osdp_device reader = { 0 };
+    struct osdp_device_config what = reader_config();
     const uint8_t none[] = { 0 };
     what.capacity = 1025;
-    demand(osdp_reader_new(&reader, &what, none, 0) == OSDP_READER_OUT_OF_RANGE);
+    demand(osdp_device_new(&reader, &what, none, 0) == OSDP_DEVICE_OUT_OF_RANGE);
     what.capacity = 1024;
-    demand(osdp_reader_new(&reader, &what, none, 0) == OSDP_OK);
+    demand(osdp_device_new(&reader, &what, none, 0) == OSDP_OK);
     for (int i = 0; i < 1024; i++) {
-        demand(osdp_reader_event_text(&reader, "LSTATR 1 0", 10) == OSDP_OK);
+        demand(osdp_device_event_text(&reader, "LSTATR 1 0", 10) == OSDP_OK);
     }
-    demand(osdp_reader_event_text(&reader, "LSTATR 1 0", 10) == OSDP_EVENTS_FULL);
-    demand(osdp_reader_waiting(&reader, &waiting) == OSDP_OK && waiting == 1024);
-    demand(osdp_reader_free(&reader) == OSDP_OK);
+    demand(osdp_device_event_text(&reader, "LSTATR 1 0", 10) == OSDP_EVENTS_FULL);
+    demand(osdp_device_waiting(&reader, &waiting) == OSDP_OK && waiting == 1024);
+    demand(osdp_device_free(&reader) == OSDP_OK);
 }
 
 /* Numbers whose low byte, or low seven bits, would be a device's address are none. */
@@ -98,9 +98,9 @@ static void addresses(void)
 {
     const uint32_t bad[] = { 127, 128, 133, 255, 256, 261, 65536, 0x80000005, 0xFFFFFFFF };
     struct osdp_panel panel = { 0 };
-    struct osdp_reader reader = { 0 };
+    struct osdp_device reader = { 0 };
     struct osdp_panel_config config = panel_config();
-    struct osdp_reader_config what = reader_config();
+    struct osdp_device_config what = reader_config();
     const uint8_t none[] = { 0 };
     size_t entry = 99;
     demand(osdp_panel_new(&panel, &config) == OSDP_OK && osdp_panel_add(&panel, 0, &entry) == OSDP_OK && entry == 0);
@@ -109,26 +109,29 @@ static void addresses(void)
         demand(osdp_panel_add(&panel, bad[i], &entry) == OSDP_PANEL_OUT_OF_RANGE && entry == 99);
         demand(osdp_panel_retarget(&panel, 0, bad[i]) == OSDP_PANEL_OUT_OF_RANGE);
         what.address = bad[i];
-        demand(osdp_reader_new(&reader, &what, none, 0) == OSDP_READER_OUT_OF_RANGE);
+        demand(osdp_device_new(&reader, &what, none, 0) == OSDP_DEVICE_OUT_OF_RANGE);
     }
     demand(osdp_panel_add(&panel, 126, &entry) == OSDP_OK && entry == 1);
     what.address = 126;
-    demand(osdp_reader_new(&reader, &what, none, 0) == OSDP_OK);
-    demand(osdp_reader_free(&reader) == OSDP_OK && osdp_panel_free(&panel) == OSDP_OK);
+    demand(osdp_device_new(&reader, &what, none, 0) == OSDP_OK);
+    demand(osdp_device_free(&reader) == OSDP_OK && osdp_panel_free(&panel) == OSDP_OK);
 }
 
 /* The reader's answer to a question with number 0. */
-static const struct osdp_burst *answer_to(struct osdp_reader *reader, uint8_t code)
+static const struct osdp_burst *answer_to(struct osdp_device *reader, uint8_t code)
 {
     static struct osdp_answer answer;
     uint8_t asked[8];
     size_t taken, length = packet(asked, 6, 0, code, asked, 0);
     memset(&answer, PATTERN, sizeof answer);
-    demand(osdp_reader_step(reader, asked, length, 0, &taken, &answer) == OSDP_OK && taken == length);
+    demand(osdp_device_step(reader, asked, length, 0, &taken, &answer) == OSDP_OK && taken == length);
+    if (answer.kind == OSDP_SAID_PENDING) {
+        demand(osdp_device_step(reader, asked, 0, 0, &taken, &answer) == OSDP_OK && taken == 0);
+    }
     return &answer.burst;
 }
 
-typedef osdp_status set_call(struct osdp_reader *, const uint8_t *, size_t);
+typedef osdp_status set_call(struct osdp_device *, const uint8_t *, size_t);
 
 /* 1,432 states are told as they were set; one more is refused, and changes nothing. */
 static void states(void)
@@ -137,14 +140,14 @@ static void states(void)
         set_call *set;
         uint8_t question, answer;
     } each[] = {
-        { osdp_reader_set_inputs, 0x65, 0x49 },
-        { osdp_reader_set_outputs, 0x66, 0x4A },
-        { osdp_reader_set_readers, 0x67, 0x4B },
+        { osdp_device_set_inputs, 0x65, 0x49 },
+        { osdp_device_set_outputs, 0x66, 0x4A },
+        { osdp_device_set_readers, 0x67, 0x4B },
     };
     static uint8_t data[1433];
-    struct osdp_reader reader = { 0 };
-    struct osdp_reader_config what = reader_config();
-    demand(osdp_reader_new(&reader, &what, data, 0) == OSDP_OK);
+    struct osdp_device reader = { 0 };
+    struct osdp_device_config what = reader_config();
+    demand(osdp_device_new(&reader, &what, data, 0) == OSDP_OK);
     for (size_t i = 0; i < sizeof each / sizeof each[0]; i++) {
         for (size_t j = 0; j < sizeof data; j++) {
             data[j] = (uint8_t)(j * 5 + i);
@@ -153,7 +156,7 @@ static void states(void)
         demand(each[i].set(&reader, data, 1433) == OSDP_BAD_LENGTH);
         demand(is_burst(answer_to(&reader, each[i].question), 0x86, 0, each[i].answer, data, 1432));
     }
-    demand(osdp_reader_free(&reader) == OSDP_OK);
+    demand(osdp_device_free(&reader) == OSDP_OK);
 }
 
 /* Any number but 0 is busy. */
@@ -161,21 +164,21 @@ static void busy(void)
 {
     const uint32_t numbers[] = { 1, 2, 256, 0x80000000 };
     const uint8_t none[] = { 0 }, local[] = { 0, 0 };
-    struct osdp_reader reader = { 0 };
-    struct osdp_reader_config what = reader_config();
-    demand(osdp_reader_new(&reader, &what, none, 0) == OSDP_OK);
+    struct osdp_device reader = { 0 };
+    struct osdp_device_config what = reader_config();
+    demand(osdp_device_new(&reader, &what, none, 0) == OSDP_OK);
     for (size_t i = 0; i < sizeof numbers / sizeof numbers[0]; i++) {
-        demand(osdp_reader_set_busy(&reader, numbers[i]) == OSDP_OK);
+        demand(osdp_device_set_busy(&reader, numbers[i]) == OSDP_OK);
         demand(is_burst(answer_to(&reader, 0x64), 0x86, 0, 0x79, none, 0));
-        demand(osdp_reader_set_busy(&reader, 0) == OSDP_OK);
+        demand(osdp_device_set_busy(&reader, 0) == OSDP_OK);
         demand(is_burst(answer_to(&reader, 0x64), 0x86, 0, 0x48, local, 2));
     }
-    demand(osdp_reader_free(&reader) == OSDP_OK);
+    demand(osdp_device_free(&reader) == OSDP_OK);
 }
 
 typedef osdp_status text_call(uint8_t, const uint8_t *, size_t, char *, size_t, size_t *);
 
-/* A text of so many characters fits in as many bytes, and not in one less; nothing else is written. */
+/* A text of so many characters fits in as many bytes, and not in one less; with one more there is a zero after it. Nothing else is written. */
 static void text_fits(text_call *call, uint8_t code, const uint8_t *data, size_t length, size_t wanted)
 {
     static char text[6144];
@@ -186,6 +189,8 @@ static void text_fits(text_call *call, uint8_t code, const uint8_t *data, size_t
     told = 0;
     demand(call(code, data, length, text, wanted, &told) == OSDP_OK && told == wanted);
     demand(is_pattern((const uint8_t *)text + wanted, sizeof text - wanted));
+    demand(call(code, data, length, text, wanted + 1, &told) == OSDP_OK && told == wanted && strlen(text) == wanted);
+    demand(is_pattern((const uint8_t *)text + wanted + 1, sizeof text - wanted - 1));
 }
 
 static void texts(void)

@@ -8,7 +8,7 @@
 #include <string.h>
 
 struct osdp_panel panel;
-struct osdp_reader readers[READERS];
+struct osdp_device readers[READERS];
 bool is_silent[READERS];
 struct record told[READERS];
 struct record done[READERS];
@@ -119,7 +119,7 @@ static void judge_kind(int i, const struct osdp_answer *answer)
 }
 
 /* What is noted of each order. */
-static const char *const orders[] = { "nothing", "taken", "again", "refused" };
+static const char *const orders[] = { "nothing", "once", "again", "refused" };
 
 /* A command that is told is told refused exactly where the answer is a NAK, and else by its number. */
 static void judge_order(const struct osdp_answer *answer)
@@ -127,7 +127,7 @@ static void judge_order(const struct osdp_answer *answer)
     demand((answer->order != OSDP_ORDER_NONE) == answer->command.present);
     demand(answer->order <= OSDP_ORDER_REFUSED);
     if (answer->order != OSDP_ORDER_NONE) {
-        uint32_t wanted = answer->kind == OSDP_SAID_ZERO ? OSDP_ORDER_AGAIN : OSDP_ORDER_TAKEN;
+        uint32_t wanted = answer->kind == OSDP_SAID_ZERO ? OSDP_ORDER_AGAIN : OSDP_ORDER_ONCE;
         demand(answer->kind == OSDP_SAID_ZERO || answer->kind == OSDP_SAID_TAKEN);
         demand(answer->order == (answer->burst.bytes[5] == 0x41 ? OSDP_ORDER_REFUSED : wanted));
     }
@@ -142,9 +142,30 @@ static void note_kind(int i, uint32_t kind)
     said_before[i] = kind;
 }
 
+/* A reader stops before each command that it doesn't answer by itself, once, and says nothing; then it answers that very command. */
+static bool has_stopped(int i, const struct osdp_answer *answer)
+{
+    static struct osdp_message before[READERS];
+    if (answer->kind == OSDP_SAID_PENDING) {
+        demand(answer->order == OSDP_ORDER_PENDING && answer->command.present == 1 && before[i].present == 0);
+        demand(answer->burst.length == 0 && answer->moved == 0);
+        before[i] = answer->command;
+        return true;
+    }
+    if (before[i].present == 1 && answer->kind != OSDP_SAID_BUSY) {
+        demand(answer->command.code == before[i].code && answer->command.length == before[i].length);
+        demand(memcmp(answer->command.data, before[i].data, before[i].length) == 0);
+    }
+    before[i].present = 0;
+    return false;
+}
+
 /* What a reader says goes on the line, but one answer in five. What it is to do is noted. */
 static void hear_answer(int i, const struct osdp_answer *answer)
 {
+    if (has_stopped(i, answer)) {
+        return;
+    }
     demand((answer->kind == OSDP_SAID_NONE) == (answer->burst.length == 0));
     if (answer->kind != OSDP_SAID_NONE) {
         judge_kind(i, answer);
@@ -176,7 +197,7 @@ static void to_readers(const struct osdp_burst *burst)
         size_t at = 0, taken = 0, half = burst->length / 2;
         while (!is_silent[i]) {
             size_t end = at < half ? half : burst->length;
-            demand(osdp_reader_step(&readers[i], burst->bytes + at, end - at, now, &taken, &answer) == OSDP_OK);
+            demand(osdp_device_step(&readers[i], burst->bytes + at, end - at, now, &taken, &answer) == OSDP_OK);
             hear_answer(i, &answer);
             at += taken;
             if (at == burst->length && answer.kind == OSDP_SAID_NONE) {

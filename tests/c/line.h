@@ -12,7 +12,7 @@ struct record {
 };
 
 extern struct osdp_panel panel;
-extern struct osdp_reader readers[READERS];
+extern struct osdp_device readers[READERS];
 extern bool is_silent[READERS];      /* nothing comes to such a reader */
 extern struct record told[READERS]; /* what the panel tells of each */
 extern struct record done[READERS]; /* what each is to do, and where it is busy, or doesn't expect a number */

@@ -18,7 +18,7 @@ static size_t made;  /* how many blocks were asked for when the last machine was
 /* One of the two statuses of a lack of memory. */
 static bool is_lack(osdp_status status)
 {
-    bool is = status == OSDP_PANEL_NO_MEMORY || status == OSDP_READER_NO_MEMORY;
+    bool is = status == OSDP_PANEL_NO_MEMORY || status == OSDP_DEVICE_NO_MEMORY;
     lacks += is;
     return is;
 }
@@ -73,27 +73,27 @@ static void add_device(size_t i)
 /* A reader with room for two events. */
 static void new_reader(int i, uint32_t address)
 {
-    struct osdp_reader_config config = { .capacity = 2, .gap = 20, .vendor = { 'S', 'I', 'M' }, .model = 1, .version = 2 };
+    struct osdp_device_config config = { .capacity = 2, .gap = 20, .vendor = { 'S', 'I', 'M' }, .model = 1, .version = 2 };
     const uint8_t capabilities[] = { 2, 1, 8, 8, 1, 0 }, states[] = { 0, 1 };
     size_t count = 9, before = bytes_given;
-    demand(osdp_reader_waiting(&readers[i], &count) == OSDP_NO_MACHINE && count == 9);
+    demand(osdp_device_waiting(&readers[i], &count) == OSDP_NO_MACHINE && count == 9);
     config.address = 127;
-    demand(osdp_reader_new(&readers[i], &config, capabilities, 6) == OSDP_READER_OUT_OF_RANGE);
+    demand(osdp_device_new(&readers[i], &config, capabilities, 6) == OSDP_DEVICE_OUT_OF_RANGE);
     config.address = address;
     config.serial = 70000 + (uint32_t)i;
-    demand(osdp_reader_new(&readers[i], &config, capabilities, 5) == OSDP_BAD_LENGTH);
-    osdp_status status = osdp_reader_new(&readers[i], &config, capabilities, 6);
+    demand(osdp_device_new(&readers[i], &config, capabilities, 5) == OSDP_BAD_LENGTH);
+    osdp_status status = osdp_device_new(&readers[i], &config, capabilities, 6);
     if (is_lack(status)) {
-        demand(osdp_reader_free(&readers[i]) == OSDP_NO_MACHINE);
+        demand(osdp_device_free(&readers[i]) == OSDP_NO_MACHINE);
         before = bytes_given;
-        status = osdp_reader_new(&readers[i], &config, capabilities, 6);
+        status = osdp_device_new(&readers[i], &config, capabilities, 6);
     }
-    demand(status == OSDP_OK && bytes_given - before == counted(18904 + 2 * 1456));
-    demand(osdp_reader_new(&readers[i], &config, capabilities, 6) == OSDP_IN_USE);
-    demand(osdp_reader_set_outputs(&readers[i], states, 2) == OSDP_OK);
-    demand(osdp_reader_set_inputs(&readers[i], states, 2) == OSDP_OK);
-    demand(osdp_reader_set_readers(&readers[i], states, 1) == OSDP_OK);
-    demand(osdp_reader_set_local(&readers[i], 1, 0) == OSDP_OK);
+    demand(status == OSDP_OK && bytes_given - before == counted(20360 + 2 * 1456));
+    demand(osdp_device_new(&readers[i], &config, capabilities, 6) == OSDP_IN_USE);
+    demand(osdp_device_set_outputs(&readers[i], states, 2) == OSDP_OK);
+    demand(osdp_device_set_inputs(&readers[i], states, 2) == OSDP_OK);
+    demand(osdp_device_set_readers(&readers[i], states, 1) == OSDP_OK);
+    demand(osdp_device_set_local(&readers[i], 1, 0) == OSDP_OK);
 }
 
 static void new_machines(void)
@@ -121,9 +121,9 @@ static void refusals(void)
     demand(osdp_panel_begin(&panel, 7, now) == OSDP_NO_ENTRY);
     demand(osdp_panel_retarget(&panel, 0, 6) == OSDP_ADDRESS_TAKEN);
     demand(osdp_panel_retarget(&panel, 0, 127) == OSDP_PANEL_OUT_OF_RANGE);
-    demand(osdp_reader_event(&readers[0], 0x40, keys, 0) == OSDP_NO_EVENT);
-    demand(osdp_reader_event(&readers[0], 0x53, keys, 3) == OSDP_BAD_COUNT);
-    demand(osdp_reader_event_text(&readers[0], "POLL", 4) == OSDP_BAD_TEXT);
+    demand(osdp_device_event(&readers[0], 0x40, keys, 0) == OSDP_NO_EVENT);
+    demand(osdp_device_event(&readers[0], 0x53, keys, 3) == OSDP_BAD_COUNT);
+    demand(osdp_device_event_text(&readers[0], "POLL", 4) == OSDP_BAD_TEXT);
 }
 
 /* A POLL with a security block is answered NAK 5, and nothing comes of it. Both packets are worked by hand. */
@@ -133,10 +133,10 @@ static void secured(void)
     const uint8_t poll[] = { 0x53, 0x05, 0x09, 0x00, 0x08, 0x02, 0x15, 0x60, 0x20 };
     const uint8_t nak[] = { 0x53, 0x85, 0x08, 0x00, 0x00, 0x41, 0x05, 0xDA };
     size_t taken = 0;
-    demand(osdp_reader_step(&readers[0], poll, sizeof poll, now, &taken, &answer) == OSDP_OK && taken == sizeof poll);
+    demand(osdp_device_step(&readers[0], poll, sizeof poll, now, &taken, &answer) == OSDP_OK && taken == sizeof poll);
     demand(answer.kind == OSDP_SAID_SECURED && answer.order == OSDP_ORDER_NONE && answer.moved == 0);
     demand(answer.burst.length == sizeof nak && memcmp(answer.burst.bytes, nak, sizeof nak) == 0);
-    demand(osdp_reader_step(&readers[0], poll, 0, now, &taken, &answer) == OSDP_OK && answer.kind == OSDP_SAID_NONE);
+    demand(osdp_device_step(&readers[0], poll, 0, now, &taken, &answer) == OSDP_OK && answer.kind == OSDP_SAID_NONE);
 }
 
 /* An OUT of an output that isn't there is refused with number 0 too: NAK 9. Both packets are worked by hand. */
@@ -146,11 +146,39 @@ static void refused_at_zero(void)
     const uint8_t out[] = { 0x53, 0x05, 0x0B, 0x00, 0x00, 0x68, 0x09, 0x02, 0x00, 0x00, 0x2A };
     const uint8_t nak[] = { 0x53, 0x85, 0x08, 0x00, 0x00, 0x41, 0x09, 0xD6 };
     size_t taken = 0;
-    demand(osdp_reader_step(&readers[0], out, sizeof out, now, &taken, &answer) == OSDP_OK && taken == sizeof out);
+    demand(osdp_device_step(&readers[0], out, sizeof out, now, &taken, &answer) == OSDP_OK && taken == sizeof out);
+    demand(answer.kind == OSDP_SAID_PENDING && answer.order == OSDP_ORDER_PENDING && answer.burst.length == 0);
+    demand(osdp_device_step(&readers[0], out, 0, now, &taken, &answer) == OSDP_OK);
     demand(answer.kind == OSDP_SAID_ZERO && answer.order == OSDP_ORDER_REFUSED && answer.moved == 0);
     demand(answer.command.code == 0x68 && answer.command.length == 4 && memcmp(answer.command.data, out + 6, 4) == 0);
     demand(answer.burst.length == sizeof nak && memcmp(answer.burst.bytes, nak, sizeof nak) == 0);
-    demand(osdp_reader_step(&readers[0], out, 0, now, &taken, &answer) == OSDP_OK && answer.kind == OSDP_SAID_NONE);
+    demand(osdp_device_step(&readers[0], out, 0, now, &taken, &answer) == OSDP_OK && answer.kind == OSDP_SAID_NONE);
+}
+
+/* What a device's program sets is said to the command before which the device has stopped, once, and to no other: an MFG is answered by the maker's own
+ * reply, the next one by NAK 9, and where nothing is asked nothing is set. The packets are worked by hand. */
+static void decided(void)
+{
+    static struct osdp_answer answer;
+    static struct osdp_message pending;
+    const uint8_t mfg[] = { 0x53, 0x05, 0x0B, 0x00, 0x00, 0x80, 0x01, 0x02, 0x03, 0x04, 0x13 };
+    const uint8_t told[] = { 0x53, 0x85, 0x0B, 0x00, 0x00, 0x90, 0x01, 0x02, 0x03, 0x09, 0x7E };
+    const uint8_t nak[] = { 0x53, 0x85, 0x08, 0x00, 0x00, 0x41, 0x09, 0xD6 };
+    const uint8_t vendor[] = { 1, 2, 3 }, own[] = { 9 };
+    size_t taken = 0;
+    demand(osdp_device_answer_done(&readers[0]) == OSDP_NOT_ASKED);
+    demand(osdp_device_pending(&readers[0], &pending) == OSDP_OK && pending.present == 0);
+    demand(osdp_device_step(&readers[0], mfg, sizeof mfg, now, &taken, &answer) == OSDP_OK && taken == sizeof mfg);
+    demand(answer.kind == OSDP_SAID_PENDING && answer.command.code == OSDP_MFG && answer.command.length == 4);
+    demand(osdp_device_pending(&readers[0], &pending) == OSDP_OK && pending.code == OSDP_MFG && pending.length == 4);
+    demand(osdp_device_answer_done(&readers[0]) == OSDP_OK);
+    demand(osdp_device_answer_maker(&readers[0], vendor, own, 1) == OSDP_OK); /* in place of what was set before */
+    demand(osdp_device_step(&readers[0], mfg, 0, now, &taken, &answer) == OSDP_OK && answer.order == OSDP_ORDER_AGAIN);
+    demand(answer.burst.length == sizeof told && memcmp(answer.burst.bytes, told, sizeof told) == 0);
+    demand(osdp_device_answer_done(&readers[0]) == OSDP_NOT_ASKED);
+    demand(osdp_device_step(&readers[0], mfg, sizeof mfg, now, &taken, &answer) == OSDP_OK && answer.kind == OSDP_SAID_PENDING);
+    demand(osdp_device_step(&readers[0], mfg, 0, now, &taken, &answer) == OSDP_OK && answer.order == OSDP_ORDER_REFUSED);
+    demand(answer.burst.length == sizeof nak && memcmp(answer.burst.bytes, nak, sizeof nak) == 0);
 }
 
 static void queue_events(void)
@@ -158,10 +186,10 @@ static void queue_events(void)
     const uint8_t keys[] = { 0, 1, '4' };
     const char *card = "RAW 0 1 26 12345640";
     size_t count = 0;
-    demand(osdp_reader_event(&readers[0], 0x53, keys, 3) == OSDP_OK);
-    demand(osdp_reader_event_text(&readers[0], card, strlen(card)) == OSDP_OK);
-    demand(osdp_reader_event(&readers[0], 0x53, keys, 3) == OSDP_EVENTS_FULL);
-    demand(osdp_reader_waiting(&readers[0], &count) == OSDP_OK && count == 2);
+    demand(osdp_device_event(&readers[0], 0x53, keys, 3) == OSDP_OK);
+    demand(osdp_device_event_text(&readers[0], card, strlen(card)) == OSDP_OK);
+    demand(osdp_device_event(&readers[0], 0x53, keys, 3) == OSDP_EVENTS_FULL);
+    demand(osdp_device_waiting(&readers[0], &count) == OSDP_OK && count == 2);
 }
 
 /* Both sessions open, the commands are settled, and the events told. */
@@ -207,15 +235,15 @@ static void fall_silent(void)
 /* The second reader is busy for less than 21 answers, after which its session would be lost, and then for more. */
 static void be_busy(void)
 {
-    demand(osdp_reader_set_busy(&readers[1], 1) == OSDP_OK);
+    demand(osdp_device_set_busy(&readers[1], 1) == OSDP_OK);
     submit(1, "LSTAT");
     run(30500);
-    demand(osdp_reader_set_busy(&readers[1], 0) == OSDP_OK);
+    demand(osdp_device_set_busy(&readers[1], 0) == OSDP_OK);
     run(32000);
-    demand(osdp_reader_set_busy(&readers[1], 1) == OSDP_OK);
+    demand(osdp_device_set_busy(&readers[1], 1) == OSDP_OK);
     submit(1, "ISTAT");
     run(40000);
-    demand(osdp_reader_set_busy(&readers[1], 0) == OSDP_OK);
+    demand(osdp_device_set_busy(&readers[1], 0) == OSDP_OK);
 }
 
 /* Its session opens again, and then it restarts: it expects the number 0, and the panel goes on with another. */
@@ -224,7 +252,7 @@ static void restart(void)
     demand(osdp_panel_begin(&panel, 1, now) == OSDP_OK);
     run(50000);
     demand(blocks_asked == made); /* no call but those that make a machine or add a device takes memory */
-    demand(osdp_reader_free(&readers[1]) == OSDP_OK);
+    demand(osdp_device_free(&readers[1]) == OSDP_OK);
     new_reader(1, 9);
     made = blocks_asked;
     run(60000);
@@ -255,19 +283,19 @@ static const char *const must_be_told[READERS] = {
 
 static const char *const must_be_done[READERS] = {
     "again ID 0\n"
-    "taken OUT 0:2:0\n"
-    "taken ISTAT\n"
+    "once OUT 0:2:0\n"
+    "once ISTAT\n"
     "refused OUT 9:2:0\n"
-    "taken LSTAT\n",
+    "once LSTAT\n",
     "again ID 0\n"
-    "taken BUZ 0 2 5 5 1\n"
-    "taken CAP 0\n"
-    "taken COMSET 9 19200\n"
+    "once BUZ 0 2 5 5 1\n"
+    "once CAP 0\n"
+    "once COMSET 9 19200\n"
     "moved 9 19200\n"
     "again ID 0\n"
-    "taken RSTAT\n"
+    "once RSTAT\n"
     "busy\n"
-    "taken LSTAT\n"
+    "once LSTAT\n"
     "busy\n"
     "again ID 0\n"
     "wrong\n",
@@ -296,9 +324,9 @@ static void leave_waiting(void)
     demand(osdp_panel_begin(&panel, READERS, now) == OSDP_OK);
     demand(osdp_panel_tick(&panel, now + 400, &burst) == OSDP_OK && burst.length == 9 && burst.bytes[1] == 5 + READERS);
     for (int i = 0; i < READERS; i++) {
-        demand(osdp_reader_event_text(&readers[i], card, strlen(card)) == OSDP_OK);
-        demand(osdp_reader_event_text(&readers[i], card, strlen(card)) == OSDP_OK);
-        demand(osdp_reader_waiting(&readers[i], &count) == OSDP_OK && count == 2);
+        demand(osdp_device_event_text(&readers[i], card, strlen(card)) == OSDP_OK);
+        demand(osdp_device_event_text(&readers[i], card, strlen(card)) == OSDP_OK);
+        demand(osdp_device_waiting(&readers[i], &count) == OSDP_OK && count == 2);
     }
 }
 
@@ -308,10 +336,10 @@ static void end(void)
     for (int i = 0; i < READERS; i++) {
         compare("told of", i, &told[i], must_be_told[i]);
         compare("done by", i, &done[i], must_be_done[i]);
-        demand(osdp_reader_free(&readers[i]) == OSDP_OK && readers[i].machine == NULL && readers[i].live == 0);
-        demand(osdp_reader_free(&readers[i]) == OSDP_NO_MACHINE);
+        demand(osdp_device_free(&readers[i]) == OSDP_OK && readers[i].device == NULL && readers[i].device_live == 0);
+        demand(osdp_device_free(&readers[i]) == OSDP_NO_MACHINE);
     }
-    demand(osdp_panel_free(&panel) == OSDP_OK && panel.machine == NULL && panel.live == 0);
+    demand(osdp_panel_free(&panel) == OSDP_OK && panel.panel == NULL && panel.panel_live == 0);
     demand(osdp_panel_free(&panel) == OSDP_NO_MACHINE);
     demand(blocks_held == 0);
 }
@@ -322,6 +350,7 @@ static void session(void)
     refusals();
     secured();
     refused_at_zero();
+    decided();
     queue_events();
     settle();
     fall_silent();

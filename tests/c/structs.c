@@ -12,8 +12,11 @@
 _Static_assert(sizeof(struct osdp_message) == 1436 && sizeof(struct osdp_burst) == 1444, "messages and bursts");
 _Static_assert(sizeof(struct osdp_panel) == 16 && sizeof(struct osdp_panel_config) == 36, "panels");
 _Static_assert(sizeof(struct osdp_moment) == 16 && sizeof(struct osdp_report) == 2888, "reports");
-_Static_assert(sizeof(struct osdp_reader) == 16 && sizeof(struct osdp_reader_config) == 24, "readers");
+_Static_assert(sizeof(struct osdp_device) == 16 && sizeof(struct osdp_device_config) == 24, "readers");
 _Static_assert(sizeof(struct osdp_answer) == 2900, "answers");
+_Static_assert(sizeof(struct osdp_raw) == 1434 && sizeof(struct osdp_keypad) == 257 && sizeof(struct osdp_states) == 1434, "fields");
+_Static_assert(sizeof(struct osdp_pd_id) == 12 && sizeof(struct osdp_nak) == 1434 && sizeof(struct osdp_output) == 4, "fields");
+_Static_assert(sizeof(struct osdp_led) == 14 && sizeof(struct osdp_buzzer) == 5 && sizeof(struct osdp_text) == 261, "commands");
 
 #define AROUND 64
 #define MOST 6144
@@ -126,7 +129,7 @@ static bool is_zero(const void *bytes, size_t count)
 }
 
 /* Every call on a handle without a machine is refused, and writes nothing. */
-static void no_machines(struct osdp_panel *panel, struct osdp_reader *reader)
+static void no_machines(struct osdp_panel *panel, struct osdp_device *reader)
 {
     const uint8_t bytes[] = { 0 };
     void *first = filled(&first_place, MOST), *second = filled(&second_place, MOST);
@@ -142,27 +145,38 @@ static void no_machines(struct osdp_panel *panel, struct osdp_reader *reader)
     demand(osdp_panel_tick(panel, 0, first) == OSDP_NO_MACHINE);
     demand(osdp_panel_next_deadline(panel, first) == OSDP_NO_MACHINE);
     demand(osdp_panel_next_report(panel, first) == OSDP_NO_MACHINE);
-    demand(osdp_reader_free(reader) == OSDP_NO_MACHINE);
-    demand(osdp_reader_set_inputs(reader, bytes, 1) == OSDP_NO_MACHINE);
-    demand(osdp_reader_set_outputs(reader, bytes, 1) == OSDP_NO_MACHINE);
-    demand(osdp_reader_set_readers(reader, bytes, 1) == OSDP_NO_MACHINE);
-    demand(osdp_reader_set_local(reader, 1, 1) == OSDP_NO_MACHINE);
-    demand(osdp_reader_set_busy(reader, 1) == OSDP_NO_MACHINE);
-    demand(osdp_reader_event(reader, 0x48, bytes, 1) == OSDP_NO_MACHINE);
-    demand(osdp_reader_event_text(reader, "KEYPAD 0 31", 11) == OSDP_NO_MACHINE);
-    demand(osdp_reader_waiting(reader, first) == OSDP_NO_MACHINE);
-    demand(osdp_reader_step(reader, bytes, 1, 0, second, first) == OSDP_NO_MACHINE);
-    demand(osdp_reader_tick(reader, 0, first) == OSDP_NO_MACHINE);
-    demand(osdp_reader_silence(reader, 0, first) == OSDP_NO_MACHINE);
+    demand(osdp_panel_entries(panel, first) == OSDP_NO_MACHINE);
+    demand(osdp_panel_address(panel, 0, first) == OSDP_NO_MACHINE);
+    demand(osdp_panel_waiting(panel, 0, first) == OSDP_NO_MACHINE);
+    demand(osdp_panel_is_closed(panel, 0, first) == OSDP_NO_MACHINE);
+    demand(osdp_device_free(reader) == OSDP_NO_MACHINE);
+    demand(osdp_device_set_inputs(reader, bytes, 1) == OSDP_NO_MACHINE);
+    demand(osdp_device_set_outputs(reader, bytes, 1) == OSDP_NO_MACHINE);
+    demand(osdp_device_set_readers(reader, bytes, 1) == OSDP_NO_MACHINE);
+    demand(osdp_device_set_local(reader, 1, 1) == OSDP_NO_MACHINE);
+    demand(osdp_device_set_busy(reader, 1) == OSDP_NO_MACHINE);
+    demand(osdp_device_event(reader, 0x48, bytes, 1) == OSDP_NO_MACHINE);
+    demand(osdp_device_event_text(reader, "KEYPAD 0 31", 11) == OSDP_NO_MACHINE);
+    demand(osdp_device_waiting(reader, first) == OSDP_NO_MACHINE);
+    demand(osdp_device_address(reader, first) == OSDP_NO_MACHINE);
+    demand(osdp_device_pending(reader, first) == OSDP_NO_MACHINE);
+    demand(osdp_device_answer_done(reader) == OSDP_NO_MACHINE);
+    demand(osdp_device_answer_local(reader, 1, 1) == OSDP_NO_MACHINE);
+    demand(osdp_device_answer_list(reader, bytes, 1) == OSDP_NO_MACHINE);
+    demand(osdp_device_answer_refused(reader, 9) == OSDP_NO_MACHINE);
+    demand(osdp_device_answer_maker(reader, (const uint8_t *)"SIM", bytes, 1) == OSDP_NO_MACHINE);
+    demand(osdp_device_step(reader, bytes, 1, 0, second, first) == OSDP_NO_MACHINE);
+    demand(osdp_device_tick(reader, 0, first) == OSDP_NO_MACHINE);
+    demand(osdp_device_silence(reader, 0, first) == OSDP_NO_MACHINE);
     demand_untouched(&first_place);
     demand_untouched(&second_place);
     demand(is_zero(panel, sizeof *panel) && is_zero(reader, sizeof *reader));
 }
 
-static void new_machines(struct osdp_panel *panel, struct osdp_reader *reader)
+static void new_machines(struct osdp_panel *panel, struct osdp_device *reader)
 {
     struct osdp_panel_config config, config_before;
-    struct osdp_reader_config what = { 5, 3, 20, 0x04030201, { 0x53, 0x49, 0x4D }, 7, 8, 9, 10, 11 }, what_before = what;
+    struct osdp_device_config what = { 5, 3, 20, 0x04030201, { 0x53, 0x49, 0x4D }, 7, 8, 9, 10, 11 }, what_before = what;
     osdp_panel_defaults(&config);
     config_before = config;
     demand(osdp_panel_new(panel, &config) == OSDP_OK && !is_zero(panel, sizeof *panel));
@@ -175,14 +189,14 @@ static void new_machines(struct osdp_panel *panel, struct osdp_reader *reader)
     demand(osdp_panel_add(panel, 6, entry) == OSDP_OK && *entry == 1);
 
     const uint8_t capabilities[] = { 1, 2, 3 };
-    demand(osdp_reader_new(reader, &what, capabilities, 3) == OSDP_OK && !is_zero(reader, sizeof *reader));
+    demand(osdp_device_new(reader, &what, capabilities, 3) == OSDP_OK && !is_zero(reader, sizeof *reader));
     demand(memcmp(&what, &what_before, sizeof what) == 0);
     demand_around(&panel_place);
     demand_around(&reader_place);
 }
 
 /* What waits, and how much. */
-static void waiting(struct osdp_panel *panel, struct osdp_reader *reader)
+static void waiting(struct osdp_panel *panel, struct osdp_device *reader)
 {
     const uint8_t out[] = { 1, 2, 3, 4 }, keys[] = { 0, 1, '7' };
     struct osdp_message *command = filled(&first_place, sizeof *command);
@@ -196,8 +210,99 @@ static void waiting(struct osdp_panel *panel, struct osdp_reader *reader)
     demand_around(&first_place);
 
     size_t *count = filled(&first_place, sizeof *count);
-    demand(osdp_reader_event(reader, 0x53, keys, 3) == OSDP_OK);
-    demand(osdp_reader_waiting(reader, count) == OSDP_OK && *count == 1);
+    demand(osdp_device_event(reader, 0x53, keys, 3) == OSDP_OK);
+    demand(osdp_device_waiting(reader, count) == OSDP_OK && *count == 1);
+    demand_around(&first_place);
+}
+
+/* What the panel's devices are: the second entry has a command that waits. */
+static void known(struct osdp_panel *panel, struct osdp_device *reader)
+{
+    const uint8_t out[] = { 1, 2, 3, 4 };
+    demand(osdp_panel_submit(panel, 1, 0x68, out, 4) == OSDP_OK);
+    size_t *count = filled(&first_place, sizeof *count);
+    demand(osdp_panel_entries(panel, count) == OSDP_OK && *count == 2);
+    demand_around(&first_place);
+    count = filled(&first_place, sizeof *count);
+    demand(osdp_panel_waiting(panel, 2, count) == OSDP_NO_ENTRY);
+    demand_untouched(&first_place);
+    demand(osdp_panel_waiting(panel, 1, count) == OSDP_OK && *count == 1);
+    demand_around(&first_place);
+    demand(osdp_panel_withdraw(panel, 1, filled(&second_place, sizeof(struct osdp_message))) == OSDP_OK);
+    uint32_t *address = filled(&first_place, sizeof *address);
+    demand(osdp_panel_address(panel, 2, address) == OSDP_NO_ENTRY && osdp_panel_is_closed(panel, 2, address) == OSDP_NO_ENTRY);
+    demand_untouched(&first_place);
+    demand(osdp_panel_address(panel, 1, address) == OSDP_OK && *address == 6);
+    demand(osdp_panel_is_closed(panel, 1, address) == OSDP_OK && *address == 1);
+    demand(osdp_device_address(reader, address) == OSDP_OK && *address == 5);
+    demand_around(&first_place);
+}
+
+/* The fields of messages: each is read as it was made or spelled out, and what isn't that message writes nothing. */
+static void fields(void)
+{
+    static const struct osdp_message raw = { 8, 1, OSDP_RAW, { 1, 2, 26, 0, 0x12, 0x34, 0x56, 0x40 } }, keys = { 4, 1, OSDP_KEYPAD, { 3, 2, '4', '2' } };
+    static const struct osdp_message inputs = { 2, 1, OSDP_ISTATR, { 1, 0 } }, outputs = { 3, 1, OSDP_OSTATR, { 0, 1, 1 } };
+    static const struct osdp_message id = { 12, 1, OSDP_PDID, { 'S', 'I', 'M', 7, 8, 1, 2, 3, 4, 9, 10, 11 } }, nak = { 2, 1, OSDP_NAK, { 9, 5 } };
+    struct osdp_raw *card = filled(&first_place, sizeof *card);
+    demand(osdp_raw_of(&keys, card) == OSDP_OTHER_MESSAGE);
+    demand_untouched(&first_place);
+    demand(osdp_raw_of(&raw, card) == OSDP_OK && card->reader == 1 && card->format == 2 && card->bits == 26 && card->length == 4);
+    demand(memcmp(card->bytes, raw.data + 4, 4) == 0 && is_pattern(card->bytes + 4, sizeof card->bytes - 4));
+    demand_around(&first_place);
+    struct osdp_keypad *pressed = filled(&first_place, sizeof *pressed);
+    demand(osdp_keypad_of(&raw, pressed) == OSDP_OTHER_MESSAGE);
+    demand_untouched(&first_place);
+    demand(osdp_keypad_of(&keys, pressed) == OSDP_OK && pressed->reader == 3 && pressed->count == 2 && memcmp(pressed->digits, "42", 2) == 0);
+    demand_around(&first_place);
+    struct osdp_states *states = filled(&first_place, sizeof *states);
+    demand(osdp_inputs_of(&outputs, states) == OSDP_OTHER_MESSAGE && osdp_outputs_of(&inputs, states) == OSDP_OTHER_MESSAGE);
+    demand_untouched(&first_place);
+    demand(osdp_inputs_of(&inputs, states) == OSDP_OK && states->length == 2 && states->states[0] == 1 && states->states[1] == 0);
+    demand(osdp_outputs_of(&outputs, states) == OSDP_OK && states->length == 3 && states->states[2] == 1);
+    demand_around(&first_place);
+    struct osdp_pd_id *device = filled(&first_place, sizeof *device);
+    demand(osdp_pd_id_of(&nak, device) == OSDP_OTHER_MESSAGE);
+    demand_untouched(&first_place);
+    demand(osdp_pd_id_of(&id, device) == OSDP_OK && device->serial == 0x04030201 && memcmp(device->vendor, "SIM", 3) == 0);
+    demand(device->model == 7 && device->version == 8 && device->firmware_major == 9 && device->firmware_minor == 10 && device->firmware_build == 11);
+    demand_around(&first_place);
+    struct osdp_nak *why = filled(&first_place, sizeof *why);
+    demand(osdp_nak_of(&id, why) == OSDP_OTHER_MESSAGE);
+    demand_untouched(&first_place);
+    demand(osdp_nak_of(&nak, why) == OSDP_OK && why->reason == OSDP_NAK_RECORD_NOT_PROCESSED && why->length == 1 && why->detail[0] == 5);
+    demand_around(&first_place);
+}
+
+/* Commands that are made: their data are as the standard's tables have them. */
+static void commands(void)
+{
+    const struct osdp_output outs[] = { { 30, 0, 5 }, { 0x0201, 1, 2 } };
+    const struct osdp_led led = { 0x0201, 3, 4, 5, 6, 7, 8, 9, 10, 11, 12, 13, 14 };
+    const struct osdp_buzzer buzzer = { 1, 2, 3, 4, 5 };
+    const struct osdp_text text = { 1, 2, 3, 4, 5, 2, "OK" };
+    const uint8_t out_data[] = { 0, 5, 30, 0, 1, 2, 1, 2 }, led_data[] = { 3, 4, 5, 6, 7, 8, 9, 1, 2, 10, 11, 12, 13, 14 };
+    const uint8_t buzzer_data[] = { 1, 2, 3, 4, 5 }, text_data[] = { 1, 2, 3, 4, 5, 2, 'O', 'K' }, set_data[] = { 9, 0, 0x4B, 0, 0 };
+    struct osdp_message *command = filled(&first_place, sizeof *command);
+    demand(osdp_out(outs, 0, command) == OSDP_BAD_LENGTH && osdp_led(&led, 0, command) == OSDP_BAD_LENGTH);
+    demand_untouched(&first_place);
+    demand(osdp_out(outs, 2, command) == OSDP_OK && is_message(command, OSDP_OUT, out_data, 8));
+    struct osdp_output *output = filled(&second_place, sizeof *output);
+    demand(osdp_output_of(command, 2, output) == OSDP_OTHER_MESSAGE);
+    demand_untouched(&second_place);
+    demand(osdp_output_of(command, 1, output) == OSDP_OK && output->output == 1 && output->control == 2 && output->timer == 0x0201);
+    demand_around(&second_place);
+    command = filled(&first_place, sizeof *command);
+    demand(osdp_led(&led, 1, command) == OSDP_OK && is_message(command, OSDP_LED, led_data, 14));
+    command = filled(&first_place, sizeof *command);
+    osdp_buzzer(&buzzer, command);
+    demand(is_message(command, OSDP_BUZ, buzzer_data, 5));
+    command = filled(&first_place, sizeof *command);
+    osdp_text(&text, command);
+    demand(is_message(command, OSDP_TEXT, text_data, 8));
+    command = filled(&first_place, sizeof *command);
+    osdp_comset(9, 19200, command);
+    demand(is_message(command, OSDP_COMSET, set_data, 5));
     demand_around(&first_place);
 }
 
@@ -226,12 +331,23 @@ static struct osdp_burst *burst_of(struct osdp_panel *panel, uint64_t now)
 }
 
 /* The reader hears a packet of the panel, and says what is told in the answer. */
-static struct osdp_answer *answer_of(struct osdp_reader *reader, const struct osdp_burst *heard, uint64_t now)
+static struct osdp_answer *answer_of(struct osdp_device *reader, const struct osdp_burst *heard, uint64_t now)
 {
     struct osdp_burst before = *heard;
     struct osdp_answer *answer = filled(&first_place, sizeof *answer);
     size_t *taken = filled(&second_place, sizeof *taken);
-    demand(osdp_reader_step(reader, before.bytes, before.length, now, taken, answer) == OSDP_OK && *taken == before.length);
+    demand(osdp_device_step(reader, before.bytes, before.length, now, taken, answer) == OSDP_OK && *taken == before.length);
+    demand_around(&first_place);
+    demand_around(&second_place);
+    return answer;
+}
+
+/* What the reader says after it has stopped before a command. */
+static struct osdp_answer *answer_after(struct osdp_device *reader, uint64_t now)
+{
+    struct osdp_answer *answer = filled(&first_place, sizeof *answer);
+    size_t *taken = filled(&second_place, sizeof *taken);
+    demand(osdp_device_step(reader, &pattern, 0, now, taken, answer) == OSDP_OK && *taken == 0);
     demand_around(&first_place);
     demand_around(&second_place);
     return answer;
@@ -244,13 +360,13 @@ static bool says_nothing(const struct osdp_answer *answer)
         && is_pattern(answer->burst.bytes, sizeof answer->burst.bytes);
 }
 
-static void silences(struct osdp_reader *reader)
+static void silences(struct osdp_device *reader)
 {
     struct osdp_answer *answer = filled(&first_place, sizeof *answer);
-    demand(osdp_reader_tick(reader, 0, answer) == OSDP_OK && says_nothing(answer));
+    demand(osdp_device_tick(reader, 0, answer) == OSDP_OK && says_nothing(answer));
     demand_around(&first_place);
     answer = filled(&first_place, sizeof *answer);
-    demand(osdp_reader_silence(reader, 0, answer) == OSDP_OK && says_nothing(answer));
+    demand(osdp_device_silence(reader, 0, answer) == OSDP_OK && says_nothing(answer));
     demand_around(&first_place);
 }
 
@@ -263,7 +379,7 @@ static void to_panel(struct osdp_panel *panel, const struct osdp_burst *burst, u
     demand(due->present == 0 && due->moment == 0);
 }
 
-static void opening(struct osdp_panel *panel, struct osdp_reader *reader)
+static void opening(struct osdp_panel *panel, struct osdp_device *reader)
 {
     const uint8_t asked[] = { 0 }, id[] = { 0x53, 0x49, 0x4D, 7, 8, 1, 2, 3, 4, 9, 10, 11 };
     struct osdp_moment *due = deadline(panel);
@@ -291,7 +407,7 @@ static void opening(struct osdp_panel *panel, struct osdp_reader *reader)
 }
 
 /* A command of the largest size there is, which the reader refuses: both arrays are full. */
-static void largest(struct osdp_panel *panel, struct osdp_reader *reader)
+static void largest(struct osdp_panel *panel, struct osdp_device *reader)
 {
     static uint8_t data[1433];
     const uint8_t refused[] = { 9 };
@@ -303,6 +419,15 @@ static void largest(struct osdp_panel *panel, struct osdp_reader *reader)
     struct osdp_burst *burst = burst_of(panel, 1500);
     demand(burst->length == 1440 && is_burst(burst, 5, 1, 0x80, data, 1432));
     struct osdp_answer *answer = answer_of(reader, burst, 1500);
+    demand(answer->kind == OSDP_SAID_PENDING && answer->order == OSDP_ORDER_PENDING && answer->moved == 0);
+    demand(answer->address == 0 && answer->baud_rate == 0 && is_message(&answer->command, 0x80, data, 1432));
+    demand(answer->burst.length == 0 && is_pattern(answer->burst.bytes, sizeof answer->burst.bytes));
+    struct osdp_message *pending = filled(&second_place, sizeof *pending);
+    demand(osdp_device_pending(reader, pending) == OSDP_OK && is_message(pending, 0x80, data, 1432));
+    demand_around(&second_place);
+    demand(osdp_device_answer_maker(reader, data, data, 1430) == OSDP_BAD_LENGTH);
+    demand(osdp_device_answer_list(reader, data, 1433) == OSDP_BAD_LENGTH);
+    answer = answer_after(reader, 1500);
     demand(answer->kind == OSDP_SAID_TAKEN && answer->order == OSDP_ORDER_REFUSED && answer->moved == 0);
     demand(is_message(&answer->command, 0x80, data, 1432) && is_burst(&answer->burst, 0x85, 1, 0x41, refused, 1));
     to_panel(panel, &answer->burst, 1510);
@@ -312,7 +437,7 @@ static void largest(struct osdp_panel *panel, struct osdp_reader *reader)
 }
 
 /* An event is told, and the reader moves. */
-static void moving(struct osdp_panel *panel, struct osdp_reader *reader)
+static void moving(struct osdp_panel *panel, struct osdp_device *reader)
 {
     const uint8_t keys[] = { 0, 1, '7' }, none[] = { 0 }, set[] = { 9, 0x00, 0x4B, 0, 0 };
     struct osdp_burst *burst = burst_of(panel, 1600);
@@ -329,7 +454,7 @@ static void moving(struct osdp_panel *panel, struct osdp_reader *reader)
     burst = burst_of(panel, 1700);
     demand(is_burst(burst, 5, 3, 0x6E, set, 5));
     answer = answer_of(reader, burst, 1700);
-    demand(answer->kind == OSDP_SAID_TAKEN && answer->order == OSDP_ORDER_TAKEN);
+    demand(answer->kind == OSDP_SAID_TAKEN && answer->order == OSDP_ORDER_ONCE);
     demand(answer->moved == 1 && answer->address == 9 && answer->baud_rate == 19200);
     demand(is_message(&answer->command, 0x6E, set, 5) && is_burst(&answer->burst, 0x85, 3, 0x54, set, 5));
     to_panel(panel, &answer->burst, 1710);
@@ -368,11 +493,13 @@ static void texts(void)
     demand(osdp_command_text(0x68, out, 4, text, 10, length) == OSDP_OK && *length == 10 && memcmp(text, "OUT 1:5:30", 10) == 0);
     demand(is_pattern((uint8_t *)text + 10, MOST - 10));
     demand_around(&first_place);
+    demand(osdp_command_text(0x68, out, 4, text, MOST, length) == OSDP_OK && strcmp(text, "OUT 1:5:30") == 0);
+    demand(is_pattern((uint8_t *)text + 11, MOST - 11));
 
     text = filled(&first_place, MOST);
     length = filled(&second_place, sizeof *length);
     demand(osdp_reply_text(0x53, keys, 4, text, MOST, length) == OSDP_OK && *length == 13 && memcmp(text, "KEYPAD 0 3432", 13) == 0);
-    demand(is_pattern((uint8_t *)text + 13, MOST - 13));
+    demand(text[13] == 0 && is_pattern((uint8_t *)text + 14, MOST - 14));
     demand_around(&first_place);
     demand_around(&second_place);
 }
@@ -387,10 +514,10 @@ static void longest_texts(void)
     memset(data, 255, sizeof data);
     demand(osdp_command_text(0x69, data, 1428, text, MOST, length) == OSDP_OK);
     demand(*length == 3 + 102 * (1 + 12 * 4 + 5) && memcmp(text, "LED 255:255:", 12) == 0);
-    demand(is_pattern((uint8_t *)text + *length, MOST - *length));
+    demand(text[*length] == 0 && is_pattern((uint8_t *)text + *length + 1, MOST - *length - 1));
     demand(osdp_reply_text(0x46, data, 1431, text, MOST, length) == OSDP_OK);
     demand(*length == 5729 && memcmp(text, "PDCAP 255:255:255 ", 18) == 0);
-    demand(is_pattern((uint8_t *)text + *length, MOST - *length));
+    demand(text[*length] == 0 && is_pattern((uint8_t *)text + *length + 1, MOST - *length - 1));
     demand_around(&first_place);
     demand_around(&second_place);
 }
@@ -401,11 +528,14 @@ int main(void)
     for (size_t i = 0; i < sizeof patterns; i++) {
         pattern = patterns[i];
         struct osdp_panel *panel = no_machine(&panel_place, sizeof *panel);
-        struct osdp_reader *reader = no_machine(&reader_place, sizeof *reader);
+        struct osdp_device *reader = no_machine(&reader_place, sizeof *reader);
         settings();
         no_machines(panel, reader);
         new_machines(panel, reader);
         waiting(panel, reader);
+        known(panel, reader);
+        fields();
+        commands();
         silences(reader);
         opening(panel, reader);
         largest(panel, reader);
@@ -414,7 +544,7 @@ int main(void)
         texts();
         longest_texts();
         demand(osdp_panel_free(panel) == OSDP_OK && is_zero(panel, sizeof *panel));
-        demand(osdp_reader_free(reader) == OSDP_OK && is_zero(reader, sizeof *reader));
+        demand(osdp_device_free(reader) == OSDP_OK && is_zero(reader, sizeof *reader));
         demand_around(&panel_place);
         demand_around(&reader_place);
         no_machines(panel, reader);

@@ -4,3 +4,4 @@ pub mod CommandTexts
 pub mod Panels
 pub mod Readers
 pub mod Texts
+pub mod Reads

@@ -1,5 +1,5 @@
 -- The calls of a panel.
-use Rattle.std.specs.Prelude.{◌≡◌, ℕ, List, [], Option, None, Some, Result, Ok, Err}
+use Rattle.std.specs.Prelude.{◌≡◌, ℕ, Bool, if◌then◌else◌, List, [], length, option_map, Option, None, Some, Result, Ok, Err}
 use Rattle.osdp_frame.specs.Packet.{Packet}
 use Rattle.osdp_frame.specs.Spelling.{Spells}
 use Rattle.osdp_msg.specs.declared.command.Command.{Command}
@@ -7,12 +7,15 @@ use Rattle.osdp_msg.specs.declared.fault.MsgFault.{MsgFault}
 use Rattle.osdp_msg.specs.CommandTable.{command_of}
 use Rattle.osdp_bus.specs.declared.config.BusConfig.{BusConfig}
 use Rattle.osdp_bus.specs.declared.fault.BusFault.{BusFault}
-use Rattle.osdp_bus.specs.declared.fault.BusFault.TheVariants.{OutOfRange}
-use Rattle.osdp_bus.specs.Buses.{BusState}
+use Rattle.osdp_bus.specs.declared.fault.BusFault.TheVariants.{NoEntry, OutOfRange}
+use Rattle.osdp_bus.specs.declared.device.Device.{Device}
+use Rattle.osdp_bus.specs.Buses.{BusState, device_of}
 use Rattle.osdp_bus.specs.Deadlines.{IsDeadline}
+use Rattle.osdp_bus.specs.Devices.{address_of}
 use Rattle.osdp_bus.specs.Hearing.{after_bytes, after_silence}
 use Rattle.osdp_bus.specs.Machine.{AddEnds, NewEnds, after_begin_at, after_next_report, after_retarget_at, after_submit_at, after_withdraw_at, begin_refusal_at, changed_unless, retarget_refusal_at, submit_refusal_at, withdrawal_at}
 use Rattle.osdp_bus.specs.Ticking.{bus_ticks}
+use Rattle.osdp_controller.specs.States.{is_closed}
 use Rattle.osdp_c_values.specs.declared.arrays.BurstStruct.{BurstStruct}
 use Rattle.osdp_c_values.specs.declared.message.MessageStruct.{MessageStruct}
 use Rattle.osdp_c_values.specs.declared.moment.MomentStruct.{MomentStruct}
@@ -149,3 +152,31 @@ IsSentIn (Some p) out out' = (bytes : List ℕ) × Spells p bytes × (out' ≡ b
 abbrev pub IsBurstIn : ℕ → Option BusState → BurstStruct → BurstStruct → Type 0
 IsBurstIn now None out out' = out' ≡ out
 IsBurstIn now (Some b) out out' = IsSentIn (bus_ticks now b).sent out out'
+
+-- how many devices there are
+abbrev pub writes_entries : BusState → ℕ → ℕ
+writes_entries b out = length b.devices.entries
+
+-- what is told of a device, where there is such an entry
+abbrev pub status_at : Option Device → Status
+status_at None = status.Panel NoEntry
+status_at (Some d) = status.Done
+
+abbrev pub looks_at : ℕ → BusState → Done BusState
+looks_at entry b = record { status = status_at (device_of entry b); machine = b }
+
+abbrev pub told_or : Option ℕ → ℕ → ℕ
+told_or None out = out
+told_or (Some told) out = told
+
+abbrev pub closed_number : Bool → ℕ
+closed_number closed = if closed then 1 else 0
+
+abbrev pub writes_address : ℕ → BusState → ℕ → ℕ
+writes_address entry b out = told_or (option_map address_of (device_of entry b)) out
+
+abbrev pub writes_waiting : ℕ → BusState → ℕ → ℕ
+writes_waiting entry b out = told_or (option_map (λ d. length d.controller.waiting) (device_of entry b)) out
+
+abbrev pub writes_closed : ℕ → BusState → ℕ → ℕ
+writes_closed entry b out = told_or (option_map (λ d. closed_number (is_closed d.controller.session.state)) (device_of entry b)) out

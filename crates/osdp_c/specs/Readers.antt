@@ -1,9 +1,11 @@
 -- The calls of a reader.
-use Rattle.std.specs.Prelude.{◌≡◌, ℕ, ◌≤◌, not, ◌==◌, nat_le, Bool, List, length, if◌then◌else◌, Option, None, Some, Result, Ok, Err}
+use Rattle.std.specs.Prelude.{◌≡◌, ℕ, ◌≤◌, not, ◌==◌, nat_le, Bool, List, length, if◌then◌else◌, Option, None, Some, option_map, Result, Ok, Err}
 use Rattle.arrayvec.specs.ArrayVec.{ArrayVec}
 use Rattle.osdp_device.specs.Receiving.{IsGap, Received, after_silence, after_take, after_tick, count_taken, new_line}
-use Rattle.osdp_device.specs.Status.{new_status, status_after, status_answer}
-use Rattle.osdp_device.specs.Telling.{Told, next_told}
+use Rattle.osdp_device.specs.Deciding.{Turned, is_asked, pending_of, passed, turned, with_question}
+use Rattle.osdp_device.specs.Program.{new_program}
+use Rattle.osdp_device.specs.declared.program.ProgramAnswers.{ProgramAnswers}
+use Rattle.osdp_device.specs.declared.program.Question.TheVariants.{Answered}
 use Rattle.osdp_device.specs.declared.status.DeviceStatus.{DeviceStatus}
 use Rattle.osdp_msg.specs.declared.event.Event.{Event}
 use Rattle.osdp_msg.specs.declared.fault.MsgFault.{MsgFault}
@@ -13,8 +15,11 @@ use Rattle.osdp_msg.specs.declared.reply.Reply.TheVariants as reply
 use Rattle.osdp_msg.specs.declared.reply_fields.PdCap.{PdCap}
 use Rattle.osdp_msg.specs.Events.{event_reply}
 use Rattle.osdp_msg.specs.ReplyTable.{reply_of}
-use Rattle.osdp_msg.specs.Limits.{most_data}
+use Rattle.osdp_msg.specs.Limits.{most_data, most_maker_bytes}
+use Rattle.osdp_msg.specs.NakReasons.{reason_of}
 use Rattle.osdp_reader.specs.declared.fault.ReaderFault.{ReaderFault}
+use Rattle.osdp_reader.specs.declared.handler.Answer.{Answer}
+use Rattle.osdp_reader.specs.declared.handler.Answer.TheVariants as answer
 use Rattle.osdp_reader.specs.declared.fault.ReaderFault.TheVariants.{NoMemory, OutOfRange}
 use Rattle.osdp_reader.specs.State.{ReaderState, after_set_busy, after_set_handler, after_submit, new_reader}
 use Rattle.osdp_c_handle.specs.declared.machine.ReaderMachine.{ReaderMachine}
@@ -22,7 +27,9 @@ use Rattle.osdp_c_values.specs.declared.answer.AnswerStruct.{AnswerStruct}
 use Rattle.osdp_c_values.specs.declared.settings.ReaderSettings.{ReaderSettings}
 use Rattle.osdp_c_values.specs.declared.status.Status.{Status}
 use Rattle.osdp_c_values.specs.declared.status.Status.TheVariants as status
-use Rattle.osdp_c_values.specs.Answers.{answer_struct}
+use Rattle.osdp_c_values.specs.declared.message.MessageStruct.{MessageStruct}
+use Rattle.osdp_c_values.specs.Answers.{turn_struct}
+use Rattle.osdp_c_values.specs.Structs.{command_struct}
 use Rattle.osdp_c_values.specs.Settings.{id_of}
 use Rattle.osdp_c_values.specs.Statuses.{number}
 use Rattle.osdp_c.specs.Calls.{Done}
@@ -49,7 +56,7 @@ pub record AreSettings (s : ReaderSettings) : Type 0 where
 abbrev pub new_machine : ReaderSettings → PdCap → ReaderMachine
 new_machine s caps = record {
   device = record {
-    reader = new_reader (record { address = s.address; id = id_of s; caps = caps }) new_status s.capacity;
+    reader = new_reader (record { address = s.address; id = id_of s; caps = caps }) new_program s.capacity;
     line = new_line s.gap;
   };
 }
@@ -80,7 +87,7 @@ NewReaderEnds s body None answer after =
     (r : Result ReaderMachine Status) × MadeAs s (caps_of body) r × (answer ≡ number (made_status r)) × (after ≡ made_in r)
 
 -- the reader is another; what has come on its line stays
-abbrev pub sets : ReaderState DeviceStatus → ReaderMachine → ReaderMachine
+abbrev pub sets : ReaderState ProgramAnswers → ReaderMachine → ReaderMachine
 sets r m = record { device = record { reader = r; line = m.device.line } }
 
 abbrev pub does : ReaderMachine → Done ReaderMachine
@@ -88,7 +95,7 @@ does m = record { status = status.Done; machine = m }
 
 -- the device's program sets what is told
 abbrev pub tells : DeviceStatus → ReaderMachine → ReaderMachine
-tells s m = sets (after_set_handler s m.device.reader) m
+tells s m = sets (after_set_handler (record m.device.reader.handler { status = s }) m.device.reader) m
 
 -- there is room for as many inputs, outputs and readers as a reply tells
 abbrev pub states_of : List ℕ → Option (ArrayVec ℕ)
@@ -102,7 +109,7 @@ with_states Readers list s = record s { readers = list }
 
 abbrev pub tells_states : StateList → Option (ArrayVec ℕ) → ReaderMachine → Done ReaderMachine
 tells_states told None m = record { status = status.Message Length; machine = m }
-tells_states told (Some list) m = does (tells (with_states told list m.device.reader.handler) m)
+tells_states told (Some list) m = does (tells (with_states told list m.device.reader.handler.status) m)
 
 abbrev pub sets_states : StateList → List ℕ → ReaderMachine → Done ReaderMachine
 sets_states told states m = tells_states told (states_of states) m
@@ -117,13 +124,13 @@ abbrev pub sets_readers : List ℕ → ReaderMachine → Done ReaderMachine
 sets_readers states m = sets_states Readers states m
 
 abbrev pub sets_local : ℕ → ℕ → ReaderMachine → Done ReaderMachine
-sets_local tamper power m = does (tells (record m.device.reader.handler { tamper = tamper; power = power }) m)
+sets_local tamper power m = does (tells (record m.device.reader.handler.status { tamper = tamper; power = power }) m)
 
 abbrev pub sets_busy : ℕ → ReaderMachine → Done ReaderMachine
 sets_busy busy m = does (sets (after_set_busy (not (busy == 0)) m.device.reader) m)
 
 -- as many events wait as there is room for
-abbrev pub is_full : ReaderState DeviceStatus → Bool
+abbrev pub is_full : ReaderState ProgramAnswers → Bool
 is_full r = length r.queue.events == r.queue.capacity
 
 abbrev pub submits : Event → ReaderMachine → Done ReaderMachine
@@ -150,9 +157,14 @@ submits_text (Some event) m = submits event m
 abbrev pub writes_waiting : ReaderMachine → ℕ → ℕ
 writes_waiting m out = length m.device.reader.queue.events
 
--- the packets that are held on a line are handed to the reader, up to and including the first that it answers
-abbrev pub next_of : ReaderMachine → Received → Told DeviceStatus
-next_of m l = next_told status_answer status_after m.device.reader l.held
+-- the address that the reader has now is written
+abbrev pub writes_address : ReaderMachine → ℕ → ℕ
+writes_address m out = m.device.reader.config.address
+
+-- the packets that are held on a line are handed to the reader, up to and including the first that it answers; where the program is to decide what is
+-- said to that, the device stops before it, once
+abbrev pub next_of : ReaderMachine → Received → Turned
+next_of m l = turned m.device.reader l.held
 
 abbrev pub reads_next : ReaderMachine → Received → Done ReaderMachine
 reads_next m l = does (record {
@@ -160,7 +172,50 @@ reads_next m l = does (record {
 })
 
 abbrev pub writes_next : ReaderMachine → Received → AnswerStruct → AnswerStruct
-writes_next m l out = answer_struct (next_of m l).said out
+writes_next m l out = turn_struct (next_of m l).pending (next_of m l).said out
+
+-- what isn't answered is passed over, and the command that is pending is written
+abbrev pub looks : ReaderMachine → Done ReaderMachine
+looks m = does (record {
+  device = record { reader = m.device.reader; line = record m.device.line { held = passed m.device.reader m.device.line.held } };
+})
+
+abbrev pub writes_pending : ReaderMachine → MessageStruct → MessageStruct
+writes_pending m out = command_struct (pending_of m.device.reader m.device.line.held) out
+
+-- what is said to the command before which the device has stopped
+abbrev pub answers : Answer → ReaderMachine → Done ReaderMachine
+answers answer m =
+    if is_asked m.device.reader.handler.question then does (sets (with_question (Answered answer) m.device.reader) m)
+    else record { status = status.NotAsked; machine = m }
+
+-- an answer that may be none: it is longer than a reply
+abbrev pub answers_if : Option Answer → ReaderMachine → Done ReaderMachine
+answers_if None m = record { status = status.Message Length; machine = m }
+answers_if (Some answer) m = answers answer m
+
+abbrev pub answers_done : ReaderMachine → Done ReaderMachine
+answers_done m = answers answer.Done m
+
+abbrev pub answers_local : ℕ → ℕ → ReaderMachine → Done ReaderMachine
+answers_local tamper power m = answers (answer.Local tamper power) m
+
+abbrev pub answers_refused : ℕ → ReaderMachine → Done ReaderMachine
+answers_refused reason m = answers (answer.Refuse (reason_of reason)) m
+
+-- a byte for each input, output or reader
+abbrev pub list_answer : List ℕ → Option Answer
+list_answer states = option_map answer.List (states_of states)
+
+abbrev pub answers_list : List ℕ → ReaderMachine → Done ReaderMachine
+answers_list states m = answers_if (list_answer states) m
+
+-- the maker's own reply
+abbrev pub maker_answer : List ℕ → List ℕ → Option Answer
+maker_answer vendor bytes = if nat_le (length bytes) most_maker_bytes then Some (answer.Maker vendor (record { items = bytes })) else None
+
+abbrev pub answers_maker : List ℕ → List ℕ → ReaderMachine → Done ReaderMachine
+answers_maker vendor bytes m = answers_if (maker_answer vendor bytes) m
 
 -- once bytes have come up to a moment, once none have, and once the line was seen silent
 abbrev pub steps : List ℕ → ℕ → ReaderMachine → Done ReaderMachine

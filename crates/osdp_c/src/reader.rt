@@ -6,7 +6,7 @@ ghost use Rattle.osdp_msg.specs.ReplyTable.{reply_of};
 ghost use Rattle.osdp_c_values.specs.declared.status.Status.{Status as Answered};
 ghost use Rattle.osdp_c.specs.Calls.{IsDone, calls, frees, writes};
 ghost use Rattle.osdp_c.specs.CommandTexts.{IsReadEvent};
-ghost use Rattle.osdp_c.specs.Readers.{IsEventRead, NewReaderEnds, does, falls_silent, sets_busy, sets_inputs, sets_local, sets_outputs, sets_readers, steps, submits_read, submits_text, ticks, writes_silence, writes_step, writes_taken, writes_tick, writes_waiting};
+ghost use Rattle.osdp_c.specs.Readers.{IsEventRead, NewReaderEnds, does, falls_silent, sets_busy, sets_inputs, sets_local, sets_outputs, sets_readers, steps, submits_read, submits_text, ticks, writes_silence, writes_step, writes_address, writes_taken, writes_tick, writes_waiting};
 
 use crate::held::on_held;
 use crate::read::read_event;
@@ -18,7 +18,7 @@ use std::alloc::Global;
 
 /// A reader to which nothing has come.
 #[unsafe(no_mangle)]
-pub extern "C" fn osdp_reader_new(
+pub extern "C" fn osdp_device_new(
     alloc: Global,
     reader: &mut ReaderHandle,
     settings: &ReaderSettings,
@@ -40,7 +40,7 @@ pub extern "C" fn osdp_reader_new(
 
 /// Frees a reader and all that belongs to it.
 #[unsafe(no_mangle)]
-pub extern "C" fn osdp_reader_free(alloc: Global, reader: &mut ReaderHandle) -> u32
+pub extern "C" fn osdp_device_free(alloc: Global, reader: &mut ReaderHandle) -> u32
     ensures { IsDone (frees reader.old.slot.machine) result reader.new.slot.machine }
 {
     match reader.take(alloc) {
@@ -51,7 +51,7 @@ pub extern "C" fn osdp_reader_free(alloc: Global, reader: &mut ReaderHandle) -> 
 
 /// Sets the state of each input.
 #[unsafe(no_mangle)]
-pub extern "C" fn osdp_reader_set_inputs(
+pub extern "C" fn osdp_device_set_inputs(
     alloc: Global,
     reader: &mut ReaderHandle,
     states: &[u8],
@@ -67,7 +67,7 @@ pub extern "C" fn osdp_reader_set_inputs(
 
 /// Sets the state of each output.
 #[unsafe(no_mangle)]
-pub extern "C" fn osdp_reader_set_outputs(
+pub extern "C" fn osdp_device_set_outputs(
     alloc: Global,
     reader: &mut ReaderHandle,
     states: &[u8],
@@ -83,7 +83,7 @@ pub extern "C" fn osdp_reader_set_outputs(
 
 /// Sets the state of each reader.
 #[unsafe(no_mangle)]
-pub extern "C" fn osdp_reader_set_readers(
+pub extern "C" fn osdp_device_set_readers(
     alloc: Global,
     reader: &mut ReaderHandle,
     states: &[u8],
@@ -99,7 +99,7 @@ pub extern "C" fn osdp_reader_set_readers(
 
 /// Sets whether the device is tampered with, and whether its power fails.
 #[unsafe(no_mangle)]
-pub extern "C" fn osdp_reader_set_local(
+pub extern "C" fn osdp_device_set_local(
     alloc: Global,
     reader: &mut ReaderHandle,
     tamper: u8,
@@ -115,7 +115,7 @@ pub extern "C" fn osdp_reader_set_local(
 
 /// Sets whether the reader is busy.
 #[unsafe(no_mangle)]
-pub extern "C" fn osdp_reader_set_busy(alloc: Global, reader: &mut ReaderHandle, busy: u32) -> u32
+pub extern "C" fn osdp_device_set_busy(alloc: Global, reader: &mut ReaderHandle, busy: u32) -> u32
     ensures { IsDone (calls (sets_busy busy) reader.old.slot.machine) result reader.new.slot.machine }
 {
     on_held!(reader, alloc, |machine| {
@@ -126,7 +126,7 @@ pub extern "C" fn osdp_reader_set_busy(alloc: Global, reader: &mut ReaderHandle,
 
 /// Puts an event after those that wait, by the code and data of the reply that tells it.
 #[unsafe(no_mangle)]
-pub extern "C" fn osdp_reader_event(
+pub extern "C" fn osdp_device_event(
     alloc: Global,
     reader: &mut ReaderHandle,
     code: u8,
@@ -145,7 +145,7 @@ pub extern "C" fn osdp_reader_event(
 
 /// Puts an event after those that wait, by its text.
 #[unsafe(no_mangle)]
-pub extern "C" fn osdp_reader_event_text(
+pub extern "C" fn osdp_device_event_text(
     alloc: Global,
     reader: &mut ReaderHandle,
     text: &[u8],
@@ -163,7 +163,7 @@ pub extern "C" fn osdp_reader_event_text(
 
 /// Writes how many events wait, the one that is offered included.
 #[unsafe(no_mangle)]
-pub extern "C" fn osdp_reader_waiting(
+pub extern "C" fn osdp_device_waiting(
     alloc: Global,
     reader: &mut ReaderHandle,
     count: &mut usize,
@@ -177,9 +177,25 @@ pub extern "C" fn osdp_reader_waiting(
     })
 }
 
+/// Writes the address that the reader has now.
+#[unsafe(no_mangle)]
+pub extern "C" fn osdp_device_address(
+    alloc: Global,
+    reader: &mut ReaderHandle,
+    address: &mut u32,
+) -> u32
+    ensures reader { IsDone (calls does reader.old.slot.machine) result reader.new.slot.machine }
+    ensures written { address.new ≡ writes writes_address reader.old.slot.machine address.old }
+{
+    on_held!(reader, alloc, |machine| {
+        *address = u32::from(machine.device.reader.address().get());
+        Status::Done
+    })
+}
+
 /// Bytes have come up to a moment: writes how many were taken, and what the reader says.
 #[unsafe(no_mangle)]
-pub extern "C" fn osdp_reader_step(
+pub extern "C" fn osdp_device_step(
     alloc: Global,
     reader: &mut ReaderHandle,
     bytes: &[u8],
@@ -199,7 +215,7 @@ pub extern "C" fn osdp_reader_step(
 
 /// No bytes have come up to a moment: writes what the reader says.
 #[unsafe(no_mangle)]
-pub extern "C" fn osdp_reader_tick(
+pub extern "C" fn osdp_device_tick(
     alloc: Global,
     reader: &mut ReaderHandle,
     now: u64,
@@ -216,7 +232,7 @@ pub extern "C" fn osdp_reader_tick(
 
 /// The line was seen silent: writes what the reader says.
 #[unsafe(no_mangle)]
-pub extern "C" fn osdp_reader_silence(
+pub extern "C" fn osdp_device_silence(
     alloc: Global,
     reader: &mut ReaderHandle,
     now: u64,

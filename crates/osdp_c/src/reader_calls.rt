@@ -3,15 +3,15 @@
 ghost use Rattle.std.specs.Prelude.{◌≡◌, ◌↔◌, IsTrue};
 ghost use Rattle.std.specs.Result.{result_map_both};
 ghost use Rattle.osdp_msg.specs.ReplyTable.{reply_of};
-ghost use Rattle.osdp_c.specs.Readers.{AreSettings, IsEventRead, MadeAs, MadeWith, caps_of, falls_silent, reads_next, sets_local, sets_states, states_of, steps, submits, submits_read, submits_text, ticks, writes_next, writes_silence, writes_step, writes_taken, writes_tick};
+ghost use Rattle.osdp_c.specs.Readers.{AreSettings, IsEventRead, MadeAs, MadeWith, answers, answers_if, caps_of, falls_silent, list_answer, looks, maker_answer, reads_next, sets_local, sets_states, states_of, steps, submits, submits_read, submits_text, ticks, writes_next, writes_pending, writes_silence, writes_step, writes_taken, writes_tick};
 
 use arrayvec::ArrayVec;
 use osdp_c_handle::ReaderMachine;
-use osdp_c_values::{AnswerStruct, ReaderSettings, Status};
-use osdp_device::{Device, DeviceStatus};
+use osdp_c_values::{AnswerStruct, MessageStruct, ReaderSettings, Status};
+use osdp_device::{Device, ProgramAnswers, Turn};
 use osdp_frame::Address;
 use osdp_msg::{Event, MAX_DATA, MsgFault, PdCap, Reply};
-use osdp_reader::{Reader, ReaderConfig, ReaderFault};
+use osdp_reader::{Answer, Reader, ReaderConfig, ReaderFault};
 use std::alloc::Global;
 
 /// What a reader answers to CAP, by the data of that reply.
@@ -56,7 +56,7 @@ fn new_machine(
         caps,
     };
     let capacity = settings.capacity as usize;
-    let reader = Reader::new(alloc, config, DeviceStatus::new(), capacity)?;
+    let reader = Reader::new(alloc, config, ProgramAnswers::new(), capacity)?;
     match Device::new(reader, settings.gap) {
         Some(device) => Ok(ReaderMachine { device }),
         None => Err(ReaderFault::OutOfRange),
@@ -111,7 +111,7 @@ pub(crate) fn set_states(machine: &mut ReaderMachine, told: StateList, states: &
     let Some(list) = read_states(states) else {
         return Status::Message(MsgFault::Length);
     };
-    let status = machine.device.reader.handler_mut();
+    let status = &mut machine.device.reader.handler_mut().status;
     match told {
         StateList::Inputs => status.inputs = list,
         StateList::Outputs => status.outputs = list,
@@ -124,7 +124,7 @@ pub(crate) fn set_states(machine: &mut ReaderMachine, told: StateList, states: &
 pub(crate) fn set_local(machine: &mut ReaderMachine, tamper: u8, power: u8)
     ensures { machine.new ≡ (sets_local tamper power machine.old).machine }
 {
-    let status = machine.device.reader.handler_mut();
+    let status = &mut machine.device.reader.handler_mut().status;
     status.tamper = tamper;
     status.power = power;
 }
@@ -176,13 +176,15 @@ pub(crate) fn submit_read(machine: &mut ReaderMachine, read: Option<Event>) -> S
     }
 }
 
-/// Hands the packets that are held to the reader, up to and including the first that it answers, and writes what it says.
+/// Hands the packets that are held to the reader, up to and including the first that it answers, and writes what it says; or stops before that, and
+/// writes the command.
 fn answer_next(machine: &mut ReaderMachine, answer: &mut AnswerStruct)
     ensures machine { machine.new ≡ (reads_next machine.old machine.old.device.line).machine }
     ensures written { answer.new ≡ writes_next machine.old machine.old.device.line answer.old }
 {
-    let response = machine.device.next();
-    answer.set(response.as_ref());
+    let mut turn = Turn::new();
+    machine.device.settle(&mut turn);
+    answer.set_turn(&turn);
 }
 
 /// Bytes have come up to a moment: writes how many were taken, and what is said.
@@ -217,4 +219,56 @@ pub(crate) fn silence(machine: &mut ReaderMachine, now: u64, answer: &mut Answer
 {
     machine.device.silence(now);
     answer_next(machine, answer);
+}
+
+/// Passes over what isn't answered, and writes the command that is pending.
+pub(crate) fn look(machine: &mut ReaderMachine, command: &mut MessageStruct)
+    ensures machine { machine.new ≡ (looks machine.old).machine }
+    ensures written { command.new ≡ writes_pending machine.old command.old }
+{
+    let pending = machine.device.pending();
+    command.set_command(pending.as_ref());
+}
+
+/// Sets what is said to the command before which the device has stopped.
+pub(crate) fn answer(machine: &mut ReaderMachine, answer: Answer) -> Status
+    ensures status { result ≡ (answers answer machine.old).status }
+    ensures machine { machine.new ≡ (answers answer machine.old).machine }
+{
+    match machine.device.answer_next(answer) {
+        Ok(()) => Status::Done,
+        Err(_) => Status::NotAsked,
+    }
+}
+
+/// The same of an answer that may be longer than a reply.
+pub(crate) fn answer_if(machine: &mut ReaderMachine, made: Option<Answer>) -> Status
+    ensures status { result ≡ (answers_if made machine.old).status }
+    ensures machine { machine.new ≡ (answers_if made machine.old).machine }
+{
+    match made {
+        Some(made) => answer(machine, made),
+        None => Status::Message(MsgFault::Length),
+    }
+}
+
+/// A byte for each input, output or reader. None where there are more than a reply tells.
+pub(crate) fn list_answer(states: &[u8]) -> Option<Answer>
+    ensures { result ≡ list_answer states.now }
+{
+    match read_states(states) {
+        Some(list) => Some(Answer::List(list)),
+        None => None,
+    }
+}
+
+/// A maker's own reply. None where it is longer than a reply.
+pub(crate) fn maker_answer(vendor: &[u8; 3], bytes: &[u8]) -> Option<Answer>
+    ensures { result ≡ maker_answer vendor.now bytes.now }
+{
+    let mut list = ArrayVec::new();
+    match list.try_extend_from_slice(bytes) {
+        Ok(()) => Some(Answer::Maker(*vendor, list)),
+        Err(_) => None,
+    }
 }

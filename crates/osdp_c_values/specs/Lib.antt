@@ -5,3 +5,5 @@ pub mod Answers
 pub mod Settings
 pub mod Texts
 pub mod Moments
+pub mod Fields
+pub mod Making

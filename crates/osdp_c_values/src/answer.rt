@@ -4,11 +4,11 @@ ghost use Rattle.std.specs.Prelude.{◌≡◌};
 ghost use Rattle.std.specs.Option.{option_copied, option_map};
 ghost use Rattle.osdp_device.specs.Saying.{said_in};
 ghost use Rattle.osdp_reader.specs.Responses.{response_bytes};
-ghost use Rattle.osdp_c_values.specs.Answers.{answer_struct, is_nak, kind_number, moves, orders, says, says_nothing, sends};
+ghost use Rattle.osdp_c_values.specs.Answers.{answer_struct, kind_number, moves, order_number, orders, pends, says, says_nothing, sends, turn_struct};
 
 use crate::arrays::BurstStruct;
 use crate::message::MessageStruct;
-use osdp_device::{again, taken};
+use osdp_device::{Order, Turn, order_of, ordered};
 use osdp_msg::{Command, Communication};
 use osdp_reader::{Kind, Response};
 
@@ -16,10 +16,11 @@ use osdp_reader::{Kind, Response};
 #[repr(C)]
 #[derive(Drop)]
 pub struct AnswerStruct {
-    /// The line of the reader's table: 0 nothing is said, 1 secured, 2 zero, 3 repeat, 4 taken, 5 busy, 6 wrong.
+    /// The line of the reader's table: 0 nothing is said, 1 secured, 2 zero, 3 repeat, 4 taken, 5 busy, 6 wrong. 7: the device stops before a
+    /// command.
     pub kind: u32,
     /// What came of the command: 0 there is none, 1 the device does it once, 2 it came with number 0 and may come again, 3 the reader has
-    /// refused it.
+    /// refused it, 4 the program is asked about it.
     pub order: u32,
     /// 1 where a COMSET was accepted, else 0.
     pub moved: u32,
@@ -48,11 +49,16 @@ fn kind_number(kind: Kind) -> u32
     }
 }
 
-/// Whether what is sent back refuses a command: the code of a reply is its sixth byte, and 0x41 is that of a NAK.
-fn is_nak(bytes: &[u8]) -> bool
-    ensures { result ≡ is_nak bytes.now }
+/// The number of what the device does with a command.
+fn order_number(order: Order) -> u32
+    ensures { result ≡ order_number order }
 {
-    bytes.len() > 5 && bytes[5] == 0x41
+    match order {
+        Order::Nothing => 0,
+        Order::Once => 1,
+        Order::Again => 2,
+        Order::Refused => 3,
+    }
 }
 
 impl AnswerStruct {
@@ -78,17 +84,8 @@ impl AnswerStruct {
     fn set_order(&mut self, response: &Response)
         ensures { self.new ≡ orders (said_in response.now) self.old }
     {
-        let refused = is_nak(response.bytes());
-        if let Some(command) = taken(response) {
-            self.order = if refused { 3 } else { 1 };
-            self.command.set_command(Some(command));
-        } else if let Some(command) = again(response) {
-            self.order = if refused { 3 } else { 2 };
-            self.command.set_command(Some(command));
-        } else {
-            self.order = 0;
-            self.command.clear();
-        }
+        self.order = order_number(order_of(response));
+        self.command.set_command(ordered(response));
     }
 
     /// Writes what is sent.
@@ -134,6 +131,27 @@ impl AnswerStruct {
         match response {
             Some(response) => self.set_response(response),
             None => self.set_nothing(),
+        }
+    }
+
+    /// Writes that the device stops before a command.
+    fn set_pending(&mut self, command: &Command)
+        ensures { self.new ≡ pends command.now self.old }
+    {
+        self.kind = 7;
+        self.order = 4;
+        self.set_moved(None);
+        self.command.set_command(Some(command));
+        self.burst.set(&[]);
+    }
+
+    /// Writes what a turn comes to.
+    pub fn set_turn(&mut self, turn: &Turn)
+        ensures { self.new ≡ turn_struct turn.now.pending (option_map said_in turn.now.response) self.old }
+    {
+        match &turn.pending {
+            Some(command) => self.set_pending(command),
+            None => self.set(turn.response.as_ref()),
         }
     }
 }

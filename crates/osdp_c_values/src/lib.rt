@@ -6,7 +6,8 @@
 
 mod answer;
 mod arrays;
-pub mod laws;
+mod fields;
+mod making;
 mod message;
 mod moment;
 mod report;
@@ -16,6 +17,8 @@ mod text;
 
 pub use answer::AnswerStruct;
 pub use arrays::BurstStruct;
+pub use fields::{KeypadStruct, NakStruct, OutputStruct, PdIdStruct, RawStruct, StatesStruct};
+pub use making::{BuzzerStruct, LedStruct, TextStruct};
 pub use message::MessageStruct;
 pub use moment::MomentStruct;
 pub use report::ReportStruct;

@@ -22,8 +22,10 @@ pub enum Status {
     NoEvent,
     /// The text is longer than the room for it.
     TooSmall,
-    /// The text has no room in the call's own bytes.
-    NoText,
+    /// No turn has stopped before a command.
+    NotAsked,
+    /// The message is another than the call reads.
+    OtherMessage,
     /// The code and data stand for no message.
     Message(MsgFault),
     /// A panel's refusal.
@@ -83,7 +85,8 @@ impl Status {
             Status::BadText => 3,
             Status::NoEvent => 4,
             Status::TooSmall => 5,
-            Status::NoText => 6,
+            Status::NotAsked => 7,
+            Status::OtherMessage => 8,
             Status::Message(fault) => message_number(fault),
             Status::Panel(fault) => bus_number(fault),
             Status::Reader(fault) => reader_number(fault),

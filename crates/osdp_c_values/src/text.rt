@@ -1,16 +1,23 @@
 //! Texts of messages.
 
-ghost use Rattle.std.specs.Prelude.{IfSome};
-ghost use Rattle.osdp_c_values.specs.Texts.{CommandTextEnds, IsTextTold, IsTold, ReplyTextEnds};
+ghost use Rattle.std.specs.Prelude.{◌≡◌, ◌≤◌, length};
+ghost use Rattle.osdp_c_values.specs.Structs.{filled};
+ghost use Rattle.osdp_c_values.specs.Texts.{CommandTextEnds, IsTold, ReplyTextEnds, ended_text};
 
 use crate::arrays::fill;
 use crate::status::Status;
-use arrayvec::ArrayString;
-use osdp_msg::{Command, Reply};
-use std::fmt::{Display, Write};
+use osdp_msg_texts::{read_command_text, read_reply_text};
 
-/// How many bytes a text may have.
-const LONGEST: usize = 6144;
+/// Writes a text, and a zero after it where there is room for one.
+fn fill_text(text: &[u8], out: &mut [u8])
+    requires { length text.now ≤ length out.old }
+    ensures { out.new ≡ filled (ended_text text.now out.old) out.old }
+{
+    fill(out, text);
+    if text.len() < out.len() {
+        out[text.len()] = 0;
+    }
+}
 
 /// Writes a text and its length, or the length alone where there is no room for it.
 fn tell_text(text: &str, out: &mut [u8], count: &mut usize) -> Status
@@ -20,27 +27,16 @@ fn tell_text(text: &str, out: &mut [u8], count: &mut usize) -> Status
     if text.len() > out.len() {
         return Status::TooSmall;
     }
-    fill(out, text.as_bytes());
+    fill_text(text.as_bytes(), out);
     Status::Done
-}
-
-/// Writes what a message prints, and its length.
-fn tell<M: Display>(message: &M, out: &mut [u8], count: &mut usize) -> Status
-    ensures { IfSome (M.output message.now) (λ text. IsTextTold text result out.old out.new count.old count.new) }
-{
-    let mut text: ArrayString<LONGEST> = ArrayString::new();
-    match write!(text, "{message}") {
-        Ok(()) => tell_text(text.as_str(), out, count),
-        Err(_) => Status::NoText,
-    }
 }
 
 /// Writes the text of the command that a code and data stand for, and its length.
 pub fn write_command_text(code: u8, body: &[u8], out: &mut [u8], count: &mut usize) -> Status
     ensures { CommandTextEnds code body.now result out.old out.new count.old count.new }
 {
-    match Command::read(code, body) {
-        Ok(command) => tell(&command, out, count),
+    match read_command_text(code, body) {
+        Ok(text) => tell_text(text.as_str(), out, count),
         Err(fault) => Status::Message(fault),
     }
 }
@@ -49,8 +45,8 @@ pub fn write_command_text(code: u8, body: &[u8], out: &mut [u8], count: &mut usi
 pub fn write_reply_text(code: u8, body: &[u8], out: &mut [u8], count: &mut usize) -> Status
     ensures { ReplyTextEnds code body.now result out.old out.new count.old count.new }
 {
-    match Reply::read(code, body) {
-        Ok(reply) => tell(&reply, out, count),
+    match read_reply_text(code, body) {
+        Ok(text) => tell_text(text.as_str(), out, count),
         Err(fault) => Status::Message(fault),
     }
 }

@@ -4,3 +4,5 @@ pub mod Sayings
 pub mod Taking
 pub mod Turning
 pub mod Pieces
+pub mod Sets
+pub mod Staying

@@ -1,5 +1,5 @@
 -- What is told of items that are taken off one by one.
-use Rattle.std.proofs.Common.{◌≡◌, true, false, drop, Option, Some, None, is_some, refl, sym, ap, ◌∙◌}
+use Rattle.std.proofs.Common.{◌≡◌, Bool, true, false, if◌then◌else◌, drop, Option, Some, None, is_some, refl, sym, ap, ◌∙◌}
 use Rattle.osdp_frame.specs.Held.{Held, decided, after_advance, later, after_first}
 use Rattle.osdp_frame.specs.Items.{items}
 use Rattle.osdp_frame.specs.Reading.{RunItem, item_size}
@@ -9,6 +9,7 @@ use Rattle.osdp_msg.specs.declared.command.Command.{Command}
 use Rattle.osdp_reader.specs.declared.handler.Answer.{Answer}
 use Rattle.osdp_reader.specs.State.{ReaderState}
 use Rattle.osdp_device.proofs.Sayings.{none_said, stays}
+use Rattle.osdp_device.specs.Deciding.{passed, passed_by, pending_at, pending_in, pending_of}
 use Rattle.osdp_device.specs.Saying.{Said, after_item, is_answered, said_of}
 use Rattle.osdp_device.specs.Telling.{Told, next_told, told_by, told_or}
 
@@ -62,5 +63,57 @@ module _ {H : Type 0} (answer_of : H → Command → Answer) (after : H → Comm
   told_passed r held next part is advanced silent =
       told_after r r held next part None is advanced (none_said answer_of after part r silent) (stays answer_of after part r silent) refl
 
+module _ {H : Type 0} where
+  -- nothing is decided: nothing is passed over
+  pub passed_nothing : (r : ReaderState H) (held : Held) → decided held.ended held.bytes ≡ None → passed r held ≡ held
+  passed_nothing r held is = ap (λ parts. passed_by parts r held) (items_undecided held.ended held.bytes is)
+
+  passed_first : (r : ReaderState H) (held next : Held) (part : RunItem) → decided held.ended held.bytes ≡ Some part → next ≡ after_advance held
+      → passed r held ≡ (if is_answered r part then held else passed r next)
+  passed_first r held next part is advanced =
+      let here : next ≡ later held part = advanced ∙ ap (after_first held) is in
+      let left = drop (item_size part) held.bytes in
+      let rest : items (later held part).ended left ≡ items held.ended left = still_ended held.ended left in
+      ap (λ parts. passed_by parts r held) (items_after held.ended held.bytes part is)
+      ∙ ap (λ parts. if is_answered r part then held else passed_by parts r (later held part)) (sym rest)
+      ∙ ap (λ (h : Held). if is_answered r part then held else passed r h) (sym here)
+
+  -- an item that is answered stays first
+  pub passed_here : (r : ReaderState H) (held : Held) (part : RunItem) → decided held.ended held.bytes ≡ Some part → is_answered r part ≡ true
+      → passed r held ≡ held
+  passed_here r held part is answered =
+      passed_first r held (after_advance held) part is refl ∙ ap (λ (b : Bool). if b then held else passed r (after_advance held)) answered
+
+  -- one that isn't is passed over
+  pub passed_on : (r : ReaderState H) (held next : Held) (part : RunItem) → decided held.ended held.bytes ≡ Some part → next ≡ after_advance held
+      → is_answered r part ≡ false → passed r next ≡ passed r held
+  passed_on r held next part is advanced silent =
+      sym (passed_first r held next part is advanced ∙ ap (λ (b : Bool). if b then held else passed r next) silent)
+
+  -- so it is with the command that is pending
+  pub pending_nothing : (r : ReaderState H) (held : Held) → decided held.ended held.bytes ≡ None → pending_of r held ≡ None
+  pending_nothing r held is = ap (λ parts. pending_in parts r) (items_undecided held.ended held.bytes is)
+
+  pending_first : (r : ReaderState H) (held next : Held) (part : RunItem) → decided held.ended held.bytes ≡ Some part → next ≡ after_advance held
+      → pending_of r held ≡ (if is_answered r part then pending_at r part else pending_of r next)
+  pending_first r held next part is advanced =
+      let here : next ≡ later held part = advanced ∙ ap (after_first held) is in
+      let left = drop (item_size part) held.bytes in
+      let rest : items (later held part).ended left ≡ items held.ended left = still_ended held.ended left in
+      ap (λ parts. pending_in parts r) (items_after held.ended held.bytes part is)
+      ∙ ap (λ parts. if is_answered r part then pending_at r part else pending_in parts r) (sym rest)
+      ∙ ap (λ (h : Held). if is_answered r part then pending_at r part else pending_of r h) (sym here)
+
+  pub pending_here : (r : ReaderState H) (held : Held) (part : RunItem) → decided held.ended held.bytes ≡ Some part → is_answered r part ≡ true
+      → pending_of r held ≡ pending_at r part
+  pending_here r held part is answered =
+      pending_first r held (after_advance held) part is refl
+      ∙ ap (λ (b : Bool). if b then pending_at r part else pending_of r (after_advance held)) answered
+
+  pub pending_on : (r : ReaderState H) (held next : Held) (part : RunItem) → decided held.ended held.bytes ≡ Some part → next ≡ after_advance held
+      → is_answered r part ≡ false → pending_of r next ≡ pending_of r held
+  pending_on r held next part is advanced silent =
+      sym (pending_first r held next part is advanced ∙ ap (λ (b : Bool). if b then pending_at r part else pending_of r next) silent)
+
 -- what a call tells, whether its first item tells something, tells nothing or is not there
-pub ruleset taking = (told_here, told_passed, told_nothing)
+pub ruleset taking = (told_here, told_passed, told_nothing, passed_nothing, passed_here, passed_on, pending_nothing, pending_here, pending_on)

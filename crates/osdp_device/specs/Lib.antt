@@ -4,3 +4,7 @@ pub mod Saying
 pub mod Telling
 pub mod Hearing
 pub mod Status
+pub mod Program
+pub mod Deciding
+pub mod Orders
+pub mod DecidingLaws

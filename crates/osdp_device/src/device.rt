@@ -5,6 +5,7 @@ ghost use Rattle.std.specs.Option.{option_copied, option_map};
 ghost use Rattle.osdp_frame.specs.Held.{decided};
 ghost use Rattle.osdp_frame.specs.Reading.{PacketItem};
 ghost use Rattle.osdp_frame.specs.Shown.{item_of};
+ghost use Rattle.osdp_device.specs.Deciding.{passed, pending_of};
 ghost use Rattle.osdp_device.specs.Receiving.{IsGap, IsReceived, after_silence, after_take, after_tick, count_taken, new_line};
 ghost use Rattle.osdp_device.specs.Saying.{after_item, again_in, answers_first, but_poll, is_answered, said_in, said_of, taken_in};
 ghost use Rattle.osdp_device.specs.Telling.{next_told};
@@ -95,10 +96,12 @@ impl<H: Handler> Device<H> {
 
     /// Takes off what the reader doesn't answer, and tells whether a packet that it answers stands first then.
     #[tactic(auto, using(crate::proofs::Taking::taking))]
-    fn pass_over(&mut self) -> bool
+    pub(crate) fn pass_over(&mut self) -> bool
         ensures told { next_told H.answer_of H.after self.new.reader self.new.line.held ≡ next_told H.answer_of H.after self.old.reader self.old.line.held }
         ensures reader { self.new.reader ≡ self.old.reader }
         ensures line { self.new.line ≡ record self.old.line { held = self.new.line.held } }
+        ensures pending { pending_of self.new.reader self.new.line.held ≡ pending_of self.old.reader self.old.line.held }
+        ensures passed { self.new.line.held ≡ passed self.old.reader self.old.line.held }
         ensures first { result ≡ answers_first self.new.reader (decided self.new.line.held.ended self.new.line.held.bytes) }
         ensures none { result ≡ false → decided self.new.line.held.ended self.new.line.held.bytes ≡ None }
     {

@@ -1,14 +1,24 @@
 //! What a device comes to whose user asks it again and again, and after how long a silence a run is over. The functions do
 //! nothing: their contracts are laws, and hold whatever the handler does.
 
-ghost use Rattle.std.specs.Prelude.{◌≡◌, ℕ, ◌<◌, ◌≤◌, List, [], ◌++◌, length};
+ghost use Rattle.std.specs.Prelude.{◌≡◌, ℕ, ◌<◌, ◌≤◌, List, [], ◌++◌, length, None, Some};
 ghost use Rattle.osdp_frame.specs.Bytes.{AreBytes};
 ghost use Rattle.osdp_frame.specs.Held.{Held};
 ghost use Rattle.osdp_reader.specs.State.{ReaderState};
+ghost use Rattle.osdp_device.specs.Deciding.{pending_of};
+ghost use Rattle.osdp_device.specs.DecidingLaws.{IsSaidOnce, RepeatsWhatIsStored, SaysItToNoOther, SaysWhatWasSet, StaysPending, StopsFirst};
 ghost use Rattle.osdp_device.specs.Hearing.{IsAllRead, NeedsFewerTurns, TakesInTurn, hears_bytes, reads_all, then_hears};
 ghost use Rattle.osdp_device.specs.Receiving.{IsReceived, Received};
+ghost use Rattle.osdp_device.specs.Saying.{said_to};
 ghost use Rattle.osdp_device.specs.Silences.{SilencesEndRuns};
 ghost use Rattle.osdp_device.specs.Telling.{TellsInTurn, next_told};
+ghost use Rattle.osdp_device.specs.declared.program.ProgramAnswers.{ProgramAnswers};
+ghost use Rattle.osdp_device.specs.declared.program.Question.TheVariants.{NotAsked};
+ghost use Rattle.osdp_msg.specs.declared.command.Command.{Command};
+ghost use Rattle.osdp_msg.specs.declared.reply.Reply.{Reply};
+ghost use Rattle.osdp_frame.specs.Packet.{Packet};
+ghost use Rattle.osdp_reader.specs.Table.{hears};
+ghost use Rattle.osdp_device.specs.Orders.{is_nak, is_refusal};
 
 use osdp_reader::Handler;
 
@@ -51,4 +61,30 @@ pub fn hears_nothing_in_no_bytes<H: Handler>()
 /// one.
 pub fn silences_end_runs()
     ensures { (l : Received) → IsReceived l → SilencesEndRuns l }
+{}
+
+/// Where a reader answers a packet anew, what it sends is a NAK by its sixth byte exactly where the reply is one. So a command is told as
+/// refused where the reader has refused it, and nowhere else.
+pub fn refusals_are_naks<H: Handler>()
+    ensures { (r : ReaderState H) (p : Packet) (reply : Reply) → (hears H.answer_of H.after r p).said ≡ Some reply
+        → is_nak (said_to H.answer_of H.after r p).bytes ≡ is_refusal reply }
+{}
+
+/// What is said to a pending command is what the device's program has set for it, and what its status tells where nothing was set. Before that
+/// the device stops, once. A pending command stays so, whatever comes after it: so it is the one about which the program was asked.
+pub fn says_what_was_set()
+    ensures said { (r : ReaderState ProgramAnswers) (held : Held) (command : Command) → pending_of r held ≡ Some command
+        → SaysWhatWasSet r held command }
+    ensures stops { (r : ReaderState ProgramAnswers) (held : Held) (command : Command) → pending_of r held ≡ Some command
+        → r.handler.question ≡ NotAsked → StopsFirst r held command }
+    ensures stays { (r : ReaderState ProgramAnswers) (l : Received) (command : Command) → IsReceived l → pending_of r l.held ≡ Some command
+        → StaysPending r l command }
+{}
+
+/// What was set for a command is said to no other: to what isn't pending the same is said whatever is set, a repeat is the stored reply, and
+/// once something was said nothing is set any more.
+pub fn says_it_to_no_other()
+    ensures other { (r : ReaderState ProgramAnswers) (held : Held) → SaysItToNoOther r held }
+    ensures once { (r : ReaderState ProgramAnswers) (held : Held) → IsSaidOnce r held }
+    ensures repeats { (r : ReaderState ProgramAnswers) (held : Held) → RepeatsWhatIsStored r held }
 {}

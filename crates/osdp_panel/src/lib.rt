@@ -1,18 +1,19 @@
 //! One turn of the loop of a panel that runs a bus on a serial line, as an example to start from. A panel with one reader runs a bus of one.
 //!
-//! The panel's program reads from its port, takes the moment after the read, and hands both to `take_turn`. No call reads or writes by itself,
+//! The panel's program reads from its port, takes the moment after the read, and hands both to `Panel::turn`, or to `take_turn` with a bus of its own. No call reads or writes by itself,
 //! and none takes memory.
 //!
 //! ```text
-//! let mut bus = Bus::new(alloc, BusConfig::new(CheckKind::Crc, 16))?;
-//! let door = bus.add(address)?;
-//! bus.begin(door, clock.now())?;
+//! let mut panel = Panel::new(alloc, BusConfig::new(CheckKind::Crc, 16))?;
+//! let door = panel.add(address)?;
+//! panel.begin(door, clock.now())?;
+//! let mut turn = Turn::new();
 //! loop {
 //!     // waits for bytes, at most until the moment that the last turn gave; a read that timed out gave none
 //!     let count = port.read(&mut buffer).unwrap_or(0);
-//!     let turn = take_turn(&mut bus, &buffer[..count], clock.now());
-//!     if let Some(burst) = turn.burst { .. write it all, and flush .. }
-//!     for (entry, report) in [turn.heard, turn.ticked].into_iter().flatten() { .. the panel's own code .. }
+//!     panel.turn(&buffer[..count], clock.now(), &mut turn);
+//!     if let Some(burst) = &turn.burst { .. write it all, and flush .. }
+//!     for (entry, report) in [&turn.heard, &turn.ticked].into_iter().flatten() { .. the panel's own code .. }
 //! }
 //! ```
 //!
@@ -22,15 +23,24 @@
 #![tactic(auto)]
 
 pub mod laws;
+mod panel;
 
-ghost use Rattle.std.specs.Prelude.{◌≡◌};
+ghost use Rattle.std.specs.Prelude.{◌≡◌, None};
 ghost use Rattle.osdp_bus.specs.Deadlines.{IsDeadline};
 ghost use Rattle.osdp_bus.specs.Sending.{IsSentAs};
 ghost use Rattle.osdp_panel.specs.Turns.{after_turn, heard_in, ticked_in};
 
 use osdp_bus::{Bus, Entry};
+pub use osdp_bus::{BusConfig, BusFault};
+pub use osdp_controller::LostCause;
 use osdp_controller::Report;
 use osdp_frame::Burst;
+pub use osdp_frame::{Address, CheckKind};
+pub use osdp_msg::{
+    Buzzer, Capability, Command, Communication, Event, Keypad, LedRecord, Leds, LocalState,
+    MakerMessage, MsgFault, NakReason, OutputRecord, Outputs, PdCap, PdId, Raw, Reply, Text,
+};
+pub use panel::Panel;
 
 /// What a turn of the loop came to.
 #[derive(Debug, Drop)]
@@ -44,6 +54,20 @@ pub struct Turn {
     /// The moment of the next turn, if no bytes come before; one that has passed already asks for it at once. None where nothing is to be
     /// done before bytes come or the panel's own code calls the bus.
     pub sleep_until: Option<u64>,
+}
+
+impl Turn {
+    /// Nothing came of it, and nothing is to be done.
+    pub fn new() -> Turn
+        ensures { result ≡ record { heard = None; burst = None; ticked = None; sleep_until = None } }
+    {
+        Turn {
+            heard: None,
+            burst: None,
+            ticked: None,
+            sleep_until: None,
+        }
+    }
 }
 
 /// One turn of the loop: hears what a read of the port gave, ticks at the moment after the read, and says what is to be done.

@@ -1,11 +1,12 @@
 //! The settings of a reader that several tests begin with.
-use osdp::ReaderConfig;
+use osdp::DeviceConfig;
+use std::time::Duration;
 
 /// A reader at address 5, with room for four events.
-pub const READER: ReaderConfig<'static> = ReaderConfig {
+pub const DEVICE: DeviceConfig<'static> = DeviceConfig {
     address: 5,
     capacity: 4,
-    gap: 20,
+    gap: Duration::from_millis(20),
     vendor: [1, 2, 3],
     model: 1,
     version: 1,

@@ -1,0 +1,56 @@
+/* What statuses say, in words, and the version: plain C beside the archive, which gives no pointers. */
+#include "osdp.h"
+
+const char *osdp_version(void)
+{
+    return OSDP_VERSION;
+}
+
+const char *osdp_status_text(osdp_status status)
+{
+    switch (status) {
+    case OSDP_OK:
+        return "done";
+    case OSDP_NO_MACHINE:
+        return "the handle holds no machine";
+    case OSDP_IN_USE:
+        return "the handle holds a machine already";
+    case OSDP_BAD_TEXT:
+        return "the text is that of no command and of no event";
+    case OSDP_NO_EVENT:
+        return "the reply tells no event";
+    case OSDP_TOO_SMALL:
+        return "the room is too small for the text";
+    case OSDP_NOT_ASKED:
+        return "no command waits for an answer";
+    case OSDP_OTHER_MESSAGE:
+        return "the message is another one";
+    case OSDP_UNKNOWN_CODE:
+        return "the code is in no table";
+    case OSDP_BAD_LENGTH:
+        return "the length isn't allowed";
+    case OSDP_BAD_COUNT:
+        return "a count disagrees with the length";
+    case OSDP_PANEL_NO_MEMORY:
+    case OSDP_DEVICE_NO_MEMORY:
+        return "out of memory";
+    case OSDP_TOO_MANY:
+        return "sixteen devices are there";
+    case OSDP_ADDRESS_TAKEN:
+        return "the address is taken";
+    case OSDP_NO_ENTRY:
+        return "there is no such device";
+    case OSDP_PANEL_OUT_OF_RANGE:
+    case OSDP_DEVICE_OUT_OF_RANGE:
+        return "an address or a setting is out of its range";
+    case OSDP_COMMANDS_FULL:
+        return "as many commands wait as there is room for";
+    case OSDP_POLL_SUBMITTED:
+        return "a POLL can't be submitted";
+    case OSDP_NOT_CLOSED:
+        return "the session isn't closed";
+    case OSDP_EVENTS_FULL:
+        return "as many events wait as there is room for";
+    }
+    return "an unknown status";
+}

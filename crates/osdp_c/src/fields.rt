@@ -1,0 +1,113 @@
+//! The fields of replies and commands, for C.
+
+ghost use Rattle.std.specs.Prelude.{◌≡◌, Some};
+ghost use Rattle.osdp_msg.specs.declared.command.Command.TheVariants as command;
+ghost use Rattle.osdp_c_values.specs.Fields.{command_in, inputs_of, keypad_of, nak_of, output_of, outputs_of, pd_id_of, raw_of, reply_in};
+ghost use Rattle.osdp_c_values.specs.Making.{buzzer_in, made_led, made_out, text_in};
+ghost use Rattle.osdp_c_values.specs.Structs.{command_struct};
+ghost use Rattle.osdp_c.specs.Reads.{IsRead};
+
+use osdp_c_values::{
+    BuzzerStruct, KeypadStruct, LedStruct, MessageStruct, NakStruct, OutputStruct, PdIdStruct,
+    RawStruct, StatesStruct, TextStruct,
+};
+
+/// Writes the card of a RAW.
+#[unsafe(no_mangle)]
+pub extern "C" fn osdp_raw_of(message: &MessageStruct, raw: &mut RawStruct) -> u32
+    ensures { IsRead (raw_of (reply_in message.now) raw.old) result raw.new }
+{
+    raw.read(message).number()
+}
+
+/// Writes the keys of a KEYPAD.
+#[unsafe(no_mangle)]
+pub extern "C" fn osdp_keypad_of(message: &MessageStruct, keys: &mut KeypadStruct) -> u32
+    ensures { IsRead (keypad_of (reply_in message.now) keys.old) result keys.new }
+{
+    keys.read(message).number()
+}
+
+/// Writes the states of an ISTATR.
+#[unsafe(no_mangle)]
+pub extern "C" fn osdp_inputs_of(message: &MessageStruct, inputs: &mut StatesStruct) -> u32
+    ensures { IsRead (inputs_of (reply_in message.now) inputs.old) result inputs.new }
+{
+    inputs.read_inputs(message).number()
+}
+
+/// Writes the states of an OSTATR.
+#[unsafe(no_mangle)]
+pub extern "C" fn osdp_outputs_of(message: &MessageStruct, outputs: &mut StatesStruct) -> u32
+    ensures { IsRead (outputs_of (reply_in message.now) outputs.old) result outputs.new }
+{
+    outputs.read_outputs(message).number()
+}
+
+/// Writes what the device of a PDID is.
+#[unsafe(no_mangle)]
+pub extern "C" fn osdp_pd_id_of(message: &MessageStruct, id: &mut PdIdStruct) -> u32
+    ensures { IsRead (pd_id_of (reply_in message.now) id.old) result id.new }
+{
+    id.read(message).number()
+}
+
+/// Writes the reason of a NAK.
+#[unsafe(no_mangle)]
+pub extern "C" fn osdp_nak_of(message: &MessageStruct, nak: &mut NakStruct) -> u32
+    ensures { IsRead (nak_of (reply_in message.now) nak.old) result nak.new }
+{
+    nak.read(message).number()
+}
+
+/// Writes the record of an OUT at a place, counted from 0.
+#[unsafe(no_mangle)]
+pub extern "C" fn osdp_output_of(
+    message: &MessageStruct,
+    at: usize,
+    output: &mut OutputStruct,
+) -> u32
+    ensures { IsRead (output_of (command_in message.now) at output.old) result output.new }
+{
+    output.read(message, at).number()
+}
+
+/// Writes an OUT of these records.
+#[unsafe(no_mangle)]
+pub extern "C" fn osdp_out(outputs: &[OutputStruct], message: &mut MessageStruct) -> u32
+    ensures { IsRead (made_out outputs.now message.old) result message.new }
+{
+    message.make_out(outputs).number()
+}
+
+/// Writes a LED of these records.
+#[unsafe(no_mangle)]
+pub extern "C" fn osdp_led(leds: &[LedStruct], message: &mut MessageStruct) -> u32
+    ensures { IsRead (made_led leds.now message.old) result message.new }
+{
+    message.make_led(leds).number()
+}
+
+/// Writes a BUZ.
+#[unsafe(no_mangle)]
+pub extern "C" fn osdp_buzzer(buzzer: &BuzzerStruct, message: &mut MessageStruct)
+    ensures { message.new ≡ command_struct (Some (command.Buzzer (buzzer_in buzzer.now))) message.old }
+{
+    message.make_buzzer(buzzer);
+}
+
+/// Writes a TEXT.
+#[unsafe(no_mangle)]
+pub extern "C" fn osdp_text(text: &TextStruct, message: &mut MessageStruct)
+    ensures { message.new ≡ command_struct (Some (command.Text (text_in text.now))) message.old }
+{
+    message.make_text(text);
+}
+
+/// Writes a COMSET.
+#[unsafe(no_mangle)]
+pub extern "C" fn osdp_comset(address: u8, baud_rate: u32, message: &mut MessageStruct)
+    ensures { message.new ≡ command_struct (Some (command.Comset (record { address = address; baud_rate = baud_rate }))) message.old }
+{
+    message.make_comset(address, baud_rate);
+}

@@ -1,0 +1,6 @@
+use Rattle.std.proofs.Common.{◌≡◌, ◌++◌, drop, map}
+use Rattle.osdp_c_values.specs.Making.{led_record}
+use Rattle.osdp_c_values.proofs.making.led_records.Given as goal
+
+abbrev pub invariant-loop-led : goal.invariant-loop-led
+invariant-loop-led l = l.records.items ++ map led_record (drop l.led-index l.given) ≡ map led_record l.given

@@ -1,0 +1,62 @@
+-- Commands made of structs of plain fields.
+use Rattle.std.specs.Prelude.{List, take, map, option_map, Option, None, Some}
+use Rattle.osdp_msg.specs.CommandFields.{records_within}
+use Rattle.osdp_msg.specs.declared.command.Command.{Command}
+use Rattle.osdp_msg.specs.declared.command.Command.TheVariants as command
+use Rattle.osdp_msg.specs.declared.command_fields.Buzzer.{Buzzer}
+use Rattle.osdp_msg.specs.declared.command_fields.Text.{Text}
+use Rattle.osdp_msg.specs.declared.fault.MsgFault.TheVariants.{Length}
+use Rattle.osdp_msg.specs.declared.leds.LedRecord.{LedRecord}
+use Rattle.osdp_msg.specs.declared.outputs.OutputRecord.{OutputRecord}
+use Rattle.osdp_c_values.specs.declared.fields.OutputStruct.{OutputStruct}
+use Rattle.osdp_c_values.specs.declared.making.BuzzerStruct.{BuzzerStruct}
+use Rattle.osdp_c_values.specs.declared.making.LedStruct.{LedStruct}
+use Rattle.osdp_c_values.specs.declared.making.TextStruct.{TextStruct}
+use Rattle.osdp_c_values.specs.declared.message.MessageStruct.{MessageStruct}
+use Rattle.osdp_c_values.specs.Fields.{Read, reads, unread}
+use Rattle.osdp_c_values.specs.Structs.{command_struct}
+
+abbrev pub output_record : OutputStruct → OutputRecord
+output_record s = record { output = s.output; control = s.control; timer = s.timer }
+
+abbrev pub led_record : LedStruct → LedRecord
+led_record s = record {
+  reader = s.reader;
+  led = s.led;
+  temporary_control = s.temporary_control;
+  temporary_on_time = s.temporary_on_time;
+  temporary_off_time = s.temporary_off_time;
+  temporary_on_color = s.temporary_on_color;
+  temporary_off_color = s.temporary_off_color;
+  timer = s.timer;
+  permanent_control = s.permanent_control;
+  permanent_on_time = s.permanent_on_time;
+  permanent_off_time = s.permanent_off_time;
+  permanent_on_color = s.permanent_on_color;
+  permanent_off_color = s.permanent_off_color;
+}
+
+abbrev pub buzzer_in : BuzzerStruct → Buzzer
+buzzer_in s = record { reader = s.reader; tone = s.tone; on_time = s.on_time; off_time = s.off_time; count = s.count }
+
+-- as many characters as the count says
+abbrev pub text_in : TextStruct → Text
+text_in s = record {
+  reader = s.reader;
+  command = s.command;
+  time = s.time;
+  row = s.row;
+  column = s.column;
+  characters = record { items = take s.count s.characters };
+}
+
+-- the command is written, where there is one: one without records, and one with more than it may have, is none
+abbrev pub made : Option Command → MessageStruct → Read MessageStruct
+made None out = unread Length out
+made (Some command) out = reads (command_struct (Some command) out)
+
+abbrev pub made_out : List OutputStruct → MessageStruct → Read MessageStruct
+made_out records out = made (option_map command.Output (records_within 358 (map output_record records))) out
+
+abbrev pub made_led : List LedStruct → MessageStruct → Read MessageStruct
+made_led records out = made (option_map command.Led (records_within 102 (map led_record records))) out

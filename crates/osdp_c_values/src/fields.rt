@@ -1,0 +1,298 @@
+//! The fields of replies, and the records of an OUT, as structs of plain fields.
+
+ghost use Rattle.std.specs.Prelude.{◌≡◌, ◌≤◌, length};
+ghost use Rattle.osdp_c_values.specs.Fields.{command_in, data_of, inputs_of, keypad_of, keypad_struct, nak_of, nak_struct, output_of, output_struct, outputs_of, pd_id_of, pd_id_struct, raw_of, raw_struct, reply_in, states_struct};
+
+use crate::arrays::fill;
+use crate::message::MessageStruct;
+use crate::status::Status;
+use osdp_msg::{
+    Command, Keypad, MAX_CARD_BYTES, MAX_DATA, MAX_DETAIL, MsgFault, Nak, OutputRecord, PdId, Raw,
+    Reply,
+};
+
+/// A card's bits.
+#[repr(C)]
+#[derive(Drop)]
+pub struct RawStruct {
+    /// Which reader of the device.
+    pub reader: u8,
+    /// How the bits are to be understood.
+    pub format: u8,
+    /// How many bits there are.
+    pub bits: u16,
+    /// How many bytes they stand in.
+    pub length: u16,
+    /// The bits, the first in the highest place of the first byte.
+    pub bytes: [u8; MAX_CARD_BYTES],
+}
+
+/// Pressed keys.
+#[repr(C)]
+#[derive(Drop)]
+pub struct KeypadStruct {
+    /// Which reader of the device.
+    pub reader: u8,
+    /// How many keys there are.
+    pub count: u8,
+    /// The keys in their order.
+    pub digits: [u8; 255],
+}
+
+/// A byte for each input or output.
+#[repr(C)]
+#[derive(Drop)]
+pub struct StatesStruct {
+    /// How many there are.
+    pub length: u16,
+    /// The states.
+    pub states: [u8; MAX_DATA],
+}
+
+/// What a device is.
+#[repr(C)]
+#[derive(Drop)]
+pub struct PdIdStruct {
+    /// The serial number.
+    pub serial: u32,
+    /// The maker's code.
+    pub vendor: [u8; 3],
+    /// The maker's number of the model.
+    pub model: u8,
+    /// The maker's number of the model's version.
+    pub version: u8,
+    /// The first number of the firmware's version.
+    pub firmware_major: u8,
+    /// The second number of the firmware's version.
+    pub firmware_minor: u8,
+    /// The third number of the firmware's version.
+    pub firmware_build: u8,
+}
+
+/// Why a command wasn't done.
+#[repr(C)]
+#[derive(Drop)]
+pub struct NakStruct {
+    /// How many bytes of detail there are.
+    pub length: u16,
+    /// The number of the reason.
+    pub reason: u8,
+    /// What follows the reason.
+    pub detail: [u8; MAX_DETAIL],
+}
+
+/// What one output is to do.
+#[repr(C)]
+#[derive(Drop)]
+pub struct OutputStruct {
+    /// In 100 ms.
+    pub timer: u16,
+    /// The output of the device, counted from 0.
+    pub output: u8,
+    /// What it is to do, 0 to 6.
+    pub control: u8,
+}
+
+impl MessageStruct {
+    /// Its data.
+    fn data(&self) -> &[u8]
+        ensures value { result.now ≡ data_of self.now }
+        ensures room { length result.now ≤ MAX_DATA }
+    {
+        &self.body[..usize::from(self.length).min(MAX_DATA)]
+    }
+
+    /// The reply that it is.
+    fn read_reply(&self) -> Result<Reply, MsgFault>
+        ensures { result ≡ reply_in self.now }
+    {
+        Reply::read(self.code, self.data())
+    }
+
+    /// The command that it is.
+    fn read_command(&self) -> Result<Command, MsgFault>
+        ensures { result ≡ command_in self.now }
+    {
+        Command::read(self.code, self.data())
+    }
+}
+
+impl RawStruct {
+    /// Writes a card.
+    fn set(&mut self, card: &Raw)
+        ensures { self.new ≡ raw_struct card.now self.old }
+    {
+        self.reader = card.reader();
+        self.format = card.format();
+        self.bits = card.bits();
+        self.length = card.bytes().len() as u16;
+        fill(&mut self.bytes, card.bytes());
+    }
+
+    /// Writes the card of a message.
+    pub fn read(&mut self, message: &MessageStruct) -> Status
+        ensures status { result ≡ (raw_of (reply_in message.now) self.old).status }
+        ensures written { self.new ≡ (raw_of (reply_in message.now) self.old).out }
+    {
+        match message.read_reply() {
+            Ok(Reply::Raw(card)) => {
+                self.set(&card);
+                Status::Done
+            }
+            Ok(_) => Status::OtherMessage,
+            Err(fault) => Status::Message(fault),
+        }
+    }
+}
+
+impl KeypadStruct {
+    /// Writes keys.
+    fn set(&mut self, keys: &Keypad)
+        ensures { self.new ≡ keypad_struct keys.now self.old }
+    {
+        self.reader = keys.reader;
+        self.count = keys.digits.len() as u8;
+        fill(&mut self.digits, keys.digits.as_slice());
+    }
+
+    /// Writes the keys of a message.
+    pub fn read(&mut self, message: &MessageStruct) -> Status
+        ensures status { result ≡ (keypad_of (reply_in message.now) self.old).status }
+        ensures written { self.new ≡ (keypad_of (reply_in message.now) self.old).out }
+    {
+        match message.read_reply() {
+            Ok(Reply::Keypad(keys)) => {
+                self.set(&keys);
+                Status::Done
+            }
+            Ok(_) => Status::OtherMessage,
+            Err(fault) => Status::Message(fault),
+        }
+    }
+}
+
+impl StatesStruct {
+    /// Writes states.
+    fn set(&mut self, states: &[u8])
+        requires { length states.now ≤ MAX_DATA }
+        ensures { self.new ≡ states_struct states.now self.old }
+    {
+        self.length = states.len() as u16;
+        fill(&mut self.states, states);
+    }
+
+    /// Writes the states of the inputs that a message tells.
+    pub fn read_inputs(&mut self, message: &MessageStruct) -> Status
+        ensures status { result ≡ (inputs_of (reply_in message.now) self.old).status }
+        ensures written { self.new ≡ (inputs_of (reply_in message.now) self.old).out }
+    {
+        match message.read_reply() {
+            Ok(Reply::Inputs(states)) => {
+                self.set(states.as_slice());
+                Status::Done
+            }
+            Ok(_) => Status::OtherMessage,
+            Err(fault) => Status::Message(fault),
+        }
+    }
+
+    /// Writes the states of the outputs that a message tells.
+    pub fn read_outputs(&mut self, message: &MessageStruct) -> Status
+        ensures status { result ≡ (outputs_of (reply_in message.now) self.old).status }
+        ensures written { self.new ≡ (outputs_of (reply_in message.now) self.old).out }
+    {
+        match message.read_reply() {
+            Ok(Reply::Outputs(states)) => {
+                self.set(states.as_slice());
+                Status::Done
+            }
+            Ok(_) => Status::OtherMessage,
+            Err(fault) => Status::Message(fault),
+        }
+    }
+}
+
+impl PdIdStruct {
+    /// Writes what a device is.
+    fn set(&mut self, id: &PdId)
+        ensures { self.new ≡ pd_id_struct id.now }
+    {
+        self.serial = id.serial;
+        self.vendor = id.vendor;
+        self.model = id.model;
+        self.version = id.version;
+        self.firmware_major = id.firmware_major;
+        self.firmware_minor = id.firmware_minor;
+        self.firmware_build = id.firmware_build;
+    }
+
+    /// Writes what the device of a message is.
+    pub fn read(&mut self, message: &MessageStruct) -> Status
+        ensures status { result ≡ (pd_id_of (reply_in message.now) self.old).status }
+        ensures written { self.new ≡ (pd_id_of (reply_in message.now) self.old).out }
+    {
+        match message.read_reply() {
+            Ok(Reply::PdId(id)) => {
+                self.set(&id);
+                Status::Done
+            }
+            Ok(_) => Status::OtherMessage,
+            Err(fault) => Status::Message(fault),
+        }
+    }
+}
+
+impl NakStruct {
+    /// Writes a NAK.
+    fn set(&mut self, nak: &Nak)
+        ensures { self.new ≡ nak_struct nak.now self.old }
+    {
+        self.length = nak.detail.len() as u16;
+        self.reason = u8::from(nak.reason);
+        fill(&mut self.detail, nak.detail.as_slice());
+    }
+
+    /// Writes the NAK of a message.
+    pub fn read(&mut self, message: &MessageStruct) -> Status
+        ensures status { result ≡ (nak_of (reply_in message.now) self.old).status }
+        ensures written { self.new ≡ (nak_of (reply_in message.now) self.old).out }
+    {
+        match message.read_reply() {
+            Ok(Reply::Nak(nak)) => {
+                self.set(&nak);
+                Status::Done
+            }
+            Ok(_) => Status::OtherMessage,
+            Err(fault) => Status::Message(fault),
+        }
+    }
+}
+
+impl OutputStruct {
+    /// Writes a record.
+    fn set(&mut self, given: &OutputRecord)
+        ensures { self.new ≡ output_struct given.now }
+    {
+        self.timer = given.timer;
+        self.output = given.output;
+        self.control = given.control;
+    }
+
+    /// Writes the record of an OUT at a place, counted from 0.
+    pub fn read(&mut self, message: &MessageStruct, at: usize) -> Status
+        ensures status { result ≡ (output_of (command_in message.now) at self.old).status }
+        ensures written { self.new ≡ (output_of (command_in message.now) at self.old).out }
+    {
+        match message.read_command() {
+            Ok(Command::Output(outputs)) => match outputs.records().get(at) {
+                Some(output) => {
+                    self.set(output);
+                    Status::Done
+                }
+                None => Status::OtherMessage,
+            },
+            Ok(_) => Status::OtherMessage,
+            Err(fault) => Status::Message(fault),
+        }
+    }
+}

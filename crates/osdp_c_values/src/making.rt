@@ -1,0 +1,224 @@
+//! Commands made of structs of plain fields.
+
+ghost use Rattle.std.specs.Prelude.{◌≡◌, ◌≤◌, length, map, Some};
+ghost use Rattle.osdp_msg.specs.CommandFields.{records_within};
+ghost use Rattle.osdp_msg.specs.declared.command.Command.TheVariants as command;
+ghost use Rattle.osdp_c_values.specs.Making.{buzzer_in, led_record, made_led, made_out, output_record, text_in};
+ghost use Rattle.osdp_c_values.specs.Structs.{command_struct};
+
+use crate::fields::OutputStruct;
+use crate::message::MessageStruct;
+use crate::status::Status;
+use arrayvec::ArrayVec;
+use osdp_msg::{
+    Buzzer, Command, Communication, LedRecord, Leds, MsgFault, OutputRecord, Outputs, Text,
+};
+
+/// What one LED of a reader is to do. Times are in 100 ms. Colors: 0 off, 1 red, 2 green, 3 amber, 4 blue, 5 magenta, 6 cyan, 7 white.
+#[repr(C)]
+#[derive(Drop)]
+pub struct LedStruct {
+    /// How long the temporary state lasts.
+    pub timer: u16,
+    /// The reader of the device, counted from 0.
+    pub reader: u8,
+    /// The LED of the reader, counted from 0.
+    pub led: u8,
+    /// 0 nothing, 1 cancel, 2 set.
+    pub temporary_control: u8,
+    /// In 100 ms.
+    pub temporary_on_time: u8,
+    /// In 100 ms.
+    pub temporary_off_time: u8,
+    /// 0 to 7.
+    pub temporary_on_color: u8,
+    /// 0 to 7.
+    pub temporary_off_color: u8,
+    /// 0 nothing, 1 set.
+    pub permanent_control: u8,
+    /// In 100 ms.
+    pub permanent_on_time: u8,
+    /// In 100 ms.
+    pub permanent_off_time: u8,
+    /// 0 to 7.
+    pub permanent_on_color: u8,
+    /// 0 to 7.
+    pub permanent_off_color: u8,
+}
+
+/// How the buzzer of a reader sounds.
+#[repr(C)]
+#[derive(Drop)]
+pub struct BuzzerStruct {
+    /// The reader of the device, counted from 0.
+    pub reader: u8,
+    /// 0 none, 1 off, 2 default.
+    pub tone: u8,
+    /// In 100 ms.
+    pub on_time: u8,
+    /// In 100 ms.
+    pub off_time: u8,
+    /// How often; 0 means until another command.
+    pub count: u8,
+}
+
+/// What the display of a reader shows.
+#[repr(C)]
+#[derive(Drop)]
+pub struct TextStruct {
+    /// The reader of the device, counted from 0.
+    pub reader: u8,
+    /// 1 permanent, 2 permanent with wrap, 3 temporary, 4 temporary with wrap.
+    pub command: u8,
+    /// In seconds, of a temporary text.
+    pub time: u8,
+    /// The row of the first character, counted from 1.
+    pub row: u8,
+    /// The column of the first character, counted from 1.
+    pub column: u8,
+    /// How many characters there are.
+    pub count: u8,
+    /// The characters.
+    pub characters: [u8; 255],
+}
+
+/// The record of an output.
+fn output_record(given: &OutputStruct) -> OutputRecord
+    ensures { result ≡ output_record given.now }
+{
+    OutputRecord {
+        output: given.output,
+        control: given.control,
+        timer: given.timer,
+    }
+}
+
+/// The record of an LED.
+fn led_record(given: &LedStruct) -> LedRecord
+    ensures { result ≡ led_record given.now }
+{
+    LedRecord {
+        reader: given.reader,
+        led: given.led,
+        temporary_control: given.temporary_control,
+        temporary_on_time: given.temporary_on_time,
+        temporary_off_time: given.temporary_off_time,
+        temporary_on_color: given.temporary_on_color,
+        temporary_off_color: given.temporary_off_color,
+        timer: given.timer,
+        permanent_control: given.permanent_control,
+        permanent_on_time: given.permanent_on_time,
+        permanent_off_time: given.permanent_off_time,
+        permanent_on_color: given.permanent_on_color,
+        permanent_off_color: given.permanent_off_color,
+    }
+}
+
+/// The records of outputs, in their order.
+fn output_records(given: &[OutputStruct]) -> ArrayVec<OutputRecord, 358>
+    requires { length given.now ≤ 358 }
+    ensures { result.items ≡ map output_record given.now }
+{
+    let mut records = ArrayVec::new();
+    for output in given {
+        records.push(output_record(output));
+    }
+    records
+}
+
+/// The records of LEDs, in their order.
+fn led_records(given: &[LedStruct]) -> ArrayVec<LedRecord, 102>
+    requires { length given.now ≤ 102 }
+    ensures { result.items ≡ map led_record given.now }
+{
+    let mut records = ArrayVec::new();
+    for led in given {
+        records.push(led_record(led));
+    }
+    records
+}
+
+/// The outputs of an OUT. None where there are none or too many.
+fn outputs(given: &[OutputStruct]) -> Option<Outputs>
+    ensures { result ≡ records_within 358 (map output_record given.now) }
+{
+    if given.len() > 358 {
+        return None;
+    }
+    Outputs::new(output_records(given).as_slice())
+}
+
+/// The LEDs of a LED. None where there are none or too many.
+fn leds(given: &[LedStruct]) -> Option<Leds>
+    ensures { result ≡ records_within 102 (map led_record given.now) }
+{
+    if given.len() > 102 {
+        return None;
+    }
+    Leds::new(led_records(given).as_slice())
+}
+
+impl MessageStruct {
+    /// Writes an OUT of 1 to 358 records.
+    pub fn make_out(&mut self, given: &[OutputStruct]) -> Status
+        ensures status { result ≡ (made_out given.now self.old).status }
+        ensures written { self.new ≡ (made_out given.now self.old).out }
+    {
+        match outputs(given) {
+            Some(records) => {
+                self.set_command(Some(&Command::Output(records)));
+                Status::Done
+            }
+            None => Status::Message(MsgFault::Length),
+        }
+    }
+
+    /// Writes a LED of 1 to 102 records.
+    pub fn make_led(&mut self, given: &[LedStruct]) -> Status
+        ensures status { result ≡ (made_led given.now self.old).status }
+        ensures written { self.new ≡ (made_led given.now self.old).out }
+    {
+        match leds(given) {
+            Some(records) => {
+                self.set_command(Some(&Command::Led(records)));
+                Status::Done
+            }
+            None => Status::Message(MsgFault::Length),
+        }
+    }
+
+    /// Writes a BUZ.
+    pub fn make_buzzer(&mut self, given: &BuzzerStruct)
+        ensures { self.new ≡ command_struct (Some (command.Buzzer (buzzer_in given.now))) self.old }
+    {
+        self.set_command(Some(&Command::Buzzer(Buzzer {
+            reader: given.reader,
+            tone: given.tone,
+            on_time: given.on_time,
+            off_time: given.off_time,
+            count: given.count,
+        })));
+    }
+
+    /// Writes a TEXT.
+    pub fn make_text(&mut self, given: &TextStruct)
+        ensures { self.new ≡ command_struct (Some (command.Text (text_in given.now))) self.old }
+    {
+        let characters = ArrayVec::try_from(&given.characters[..usize::from(given.count)]);
+        self.set_command(Some(&Command::Text(Text {
+            reader: given.reader,
+            command: given.command,
+            time: given.time,
+            row: given.row,
+            column: given.column,
+            characters: characters.unwrap(),
+        })));
+    }
+
+    /// Writes a COMSET.
+    pub fn make_comset(&mut self, address: u8, baud_rate: u32)
+        ensures { self.new ≡ command_struct (Some (command.Comset (record { address = address; baud_rate = baud_rate }))) self.old }
+    {
+        self.set_command(Some(&Command::Comset(Communication { address, baud_rate })));
+    }
+}

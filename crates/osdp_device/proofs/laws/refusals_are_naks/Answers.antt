@@ -1,0 +1,68 @@
+-- What a reader sends is a NAK where its reply is one.
+use Rattle.std.proofs.Common.{◌≡◌, ℕ, Some, Result, Ok, Err, refl, ap, ◌∙◌}
+use Rattle.osdp_device.specs.Saying.{bytes_of}
+use Rattle.osdp_frame.specs.Packet.{Packet}
+use Rattle.osdp_frame.specs.Spelling.{spelling}
+use Rattle.osdp_msg.specs.declared.command.Command.{Command}
+use Rattle.osdp_msg.specs.declared.fault.MsgFault.{MsgFault}
+use Rattle.osdp_msg.specs.declared.nak.NakReason.TheVariants.{SecurityBlock, UnexpectedSequence}
+use Rattle.osdp_msg.specs.declared.reply.Reply.{Reply}
+use Rattle.osdp_msg.specs.declared.reply.Reply.TheVariants.{Ack, Nak, PdId, PdCap, LocalState, Inputs, Outputs, Readers, Raw, Formatted, Keypad, Com, Busy, MakerReply}
+use Rattle.osdp_reader.specs.declared.handler.Answer.{Answer}
+use Rattle.osdp_reader.specs.declared.kind.Kind.{Kind}
+use Rattle.osdp_reader.specs.declared.kind.Kind.TheVariants as kind
+use Rattle.osdp_reader.specs.Queue.{event_for, released}
+use Rattle.osdp_reader.specs.Replies.{refused, reply_packet, unread_reason}
+use Rattle.osdp_reader.specs.State.{ReaderState}
+use Rattle.osdp_reader.specs.Table.{answer_to, begun, command_in, event_or_answer, kind_of, outcome, taken}
+use Rattle.osdp_device.specs.Orders.{is_nak, is_refusal}
+use Rattle.osdp_device.proofs.laws.refusals_are_naks.Goals as goal
+
+-- the code of a reply is the sixth byte of its packet
+by_code : (p : Packet) (sequence : ℕ) (reply : Reply) → is_nak (spelling (reply_packet p sequence reply)) ≡ is_refusal reply
+by_code p sequence Ack = refl
+by_code p sequence (Nak n) = refl
+by_code p sequence (PdId i) = refl
+by_code p sequence (PdCap c) = refl
+by_code p sequence (LocalState s) = refl
+by_code p sequence (Inputs states) = refl
+by_code p sequence (Outputs states) = refl
+by_code p sequence (Readers states) = refl
+by_code p sequence (Raw r) = refl
+by_code p sequence (Formatted f) = refl
+by_code p sequence (Keypad k) = refl
+by_code p sequence (Com c) = refl
+by_code p sequence Busy = refl
+by_code p sequence (MakerReply m) = refl
+
+said_so : (p : Packet) (sequence : ℕ) (said reply : Reply) → Some said ≡ Some reply
+    → is_nak (bytes_of (Some (reply_packet p sequence said))) ≡ is_refusal reply
+said_so p sequence said reply e =
+    let same : said ≡ reply = cc in
+    by_code p sequence said ∙ ap is_refusal same
+
+module _ {H : Type 0} (answer_of : H → Command → Answer) (after : H → Command → H) where
+  by_zero : (read : Result Command MsgFault) (r : ReaderState H) (p : Packet) (reply : Reply)
+      → (begun answer_of after read r p).said ≡ Some reply → is_nak (bytes_of (begun answer_of after read r p).reply) ≡ is_refusal reply
+  by_zero (Err fault) r p reply e = said_so p 0 (refused (unread_reason fault)) reply e
+  by_zero (Ok command) r p reply e = said_so p 0 (answer_to answer_of after r.config r.handler command).reply reply e
+
+  by_next : (read : Result Command MsgFault) (r : ReaderState H) (p : Packet) (reply : Reply)
+      → (taken answer_of after read r p).said ≡ Some reply → is_nak (bytes_of (taken answer_of after read r p).reply) ≡ is_refusal reply
+  by_next (Err fault) r p reply e = said_so p p.sequence (refused (unread_reason fault)) reply e
+  by_next (Ok command) r p reply e =
+      let queue = released r.queue in
+      said_so p p.sequence (event_or_answer answer_of after (event_for command queue.events) r.config r.handler command).reply reply e
+
+  by_kind : (k : Kind) (r : ReaderState H) (p : Packet) (reply : Reply)
+      → (outcome answer_of after k r p).said ≡ Some reply → is_nak (bytes_of (outcome answer_of after k r p).reply) ≡ is_refusal reply
+  by_kind kind.Silent r p reply e = absurd cc
+  by_kind kind.Secured r p reply e = said_so p p.sequence (refused SecurityBlock) reply e
+  by_kind kind.Zero r p reply e = by_zero (command_in p) r p reply e
+  by_kind kind.Repeat r p reply e = absurd cc
+  by_kind kind.Taken r p reply e = by_next (command_in p) r p reply e
+  by_kind kind.Busy r p reply e = said_so p 0 Busy reply e
+  by_kind kind.Wrong r p reply e = said_so p p.sequence (refused UnexpectedSequence) reply e
+
+pub returns : goal.returns
+returns g c = λ r p reply e. by_kind g.H.Handler.answer_of g.H.Handler.after (kind_of r p) r p reply e

@@ -1,0 +1,135 @@
+//! A panel, whose turns write into what its program has.
+
+ghost use Rattle.std.specs.Prelude.{◌≡◌, IfErr, None, OnOk, Some, length, option_map};
+ghost use Rattle.osdp_bus.specs.Buses.{device_of};
+ghost use Rattle.osdp_bus.specs.Deadlines.{IsDeadline};
+ghost use Rattle.osdp_bus.specs.Devices.{address_of};
+ghost use Rattle.osdp_bus.specs.Machine.{AddEnds, NewEnds, after_begin_at, after_retarget_at, after_submit_at, after_withdraw_at, begin_refusal_at, changed_unless, retarget_refusal_at, submit_refusal_at, unless_refused, withdrawal_at};
+ghost use Rattle.osdp_bus.specs.Sending.{IsSentAs};
+ghost use Rattle.osdp_controller.specs.States.{is_closed};
+ghost use Rattle.osdp_panel.specs.Turns.{after_turn, heard_in, ticked_in};
+
+use crate::Turn;
+use osdp_bus::{Bus, BusConfig, BusFault, Entry};
+use osdp_frame::Address;
+use osdp_msg::Command;
+use std::alloc::Global;
+use std::marker::Model;
+
+/// A panel of a line with up to sixteen devices.
+///
+/// Moments are milliseconds that the caller hands in, of any clock that doesn't go backwards; one that lies before the greatest seen counts
+/// as that one.
+#[derive(Drop)]
+pub struct Panel {
+    bus: Bus,
+}
+
+impl Model for Panel {
+    ghost use Rattle.osdp_bus.specs.Buses.{BusState};
+
+    ghost Value = { BusState };
+
+    ghost view = { λ p. p.bus };
+}
+
+impl Panel {
+    /// A panel without devices. It takes the memory for sixteen.
+    ///
+    /// OutOfRange (B5) where a setting is out of its range; else NoMemory (B1) where there is none.
+    pub fn new(alloc: Global, config: BusConfig) -> Result<Panel, BusFault>
+        ensures { NewEnds config result }
+    {
+        match Bus::new(alloc, config) {
+            Ok(bus) => Ok(Panel { bus }),
+            Err(fault) => Err(fault),
+        }
+    }
+
+    /// Adds a device at an address, whose session is closed, and tells its entry. It takes the memory for its commands.
+    ///
+    /// The faults are those of `Bus::add`.
+    pub fn add(&mut self, address: Address) -> Result<Entry, BusFault>
+        ensures { AddEnds address self.old self.new result }
+    {
+        self.bus.add(address)
+    }
+
+    /// Begins a session of a device. The faults are those of `Bus::begin`.
+    pub fn begin(&mut self, entry: Entry, now: u64) -> Result<(), BusFault>
+        ensures result { result ≡ unless_refused (begin_refusal_at entry self.old) }
+        ensures panel { self.new ≡ changed_unless (begin_refusal_at entry self.old) self.old (after_begin_at entry now self.old) }
+    {
+        self.bus.begin(entry, now)
+    }
+
+    /// Puts a command after those that wait for a device; a refused one comes back. The faults are those of `Bus::submit`.
+    pub fn submit(&mut self, entry: Entry, command: Command) -> Result<(), (BusFault, Command)>
+        ensures ok { OnOk result (submit_refusal_at entry command self.old ≡ None) }
+        ensures accepted { OnOk result (self.new ≡ after_submit_at entry command self.old) }
+        ensures err { IfErr result (λ e. submit_refusal_at entry command self.old ≡ Some e.0) }
+        ensures back { IfErr result (λ e. (e.1 ≡ command) × (self.new ≡ self.old)) }
+    {
+        self.bus.submit(entry, command)
+    }
+
+    /// Takes back the command that has waited longest for a device. None where none waits, or where its session has begun.
+    pub fn withdraw(&mut self, entry: Entry) -> Result<Option<Command>, BusFault>
+        ensures result { result ≡ withdrawal_at entry self.old }
+        ensures panel { self.new ≡ after_withdraw_at entry self.old }
+    {
+        self.bus.withdraw(entry)
+    }
+
+    /// Sets the address of a device, and frees the one that is reserved for it. The faults are those of `Bus::retarget`.
+    pub fn retarget(&mut self, entry: Entry, address: Address) -> Result<(), BusFault>
+        ensures result { result ≡ unless_refused (retarget_refusal_at entry address self.old) }
+        ensures panel { self.new ≡ changed_unless (retarget_refusal_at entry address self.old) self.old (after_retarget_at entry address self.old) }
+    {
+        self.bus.retarget(entry, address)
+    }
+
+    /// One turn of the loop: hears what a read of the port gave, ticks at the moment after the read, and puts what is to be done into `turn`, in
+    /// place of what stands there. Its burst goes out before the next turn.
+    pub fn turn(&mut self, bytes: &[u8], now: u64, turn: &mut Turn)
+        ensures panel { self.new ≡ after_turn bytes.now now self.old }
+        ensures heard { turn.new.heard ≡ (heard_in bytes.now now self.old).devices.report }
+        ensures sent { IsSentAs (ticked_in bytes.now now self.old).sent turn.new.burst }
+        ensures ticked { turn.new.ticked ≡ (ticked_in bytes.now now self.old).bus.devices.report }
+        ensures sleep_until { IsDeadline self.new turn.new.sleep_until }
+    {
+        self.bus.on_bytes(bytes, now);
+        turn.heard = self.bus.next_report();
+        turn.burst = self.bus.tick(now);
+        turn.ticked = self.bus.next_report();
+        turn.sleep_until = self.bus.next_deadline();
+    }
+
+    /// How many devices there are.
+    pub fn entries(&self) -> usize
+        ensures { result ≡ length self.now.devices.entries }
+    {
+        self.bus.entries()
+    }
+
+    /// The address of a device. None where there is no such entry.
+    pub fn address(&self, entry: Entry) -> Option<Address>
+        ensures { result ≡ option_map address_of (device_of entry self.now) }
+    {
+        self.bus.address(entry)
+    }
+
+    /// How many commands wait for a device; the outstanding one isn't counted. None where there is no such entry.
+    pub fn waiting(&self, entry: Entry) -> Option<usize>
+        ensures { result ≡ option_map (λ d. length d.controller.waiting) (device_of entry self.now) }
+    {
+        self.bus.waiting(entry)
+    }
+
+    /// Whether the session of a device is closed. None where there is no such entry.
+    pub fn is_closed(&self, entry: Entry) -> Option<bool>
+        ensures { result ≡ option_map (λ d. is_closed d.controller.session.state) (device_of entry self.now) }
+    {
+        self.bus.is_closed(entry)
+    }
+}

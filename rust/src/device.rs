@@ -1,0 +1,372 @@
+//! The device's end of a line.
+
+use crate::error::{Error, check};
+use crate::fields::NakReason;
+use crate::message::{Burst, Command, no_burst, no_message};
+use crate::numbered::numbered;
+use crate::panel::milliseconds;
+use crate::sys;
+use crate::time::Moment;
+use core::ptr::null_mut;
+use core::time::Duration;
+
+/// What a device is.
+#[derive(Clone, Debug, PartialEq, Eq)]
+pub struct DeviceConfig<'a> {
+    /// The address on the line, 0 to 126.
+    pub address: u8,
+    /// How many events may wait, 1 to 1,024.
+    pub capacity: u32,
+    /// After how long a silence a run of bytes is over: 1 ms to an hour, in whole milliseconds.
+    pub gap: Duration,
+    /// The maker's code.
+    pub vendor: [u8; 3],
+    /// The maker's number of the model.
+    pub model: u8,
+    /// The maker's number of the model's version.
+    pub version: u8,
+    /// The serial number.
+    pub serial: u32,
+    /// The three numbers of the firmware's version.
+    pub firmware: [u8; 3],
+    /// What is answered to CAP: function, level and count of each capability.
+    pub capabilities: &'a [[u8; 3]],
+}
+
+numbered! {
+    /// How a packet was answered.
+    pub enum Said {
+        /// NAK 5: a security block isn't supported.
+        Secured = OSDP_SAID_SECURED,
+        /// A command with number 0, which begins anew: it was acted on.
+        Zero = OSDP_SAID_ZERO,
+        /// The stored reply once more.
+        Repeat = OSDP_SAID_REPEAT,
+        /// A command with the next number: it was acted on, once.
+        Taken = OSDP_SAID_TAKEN,
+        /// The reader is busy: nothing was taken.
+        Busy = OSDP_SAID_BUSY,
+        /// NAK 4: the number isn't expected.
+        Wrong = OSDP_SAID_WRONG,
+        /// Nothing is said yet: the device has stopped before the command, and the next call answers it.
+        Pending = OSDP_SAID_PENDING,
+    }
+}
+
+/// What the device is to do.
+#[derive(Clone, Debug, PartialEq, Eq)]
+#[allow(clippy::large_enum_variant)]
+pub enum Order {
+    /// The command came with a number that had its turn: do it, once.
+    Once(Command),
+    /// The command came with number 0, where the same order may come again: do what may be done twice.
+    Again(Command),
+    /// The command came with either number, and it was refused: the burst is a NAK. Nothing of it is to be done.
+    Refused(Command),
+    /// Nothing yet: `answer_next` may set what is said to the command, and the next call says it. Nothing of it is done before.
+    Pending(Command),
+}
+
+/// Where a COMSET put the device: the answer still goes out at the old rate.
+#[derive(Clone, Copy, Debug, PartialEq, Eq)]
+pub struct Moved {
+    /// The address from now on.
+    pub address: u8,
+    /// The rate from now on, in baud.
+    pub baud_rate: u32,
+}
+
+/// What a reader says to a packet.
+#[derive(Clone, Debug)]
+pub struct Answer {
+    /// How the packet was answered.
+    pub said: Said,
+    /// What came of a command: whether the device is to do it, after the burst has gone out, or the reader has refused it.
+    pub order: Option<Order>,
+    /// What a COMSET that was accepted has set. Keep it in memory that stays, before the burst is written: a reader that restarts is to be where it was.
+    pub moved: Option<Moved>,
+    /// What is to be written to the line.
+    pub burst: Option<Burst>,
+}
+
+fn answer_of(raw: &sys::osdp_answer) -> Option<Answer> {
+    let command = Command::from_sys(&raw.command);
+    Some(Answer {
+        said: Said::of(raw.kind)?,
+        order: match raw.order {
+            sys::OSDP_ORDER_ONCE => command.map(Order::Once),
+            sys::OSDP_ORDER_AGAIN => command.map(Order::Again),
+            sys::OSDP_ORDER_REFUSED => command.map(Order::Refused),
+            sys::OSDP_ORDER_PENDING => command.map(Order::Pending),
+            _ => None,
+        },
+        moved: (raw.moved != 0).then_some(Moved {
+            address: raw.address as u8,
+            baud_rate: raw.baud_rate,
+        }),
+        burst: Burst::from_sys(&raw.burst),
+    })
+}
+
+fn no_answer() -> sys::osdp_answer {
+    sys::osdp_answer {
+        kind: sys::OSDP_SAID_NONE,
+        order: sys::OSDP_ORDER_NONE,
+        moved: 0,
+        address: 0,
+        baud_rate: 0,
+        command: no_message(),
+        burst: no_burst(),
+    }
+}
+
+/// The device's end of a line. It reads and writes nothing: its program hands bytes and moments in.
+///
+/// Before each command but POLL, ID, CAP and COMSET `step` stops, and `answer_next` may set what is said to it. Where it sets nothing, LED, BUZ and TEXT are
+/// answered ACK, and so is an OUT whose outputs are all there; each other OUT is answered NAK 9, and so is each MFG.
+///
+/// With the feature `heap` it may be moved to another thread, as a panel may.
+#[derive(Debug)]
+pub struct Device(sys::osdp_device);
+
+// SAFETY: as of a panel: the handle is owned, nothing else points to what it holds, and its memory is that of the global allocator.
+#[cfg(feature = "heap")]
+unsafe impl Send for Device {}
+
+/// What is said to a command.
+#[derive(Clone, Copy, Debug, PartialEq, Eq)]
+pub enum DeviceAnswer<'a> {
+    /// It is done: of OUT, LED, BUZ, TEXT and MFG.
+    Done,
+    /// Whether the device is tampered with, and whether its power fails: of LSTAT.
+    Local(bool, bool),
+    /// A byte for each input, output or reader: of ISTAT, OSTAT and RSTAT.
+    List(&'a [u8]),
+    /// It isn't done. Reasons 2, 3 and 9 are told as they are, all others as 9.
+    Refused(NakReason),
+    /// The maker's own reply, his code and his bytes: of MFG.
+    Maker([u8; 3], &'a [u8]),
+}
+
+impl Device {
+    /// A reader to which nothing has come. It has no inputs, outputs and readers until it is told of them. It takes memory.
+    ///
+    /// # Errors
+    ///
+    /// `BadLength` for more than 477 capabilities, `OutOfRange`, `NoMemory`.
+    pub fn new(config: &DeviceConfig<'_>) -> Result<Device, Error> {
+        let mut reader = Device(sys::osdp_device {
+            device: null_mut(),
+            device_live: 0,
+        });
+        let raw = sys::osdp_device_config {
+            address: config.address.into(),
+            capacity: config.capacity,
+            gap: milliseconds(config.gap),
+            serial: config.serial,
+            vendor: config.vendor,
+            model: config.model,
+            version: config.version,
+            firmware_major: config.firmware[0],
+            firmware_minor: config.firmware[1],
+            firmware_build: config.firmware[2],
+        };
+        let capabilities = config.capabilities.as_flattened();
+        // SAFETY: the handle is none, and the pointers are good for as much as the call is told.
+        check(unsafe {
+            sys::osdp_device_new(
+                &mut reader.0,
+                &raw,
+                capabilities.as_ptr(),
+                capabilities.len(),
+            )
+        })?;
+        Ok(reader)
+    }
+
+    /// Sets what ISTAT is answered: a byte for each input, 1 where it is active.
+    ///
+    /// # Errors
+    ///
+    /// `BadLength` for more than 1,432.
+    pub fn set_inputs(&mut self, states: &[u8]) -> Result<(), Error> {
+        // SAFETY: the handle is ours alone, and so many states are there.
+        check(unsafe { sys::osdp_device_set_inputs(&mut self.0, states.as_ptr(), states.len()) })
+    }
+
+    /// Sets what OSTAT is answered: a byte for each output, 1 where it is on. OUT is refused where one of its outputs isn't there.
+    ///
+    /// # Errors
+    ///
+    /// `BadLength` for more than 1,432.
+    pub fn set_outputs(&mut self, states: &[u8]) -> Result<(), Error> {
+        // SAFETY: the handle is ours alone, and so many states are there.
+        check(unsafe { sys::osdp_device_set_outputs(&mut self.0, states.as_ptr(), states.len()) })
+    }
+
+    /// Sets what RSTAT is answered: a byte for each reader, 0 where it works.
+    ///
+    /// # Errors
+    ///
+    /// `BadLength` for more than 1,432.
+    pub fn set_readers(&mut self, states: &[u8]) -> Result<(), Error> {
+        // SAFETY: the handle is ours alone, and so many states are there.
+        check(unsafe { sys::osdp_device_set_readers(&mut self.0, states.as_ptr(), states.len()) })
+    }
+
+    /// Sets what LSTAT is answered: whether the device is tampered with, and whether its power fails.
+    pub fn set_local(&mut self, tamper: bool, power: bool) {
+        // SAFETY: the handle is ours alone. It holds a machine, so the call isn't refused.
+        let _ = unsafe { sys::osdp_device_set_local(&mut self.0, tamper.into(), power.into()) };
+    }
+
+    /// Sets whether the reader is busy. A busy reader takes nothing, but repeats its last reply.
+    pub fn set_busy(&mut self, busy: bool) {
+        // SAFETY: the handle is ours alone. It holds a machine, so the call isn't refused.
+        let _ = unsafe { sys::osdp_device_set_busy(&mut self.0, busy.into()) };
+    }
+
+    /// Puts an event, by the code and data of the reply that tells it, after those that wait.
+    ///
+    /// # Errors
+    ///
+    /// `UnknownCode`, `BadLength`, `BadCount`, `NoEvent`, `Full`.
+    pub fn event(&mut self, code: u8, data: &[u8]) -> Result<(), Error> {
+        // SAFETY: the handle is ours alone, and the data have so many bytes.
+        check(unsafe { sys::osdp_device_event(&mut self.0, code, data.as_ptr(), data.len()) })
+    }
+
+    /// Puts an event, by its text, after those that wait.
+    ///
+    /// # Errors
+    ///
+    /// `BadText`, `Full`.
+    pub fn event_text(&mut self, text: &str) -> Result<(), Error> {
+        // SAFETY: the handle is ours alone, and the text has so many bytes.
+        check(unsafe { sys::osdp_device_event_text(&mut self.0, text.as_ptr().cast(), text.len()) })
+    }
+
+    /// How many events wait, the one that is offered included.
+    pub fn waiting(&mut self) -> usize {
+        let mut count = 0;
+        // SAFETY: the handle is ours alone, and the count is one. It holds a machine, so the call isn't refused.
+        let _ = unsafe { sys::osdp_device_waiting(&mut self.0, &mut count) };
+        count
+    }
+
+    /// The address that the device has now.
+    pub fn address(&mut self) -> u8 {
+        let mut address = 0;
+        // SAFETY: the handle is ours alone, and the address is one. It holds a machine, so the call isn't refused.
+        let _ = unsafe { sys::osdp_device_address(&mut self.0, &mut address) };
+        address as u8
+    }
+
+    /// The command that the next packet will have acted on, where the reader doesn't answer it by itself. None while the device is busy.
+    pub fn pending(&mut self) -> Option<Command> {
+        let mut command = no_message();
+        // SAFETY: the handle is ours alone, and the command is one. It holds a machine, so the call isn't refused.
+        let _ = unsafe { sys::osdp_device_pending(&mut self.0, &mut command) };
+        Command::from_sys(&command)
+    }
+
+    /// Sets what is said to the command before which the last call has stopped (`Order::Pending`), in place of what was set before. It is said once, to
+    /// that command and no other.
+    ///
+    /// # Errors
+    ///
+    /// `NotAsked`: no call has stopped before a command since the last answer. `BadLength`: the list or the bytes are too long.
+    pub fn answer_next(&mut self, answer: DeviceAnswer<'_>) -> Result<(), Error> {
+        let device = &mut self.0;
+        // SAFETY: the handle is ours alone, and each pointer is to as much as the call is told.
+        check(unsafe {
+            match answer {
+                DeviceAnswer::Done => sys::osdp_device_answer_done(device),
+                DeviceAnswer::Local(tamper, power) => {
+                    sys::osdp_device_answer_local(device, tamper.into(), power.into())
+                }
+                DeviceAnswer::List(states) => {
+                    sys::osdp_device_answer_list(device, states.as_ptr(), states.len())
+                }
+                DeviceAnswer::Refused(reason) => {
+                    sys::osdp_device_answer_refused(device, reason.number() as u8)
+                }
+                DeviceAnswer::Maker(vendor, bytes) => sys::osdp_device_answer_maker(
+                    device,
+                    vendor.as_ptr(),
+                    bytes.as_ptr(),
+                    bytes.len(),
+                ),
+            }
+        })
+    }
+
+    /// Takes bytes that have come up to a moment: how many, and what the reader says to the packets that are whole, up to and including
+    /// the first that it answers. Call it again with the others, at the same moment, until all are taken and nothing is said.
+    ///
+    /// ```no_run
+    /// # use osdp::{Answer, Command, Device, Moment, Order};
+    /// # fn write(_: &[u8]) {}
+    /// # fn act(_: &Command) {}
+    /// fn hear(device: &mut Device, mut bytes: &[u8], now: Moment) {
+    ///     loop {
+    ///         let (taken, answer) = device.step(bytes, now);
+    ///         bytes = &bytes[taken..];
+    ///         match answer {
+    ///             Some(answer) => obey(&answer),
+    ///             None if bytes.is_empty() => break,
+    ///             None => {}
+    ///         }
+    ///     }
+    /// }
+    ///
+    /// fn obey(answer: &Answer) {
+    ///     if let Some(burst) = &answer.burst {
+    ///         write(burst);
+    ///     }
+    ///     if let Some(Order::Once(command)) = &answer.order {
+    ///         act(command);
+    ///     }
+    /// }
+    /// ```
+    pub fn step(&mut self, bytes: &[u8], now: Moment) -> (usize, Option<Answer>) {
+        let mut taken = 0;
+        let mut answer = no_answer();
+        // SAFETY: the handle is ours alone, and what is written is apart. It holds a machine, so the call isn't refused.
+        let _ = unsafe {
+            sys::osdp_device_step(
+                &mut self.0,
+                bytes.as_ptr(),
+                bytes.len(),
+                now.as_millis(),
+                &mut taken,
+                &mut answer,
+            )
+        };
+        (taken, answer_of(&answer))
+    }
+
+    /// No bytes have come up to a moment: a run after which the line was silent for the gap is over. Where something is said, call `step` with
+    /// no bytes until nothing is.
+    pub fn tick(&mut self, now: Moment) -> Option<Answer> {
+        let mut answer = no_answer();
+        // SAFETY: the handle is ours alone, and the answer is one. It holds a machine, so the call isn't refused.
+        let _ = unsafe { sys::osdp_device_tick(&mut self.0, now.as_millis(), &mut answer) };
+        answer_of(&answer)
+    }
+
+    /// The line was seen silent: the run is over. Else as `tick`.
+    pub fn silence(&mut self, now: Moment) -> Option<Answer> {
+        let mut answer = no_answer();
+        // SAFETY: the handle is ours alone, and the answer is one. It holds a machine, so the call isn't refused.
+        let _ = unsafe { sys::osdp_device_silence(&mut self.0, now.as_millis(), &mut answer) };
+        answer_of(&answer)
+    }
+}
+
+impl Drop for Device {
+    fn drop(&mut self) {
+        // SAFETY: the handle is ours alone. One that is none is refused, which changes nothing.
+        let _ = unsafe { sys::osdp_device_free(&mut self.0) };
+    }
+}

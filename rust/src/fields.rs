@@ -1,0 +1,294 @@
+//! The fields of commands and replies.
+
+use crate::error::Error;
+use crate::message::RawReply;
+use crate::numbered::numbered;
+use crate::sys;
+use core::fmt;
+use core::mem::zeroed;
+
+pub use crate::sys::{osdp_buzzer as Buzzer, osdp_led as Led, osdp_output as Output};
+
+/// What the display of a reader shows.
+#[derive(Clone, Copy)]
+pub struct Text(sys::osdp_text);
+
+impl Text {
+    /// A text for good, at row 1 and column 1 of the first reader. None where it has more than 255 bytes.
+    pub fn new(characters: &[u8]) -> Option<Text> {
+        let mut text = sys::osdp_text {
+            reader: 0,
+            command: 1,
+            time: 0,
+            row: 1,
+            column: 1,
+            count: u8::try_from(characters.len()).ok()?,
+            characters: [0; 255],
+        };
+        text.characters[..characters.len()].copy_from_slice(characters);
+        Some(Text(text))
+    }
+
+    /// The same for so many seconds.
+    pub fn for_seconds(mut self, seconds: u8) -> Text {
+        self.0.command = 3;
+        self.0.time = seconds;
+        self
+    }
+
+    /// The same at another reader of the device, counted from 0.
+    pub fn at_reader(mut self, reader: u8) -> Text {
+        self.0.reader = reader;
+        self
+    }
+
+    /// The same at another row and column, counted from 1.
+    pub fn at(mut self, row: u8, column: u8) -> Text {
+        (self.0.row, self.0.column) = (row, column);
+        self
+    }
+
+    pub(crate) fn as_sys(&self) -> &sys::osdp_text {
+        &self.0
+    }
+}
+
+numbered! {
+    /// Why a command wasn't done.
+    pub enum NakReason {
+        /// 1: the check characters are wrong.
+        CheckCharacters = OSDP_NAK_CHECK_CHARACTERS,
+        /// 2: the length of the command.
+        CommandLength = OSDP_NAK_COMMAND_LENGTH,
+        /// 3: the command is unknown.
+        UnknownCommand = OSDP_NAK_UNKNOWN_COMMAND,
+        /// 4: the sequence number was not expected.
+        UnexpectedSequence = OSDP_NAK_UNEXPECTED_SEQUENCE,
+        /// 5: the security block is not supported.
+        SecurityBlock = OSDP_NAK_SECURITY_BLOCK,
+        /// 6: the security conditions are not met.
+        SecurityConditions = OSDP_NAK_SECURITY_CONDITIONS,
+        /// 7: the biometric type.
+        BiometricType = OSDP_NAK_BIOMETRIC_TYPE,
+        /// 8: the biometric format.
+        BiometricFormat = OSDP_NAK_BIOMETRIC_FORMAT,
+        /// 9: the command's record can't be processed.
+        RecordNotProcessed = OSDP_NAK_RECORD_NOT_PROCESSED,
+    }
+}
+
+/// A card's bits, as a reader of the device has read them.
+#[derive(Clone, Copy)]
+pub struct Card(sys::osdp_raw);
+
+impl Card {
+    /// A card of so many bits. None where the bytes aren't as many as the bits need, or are more than 1,428.
+    pub fn new(reader: u8, format: u8, bits: u16, bytes: &[u8]) -> Option<Card> {
+        let mut card = sys::osdp_raw {
+            reader,
+            format,
+            bits,
+            length: u16::try_from(bytes.len()).ok()?,
+            bytes: [0; 1428],
+        };
+        if bytes.len() != usize::from(bits).div_ceil(8) {
+            return None;
+        }
+        card.bytes.get_mut(..bytes.len())?.copy_from_slice(bytes);
+        Some(Card(card))
+    }
+
+    /// Which reader of the device has read it, counted from 0.
+    pub fn reader(&self) -> u8 {
+        self.0.reader
+    }
+
+    /// How the bits are to be understood.
+    pub fn format(&self) -> u8 {
+        self.0.format
+    }
+
+    /// How many bits there are.
+    pub fn bits(&self) -> u16 {
+        self.0.bits
+    }
+
+    /// The bits, the first in the highest place of the first byte.
+    pub fn bytes(&self) -> &[u8] {
+        &self.0.bytes[..usize::from(self.0.length)]
+    }
+}
+
+impl PartialEq for Card {
+    fn eq(&self, other: &Card) -> bool {
+        (self.reader(), self.format(), self.bits(), self.bytes())
+            == (other.reader(), other.format(), other.bits(), other.bytes())
+    }
+}
+
+impl Eq for Card {}
+
+impl fmt::Debug for Card {
+    fn fmt(&self, f: &mut fmt::Formatter<'_>) -> fmt::Result {
+        f.debug_struct("Card")
+            .field("reader", &self.reader())
+            .field("format", &self.format())
+            .field("bits", &self.bits())
+            .field("bytes", &self.bytes())
+            .finish()
+    }
+}
+
+/// Bytes of a reply, at most 1,432.
+#[derive(Clone, Copy)]
+pub struct Bytes {
+    length: u16,
+    bytes: [u8; 1432],
+}
+
+impl Bytes {
+    /// These bytes. None where there are more than 1,432.
+    pub fn new(bytes: &[u8]) -> Option<Bytes> {
+        let mut held = Bytes {
+            length: u16::try_from(bytes.len()).ok()?,
+            bytes: [0; 1432],
+        };
+        held.bytes.get_mut(..bytes.len())?.copy_from_slice(bytes);
+        Some(held)
+    }
+}
+
+impl core::ops::Deref for Bytes {
+    type Target = [u8];
+
+    fn deref(&self) -> &[u8] {
+        &self.bytes[..usize::from(self.length)]
+    }
+}
+
+impl PartialEq for Bytes {
+    fn eq(&self, other: &Bytes) -> bool {
+        **self == **other
+    }
+}
+
+impl Eq for Bytes {}
+
+impl fmt::Debug for Bytes {
+    fn fmt(&self, f: &mut fmt::Formatter<'_>) -> fmt::Result {
+        fmt::Debug::fmt(&**self, f)
+    }
+}
+
+/// What a device is.
+#[derive(Clone, Copy, Debug, PartialEq, Eq)]
+pub struct PdId {
+    /// The maker's code.
+    pub vendor: [u8; 3],
+    /// The maker's number of the model.
+    pub model: u8,
+    /// The maker's number of the model's version.
+    pub version: u8,
+    /// The serial number.
+    pub serial: u32,
+    /// The three numbers of the firmware's version.
+    pub firmware: [u8; 3],
+}
+
+/// A reply. Each can be made, so that a program's decisions can be tested without a line.
+#[derive(Clone, Copy, Debug, PartialEq, Eq)]
+#[non_exhaustive]
+#[allow(clippy::large_enum_variant)]
+pub enum Reply {
+    /// Done, or nothing to tell.
+    Ack,
+    /// Not done, and why.
+    Nak(NakReason),
+    /// What the device is.
+    PdId(PdId),
+    /// A byte for each input: 1 where it is active.
+    Inputs(Bytes),
+    /// A byte for each output: 1 where it is on.
+    Outputs(Bytes),
+    /// A card's bits.
+    Raw(Card),
+    /// Pressed keys, at a reader of the device.
+    Keypad(u8, Bytes),
+    /// The address, and the rate in baud, from now on.
+    Com(u8, u32),
+    /// Not taken: to be sent again.
+    Busy,
+    /// Another reply, a NAK for another reason among them.
+    Other(RawReply),
+}
+
+/// The struct of a reply's fields, where a call for C finds them.
+fn read<T>(
+    reply: &RawReply,
+    call: unsafe extern "C" fn(*const sys::osdp_message, *mut T) -> sys::osdp_status,
+) -> Option<T> {
+    // SAFETY: each struct of fields is of numbers and arrays of bytes, so zeros are one; the reply is a message, and the struct is apart.
+    unsafe {
+        let mut fields = zeroed();
+        (call(&reply.0, &mut fields) == sys::OSDP_OK).then_some(fields)
+    }
+}
+
+impl Reply {
+    /// The reply of a code and data.
+    ///
+    /// # Errors
+    ///
+    /// `UnknownCode`, `BadLength`, `BadCount`: they are none.
+    pub fn read(code: u8, data: &[u8]) -> Result<Reply, Error> {
+        RawReply::raw(code, data).map(Reply::from)
+    }
+
+    fn known(reply: &RawReply) -> Option<Reply> {
+        Some(match u32::from(reply.code()) {
+            sys::OSDP_ACK => Reply::Ack,
+            sys::OSDP_BUSY => Reply::Busy,
+            sys::OSDP_NAK => {
+                let nak = read(reply, sys::osdp_nak_of)?;
+                match nak.length {
+                    0 => Reply::Nak(NakReason::of(nak.reason.into())?),
+                    _ => return None,
+                }
+            }
+            sys::OSDP_PDID => {
+                let id = read(reply, sys::osdp_pd_id_of)?;
+                Reply::PdId(PdId {
+                    vendor: id.vendor,
+                    model: id.model,
+                    version: id.version,
+                    serial: id.serial,
+                    firmware: [id.firmware_major, id.firmware_minor, id.firmware_build],
+                })
+            }
+            sys::OSDP_ISTATR => Reply::Inputs(Bytes::new(reply.data())?),
+            sys::OSDP_OSTATR => Reply::Outputs(Bytes::new(reply.data())?),
+            sys::OSDP_RAW => Reply::Raw(Card(read(reply, sys::osdp_raw_of)?)),
+            sys::OSDP_KEYPAD => {
+                let keys = read(reply, sys::osdp_keypad_of)?;
+                Reply::Keypad(keys.reader, Bytes::new(&keys.digits[..keys.count.into()])?)
+            }
+            sys::OSDP_COM => match reply.data() {
+                [address, rate @ ..] => {
+                    Reply::Com(*address, u32::from_le_bytes(rate.try_into().ok()?))
+                }
+                [] => return None,
+            },
+            _ => return None,
+        })
+    }
+
+    pub(crate) fn from_sys(message: &sys::osdp_message) -> Option<Reply> {
+        RawReply::from_sys(message).map(Reply::from)
+    }
+}
+
+impl From<RawReply> for Reply {
+    fn from(reply: RawReply) -> Reply {
+        Reply::known(&reply).unwrap_or(Reply::Other(reply))
+    }
+}
