@@ -28,6 +28,7 @@ const EXCHANGES: &str = "\
 53050C00016A000205050124 538507000140E0
 53050E00026B00010001010141E8 53850800024109D4
 53050A00038053494D32 53850800034109D3
+53051500016900000000000000000000050501001E 538507000140E0
 ";
 
 /// The command of these digits is answered so.
@@ -65,7 +66,7 @@ pub fn new_door(rt: &impl Abort, alloc: Global) -> Reader<Door> {
     made.ok().expect(rt, "a reader")
 }
 
-/// The last output is on, the LED is green, and the buzzer sounds.
+/// The last output is on, the LED is green, since no later record has set its permanent color, and the buzzer sounds.
 fn is_green_and_sounds(rt: &impl Abort, door: &Door) {
     assert!(rt; door.outputs[7].is_on() && !door.outputs[3].is_on());
     assert!(rt; door.color == 2 && door.sounds);
