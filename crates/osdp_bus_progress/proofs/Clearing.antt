@@ -30,6 +30,7 @@ use Rattle.osdp_sim_laws.proofs.Clearing.{losses_within}
 use Rattle.osdp_sim_laws.specs.OneLink.{ReadsPackets}
 use Rattle.osdp_sim_bus_laws.specs.Moves.{SchedulesAreMoves}
 use Rattle.osdp_bus_progress.specs.Progress.{EachComesOn, EachComesThrough, EachRecovers, IsClear, IsReady, NoneMoves, all_ready, clear}
+use Rattle.osdp_bus_progress.specs.Resting.{ClearsTheLine}
 use Rattle.osdp_bus_progress.proofs.Bursts.{AtMost, as_many_as_steps}
 use Rattle.osdp_bus_progress.proofs.Round.{LinkLaws}
 
@@ -212,26 +213,34 @@ module _ {H : Type 0} (answer_of : H → Command → Answer) (after : H → Comm
         same = told_same;
       })
 
-  pub each_recovers : EachComesThrough answer_of after → ReadsPackets → SchedulesAreMoves answer_of after → LinkLaws answer_of after
-      → TellsAtOnce answer_of after → HasAnAccountEach answer_of after → EachRecovers answer_of after
-  each_recovers comes reads schedules laws tells counts config readers steps m wait is within long moves =
+  pub clears_the_line : ReadsPackets → SchedulesAreMoves answer_of after → LinkLaws answer_of after → TellsAtOnce answer_of after
+      → HasAnAccountEach answer_of after → ClearsTheLine answer_of after
+  clears_the_line reads schedules laws tells counts config readers steps is moves =
       let start = set_up config readers in
       let lost = clear (length readers) steps in
-      let all_steps = steps ++ lost in
       let before = simulation.run answer_of after steps start in
-      let mid = simulation.run answer_of after all_steps start in
       let waits = no_report before.bus.devices.report (tells config readers steps) in
       let places : length before.sites ≡ length readers =
       sym (length-map before.sites (λ (site : Site H). site.account)) ∙ counts config readers steps in
-      let well = well_on (after_step answer_of after) fault_of all_steps (rounds m wait) start is.well in
-      let fits = holds_on (after_step answer_of after) (StepFits answer_of after) all_steps (rounds m wait) start is.fits in
       let few = as_many_as_steps answer_of after schedules reads laws config readers is.settings steps
-      (well_on (after_step answer_of after) fault_of steps lost start well.0).0
-      (holds_on (after_step answer_of after) (StepFits answer_of after) steps lost start fits.0).0 in
-      let over : IsCleared before mid =
+      (well_on (after_step answer_of after) fault_of steps lost start is.well).0
+      (holds_on (after_step answer_of after) (StepFits answer_of after) steps lost start is.fits).0 in
+      let over : IsCleared before (simulation.run answer_of after (steps ++ lost) start) =
       subst (λ (t : LineState H). IsCleared before t) (sym (runs_on (after_step answer_of after) steps lost start))
       (cleared reads.none before (length readers) steps waits places few moves) in
+      (over.line, over.same)
+
+  pub each_recovers : EachComesThrough answer_of after → ClearsTheLine answer_of after → EachRecovers answer_of after
+  each_recovers comes clears config readers steps m wait is within long moves =
+      let start = set_up config readers in
+      let lost = clear (length readers) steps in
+      let all_steps = steps ++ lost in
+      let over = clears config readers steps (record {
+        settings = is.settings;
+        well = (well_on (after_step answer_of after) fault_of all_steps (rounds m wait) start is.well).0;
+        fits = (holds_on (after_step answer_of after) (StepFits answer_of after) all_steps (rounds m wait) start is.fits).0;
+      }) moves in
       let session = All-append IsInSession steps lost within (in_session (length readers) steps) in
-      let through = comes config readers all_steps m wait is session long over.line in
+      let through = comes config readers all_steps m wait is session long over.0 in
       subst (λ (l : List Account). EachComesOn m (length readers) l (accounts (simulation.run answer_of after (all_steps ++ rounds m wait) start)))
-      over.same through
+      over.1 through

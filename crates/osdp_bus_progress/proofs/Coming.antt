@@ -55,6 +55,7 @@ use Rattle.osdp_sim_bus_laws.proofs.OneSession.{HasOne, none_earlier, one_first,
 use Rattle.osdp_sim_bus_laws.proofs.Scheduling.{moves_more}
 use Rattle.osdp_sim_bus_laws.proofs.Sites.{get_site, same_count}
 use Rattle.osdp_bus_progress.specs.Progress.{ComesOn, EachComesThrough, IsClear, IsReady, IsRun}
+use Rattle.osdp_bus_progress.specs.Resting.{EachRoundRests, IsAtRest}
 use Rattle.osdp_bus_progress.proofs.Along.{first_at, run_at_all}
 use Rattle.osdp_bus_progress.proofs.Bursts.{at_each}
 use Rattle.osdp_bus_progress.proofs.Ends.{NoEnd, lasts_there, none_before_rounds}
@@ -360,6 +361,37 @@ module _ {H : Type 0} (answer_of : H → Command → Answer) (after : H → Comm
                 (subst (λ (x : Link H). progress.ComeOn has.moments (link.run answer_of after ms old).account x.account) (sym then_) on) in
                 omega (arith, counted_on, enough, u_long.settled, u_long.reported, v_long.settled, v_long.reported, v_long.issued, v_long.queued, ap length kept))
           ]))
+
+      -- the last round ends at rest, where this reader's session lasts
+      rests : (k : ℕ) (v : Site H) → slice_get later.sites k ≡ Some v → v.account.ends ≡ [] → k < length readers → 1 ≤ m → IsAtRest later
+      rests k v there none few some =
+          let no_end : NoEnd k later = λ w here. subst (λ (x : Site H). x.account.ends ≡ []) (some_same v w (sym there ∙ here)) none in
+          let total = sites_count in
+          let t = sited k n.sites (omega (arith, few, total)) in
+          let has = its_rounds k t.0 t.1 no_end in
+          let last = has.seen_then.site in
+          let last_net = run answer_of after (round_moves m) n in
+          let last_follows = goes m (omega arith) in
+          let said : last_follows.said ≡ [] =
+          sym (at_each (λ (u : line.Site H). u.coming ≡ last_follows.said) k last last_net.sites last_follows.coming has.seen_then.there)
+          ∙ has.empty.coming k last has.seen_then.there in
+          record {
+            to_readers = last_follows.to_readers ∙ ap (λ l. map spelling (packets_on l)) said;
+            to_bus = last_follows.to_bus ∙ ap (λ l. map spelling (packets_on l)) has.empty.to_panel;
+            free = has.free some;
+          }
+
+    pub each_round_rests : EachRoundRests answer_of after
+    each_round_rests config readers steps m wait is within long clear k a there none =
+        let start = set_up config readers in
+        let all = steps ++ rounds (suc m) wait in
+        let many : length (accounts (simulation.run answer_of after all start)) ≡ length readers = counts config readers all in
+        let few = get_within k a (accounts (simulation.run answer_of after all start)) there in
+        let ended = runs_on (after_step answer_of after) steps (rounds (suc m) wait) start in
+        let later = simulation.run answer_of after (rounds (suc m) wait) (simulation.run answer_of after steps start) in
+        let v = unmapped (λ (site : Site H). site.account) k a later.sites (subst (λ (w : LineState H). slice_get (accounts w) k ≡ Some a) ended there) in
+        subst IsAtRest (sym ended)
+        (rests config readers steps (suc m) wait is within long clear k v.0 v.1 (ap (λ (b : Account). b.ends) v.2 ∙ none) (omega (arith, few, many)) (omega arith))
 
     pub each_comes_through : EachComesThrough answer_of after
     each_comes_through config readers steps m wait is within long clear k old new at there none =

@@ -166,6 +166,7 @@ module _ {H : Type 0} (answer_of : H → Command → Answer) (after : H → Comm
       pub rest : AtRest count wait k next (after_round wait s) (round_net count at now n)
       pub late : (t : line.Site H) → site_at k n.sites ≡ Some t
           → later_by (longest_wait t.controller.session.config) t.controller.session ≤ now
+      pub free : holder (after_round wait s).bus ≡ None
 
     module _ (m entry : ℕ) (s : LineState H) (n : Net H) (h : AtRest count wait k entry s n)
         (goes : FollowsSites (after_round wait s) (run answer_of after (moves_of answer_of after (rounds 1 wait) s) n))
@@ -415,4 +416,5 @@ module _ {H : Type 0} (answer_of : H → Command → Answer) (after : H → Comm
               );
             };
             late = late_all k;
+            free = nobody_holds s3.bus free_after;
           }

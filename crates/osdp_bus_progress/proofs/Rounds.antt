@@ -1,9 +1,10 @@
 -- Rounds of a bus: each is an exchange of one entry, and the turn goes around those whose sessions last.
-use Rattle.std.proofs.Common.{◌≡◌, ◌≤◌, ◌<◌, ◌+◌, ◌-◌, ℕ, zero, suc, cond, List, [], ◌∷◌, length, Some, refl, sym, subst, ap, ◌∙◌, inl, inr, arith}
+use Rattle.std.proofs.Common.{◌≡◌, ◌≤◌, ◌<◌, ◌+◌, ◌-◌, ℕ, zero, suc, cond, List, [], ◌∷◌, length, Some, None, refl, sym, subst, ap, ◌∙◌, inl, inr, arith}
 use Rattle.std.proofs.lemmas.Bool.Decides.{eqb_tells}
 use Rattle.osdp_msg.specs.declared.command.Command.{Command}
 use Rattle.osdp_controller_laws.specs.Calls.{ComesDue, StaysInRange}
 use Rattle.osdp_reader.specs.declared.handler.Answer.{Answer}
+use Rattle.osdp_bus.specs.Buses.{holder}
 use Rattle.osdp_link_laws.specs.Headline.{MovesFit}
 use Rattle.osdp_link_laws.specs.Link as link
 use Rattle.osdp_link_laws.specs.Link.{Delivered, Link}
@@ -12,7 +13,7 @@ use Rattle.osdp_link_laws.proofs.Numbers.{is_false, is_true}
 use Rattle.osdp_shared_line.specs.Addresses.{NetMovesFit}
 use Rattle.osdp_shared_line.specs.Line as line
 use Rattle.osdp_shared_line.specs.Line.{Net, NetMove, Tick, ToPanel, address_of, run, site_at}
-use Rattle.osdp_shared_line.specs.Progress.{net_round}
+use Rattle.osdp_shared_line.specs.Progress.{IsEmpty, net_round}
 use Rattle.osdp_shared_line.specs.Views.{view}
 use Rattle.osdp_shared_line.proofs.Reading.{IsSeen}
 use Rattle.osdp_shared_line.proofs.Rounds.{IsRound}
@@ -48,6 +49,14 @@ module _ {H : Type 0} (answer_of : H → Command → Answer) (after : H → Comm
       pub fits : MovesFit answer_of after (progress.rounds moments) (view k t n)
       pub late : progress.AreLate answer_of after moments (view k t n)
       pub enough : (turns : ℕ) → all_turns turns count + away ≤ m + (count - 1) → turns ≤ length moments
+      pub empty : IsEmpty (Later m s n)
+      pub free : 1 ≤ m → holder (simulation.run answer_of after (rounds m wait) s).bus ≡ None
+
+    -- nobody holds the line after the last round, if that is the first
+    free_on : (m : ℕ) (s : LineState H) → holder s.bus ≡ None → (1 ≤ m → holder (simulation.run answer_of after (rounds m wait) s).bus ≡ None)
+        → holder (simulation.run answer_of after (rounds m wait) s).bus ≡ None
+    free_on zero s here later = here
+    free_on (suc m) s here later = later (omega arith)
 
     no_turn : (turns away : ℕ) → 0 < count → all_turns turns count + away ≤ 0 + (count - 1) → turns ≤ 0
     no_turn zero away some few = omega arith
@@ -92,6 +101,8 @@ module _ {H : Type 0} (answer_of : H → Command → Answer) (after : H → Comm
             fits = (first.0, (first.1.0, (first.1.1.0, subst (MovesFit answer_of after (progress.rounds more.moments)) through more.fits)));
             late = (it.late t there, subst (progress.AreLate answer_of after more.moments) through more.late);
             enough = λ turns few. own_turn turns m (length more.moments) away some more.enough few;
+            empty = subst IsEmpty (sym goes_on) more.empty;
+            free = λ some. free_on m (after_round answer_of after laws wait s) it.free more.free;
           }
 
       -- a turn of another that comes before it: one less
@@ -110,6 +121,8 @@ module _ {H : Type 0} (answer_of : H → Command → Answer) (after : H → Comm
             fits = subst (MovesFit answer_of after (progress.rounds more.moments)) stays more.fits;
             late = subst (progress.AreLate answer_of after more.moments) stays more.late;
             enough = λ turns few. more.enough turns (omega (arith, few, some));
+            empty = subst IsEmpty (sym goes_on) more.empty;
+            free = λ some. free_on m (after_round answer_of after laws wait s) it.free more.free;
           }
 
     -- what is left after this round
@@ -138,6 +151,8 @@ module _ {H : Type 0} (answer_of : H → Command → Answer) (after : H → Comm
       fits = tt;
       late = tt;
       enough = λ turns few. no_turn turns away (let below = h.below in omega (arith, below)) few;
+      empty = h.empty;
+      free = λ some. absurd (omega (arith, some));
     }
     all_rounds (suc m) entry away s n h goes fits lasts t at is =
         let it = next_round answer_of after laws ranges comes count wait k m entry s n h (goes 1 (omega arith)) fits (none_before_rounds answer_of after k m wait _ lasts) in

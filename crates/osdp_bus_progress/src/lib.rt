@@ -3,6 +3,7 @@
 #![tactic(auto)]
 
 ghost use Rattle.osdp_bus_progress.specs.Progress.{EachAnswerRecovers, EachComesThrough, EachRecovers};
+ghost use Rattle.osdp_bus_progress.specs.Resting.{ClearsTheLine, EachRoundRests};
 
 use osdp_reader::Handler;
 
@@ -14,6 +15,26 @@ pub fn each_comes_through<H: Handler>()
 {
     osdp_sim_bus_laws::schedules_are_moves::<H>();
     osdp_sim_bus::laws::has_an_account_each::<H>();
+    osdp_shared_line::each_is_a_link::<H>();
+    osdp_shared_line::promises::each_has_sessions_in_a_row::<H>();
+    osdp_link_laws::reads_what_is_asked();
+    osdp_link_laws::comes_through::<H>();
+    osdp_link_laws::stay_where_they_are::<H>();
+    osdp_controller_laws::stays_in_range();
+    osdp_controller_laws::ticks_come_due();
+}
+
+/// Between the clearing of a line and the rounds after it, and between these. Where no COMSET to a device's address was issued: once every reader has been
+/// set ready and, for each of the steps, a burst has been lost in each direction, nothing is on the line, and no account has changed. After steps that
+/// leave nothing on the line, as `each_comes_through` asks, each round that loses nothing ends with no burst on the line and no exchange outstanding,
+/// where some reader's session has not ended.
+pub fn rests_between_rounds<H: Handler>()
+    ensures cleared { ClearsTheLine H.answer_of H.after }
+    ensures rest { EachRoundRests H.answer_of H.after }
+{
+    osdp_sim_bus_laws::schedules_are_moves::<H>();
+    osdp_sim_bus::laws::has_an_account_each::<H>();
+    osdp_sim_bus::laws::tells_at_once::<H>();
     osdp_shared_line::each_is_a_link::<H>();
     osdp_shared_line::promises::each_has_sessions_in_a_row::<H>();
     osdp_link_laws::reads_what_is_asked();
@@ -35,10 +56,7 @@ pub fn each_recovers<H: Handler>()
     ensures answer { EachAnswerRecovers H.answer_of H.after }
 {
     each_comes_through::<H>();
-    osdp_sim_bus_laws::schedules_are_moves::<H>();
+    rests_between_rounds::<H>();
     osdp_sim_bus_laws::each_account_holds_once::<H>();
-    osdp_link_laws::reads_what_is_asked();
-    osdp_link_laws::comes_through::<H>();
-    osdp_sim_bus::laws::tells_at_once::<H>();
     osdp_sim_bus::laws::has_an_account_each::<H>();
 }

@@ -1,21 +1,17 @@
 -- A line that is cleared, and rounds after it: the laws of progress, at these numbers.
-use Rattle.std.proofs.Common.{◌≡◌, ◌∙◌, ◌≤◌, ◌<◌, ◌+◌, ap, subst, sym, ℕ, zero, suc, All, List, [], ◌∷◌, ◌++◌, length, Some, Ok, refl, arith}
+use Rattle.std.proofs.Common.{◌≡◌, ◌∙◌, ap, subst, sym, All, List, [], ◌∷◌, ◌++◌, length, Some, Ok, refl, arith}
 use Rattle.std.proofs.lemmas.List.Elements.{All-cons, All-nil}
-use Rattle.std.specs.Global.{Vec}
 use Rattle.std.specs.Prelude.{slice_get}
 use Rattle.osdp_bus_progress.specs.Progress as buses
 use Rattle.osdp_bus_progress.specs.Progress.{EachAnswerRecovers, HasItsShare}
 use Rattle.osdp_link_laws.specs.OneHandler.{with_answers}
 use Rattle.osdp_link_laws.specs.Progress.{SetsNoAddress}
-use Rattle.osdp_msg.specs.declared.command.Command.{Command}
 use Rattle.osdp_script_reader.specs.Handler.{handler_after, handler_answer, new_handler}
 use Rattle.osdp_script_reader.specs.Identity.{script_config}
 use Rattle.osdp_script_reader.specs.declared.handler.ScriptReader.{ScriptReader}
 use Rattle.osdp_sim.specs.Account.{Account, lists_of}
 use Rattle.osdp_sim.specs.Rounds.{rounds}
-use Rattle.osdp_sim.specs.declared.account.Account as declared
 use Rattle.osdp_sim.specs.declared.step.Move.TheVariants.{Drop}
-use Rattle.osdp_sim.specs.declared.step.SimStep.{SimStep}
 use Rattle.osdp_sim.specs.declared.step.SimStep.TheVariants.{Issue, Queue, ToReader, Wait}
 use Rattle.osdp_sim_bus.specs.Laws.{HasAnAccountEach}
 use Rattle.osdp_sim_bus.specs.Runs.{lists_of_all}
@@ -24,7 +20,7 @@ use Rattle.osdp_sim_bus_laws.specs.Accepted.{EachAccepts, IsNoComset}
 use Rattle.osdp_sim_laws.specs.Accepted.{AcceptsByRoom}
 use Rattle.osdp_sim_laws.specs.Accounts.{IsInSession}
 use Rattle.osdp_sim_laws.specs.Progress.{AnswerRecovers, clear}
-use Rattle.osdp_row_laws.specs.Recovering.{FourRoundsBringThree, IsOfFirst, IsOfSecond, SixRoundsBringThreeOfTwo, both_lost, bus, one_lost, readers}
+use Rattle.osdp_row_laws.specs.Recovering.{FourRoundsBringThree, SixRoundsBringThreeOfTwo, both_lost, bus, one_lost, readers}
 use Rattle.osdp_row_laws.specs.Rounds.{buz, config, first_key, out}
 use Rattle.osdp_row_laws.proofs.Rounds.{no_moves}
 

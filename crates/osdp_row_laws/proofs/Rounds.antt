@@ -1,5 +1,5 @@
 -- Three rounds: the exact law of clean schedules, at these numbers.
-use Rattle.std.proofs.Common.{◌≡◌, ◌∙◌, ap, subst, sym, ℕ, ◌-◌, ◌≤◌, All, List, [], ◌∷◌, ◌++◌, length, take, Ok, refl, arith}
+use Rattle.std.proofs.Common.{◌≡◌, ◌∙◌, ap, subst, sym, ℕ, ◌-◌, All, List, [], ◌∷◌, ◌++◌, length, take, Ok, refl, arith}
 use Rattle.std.proofs.lemmas.List.Elements.{All-cons, All-nil}
 use Rattle.osdp_controller.specs.Settings.{IsConfig}
 use Rattle.osdp_link_laws.specs.OneHandler.{with_answers}
@@ -10,12 +10,10 @@ use Rattle.osdp_script_reader.specs.Handler.{handler_after, handler_answer, new_
 use Rattle.osdp_sim.specs.Account.{lists_of}
 use Rattle.osdp_sim.specs.Rounds.{clean}
 use Rattle.osdp_sim.specs.Runs.{AreSettings}
-use Rattle.osdp_sim.specs.declared.account.Account as declared
 use Rattle.osdp_sim_laws.specs.Accepted.{AcceptsByRoom, IsAcceptedByRoom}
-use Rattle.osdp_sim_laws.specs.Accounts.{IsAnswer}
 use Rattle.osdp_sim.specs.declared.step.SimStep.TheVariants.{Issue, Queue}
 use Rattle.osdp_sim_laws.specs.Clean.{GoesInTurn, IsInTurn, IsOrder}
-use Rattle.osdp_row_laws.specs.Rounds.{IsTheRow, ThreeRoundsSettleTwoAndReportOne, buz, config, first_key, orders, out, second_key}
+use Rattle.osdp_row_laws.specs.Rounds.{ThreeRoundsSettleTwoAndReportOne, buz, config, first_key, orders, out, second_key}
 
 is_config : IsConfig config.controller
 is_config = record {

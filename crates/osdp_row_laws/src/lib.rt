@@ -7,6 +7,7 @@
 
 ghost use Rattle.osdp_row_laws.specs.Recovering.{FourRoundsBringThree, SixRoundsBringThreeOfTwo};
 ghost use Rattle.osdp_row_laws.specs.Rounds.{ThreeRoundsSettleTwoAndReportOne};
+ghost use Rattle.osdp_row_laws.specs.Taken.{OfTwoTakenOneIsSettled};
 
 use osdp_script_reader::ScriptReader;
 
@@ -36,4 +37,12 @@ pub fn six_rounds_bring_three_of_two()
     osdp_sim_bus_laws::each_accepts_by_room::<ScriptReader>();
     osdp_bus_progress::each_recovers::<ScriptReader>();
     osdp_sim_bus::laws::has_an_account_each::<ScriptReader>();
+}
+
+/// Whatever is lost in one session of a reader at 5: where an OUT and then a BUZ were taken, the OUT was settled by ACK. So one taken command at most
+/// isn't settled.
+pub fn of_two_taken_one_is_settled()
+    ensures { OfTwoTakenOneIsSettled }
+{
+    osdp_sim_laws::schedule_holds_once::<ScriptReader>();
 }

@@ -4,9 +4,7 @@ use Rattle.osdp_bus_progress.proofs.each_recovers.Goals as goal
 
 pub returns-clause-state : goal.returns-clause-state
 returns-clause-state g c =
-    each_recovers g.H.Handler.answer_of g.H.Handler.after c.each_comes_through.ensures c.schedules_are_moves.ensures.bus.reads
-    c.schedules_are_moves.ensures.schedules (record { known = c.reads_what_is_asked.ensures; rests = c.comes_through.ensures.rest })
-    c.tells_at_once.ensures c.has_an_account_each.ensures
+    each_recovers g.H.Handler.answer_of g.H.Handler.after c.each_comes_through.ensures c.rests_between_rounds.ensures.cleared
 
 pub returns-clause-answer : goal.returns-clause-answer
 returns-clause-answer g c =
