@@ -40,19 +40,19 @@ def tell(line):
         stop("standard output can't be written")
 
 
-def take_words(usage, least):
-    """The file of `--trace`, if it is named, and the other words. `--help` prints the usage. Ctrl-C ends the example without a word."""
+def take_words(usage, least, options=("--trace",)):
+    """The files that options name, by the options, and the other words. `--help` prints the usage. Ctrl-C ends the example without a word."""
     for number in STOPS:
         signal.signal(number, lambda number, _: sys.exit(128 + number))
-    words, trace = sys.argv[1:], None
+    words, files = sys.argv[1:], {}
     if words in (["--help"], ["-h"]):
         tell(usage.strip())
         raise SystemExit(0)
-    if words[:1] == ["--trace"]:
-        trace, words = words[1:2], words[2:]
-    if trace == [] or len(words) < least or words[0].startswith("-"):
+    while len(words) > 1 and words[0] in options:
+        files[words[0]], words = words[1], words[2:]
+    if len(words) < least or words[0].startswith("-"):
         stop("bad words: --help tells the right ones", BAD_WORDS)
-    return trace and trace[0], words
+    return files, words
 
 
 def number(word, what):

@@ -161,8 +161,8 @@ class Panel:
 
 
 if __name__ == "__main__":
-    trace, (path, rate, addresses, *settings) = take_words(__doc__, 3)
+    files, (path, rate, addresses, *settings) = take_words(__doc__, 3)
     rate, addresses = number(rate, "rate"), [number(address, "address") for address in addresses.split(",")]
-    panel = Panel(Port(path, rate, trace), rate, addresses, Program("panel", settings))
+    panel = Panel(Port(path, rate, files.get("--trace")), rate, addresses, Program("panel", settings))
     while True:
         panel.turn()

@@ -17,8 +17,10 @@ from pathlib import Path
 from terminals import Script, Terminal, commands, packet
 
 TOP = Path(__file__).resolve().parent.parent
-PANEL = "poll-interval 20 reply-wait 300 sends 2 quiet-wait 60 check sum".split()
-READER = "vendor 53494D model 1".split()
+# waits and gaps that a busy machine doesn't reach; and after how many seconds that which is waited for has failed to come
+PANEL = "poll-interval 20 reply-wait 1000 sends 2 quiet-wait 60 gap 300 check sum".split()
+READER = "vendor 53494D model 1 gap 300".split()
+LIMIT = 60.0
 ID, POLL, COMSET = 0x61, 0x60, 0x6E
 ACK, NAK, PDID, COM = 0x40, 0x41, 0x45, 0x54
 IDENTITY = bytes.fromhex("53494D010101000000010000")
@@ -73,7 +75,7 @@ class Line:
                 for other in others:
                     os.write(other.end, burst[5:])
 
-    def run(self, until, seconds=8.0):
+    def run(self, until, seconds=LIMIT):
         """Carries bursts until something holds. Whether it has come to hold."""
         end = time.monotonic() + seconds
         while not until() and time.monotonic() < end:
@@ -128,7 +130,7 @@ def stale_orders(words):
         asks(line.run(has(panel, *told)), "stale: the orders that waited aren't taken back")
         asks(panel.lines[-3:] == told, f"stale: after the loss {panel.lines[-3:]}")
         panel.say("1 OUT 0:2:5")
-        asks(line.run(has(panel, "not taken 1 OUT 0:2:5"), 2), "stale: an order for a lost session isn't refused")
+        asks(line.run(has(panel, "not taken 1 OUT 0:2:5")), "stale: an order for a lost session isn't refused")
         line.loses = lambda way, burst: False
         asks(line.run(opened(panel, 1, 2)), "stale: the session doesn't open again")
         line.rests(0.5)
@@ -187,7 +189,7 @@ def lost_comset(words, what, loses, settles):
         panel.say("1 COMSET 7 19200")
         asks(line.run(lambda: any(each == "lost 1 no-reply COMSET 7 19200" for each in panel.lines)), f"{what}: the COMSET isn't told lost")
         line.loses = lambda way, burst: False
-        asks(line.run(opened(panel, 1, 2), 12), f"{what}: the reader isn't found again")
+        asks(line.run(opened(panel, 1, 2)), f"{what}: the reader isn't found again")
         tried = [burst[1] for way, burst in line.bursts if way == "out" and burst[5] == ID]
         asks(tried[-1] == settles[0] and 7 in tried, f"{what}: the addresses tried are {tried}")
         asks([each for each in panel.lines if each.startswith("rate ")] == settles[1], f"{what}: the rates told are others")
@@ -216,6 +218,46 @@ def lost_address(words):
         asks(line.run(has(readers[0], "taken OUT 0:2:0")), "address: the reader takes no order")
 
 
+def kept_place(words):
+    """A reader that keeps its place in a file is found again after it was cut off: at the address and the rate of a COMSET, whatever its words say."""
+    with tempfile.TemporaryDirectory() as folder, Line(words) as line:
+        kept = Path(folder) / "place"
+        panel, reader = line.panel("5"), line.reader(0, 5, options=["--keep", kept])
+        asks(line.run(opened(panel, 1)), "kept: the session doesn't open")
+        asks(not kept.exists(), "kept: a place was written before the reader has moved")
+        panel.say("1 COMSET 7 19200")
+        asks(line.run(opened(panel, 1, 2)), "kept: the session doesn't open at the new place")
+        asks(kept.read_text() == "7 19200\n" and list(kept.parent.iterdir()) == [kept], f"kept: the file has {kept.read_text()!r}, or isn't alone")
+        reader.process.kill()
+        reader.process.wait()
+        asks(line.run(lambda: any(each.startswith("lost 1") for each in panel.lines)), "kept: the reader isn't lost")
+        again = line.reader(0, 5, options=["--keep", kept])
+        asks(line.run(opened(panel, 1, 3)), "kept: the reader that starts again isn't found")
+        panel.say("1 OUT 0:2:0")
+        asks(line.run(has(again, "taken OUT 0:2:0")), "kept: the reader takes no order")
+        line.loses = lambda way, burst: burst[5] == COM  # the COM is lost: the place was kept before it was sent
+        panel.say("1 COMSET 8 9600")
+        asks(line.run(lambda: any(burst[5] == COM and burst[1] == 0x87 for _, burst in line.bursts)), "kept: the second COMSET isn't answered")
+        asks(kept.read_text() == "8 9600\n", f"kept: as the COM goes out the file has {kept.read_text()!r}")
+
+
+def no_place_kept(words):
+    """A reader whose place can't be kept says so and goes on. One whose file keeps something else doesn't start."""
+    reader, program = words[1]
+    with tempfile.TemporaryDirectory() as folder, Line(words) as line:
+        gone = line.reader(0, 5, options=["--keep", f"{folder}/gone/place"])
+        end = line.reader_ends[0]
+        for number, code, data, reply in ((0, ID, b"\0", PDID), (1, COMSET, com(7, 9600), COM)):
+            os.write(end.end, packet(5, number, code, data))
+            asks(end.next_burst()[5:6] == bytes([reply]), f"not kept: the reply to {code:02X} is another one")
+        asks(line.run(has(gone, "moved 7 9600")) and "not kept 7 9600" in gone.lines, f"not kept: the reader tells {gone.lines}")
+        paths = [f"{folder}/{at}" for at in range(4)]
+        for path, text in zip(paths, ("", "7\n", "7 x\n", "7 9600 1\n")):
+            Path(path).write_text(text)
+        rows = [([*reader, "--keep", path, end.path, 9600, *program], 3, rf"the kept place can't be read: {path}\n") for path in [*paths, folder]]
+        ends(rows)
+
+
 def com(address, rate):
     return bytes([address]) + rate.to_bytes(4, "little")
 
@@ -237,7 +279,7 @@ class Device:
             time.sleep(0.002)
             os.write(self.terminal.end, whole[4:])
 
-    def until(self, script, holds, seconds=5.0):
+    def until(self, script, holds, seconds=LIMIT):
         end = time.monotonic() + seconds
         while not holds() and time.monotonic() < end:
             self.answer()
@@ -276,9 +318,9 @@ def refused_rate(words):
         told = ["moved 1 COMSET 9 19200 = COM 9 19200", "settled 2 COMSET 6 19200 = NAK 9"]
         asks(device.until(panel, has(panel, *told)), "refusing: the COMSETs aren't told")
         device.asked.clear()
-        device.until(panel, lambda: False, 1.5)
-        asks("out of reach 1 at 19200" in panel.lines, "refusing: the moved reader isn't told out of reach")
-        asks(set(device.asked) == {6} and len(device.asked) > 10, f"refusing: asked are {set(device.asked)}")
+        out = has(panel, "out of reach 1 at 19200")
+        asks(device.until(panel, lambda: out() and len(device.asked) > 10), "refusing: the moved reader isn't told out of reach, or the other isn't asked on")
+        asks(set(device.asked) == {6}, f"refusing: asked are {set(device.asked)}")
         asks(not any(each.startswith(("rate ", "lost 2")) for each in panel.lines), "refusing: the other session or the rate didn't stay")
 
 
@@ -289,7 +331,7 @@ def refused_order(words):
         for number, code, data, reply in ((0, ID, b"\0", PDID), (1, 0x68, bytes([9, 2, 0, 0]), NAK), (2, 0x68, bytes([7, 2, 0, 0]), ACK)):
             os.write(end.end, packet(5, number, code, data))
             asks(end.next_burst()[5:6] == bytes([reply]), f"refused: the reply to {code:02X} is another one")
-        line.run(has(reader, "taken OUT 7:2:0"), 2)
+        line.run(has(reader, "taken OUT 7:2:0"))
         asks(reader.lines == ["again ID 0", "refused OUT 9:2:0", "taken OUT 7:2:0"], f"refused: the reader tells {reader.lines}")
 
 
@@ -342,7 +384,6 @@ def traces(words, osdp):
             Path(path).write_text("# kept\n")
         reader = line.reader(0, 5, options=["--trace", paths[1]])
         line.run(lambda: line.reader_ends[0].rate == termios.B9600)
-        line.rests(0.3)
         line.cuts = True
         panel = line.panel("5", options=["--trace", paths[0]])
         line.run(opened(panel, 1))
@@ -350,7 +391,7 @@ def traces(words, osdp):
         asks(line.run(has(panel, "settled 1 OUT 0:2:0 = ACK")), "trace: an order isn't done")
         for script in (panel, reader):
             script.process.send_signal(signal.SIGINT)
-        line.rests(0.3)
+        line.run(lambda: panel.process.poll() is not None and reader.process.poll() is not None)
         went = [(way, burst.hex().upper()) for way, burst in line.bursts]
         for path, wanted in zip(paths, (went, [({"out": "in", "in": "out"}[way], burst) for way, burst in went])):
             shown = judge_trace(path, osdp, wanted)
@@ -364,7 +405,7 @@ def ends(rows):
     scripts = [Script(*words, stdin=subprocess.DEVNULL, stderr=subprocess.PIPE) for words, _, _ in rows]
     for script, (words, status, said) in zip(scripts, rows):
         try:
-            found = script.process.wait(timeout=20)
+            found = script.process.wait(timeout=2 * LIMIT)
         except subprocess.TimeoutExpired:
             script.process.kill()
             found = script.process.wait()
@@ -395,6 +436,7 @@ def wrong_words(words, is_python):
         (panel, [nowhere, 9600, 5], 3, r"the port can't be opened: No such file or directory\n"), (panel, ["/dev/null", 9600, 5], 3, r"the port is no serial port\n"),
         (panel, ["--trace", nowhere, port, 9600, 5], 3, r"the trace can't be opened: No such file or directory\n"),
         (reader, [], 2, BAD), (reader, [port], 2, BAD), (reader, ["--trace", nowhere], 2, BAD), (reader, ["--traces", port, 9600], 2, BAD),
+        (reader, ["--keep"], 2, BAD), (reader, ["--keep", nowhere], 2, BAD), (panel, ["--keep", nowhere, port, 9600, 5], 2, BAD),
         (reader, [port, "fast"], 2, r"bad rate: fast\n"), (reader, [port, 12345], 3, r"the port has no such rate\n"),
         (reader, [nowhere, 9600], 3, r"the port can't be opened: No such file or directory\n"), (reader, ["/dev/null", 9600], 3, r"the port is no serial port\n"),
         (reader, ["--trace", nowhere, port, 9600], 3, r"the trace can't be opened: No such file or directory\n"),
@@ -433,11 +475,12 @@ def ends_without_a_word(words):
                 for script in scripts:
                     script.process.stdout.close()
             line.scripts = scripts if what == "Ctrl-C" else []
-            line.run(lambda: any(way == "in" for way, _ in line.bursts), 3)
+            ended = lambda: all(script.process.poll() is not None for script in scripts)
+            line.run(lambda: ended() or any(way == "in" for way, _ in line.bursts))
             for script in scripts:
                 if what == "Ctrl-C":
                     script.process.send_signal(signal.SIGINT)
-            line.run(lambda: all(script.process.poll() is not None for script in scripts), 3)
+            line.run(ended)
             wanted = {"Ctrl-C": (130, ""), "a closed pipe": (3, ""), "a full disk": (3, "standard output can't be written\n")}[what]
             line.scripts = scripts
             for script in scripts:
@@ -455,13 +498,15 @@ def main(osdp, built=None):
     lost_comset(words, "a lost COM", lambda way, burst: burst[5] == COM, (7, ["rate 19200"]))
     lost_comset(words, "a lost COMSET", lambda way, burst: burst[5] == COMSET, (5, ["rate 19200", "rate 9600"]))
     lost_address(words)
+    kept_place(words)
+    no_place_kept(words)
     strange_rates(words)
     refused_rate(words)
     refused_order(words)
     own_calls(words)
     bad_lines(words)
     before = len(faults)
-    for _ in range(3):  # on a busy machine the pause between two pieces may be as long as the gap
+    for _ in range(10):  # on a busy machine the pause between two pieces may be as long as the gap of a trace
         del faults[before:]
         traces(words, osdp)
         if len(faults) == before:

@@ -17,7 +17,7 @@ python3 ../tests/turns.py "$program" || failed=1
 
 work=$(mktemp -d)
 trap 'rm -rf "$work"' EXIT
-timeout 120 python3 ../tests/examples.py "$program" || failed=1
-{ c/build "$work" -Werror && timeout 120 python3 ../tests/examples.py "$program" "$work"; } || failed=1
+timeout 900 python3 ../tests/examples.py "$program" || failed=1
+{ c/build "$work" -Werror && timeout 900 python3 ../tests/examples.py "$program" "$work"; } || failed=1
 
 exit "$failed"

@@ -20,7 +20,12 @@ ENVIRONMENT = {**os.environ, "PATH": f"{PROGRAM.parent}:{os.environ['PATH']}"}
 TOPICS = ("show", "check", "make", "sim", "panel", "reader")
 # which part of a page has the rows of a help's part: the part of the help is what stands before its rows
 PARTS = {"show": [("OPTIONS", "usage")], "check": [("OPTIONS", "usage")], "sim": [("SCRIPTS", "Input")],
-         "panel": [("SETTINGS", "usage"), ("CALLS", "Input")], "reader": [("SETTINGS", "usage"), ("CALLS", "Input")]}
+         "panel": [("SETTINGS", "usage"), ("CALLS", "Input"), ("COMMANDS", "Commands"), ("ANSWERS", "Answers")],
+         "reader": [("SETTINGS", "usage"), ("CALLS", "Input"), ("EVENTS", "Events"), ("ANSWERS", "Answers")]}
+# a text for each command of `help panel` and each event of `help reader`, after the calls that hand it over
+HANDED = {"panel": ("Commands", "add 5\nsubmit 1 ", ["ID 0", "CAP 0", "LSTAT", "ISTAT", "OSTAT", "RSTAT", "OUT 0:5:30", "LED 0:0:0:0:0:0:0:0:1:1:0:2:0", "BUZ 0 2 1 1 1",
+                                                     "TEXT 0 1 0 1 1 48454C4C4F", "COMSET 7 9600", "MFG 53494D 00"]),
+          "reader": ("Events", "event ", ["KEYPAD 0 31", "RAW 0 0 26 00112240", "FMT 0 0 3132", "ISTATR 0100", "OSTATR 01", "RSTATR 00", "LSTATR 0 1"])}
 # a POLL, and the answer to an ID with a check of one byte, as the examples of docs/PROTOCOL.md have them
 PACKETS = (bytes.fromhex("53000700006046"), bytes.fromhex("53851300004553494D010101000000010000E3"))
 SHOWN = ("cmd 0 seq 0 sum POLL", "reply 5 seq 0 sum PDID 53494D 1 1 1 1 0 0")
@@ -104,6 +109,24 @@ def judge_rows(topic, help_text, name):
         for tag, _ in known:
             if re.match(r"[a-z-]+", tag) and not re.search(rf"(?<![\w-]){re.match(r'[a-z-]+', tag)[0]}(?![\w-])", every):
                 tell(f"help {topic}: {tag} of {heading} is missing")
+
+
+def judge_texts(topic, help_text):
+    """The names of the commands or events that a help has are those of the texts here, and each text is taken. The names of its refusals are the page's."""
+    begins, call, texts = HANDED[topic]
+    words = [word for row, _ in rows(part_of(help_text, begins)) for word in re.findall(r"[A-Z]+", row)]
+    words += [word for _, what in rows(part_of(help_text, begins)) for word in re.findall(r"\b[OR]STATR\b", what)]
+    names = {text.split()[0] for text in texts}
+    for name in names:
+        if name not in words:
+            tell(f"help {topic}: no {name} in {begins}")
+    for text in texts:
+        done = subprocess.run([PROGRAM, topic], input=call + text + "\n", capture_output=True, text=True, timeout=60)
+        if done.returncode or "refused" in done.stdout:
+            tell(f"{topic}: {text} isn't taken", "", done.stdout)
+    told = [" ".join(each for _, each in entries(f"osdp-{topic}", "ANSWERS")), " ".join(row for row, _ in rows(part_of(help_text, "Answers")))]
+    if len({frozenset(re.findall(r"\b[BCN]\d\b", each)) for each in told}) != 1:
+        tell(f"help {topic}: its refusals aren't those of the page", *told)
 
 
 def judge_examples(topic, help_text):
@@ -205,6 +228,8 @@ def main():
             tell(f"help {topic}: it doesn't begin with its name, or tells of no input")
         judge_rows(topic, text, f"osdp-{topic}" if f"osdp-{topic}" in pages else "osdp")
         judge_examples(topic, text)
+        if topic in HANDED:
+            judge_texts(topic, text)
     judge_recipes(asked("help", "show"))
     judge_version()
     print(f"help: {len(TOPICS) + 1} helps, {faults} faults")

@@ -39,30 +39,32 @@ answers() {
   expect "$name" 0 "$(sed 's/.* > //' "$work/table" | tr ';' '\n')"$'\n' '' "$@" < <(sed 's/ > .*//' "$work/table")
 }
 
-bad=$'osdp: bad words\n'
 expect 'a panel that is told nothing' 0 '' '' panel </dev/null
-expect 'a name without a value' 2 '' "$bad" panel check </dev/null
-expect 'a check that is none' 2 '' "$bad" panel check md5 </dev/null
-expect 'a time of none' 2 '' "$bad" panel reply-wait 0 </dev/null
+expect 'a name without a value' 2 '' $'osdp: bad words\nosdp: no value after check\n' panel check </dev/null
+expect 'a check that is none' 2 '' $'osdp: bad words\nosdp: no setting: check md5\n' panel check md5 </dev/null
+expect 'a time of none' 2 '' $'osdp: bad words\nosdp: no setting: reply-wait 0\n' panel reply-wait 0 </dev/null
+expect 'the second of two' 2 '' $'osdp: bad words\nosdp: no setting: gap x\n' panel check sum gap x sends 0 </dev/null
+expect 'a last name' 2 '' $'osdp: bad words\nosdp: no value after sends\n' panel gap 20 sends </dev/null
+expect 'a name that is none, alone' 2 '' $'osdp: bad words\nosdp: no value after adress\n' reader adress </dev/null
 expect 'an hour' 0 '' '' panel reply-wait 3600000 poll-interval 3600000 busy-wait 3600000 quiet-wait 3600000 gap 3600000 </dev/null
-expect 'more than an hour' 2 '' "$bad" panel gap 3600001 </dev/null
-expect 'no sends' 2 '' "$bad" panel sends 0 </dev/null
+expect 'more than an hour' 2 '' $'osdp: bad words\nosdp: no setting: gap 3600001\n' panel gap 3600001 </dev/null
+expect 'no sends' 2 '' $'osdp: bad words\nosdp: no setting: sends 0\n' panel sends 0 </dev/null
 expect 'many sends' 0 '' '' panel sends 255 busy-limit 255 capacity 1024 </dev/null
-expect 'too many sends' 2 '' "$bad" panel sends 256 </dev/null
-expect 'too many may wait' 2 '' "$bad" panel capacity 1025 </dev/null
-expect 'a setting of the other program' 2 '' "$bad" panel address 5 </dev/null
-expect 'a word that is no text' 2 '' "$bad" panel check $'\xff' </dev/null
+expect 'too many sends' 2 '' $'osdp: bad words\nosdp: no setting: sends 256\n' panel sends 256 </dev/null
+expect 'too many may wait' 2 '' $'osdp: bad words\nosdp: no setting: capacity 1025\n' panel capacity 1025 </dev/null
+expect 'a setting of the other program' 2 '' $'osdp: bad words\nosdp: no setting: address 5\n' panel address 5 </dev/null
+expect 'a word that is no text' 2 '' $'osdp: bad words\n' panel check $'\xff' </dev/null
 expect 'the later of two' 0 $'due none\ndue none\nrefused C3\ndue none\n' '' panel capacity 2 capacity 1 \
   < <(printf 'add 5\nsubmit 1 ID 0\nsubmit 1 ID 0\n')
 expect 'the last address' 0 '' '' reader address 126 </dev/null
-expect 'the configuration address' 2 '' "$bad" reader address 127 </dev/null
-expect 'a vendor of two bytes' 2 '' "$bad" reader vendor 5349 </dev/null
-expect 'firmware of two numbers' 2 '' "$bad" reader firmware 1:2 </dev/null
-expect 'a capability too great' 2 '' "$bad" reader cap 1:1:256 </dev/null
-expect 'no room' 2 '' "$bad" reader room 0 </dev/null
+expect 'the configuration address' 2 '' $'osdp: bad words\nosdp: no setting: address 127\n' reader address 127 </dev/null
+expect 'a vendor of two bytes' 2 '' $'osdp: bad words\nosdp: no setting: vendor 5349\n' reader vendor 5349 </dev/null
+expect 'firmware of two numbers' 2 '' $'osdp: bad words\nosdp: no setting: firmware 1:2\n' reader firmware 1:2 </dev/null
+expect 'a capability too great' 2 '' $'osdp: bad words\nosdp: no setting: cap 1:1:256\n' reader cap 1:1:256 </dev/null
+expect 'no room' 2 '' $'osdp: bad words\nosdp: no setting: room 0\n' reader room 0 </dev/null
 caps() { for ((i = 0; i < $1; i++)); do printf 'cap 1:1:8 '; done; }
 expect 'as many capabilities as there may be' 0 '' '' reader $(caps 477) </dev/null
-expect 'one capability more' 2 '' "$bad" reader $(caps 478) </dev/null
+expect 'one capability more' 2 '' $'osdp: bad words\nosdp: one too many: cap 1:1:8\n' reader $(caps 478) </dev/null
 
 long=$(printf 'tick%08188d' 0 | tr 0 ' ')
 expect 'a line of 8,192 characters' 0 $'waiting 0\n' '' reader <<<"$long"
@@ -114,6 +116,25 @@ bytes 530507000000A1 > due 600
 bytes 5387090000410600D6 > due 600
 bytes 53850800004104DB > lost 1 number-refused;due none
 begin 1 > due 810
+TABLE
+answers 'an opening has number 0, and passes over what comes with another; a moment that goes back is the greatest seen' panel check sum gap 20 <<'TABLE'
+add 5 > due none
+begin 1 > due 400
+at 400 > due 400
+tick > send 530508000061003F;due 600
+at 410 > due 600
+bytes 53851300024553494D010101000000010000E1 > passed over 1 seq 2 PDID 53494D 1 1 1 1 0 0;due 600
+bytes 538507000179A7 > passed over 1 seq 1 BUSY;due 600
+bytes 53850800034104D8 > passed over 1 seq 3 NAK 4;due 600
+bytes 53850800014101DD > passed over 1 seq 1 NAK 1;due 600
+bytes 538507000142DE > passed over 1 seq 1 code 42;due 600
+bytes 53850A000A02154106B6 > passed over 1 seq 2 block 02154106;due 600
+at 500 > due 600
+bytes 5385080000 > due 520
+at 410 > due 520
+bytes 41 > due 520
+at 515 > due 520
+bytes 06D9 > passed over 1 NAK 6;due 600
 TABLE
 answers 'an open session tells nothing of it, a lost one does again, and a run that is over is read to its end' panel check sum <<'TABLE'
 add 5 > due none

@@ -31,8 +31,8 @@ class Terminal:
             yield burst
 
     def next_burst(self):
-        """The next whole burst; none where none has come within five seconds."""
-        end = time.monotonic() + 5
+        """The next whole burst; none where none has come within a minute."""
+        end = time.monotonic() + 60
         while time.monotonic() < end:
             if select.select([self.end], [], [], 0.1)[0]:
                 for burst in self.bursts():

@@ -169,7 +169,7 @@ int main(int count, char **words)
     static struct lines lines;
     struct osdp_panel_config config;
     osdp_panel_defaults(&config);
-    words = take_words(&count, words, 3, usage);
+    words = take_words(&count, words, 3, usage, NULL);
     for (int i = 3; i < count; i += 2) {
         set_panel(&config, words[i], words[i + 1]);
     }

@@ -2,6 +2,7 @@
 #include <stdio.h>
 #include <string.h>
 
+#include "kept.h"
 #include "port.h"
 #include "words.h"
 
@@ -9,17 +10,18 @@
 #define OUTPUTS 8
 
 static const char usage[] =
-    "reader [--trace FILE] PORT RATE [SETTING VALUE]..\n"
+    "reader [--trace FILE] [--keep FILE] PORT RATE [SETTING VALUE]..\n"
     "\n"
     "Each line of standard input is a call: `event KEYPAD 0 31`, `busy on`, `inputs 0100`, `readers 00`, `local 0 0`.\n"
     "`inputs` alone tells the panel nothing; `event ISTATR 0100` does.\n"
     "Each line of standard output is such a line, or what the reader tells. `taken` and a command is for the device to do,\n"
     "once: an OUT is done here. `refused` and a command was answered by a NAK: nothing of it is done. `again` and a command\n"
     "came with number 0, and may come once more: nothing of it is done here. A panel of osdp sends nothing but ID with it.\n"
-    "`moved` is a new address and rate, which aren't kept: a reader that starts again is where its words say, and the panel\n"
-    "doesn't find it.\n"
+    "`moved` is a new address and rate. The file of `--keep` keeps them, before the panel is told, and a reader that starts\n"
+    "again is there, whatever its words say. Without such a file it is where its words say, and the panel doesn't find it.\n"
+    "`not kept` tells that the file couldn't be written.\n"
     "The reader has eight outputs, which an OUT switches; the time of an output is counted here.\n"
-    "FILE gets each burst, both ways, as `osdp show` reads it.\n"
+    "The file of `--trace` gets each burst, both ways, as `osdp show` reads it.\n"
     "\n"
     "Settings: address, vendor HEX, model, version, serial, firmware A:B:C, cap F:L:N for each capability, room, and gap in\n"
     "milliseconds.\n"
@@ -34,6 +36,8 @@ struct output {
 
 static struct osdp_device reader;
 static int port;
+static uint32_t rate;    /* of the port */
+static const char *kept; /* the file that keeps address and rate, if one is named */
 static struct output outputs[OUTPUTS];
 
 /* Tells the reader which outputs are on, by which it answers OSTAT. */
@@ -70,9 +74,24 @@ static void switch_outputs(const struct osdp_message *out, uint64_t now)
     tell_outputs(now);
 }
 
-/* Sends what the reader says, and does what it is to do. */
+/* Sets the port to the rate of a COMSET, once what was sent has gone out. It keeps its rate where it hasn't that one. */
+static void move_to(uint32_t address, uint32_t new_rate)
+{
+    tell("moved %u %u\n", (unsigned)address, (unsigned)new_rate);
+    if (set_rate(port, new_rate)) {
+        rate = new_rate;
+    } else {
+        tell("no rate %u\n", (unsigned)new_rate);
+        keep(kept, address, rate);
+    }
+}
+
+/* Sends what the reader says, and does what it is to do. Where it is from now on is kept before the panel is told. */
 static void act(const struct osdp_answer *answer, uint64_t now)
 {
+    if (answer->moved) {
+        keep(kept, answer->address, has_rate(answer->baud_rate) ? answer->baud_rate : rate);
+    }
     write_all(port, &answer->burst);
     static const char *const names[] = { "", "taken", "again", "refused" };
     if (answer->order != OSDP_ORDER_NONE && answer->order != OSDP_ORDER_PENDING) { /* what is pending is answered as it was set beforehand */
@@ -82,10 +101,7 @@ static void act(const struct osdp_answer *answer, uint64_t now)
         switch_outputs(&answer->command, now);
     }
     if (answer->moved) {
-        tell("moved %u %u\n", (unsigned)answer->address, (unsigned)answer->baud_rate);
-        if (!set_rate(port, answer->baud_rate)) {
-            tell("no rate %u\n", (unsigned)answer->baud_rate);
-        }
+        move_to(answer->address, answer->baud_rate);
     }
 }
 
@@ -157,11 +173,12 @@ int main(int count, char **words)
 {
     static struct lines lines;
     static struct reader_settings settings = { .config = { .capacity = 64, .gap = 20 } };
-    words = take_words(&count, words, 2, usage);
+    words = take_words(&count, words, 2, usage, &kept);
     for (int i = 2; i < count; i += 2) {
         set_reader(&settings, words[i], words[i + 1]);
     }
-    uint32_t rate = number(words[1], "rate");
+    rate = number(words[1], "rate");
+    (void)read_kept(kept, &settings.config.address, &rate);
     osdp_status status = osdp_device_new(&reader, &settings.config, settings.capabilities, settings.length);
     if (status == OSDP_DEVICE_NO_MEMORY) {
         stop(OUT_OF_MEMORY, "out of memory");

@@ -33,8 +33,9 @@ void tell(const char *format, ...)
     }
 }
 
-char **take_words(int *count, char **words, int least, const char *usage)
+char **take_words(int *count, char **words, int least, const char *usage, const char **kept)
 {
+    const char *trace = NULL;
     (void)signal(SIGPIPE, SIG_IGN);
     words++;
     *count -= *count > 0;
@@ -42,9 +43,9 @@ char **take_words(int *count, char **words, int least, const char *usage)
         tell("%s", usage);
         exit(0);
     }
-    const char *trace = *count > 1 && strcmp(words[0], "--trace") == 0 ? words[1] : NULL;
-    words += trace != NULL ? 2 : 0;
-    *count -= trace != NULL ? 2 : 0;
+    for (; *count > 1 && (strcmp(words[0], "--trace") == 0 || (kept != NULL && strcmp(words[0], "--keep") == 0)); *count -= 2, words += 2) {
+        *(strcmp(words[0], "--trace") == 0 ? &trace : kept) = words[1];
+    }
     if (*count < least || words[0][0] == '-' || (*count - least) % 2 != 0) {
         stop(BAD_WORDS, "bad words: --help tells the right ones");
     }

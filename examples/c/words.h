@@ -19,8 +19,8 @@ void set_panel(struct osdp_panel_config *config, const char *name, const char *v
 void set_reader(struct reader_settings *settings, const char *name, const char *value);
 
 /* Opens the file of `--trace`, if it is named, and gives the other words, of which there are at least so many, and then pairs. `--help` prints the
- * usage. Ends the program where the words are others. */
-char **take_words(int *count, char **words, int least, const char *usage);
+ * usage. Ends the program where the words are others. `kept` gets the file of `--keep`, if that is named; it is NULL where there is no such option. */
+char **take_words(int *count, char **words, int least, const char *usage, const char **kept);
 
 /* The number that a word is; ends the program where it is none. */
 uint32_t number(const char *word, const char *what);

@@ -2,7 +2,9 @@
 #![tactic(auto)]
 
 use osdp_arguments::{Choice, VERSION, arguments, choose, help_text, lent};
-use osdp_line_commands::{LineCommand, LineRun, run_lines};
+use osdp_line_commands::{
+    LineCommand, LineRun, WrongSetting, panel_settings, reader_settings, run_lines,
+};
 use osdp_panel_calls::LinePanel;
 use osdp_reader_calls::LineDevice;
 use osdp_tool::{Job, ToolFault, Watched, check, job, make, show, sim};
@@ -16,11 +18,16 @@ fn print(rt: &HostRuntime, text: &str) -> Result<(), ToolFault> {
     flush_out(&mut output)
 }
 
+/// The words after a command's name.
+fn after_name<'a>(words: &'a [&'a str]) -> &'a [&'a str] {
+    words.get(1..).unwrap_or(&[])
+}
+
 /// Answers the lines of standard input, with the settings that the words after the command's name give.
 fn run_machine<P: LineCommand>(rt: &HostRuntime, words: &[&str]) -> Result<(), ToolFault> {
     let mut run = LineRun {
         alloc: rt.alloc(),
-        words: words.get(1..).unwrap_or(&[]),
+        words: after_name(words),
         input: Watched::new(rt.stdin()),
         output: Watched::new(rt.stdout()),
     };
@@ -35,7 +42,7 @@ fn run_job(rt: &HostRuntime, words: &[&str]) -> Result<bool, ToolFault> {
         Job::Show(mode) => show(rt.alloc(), mode, &mut input, &mut output),
         Job::Check(mode) => check(rt.alloc(), mode, &mut input, &mut output),
         Job::Make => {
-            make(rt.alloc(), words.get(1..).unwrap_or(&[]), &mut output)?;
+            make(rt.alloc(), after_name(words), &mut output)?;
             Ok(false)
         }
         Job::Sim => {
@@ -59,11 +66,38 @@ fn run(rt: &HostRuntime) -> Result<bool, ToolFault> {
     Ok(false)
 }
 
+/// What is wrong with the settings of a panel or a reader.
+fn wrong_setting<'a>(words: &'a [&'a str]) -> Option<WrongSetting<'a>> {
+    match choose(words) {
+        Choice::Panel => panel_settings(after_name(words)).err(),
+        Choice::Reader => reader_settings(after_name(words)).err(),
+        Choice::Help(_) | Choice::Version | Choice::Job => None,
+    }
+}
+
+/// Says which words are no settings, where some aren't.
+fn tell_wrong(rt: &HostRuntime, words: &[&str]) {
+    if let Some(wrong) = wrong_setting(words) {
+        let _ = eprintln!(rt; "{wrong}");
+    }
+}
+
+/// Says more of bad words, after it was said that they are bad.
+fn explain(rt: &HostRuntime) -> Result<(), ToolFault> {
+    let arguments = arguments(rt)?;
+    let words = lent(rt.alloc(), &arguments)?;
+    tell_wrong(rt, &words);
+    Ok(())
+}
+
 fn main(rt: HostRuntime) -> ExitCode {
     match run(&rt) {
         Ok(refused) => ExitCode::from(u8::from(refused)),
         Err(fault) => {
             let _ = eprintln!(rt; "{fault}");
+            if fault == ToolFault::BadWords {
+                let _ = explain(&rt);
+            }
             ExitCode::from(fault.status())
         }
     }

@@ -164,8 +164,36 @@ count from 1, in the order in which they were added.
   silence             the line was silent
   tick                what is due is done
 
-Each answer ends with due MOMENT, the moment of the next tick, or due none. Before it stand send HEX,
-opened, settled, moved, event, answered, unread, lost, passed over, withdrawn and refused.
+Commands of submit, by their texts. Times are in units of 100 ms. docs/PROTOCOL.md has every field and its values.
+
+  ID 0                            what the device is: it answers PDID
+  CAP 0                           what it can do: it answers PDCAP
+  LSTAT, ISTAT, OSTAT, RSTAT      its tamper and power, its inputs, its outputs, its readers
+  OUT OUTPUT:CONTROL:TIME..       control 1 is off and 2 on for good, 5 is on and 6 off for the time
+  LED N:N:N:N:N:N:N:N:N:N:N:N:N   0:0:0:0:0:0:0:0:1:1:0:2:0 is LED 0 of reader 0, green for good
+  BUZ READER TONE ON OFF COUNT    0 2 1 1 1 is one short sound of reader 0
+  TEXT READER N N ROW COLUMN HEX  0 1 0 1 1 48454C4C4F is HELLO, to stay
+  COMSET ADDRESS RATE             the device goes to this address, 0 to 126, and rate
+  MFG VENDOR HEX                  what a maker has of its own
+
+Answers: before the last line of an answer stand lines like these.
+
+  send HEX              write these bytes to the line at once
+  opened I PDID..       the session is open
+  settled I X = Y       command X was answered Y, which may be a NAK: done where it is no NAK
+  moved I X = Y         COMSET X is done, and the session closed: set the port once all devices have moved, and begin
+  event I X             the device tells X, once
+  answered I X          a POLL was answered X, which is no event
+  unread I code XX..    the answer can't be read; the command that may follow may have been done or not
+  lost I CAUSE..        the session is closed: no-reply, too-busy or number-refused; a command as with unread
+  passed over I X       what the device says while no session is open: NAK 6 that it demands Secure Channel
+  withdrawn I X         command X was taken back
+  refused line          no call: its name, how many words it has, or a word that is no value or out of its range
+  refused B2, B3        sixteen devices are there; the address is another device's, or reserved for one
+  refused B4, B5        there is no device I; the address is above 126
+  refused C3, C4        no room for another command; a POLL is not submitted
+  refused C5            the session is not closed
+  due MOMENT, due none  the last line: the moment of the next tick
 
 Examples:
 
@@ -206,8 +234,23 @@ Input: a call on each line. Another program carries the port: share/osdp/example
   inputs HEX               a byte for each input; outputs and readers likewise
   local T P                tamper and power
 
-Each answer ends with waiting N, how many events wait. Before it stand send HEX, taken, again, moved and
-refused.
+Events, by their texts. docs/PROTOCOL.md has every field.
+
+  KEYPAD READER HEX        keys; KEYPAD 0 31 is key 1
+  RAW READER FORMAT N HEX  a card of N bits
+  FMT READER N HEX         a card as characters, read in direction N
+  ISTATR HEX               what the inputs are now, a byte for each; OSTATR, RSTATR likewise
+  LSTATR T P               what tamper and power are now
+
+Answers: before the last line of an answer stand lines like these.
+
+  send HEX            write these bytes to the line at once
+  taken X             do command X, once; but nothing of it where the bytes sent are a NAK, whose sixth byte is 41
+  again X             command X with number 0 may come again: do only what may be done twice for one order
+  moved ADDRESS RATE  keep both where no loss of power takes them; then send, and set the port to this rate
+  refused line        no call: its name, how many words it has, or a word that is no value or out of its range
+  refused N2          no room for another event
+  waiting N           the last line: how many events wait
 
 Examples:
 

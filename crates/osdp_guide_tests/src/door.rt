@@ -1,24 +1,11 @@
 //! A panel and a device joined in memory: a card opens the door for three seconds.
 
 use crate::device::{Bytes, Relays, card_was_read, device_turn, new_device};
-use crate::panel::{decide, new_panel};
+use crate::panel::{new_panel, panel_turn};
 use osdp_bus::{Bus, Entry};
 use osdp_device::{Device, DeviceStatus};
-use osdp_frame::{Address, Burst};
-use osdp_panel::take_turn;
+use osdp_frame::Address;
 use std::process::Abort;
-
-/// The panel's loop, once: it reads, takes its turn, and decides. What it writes.
-fn panel_turn(bus: &mut Bus, door: Entry, bytes: &[u8], now: u64) -> Option<Burst> {
-    let turn = take_turn(bus, bytes, now);
-    if let Some((_, report)) = &turn.heard {
-        decide(bus, door, report, now);
-    }
-    if let Some((_, report)) = &turn.ticked {
-        decide(bus, door, report, now);
-    }
-    turn.burst
-}
 
 /// The line from a moment on, in steps of ten milliseconds, up to another.
 fn run(

@@ -7,5 +7,4 @@ mod device;
 mod door;
 #[cfg(test)]
 mod packets;
-#[cfg(test)]
-mod panel;
+pub mod panel;

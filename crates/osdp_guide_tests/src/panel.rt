@@ -2,8 +2,9 @@
 
 use osdp_bus::{Bus, BusConfig, BusFault, Entry};
 use osdp_controller::Report;
-use osdp_frame::{Address, CheckKind};
+use osdp_frame::{Address, Burst, CheckKind};
 use osdp_msg::{Command, Event, OutputRecord, Outputs, Raw};
+use osdp_panel::take_turn;
 use std::alloc::Global;
 
 /// How many orders may wait for one door.
@@ -57,4 +58,16 @@ pub fn decide(bus: &mut Bus, door: Entry, report: &Report, now: u64) {
         | Report::PollAnswered(_)
         | Report::Unread(..) => {}
     }
+}
+
+/// The panel's loop, once: it reads, takes its turn, and decides. What it writes.
+pub fn panel_turn(bus: &mut Bus, door: Entry, bytes: &[u8], now: u64) -> Option<Burst> {
+    let turn = take_turn(bus, bytes, now);
+    if let Some((_, report)) = &turn.heard {
+        decide(bus, door, report, now);
+    }
+    if let Some((_, report)) = &turn.ticked {
+        decide(bus, door, report, now);
+    }
+    turn.burst
 }

@@ -1,3 +1,4 @@
 pub mod Ranges
 pub mod Reading
 pub mod Running
+mod FirstWrong

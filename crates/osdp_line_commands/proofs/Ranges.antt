@@ -73,3 +73,25 @@ put_in_range (reader.Firmware ns) r e fits is h = subst of_reader.AreInRange (so
 put_in_range (reader.Cap ns) r e fits is h = capability_in_range _ r _ e is (record { address = h.address; room = h.room; gap = h.gap })
 put_in_range (reader.Room n) r e fits is h = subst of_reader.AreInRange (some_same _ e is) (record { address = h.address; room = fits; gap = h.gap })
 put_in_range (reader.Gap n) r e fits is h = subst of_reader.AreInRange (some_same _ e is) (record { address = h.address; room = h.room; gap = fits })
+
+-- what is set without settings
+pub bus_in_range : IsBusConfig panel.defaults
+bus_in_range = record {
+  controllers = record {
+    config_in_range = record {
+      address = omega arith;
+      reply_wait = (omega arith, omega arith);
+      poll_interval = (omega arith, omega arith);
+      busy_wait = (omega arith, omega arith);
+      quiet_wait = (omega arith, omega arith);
+      sends = (omega arith, omega arith);
+      busy_limit = omega arith;
+    };
+    room = omega arith;
+    limit = omega arith;
+  };
+  gap = (omega arith, omega arith);
+}
+
+pub reader_in_range : of_reader.AreInRange of_reader.defaults
+reader_in_range = record { address = omega arith; room = (omega arith, omega arith); gap = (omega arith, omega arith) }

@@ -1,4 +1,5 @@
 pub mod Settings
+pub mod Wrong
 pub mod PanelSettings
 pub mod ReaderSettings
 pub mod Runs

@@ -8,6 +8,8 @@ use Rattle.osdp_words.specs.Word.{bytes, number, numbers}
 use Rattle.osdp_line_commands.specs.declared.reader.ReaderSetting.{ReaderSetting}
 use Rattle.osdp_line_commands.specs.declared.reader.ReaderSetting.TheVariants.{At, Vendor, Model, Version, Serial, Firmware, Cap, Room, Gap}
 use Rattle.osdp_line_commands.specs.declared.reader.ReaderSettings.{ReaderSettings}
+use Rattle.osdp_line_commands.specs.declared.wrong.WrongSetting.{WrongSetting}
+use Rattle.osdp_line_commands.specs.Wrong.{IsWrong}
 use Rattle.osdp_line_commands.specs.Settings.{Entry, IsRoom, IsTriple, IsVendor, Make, ReadsSettings, SettingFits, setting_words}
 
 -- the name of each, its value as a word, and the range that is asked of it
@@ -67,6 +69,10 @@ ReadsReader = ReadsSettings (setting_words entry) (SettingFits entry) put defaul
 -- the words are settings of a reader, and they make this one of the defaults
 abbrev pub AreOfReader : List (List ℕ) → ReaderSettings → Type 0
 AreOfReader = Make (setting_words entry) (SettingFits entry) put defaults
+
+-- the words are no settings of a reader, and so is this
+abbrev pub IsWrongOfReader : List (List ℕ) → WrongSetting → Type 0
+IsWrongOfReader = IsWrong (setting_words entry) (SettingFits entry) put defaults
 
 -- what a reader asks for
 pub record AreInRange (r : ReaderSettings) : Type 0 where

@@ -12,7 +12,9 @@ mod panel;
 mod reader;
 mod run;
 mod values;
+mod wrong;
 
 pub use panel::{PanelSetting, panel_settings};
 pub use reader::{ReaderSetting, ReaderSettings, reader_settings};
 pub use run::{LineCommand, LineRun, panel_lines, reader_lines, run_lines};
+pub use wrong::WrongSetting;

@@ -1,15 +1,17 @@
 //! The settings of a panel, and the panel that they make.
 
-ghost use Rattle.std.specs.Prelude.{◌≡◌, ◌∷◌, [], IfSome};
+ghost use Rattle.std.specs.Prelude.{◌≡◌, ◌∷◌, [], IfErr, IfOk};
+ghost use Rattle.std.specs.Result.{result_ok};
 ghost use Rattle.osdp_bus.specs.Settings.{IsBusConfig};
 ghost use Rattle.osdp_words.specs.Reading.{ReadsWords};
 ghost use Rattle.osdp_words.specs.Word.{texts};
-ghost use Rattle.osdp_line_commands.specs.PanelSettings.{ReadsPanel, entry, with_setting};
+ghost use Rattle.osdp_line_commands.specs.PanelSettings.{IsWrongOfPanel, ReadsPanel, entry, with_setting};
 ghost use Rattle.osdp_line_commands.specs.Runs.{IsPanelOf};
 ghost use Rattle.osdp_line_commands.specs.Settings.{SettingFits, setting_words};
 
 use crate::run::LineCommand;
 use crate::values::{room, sends, time};
+use crate::wrong::WrongSetting;
 use osdp_bus::BusConfig;
 use osdp_frame::CheckKind;
 use osdp_panel_calls::LinePanel;
@@ -78,26 +80,31 @@ impl PanelSetting {
 }
 
 /// The bus that the words set: each name, in any order, with its value after it. What no word sets has its default, and where
-/// a name stands twice, its later value holds. None where the words are no settings.
-pub fn panel_settings(words: &[&str]) -> Option<BusConfig>
-    ensures reads { ReadsPanel (texts words.now) result }
-    ensures range { IfSome result IsBusConfig }
+/// a name stands twice, its later value holds. Where the words are no settings, the first that are none.
+pub fn panel_settings<'a>(words: &'a [&'a str]) -> Result<BusConfig, WrongSetting<'a>>
+    ensures reads { ReadsPanel (texts words.now) (result_ok result) }
+    ensures range { IfOk result IsBusConfig }
+    ensures wrong { IfErr result (λ wrong. IsWrongOfPanel (texts words.now) wrong) }
 {
     let mut config = BusConfig::new(CheckKind::Crc, 64);
     let mut fields = Fields::new(words);
     'settings: while let Some(name) = fields.word() {
-        let value = fields.word()?;
-        let setting = PanelSetting::parse(name, value)?;
+        let Some(value) = fields.word() else {
+            return Err(WrongSetting::NoValue(name));
+        };
+        let Some(setting) = PanelSetting::parse(name, value) else {
+            return Err(WrongSetting::NoSetting(name, value));
+        };
         setting.set(&mut config);
     }
-    Some(config)
+    Ok(config)
 }
 
 impl LineCommand for LinePanel {
     ghost is_set_by = { IsPanelOf };
 
     fn of_words(alloc: Global, words: &[&str]) -> Result<LinePanel, ToolFault> {
-        let Some(config) = panel_settings(words) else {
+        let Ok(config) = panel_settings(words) else {
             return Err(ToolFault::BadWords);
         };
         match LinePanel::new(alloc, config) {

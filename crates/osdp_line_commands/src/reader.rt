@@ -1,14 +1,16 @@
 //! The settings of a reader, and the device that they make.
 
-ghost use Rattle.std.specs.Prelude.{◌≡◌, ◌∷◌, [], IfSome};
+ghost use Rattle.std.specs.Prelude.{◌≡◌, ◌∷◌, [], IfErr, IfOk};
+ghost use Rattle.std.specs.Result.{result_ok};
 ghost use Rattle.osdp_words.specs.Reading.{ReadsWords};
 ghost use Rattle.osdp_words.specs.Word.{texts};
-ghost use Rattle.osdp_line_commands.specs.ReaderSettings.{AreInRange, ReadsReader, defaults, entry, put, put_capability};
+ghost use Rattle.osdp_line_commands.specs.ReaderSettings.{AreInRange, IsWrongOfReader, ReadsReader, defaults, entry, put, put_capability};
 ghost use Rattle.osdp_line_commands.specs.Runs.{IsDeviceOf};
 ghost use Rattle.osdp_line_commands.specs.Settings.{SettingFits, setting_words};
 
 use crate::run::LineCommand;
 use crate::values::{device_address, room, time, triple};
+use crate::wrong::WrongSetting;
 use arrayvec::ArrayVec;
 use osdp_frame::Address;
 use osdp_msg::{Capability, PdCap, PdId};
@@ -141,26 +143,35 @@ fn default_settings() -> ReaderSettings
 }
 
 /// The reader that the words set: each name, in any order, with its value after it. What no word sets has its default; where a
-/// name stands twice, its later value holds, but each `cap` adds a capability, 477 at most. None where the words are no settings.
-pub fn reader_settings(words: &[&str]) -> Option<ReaderSettings>
-    ensures reads { ReadsReader (texts words.now) result }
-    ensures range { IfSome result AreInRange }
+/// name stands twice, its later value holds, but each `cap` adds a capability, 477 at most. Where the words are no settings, the
+/// first that are none.
+pub fn reader_settings<'a>(words: &'a [&'a str]) -> Result<ReaderSettings, WrongSetting<'a>>
+    ensures reads { ReadsReader (texts words.now) (result_ok result) }
+    ensures range { IfOk result AreInRange }
+    ensures wrong { IfErr result (λ wrong. IsWrongOfReader (texts words.now) wrong) }
 {
     let mut settings = default_settings();
     let mut fields = Fields::new(words);
     'settings: while let Some(name) = fields.word() {
-        let value = fields.word()?;
-        let setting = ReaderSetting::parse(name, value)?;
-        settings = setting.set(settings)?;
+        let Some(value) = fields.word() else {
+            return Err(WrongSetting::NoValue(name));
+        };
+        let Some(setting) = ReaderSetting::parse(name, value) else {
+            return Err(WrongSetting::NoSetting(name, value));
+        };
+        let Some(set) = setting.set(settings) else {
+            return Err(WrongSetting::OneTooMany(name, value));
+        };
+        settings = set;
     }
-    Some(settings)
+    Ok(settings)
 }
 
 impl LineCommand for LineDevice {
     ghost is_set_by = { IsDeviceOf };
 
     fn of_words(alloc: Global, words: &[&str]) -> Result<LineDevice, ToolFault> {
-        let Some(settings) = reader_settings(words) else {
+        let Ok(settings) = reader_settings(words) else {
             return Err(ToolFault::BadWords);
         };
         match LineDevice::new(alloc, settings.config, settings.room, settings.gap) {

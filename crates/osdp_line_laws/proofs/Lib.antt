@@ -3,3 +3,6 @@ pub mod OfPanels
 pub mod OfReaders
 pub mod PanelRuns
 pub mod ReaderRuns
+mod OneSession
+mod Openness
+mod Beside

@@ -1,6 +1,6 @@
 -- A run of lines to a reader's device, line by line.
-use Rattle.std.proofs.Common.{◌≡◌, ◌∙◌, ◌⊎◌, ap, sym, refl, ℕ, List, [], ◌∷◌, ◌++◌, length, Option, Some, None, inl, inr}
-use Rattle.osdp_line_streams.specs.Answers.{Speaks, heard}
+use Rattle.std.proofs.Common.{◌≡◌, ◌∙◌, ap, refl, ℕ, List, [], ◌∷◌, ◌++◌, length, Option, Some, None, inl, inr}
+use Rattle.osdp_line_streams.specs.Answers.{heard}
 use Rattle.osdp_reader.specs.State.{ReaderState}
 use Rattle.osdp_device.specs.Receiving.{Received}
 use Rattle.osdp_device.specs.Status.{status_after, status_answer}
@@ -9,12 +9,12 @@ use Rattle.osdp_device.specs.Receiving.{seen}
 use Rattle.osdp_device.specs.declared.status.DeviceStatus.{DeviceStatus}
 use Rattle.osdp_reader_calls.specs.declared.call.ReaderCall.{ReaderCall}
 use Rattle.osdp_reader_calls.specs.declared.call.ReaderCall.TheVariants.{At, Bytes, Silence, Tick, Event, Busy, Inputs, Outputs, Readers, Local}
-use Rattle.osdp_reader_calls.specs.Lines.{Answers, IsAnswered}
+use Rattle.osdp_reader_calls.specs.Lines.{IsAnswered}
 use Rattle.osdp_reader_calls.specs.Sessions.{Called, Session, does}
 use Rattle.osdp_reader_calls.specs.Texts.{waiting_line}
 use Rattle.osdp_line_laws.proofs.OfReaders.{call_steps}
 use Rattle.osdp_line_laws.specs.ReaderLines.{after_steps, ordered}
-use Rattle.osdp_line_laws.specs.ReaderRuns.{AreSaid, IsSaid, RunsAreCalls, after_all_said, after_said, line_after, moment_after, said_text, told, with_bytes}
+use Rattle.osdp_line_laws.specs.ReaderRuns.{IsSaid, RunsAreCalls, after_all_said, after_said, line_after, moment_after, said_text, told, with_bytes}
 
 -- ---- the whole device after a call
 

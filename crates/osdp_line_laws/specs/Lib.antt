@@ -2,3 +2,4 @@ pub mod PanelLines
 pub mod ReaderLines
 pub mod PanelRuns
 pub mod ReaderRuns
+pub mod PanelListening

@@ -5,6 +5,7 @@
 #![tactic(auto)]
 
 ghost use Rattle.osdp_line_laws.specs.PanelLines.{ComesOfCalls, IsCallOrNone};
+ghost use Rattle.osdp_line_laws.specs.PanelListening.{ListensAlways};
 ghost use Rattle.osdp_line_laws.specs.PanelRuns.{RunsAreCalls as PanelRunsAreCalls};
 ghost use Rattle.osdp_line_laws.specs.ReaderLines.{ComesOfSteps, IsStepsOrNone};
 ghost use Rattle.osdp_line_laws.specs.ReaderRuns.{RunsAreCalls as ReaderRunsAreCalls};
@@ -44,4 +45,10 @@ pub fn a_panels_run_is_its_calls()
 /// and the moment of the calls to come are those that these calls leave.
 pub fn a_devices_run_is_its_calls()
     ensures { ReaderRunsAreCalls }
+{}
+
+/// Beside its bus a panel hears by the moments and the gap of the bus, and takes a session for open exactly where it is. So a reply that it
+/// tells as passed over does nothing to its device, as the device stands, but bring the moment.
+pub fn panels_listen_as_their_bus()
+    ensures { ListensAlways }
 {}

@@ -12,6 +12,13 @@ module _ {A E : Type 0} where
   on_this (Ok x) P Q follows p = follows p
   on_this (Err e) P Q follows p = tt
 
+  -- a text was written, and then another one
+  pub then_written : (r : Result A E) (t0 first t1 second t2 whole : List ℕ) → t1 ≡ t0 ++ first → OnOk r (t2 ≡ t1 ++ second) → first ++ second ≡ whole
+      → OnOk r (t2 ≡ t0 ++ whole)
+  then_written (Ok x) t0 first t1 second t2 whole is writes joins =
+      writes ∙ ap (λ t. t ++ second) is ∙ append_assoc t0 first second ∙ ap (λ l. t0 ++ l) joins
+  then_written (Err e) t0 first t1 second t2 whole is writes joins = tt
+
   -- the line that ends an answer was written
   pub due_written : (r : Result A E) (before t0 t1 : List ℕ) (s : Session) (done : Called) (due : Option ℕ) → OnOk r (t1 ≡ t0 ++ due_line due)
       → IsDeadline s.bus due → IfSome due (λ moment. moment < 2 ^ 64)

@@ -1,4 +1,4 @@
 pub mod Rows
 pub mod Calls
 mod Listening
-mod PassedOver
+pub mod PassedOver

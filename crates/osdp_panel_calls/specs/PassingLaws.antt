@@ -1,5 +1,6 @@
 -- What it means that a reply is told as passed over.
 use Rattle.std.specs.Prelude.{◌≡◌, ◌↔◌, ℕ, true, IsSome}
+use Rattle.osdp_controller.specs.declared.exchange.Exchange.{Exchange}
 use Rattle.osdp_controller.specs.declared.exchange.Exchange.TheVariants.{Opening}
 use Rattle.osdp_controller.specs.declared.session.Session.{Session}
 use Rattle.osdp_controller.specs.declared.state.State.{State}
@@ -9,17 +10,25 @@ use Rattle.osdp_controller.specs.Sessions.{seen}
 use Rattle.osdp_frame.specs.Packet.{Packet}
 use Rattle.osdp_panel_calls.specs.Passing.{passed_text}
 
--- a session that is closed, that waits for quiet, or that opens
-abbrev pub IsNotOpen : State → Type 0
-IsNotOpen Closed = Unit {0}
-IsNotOpen (Quiet until) = Unit {0}
-IsNotOpen (Idle due) = ⊥
-IsNotOpen (Waiting until sends o) = o.exchange ≡ Opening
-IsNotOpen (Pausing until o) = o.exchange ≡ Opening
+-- the opening is outstanding, with its number
+pub record IsOpening (x : Exchange) (number : ℕ) : Type 0 where
+  pub exchange : x ≡ Opening
+  pub at_zero : number ≡ 0
 
--- each session that isn't open does nothing on this packet, whatever its number, but see the moment
+-- by the state: closed, waiting for quiet, or opening
+abbrev pub IsNotOpenIn : State → ℕ → Type 0
+IsNotOpenIn Closed number = Unit {0}
+IsNotOpenIn (Quiet until) number = Unit {0}
+IsNotOpenIn (Idle due) number = ⊥
+IsNotOpenIn (Waiting until sends o) number = IsOpening o.exchange number
+IsNotOpenIn (Pausing until o) number = IsOpening o.exchange number
+
+abbrev pub IsNotOpen : Session → Type 0
+IsNotOpen s = IsNotOpenIn s.state s.number
+
+-- each session that isn't open does nothing on this packet but see the moment
 abbrev pub IsPassedOver : Packet → Type 0
-IsPassedOver p = (now : ℕ) (s : Session) → IsNotOpen s.state → hears p now s ≡ ignores (seen now s)
+IsPassedOver p = (now : ℕ) (s : Session) → IsNotOpen s → hears p now s ≡ ignores (seen now s)
 
 -- of the replies those are told that all sessions which aren't open pass over
 abbrev pub TellsWhatIsPassedOver : Type 0

@@ -10,7 +10,7 @@ use Rattle.osdp_bus.specs.Ticking.{BusTicked, bus_ticks}
 use Rattle.osdp_reader_calls.specs.LineAnswers.{CalledIn}
 use Rattle.osdp_panel_calls.specs.declared.call.PanelCall.{PanelCall}
 use Rattle.osdp_panel_calls.specs.declared.call.PanelCall.TheVariants as call
-use Rattle.osdp_panel_calls.specs.Passing.{Listening, Overheard, hears_bytes, hears_end, hears_nothing, hears_silence, new_listening, opened_by}
+use Rattle.osdp_panel_calls.specs.Passing.{Listening, Overheard, hears_begin, hears_bytes, hears_end, hears_nothing, hears_silence, new_listening, opened_by, sees}
 use Rattle.osdp_panel_calls.specs.Texts.{due_line, refusal_line, report_line, send_line, withdrawal_line}
 
 -- a bus, the moment of the calls to come, and what is heard beside the bus
@@ -62,9 +62,10 @@ told c = record {
 
 -- what a call lets be heard beside the bus, before it is done
 abbrev pub overhears : PanelCall → Session → Overheard
+overhears (call.Begin entry) s = hears_begin (begin_refusal_at entry s.bus) s.now s.listening
 overhears (call.Bytes list) s = hears_bytes s.bus.devices.entries list.items s.now s.listening
-overhears call.Silence s = hears_end s.bus.devices.entries s.listening
-overhears call.Tick s = hears_silence s.bus.devices.entries s.now s.listening
+overhears call.Silence s = hears_end s.bus.devices.entries (sees s.now s.listening)
+overhears call.Tick s = hears_silence s.bus.devices.entries (sees s.now s.listening)
 overhears _ s = hears_nothing s.listening
 
 -- the lines of what was passed over come first

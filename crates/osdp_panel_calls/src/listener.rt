@@ -3,11 +3,12 @@
 ghost use Rattle.std.specs.Prelude.{◌≡◌, ◌++◌, false, true, [], OnOk, slice_get, slice_set, string_bytes};
 ghost use Rattle.std.specs.Option.{option_map_or};
 ghost use Rattle.osdp_bus.specs.Devices.{first_from, is_at};
+ghost use Rattle.osdp_bus.specs.Machine.{begin_refusal_at};
 ghost use Rattle.osdp_bus.specs.Private.{IsHeld, IsRead, rest_of};
 ghost use Rattle.osdp_frame.specs.Items.{items, left_over};
 ghost use Rattle.osdp_frame.specs.Reading.{PacketItem};
 ghost use Rattle.osdp_frame.specs.Shown.{item_of};
-ghost use Rattle.osdp_panel_calls.specs.Passing.{Listening, hears_bytes, hears_end, hears_run, hears_silence, is_open, new_listening, opened_by, opened_told, passed_item, passed_items};
+ghost use Rattle.osdp_panel_calls.specs.Passing.{Listening, hears_begin, hears_bytes, hears_end, hears_run, hears_silence, is_open, new_listening, opened_by, opened_told, passed_item, passed_items, sees, then_hears};
 
 use crate::passing::push_passed;
 use osdp_bus::{Bus, Entry};
@@ -17,18 +18,22 @@ use std::alloc::AllocError;
 use std::marker::Model;
 
 /// What is heard of the line, and which sessions are open, as it was told. Moments are in milliseconds.
+///
+/// Its runs end by silences alone, and those of the bus at a tick too, where nobody holds the line: so a reply to a closed session is told in
+/// whatever pieces it comes.
 #[derive(Drop)]
 pub(crate) struct Listener {
     framer: Framer,
     gap: u32,
     last: u64,
+    greatest: u64,
     opened: [bool; 16],
 }
 
 impl Model for Listener {
     ghost Value = { Listening };
 
-    ghost view = { λ l. record { held = l.framer.bytes; gap = l.gap; last = l.last; opened = l.opened } };
+    ghost view = { λ l. record { held = l.framer.bytes; gap = l.gap; last = l.last; greatest = l.greatest; opened = l.opened } };
 
     ghost invariant = { λ l. IsRead l.framer };
 }
@@ -187,7 +192,24 @@ impl Listener {
             framer: Framer::new(),
             gap,
             last: 0,
+            greatest: 0,
             opened: [false; 16],
+        }
+    }
+
+    /// Takes a moment; one that lies before the greatest seen counts as that one.
+    pub(crate) fn see(&mut self, now: u64)
+        ensures { self.new ≡ sees now self.old }
+    {
+        self.greatest = self.greatest.max(now);
+    }
+
+    /// A session of this entry is to begin at a moment. Where it may not, nothing brings the moment.
+    pub(crate) fn hear_begin(&mut self, bus: &Bus, entry: Entry, now: u64)
+        ensures { self.new ≡ (hears_begin (begin_refusal_at entry bus.now) now self.old).after }
+    {
+        if bus.is_closed(entry) == Some(true) {
+            self.see(now);
         }
     }
 
@@ -203,42 +225,40 @@ impl Listener {
         told
     }
 
-    /// The moment is this one: a run after which the line was silent for the gap is over. An error is that of `hear_end`.
-    pub(crate) fn hear_silence(
-        &mut self,
-        bus: &Bus,
-        now: u64,
-        text: &mut String,
-    ) -> Result<(), AllocError>
-        ensures text { OnOk result (string_bytes text.new ≡ string_bytes text.old ++ (hears_silence bus.now.devices.entries now self.old).text) }
-        ensures after { OnOk result (self.new ≡ (hears_silence bus.now.devices.entries now self.old).after) }
+    /// A run after which the line was silent for the gap is over, by the greatest moment seen. An error is that of `hear_end`.
+    pub(crate) fn hear_silence(&mut self, bus: &Bus, text: &mut String) -> Result<(), AllocError>
+        ensures text { OnOk result (string_bytes text.new ≡ string_bytes text.old ++ (hears_silence bus.now.devices.entries self.old).text) }
+        ensures after { OnOk result (self.new ≡ (hears_silence bus.now.devices.entries self.old).after) }
     {
-        if u64::from(self.gap) <= now.saturating_sub(self.last) {
+        if u64::from(self.gap) <= self.greatest.saturating_sub(self.last) {
             return self.hear_end(bus, text);
         }
         Ok(())
     }
 
     /// Bytes of a run that goes on come. An error is that of `hear_end`.
-    fn hear_run(
-        &mut self,
-        bus: &Bus,
-        bytes: &[u8],
-        now: u64,
-        text: &mut String,
-    ) -> Result<(), AllocError>
-        ensures text { OnOk result (string_bytes text.new ≡ string_bytes text.old ++ (hears_run bus.now.devices.entries bytes.now now self.old).text) }
-        ensures after { OnOk result (self.new ≡ (hears_run bus.now.devices.entries bytes.now now self.old).after) }
+    fn hear_run(&mut self, bus: &Bus, bytes: &[u8], text: &mut String) -> Result<(), AllocError>
+        ensures text { OnOk result (string_bytes text.new ≡ string_bytes text.old ++ (hears_run bus.now.devices.entries bytes.now self.old).text) }
+        ensures after { OnOk result (self.new ≡ (hears_run bus.now.devices.entries bytes.now self.old).after) }
     {
         let told = read_bytes(&mut self.framer, bus, &self.opened, bytes, text);
         if told.is_err() {
             self.framer = Framer::new();
         }
-        self.last = now;
+        self.last = self.greatest;
         told
     }
 
-    /// Bytes come at a moment; none are nothing. An error is that of `hear_end`.
+    /// Bytes come: after a silence they begin another run. An error is that of `hear_end`.
+    fn hear_some(&mut self, bus: &Bus, bytes: &[u8], text: &mut String) -> Result<(), AllocError>
+        ensures text { OnOk result (string_bytes text.new ≡ string_bytes text.old ++ (then_hears (hears_silence bus.now.devices.entries self.old) (hears_run bus.now.devices.entries bytes.now)).text) }
+        ensures after { OnOk result (self.new ≡ (then_hears (hears_silence bus.now.devices.entries self.old) (hears_run bus.now.devices.entries bytes.now)).after) }
+    {
+        self.hear_silence(bus, text)?;
+        self.hear_run(bus, bytes, text)
+    }
+
+    /// Bytes come at a moment; none bring the moment alone. An error is that of `hear_end`.
     pub(crate) fn hear_bytes(
         &mut self,
         bus: &Bus,
@@ -249,11 +269,11 @@ impl Listener {
         ensures text { OnOk result (string_bytes text.new ≡ string_bytes text.old ++ (hears_bytes bus.now.devices.entries bytes.now now self.old).text) }
         ensures after { OnOk result (self.new ≡ (hears_bytes bus.now.devices.entries bytes.now now self.old).after) }
     {
+        self.see(now);
         if bytes.is_empty() {
             return Ok(());
         }
-        self.hear_silence(bus, now, text)?;
-        self.hear_run(bus, bytes, now, text)
+        self.hear_some(bus, bytes, text)
     }
 
     /// A report was told, which may say that a session is open, or isn't any more.

@@ -90,11 +90,20 @@ impl LinePanel {
                 self.listener
                     .hear_bytes(&self.bus, list.as_slice(), self.now, text)
             }
-            PanelCall::Silence => self.listener.hear_end(&self.bus, text),
-            PanelCall::Tick => self.listener.hear_silence(&self.bus, self.now, text),
+            PanelCall::Begin(entry) => {
+                self.listener.hear_begin(&self.bus, *entry, self.now);
+                Ok(())
+            }
+            PanelCall::Silence => {
+                self.listener.see(self.now);
+                self.listener.hear_end(&self.bus, text)
+            }
+            PanelCall::Tick => {
+                self.listener.see(self.now);
+                self.listener.hear_silence(&self.bus, text)
+            }
             PanelCall::At(_)
             | PanelCall::Add(_)
-            | PanelCall::Begin(_)
             | PanelCall::Submit(..)
             | PanelCall::Withdraw(_)
             | PanelCall::Retarget(..) => Ok(()),

@@ -3,12 +3,12 @@ use Rattle.osdp_bus.specs.Settings.{IsBusConfig}
 use Rattle.osdp_words.specs.Word.{texts}
 use Rattle.osdp_line_commands.specs.Settings.{SettingFits, setting_words}
 use Rattle.osdp_line_commands.specs.PanelSettings.{defaults, entry, put}
-use Rattle.osdp_line_commands.proofs.Reading.{Stands}
+use Rattle.osdp_line_commands.proofs.FirstWrong.{Known}
 use Rattle.osdp_line_commands.proofs.panel.panel_settings.Given as goal
 
 -- what is set so far, and the words that are left
 abbrev pub invariant-settings : goal.invariant-settings
-invariant-settings l = IsBusConfig l.config × Stands (setting_words entry) (SettingFits entry) put defaults (texts l.fn.words) l.fields l.config
+invariant-settings l = IsBusConfig l.config × Known (setting_words entry) (SettingFits entry) put defaults (texts l.fn.words) l.fields l.config
 
 abbrev pub decreases-settings : goal.decreases-settings
 decreases-settings l = length l.fields

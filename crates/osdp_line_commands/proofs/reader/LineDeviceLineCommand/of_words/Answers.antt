@@ -3,4 +3,4 @@ use Rattle.osdp_line_commands.specs.Runs.{new_device}
 use Rattle.osdp_line_commands.proofs.reader.LineDeviceLineCommand.of_words.Goals as goal
 
 pub returns-in-Err-clause-none : goal.returns-in-Err-clause-none
-returns-in-Err-clause-none c = (new_device c.in-Some.settings, (c.in-Some.settings, c.in-Some.ensures.reads.value, refl))
+returns-in-Err-clause-none c = (new_device c.in-Ok.settings, (c.in-Ok.settings, c.in-Ok.ensures.reads.value, refl))
