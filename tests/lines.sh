@@ -111,7 +111,7 @@ at 410 > due 600
 bytes 5385080000 > due 430
 bytes 4106D9 > passed over 1 NAK 6;due 600
 bytes 5386090000410600D7 > passed over 2 NAK 6 00;due 600
-bytes 538507000342DC > passed over 1 code 42;due 600
+bytes 538507000342DC > passed over 1 seq 3 code 42;due 600
 bytes 530507000000A1 > due 600
 bytes 5387090000410600D6 > due 600
 bytes 53850800004104DB > lost 1 number-refused;due none

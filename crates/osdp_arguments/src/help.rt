@@ -164,7 +164,7 @@ count from 1, in the order in which they were added.
   silence             the line was silent
   tick                what is due is done
 
-Commands of submit, by their texts. Times are in units of 100 ms. docs/PROTOCOL.md has every field and its values.
+Commands of submit, by their texts. Times are in units of 100 ms. docs/PROTOCOL.md has each field and value.
 
   ID 0                            what the device is: it answers PDID
   CAP 0                           what it can do: it answers PDCAP
@@ -181,14 +181,14 @@ Answers: before the last line of an answer stand lines like these.
   send HEX              write these bytes to the line at once
   opened I PDID..       the session is open
   settled I X = Y       command X was answered Y, which may be a NAK: done where it is no NAK
-  moved I X = Y         COMSET X is done, and the session closed: set the port once all devices have moved, and begin
+  moved I X = Y         COMSET X is done, and the session closed: once all have moved set the port, and begin
   event I X             the device tells X, once
   answered I X          a POLL was answered X, which is no event
   unread I code XX..    the answer can't be read; the command that may follow may have been done or not
   lost I CAUSE..        the session is closed: no-reply, too-busy or number-refused; a command as with unread
   passed over I X       what the device says while no session is open: NAK 6 that it demands Secure Channel
   withdrawn I X         command X was taken back
-  refused line          no call: its name, how many words it has, or a word that is no value or out of its range
+  refused line          no call: its name, how many words it has, or one that is no value or out of its range
   refused B2, B3        sixteen devices are there; the address is another device's, or reserved for one
   refused B4, B5        there is no device I; the address is above 126
   refused C3, C4        no room for another command; a POLL is not submitted
@@ -245,10 +245,10 @@ Events, by their texts. docs/PROTOCOL.md has every field.
 Answers: before the last line of an answer stand lines like these.
 
   send HEX            write these bytes to the line at once
-  taken X             do command X, once; but nothing of it where the bytes sent are a NAK, whose sixth byte is 41
+  taken X             do command X, once; nothing where the bytes sent are a NAK, whose sixth byte is 41
   again X             command X with number 0 may come again: do only what may be done twice for one order
   moved ADDRESS RATE  keep both where no loss of power takes them; then send, and set the port to this rate
-  refused line        no call: its name, how many words it has, or a word that is no value or out of its range
+  refused line        no call: its name, how many words it has, or one that is no value or out of its range
   refused N2          no room for another event
   waiting N           the last line: how many events wait
 
