@@ -22,7 +22,8 @@ rate after the last one has moved. One that refuses it keeps the port at the old
 FILE gets each burst, both ways, as `osdp show` reads it.
 
 Status: 2 bad words or settings, 3 the port or standard output fails, 4 out of memory, 127 there is no such program,
-130 at Ctrl-C. Nothing is said at Ctrl-C and where nobody reads standard output any more, else one line that says why.
+130 at Ctrl-C. Nothing is said at Ctrl-C and where nobody reads standard output any more, else one line that says why,
+and of bad settings two.
 """
 from lines import BAD_WORDS, Lines, Program, moment, number, stop, take_words, tell, wait_for
 from port import Port, has_rate

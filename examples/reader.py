@@ -21,7 +21,8 @@ The reader has eight outputs, which an OUT switches; the time of an output is co
 each burst, both ways, as `osdp show` reads it.
 
 Status: 2 bad words or settings, 3 the port or standard output fails, 4 out of memory, 127 there is no such program,
-130 at Ctrl-C. Nothing is said at Ctrl-C and where nobody reads standard output any more, else one line that says why.
+130 at Ctrl-C. Nothing is said at Ctrl-C and where nobody reads standard output any more, else one line that says why,
+and of bad settings two.
 """
 import os
 

@@ -414,7 +414,11 @@ def ends(rows):
 
 
 BAD = r"bad words: --help tells the right ones\n"
-PROGRAM = r"osdp[\w ]*: bad words\n"
+
+
+def program_says(setting):
+    """What the program says of words whose last two are no setting."""
+    return rf"osdp: bad words\nosdp: no setting: {' '.join(setting.split()[-2:])}\n"
 
 
 def with_program(given, count, program):
@@ -424,11 +428,12 @@ def with_program(given, count, program):
 
 
 def wrong_words(words, is_python):
-    """What is wrong with the words of an example is told in one line, with status 2, and 3 where the port or the trace is it."""
+    """What is wrong with the words of an example is told in one line, with status 2, and 3 where the port or the trace is it. Of settings the program tells
+    it in two lines, of which the second names them."""
     (panel, panel_program), (reader, reader_program) = words
     terminal = Terminal()
     port, nowhere = terminal.path, "/nowhere/file"
-    a_setting = PROGRAM if is_python else r"bad [\w-]+.*\n|a setting is out of its range\n"
+    a_setting = program_says if is_python else lambda setting: r"bad [\w-]+.*\n|a setting is out of its range\n"
     rows = [
         (panel, [], 2, BAD), (panel, [port], 2, BAD), (panel, [port, 9600], 2, BAD), (panel, ["--trace", nowhere], 2, BAD), (panel, ["--trace"], 2, BAD),
         (panel, ["--traces", port, 9600, 5], 2, BAD), (panel, [port, "fast", 5], 2, r"bad rate: fast\n"), (panel, [port, -9600, 5], 2, r"bad rate: -9600\n"),
@@ -443,9 +448,9 @@ def wrong_words(words, is_python):
     ]
     rows += [(panel, [port, 9600, word], 2, rf"bad address: {last}(, refused .*)?\n")
              for word, last in (("127", 127), ("5,128", 128), ("5,5", 5), ("5,", ""), ("x", "x"), ("5,-1", -1), (",".join(map(str, range(17))), 16))]
-    rows += [(panel, [port, 9600, 5, *setting.split()], 2, a_setting)
+    rows += [(panel, [port, 9600, 5, *setting.split()], 2, a_setting(setting))
              for setting in ("gap 0", "check none", "sends 256", "capacity 1025", "reply-wait x", "room 1", "gap 20 gap 0")]
-    rows += [(reader, [port, 9600, *setting.split()], 2, a_setting)
+    rows += [(reader, [port, 9600, *setting.split()], 2, a_setting(setting))
              for setting in ("address 127", "address x", "gap 0", "room 0", "cap 1:2", "cap 1:2:256", "vendor 5349", "model 256", "firmware 1:2", "capacity 1")]
     ends([([*example, *with_program(given, *((3, panel_program) if example is panel else (2, reader_program)))], status, said)
           for example, given, status, said in rows])
