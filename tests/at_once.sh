@@ -14,7 +14,7 @@ speaks() {
   for line in "$@"; do
     echo "$line" >&"$to"
     answered=0
-    while read -r -t 10 answer <&"$from"; do
+    while read -r -t 60 answer <&"$from"; do
       [ "${answer%% *}" = "$end" ] && answered=1 && break
     done
     [ "$answered" -eq 1 ] || { echo "at_once.sh: $command: $line: no answer while the input stays open"; failed=1; break; }

@@ -152,7 +152,7 @@ def started(*words):
 def judge_end(name, process, wanted):
     """The program ends by itself, with this message and status 3."""
     try:
-        status = process.wait(timeout=5)
+        status = process.wait(timeout=60)
     except subprocess.TimeoutExpired:
         process.kill()
         status = None

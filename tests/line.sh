@@ -8,6 +8,6 @@ cd "$(dirname "$0")/.." || exit 1
 work=$(mktemp -d)
 trap 'rm -rf "$work"' EXIT
 failed=0
-timeout 80 python3 tests/line.py "$program" || failed=1
-{ examples/c/build "$work" -Werror && timeout 80 python3 tests/line.py "$program" 1 "$work"; } || failed=1
+timeout 300 python3 tests/line.py "$program" || failed=1
+{ examples/c/build "$work" -Werror && timeout 300 python3 tests/line.py "$program" 1 "$work"; } || failed=1
 exit "$failed"
