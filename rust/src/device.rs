@@ -33,6 +33,23 @@ pub struct DeviceConfig<'a> {
     pub capabilities: &'a [[u8; 3]],
 }
 
+impl DeviceConfig<'_> {
+    /// A device at an address, with room for 64 events, a gap of 20 ms, and all other numbers 0. It tells no capabilities.
+    pub const fn new(address: u8) -> DeviceConfig<'static> {
+        DeviceConfig {
+            address,
+            capacity: 64,
+            gap: Duration::from_millis(20),
+            vendor: [0; 3],
+            model: 0,
+            version: 0,
+            serial: 0,
+            firmware: [0; 3],
+            capabilities: &[],
+        }
+    }
+}
+
 numbered! {
     /// How a packet was answered.
     pub enum Said {

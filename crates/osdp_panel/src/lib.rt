@@ -30,12 +30,9 @@ ghost use Rattle.osdp_bus.specs.Deadlines.{IsDeadline};
 ghost use Rattle.osdp_bus.specs.Sending.{IsSentAs};
 ghost use Rattle.osdp_panel.specs.Turns.{after_turn, heard_in, ticked_in};
 
-use osdp_bus::{Bus, Entry};
-pub use osdp_bus::{BusConfig, BusFault};
-pub use osdp_controller::LostCause;
-use osdp_controller::Report;
-use osdp_frame::Burst;
-pub use osdp_frame::{Address, CheckKind};
+pub use osdp_bus::{Bus, BusConfig, BusFault, Entry};
+pub use osdp_controller::{LostCause, Report};
+pub use osdp_frame::{Address, Burst, CheckKind};
 pub use osdp_msg::{
     Buzzer, Capability, Command, Communication, Event, Keypad, LedRecord, Leds, LocalState,
     MakerMessage, MsgFault, NakReason, OutputRecord, Outputs, PdCap, PdId, Raw, Reply, Text,

@@ -105,6 +105,13 @@ impl Panel {
         turn.sleep_until = self.bus.next_deadline();
     }
 
+    /// The moment of the next turn, if no bytes come before: as `Turn::sleep_until`, but after what the panel's own code has called since the turn.
+    pub fn next_deadline(&self) -> Option<u64>
+        ensures { IsDeadline self.now result }
+    {
+        self.bus.next_deadline()
+    }
+
     /// How many devices there are.
     pub fn entries(&self) -> usize
         ensures { result ≡ length self.now.devices.entries }

@@ -1,0 +1,93 @@
+/* A device with two outputs: `door_device PORT RATE`, at address 5. A line `card 12345640` says that a card was read. Each output that is switched on is
+ * printed. */
+#include <string.h>
+
+#include "port.h"
+#include "words.h"
+
+/* Whether an output may be switched so: for a time, or off. A door may not stand open for good. */
+static bool may_be_done(const struct osdp_output *record)
+{
+    return record->output < 2 && (record->control == 1 || record->control == 5);
+}
+
+#ifdef UNIT_TEST
+int main(void)
+{
+    const struct osdp_output opens = { 30, 0, 5 }, closes = { 0, 1, 1 }, for_good = { 0, 0, 2 }, third = { 30, 2, 5 };
+    return may_be_done(&opens) && may_be_done(&closes) && !may_be_done(&for_good) && !may_be_done(&third) ? 0 : 1;
+}
+#else
+static osdp_device device;
+static int port;
+
+/* An OUT that may not be done is refused before it is answered; one that was confirmed is done. All else is answered as it was set. */
+static void take_out(const struct osdp_message *out, uint32_t order)
+{
+    struct osdp_output record;
+    for (size_t i = 0; osdp_output_of(out, i, &record) == OSDP_OK; i++) {
+        if (order == OSDP_ORDER_PENDING && !may_be_done(&record)) {
+            (void)osdp_device_answer_refused(&device, OSDP_NAK_RECORD_NOT_PROCESSED);
+        } else if (order == OSDP_ORDER_ONCE && record.control == 5) {
+            tell("on %u\n", (unsigned)record.output);
+        }
+    }
+}
+
+/* What the device says goes out, and then it does what it is to do. */
+static void take_answer(const struct osdp_answer *answer)
+{
+    write_all(port, &answer->burst);
+    take_out(&answer->command, answer->order);
+}
+
+/* Hands bytes to the device, until nothing is said to them. */
+static void hear(const uint8_t *bytes, size_t length, uint64_t now)
+{
+    static struct osdp_answer answer;
+    size_t at = 0, taken;
+    while (osdp_device_step(&device, bytes + at, length - at, now, &taken, &answer) == OSDP_OK) {
+        at += taken;
+        take_answer(&answer);
+        if (at == length && answer.kind == OSDP_SAID_NONE) {
+            return;
+        }
+    }
+}
+
+/* A card of 26 bits was read, where a line says so: it is told to the next POLL. */
+static void take_line(const char *line)
+{
+    uint8_t card[8] = { 0, 0, 26, 0 };
+    if (strncmp(line, "card ", 5) == 0 && digits(line + 5, card + 4, 4) == 4) {
+        (void)osdp_device_event(&device, OSDP_RAW, card, sizeof card);
+    }
+}
+
+int main(int count, char **words)
+{
+    static struct lines lines;
+    static struct osdp_answer answer;
+    const struct osdp_device_config config = { .address = 5, .capacity = 64, .gap = 20, .serial = 1, .vendor = { 'S', 'I', 'M' } };
+    const uint8_t outputs[2] = { 0, 0 };
+    uint8_t bytes[4096];
+    words = take_words(&count, words, 2, "door_device PORT RATE\n");
+    osdp_status status = osdp_device_new(&device, &config, outputs, 0);
+    if (status != OSDP_OK || osdp_device_set_outputs(&device, outputs, 2) != OSDP_OK) {
+        stop(OUT_OF_MEMORY, "%s", osdp_status_text(status));
+    }
+    port = open_port(words[0], number(words[1], "rate"));
+    for (;;) {
+        size_t length = read_port(port, &lines, 10, bytes, sizeof bytes);
+        uint64_t now = moment(); /* after the read: not before it */
+        hear(bytes, length, now);
+        for (const char *line = next_line(&lines); line != NULL; line = next_line(&lines)) {
+            take_line(line);
+        }
+        if (osdp_device_tick(&device, now, &answer) == OSDP_OK) {
+            take_answer(&answer);
+            hear(bytes, 0, now);
+        }
+    }
+}
+#endif

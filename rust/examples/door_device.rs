@@ -1,0 +1,98 @@
+//! A device with two outputs: `door_device PORT RATE`, at address 5. A line `card 12345640` says that a card was read. Each output that is switched on is
+//! printed.
+mod port;
+
+use osdp::{Answer, Command, Device, DeviceAnswer, DeviceConfig, Moment, NakReason, Order, Output};
+use port::{Came, Port};
+use std::error::Error;
+use std::time::Duration;
+
+/// How long it waits at most.
+const TURN: Duration = Duration::from_millis(10);
+
+/// Whether an output may be switched so: for a time, or off. A door may not stand open for good.
+fn may_be_done(record: &Output) -> bool {
+    record.output < 2 && (record.control == 1 || record.control == 5)
+}
+
+/// What is said to a command, where it isn't answered as it was set.
+fn decide(command: &Command) -> Option<DeviceAnswer<'static>> {
+    let refused = DeviceAnswer::Refused(NakReason::RecordNotProcessed);
+    let may = command.outputs().all(|record| may_be_done(&record));
+    (!may).then_some(refused)
+}
+
+/// Switches an output on.
+fn switch(record: Output) {
+    println!("on {}", record.output);
+}
+
+type Done = Result<(), Box<dyn Error>>;
+
+/// What the device says goes out, and then it does what it is to do.
+fn take(device: &mut Device, port: &mut Port, answer: &Answer) -> Done {
+    if let Some(burst) = &answer.burst {
+        port.write(burst)?;
+    }
+    match &answer.order {
+        Some(Order::Pending(command)) => {
+            decide(command).map_or(Ok(()), |said| device.answer_next(said))?
+        }
+        Some(Order::Once(command)) => command
+            .outputs()
+            .filter(|r| r.control == 5)
+            .for_each(switch),
+        _ => {}
+    }
+    Ok(())
+}
+
+/// Hands bytes to the device, until nothing is said to them.
+fn hear(device: &mut Device, port: &mut Port, mut bytes: &[u8], now: Moment) -> Done {
+    loop {
+        let (taken, answer) = device.step(bytes, now);
+        bytes = &bytes[taken..];
+        match answer {
+            Some(answer) => take(device, port, &answer)?,
+            None if bytes.is_empty() => return Ok(()),
+            None => {}
+        }
+    }
+}
+
+fn main() -> Done {
+    let words: Vec<String> = std::env::args().collect();
+    let [_, path, rate] = &words[..] else {
+        return Err("door_device PORT RATE".into());
+    };
+    let mut port = Port::open(path, rate)?;
+    let mut device = Device::new(&DeviceConfig::new(5))?;
+    device.set_outputs(&[0, 0])?;
+    loop {
+        let came = port.wait(port.now() + TURN)?;
+        let now = port.now(); // after the read: not before it
+        match &came {
+            Came::Bytes(bytes) => hear(&mut device, &mut port, bytes, now)?,
+            Came::Line(line) => match line.strip_prefix("card ") {
+                Some(card) => device.event_text(&format!("RAW 0 0 26 {card}"))?,
+                None => println!("refused line"),
+            },
+            Came::Nothing => {}
+        }
+        if let Some(answer) = device.tick(now) {
+            take(&mut device, &mut port, &answer)?;
+            hear(&mut device, &mut port, &[], now)?;
+        }
+    }
+}
+
+#[test]
+fn a_door_does_not_stand_open() {
+    let record = |output, control| Output {
+        output,
+        control,
+        timer: 30,
+    };
+    assert!(may_be_done(&record(0, 5)) && may_be_done(&record(1, 1)));
+    assert!(!may_be_done(&record(0, 2)) && !may_be_done(&record(2, 5)));
+}
