@@ -71,7 +71,7 @@ int main(int count, char **words)
     const struct osdp_device_config config = { .address = 5, .capacity = 64, .gap = 20, .serial = 1, .vendor = { 'S', 'I', 'M' } };
     const uint8_t outputs[2] = { 0, 0 };
     uint8_t bytes[4096];
-    words = take_words(&count, words, 2, "door_device PORT RATE\n");
+    words = take_words(&count, words, 2, "door_device PORT RATE\n", NULL);
     osdp_status status = osdp_device_new(&device, &config, outputs, 0);
     if (status != OSDP_OK || osdp_device_set_outputs(&device, outputs, 2) != OSDP_OK) {
         stop(OUT_OF_MEMORY, "%s", osdp_status_text(status));

@@ -68,7 +68,7 @@ int main(int count, char **words)
     static struct osdp_burst burst;
     struct osdp_panel_config config;
     uint8_t bytes[4096];
-    words = take_words(&count, words, 2, "door_panel PORT RATE\n");
+    words = take_words(&count, words, 2, "door_panel PORT RATE\n", NULL);
     osdp_panel_defaults(&config);
     osdp_status status = osdp_panel_new(&panel, &config);
     if (status != OSDP_OK || osdp_panel_add(&panel, 5, &door) != OSDP_OK) {
