@@ -17,9 +17,10 @@ from pathlib import Path
 TOP = Path(__file__).resolve().parent.parent
 PROGRAM = Path(sys.argv[1]).resolve()
 ENVIRONMENT = {**os.environ, "PATH": f"{PROGRAM.parent}:{os.environ['PATH']}"}
-TOPICS = ("show", "check", "make", "sim", "panel", "reader")
+TOPICS = ("show", "monitor", "check", "make", "sim", "panel", "reader")
 # which part of a page has the rows of a help's part: the part of the help is what stands before its rows
-PARTS = {"show": [("OPTIONS", "usage")], "check": [("OPTIONS", "usage")], "sim": [("SCRIPTS", "Input")],
+PARTS = {"show": [("OPTIONS", "usage")], "monitor": [("OPTIONS", "usage")], "check": [("OPTIONS", "usage")],
+         "sim": [("SCRIPTS", "Input")],
          "panel": [("SETTINGS", "usage"), ("CALLS", "Input"), ("COMMANDS", "Commands"), ("ANSWERS", "Answers")],
          "reader": [("SETTINGS", "usage"), ("CALLS", "Input"), ("EVENTS", "Events"), ("ANSWERS", "Answers")]}
 # a text for each command of `help panel` and each event of `help reader`, after the calls that hand it over
@@ -208,7 +209,7 @@ def main():
     whole = asked("help")
     if asked("--help") != whole or asked("-h") != whole:
         tell("--help and -h print something else than help")
-    pages = {name: page(name) for name in ("osdp", "osdp-panel", "osdp-reader")}
+    pages = {name: page(name) for name in ("osdp", "osdp-monitor", "osdp-panel", "osdp-reader")}
     commands = [name for name, _ in rows(part_of(whole, "usage")) if re.match(r"[a-z]", name)]
     if commands != [*TOPICS, "help"]:
         tell("the commands of help", [*TOPICS, "help"], commands)

@@ -31,7 +31,7 @@ grep -qF "export PKG_CONFIG_PATH=$there/lib/pkgconfig" "$work/said" || fail 'it 
 
 [ "$("$there/bin/osdp" --version)" = 'osdp 0.1.0' ] || fail 'another version, or no program'
 cmp -s "$there/bin/osdp" "$1" || fail 'another program than the one that is proved'
-for page in osdp osdp-panel osdp-reader; do
+for page in osdp osdp-monitor osdp-panel osdp-reader; do
   MANPATH=$there/share/man man "$page" 2>/dev/null | grep -q SYNOPSIS || fail "man $page finds no page"
 done
 [ "$(find "$there" -name '*.new' -o -name __pycache__ -o -name target | wc -l)" -eq 0 ] || fail 'work of a build was put in place'

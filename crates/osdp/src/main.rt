@@ -1,4 +1,4 @@
-//! The program `osdp`: it shows, checks and makes packets of an OSDP line, runs scripts of schedules, and runs a panel or a reader by lines of text.
+//! The program `osdp`: it reads, makes and listens to packets of an OSDP line, runs scripts of schedules, and a panel or a reader by lines of text.
 #![tactic(auto)]
 
 use osdp_arguments::{Choice, VERSION, arguments, choose, help_text, lent};
@@ -8,8 +8,10 @@ use osdp_line_commands::{
 use osdp_panel_calls::LinePanel;
 use osdp_reader_calls::LineDevice;
 use osdp_tool::{Job, ToolFault, Watched, check, job, make, show, sim};
+use osdp_tool_listen::{Moments, monitor, monitor_mode};
 use osdp_tool_streams::{flush_out, write_out};
 use std::process::ExitCode;
+use std::time::Instant;
 
 /// Prints a text.
 fn print(rt: &HostRuntime, text: &str) -> Result<(), ToolFault> {
@@ -32,6 +34,44 @@ fn run_machine<P: LineCommand>(rt: &HostRuntime, words: &[&str]) -> Result<(), T
         output: Watched::new(rt.stdout()),
     };
     run_lines::<P, _, _>(&mut run)
+}
+
+/// The moments of the runtime's clock, from when it was made on. Where the clock can't be read, the moment is the one before.
+#[derive(Drop)]
+struct Clock<'a> {
+    rt: &'a HostRuntime,
+    start: Option<Instant>,
+    last: u64,
+}
+
+impl Moments for Clock<'_> {
+    ghost tells = { λ old moment new. Unit {0} };
+
+    fn now(&mut self) -> u64 {
+        let Some(start) = self.start else {
+            self.start = Instant::now(self.rt).ok();
+            return self.last;
+        };
+        if let Ok(passed) = start.elapsed(self.rt) {
+            self.last = u64::try_from(passed.as_millis()).unwrap_or(u64::MAX);
+        }
+        self.last
+    }
+}
+
+/// Listens to standard input, as the words after the command's name ask. True where somebody was accused, or something refused.
+fn run_monitor(rt: &HostRuntime, words: &[&str]) -> Result<bool, ToolFault> {
+    let Some(mode) = monitor_mode(words.get(1..).unwrap_or(&[])) else {
+        return Err(ToolFault::BadWords);
+    };
+    let mut clock = Clock {
+        rt,
+        start: None,
+        last: 0,
+    };
+    let mut input = Watched::new(rt.stdin());
+    let mut output = Watched::new(rt.stdout());
+    monitor(rt.alloc(), mode, &mut clock, &mut input, &mut output)
 }
 
 /// Does the job that the words choose. True where a refusal was met.
@@ -59,6 +99,7 @@ fn run(rt: &HostRuntime) -> Result<bool, ToolFault> {
     match choose(&words) {
         Choice::Help(topic) => print(rt, help_text(topic))?,
         Choice::Version => print(rt, VERSION)?,
+        Choice::Monitor => return run_monitor(rt, &words),
         Choice::Panel => run_machine::<LinePanel>(rt, &words)?,
         Choice::Reader => run_machine::<LineDevice>(rt, &words)?,
         Choice::Job => return run_job(rt, &words),

@@ -1,12 +1,13 @@
 -- Which help is whose.
 use Rattle.std.specs.Prelude.{◌≡◌, ℕ, List, codes, length, take}
 use Rattle.osdp_arguments.specs.declared.choice.Topic.{Topic}
-use Rattle.osdp_arguments.specs.declared.choice.Topic.TheVariants.{Program, Show, Check, Make, Sim, Panel, Reader}
+use Rattle.osdp_arguments.specs.declared.choice.Topic.TheVariants.{Program, Show, Monitor, Check, Make, Sim, Panel, Reader}
 
 -- what a help begins with
 abbrev pub heading : Topic → List ℕ
 heading Program = codes "osdp: "
 heading Show = codes "osdp show: "
+heading Monitor = codes "osdp monitor: "
 heading Check = codes "osdp check: "
 heading Make = codes "osdp make: "
 heading Sim = codes "osdp sim: "

@@ -11,6 +11,8 @@ pub enum Topic {
     Program,
     /// The command `show`.
     Show,
+    /// The command `monitor`.
+    Monitor,
     /// The command `check`.
     Check,
     /// The command `make`.
@@ -30,6 +32,8 @@ pub enum Choice {
     Help(Topic),
     /// The product's version is printed.
     Version,
+    /// A line is listened to; the words after the first are options.
+    Monitor,
     /// A panel by lines of text runs; the words after the first are its settings.
     Panel,
     /// A reader by lines of text runs; the words after the first are its settings.
@@ -44,6 +48,7 @@ fn topic_named(name: &str) -> Choice
 {
     match name {
         "show" => Choice::Help(Topic::Show),
+        "monitor" => Choice::Help(Topic::Monitor),
         "check" => Choice::Help(Topic::Check),
         "make" => Choice::Help(Topic::Make),
         "sim" => Choice::Help(Topic::Sim),
@@ -67,7 +72,7 @@ fn help_of(words: &[&str]) -> Choice
 /// What the words after the program's name choose.
 ///
 /// `help` alone, `--help` and `-h` ask for the help of the program, `help` and the name of a command for the help of that. `--version` stands
-/// alone. After `panel` and `reader` any words may stand, which are read as settings. All other words are for `job`.
+/// alone. After `monitor`, `panel` and `reader` any words may stand, which are read as options and settings. All other words are for `job`.
 pub fn choose(words: &[&str]) -> Choice
     ensures { result ≡ choice_of (texts_of words.now) }
 {
@@ -76,6 +81,7 @@ pub fn choose(words: &[&str]) -> Choice
     };
     match *first {
         "help" => help_of(rest),
+        "monitor" => Choice::Monitor,
         "panel" => Choice::Panel,
         "reader" => Choice::Reader,
         "--help" | "-h" if rest.is_empty() => Choice::Help(Topic::Program),

@@ -12,20 +12,22 @@ const PROGRAM: &str =
 
 usage: osdp COMMAND [WORD]...
 
-  show    print a line for each packet, skipped byte and refused byte of a capture
-  check   print the refusals of a capture, and how many packets there are
-  make    print the digits of one packet
-  sim     run a script of a line between a controller and its readers
-  panel   run a panel by lines of text
-  reader  run a reader by lines of text
-  help    print this, or the help of a command: osdp help show
+  show     print a line for each packet, skipped byte and refused byte of a capture
+  monitor  print what happens on a line, and which end breaks its rules
+  check    print the refusals of a capture, and how many packets there are
+  make     print the digits of one packet
+  sim      run a script of a line between a controller and its readers
+  panel    run a panel by lines of text
+  reader   run a reader by lines of text
+  help     print this, or the help of a command: osdp help show
 
   -h, --help  print this
   --version   print the version
 
 Each command reads standard input and writes standard output. Secure Channel is not read or spoken.
-The status is 0, or 1 where show or check met a refusal. It is 2 at bad words or bad input, 3 where a
-read or a write failed, and 4 without memory. The manual: man osdp, man osdp-panel, man osdp-reader.
+The status is 0, or 1 where show, check or monitor met a refusal, or monitor accused an end. It is 2 at bad
+words or bad input, 3 where a read or a write failed, and 4 without memory. The manual: man osdp, man
+osdp-monitor, man osdp-panel, man osdp-reader.
 ";
 
 const SHOW: &str =
@@ -67,6 +69,34 @@ Recipes, from other texts to lines of digits:
 Where --raw prints skip lines alone, thousands of them, the input may be text: 30 to 39 and 41 to 46 are
 the characters of digits, and 20 is a space. Then leave --raw out, or take a recipe. If it is no text,
 look at the rate and the wires: docs/GUIDE.md, \"A device that doesn't answer\".
+";
+
+const MONITOR: &str = "osdp monitor: tells what happens on a line, and which end breaks its rules
+
+usage: osdp monitor [--hex] [--packets] [--gap N] [--every N]
+
+  --hex      the input is lines of digits, as show reads them: each line is a run
+  --packets  print each packet, skipped byte and refused byte too, as show does
+  --gap N    a run of bytes is over N milliseconds after its last ones, 1 to 3600000; else 20
+  --every N  print the table again N seconds after the last one, 1 to 3600000, as bytes come
+
+Input: bytes, as they come from a port, or lines of digits. The table comes where the input ends: end the
+program that gives the bytes. Ctrl-C ends this one, and no table is printed. man osdp-monitor says what each
+accusation means.
+
+Examples:
+
+  $ echo 53050700006041 | osdp monitor --hex
+  device  asked  polls repeats  answered  busy  nak  events  opened  moved  accused
+  5           1      1       0         0     0    0       0       0      0        0
+  runs 1 packets 1 skipped 0 refused 0 accused 0
+
+  $ printf '53050700016040\\n5305070003603E\\n' | osdp monitor --hex
+  2:0 device 5: unanswered
+  2:0 panel to 5: a number out of turn
+  device  asked  polls repeats  answered  busy  nak  events  opened  moved  accused
+  5           2      2       0         0     0    0       0       0      0        1
+  runs 2 packets 2 skipped 0 refused 0 accused 1
 ";
 
 const CHECK: &str = "osdp check: prints the refusals of a capture, and then counts
@@ -270,6 +300,7 @@ pub fn help_text(topic: Topic) -> &'static str
     match topic {
         Topic::Program => PROGRAM,
         Topic::Show => SHOW,
+        Topic::Monitor => MONITOR,
         Topic::Check => CHECK,
         Topic::Make => MAKE,
         Topic::Sim => SIM,

@@ -1,0 +1,5 @@
+pub mod Sessions
+pub mod Writing
+pub mod Pieces
+pub mod Closing
+pub mod Words

@@ -1,0 +1,5 @@
+pub mod Events
+pub mod Ending
+pub mod Session
+pub mod Reading
+pub mod Options
