@@ -1,4 +1,4 @@
-//! The program `osdp`: it reads, makes and listens to packets of an OSDP line, runs scripts of schedules, and a panel or a reader by lines of text.
+//! The program `osdp`: it reads, makes and listens to packets of OSDP, runs scripts of schedules, and a panel or a reader by lines of text.
 #![tactic(auto)]
 
 use osdp_arguments::{Choice, VERSION, arguments, choose, help_text, lent};
@@ -112,7 +112,7 @@ fn wrong_setting<'a>(words: &'a [&'a str]) -> Option<WrongSetting<'a>> {
     match choose(words) {
         Choice::Panel => panel_settings(after_name(words)).err(),
         Choice::Reader => reader_settings(after_name(words)).err(),
-        Choice::Help(_) | Choice::Version | Choice::Job => None,
+        Choice::Help(_) | Choice::Version | Choice::Monitor | Choice::Job => None,
     }
 }
 
