@@ -2,7 +2,7 @@
 """Runs what the pages show of the program. Takes the path of `osdp`.
 
 A block of a page that is marked `console` is a run at the top of the repository: a line that begins with "$ " is a command, and the lines after
-it are what it prints. Its status is 1 where these lines show a refusal of `show` or `check`, 2 to 4 where they show a fault, and 0 else. A page's
+it are what it prints. Its status is 1 where these lines show a refusal, or an accusation of `monitor`, 2 to 4 where they show a fault, and 0 else. A page's
 block marked `sh` is not run, and the page says so: the words "not run" stand in the block or in the paragraph above it. README's blocks that call `rt` or `bash .ci/run` are the gate itself, and need not say so."""
 import os
 import re
@@ -26,7 +26,7 @@ def statuses(wanted):
     """The statuses that a command may end with that prints this, as docs/PROTOCOL.md and the manual pages have them."""
     if re.search(r"^osdp\w*: ", wanted, re.M):
         return (2, 3, 4)
-    return (1,) if re.search(r"\brefused (F[1-4]|M[23])\b", wanted) else (0,)
+    return (1,) if re.search(r"\brefused (F[1-4]|M[23])\b|\baccused [1-9]", wanted) else (0,)
 
 
 def tell(page, what, wanted="", got=""):
