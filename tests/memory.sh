@@ -39,6 +39,10 @@ refuse_each() {
       refused_run "$number$after" "$@"
       got=$?
       [ -e "$work/mark" ] || break
+      # once bad words are told the program reads its words again, to say more of settings: what it has told stays
+      if [ "$got" -eq 2 ] && grep -q '^osdp: bad words' "$work/right_err" && cmp -s "$work/err" "$work/right_err" && [ ! -s "$work/out" ]; then
+        continue
+      fi
       if [ "$got" -ne 4 ]; then
         fault "$name: request $number$after refused: status $got, wanted 4"
       fi
@@ -76,6 +80,13 @@ bytes | refuse_each 'show, raw' 3 show --raw
 capture | refuse_each 'check' 3 check
 capture | refuse_each 'check, both options' 3 check --raw --join
 { capture; echo 5; } | refuse_each 'show, a bad line' 3 show
+# A listener takes a block for each address, and lines or text that grow.
+listened() { cat "$(dirname "$0")/../examples/two_readers.hex"; echo 53070700006040; }
+listened | refuse_each 'monitor' 5 monitor --hex
+listened | refuse_each 'monitor, with packets' 5 monitor --packets --hex
+bytes | refuse_each 'monitor, bytes' 5 monitor --packets
+{ listened; echo 5; } | refuse_each 'monitor, a bad line' 5 monitor --hex
+refuse_each 'monitor, bad words' 1 monitor --gap 0 </dev/null
 refuse_each 'make' 3 make 5 1 crc OUT 0:2:0 </dev/null
 refuse_each 'make, a long text' 3 make 5 1 sum MFG 53494D "$(printf '%02858d' 0)" </dev/null
 refuse_each 'make, bad words' 3 make 5 4 sum POLL </dev/null
