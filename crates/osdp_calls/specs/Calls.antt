@@ -1,4 +1,5 @@
--- What the calls of a bus and its devices do to a line in use: each by the definition that the call's own contract cites.
+-- What the calls of a bus and its devices do to a line in use. What a call makes of the bus, of a reader and of what has come on its line is the
+-- definition that the call's own contract cites; what it reads, who speaks and the accounts are said here.
 use Rattle.std.specs.Prelude.{ℕ, ◌++◌, max, Bool, true, false, ◌==◌, if◌then◌else◌, List, [], ◌∷◌, map, length, Option, Some, None, Result, Ok, Err, option_to_list}
 use Rattle.osdp_frame.specs.Items.{items, whole_packets}
 use Rattle.osdp_frame.specs.Packet.{Packet}
@@ -156,7 +157,7 @@ module _ {H : Type 0} where
 
   -- ---- what the panel says
 
-  -- where a session was to begin, it begins with what goes out for its entry
+  -- where a session was to begin, it begins with what goes out for its entry: a controller that waits to begin sends nothing but the opening ID
   abbrev pub begins_with : ℕ → Packet → Option ℕ → InUse H → InUse H
   begins_with entry p None l = l
   begins_with entry p (Some moment) l = record l {

@@ -15,7 +15,7 @@ pub record Burst : Type 0 where
   pub entry : ℕ
   pub packet : Packet
 
--- the device of an entry: its reader, what has come on its line, and the place in what was said of what it read last. With it, of its
+-- the device of an entry: its reader, what has come on its line, and the place in what was said of what it read last, 0 at first. With it, of its
 -- entry: the moment of a `begin` whose opening ID has not gone out yet, the account of its session, and those of the sessions before it,
 -- the last of them first
 pub record Station (H : Type 0) : Type 0 where
@@ -49,10 +49,11 @@ bus_with config addresses = record (new_bus config) {
 
 -- ---- what an end may still read
 
--- a burst is for the entry of an opening, or of its device, or to or from its address; and it was said before
+-- a burst is for the entry of an opening, or of its device, or to or from its address
 abbrev pub concerns : Opening → Burst → Bool
 concerns o b = (b.entry == o.entry) || (b.packet.address == o.address)
 
+-- .. and was said before it
 abbrev pub is_before : Opening → ℕ → Burst → Bool
 is_before o place b = nat_lt place o.place && concerns o b
 

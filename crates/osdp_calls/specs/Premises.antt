@@ -1,4 +1,4 @@
--- What is asked of the calls of a line in use: four premises, each of its own.
+-- What is asked of the calls of a line in use: order, quiet openings, addresses and set-up, each of its own, and that values are in their ranges.
 use Rattle.std.specs.Prelude.{◌≡◌, ◌≢◌, ◌≤◌, ◌<◌, ◌⊎◌, ℕ, false, Bool, All, List, [], ◌∷◌, ◌++◌, map, length, Option, Some, None, IfSome}
 use Rattle.osdp_frame.specs.Packet.{Packet}
 use Rattle.osdp_msg.specs.CommandTable.{CommandFits}
@@ -106,7 +106,7 @@ module _ {H : Type 0} where
 
   -- ---- 4. Set-up
 
-  -- entries are added at different addresses, each with its reader there, before anything is said; nothing else was called yet
+  -- entries are added at different addresses, each with its reader there and no reply stored, before anything is said
   pub record IsSetUp (l : InUse H) : Type 0 where
     pub config : BusConfig
     pub settings : IsBusConfig config

@@ -11,8 +11,8 @@ use Rattle.osdp_calls.specs.Premises.{AllKeep, IsSetUp}
 
 module _ {H : Type 0} where
   -- Within each session of an entry commands are taken once and in order, settled with the answers that the device gave, and events are
-  -- reported once and in order. What a session leaves the next one begins with. And over all sessions no command is taken twice: those
-  -- taken are a beginning of those that have ended or were issued last, but for some that ended without being settled.
+  -- reported once and in order. What a session leaves the next one begins with. And over all sessions no command is taken twice, by its
+  -- place: those taken are a beginning of all that have ended or that the last session has, with some left out that ended without being settled.
   pub record HoldsPromises (t : Station H) : Type 0 where
     pub once : EachIsOnce (t.account ∷ t.earlier)
     pub row : AreInARow t.account t.earlier
