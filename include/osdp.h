@@ -22,14 +22,20 @@
  * Stack.      `osdp_device_new` takes 98 KiB of stack, each other call at most 68 KiB, as measured on 64-bit x86.
  * Targets.    64-bit x86 and ARM, where a `size_t` has 64 bits.
  *
- * What the caller owes, which no proof checks:
+ * What the caller owes, which no proof checks, and what happens otherwise:
  *
- * - A handle is all zeros, or what the calls on it left there. It isn't copied and used twice, nor changed otherwise.
- * - A handle is used on the thread that made it alone, one call at a time, and in no signal handler. Threads may have a handle each
- *   where their heap may be shared.
- * - Each pointer is good and aligned: to as much as the call reads or writes, and to memory that is initialised where it is read; also for no
- *   bytes it is not null. What one call writes overlaps nothing else that the same call gets, the handle included.
+ * - A handle is all zeros, or what the calls on it left there. A copy that is used beside it, or words that were changed, are memory that was freed: anything may
+ *   happen. The two handles have fields of their own, so that the compiler sees a cast from one to the other.
+ * - A handle is used by one thread at a time, one call at a time, and in no signal handler: each call takes the machine out of its handle while it runs. Another
+ *   thread may take it over where the heap is one that threads may share.
+ * - Each pointer is good and aligned: to as much as the call reads or writes, and to memory that is initialised where it is read. It isn't null, also for no bytes:
+ *   the code that was compiled takes that for granted.
+ * - What one call writes overlaps nothing else that the same call gets. So the bytes of an answer aren't given to `osdp_device_step` together with the struct that
+ *   they stand in: copy them, or take another struct.
+ * - The stack has room (see above). `struct osdp_report` and `struct osdp_answer` have 2.9 KB each: make them static where a task's stack is small.
  * - `rattle_alloc` and `rattle_dealloc` (below) are a heap, and `memcpy`, `memmove` and `memset` are those of C.
+ * - Moments are taken after the read, of a clock that doesn't go backwards. One wrong moment that lies far ahead ends every session, and stays the greatest one
+ *   seen: until the clock reaches it, time stands still for the machine. Free it then, and make it anew.
  * - A machine that isn't freed is leaked.
  */
 #ifndef OSDP_H
