@@ -6,6 +6,8 @@
 - Each path that README names is there, and a law that stands in one row with a path is a law of that file.
 - docs/ARCHITECTURE.md has the picture and the table that tools/map makes of crates.txt. Each definition that it names is there.
   Each file of src/ and specs/, but for tests, says at its head what it holds.
+- docs/HEADLINE.md quotes the law `calls_hold_once` and each definition that it names, as it stands in the file named above it, and quotes no other. What these name
+  and it doesn't quote stands in its table of words, with the file that has it, and no other word does.
 - Each block of code of README and of docs/GUIDE.md is text of the file that the line above it names. Each topic that docs/PROFILE.md names is one of
   docs/PROTOCOL.md, and each topic there that has a choice of our own is named.
 - docs/PROFILE.md calls whole those codes that docs/PROTOCOL.md has in its tables of messages, and gives no code two rows.
@@ -17,6 +19,7 @@
 import re
 import runpy
 import sys
+import textwrap
 from pathlib import Path
 
 TOP = Path(__file__).resolve().parent.parent
@@ -195,6 +198,72 @@ def judge_code(page):
         faults.append(f"{page}: a block of code names no file")
 
 
+def paragraphs(text):
+    """The paragraphs of a text, each with its first line at the left."""
+    return [textwrap.dedent(part).strip("\n") for part in re.split(r"\n\s*\n", text)]
+
+
+def without_comments(part):
+    """A paragraph without the comments, and the head of a module, above its first definition."""
+    lines = part.splitlines()
+    while lines and lines[0].lstrip().startswith(("--", "module ")):
+        lines.pop(0)
+    return textwrap.dedent("\n".join(lines))
+
+
+def defined_in(file):
+    """The names that a file of definitions defines, and those that it takes from other files of this repository."""
+    text = (TOP / file).read_text()
+    own = set(re.findall(r"^ *(?:abbrev|unfoldable) pub (\w+)|^ *pub (?:record|data) (\w+)", text, re.M))
+    taken = re.findall(r"^use Rattle\.osdp_[\w.]+?\.\{(.*)\}$", text, re.M)
+    renamed = re.findall(r"^use Rattle\.osdp_[\w.]+ as (\w+)$", text, re.M)
+    return {name for pair in own for name in pair if name}, set(WORD.findall(" ".join(taken))) | set(renamed)
+
+
+def named_by(file, part):
+    """The definitions that a paragraph of a file names: not fields, nor what it binds itself."""
+    body = re.sub(r"--.*|\.[a-z]\w*|\bpub [a-z]\w* :|\([\w ]+ :", " ", part)
+    own, taken = defined_in(file)
+    return set(WORD.findall(body)) & (own | taken)
+
+
+def judge_headline():
+    """docs/HEADLINE.md: its quotes are the law's definitions as they stand in the files, and its words are what these name besides."""
+    page = "docs/HEADLINE.md"
+    text = (TOP / page).read_text()
+    quoted, names = {}, set()
+    for file, block in re.findall(r"^From `([^`]+)`:\n\n```antt\n(.*?)```$", text, re.M | re.S):
+        there = [without_comments(part) for part in paragraphs((TOP / file).read_text())]
+        for part in paragraphs(block.strip("\n")):
+            name = (re.search(r"pub (?:record |data )?(\w+)", part) or [part, part])[1]
+            if part not in there:
+                faults.append(f"{page}: {name} stands otherwise in {file}")
+            quoted.setdefault(name, set()).update(named_by(file, part) - {name})
+            if part.startswith("pub data"):
+                cases = re.findall(r"^  (\w+) :", part, re.M)
+                quoted.update({each: set() for each in cases})
+                quoted[name].update(cases)
+    reached, found = {"CallsHoldOnce", "TwoLists", "May"}, set()
+    while reached - found:
+        found |= reached
+        reached |= {other for name in reached for other in quoted.get(name, ())}
+    told = list(rows(text[text.index("## Words of the quotes") : text.index("## From the statement")]))[1:]
+    table = {name: cells[1] for cells in told for name in re.findall(r"`(\w+)`", cells[0])}
+    for name in sorted(quoted.keys() - reached):
+        faults.append(f"{page}: {name} is quoted, and nothing that is quoted names it")
+    for name in sorted(reached - quoted.keys() - table.keys()):
+        faults.append(f"{page}: {name} is named in a quote, and is neither quoted nor told in the table of words")
+    for name, files in sorted(table.items()):
+        if name not in reached:
+            faults.append(f"{page}: the table of words has {name}, which no quote names")
+        paths = re.findall(r"`([\w./]+)`", files)
+        those = [path if "/" in path else f"{paths[0].rpartition('/')[0]}/{path}" for path in paths]
+        if paths and name != "bus" and not any(re.search(rf"\bpub (?:record |data )?{name}\b|^ +{name} :", (TOP / "crates" / path).read_text(), re.M) for path in those):
+            faults.append(f"{page}: {name} is not in {files}")
+    if len(quoted) < 30:
+        faults.append(f"{page}: quotes are not there")
+
+
 def topics_chosen(text):
     """The headings over each choice of our own."""
     over, under = None, None
@@ -290,6 +359,7 @@ if __name__ == "__main__":
     judge_heads(every)
     judge_exchanges()
     judge_protocol()
+    judge_headline()
     judge_code("README.md")
     judge_code("docs/GUIDE.md")
     judge_profile()
