@@ -1,7 +1,7 @@
 /* The heap that libosdp_c.a asks for, from a fixed pool: for a device without malloc.
  *
  * OSDP_POOL is the size of the pool in bytes, a multiple of 16, and can be set where this file is compiled. What it must be for a panel and for a
- * reader stands in docs/GUIDE.md; as it is here it is enough for a panel with one device and a reader, with room for 64 each. The first free block that
+ * reader stands in docs/SIZES.md; as it is here it is enough for a panel with one device and a reader, with room for 64 each. The first free block that
  * is large enough is taken, and free neighbours are joined. There is no lock: use it from one thread. Nothing is needed from outside. */
 #include "osdp.h"
 

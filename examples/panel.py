@@ -10,7 +10,7 @@ Each line of standard input is an order: a reader's number and a command, as `1 
 its ADDRESS in the list, from 1. docs/PROTOCOL.md has the texts of all commands. Each line of standard output is what
 was ordered, or what the program reports: `opened`, `settled`, `event`, `lost` and others.
 
-Where no session opens, docs/GUIDE.md tells the causes: "A device that doesn't answer".
+Where no session opens, docs/INSTALLING.md tells the causes: "A device that doesn't answer".
 
 A reader whose session isn't open takes no order: it would be done whenever the reader comes back. Where a session is
 lost or moved, the orders that wait are taken back, and told `withdrawn`. A lost session begins again after a second.

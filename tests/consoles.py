@@ -57,7 +57,7 @@ def judge_page(page, environment):
 if __name__ == "__main__":
     folder = Path(sys.argv[1]).resolve().parent
     paths = {**os.environ, "PATH": f"{folder}:{os.environ['PATH']}"}
-    pages = ["README.md"] + sorted(str(file.relative_to(TOP)) for file in (TOP / "docs").glob("*.md"))
+    pages = ["README.md", "c/README.md", "examples/README.md", "rust/README.md"] + sorted(str(file.relative_to(TOP)) for file in (TOP / "docs").glob("*.md"))
     run = sum(judge_page(page, paths) for page in pages)
     print(f"consoles: {run} commands, {faults} faults")
     sys.exit(1 if faults or run == 0 else 0)

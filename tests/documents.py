@@ -8,14 +8,15 @@
   Each file of src/ and specs/, but for tests, says at its head what it holds.
 - docs/HEADLINE.md quotes the law `calls_hold_once` and each definition that it names, as it stands in the file named above it, and quotes no other. What these name
   and it doesn't quote stands in its table of words, with the file that has it, and no other word does.
-- Each block of code of README and of docs/GUIDE.md is text of the file that the line above it names. Each topic that docs/PROFILE.md names is one of
+- Each block of code of a page is text of the file that the line above it names. Each link of a page goes to a file, and to a heading of it. Each topic that docs/PROFILE.md names is one of
   docs/PROTOCOL.md, and each topic there that has a choice of our own is named.
 - docs/PROFILE.md calls whole those codes that docs/PROTOCOL.md has in its tables of messages, and gives no code two rows.
 - Each picture of an exchange in docs/PROTOCOL.md has the steps of the script named above it, whose account examples.sh compares with a run, and tells that account.
 - docs/PROTOCOL.md and man/osdp.1 have each text that the program prints on standard error.
 - Each crate, script and folder that any page names is there; a name with `osdp_` may be one of the header for C too.
 - No page, manual page or script says "behind" or "want of memory".
-- README has at most 120 lines of at most 120 characters, docs/DEVELOPING.md at most 120, docs/ARCHITECTURE.md at most 300, and no row of a table more than 200 characters."""
+- README has at most 120 lines of at most 120 characters, docs/DEVELOPING.md at most 120, docs/ARCHITECTURE.md at most 300, docs/GUIDE.md at most 450, and no row of a
+  table more than 200 characters."""
 import re
 import runpy
 import sys
@@ -23,6 +24,7 @@ import textwrap
 from pathlib import Path
 
 TOP = Path(__file__).resolve().parent.parent
+PAGES = ["README.md", "bench/README.md", "c/README.md", "examples/README.md", "rust/README.md", *sorted(f"docs/{file.name}" for file in (TOP / "docs").glob("*.md"))]
 LAW = re.compile(r"^pub fn (\w+)(.*?)(?=^    (?:ensures|requires)|^{)", re.M | re.S)
 NAMED = re.compile(r"(laws?|clauses?)?\s*`([^`]+)`")
 WORD = re.compile(r"\w+")
@@ -198,6 +200,21 @@ def judge_code(page):
         faults.append(f"{page}: a block of code names no file")
 
 
+def anchor(heading):
+    """What a link to a heading says after the `#`."""
+    return re.sub(r"[^\w -]", "", heading.lower()).replace(" ", "-")
+
+
+def judge_links(page):
+    """Any page: what its links go to is there."""
+    for path, part in re.findall(r"\]\(([^)#:]*)(?:#([^)]*))?\)", (TOP / page).read_text()):
+        file = ((TOP / page).parent / path).resolve() if path else TOP / page
+        if not file.exists():
+            faults.append(f"{page}: a link to {path}")
+        elif part and part not in {anchor(heading) for heading in re.findall(r"^#+ (.*)$", file.read_text(), re.M)}:
+            faults.append(f"{page}: a link to {path}#{part}")
+
+
 def paragraphs(text):
     """The paragraphs of a text, each with its first line at the left."""
     return [textwrap.dedent(part).strip("\n") for part in re.split(r"\n\s*\n", text)]
@@ -300,7 +317,7 @@ def judge_page(page, all_crates):
         if name not in all_crates and name not in exports:
             faults.append(f"{page}: there is no crate {name}")
     for name in sorted(set(re.findall(r"`((?:bench|c|crates/osdp\w+|docs|examples|include|man|rust|tests|tools)/[\w./-]*)", text))):
-        if not (TOP / name).exists():
+        if not (TOP / name).exists() and not ((TOP / page).parent / name).exists():
             faults.append(f"{page}: there is no {name}")
     for number, line in enumerate(text.splitlines(), 1):
         if line.startswith("|") and len(line) > 200:
@@ -328,7 +345,7 @@ def judge_messages():
 
 def plain_texts():
     """What is written for people: pages, manual pages and scripts."""
-    for folder in ("", "docs", "man", "tests", "tests/c", "tests/rows", "tools", "bench", "c", "examples", "examples/c", "include", "rust/src", "rust/examples"):
+    for folder in ("", "docs", "man", "tests", "tests/c", "tests/rows", "tools", "bench", "c", "examples", "examples/c", "include", "rust", "rust/src", "rust/examples"):
         for file in sorted((TOP / folder).iterdir()):
             if file.is_file() and file != Path(__file__).resolve():
                 yield file, file.read_text(errors="replace")
@@ -346,7 +363,7 @@ def judge_lengths():
     readme = (TOP / "README.md").read_text().splitlines()
     if len(readme) > 120 or max(map(len, readme)) > 120:
         faults.append("README.md: more than 120 lines, or a line of more than 120 characters")
-    for page, most in (("docs/DEVELOPING.md", 120), ("docs/ARCHITECTURE.md", 300)):
+    for page, most in (("docs/DEVELOPING.md", 120), ("docs/ARCHITECTURE.md", 300), ("docs/GUIDE.md", 450)):
         if len((TOP / page).read_text().splitlines()) > most:
             faults.append(f"{page}: more than {most} lines")
 
@@ -360,11 +377,11 @@ if __name__ == "__main__":
     judge_exchanges()
     judge_protocol()
     judge_headline()
-    judge_code("README.md")
-    judge_code("docs/GUIDE.md")
     judge_profile()
-    for each_page in ["README.md"] + sorted(str(file.relative_to(TOP)) for file in (TOP / "docs").glob("*.md")):
+    for each_page in PAGES:
         judge_page(each_page, every)
+        judge_code(each_page)
+        judge_links(each_page)
     judge_messages()
     judge_words()
     judge_lengths()

@@ -14,7 +14,7 @@ static const char usage[] =
     "Each line of standard input is an order: a reader's number and a command, as `1 OUT 0:5:30`. The number is the place of\n"
     "its ADDRESS in the list, from 1. docs/PROTOCOL.md has the texts of all commands. Each line of standard output is what\n"
     "was ordered, or what the panel reports: `opened`, `settled`, `event`, `lost` and others.\n"
-    "Where no session opens, docs/GUIDE.md tells the causes: \"A device that doesn't answer\".\n"
+    "Where no session opens, docs/INSTALLING.md tells the causes: \"A device that doesn't answer\".\n"
     "A reader whose session isn't open takes no order. Where a session is lost or moved, the orders that wait are taken\n"
     "back, and told `withdrawn`. A lost session begins again after a second.\n"
     "A COMSET is taken where every session is open. One with another rate is given to each reader, and the port gets that\n"
