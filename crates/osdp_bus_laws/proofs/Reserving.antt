@@ -21,7 +21,7 @@ use Rattle.osdp_bus_laws.specs.Exchanges.{KeepsReports}
 use Rattle.osdp_bus_laws.proofs.Calling.{sound_call, unless_taken}
 use Rattle.osdp_bus_laws.proofs.Places.{both_false, reserved_added, reserved_set, reserved_there}
 use Rattle.osdp_bus_laws.proofs.Sound.{SoundBus, sound_seen}
-use Rattle.osdp_bus_laws.proofs.Telling.{Follows, follows_bytes, follows_run, follows_tick, reserved_with}
+use Rattle.osdp_bus_laws.proofs.Telling.{ReservesByReport, follows_bytes, follows_run, follows_tick, reserved_with}
 
 -- what a call makes of a reservation
 abbrev made : Bool → Option Communication → Option ℕ → Option ℕ
@@ -54,7 +54,7 @@ with_done (Some (i, report)) j reserved = by_test (i == j)
     by_test true = told_done report reserved
     by_test false = refl
 
-line_steps : (old new : BusState) (j : ℕ) → Follows old.devices new.devices
+line_steps : (old new : BusState) (j : ℕ) → ReservesByReport old.devices new.devices
     → reserved_at j new ≡ (if tells_done j (arisen old.devices.report new.devices.report) then None else reserved_at j old)
 line_steps old new j follows = by_report old.devices.report refl
   where

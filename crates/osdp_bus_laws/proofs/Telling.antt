@@ -22,17 +22,17 @@ abbrev pub reserved_with : Option (ℕ × Report) → ℕ → Option ℕ → Opt
 reserved_with None j reserved = reserved
 reserved_with (Some (i, report)) j reserved = if i == j then reserved_told report reserved else reserved
 
-pub record Follows (ds es : Devices) : Type 0 where
+pub record ReservesByReport (ds es : Devices) : Type 0 where
   pub stays : is_some ds.report ≡ true → (es.report ≡ ds.report) × ((j : ℕ) → reserved_in j es.entries ≡ reserved_in j ds.entries)
   pub arises : ds.report ≡ None → (j : ℕ) → reserved_in j es.entries ≡ reserved_with es.report j (reserved_in j ds.entries)
 
-pub same_follows : (ds : Devices) → Follows ds ds
+pub same_follows : (ds : Devices) → ReservesByReport ds ds
 same_follows ds = record {
   stays = λ some. (refl, λ j. refl);
   arises = λ none j. sym (ap (λ o. reserved_with o j (reserved_in j ds.entries)) none);
 }
 
-pub follows_on : (ds es fs : Devices) → Follows ds es → Follows es fs → Follows ds fs
+pub follows_on : (ds es fs : Devices) → ReservesByReport ds es → ReservesByReport es fs → ReservesByReport ds fs
 follows_on ds es fs first second = record {
   stays = λ some.
       let before = first.stays some in
@@ -73,7 +73,7 @@ unmoved i j was before same = by_test (i == j) same
 
 pub follows_told : (ds : Devices) (i : ℕ) (d e : Device) (told : Option Report) → slice_get ds.entries i ≡ Some d
     → e.reserved ≡ reserved_after told d.reserved → (is_some ds.report ≡ true → told ≡ None)
-    → Follows ds (record { entries = slice_set ds.entries i e; report = waiting_after i told ds.report })
+    → ReservesByReport ds (record { entries = slice_set ds.entries i e; report = waiting_after i told ds.report })
 follows_told ds i d e told at is quiet = record {
   stays = λ some. (
     ap (λ t. waiting_after i t ds.report) (quiet some),
@@ -95,11 +95,11 @@ none_told None h = refl
 none_told (Some report) h = cc
 
 -- the devices are sound, and follow those from before
-abbrev FollowSoundly : Devices → Devices → Type 0
-FollowSoundly first ds = Sound ds × Follows first ds
+abbrev SoundlyReservesByReport : Devices → Devices → Type 0
+SoundlyReservesByReport first ds = Sound ds × ReservesByReport first ds
 
-follows_packet : (first : Devices) (now : ℕ) (p : Packet) (i : ℕ) (d : Device) (ds : Devices) → slice_get ds.entries i ≡ Some d → FollowSoundly first ds
-    → FollowSoundly first (hears_with p now i (Some d) ds)
+follows_packet : (first : Devices) (now : ℕ) (p : Packet) (i : ℕ) (d : Device) (ds : Devices) → slice_get ds.entries i ≡ Some d → SoundlyReservesByReport first ds
+    → SoundlyReservesByReport first (hears_with p now i (Some d) ds)
 follows_packet first now p i d ds at (sound, follows) = (
   sound_packet now p i d ds at sound,
   follows_on first ds (hears_with p now i (Some d) ds) follows
@@ -108,16 +108,16 @@ follows_packet first now p i d ds at (sound, follows) = (
       (is_false (is_some (told_of p now d)) (λ h. let stands = (heard_told p now d h).0 in let none = sound.waits some i d at in cc)))),
 )
 
-pub follows_items : (now : ℕ) (parts : List RunItem) (ds : Devices) → Sound ds → Follows ds (hears_items now parts ds)
-follows_items now parts ds sound = (items_keep now (FollowSoundly ds) (follows_packet ds now) parts ds (sound, same_follows ds)).1
+pub follows_items : (now : ℕ) (parts : List RunItem) (ds : Devices) → Sound ds → ReservesByReport ds (hears_items now parts ds)
+follows_items now parts ds sound = (items_keep now (SoundlyReservesByReport ds) (follows_packet ds now) parts ds (sound, same_follows ds)).1
 
-pub follows_run : (b : BusState) → SoundBus b → Follows b.devices (ends_run b).devices
+pub follows_run : (b : BusState) → SoundBus b → ReservesByReport b.devices (ends_run b).devices
 follows_run b is = follows_items b.greatest (items true b.held) b.devices is.devices
 
-follows_silent : (b : BusState) → SoundBus b → Follows b.devices (ends_silent b).devices
-follows_silent b is = either_way (λ (c : BusState). Follows b.devices c.devices) (is_silent b) (ends_run b) b (λ h. follows_run b is) (λ h. same_follows b.devices)
+follows_silent : (b : BusState) → SoundBus b → ReservesByReport b.devices (ends_silent b).devices
+follows_silent b is = either_way (λ (c : BusState). ReservesByReport b.devices c.devices) (is_silent b) (ends_run b) b (λ h. follows_run b is) (λ h. same_follows b.devices)
 
-pub follows_bytes : (bytes : List ℕ) (now : ℕ) (b : BusState) → SoundBus b → Follows b.devices (after_bytes bytes now b).devices
+pub follows_bytes : (bytes : List ℕ) (now : ℕ) (b : BusState) → SoundBus b → ReservesByReport b.devices (after_bytes bytes now b).devices
 follows_bytes [] now b is = same_follows b.devices
 follows_bytes (byte ∷ bytes) now b is =
     let s = seen now b in
@@ -128,42 +128,42 @@ follows_bytes (byte ∷ bytes) now b is =
 -- ---- ticks
 
 follows_ticks_with : (i : ℕ) (o : Option Device) (b : BusState) → device_of i b ≡ o → has_report b ≡ false
-    → Follows b.devices (ticks_with i o b).bus.devices
+    → ReservesByReport b.devices (ticks_with i o b).bus.devices
 follows_ticks_with i None b at none = same_follows b.devices
 follows_ticks_with i (Some d) b at none =
     follows_told b.devices i d (device_ticks b.greatest d) (step_of b.greatest d).report at refl (λ some. absurd cc)
 
-follows_ticks_at : (o : Option ℕ) (b : BusState) → has_report b ≡ false → Follows b.devices (ticks_at o b).bus.devices
+follows_ticks_at : (o : Option ℕ) (b : BusState) → has_report b ≡ false → ReservesByReport b.devices (ticks_at o b).bus.devices
 follows_ticks_at None b none = same_follows b.devices
 follows_ticks_at (Some i) b none = follows_ticks_with i (device_of i b) b refl none
 
-abbrev TickFollows : Devices → BusTicked → Type 0
-TickFollows ds t = Follows ds t.bus.devices
+abbrev TickReservesByReport : Devices → BusTicked → Type 0
+TickReservesByReport ds t = ReservesByReport ds t.bus.devices
 
-follows_free : (b : BusState) → TickFollows b.devices (ticks_free b)
+follows_free : (b : BusState) → TickReservesByReport b.devices (ticks_free b)
 follows_free b =
-    either_way (TickFollows b.devices) (has_report b) (stays b) (ticks_at (next_due b) b) (λ h. same_follows b.devices)
+    either_way (TickReservesByReport b.devices) (has_report b) (stays b) (ticks_at (next_due b) b) (λ h. same_follows b.devices)
     (λ none. follows_ticks_at (next_due b) b none)
 
 neither : (x y : Bool) → (x || y) ≡ false → x ≡ false
 neither false y h = refl
 neither true y h = cc
 
-follows_held : (entry : ℕ) (b : BusState) → TickFollows b.devices (ticks_held entry b)
+follows_held : (entry : ℕ) (b : BusState) → TickReservesByReport b.devices (ticks_held entry b)
 follows_held entry b =
-    either_way (TickFollows b.devices) (has_report b || not (is_held_and_due entry b)) (stays b) (ticks_at (Some entry) b)
+    either_way (TickReservesByReport b.devices) (has_report b || not (is_held_and_due entry b)) (stays b) (ticks_at (Some entry) b)
     (λ h. same_follows b.devices) (λ h. follows_ticks_at (Some entry) b (neither (has_report b) (not (is_held_and_due entry b)) h))
 
-follows_by : (o : Option ℕ) (b : BusState) → SoundBus b → TickFollows b.devices (ticks_by o b)
+follows_by : (o : Option ℕ) (b : BusState) → SoundBus b → TickReservesByReport b.devices (ticks_by o b)
 follows_by None b is = follows_on b.devices (ends_run b).devices (ticks_free (ends_run b)).bus.devices (follows_run b is) (follows_free (ends_run b))
 follows_by (Some entry) b is =
-    either_way (TickFollows b.devices) (is_due_at entry b) (ticks_held entry (ends_run b)) (stays b)
+    either_way (TickReservesByReport b.devices) (is_due_at entry b) (ticks_held entry (ends_run b)) (stays b)
     (λ h. follows_on b.devices (ends_run b).devices (ticks_held entry (ends_run b)).bus.devices (follows_run b is) (follows_held entry (ends_run b)))
     (λ h. same_follows b.devices)
 
-pub follows_tick : (now : ℕ) (b : BusState) → SoundBus b → TickFollows b.devices (bus_ticks now b)
+pub follows_tick : (now : ℕ) (b : BusState) → SoundBus b → TickReservesByReport b.devices (bus_ticks now b)
 follows_tick now b is =
     let s = seen now b in
-    either_way (TickFollows b.devices) (has_report b) (stays s) (ticks_on (ends_silent s)) (λ h. same_follows b.devices)
+    either_way (TickReservesByReport b.devices) (has_report b) (stays s) (ticks_on (ends_silent s)) (λ h. same_follows b.devices)
     (λ h. follows_on b.devices (ends_silent s).devices (ticks_on (ends_silent s)).bus.devices (follows_silent s (sound_seen now b is))
     (follows_by (holder (ends_silent s)) (ends_silent s) (sound_silent s (sound_seen now b is))))

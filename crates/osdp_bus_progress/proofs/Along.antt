@@ -32,7 +32,7 @@ use Rattle.osdp_sim.specs.declared.step.SimStep.{SimStep}
 use Rattle.osdp_sim.specs.declared.step.SimStep.TheVariants as step
 use Rattle.osdp_sim_bus.specs.Runs as simulation
 use Rattle.osdp_sim_bus.specs.State.{Given, LineState, begun_bus, begun_device}
-use Rattle.osdp_sim_bus.specs.Steps.{after_step, all_hear_each, hears_run, is_there, issued, told}
+use Rattle.osdp_sim_bus.specs.Steps.{after_step, all_hear_each, hears_run, is_there, issued, report_told}
 use Rattle.osdp_sim_laws.specs.Accounts.{IsInSession}
 use Rattle.osdp_sim_laws.proofs.Moments.{InTime, clock_on, hears_so, last_moment, tick_so}
 use Rattle.osdp_bus_progress.proofs.Unmoved.{heard_bus, heard_clock, told_bus, told_clock}
@@ -246,8 +246,8 @@ module _ {H : Type 0} (answer_of : H → Command → Answer) (after : H → Comm
   still_at : (s t : LineState H) → t.bus ≡ s.bus → t.clock ≡ s.clock → LineAt s → LineAt t
   still_at s t bus clock is = subst (λ b. BusAt wait t.clock b) (sym bus) (subst (λ n. BusAt wait n s.bus) (sym clock) is)
 
-  told_at : (o : Option (ℕ × Report)) (s : LineState H) → LineAt s → LineAt (told o s)
-  told_at o s is = still_at s (told o s) (told_bus answer_of after o s) (told_clock answer_of after o s) is
+  told_at : (o : Option (ℕ × Report)) (s : LineState H) → LineAt s → LineAt (report_told o s)
+  told_at o s is = still_at s (report_told o s) (told_bus answer_of after o s) (told_clock answer_of after o s) is
 
   heard_at : (packets : List Packet) (s : LineState H) → LineAt s → LineAt (all_hear_each answer_of after packets s)
   heard_at packets s is =

@@ -15,7 +15,7 @@ use Rattle.osdp_sim.specs.declared.step.SimStep.TheVariants.{Busy}
 use Rattle.osdp_sim_bus.specs.Laws.{HasAnAccountEach}
 use Rattle.osdp_sim_bus.specs.Runs as simulation
 use Rattle.osdp_sim_bus.specs.Runs.{lists_of_all}
-use Rattle.osdp_sim_bus.specs.State.{LineState, Site, accounts, set_up}
+use Rattle.osdp_sim_bus.specs.State.{LineState, ReaderSite, accounts, set_up}
 use Rattle.osdp_sim_bus.specs.Steps.{after_step}
 use Rattle.osdp_sim_laws.specs.Accounts.{IsInSession}
 use Rattle.osdp_sim_laws.specs.Progress.{done, losses}
@@ -50,7 +50,7 @@ clear_idle readers steps = each_append IsNoOrder (all_ready readers) (losses ste
 module _ {H : Type 0} (answer_of : H → Command → Answer) (after : H → Command → H) where
   -- ---- what was issued is what was issued before these steps
 
-  abbrev Same : Site H → Site H → Type 0
+  abbrev Same : ReaderSite H → ReaderSite H → Type 0
   Same u v = SameIssued answer_of after u v
 
   issued_stays : (k : ℕ) (steps : List SimStep) (s : LineState H) → Each IsNoOrder steps
@@ -73,10 +73,10 @@ module _ {H : Type 0} (answer_of : H → Command → Answer) (after : H → Comm
 
       at_place : (k : ℕ) (a : Account) → slice_get (accounts s) k ≡ Some a → Moves a
       at_place k a at =
-          let u = unmapped (λ (site : Site H). site.account) k a s.sites at in
+          let u = unmapped (λ (site : ReaderSite H). site.account) k a s.sites at in
           let v = issued_stays k steps s idles u.0 u.1 in
           let there : slice_get (accounts later) k ≡ Some v.0.account =
-          slice_get-map (λ (site : Site H). site.account) later.sites k ∙ ap (option_map (λ (site : Site H). site.account)) v.1 in
+          slice_get-map (λ (site : ReaderSite H). site.account) later.sites k ∙ ap (option_map (λ (site : ReaderSite H). site.account)) v.1 in
           let moves = get_each Moves k v.0.account (accounts later) (each_of Moves (accounts later) none) there in
           subst Moves u.2 (subst (All SetsNoAddress) v.2 moves)
 

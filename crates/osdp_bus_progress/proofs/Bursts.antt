@@ -35,8 +35,8 @@ use Rattle.osdp_sim.specs.declared.step.SimStep.{SimStep}
 use Rattle.osdp_sim.specs.declared.step.SimStep.TheVariants as step
 use Rattle.osdp_sim_bus.specs.Runs as simulation
 use Rattle.osdp_sim_bus.specs.Runs.{AreSettings, FitAlong, is_well}
-use Rattle.osdp_sim_bus.specs.State.{Given, LineState, Site, set_up}
-use Rattle.osdp_sim_bus.specs.Steps.{StepFits, after_step, all_hear_each, fault_of, hears_run, is_there, issued, site_says, told, waited}
+use Rattle.osdp_sim_bus.specs.State.{Given, LineState, ReaderSite, set_up}
+use Rattle.osdp_sim_bus.specs.Steps.{StepFits, after_step, all_hear_each, fault_of, hears_run, is_there, issued, report_told, site_says, waited}
 use Rattle.osdp_sim_laws.specs.OneLink.{ReadsPackets}
 use Rattle.osdp_sim_bus_laws.specs.Moves.{FollowsSites, SchedulesAreMoves, SitesOf, moves_of}
 use Rattle.osdp_sim_bus_laws.proofs.Beginning.{first_net, follows_first, is_set_up, none_is_kept}
@@ -74,14 +74,14 @@ module _ {H : Type 0} where
   issued_few n (Some fault) place command s few = more n s few
   issued_few n None place command s few = more n s few
 
-  told_few : (n : ℕ) (o : Option (ℕ × Report)) (s : LineState H) → AtMost n s → AtMost n (told o s)
+  told_few : (n : ℕ) (o : Option (ℕ × Report)) (s : LineState H) → AtMost n s → AtMost n (report_told o s)
   told_few n None s few = few
   told_few n (Some (entry, report)) s few = few
 
 module _ {H : Type 0} (answer_of : H → Command → Answer) (after : H → Command → H) where
   -- ---- one reader alone answers
 
-  abbrev answers : Packet → List (Site H) → List (List ℕ)
+  abbrev answers : Packet → List (ReaderSite H) → List (List ℕ)
   answers p us = flat_map (site_says answer_of after p) us
 
   abbrev IsToDevice : ℕ × Packet → Type 0
@@ -98,7 +98,7 @@ module _ {H : Type 0} (answer_of : H → Command → Answer) (after : H → Comm
   abbrev NoneAt : Packet → List (line.Site H) → Type 0
   NoneAt p ts = (k : ℕ) (t : line.Site H) → site_at k ts ≡ Some t → (p.address < 127) × (t.reader.config.address ≢ p.address)
 
-  says_nothing : (p : Packet) (u : Site H) (t : line.Site H) → u.reader ≡ t.reader → p.address < 127 → t.reader.config.address ≢ p.address
+  says_nothing : (p : Packet) (u : ReaderSite H) (t : line.Site H) → u.reader ≡ t.reader → p.address < 127 → t.reader.config.address ≢ p.address
       → length (site_says answer_of after p u) ≡ 0
   says_nothing p u t same device away =
       ap (λ (r : ReaderState H). length (sent (reader.hears answer_of after r p).reply)) same
@@ -107,7 +107,7 @@ module _ {H : Type 0} (answer_of : H → Command → Answer) (after : H → Comm
         | inr is ↦ ap (λ k. length (sent (reader.outcome answer_of after k t.reader p).reply)) is
       ]
 
-  none_answer : (p : Packet) (us : List (Site H)) (ts : List (line.Site H)) → SitesOf us ts → NoneAt p ts → length (answers p us) ≤ 0
+  none_answer : (p : Packet) (us : List (ReaderSite H)) (ts : List (line.Site H)) → SitesOf us ts → NoneAt p ts → length (answers p us) ≤ 0
   none_answer p [] [] all away = omega arith
   none_answer p [] (t ∷ ts) all away = absurd all
   none_answer p (u ∷ us) [] all away = absurd all
@@ -117,7 +117,7 @@ module _ {H : Type 0} (answer_of : H → Command → Answer) (after : H → Comm
       let rest = none_answer p us ts all.1 (λ k v at. away (suc k) v at) in
       omega (arith, length-append (site_says answer_of after p u) (answers p us), first, rest)
 
-  answers_few : (own : ℕ) (p : Packet) (us : List (Site H)) (ts : List (line.Site H)) → SitesOf us ts → OwnAlone own p ts → length (answers p us) ≤ 1
+  answers_few : (own : ℕ) (p : Packet) (us : List (ReaderSite H)) (ts : List (line.Site H)) → SitesOf us ts → OwnAlone own p ts → length (answers p us) ≤ 1
   answers_few own p [] [] all away = omega arith
   answers_few own p [] (t ∷ ts) all away = absurd all
   answers_few own p (u ∷ us) [] all away = absurd all
@@ -132,7 +132,7 @@ module _ {H : Type 0} (answer_of : H → Command → Answer) (after : H → Comm
       omega (arith, length-append (site_says answer_of after p u) (answers p us), first, rest)
 
   -- so what is handed over to the readers is no packet, or one with an answer at most
-  abbrev OneAnswers : List ℕ → List (Site H) → Type 0
+  abbrev OneAnswers : List ℕ → List (ReaderSite H) → Type 0
   OneAnswers bytes us = (packets_in bytes ≡ []) ⊎ ((p : Packet) × (packets_in bytes ≡ p ∷ []) × (length (answers p us) ≤ 1))
 
   handed_over : ReadsPackets → (move : way.Move) (s : LineState H) (n : Net H) → damage_fault move ≡ None → HeardByOwn n → FollowsSites s n

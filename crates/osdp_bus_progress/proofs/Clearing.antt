@@ -22,8 +22,8 @@ use Rattle.osdp_sim.specs.declared.step.SimStep.{SimStep}
 use Rattle.osdp_sim.specs.declared.step.SimStep.TheVariants.{Busy, ToController, ToReader}
 use Rattle.osdp_sim_bus.specs.Laws.{HasAnAccountEach, TellsAtOnce}
 use Rattle.osdp_sim_bus.specs.Runs as simulation
-use Rattle.osdp_sim_bus.specs.State.{LineState, Site, accounts, set_up}
-use Rattle.osdp_sim_bus.specs.Steps.{StepFits, after_step, all_hear_each, changed_site, fault_of, hears_run, site_is_busy, takes_report, told}
+use Rattle.osdp_sim_bus.specs.State.{LineState, ReaderSite, accounts, set_up}
+use Rattle.osdp_sim_bus.specs.Steps.{StepFits, after_step, all_hear_each, changed_site, fault_of, hears_run, report_told, site_is_busy, takes_report}
 use Rattle.osdp_sim_laws.specs.Accounts.{IsInSession}
 use Rattle.osdp_sim_laws.specs.Progress.{losses}
 use Rattle.osdp_sim_laws.proofs.Clearing.{losses_within}
@@ -38,53 +38,53 @@ use Rattle.osdp_bus_progress.proofs.Round.{LinkLaws}
 
 module _ {H : Type 0} where
   -- the first so many readers aren't busy
-  calm : ℕ → List (Site H) → List (Site H)
+  calm : ℕ → List (ReaderSite H) → List (ReaderSite H)
   calm zero sites = sites
   calm (suc n) [] = []
   calm (suc n) (site ∷ sites) = site_is_busy false site ∷ calm n sites
 
-  calm_long : (n : ℕ) (sites : List (Site H)) → length (calm n sites) ≡ length sites
+  calm_long : (n : ℕ) (sites : List (ReaderSite H)) → length (calm n sites) ≡ length sites
   unfolding calm
   calm_long zero sites = refl
   calm_long (suc n) [] = refl
   calm_long (suc n) (site ∷ sites) = ap (λ (k : ℕ). suc k) (calm_long n sites)
 
-  calm_accounts : (n : ℕ) (sites : List (Site H)) → map (λ (site : Site H). site.account) (calm n sites) ≡ map (λ (site : Site H). site.account) sites
+  calm_accounts : (n : ℕ) (sites : List (ReaderSite H)) → map (λ (site : ReaderSite H). site.account) (calm n sites) ≡ map (λ (site : ReaderSite H). site.account) sites
   unfolding calm
   calm_accounts zero sites = refl
   calm_accounts (suc n) [] = refl
   calm_accounts (suc n) (site ∷ sites) = ap (λ (l : List Account). site.account ∷ l) (calm_accounts n sites)
 
   -- the next one too
-  later_site : (n : ℕ) (site : Site H) (sites : List (Site H)) (o : Option (Site H))
-      → option_map_or (λ (x : Site H). slice_set (site ∷ sites) (suc n) (site_is_busy false x)) o (site ∷ sites)
-      ≡ site ∷ option_map_or (λ (x : Site H). slice_set sites n (site_is_busy false x)) o sites
+  later_site : (n : ℕ) (site : ReaderSite H) (sites : List (ReaderSite H)) (o : Option (ReaderSite H))
+      → option_map_or (λ (x : ReaderSite H). slice_set (site ∷ sites) (suc n) (site_is_busy false x)) o (site ∷ sites)
+      ≡ site ∷ option_map_or (λ (x : ReaderSite H). slice_set sites n (site_is_busy false x)) o sites
   later_site n site sites None = refl
   later_site n site sites (Some x) = refl
 
-  one_more : (n : ℕ) (sites : List (Site H)) → changed_site n (site_is_busy false) (calm n sites) ≡ calm (suc n) sites
+  one_more : (n : ℕ) (sites : List (ReaderSite H)) → changed_site n (site_is_busy false) (calm n sites) ≡ calm (suc n) sites
   unfolding calm
   one_more zero [] = refl
   one_more zero (site ∷ sites) = refl
   one_more (suc n) [] = refl
   one_more (suc n) (site ∷ sites) =
       later_site n (site_is_busy false site) (calm n sites) (slice_get (calm n sites) n)
-      ∙ ap (λ (l : List (Site H)). site_is_busy false site ∷ l) (one_more n sites)
+      ∙ ap (λ (l : List (ReaderSite H)). site_is_busy false site ∷ l) (one_more n sites)
 
-  abbrev IsCalm : Site H → Type 0
+  abbrev IsCalm : ReaderSite H → Type 0
   IsCalm site = site.reader.busy ≡ false
 
-  all_calm : (sites : List (Site H)) → All IsCalm (calm (length sites) sites)
+  all_calm : (sites : List (ReaderSite H)) → All IsCalm (calm (length sites) sites)
   unfolding calm
   all_calm [] = All-nil IsCalm
   all_calm (site ∷ sites) = All-cons IsCalm (site_is_busy false site) (calm (length sites) sites) refl (all_calm sites)
 
   -- readers that aren't busy, to which nothing was issued that moves them, are ready
-  are_ready : (sites : List (Site H)) → All IsCalm sites → NoneMoves (map (λ (site : Site H). site.account) sites) → All IsReady sites
+  are_ready : (sites : List (ReaderSite H)) → All IsCalm sites → NoneMoves (map (λ (site : ReaderSite H). site.account) sites) → All IsReady sites
   are_ready [] h k = All-nil IsReady
   are_ready (site ∷ sites) h k =
       let Moves : Account → Type 0 = λ a. All SetsNoAddress a.issued in
-      let others = map (λ (x : Site H). x.account) sites in
+      let others = map (λ (x : ReaderSite H). x.account) sites in
       All-cons IsReady site sites
       (record { ready = All-head IsCalm site sites h; issued = All-head Moves site.account others k })
       (are_ready sites (All-tail IsCalm site sites h) (All-tail Moves site.account others k))
@@ -138,7 +138,7 @@ module _ {H : Type 0} (answer_of : H → Command → Answer) (after : H → Comm
       runs_on (after_step answer_of after) (all_ready n) (Busy (suc n) false ∷ []) s
       ∙ ap (λ (t : LineState H). after_step answer_of after (Busy (suc n) false) t) (ready_run n s (omega arith))
       ∙ sets_ready n before (omega arith)
-      ∙ ap (λ (sites : List (Site H)). record s { sites = sites }) (one_more n s.sites)
+      ∙ ap (λ (sites : List (ReaderSite H)). record s { sites = sites }) (one_more n s.sites)
 
   drops_front : packets_in [] ≡ [] → (s : LineState H)
       → after_step answer_of after (ToReader Drop) s ≡ record s { to_readers = left Drop s.to_readers }
@@ -152,7 +152,7 @@ module _ {H : Type 0} (answer_of : H → Command → Answer) (after : H → Comm
   drops_answer s none =
       let next = record s { to_bus = left Drop s.to_bus } in
       ap (λ (bytes : List ℕ). takes_report (record s { bus = hears_run bytes s.clock s.bus; to_bus = left Drop s.to_bus })) (none_handed s.to_bus)
-      ∙ ap (λ o. told o (record next { bus = after_next_report next.bus })) none
+      ∙ ap (λ o. report_told o (record next { bus = after_next_report next.bus })) none
 
   -- what is left after so many losses
   record IsLeft (n : ℕ) (s t : LineState H) : Type 0 where
@@ -200,9 +200,9 @@ module _ {H : Type 0} (answer_of : H → Command → Answer) (after : H → Comm
       let small = is.to_bus in
       let calm_sites : All IsCalm (calm readers s.sites) = subst (λ (n : ℕ). All IsCalm (calm n s.sites)) all (all_calm s.sites) in
       let told_same : accounts end ≡ accounts s =
-      ap (λ (sites : List (Site H)). map (λ (site : Site H). site.account) sites) is.sites ∙ calm_accounts readers s.sites in
+      ap (λ (sites : List (ReaderSite H)). map (λ (site : ReaderSite H). site.account) sites) is.sites ∙ calm_accounts readers s.sites in
       let sites : All IsReady end.sites =
-      are_ready end.sites (subst (λ (l : List (Site H)). All IsCalm l) (sym is.sites) calm_sites) (subst NoneMoves (sym told_same) moves) in
+      are_ready end.sites (subst (λ (l : List (ReaderSite H)). All IsCalm l) (sym is.sites) calm_sites) (subst NoneMoves (sym told_same) moves) in
       subst (λ (t : LineState H). IsCleared s t) (sym here)
       (record {
         line = record {
@@ -221,7 +221,7 @@ module _ {H : Type 0} (answer_of : H → Command → Answer) (after : H → Comm
       let before = simulation.run answer_of after steps start in
       let waits = no_report before.bus.devices.report (tells config readers steps) in
       let places : length before.sites ≡ length readers =
-      sym (length-map before.sites (λ (site : Site H). site.account)) ∙ counts config readers steps in
+      sym (length-map before.sites (λ (site : ReaderSite H). site.account)) ∙ counts config readers steps in
       let few = as_many_as_steps answer_of after schedules reads laws config readers is.settings steps
       (well_on (after_step answer_of after) fault_of steps lost start is.well).0
       (holds_on (after_step answer_of after) (StepFits answer_of after) steps lost start is.fits).0 in

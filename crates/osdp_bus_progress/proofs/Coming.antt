@@ -44,7 +44,7 @@ use Rattle.osdp_sim.specs.declared.step.SimStep.{SimStep}
 use Rattle.osdp_sim_bus.specs.Laws.{HasAnAccountEach}
 use Rattle.osdp_sim_bus.specs.Runs as simulation
 use Rattle.osdp_sim_bus.specs.Runs.{FitAlong}
-use Rattle.osdp_sim_bus.specs.State.{Given, LineState, Site, accounts, set_up}
+use Rattle.osdp_sim_bus.specs.State.{Given, LineState, ReaderSite, accounts, set_up}
 use Rattle.osdp_sim_bus.specs.Steps.{StepFits, after_step, fault_of}
 use Rattle.osdp_sim_laws.specs.Accounts.{IsInSession, IsOf}
 use Rattle.osdp_sim_laws.proofs.Coming.{rounds_within}
@@ -197,7 +197,7 @@ module _ {H : Type 0} (answer_of : H → Command → Answer) (after : H → Comm
 
       -- each reader has its site from the beginning on
       counted : length s.sites ≡ length readers
-      counted = sym (mapped_count (λ (site : Site H). site.account) s.sites) ∙ counts config readers steps
+      counted = sym (mapped_count (λ (site : ReaderSite H). site.account) s.sites) ∙ counts config readers steps
         where
           mapped_count : {A B : Type 0} (f : A → B) (xs : List A) → length (map f xs) ≡ length xs
           mapped_count f [] = refl
@@ -234,7 +234,7 @@ module _ {H : Type 0} (answer_of : H → Command → Answer) (after : H → Comm
                 (moves_usual answer_of after ms k first (each_of IsScheduled ms (subst (λ r. All IsScheduled r) no_rounds (done 0 (omega arith)).scheduled)));
           }
 
-      ready_at : (k : ℕ) (u : Site H) → slice_get s.sites k ≡ Some u → IsReady u
+      ready_at : (k : ℕ) (u : ReaderSite H) → slice_get s.sites k ≡ Some u → IsReady u
       ready_at k u at = get_each IsReady k u s.sites (each_of IsReady s.sites clear.readers) at
 
       empty : IsEmpty n
@@ -292,14 +292,14 @@ module _ {H : Type 0} (answer_of : H → Command → Answer) (after : H → Comm
       }
 
       -- one session each
-      one_at : (k : ℕ) (u : Site H) → slice_get s.sites k ≡ Some u → HasOne u.account
+      one_at : (k : ℕ) (u : ReaderSite H) → slice_get s.sites k ≡ Some u → HasOne u.account
       one_at k u at =
-          get_each (λ (v : Site H). HasOne v.account) k u s.sites
+          get_each (λ (v : ReaderSite H). HasOne v.account) k u s.sites
           (one_run answer_of after steps start (each_of IsInSession steps within) (one_first readers)) at
 
-      one_later : (k : ℕ) (u : Site H) → slice_get later.sites k ≡ Some u → HasOne u.account
+      one_later : (k : ℕ) (u : ReaderSite H) → slice_get later.sites k ≡ Some u → HasOne u.account
       one_later k u at =
-          get_each (λ (v : Site H). HasOne v.account) k u later.sites
+          get_each (λ (v : ReaderSite H). HasOne v.account) k u later.sites
           (one_run answer_of after (rounds m wait) s (rounds_within m wait)
           (one_run answer_of after steps start (each_of IsInSession steps within) (one_first readers))) at
 
@@ -315,10 +315,10 @@ module _ {H : Type 0} (answer_of : H → Command → Answer) (after : H → Comm
           all_rounds answer_of after laws ranges comes (length readers) wait k m turn.0 (length readers - 1) s n
           (at_rest k t at none turn.0 below turn.2) goes rounds_fit none t at (once_around (length readers) turn.0 k below (omega (arith, few, same)))
 
-      comes_on : (k : ℕ) (u v : Site H) → slice_get s.sites k ≡ Some u → slice_get later.sites k ≡ Some v → v.account.ends ≡ []
+      comes_on : (k : ℕ) (u v : ReaderSite H) → slice_get s.sites k ≡ Some u → slice_get later.sites k ≡ Some v → v.account.ends ≡ []
           → ComesOn m (length readers) u.account v.account
       comes_on k u v at there none =
-          let no_end : NoEnd k later = λ w here. subst (λ (x : Site H). x.account.ends ≡ []) (some_same v w (sym there ∙ here)) none in
+          let no_end : NoEnd k later = λ w here. subst (λ (x : ReaderSite H). x.account.ends ≡ []) (some_same v w (sym there ∙ here)) none in
           let few = get_within k u s.sites at in
           let same = counted in
           let total = sites_count in
@@ -351,8 +351,8 @@ module _ {H : Type 0} (answer_of : H → Command → Answer) (after : H → Comm
           let turns = m / length readers in
           let part = share m (length readers) in
           let enough : turns ≤ length has.moments = has.enough turns (omega (arith, part)) in
-          subst (λ (x : Site H). ComesOn m (length readers) x.account v.account) u_same
-          (subst (λ (y : Site H). ComesOn m (length readers) u_is.0.account y.account) v_same
+          subst (λ (x : ReaderSite H). ComesOn m (length readers) x.account v.account) u_same
+          (subst (λ (y : ReaderSite H). ComesOn m (length readers) u_is.0.account y.account) v_same
           (elim through [
             | inl closed ↦ absurd (lasts_there k later last_net last_follows no_end last has.seen_then.there (ap (λ (x : Link H). x.controller.session.state) then_ ∙ closed))
             | inr on ↦ (
@@ -363,9 +363,9 @@ module _ {H : Type 0} (answer_of : H → Command → Answer) (after : H → Comm
           ]))
 
       -- the last round ends at rest, where this reader's session lasts
-      rests : (k : ℕ) (v : Site H) → slice_get later.sites k ≡ Some v → v.account.ends ≡ [] → k < length readers → 1 ≤ m → IsAtRest later
+      rests : (k : ℕ) (v : ReaderSite H) → slice_get later.sites k ≡ Some v → v.account.ends ≡ [] → k < length readers → 1 ≤ m → IsAtRest later
       rests k v there none few some =
-          let no_end : NoEnd k later = λ w here. subst (λ (x : Site H). x.account.ends ≡ []) (some_same v w (sym there ∙ here)) none in
+          let no_end : NoEnd k later = λ w here. subst (λ (x : ReaderSite H). x.account.ends ≡ []) (some_same v w (sym there ∙ here)) none in
           let total = sites_count in
           let t = sited k n.sites (omega (arith, few, total)) in
           let has = its_rounds k t.0 t.1 no_end in
@@ -389,7 +389,7 @@ module _ {H : Type 0} (answer_of : H → Command → Answer) (after : H → Comm
         let few = get_within k a (accounts (simulation.run answer_of after all start)) there in
         let ended = runs_on (after_step answer_of after) steps (rounds (suc m) wait) start in
         let later = simulation.run answer_of after (rounds (suc m) wait) (simulation.run answer_of after steps start) in
-        let v = unmapped (λ (site : Site H). site.account) k a later.sites (subst (λ (w : LineState H). slice_get (accounts w) k ≡ Some a) ended there) in
+        let v = unmapped (λ (site : ReaderSite H). site.account) k a later.sites (subst (λ (w : LineState H). slice_get (accounts w) k ≡ Some a) ended there) in
         subst IsAtRest (sym ended)
         (rests config readers steps (suc m) wait is within long clear k v.0 v.1 (ap (λ (b : Account). b.ends) v.2 ∙ none) (omega (arith, few, many)) (omega arith))
 
@@ -397,8 +397,8 @@ module _ {H : Type 0} (answer_of : H → Command → Answer) (after : H → Comm
     each_comes_through config readers steps m wait is within long clear k old new at there none =
         let s = simulation.run answer_of after steps (set_up config readers) in
         let later = simulation.run answer_of after (rounds m wait) s in
-        let u = unmapped (λ (site : Site H). site.account) k old s.sites at in
-        let v = unmapped (λ (site : Site H). site.account) k new later.sites
+        let u = unmapped (λ (site : ReaderSite H). site.account) k old s.sites at in
+        let v = unmapped (λ (site : ReaderSite H). site.account) k new later.sites
         (subst (λ (w : LineState H). slice_get (accounts w) k ≡ Some new) (runs_on (after_step answer_of after) steps (rounds m wait) (set_up config readers)) there) in
         subst (λ a. ComesOn m (length readers) a new) u.2
         (subst (λ b. ComesOn m (length readers) u.0.account b) v.2

@@ -14,7 +14,7 @@ use Rattle.osdp_sim.specs.Account.{Account, with_report}
 use Rattle.osdp_sim.specs.Rounds.{rounds}
 use Rattle.osdp_sim.specs.declared.step.SimStep.{SimStep}
 use Rattle.osdp_sim_bus.specs.Runs as simulation
-use Rattle.osdp_sim_bus.specs.State.{LineState, Site}
+use Rattle.osdp_sim_bus.specs.State.{LineState, ReaderSite}
 use Rattle.osdp_sim_bus.specs.Steps.{after_step}
 use Rattle.osdp_sim_laws.proofs.Accepting.{IsNoOrder}
 use Rattle.osdp_sim_laws.proofs.Accounts.{some_begun}
@@ -39,7 +39,7 @@ no_end_before (report.Lost cause command) a none = none_before a.ends _ none
 module _ {H : Type 0} where
   -- the account of the reader at this place has no end
   abbrev pub NoEnd : ℕ → LineState H → Type 0
-  NoEnd k s = (u : Site H) → slice_get s.sites k ≡ Some u → u.account.ends ≡ []
+  NoEnd k s = (u : ReaderSite H) → slice_get s.sites k ≡ Some u → u.account.ends ≡ []
 
   -- so its session lasts
   pub lasts_there : (k : ℕ) (s : LineState H) (n : Net H) → FollowsSites s n → NoEnd k s → (t : line.Site H) → site_at k n.sites ≡ Some t
@@ -53,7 +53,7 @@ module _ {H : Type 0} where
       let some = some_begun u.0.account.sessions t.account.queued t.earlier is.tells.queued.0 is.tells.queued.1 in
       absurd (omega (arith, no_end, shut, ended, some))
 
-  abbrev EndsStay : Site H → Site H → Type 0
+  abbrev EndsStay : ReaderSite H → ReaderSite H → Type 0
   EndsStay u v = v.account.ends ≡ [] → u.account.ends ≡ []
 
   module _ (answer_of : H → Command → Answer) (after : H → Command → H) where

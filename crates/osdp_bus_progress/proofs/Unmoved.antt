@@ -10,7 +10,7 @@ use Rattle.osdp_sim.specs.Line.{handed, left}
 use Rattle.osdp_sim.specs.declared.step.Move.TheVariants.{Deliver}
 use Rattle.osdp_sim.specs.declared.step.SimStep.TheVariants as step
 use Rattle.osdp_sim_bus.specs.State.{LineState}
-use Rattle.osdp_sim_bus.specs.Steps.{after_step, all_hear, all_hear_each, hears_run, told}
+use Rattle.osdp_sim_bus.specs.Steps.{after_step, all_hear, all_hear_each, hears_run, report_told}
 
 -- ---- whose turn is next: nothing but a tick changes it
 
@@ -23,11 +23,11 @@ first_hears (byte ∷ bytes) now b = by_test (is_silent (seen now b))
     by_test false = refl
 
 module _ {H : Type 0} (answer_of : H → Command → Answer) (after : H → Command → H) where
-  pub told_bus : (o : Option (ℕ × Report)) (s : LineState H) → (told o s).bus ≡ s.bus
+  pub told_bus : (o : Option (ℕ × Report)) (s : LineState H) → (report_told o s).bus ≡ s.bus
   told_bus None s = refl
   told_bus (Some (entry, report)) s = refl
 
-  pub told_clock : (o : Option (ℕ × Report)) (s : LineState H) → (told o s).clock ≡ s.clock
+  pub told_clock : (o : Option (ℕ × Report)) (s : LineState H) → (report_told o s).clock ≡ s.clock
   told_clock None s = refl
   told_clock (Some (entry, report)) s = refl
 

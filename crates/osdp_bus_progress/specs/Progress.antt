@@ -15,7 +15,7 @@ use Rattle.osdp_sim.specs.declared.account.Account as declared
 use Rattle.osdp_sim.specs.declared.step.SimStep.{SimStep}
 use Rattle.osdp_sim.specs.declared.step.SimStep.TheVariants.{Busy}
 use Rattle.osdp_sim_bus.specs.Runs.{AreSettings, FitAlong, is_well, lists_of_all, run}
-use Rattle.osdp_sim_bus.specs.State.{Given, LineState, Site, accounts, set_up}
+use Rattle.osdp_sim_bus.specs.State.{Given, LineState, ReaderSite, accounts, set_up}
 use Rattle.osdp_sim_laws.specs.Accounts.{IsInSession}
 use Rattle.osdp_sim_bus_laws.specs.Accounts.{EachMeets, IsAnswer}
 use Rattle.osdp_sim_laws.specs.Progress.{HasComeThrough, done, losses}
@@ -45,7 +45,7 @@ NoneMoves told = All (λ (a : Account). All SetsNoAddress a.issued) told
 
 module _ {H : Type 0} where
   -- the reader isn't busy, and no COMSET to a device's address was issued to it
-  pub record IsReady (site : Site H) : Type 0 where
+  pub record IsReady (site : ReaderSite H) : Type 0 where
     pub ready : site.reader.busy ≡ false
     pub issued : All SetsNoAddress site.account.issued
 

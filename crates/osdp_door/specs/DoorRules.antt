@@ -23,12 +23,12 @@ closed_door = record {
 }
 
 -- as a reply tells it
-abbrev pub told : Bool → ℕ
-told b = if b then 1 else 0
+abbrev pub bit : Bool → ℕ
+bit b = if b then 1 else 0
 
 -- an input that isn't there is none
 abbrev pub with_input : ℕ → Bool → Door → Door
-with_input input active door = record door { inputs = slice_set door.inputs input (told active) }
+with_input input active door = record door { inputs = slice_set door.inputs input (bit active) }
 
 -- after so many milliseconds
 abbrev pub after_time : ℕ → Door → Door
@@ -49,10 +49,10 @@ color_after color (r ∷ rs) = color_after (if r.permanent_control == 1 then r.p
 
 -- OUT is refused as a whole where a record isn't known, and so is what the door hasn't
 abbrev pub door_answer : Door → Command → Answer
-door_answer door LocalStatus = answer.Local (told door.is_tampered) (told door.has_no_power)
+door_answer door LocalStatus = answer.Local (bit door.is_tampered) (bit door.has_no_power)
 door_answer door InputStatus = answer.List (record { items = door.inputs })
 door_answer door ReaderStatus = answer.List (record { items = 0 ∷ [] })
-door_answer door OutputStatus = answer.List (record { items = map (λ o. told (is_on o)) door.outputs })
+door_answer door OutputStatus = answer.List (record { items = map (λ o. bit (is_on o)) door.outputs })
 door_answer door (Output records) = if all_known records then answer.Done else answer.Refuse RecordNotProcessed
 door_answer door (Led records) = answer.Done
 door_answer door (Buzzer b) = answer.Done

@@ -3,7 +3,7 @@
 ghost use Rattle.std.specs.Prelude.{◌≡◌, ◌↔◌, ◌<◌, ◌≤◌, IfOk, IsErrOf, length, map};
 ghost use Rattle.osdp_reader.specs.State.{new_reader};
 ghost use Rattle.osdp_reader.specs.declared.fault.ReaderFault.TheVariants.{OutOfRange};
-ghost use Rattle.osdp_door.specs.DoorRules.{after_time, closed_door, color_after, outputs_after, switched, told, with_input};
+ghost use Rattle.osdp_door.specs.DoorRules.{after_time, bit, closed_door, color_after, outputs_after, switched, with_input};
 ghost use Rattle.osdp_door.specs.Outputs.{is_on};
 
 use crate::known::are_known;
@@ -54,7 +54,7 @@ impl Door {
         ensures { self.new ≡ with_input input active self.old }
     {
         if input < 2 {
-            self.inputs[input] = told(active);
+            self.inputs[input] = bit(active);
         }
     }
 
@@ -116,8 +116,8 @@ fn color_of(mut color: u8, records: &[LedRecord]) -> u8
 }
 
 /// The byte of a reply that tells it.
-fn told(is_so: bool) -> u8
-    ensures { result ≡ told is_so }
+fn bit(is_so: bool) -> u8
+    ensures { result ≡ bit is_so }
 {
     u8::from(is_so)
 }
@@ -125,11 +125,11 @@ fn told(is_so: bool) -> u8
 /// For each output the byte that tells whether it is on.
 fn states(outputs: &[DoorOutput]) -> ArrayVec<u8, MAX_DATA>
     requires { length outputs.now ≤ MAX_DATA }
-    ensures { result.items ≡ map (λ o. told (is_on o)) outputs.now }
+    ensures { result.items ≡ map (λ o. bit (is_on o)) outputs.now }
 {
     let mut states = ArrayVec::new();
     for output in outputs {
-        states.push(told(output.is_on()));
+        states.push(bit(output.is_on()));
     }
     states
 }
@@ -143,7 +143,7 @@ impl Handler for Door {
 
     fn answer(&mut self, command: &Command) -> Answer {
         match command {
-            Command::LocalStatus => Answer::Local(told(self.is_tampered), told(self.has_no_power)),
+            Command::LocalStatus => Answer::Local(bit(self.is_tampered), bit(self.has_no_power)),
             Command::InputStatus => Answer::list(&self.inputs),
             Command::OutputStatus => Answer::List(states(&self.outputs)),
             Command::ReaderStatus => Answer::list(&[0]),

@@ -8,7 +8,7 @@ use Rattle.osdp_panel_calls.specs.declared.call.PanelCall.{PanelCall}
 use Rattle.osdp_panel_calls.specs.declared.call.PanelCall.TheVariants.{At, Add, Begin, Submit, Withdraw, Retarget, Bytes, Silence, Tick}
 use Rattle.osdp_panel_calls.specs.Calls.{CallFits, call_words}
 use Rattle.osdp_panel_calls.specs.Lines.{Answers, IsAnswered, refuses}
-use Rattle.osdp_panel_calls.specs.Sessions.{Called, IsDue, Session, answered, does, ended, overhears, told}
+use Rattle.osdp_panel_calls.specs.Sessions.{Called, IsDue, Session, answered, does, ended, overhears, then_reports}
 use Rattle.osdp_panel_calls.specs.Texts.{due_line, report_line}
 use Rattle.osdp_line_laws.proofs.Lines.{of_all}
 use Rattle.osdp_line_laws.specs.PanelLines.{Calls, Refused, calls_text, ordered}
@@ -16,7 +16,7 @@ use Rattle.osdp_line_laws.specs.PanelLines.{Calls, Refused, calls_text, ordered}
 -- the calls of a line, and what they tell, without what is passed over and without the moment at the end
 pub record Made (call : PanelCall) (s : Session) : Type 0 where
   pub bus : (answered call s).session.bus ≡ after_calls (ordered call s.now ++ NextReport ∷ []) s.bus
-  pub text : (told (does call (record s { listening = (overhears call s).after }))).text ≡ calls_text (ordered call s.now ++ NextReport ∷ []) s.bus
+  pub text : (then_reports (does call (record s { listening = (overhears call s).after }))).text ≡ calls_text (ordered call s.now ++ NextReport ∷ []) s.bus
 
 -- what one call tells, and the report after it
 with_report : (a b : List ℕ) → a ++ b ≡ a ++ (b ++ [])

@@ -14,7 +14,7 @@ use Rattle.osdp_reader_calls.specs.Sessions.{Called, Session, does}
 use Rattle.osdp_reader_calls.specs.Texts.{waiting_line}
 use Rattle.osdp_line_laws.proofs.OfReaders.{call_steps}
 use Rattle.osdp_line_laws.specs.ReaderLines.{after_steps, ordered}
-use Rattle.osdp_line_laws.specs.ReaderRuns.{IsSaid, RunsAreCalls, after_all_said, after_said, line_after, moment_after, said_text, told, with_bytes}
+use Rattle.osdp_line_laws.specs.ReaderRuns.{IsSaid, RunsAreCalls, after_all_said, after_said, all_said_text, line_after, moment_after, said_text, with_bytes}
 
 -- ---- the whole device after a call
 
@@ -93,6 +93,6 @@ runs_are_calls first (line ∷ lines) text last (answer, rest, next, is, speaks,
       (o.is, more.1),
       (joined ∙ ap (λ l. l ++ rest) o.written
           ∙ ap (λ l. (said_text o.said first ++ waiting_line (length (after_said o.said first).reader.queue.events)) ++ l)
-          (more.2 ∙ ap (told more.0) o.after)),
+          (more.2 ∙ ap (all_said_text more.0) o.after)),
       more.3 ∙ ap (after_all_said more.0) o.after,
     )

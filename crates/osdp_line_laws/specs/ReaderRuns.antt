@@ -58,10 +58,10 @@ said_text (Some call) s = steps_text (ordered call s) s.reader
 said_text None s = no_line
 
 -- one line after the other, each as those before it have left the device; each answer ends with how many events wait then
-abbrev pub told : List (Option ReaderCall) → Session → List ℕ
-told [] s = []
-told (said ∷ more) s =
-    (said_text said s ++ waiting_line (length (after_said said s).reader.queue.events)) ++ told more (after_said said s)
+abbrev pub all_said_text : List (Option ReaderCall) → Session → List ℕ
+all_said_text [] s = []
+all_said_text (said ∷ more) s =
+    (said_text said s ++ waiting_line (length (after_said said s).reader.queue.events)) ++ all_said_text more (after_said said s)
 
 abbrev pub after_all_said : List (Option ReaderCall) → Session → Session
 after_all_said [] s = s
@@ -70,4 +70,4 @@ after_all_said (said ∷ more) s = after_all_said more (after_said said s)
 -- what a device writes to a run of lines is what is told of the calls that these lines are, and it leaves the device that these calls leave
 abbrev pub RunsAreCalls : Type 0
 RunsAreCalls = (first : Session) (lines : List (List ℕ)) (text : List ℕ) (last : Session) → Speaks Answers first lines text last
-    → (said : List (Option ReaderCall)) × AreSaid lines said × (text ≡ told said first) × (last ≡ after_all_said said first)
+    → (said : List (Option ReaderCall)) × AreSaid lines said × (text ≡ all_said_text said first) × (last ≡ after_all_said said first)

@@ -7,7 +7,7 @@ use Rattle.osdp_tool_streams.specs.declared.fault.ToolFault.{ToolFault}
 use Rattle.osdp_tool_streams.specs.declared.fault.ToolFault.TheVariants.{TooLong, ReadFailed, WriteFailed, NoMemory}
 use Rattle.osdp_line_streams.specs.Answers.{Answering, Speaks, heard}
 use Rattle.osdp_line_streams.specs.Ending.{AllAnswered, Ends, SomeAnswered}
-use Rattle.osdp_line_streams.specs.Steps.{EndsLine, Follows, Goes, ReadAll, ReadSome, Reads, Step, StopsIn}
+use Rattle.osdp_line_streams.specs.Steps.{EndsLine, Goes, HasAnswered, ReadAll, ReadSome, Reads, Step, StopsIn}
 use Rattle.osdp_line_streams.proofs.Answered.{on_err}
 use Rattle.osdp_line_streams.proofs.Speaking.{spoke_more}
 use Rattle.osdp_line_streams.proofs.Stopping.{all_written, follows_none, goes_both, more_lines, part_written, stops_further, stops_kept}
@@ -135,7 +135,7 @@ pub ends_last : {M : Type 0} (answers : Answering M) (old mid new : M) (next : L
     → Ends answers old new ib ia input_failed before after failed result
 ends_last {M} answers old mid new next ib ia before between after input_failed was failed result r other e = by_result result e
   where
-    f : Follows answers old before r.0.read mid next between
+    f : HasAnswered answers old before r.0.read mid next between
     f = r.0.goes old before [] (follows_none answers old before)
 
     line : List ℕ

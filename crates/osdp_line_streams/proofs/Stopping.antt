@@ -9,7 +9,7 @@ use Rattle.osdp_tool_input.proofs.FormLemmas.{ended_lines-feed, ended_lines-hold
 use Rattle.osdp_tool_streams.specs.declared.fault.ToolFault.{ToolFault}
 use Rattle.osdp_tool_streams.specs.declared.fault.ToolFault.TheVariants.{WriteFailed, NoMemory}
 use Rattle.osdp_line_streams.specs.Answers.{Answering, Speaks, heard}
-use Rattle.osdp_line_streams.specs.Steps.{EndsLine, Follows, FrontAnswered, Goes, StopsIn, WroteAnswer, WrotePart}
+use Rattle.osdp_line_streams.specs.Steps.{EndsLine, FrontAnswered, Goes, HasAnswered, StopsIn, WroteAnswer, WrotePart}
 use Rattle.osdp_line_streams.proofs.Speaking.{spoke_more}
 
 -- what is kept of what was kept
@@ -147,7 +147,7 @@ pub goes_both : {M : Type 0} (answers : Answering M) (a b : List ℕ) (old mid n
     → Goes answers a old line before mid middle between → Goes answers b mid middle between new next after
     → Goes answers (a ++ b) old line before new next after
 goes_both answers a b old mid new line middle next before between after one two = λ first start read f.
-    subst (λ r. Follows answers first start r new next after) (append_assoc read a b) (two first start (read ++ a) (one first start read f))
+    subst (λ r. HasAnswered answers first start r new next after) (append_assoc read a b) (two first start (read ++ a) (one first start read f))
 
 pub stops_further : {M : Type 0} (answers : Answering M) (a b : List ℕ) (old mid : M) (line middle : List ℕ) (before between after : Option (List ℕ)) (fault : ToolFault)
     → Goes answers a old line before mid middle between → StopsIn answers b mid middle between after fault → StopsIn answers (a ++ b) old line before after fault
@@ -170,9 +170,9 @@ stops_kept answers piece old mid line middle before between after fault goes kep
 -- no bytes bring nothing
 pub goes_nowhere : {M : Type 0} (answers : Answering M) (machine : M) (line : List ℕ) (now : Option (List ℕ)) → Goes answers [] machine line now machine line now
 goes_nowhere answers machine line now = λ first start read f.
-    subst (λ r. Follows answers first start r machine line now) (sym (append-nil read)) f
+    subst (λ r. HasAnswered answers first start r machine line now) (sym (append-nil read)) f
 
 -- at first
-pub follows_none : {M : Type 0} (answers : Answering M) (machine : M) (start : Option (List ℕ)) → Follows answers machine start [] machine [] start
+pub follows_none : {M : Type 0} (answers : Answering M) (machine : M) (start : Option (List ℕ)) → HasAnswered answers machine start [] machine [] start
 unfolding ended_after unended_after
 follows_none answers machine start = record { text = []; speaks = (refl, refl); held = refl; written = Appends-nil start }

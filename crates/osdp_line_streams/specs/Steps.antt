@@ -52,7 +52,7 @@ Step was_failed failed (Err (HoldsPacket number)) = ⊥
 Step was_failed failed (Err (NotQuiet number)) = ⊥
 
 -- after so many bytes read each line that ended was answered, and what is heard of the next is held
-pub record Follows {M : Type 0} (answers : Answering M) (first : M) (start : Option (List ℕ)) (read : List ℕ)
+pub record HasAnswered {M : Type 0} (answers : Answering M) (first : M) (start : Option (List ℕ)) (read : List ℕ)
     (machine : M) (line : List ℕ) (now : Option (List ℕ)) : Type 0 where
   pub text : List ℕ
   pub speaks : Speaks answers first (ended_lines read) text machine
@@ -62,8 +62,8 @@ pub record Follows {M : Type 0} (answers : Answering M) (first : M) (start : Opt
 -- these bytes bring what follows an input to what follows it with them
 abbrev pub Goes : {M : Type 0} → Answering M → List ℕ → M → List ℕ → Option (List ℕ) → M → List ℕ → Option (List ℕ) → Type 0
 Goes {M} answers piece old line before new next after =
-    (first : M) (start : Option (List ℕ)) (read : List ℕ) → Follows answers first start read old line before
-    → Follows answers first start (read ++ piece) new next after
+    (first : M) (start : Option (List ℕ)) (read : List ℕ) → HasAnswered answers first start read old line before
+    → HasAnswered answers first start (read ++ piece) new next after
 
 -- the answers to some of these lines, the first ones, were written: all of them without memory, a beginning of them where the output failed
 pub record FrontAnswered {M : Type 0} (answers : Answering M) (first : M) (lines : List (List ℕ)) (before after : Option (List ℕ)) (fault : ToolFault) : Type 0 where
@@ -79,7 +79,7 @@ pub record FrontAnswered {M : Type 0} (answers : Answering M) (first : M) (lines
 
 abbrev pub StopsIn : {M : Type 0} → Answering M → List ℕ → M → List ℕ → Option (List ℕ) → Option (List ℕ) → ToolFault → Type 0
 StopsIn {M} answers piece old line before after fault =
-    (first : M) (start : Option (List ℕ)) (read : List ℕ) → Follows answers first start read old line before
+    (first : M) (start : Option (List ℕ)) (read : List ℕ) → HasAnswered answers first start read old line before
     → FrontAnswered answers first (ended_lines (read ++ piece)) start after fault
 
 -- ---- all pieces

@@ -11,7 +11,7 @@ use Rattle.osdp_msg.specs.declared.reply.Reply.{Reply}
 use Rattle.osdp_msg.specs.declared.reply.Reply.TheVariants.{Com}
 use Rattle.osdp_monitor.specs.Laws.{HasUnknownCode, MovesByCom, NamesAnother, PassesOver}
 use Rattle.osdp_monitor.specs.Line.{moves_to}
-use Rattle.osdp_monitor.specs.Saying.{asked, is_foreign, is_unknown, moved_by, told}
+use Rattle.osdp_monitor.specs.Saying.{asked, is_foreign, is_unknown, moved_by, reply_told}
 
 unknown_is : {M : Type 0} (m : Result M MsgFault) → is_unknown m ≡ true → m ≡ Err UnknownCode
 unknown_is (Ok x) h = cc
@@ -27,8 +27,8 @@ passes_over_lem p = by_block p.block p.reply refl refl
     by_block : (b r : Bool) → p.block ≡ b → p.reply ≡ r → (is_foreign p ≡ true) ↔ ((p.block ≡ true) ⊎ HasUnknownCode p)
     by_block true r e f = (λ h. inl e, λ h. rw e refl)
     by_block false true e f = (
-      λ h. inr (inl (f, unknown_is (told p) (rw (e, f) at h))),
-      λ h. rw (e, f) (elim h [ inl is ↦ cc | inr (inl u) ↦ is_by_unknown (told p) u.1 | inr (inr u) ↦ cc ]),
+      λ h. inr (inl (f, unknown_is (reply_told p) (rw (e, f) at h))),
+      λ h. rw (e, f) (elim h [ inl is ↦ cc | inr (inl u) ↦ is_by_unknown (reply_told p) u.1 | inr (inr u) ↦ cc ]),
     )
     by_block false false e f = (
       λ h. inr (inr (f, unknown_is (asked p) (rw (e, f) at h))),
@@ -64,6 +64,6 @@ moves_is wanted named at address is other within = grind arith
 
 pub moves_by_com_lem : MovesByCom
 moves_by_com_lem p r address = (
-  moved_is (asked p) (told r) r.address address,
+  moved_is (asked p) (reply_told r) r.address address,
   λ n. rw (n.2, n.3) (moves_is n.0 n.1 r.address address n.4 n.5 n.6),
 )

@@ -7,7 +7,7 @@ use Rattle.osdp_msg.specs.declared.fault.MsgFault.TheVariants.{UnknownCode}
 use Rattle.osdp_msg.specs.declared.reply.Reply.TheVariants.{Com}
 use Rattle.osdp_monitor.specs.Known.{same_packet}
 use Rattle.osdp_monitor.specs.Line.{moves_to}
-use Rattle.osdp_monitor.specs.Saying.{asked, is_foreign, told}
+use Rattle.osdp_monitor.specs.Saying.{asked, is_foreign, reply_told}
 
 -- packets are compared as a whole
 abbrev pub ComparesPackets : Type 0
@@ -15,7 +15,7 @@ ComparesPackets = (p q : Packet) → (same_packet p q ≡ true) ↔ (p ≡ q)
 
 -- its code is none of the tables, those of replies or those of commands
 abbrev pub HasUnknownCode : Packet → Type 0
-HasUnknownCode p = ((p.reply ≡ true) × (told p ≡ Err UnknownCode)) ⊎ ((p.reply ≡ false) × (asked p ≡ Err UnknownCode))
+HasUnknownCode p = ((p.reply ≡ true) × (reply_told p ≡ Err UnknownCode)) ⊎ ((p.reply ≡ false) × (asked p ≡ Err UnknownCode))
 
 -- what is passed over: a packet with a security block, and one whose code the tables don't have; nothing else is
 abbrev pub PassesOver : Type 0
@@ -24,7 +24,7 @@ PassesOver = (p : Packet) → (is_foreign p ≡ true) ↔ ((p.block ≡ true) �
 -- a COM that answers a COMSET names this address, another than its own and that of a device
 abbrev pub NamesAnother : Packet → Packet → ℕ → Type 0
 NamesAnother p r address =
-    (wanted : Communication) × (named : Communication) × (asked p ≡ Ok (Comset wanted)) × (told r ≡ Ok (Com named))
+    (wanted : Communication) × (named : Communication) × (asked p ≡ Ok (Comset wanted)) × (reply_told r ≡ Ok (Com named))
     × (named.address ≡ address) × (address ≢ r.address) × (address ≤ 126)
 
 -- a device moves exactly where such a COM comes after the COMSET

@@ -11,7 +11,7 @@ use Rattle.osdp_monitor.specs.declared.found.Notice.TheVariants.{Opened, Moved, 
 use Rattle.osdp_monitor.specs.Known.{Known, nothing_known, same_packet}
 use Rattle.osdp_monitor.specs.Panel.{after_sent, is_missed, panel_accused}
 use Rattle.osdp_monitor.specs.Reader.{after_reply, is_opening, reader_accused}
-use Rattle.osdp_monitor.specs.Saying.{asked, is_foreign, is_refusal, moved_by, said, told}
+use Rattle.osdp_monitor.specs.Saying.{asked, is_foreign, is_refusal, moved_by, reply_told, said}
 
 -- what is known of each address, and how many bytes in a row were no packet: fewer than the smallest packet has
 pub record Knowledge : Type 0 where
@@ -40,7 +40,7 @@ after_answered (Some moved) address k devices = forgotten_at (Some moved) (known
 -- a reply belongs to the last packet to its address, where that is known
 abbrev pub moves_to : Option Packet → Packet → Option ℕ
 moves_to None r = None
-moves_to (Some p) r = moved_by (asked p) (told r) r.address
+moves_to (Some p) r = moved_by (asked p) (reply_told r) r.address
 
 abbrev pub after_reply_if : Option Packet → Known → Packet → Known
 after_reply_if None k r = k

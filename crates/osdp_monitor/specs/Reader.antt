@@ -12,7 +12,7 @@ use Rattle.osdp_monitor.specs.declared.accusation.Accusation.TheVariants.{Second
 use Rattle.osdp_monitor.specs.Known.{Known, is_number, same_check, same_packet}
 use Rattle.osdp_monitor.specs.declared.said.Said.{Said}
 use Rattle.osdp_monitor.specs.declared.said.Said.TheVariants.{Busy, Damage, Refusal, Answer}
-use Rattle.osdp_monitor.specs.Saying.{asked, is_answer, is_damage, said, told}
+use Rattle.osdp_monitor.specs.Saying.{asked, is_answer, is_damage, reply_told, said}
 
 -- the reply that the packet must have, where it is known to be a repeat: it has the number taken last, which isn't 0
 abbrev pub repeat_reply : Known → Packet → Option Packet
@@ -58,7 +58,7 @@ reading_accused (Err fault) p = Some UnreadReply
 
 -- the packet was taken now, as a new one
 abbrev pub taken_accused : Packet → Packet → Option Accusation
-taken_accused p r = if same_check r.check p.check then reading_accused (told r) p else Some AnotherCheck
+taken_accused p r = if same_check r.check p.check then reading_accused (reply_told r) p else Some AnotherCheck
 
 -- by the number taken last: number 0 and the next number are taken, and a third one isn't; where it is unknown no more is judged
 abbrev pub turn_accused : Option ℕ → Packet → Packet → Option Accusation
@@ -111,4 +111,4 @@ is_nak _ = false
 
 -- the packet with number 0 is answered for the first time, and not by a NAK: then no session is open
 abbrev pub is_opening : Known → Packet → Packet → Bool
-is_opening k p r = p.sequence == 0 && r.sequence == 0 && not k.answered && is_answer (said r) && not (is_nak (told r))
+is_opening k p r = p.sequence == 0 && r.sequence == 0 && not k.answered && is_answer (said r) && not (is_nak (reply_told r))

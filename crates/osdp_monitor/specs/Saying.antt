@@ -20,8 +20,8 @@ abbrev pub asked : Packet → Result Command MsgFault
 asked p = command_of (slice_index p.body 0) (drop 1 p.body)
 
 -- the reply that a packet from a device is
-abbrev pub told : Packet → Result Reply MsgFault
-told r = reply_of (slice_index r.body 0) (drop 1 r.body)
+abbrev pub reply_told : Packet → Result Reply MsgFault
+reply_told r = reply_of (slice_index r.body 0) (drop 1 r.body)
 
 -- the tables don't have the code
 abbrev pub is_unknown : {M : Type 0} → Result M MsgFault → Bool
@@ -31,7 +31,7 @@ is_unknown (Err _) = false
 
 -- what is no matter of these rules: a security block, or a code that the tables don't have
 abbrev pub is_foreign : Packet → Bool
-is_foreign p = p.block || (if p.reply then is_unknown (told p) else is_unknown (asked p))
+is_foreign p = p.block || (if p.reply then is_unknown (reply_told p) else is_unknown (asked p))
 
 -- by what the controller makes of a reply: only what it takes as an answer is one, and it takes that also where it can't be read
 abbrev pub said_by : ReplyMeaning → Said

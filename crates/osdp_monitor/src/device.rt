@@ -6,7 +6,7 @@ ghost use Rattle.osdp_monitor.specs.Line.{after_reply_if, expected_if, found_in_
 ghost use Rattle.osdp_monitor.specs.Panel.{after_another, after_sent};
 ghost use Rattle.osdp_monitor.specs.Private.{IsSpelledIf};
 ghost use Rattle.osdp_monitor.specs.Reader.{after_answer, reader_accused, repeat_reply};
-ghost use Rattle.osdp_monitor.specs.Saying.{said, told};
+ghost use Rattle.osdp_monitor.specs.Saying.{reply_told, said};
 
 use crate::accusation::Accusation;
 use crate::found::{Found, Notice};
@@ -145,7 +145,7 @@ impl Device {
         reply: &FrameView<'_>,
         read: &Result<Reply, MsgFault>,
     ) -> Option<Accusation>
-        requires { read.now ≡ told reply.now }
+        requires { read.now ≡ reply_told reply.now }
         ensures { result ≡ reader_accused self.now last.now reply.now }
     {
         let said = said_in(read);
@@ -163,7 +163,7 @@ impl Device {
 
     /// Where a reply to its last packet moves it, its new address.
     pub fn moves_to(&self, reply: &FrameView<'_>, read: &Result<Reply, MsgFault>) -> Option<Address>
-        requires { read.now ≡ told reply.now }
+        requires { read.now ≡ reply_told reply.now }
         ensures { result ≡ moves_to self.now.last reply.now }
     {
         let last = self.last.view()?;
@@ -181,7 +181,7 @@ impl Device {
         reply: &FrameView<'_>,
         read: &Result<Reply, MsgFault>,
     ) -> Option<Notice>
-        requires { read.now ≡ told reply.now }
+        requires { read.now ≡ reply_told reply.now }
         ensures { result ≡ reply_notice moved self.now last.now reply.now }
     {
         if let Some(address) = moved {
@@ -205,7 +205,7 @@ impl Device {
 
     /// What is found in a reply from it.
     fn found_in_reply(&self, reply: &FrameView<'_>, read: &Result<Reply, MsgFault>) -> Found
-        requires { read.now ≡ told reply.now }
+        requires { read.now ≡ reply_told reply.now }
         ensures { result ≡ found_in_reply self.now.last self.now reply.now }
     {
         let Some(last) = self.last.view() else {
@@ -223,7 +223,7 @@ impl Device {
 
     /// It has replied to its last packet, where that is known.
     pub fn reply(&mut self, reply: &FrameView<'_>, read: &Result<Reply, MsgFault>)
-        requires { read.now ≡ told reply.now }
+        requires { read.now ≡ reply_told reply.now }
         ensures { self.new ≡ after_reply_if self.old.last self.old reply.now }
     {
         let Some(last) = self.last.view() else {
@@ -293,7 +293,7 @@ impl Device {
         read: &Result<Reply, MsgFault>,
         expected: &mut Burst,
     ) -> Found
-        requires read { read.now ≡ told reply.now }
+        requires read { read.now ≡ reply_told reply.now }
         requires none { expected.old.items ≡ [] }
         ensures found { result ≡ found_in_reply self.now.last self.now reply.now }
         ensures expected { IsSpelledIf (expected_if self.now result.accusation) expected.new.items }

@@ -5,7 +5,7 @@ ghost use Rattle.osdp_monitor.specs.Known.{nothing_known};
 ghost use Rattle.osdp_monitor.specs.Line.{after_reply_if, devices_after_reply, devices_after_sent, known_at, no_knowledge};
 ghost use Rattle.osdp_monitor.specs.Panel.{after_sent};
 ghost use Rattle.osdp_monitor.specs.Private.{known_of};
-ghost use Rattle.osdp_monitor.specs.Saying.{told};
+ghost use Rattle.osdp_monitor.specs.Saying.{reply_told};
 
 use crate::device::Device;
 use osdp_frame::{Address, FrameView};
@@ -81,7 +81,7 @@ impl Devices {
 
     /// A device has replied to its last packet, where that is known.
     pub fn reply(&mut self, packet: &FrameView<'_>, read: &Result<Reply, MsgFault>)
-        requires { read.now ≡ told packet.now }
+        requires { read.now ≡ reply_told packet.now }
         ensures { devices_in self.new ≡ devices_after_reply packet.now (devices_in self.old) }
     {
         let moved = match self.get(packet.address()) {
@@ -99,7 +99,7 @@ impl Devices {
 
     /// The same of a reply that doesn't move it.
     fn keep_reply(&mut self, packet: &FrameView<'_>, read: &Result<Reply, MsgFault>)
-        requires { read.now ≡ told packet.now }
+        requires { read.now ≡ reply_told packet.now }
         ensures { let k = devices_in self.old packet.now.address in
             devices_in self.new ≡ known_at packet.now.address (after_reply_if k.last k packet.now) (devices_in self.old) }
     {
@@ -137,7 +137,7 @@ fn send(alloc: Global, slot: &mut Slot, packet: &FrameView<'_>) -> Result<(), Al
 
 /// The device at this address has replied to its last packet, where that is known.
 fn reply(slot: &mut Slot, packet: &FrameView<'_>, read: &Result<Reply, MsgFault>)
-    requires { read.now ≡ told packet.now }
+    requires { read.now ≡ reply_told packet.now }
     ensures { let k = known_of slot.old in known_of slot.new ≡ after_reply_if k.last k packet.now }
 {
     if let Some(block) = slot {

@@ -3,7 +3,7 @@
 ghost use Rattle.std.specs.Prelude.{◌≡◌, is_some};
 ghost use Rattle.osdp_monitor.specs.Known.{Known};
 ghost use Rattle.osdp_monitor.specs.Reader.{answer_accused, busy_accused, fit_accused, is_event_at_zero, is_plain, reading_accused, refusal_accused, repeat_reply, taken_accused, turn_accused};
-ghost use Rattle.osdp_monitor.specs.Saying.{told};
+ghost use Rattle.osdp_monitor.specs.Saying.{reply_told};
 
 use crate::accusation::Accusation;
 use crate::kept::{same_check, same_packet};
@@ -83,7 +83,7 @@ fn taken_accused(
     reply: &FrameView<'_>,
     read: &Result<Reply, MsgFault>,
 ) -> Option<Accusation>
-    requires { read.now ≡ told reply.now }
+    requires { read.now ≡ reply_told reply.now }
     ensures { result ≡ taken_accused packet.now reply.now }
 {
     if !same_check(reply.check(), packet.check()) {
@@ -102,7 +102,7 @@ fn turn_accused(
     reply: &FrameView<'_>,
     read: &Result<Reply, MsgFault>,
 ) -> Option<Accusation>
-    requires { read.now ≡ told reply.now }
+    requires { read.now ≡ reply_told reply.now }
     ensures { result ≡ turn_accused taken packet.now reply.now }
 {
     let number = packet.seq().get();
@@ -130,7 +130,7 @@ pub(crate) fn answer_accused(
     reply: &FrameView<'_>,
     read: &Result<Reply, MsgFault>,
 ) -> Option<Accusation>
-    requires { read.now ≡ told reply.now }
+    requires { read.now ≡ reply_told reply.now }
     ensures { (k : Known) → k.taken ≡ taken → result ≡ answer_accused stored.now k packet.now reply.now }
 {
     if let Some(stored) = stored {

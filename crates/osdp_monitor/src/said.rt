@@ -3,7 +3,7 @@
 ghost use Rattle.std.specs.Prelude.{◌≡◌, ℕ};
 ghost use Rattle.osdp_controller.specs.Answers.{meaning_by_reading, meaning_by_reason};
 ghost use Rattle.osdp_monitor.specs.Reader.{is_nak};
-ghost use Rattle.osdp_monitor.specs.Saying.{asked, is_foreign, is_unknown, moved_by, said_by, told};
+ghost use Rattle.osdp_monitor.specs.Saying.{asked, is_foreign, is_unknown, moved_by, reply_told, said_by};
 
 use osdp_frame::{Address, FrameView};
 use osdp_msg::{Command, MsgFault, Nak, NakReason, Reply};
@@ -23,7 +23,7 @@ pub enum Said {
 
 /// The reply that a packet from a device is.
 pub(crate) fn read_reply(packet: &FrameView<'_>) -> Result<Reply, MsgFault>
-    ensures { result ≡ told packet.now }
+    ensures { result ≡ reply_told packet.now }
 {
     Reply::read(packet.code(), packet.payload())
 }

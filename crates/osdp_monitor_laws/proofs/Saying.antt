@@ -15,7 +15,7 @@ use Rattle.osdp_monitor.specs.declared.accusation.Accusation.TheVariants.{Anothe
 use Rattle.osdp_monitor.specs.declared.said.Said.TheVariants.{Answer}
 use Rattle.osdp_monitor.specs.Known.{same_check}
 use Rattle.osdp_monitor.specs.Reader.{fit_accused, is_event_at_zero, is_plain, reading_accused, taken_accused}
-use Rattle.osdp_monitor.specs.Saying.{said, said_by, told}
+use Rattle.osdp_monitor.specs.Saying.{reply_told, said, said_by}
 use Rattle.osdp_reader.specs.Replies.{reply_packet}
 use Rattle.osdp_reader.specs.Table.{Outcome, command_in}
 use Rattle.osdp_monitor_laws.proofs.Agreeing.{same_some}
@@ -58,7 +58,7 @@ pub taken_in_order : ReadsReplies → (p : Packet) (number : ℕ) (x : Reply) �
     → ((c : Command) → command_in p ≡ Ok c → (reply_fits c x ≡ true) × (is_event_at_zero c x p.sequence ≡ false))
     → taken_accused p (reply_packet p number x) ≡ None
 taken_in_order reads p number x fits fitting =
-    cond-true (same_check p.check p.check) (reading_accused (told (reply_packet p number x)) p) (Some AnotherCheck) (check_same p.check)
+    cond-true (same_check p.check p.check) (reading_accused (reply_told (reply_packet p number x)) p) (Some AnotherCheck) (check_same p.check)
     ∙ ap (λ t. reading_accused t p) (reads x fits) ∙ fits_command p x (command_in p) refl fitting
 
 -- what a packet that is acted on is answered

@@ -51,8 +51,8 @@ does call.Silence s = writes [] (after_silence s.now s.bus) s
 does call.Tick s = sends (bus_ticks s.now s.bus) s
 
 -- the report that waits then is taken and told; it may say that a session is open, or isn't any more
-abbrev pub told : Called → Called
-told c = record {
+abbrev pub then_reports : Called → Called
+then_reports c = record {
   text = c.text ++ report_line c.session.bus.devices.report;
   session = record c.session {
     bus = after_next_report c.session.bus;
@@ -75,7 +75,7 @@ after_text text c = record c { text = text ++ c.text }
 abbrev pub answered : PanelCall → Session → Called
 answered call s =
     let heard = overhears call s in
-    after_text heard.text (told (does call (record s { listening = heard.after })))
+    after_text heard.text (then_reports (does call (record s { listening = heard.after })))
 
 -- each answer ends with the moment of the next tick
 abbrev pub ended : Option ℕ → Called → Called

@@ -5,7 +5,7 @@ ghost use Rattle.osdp_bus.specs.Machine.{NewEnds, add_refusal, after_add, after_
 ghost use Rattle.osdp_bus.specs.Settings.{IsBusConfig};
 ghost use Rattle.osdp_bus.specs.Ticking.{bus_ticks};
 ghost use Rattle.osdp_panel_calls.specs.Lines.{Ends, refuses};
-ghost use Rattle.osdp_panel_calls.specs.Sessions.{Called, Comes, Session, answered, does, new_session, overhears, told};
+ghost use Rattle.osdp_panel_calls.specs.Sessions.{Called, Comes, Session, answered, does, new_session, overhears, then_reports};
 ghost use Rattle.osdp_panel_calls.specs.Texts.{refusal_line, send_line, withdrawal_line};
 
 use crate::call::PanelCall;
@@ -142,7 +142,7 @@ impl LinePanel {
 
     /// Takes the report that waits, and writes it.
     fn tell(&mut self, text: &mut String) -> Result<(), AllocError>
-        ensures { (before : List ℕ) (c : Called) → OnOk result (Comes before (string_bytes text.old) self.old c → Comes before (string_bytes text.new) self.new (told c)) }
+        ensures { (before : List ℕ) (c : Called) → OnOk result (Comes before (string_bytes text.old) self.old c → Comes before (string_bytes text.new) self.new (then_reports c)) }
     {
         let report = self.bus.next_report();
         self.listener.hear_report(&report);

@@ -75,7 +75,7 @@ impl EventQueue {
     }
 
     /// The event that is told: the front, where the command is a POLL and an event waits.
-    pub fn told(&self, command: &Command) -> Option<&Event>
+    pub fn told_event(&self, command: &Command) -> Option<&Event>
         ensures { option_map event_reply (option_copied result) ≡ event_for command.now self.now.events }
     {
         if let Command::Poll = command {

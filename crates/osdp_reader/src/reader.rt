@@ -291,7 +291,7 @@ impl<H: Handler> Reader<H> {
         let Some(command) = &*command else {
             unreachable!();
         };
-        let event = self.queue.told(command);
+        let event = self.queue.told_event(command);
         let told = event.is_some();
         spell_event_or_answer(packet, event, &self.config, &mut self.handler, command, out);
         self.queue.offer(told);

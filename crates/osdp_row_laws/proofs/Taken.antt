@@ -6,7 +6,7 @@ use Rattle.osdp_msg.specs.declared.reply.Reply.{Reply}
 use Rattle.osdp_msg.specs.declared.reply.Reply.TheVariants.{Ack}
 use Rattle.osdp_script_reader.specs.Handler.{handler_after, handler_answer, new_handler}
 use Rattle.osdp_sim.specs.Account.{lists_of}
-use Rattle.osdp_sim_laws.specs.Accounts.{HoldsOnce}
+use Rattle.osdp_sim_laws.specs.Accounts.{AnswersHoldOnce}
 use Rattle.osdp_row_laws.specs.Rounds.{buz, config, out}
 use Rattle.osdp_row_laws.specs.Taken.{OfTwoTakenOneIsSettled}
 
@@ -19,7 +19,7 @@ first_settled [] more is few = absurd (let long : 2 ≡ length more = ap length 
 first_settled (p ∷ settled) more is few =
     (settled, ap (λ q. q ∷ settled) (sym (same_first (out, Ack) p ((buz, Ack) ∷ []) (settled ++ more) is)))
 
-pub of_two_taken : HoldsOnce handler_answer handler_after → OfTwoTakenOneIsSettled
+pub of_two_taken : AnswersHoldOnce handler_answer handler_after → OfTwoTakenOneIsSettled
 of_two_taken once steps account is within taken =
     let held = (once config new_handler steps (Ok account) is tt within).settled in
     first_settled (lists_of account).settled held.0

@@ -16,7 +16,7 @@ use Rattle.osdp_sim_laws.specs.Accounts.{IsOnce, no_lengths}
 use Rattle.osdp_sim_laws.specs.Begun.{reopens_in}
 use Rattle.osdp_sim_bus_laws.specs.Accounts.{EachMeets}
 use Rattle.osdp_sim_bus_laws.specs.Begun.{EachIsBegun}
-use Rattle.osdp_session.specs.Sessions.{AreSessions, HoldsInSessions, LastsOrHasEnded, OneSessionIsOnce, between}
+use Rattle.osdp_session.specs.Sessions.{AreSessions, GoesOnOrHasEnded, HoldsInSessions, OneSessionIsOnce, between}
 use Rattle.osdp_session.specs.SeveralReaders.{EachOfOneSession}
 
 -- the part from the beginning to the end is the whole
@@ -28,7 +28,7 @@ pub one_if_none : (sessions : List Lengths) (n : ℕ) → length sessions ≡ 1 
 one_if_none sessions n count none = omega (arith, count, none)
 
 module _ {H : Type 0} (answer_of : H → Command → Answer) (after : H → Command → H) where
-  few_ends : (a : Account) → LastsOrHasEnded a no_lengths (lengths_of a) → length a.ends ≤ 1
+  few_ends : (a : Account) → GoesOnOrHasEnded a no_lengths (lengths_of a) → length a.ends ≤ 1
   few_ends a (inl (ends, unsettled)) = omega (arith, ends)
   few_ends a (inr ended) = omega (arith, ended.ends)
 

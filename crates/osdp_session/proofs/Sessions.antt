@@ -21,7 +21,7 @@ use Rattle.osdp_sim.specs.declared.account.Lengths.{Lengths}
 use Rattle.osdp_sim_laws.specs.Accounts as accounts
 use Rattle.osdp_sim_laws.specs.Accounts.{AreOver, IsInARow, IsOf, all_in, no_lengths}
 use Rattle.osdp_sim_laws.proofs.Accounts.{begun}
-use Rattle.osdp_session.specs.Sessions.{AreSessions, HasEnded, HoldsInSessions, IsNextEvent, IsSession, LastsOrHasEnded, between, first_command, session_commands, session_reported, session_settled, session_taken, session_told, session_unsettled}
+use Rattle.osdp_session.specs.Sessions.{AreSessions, GoesOnOrHasEnded, HasEnded, HoldsInSessions, IsNextEvent, IsSession, between, first_command, session_commands, session_reported, session_settled, session_taken, session_told, session_unsettled}
 use Rattle.osdp_session.proofs.Cuts.{front, handler_all, part, shorter, told_length}
 use Rattle.osdp_session.proofs.Taken.{are_taken_once}
 
@@ -259,7 +259,7 @@ module _ {H : Type 0} (answer_of : H → Command → Answer) (after : H → Comm
   -- the last session lasts or has ended
   last_one : (a : Account) (from : Lengths) (first : ℕ) (t : link.Account) (earlier : List link.Account) (past : List Event)
       → IsUndisturbed t → IsPart a from (lengths_of a) first t → IsFrom from first t earlier past → a.unsettled ≡ all_in (λ u. u.unsettled) (t ∷ earlier)
-      → length a.sessions ≡ length earlier + 1 → accounts.LastsOrHasEnded a t → LastsOrHasEnded a from (lengths_of a)
+      → length a.sessions ≡ length earlier + 1 → accounts.LastsOrHasEnded a t → GoesOnOrHasEnded a from (lengths_of a)
   last_one a from first t earlier past so parts is_from all some (inl (lasts, none)) =
       inl (
         omega (arith, lasts, some, is_from.ends),

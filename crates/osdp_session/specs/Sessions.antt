@@ -61,8 +61,8 @@ pub record HasEnded (a : Account) (from to : Lengths) : Type 0 where
   pub taken : IsBeginning (session_taken a from to) (session_told a from to)
 
 -- the last session lasts, and has told no command unsettled; or it has ended
-abbrev pub LastsOrHasEnded : Account → Lengths → Lengths → Type 0
-LastsOrHasEnded a from to = ((to.ends ≡ from.ends) × (to.unsettled ≡ from.unsettled)) ⊎ HasEnded a from to
+abbrev pub GoesOnOrHasEnded : Account → Lengths → Lengths → Type 0
+GoesOnOrHasEnded a from to = ((to.ends ≡ from.ends) × (to.unsettled ≡ from.unsettled)) ⊎ HasEnded a from to
 
 module _ {H : Type 0} (answer_of : H → Command → Answer) (after : H → Command → H) where
   -- in the session from these lengths to those, whose first event is at this place: the commands that the reader has taken are a beginning of
@@ -82,7 +82,7 @@ module _ {H : Type 0} (answer_of : H → Command → Answer) (after : H → Comm
   -- sessions that begin at these lengths, one after the other, up to the end of the account
   abbrev pub AreSessions : ReaderConfig → H → Account → Lengths → ℕ → List Lengths → Type 0
   AreSessions config handler a from first [] =
-      IsSession config handler a from (lengths_of a) first × LastsOrHasEnded a from (lengths_of a)
+      IsSession config handler a from (lengths_of a) first × GoesOnOrHasEnded a from (lengths_of a)
   AreSessions config handler a from first (to ∷ later) =
       IsSession config handler a from to first × HasEnded a from to
       × ((next : ℕ) × IsNextEvent from to first next × AreSessions config handler a to next later)

@@ -68,7 +68,7 @@ pub trait SimulatedLine {
         ensures fits { StepFits step.now (state_of self.old) };
 
     /// What is told of the steps that were taken.
-    fn told(self) -> Self::Told
+    fn into_told(self) -> Self::Told
         requires { IsReady self }
         ensures { lists_of result ≡ account_of (state_of self) };
 }
@@ -89,11 +89,11 @@ pub fn run_listed<L: SimulatedLine>(line: L, steps: &[SimStep]) -> Result<L::Tol
             return Err(Fault {
                 step: number,
                 cause,
-                account: line.told(),
+                account: line.into_told(),
             });
         }
     }
-    Ok(line.told())
+    Ok(line.into_told())
 }
 
 /// The same of steps that are handed out one at a time.
@@ -115,11 +115,11 @@ pub fn run_steps<L: SimulatedLine, S: Schedule>(
             return Err(Fault {
                 step: at,
                 cause,
-                account: line.told(),
+                account: line.into_told(),
             });
         }
     }
-    Ok(line.told())
+    Ok(line.into_told())
 }
 
 /// Takes a step, unless it is refused or there is no memory; then nothing has changed.

@@ -237,7 +237,7 @@ impl<H: Handler> SimulatedLine for Simulation<H> {
         self.change(step);
     }
 
-    fn told(self) -> Account {
+    fn into_told(self) -> Account {
         self.account
     }
 }

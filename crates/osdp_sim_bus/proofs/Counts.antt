@@ -14,14 +14,14 @@ use Rattle.osdp_sim.specs.Line.{handed, left}
 use Rattle.osdp_sim.specs.Steps.{moment_after}
 use Rattle.osdp_sim.specs.declared.step.SimStep.{SimStep}
 use Rattle.osdp_sim.specs.declared.step.SimStep.TheVariants.{Issue, Queue, Busy, Wait, ToReader, ToController, Reopen}
-use Rattle.osdp_sim_bus.specs.State.{LineState, Site}
-use Rattle.osdp_sim_bus.specs.Steps.{after_step, all_hear, all_hear_each, hears_run, is_there, issued, site_begins, site_hears, site_is_busy, site_issues, site_queues, site_is_told, told, waited}
+use Rattle.osdp_sim_bus.specs.State.{LineState, ReaderSite}
+use Rattle.osdp_sim_bus.specs.Steps.{after_step, all_hear, all_hear_each, hears_run, is_there, issued, site_begins, site_hears, site_is_busy, site_issues, site_queues, site_is_told, report_told, waited}
 
 module _ {H : Type 0} (answer_of : H → Command → Answer) (after : H → Command → H) where
   abbrev pub Many : LineState H → ℕ
   Many s = length s.sites
 
-  many_changed : (change : Site H → Site H) (place : ℕ) (sites : List (Site H)) (o : Option (Site H))
+  many_changed : (change : ReaderSite H → ReaderSite H) (place : ℕ) (sites : List (ReaderSite H)) (o : Option (ReaderSite H))
       → length (option_map_or (λ site. slice_set sites place (change site)) o sites) ≡ length sites
   many_changed change place sites None = refl
   many_changed change place sites (Some site) = length-set sites place (change site)
@@ -34,7 +34,7 @@ module _ {H : Type 0} (answer_of : H → Command → Answer) (after : H → Comm
   many_issued (Some fault) place command s = refl
   many_issued None place command s = many_changed (site_issues command) place s.sites (slice_get s.sites place)
 
-  many_told : (report : Option (ℕ × Report)) (s : LineState H) → Many (told report s) ≡ Many s
+  many_told : (report : Option (ℕ × Report)) (s : LineState H) → Many (report_told report s) ≡ Many s
   many_told None s = refl
   many_told (Some (entry, report)) s = many_changed (site_is_told report) entry s.sites (slice_get s.sites entry)
 

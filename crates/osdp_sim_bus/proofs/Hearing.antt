@@ -8,9 +8,9 @@ use Rattle.osdp_frame.specs.Packet.{Packet}
 use Rattle.osdp_msg.specs.declared.command.Command.{Command}
 use Rattle.osdp_reader.specs.declared.handler.Answer.{Answer}
 use Rattle.osdp_sim.specs.Steps.{SaysFit}
-use Rattle.osdp_sim_bus.specs.declared.site.Site as declared
+use Rattle.osdp_sim_bus.specs.declared.site.ReaderSite as declared
 use Rattle.osdp_sim_bus.specs.Room.{site_of, sites_of}
-use Rattle.osdp_sim_bus.specs.State.{Site}
+use Rattle.osdp_sim_bus.specs.State.{ReaderSite}
 use Rattle.osdp_sim_bus.specs.Steps.{site_hears, site_says}
 
 -- what is left of two lists begins with the same
@@ -19,18 +19,18 @@ same_there xs ys i d within also same =
     ap (λ l. get_or l 0 d) (sym (drop_more xs i d within) ∙ same ∙ drop_more ys i d also)
 
 module _ {H : Type 0} (answer_of : H → Command → Answer) (after : H → Command → H) (p : Packet) where
-  abbrev pub Says : Site H → Type 0
+  abbrev pub Says : ReaderSite H → Type 0
   Says site = SaysFit answer_of after (p ∷ []) site.reader
 
   -- so many of the readers have heard the packet, and what they answered went out
-  pub record HaveHeard (count : ℕ) (old new : List (declared.Site H)) (before later : List (List ℕ)) : Type 0 where
+  pub record HaveHeard (count : ℕ) (old new : List (declared.ReaderSite H)) (before later : List (List ℕ)) : Type 0 where
     pub many : length new ≡ length old
     pub done : sites_of (take count new) ≡ map (site_hears answer_of after p) (sites_of (take count old))
     pub rest : drop count new ≡ drop count old
     pub line : later ≡ before ++ flat_map (site_says answer_of after p) (sites_of (take count old))
     pub fits : All Says (sites_of (take count old))
 
-  pub none_has : (sites : List (declared.Site H)) (line : List (List ℕ)) → HaveHeard 0 sites sites line line
+  pub none_has : (sites : List (declared.ReaderSite H)) (line : List (List ℕ)) → HaveHeard 0 sites sites line line
   none_has sites line = record {
     many = refl;
     done = refl;
@@ -39,13 +39,13 @@ module _ {H : Type 0} (answer_of : H → Command → Answer) (after : H → Comm
     fits = All-nil Says;
   }
 
-  one_longer : (sites : List (declared.Site H)) (count : ℕ) (site : declared.Site H) → count < length sites
+  one_longer : (sites : List (declared.ReaderSite H)) (count : ℕ) (site : declared.ReaderSite H) → count < length sites
       → sites_of (take (count + 1) sites) ≡ sites_of (take count sites) ++ site_of (get_or sites count site) ∷ []
   one_longer sites count site within =
       ap sites_of (take_more sites count site within) ∙ map-append site_of (take count sites) (get_or sites count site ∷ [])
 
   -- .. and one more; what stands there is named whatever default a look-up has
-  pub one_more : (count : ℕ) (old new : List (declared.Site H)) (default next : declared.Site H) (before line later : List (List ℕ))
+  pub one_more : (count : ℕ) (old new : List (declared.ReaderSite H)) (default next : declared.ReaderSite H) (before line later : List (List ℕ))
       → count < length new → HaveHeard count old new before line
       → site_of next ≡ site_hears answer_of after p (site_of (get_or new count default))
       → later ≡ line ++ site_says answer_of after p (site_of (get_or new count default))
@@ -75,12 +75,12 @@ module _ {H : Type 0} (answer_of : H → Command → Answer) (after : H → Comm
       }
 
   -- all of them have
-  pub record AllHaveHeard (old new : List (declared.Site H)) (before later : List (List ℕ)) : Type 0 where
+  pub record AllHaveHeard (old new : List (declared.ReaderSite H)) (before later : List (List ℕ)) : Type 0 where
     pub sites : sites_of new ≡ map (site_hears answer_of after p) (sites_of old)
     pub line : later ≡ before ++ flat_map (site_says answer_of after p) (sites_of old)
     pub fits : All Says (sites_of old)
 
-  pub all_have : (count : ℕ) (old new : List (declared.Site H)) (before later : List (List ℕ)) → length new ≤ count
+  pub all_have : (count : ℕ) (old new : List (declared.ReaderSite H)) (before later : List (List ℕ)) → length new ≤ count
       → HaveHeard count old new before later → AllHaveHeard old new before later
   all_have count old new before later over h =
       let whole : take count old ≡ old = take_all count old (omega (arith, over, h.many)) in

@@ -5,13 +5,13 @@ use Rattle.std.specs.Option.{option_map_or}
 use Rattle.std.proofs.lemmas.Bool.{leb-true}
 use Rattle.std.proofs.lemmas.List.{length-map, map-set}
 use Rattle.std.proofs.lemmas.Option.{slice_get-get_or, slice_get-map}
-use Rattle.osdp_sim_bus.specs.declared.site.Site as declared
+use Rattle.osdp_sim_bus.specs.declared.site.ReaderSite as declared
 use Rattle.osdp_sim_bus.specs.Room.{site_of, sites_of}
-use Rattle.osdp_sim_bus.specs.State.{Site}
+use Rattle.osdp_sim_bus.specs.State.{ReaderSite}
 use Rattle.osdp_sim_bus.specs.Steps.{changed_site}
 
 -- the one at a place is changed
-pub changed_there : {H : Type 0} (change : Site H → Site H) (sites : List (declared.Site H)) (place : ℕ) (default next : declared.Site H)
+pub changed_there : {H : Type 0} (change : ReaderSite H → ReaderSite H) (sites : List (declared.ReaderSite H)) (place : ℕ) (default next : declared.ReaderSite H)
     → place < length sites → site_of next ≡ change (site_of (get_or sites place default))
     → sites_of (slice_set sites place next) ≡ changed_site place change (sites_of sites)
 changed_there change sites place default next within is =
@@ -25,7 +25,7 @@ both true b e = (refl, e)
 both false b e = absurd cc
 
 -- readers count from 1
-pub there_within : {H : Type 0} (number : ℕ) (sites : List (declared.Site H)) → (nat_le 1 number && nat_le number (length (sites_of sites))) ≡ true
+pub there_within : {H : Type 0} (number : ℕ) (sites : List (declared.ReaderSite H)) → (nat_le 1 number && nat_le number (length (sites_of sites))) ≡ true
     → number - 1 < length sites
 there_within number sites there =
     let parts = both (nat_le 1 number) (nat_le number (length (sites_of sites))) there in

@@ -16,7 +16,7 @@ use Rattle.osdp_sim.specs.declared.step.SimStep.{SimStep}
 use Rattle.osdp_sim.specs.declared.step.SimStep.TheVariants.{Issue, Queue, Busy, Wait, ToReader, ToController, Reopen}
 use Rattle.osdp_sim_bus.specs.Laws.{HasAnAccountEach, LeavesTheOthers, ReachesEach, site_hears_each}
 use Rattle.osdp_sim_bus.specs.Runs.{run}
-use Rattle.osdp_sim_bus.specs.State.{LineState, Site, new_site, set_up}
+use Rattle.osdp_sim_bus.specs.State.{LineState, ReaderSite, new_site, set_up}
 use Rattle.osdp_sim_bus.specs.Steps.{after_step, all_hear, all_hear_each, is_there, issued, site_begins, site_hears, site_is_busy, site_issues, site_queues}
 use Rattle.osdp_sim_bus.proofs.Counts.{same_many}
 use Rattle.osdp_sim_bus.proofs.Places.{both}
@@ -30,11 +30,11 @@ other_set (y ∷ xs) (suc there) zero x other = refl
 other_set (y ∷ xs) (suc there) (suc place) x other = other_set xs there place x (λ e. other (ap suc e))
 
 module _ {H : Type 0} (answer_of : H → Command → Answer) (after : H → Command → H) where
-  mapped : (f g : Site H → Site H) (o : Option (Site H)) → option_map g (option_map f o) ≡ option_map (λ site. g (f site)) o
+  mapped : (f g : ReaderSite H → ReaderSite H) (o : Option (ReaderSite H)) → option_map g (option_map f o) ≡ option_map (λ site. g (f site)) o
   mapped f g None = refl
   mapped f g (Some site) = refl
 
-  kept : (o : Option (Site H)) → o ≡ option_map (λ site. site) o
+  kept : (o : Option (ReaderSite H)) → o ≡ option_map (λ site. site) o
   kept None = refl
   kept (Some site) = refl
 
@@ -53,7 +53,7 @@ module _ {H : Type 0} (answer_of : H → Command → Answer) (after : H → Comm
   abbrev pub IsSame : ℕ → LineState H → LineState H → Type 0
   IsSame place new old = slice_get new.sites place ≡ slice_get old.sites place
 
-  changed_other : (there place : ℕ) (change : Site H → Site H) (sites : List (Site H)) (o : Option (Site H)) → there ≢ place
+  changed_other : (there place : ℕ) (change : ReaderSite H → ReaderSite H) (sites : List (ReaderSite H)) (o : Option (ReaderSite H)) → there ≢ place
       → slice_get (option_map_or (λ site. slice_set sites there (change site)) o sites) place ≡ slice_get sites place
   changed_other there place change sites None other = refl
   changed_other there place change sites (Some site) other = other_set sites there place (change site) other
@@ -94,5 +94,5 @@ module _ {H : Type 0} (answer_of : H → Command → Answer) (after : H → Comm
 
   pub has_an_account_each : HasAnAccountEach answer_of after
   has_an_account_each config readers steps =
-      length-map (run answer_of after steps (set_up config readers)).sites (λ (site : Site H). site.account)
+      length-map (run answer_of after steps (set_up config readers)).sites (λ (site : ReaderSite H). site.account)
       ∙ run_many steps (set_up config readers) ∙ length-map readers new_site

@@ -1,9 +1,9 @@
 -- The accounts of readers, as the code keeps them.
 use Rattle.std.proofs.Common.{List, map}
 use Rattle.osdp_sim.specs.Account.{Account}
-use Rattle.osdp_sim_bus.specs.declared.site.Site as declared
+use Rattle.osdp_sim_bus.specs.declared.site.ReaderSite as declared
 use Rattle.osdp_sim_bus.specs.Room.{sites_of}
-use Rattle.osdp_sim_bus.specs.State.{Site}
+use Rattle.osdp_sim_bus.specs.State.{ReaderSite}
 
-abbrev pub accounts_of : {H : Type 0} → List (declared.Site H) → List Account
-accounts_of {H} sites = map (λ (site : Site H). site.account) (sites_of sites)
+abbrev pub accounts_of : {H : Type 0} → List (declared.ReaderSite H) → List Account
+accounts_of {H} sites = map (λ (site : ReaderSite H). site.account) (sites_of sites)

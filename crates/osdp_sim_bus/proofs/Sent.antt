@@ -17,11 +17,11 @@ use Rattle.osdp_sim.specs.Steps.{SaysFit, moment_after}
 use Rattle.osdp_sim.specs.declared.step.SimStep.{SimStep}
 use Rattle.osdp_sim.specs.declared.step.SimStep.TheVariants.{Issue, Queue, Busy, Wait, ToReader, ToController, Reopen}
 use Rattle.osdp_sim.proofs.Sent.{HasSpelling, all_sent, left_sent}
-use Rattle.osdp_sim_bus.specs.State.{AreSent, LineState, Site}
-use Rattle.osdp_sim_bus.specs.Steps.{StepFits, after_step, all_hear, all_hear_each, hears_run, is_there, issued, site_hears, site_says, told, waited}
+use Rattle.osdp_sim_bus.specs.State.{AreSent, LineState, ReaderSite}
+use Rattle.osdp_sim_bus.specs.Steps.{StepFits, after_step, all_hear, all_hear_each, hears_run, is_there, issued, report_told, site_hears, site_says, waited}
 
 module _ {H : Type 0} (answer_of : H → Command → Answer) (after : H → Command → H) where
-  abbrev pub SayFit : List Packet → Site H → Type 0
+  abbrev pub SayFit : List Packet → ReaderSite H → Type 0
   SayFit packets site = SaysFit answer_of after packets site.reader
 
   where_sent : (there : Bool) (new old : LineState H) → AreSent old → AreSent new → AreSent (if there then new else old)
@@ -32,12 +32,12 @@ module _ {H : Type 0} (answer_of : H → Command → Answer) (after : H → Comm
   issued_sent None place command s h = record { to_readers = h.to_readers; to_bus = h.to_bus }
   issued_sent (Some fault) place command s h = h
 
-  told_sent : (report : Option (ℕ × Report)) (s : LineState H) → AreSent s → AreSent (told report s)
+  told_sent : (report : Option (ℕ × Report)) (s : LineState H) → AreSent s → AreSent (report_told report s)
   told_sent None s h = h
   told_sent (Some (entry, report)) s h = record { to_readers = h.to_readers; to_bus = h.to_bus }
 
   -- what all of them say
-  says_sent : HasSpelling → (p : Packet) (packets : List Packet) (sites : List (Site H)) → All (SayFit (p ∷ packets)) sites
+  says_sent : HasSpelling → (p : Packet) (packets : List Packet) (sites : List (ReaderSite H)) → All (SayFit (p ∷ packets)) sites
       → All IsSent (flat_map (site_says answer_of after p) sites)
   says_sent has p packets [] fit = All-nil IsSent
   says_sent has p packets (site ∷ sites) fit =
@@ -46,7 +46,7 @@ module _ {H : Type 0} (answer_of : H → Command → Answer) (after : H → Comm
       (all_sent has (reader.hears answer_of after site.reader p).reply (All-head (SayFit (p ∷ packets)) site sites fit).1)
       (says_sent has p packets sites (All-tail (SayFit (p ∷ packets)) site sites fit)))
 
-  still_fit : (p : Packet) (packets : List Packet) (sites : List (Site H)) → All (SayFit (p ∷ packets)) sites
+  still_fit : (p : Packet) (packets : List Packet) (sites : List (ReaderSite H)) → All (SayFit (p ∷ packets)) sites
       → All (SayFit packets) (map (site_hears answer_of after p) sites)
   still_fit p packets [] fit = All-nil (SayFit packets)
   still_fit p packets (site ∷ sites) fit =

@@ -19,7 +19,7 @@ use Rattle.osdp_sim.specs.declared.step.SimStep.TheVariants.{Issue, Queue, Busy,
 use Rattle.osdp_sim_bus.specs.Laws.{TellsAtOnce}
 use Rattle.osdp_sim_bus.specs.Runs.{run}
 use Rattle.osdp_sim_bus.specs.State.{LineState, set_up}
-use Rattle.osdp_sim_bus.specs.Steps.{after_step, all_hear, all_hear_each, hears_run, is_there, issued, told, waited}
+use Rattle.osdp_sim_bus.specs.Steps.{after_step, all_hear, all_hear_each, hears_run, is_there, issued, report_told, waited}
 
 module _ {H : Type 0} (answer_of : H → Command → Answer) (after : H → Command → H) where
   abbrev pub IsTold : LineState H → Type 0
@@ -38,7 +38,7 @@ module _ {H : Type 0} (answer_of : H → Command → Answer) (after : H → Comm
   issued_told (Some fault) place command s h = h
   issued_told None place command s h = changed_told place (device_submits command) s.bus (device_of place s.bus) h
 
-  told_told : (report : Option (ℕ × Report)) (s : LineState H) → IsTold s → IsTold (told report s)
+  told_told : (report : Option (ℕ × Report)) (s : LineState H) → IsTold s → IsTold (report_told report s)
   told_told None s h = h
   told_told (Some (entry, report)) s h = h
 

@@ -11,7 +11,7 @@ use Rattle.osdp_sim.specs.declared.step.Move.{Move}
 use Rattle.osdp_sim.specs.declared.step.SimStep.{SimStep}
 use Rattle.osdp_sim.specs.declared.step.SimStep.TheVariants.{Issue, Queue, Busy, Wait, ToReader, ToController, Reopen}
 use Rattle.osdp_sim_bus.specs.Runs.{run}
-use Rattle.osdp_sim_bus.specs.State.{Given, LineState, Site, accounts, set_up}
+use Rattle.osdp_sim_bus.specs.State.{Given, LineState, ReaderSite, accounts, set_up}
 use Rattle.osdp_sim_bus.specs.Steps.{after_step, site_hears}
 
 -- the step names a reader, and not the one at this place
@@ -26,7 +26,7 @@ IsForAnother place (Reopen number) = number ≢ suc place
 
 module _ {H : Type 0} (answer_of : H → Command → Answer) (after : H → Command → H) where
   -- a reader by itself hears these packets, one after the other
-  abbrev pub site_hears_each : List Packet → Site H → Site H
+  abbrev pub site_hears_each : List Packet → ReaderSite H → ReaderSite H
   site_hears_each [] site = site
   site_hears_each (p ∷ packets) site = site_hears_each packets (site_hears answer_of after p site)
 

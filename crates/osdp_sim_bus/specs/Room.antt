@@ -6,14 +6,14 @@ use Rattle.osdp_sim.specs.Line.{bytes_of}
 use Rattle.osdp_sim.specs.Room.{HasPlaces}
 use Rattle.osdp_sim_bus.specs.declared.run.Run.{Run}
 use Rattle.osdp_sim_bus.specs.declared.simulation.Simulation.{Simulation}
-use Rattle.osdp_sim_bus.specs.declared.site.Site as declared
-use Rattle.osdp_sim_bus.specs.State.{AreSent, LineState, Site}
+use Rattle.osdp_sim_bus.specs.declared.site.ReaderSite as declared
+use Rattle.osdp_sim_bus.specs.State.{AreSent, LineState, ReaderSite}
 
 module _ {H : Type 0} where
-  abbrev pub site_of : declared.Site H → Site H
+  abbrev pub site_of : declared.ReaderSite H → ReaderSite H
   site_of site = record { reader = site.reader; account = lists_of site.account }
 
-  abbrev pub sites_of : List (declared.Site H) → List (Site H)
+  abbrev pub sites_of : List (declared.ReaderSite H) → List (ReaderSite H)
   sites_of sites = map site_of sites
 
   abbrev pub state_of : Simulation H → LineState H
@@ -26,7 +26,7 @@ module _ {H : Type 0} where
   }
 
   -- a place in each list of a reader's account
-  abbrev pub HasPlace : declared.Site H → Type 0
+  abbrev pub HasPlace : declared.ReaderSite H → Type 0
   HasPlace site = HasPlaces site.account
 
   -- a burst may go out, each reader may answer, and each account has its places

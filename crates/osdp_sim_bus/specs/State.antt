@@ -9,15 +9,15 @@ use Rattle.osdp_bus.specs.declared.device.Device.{Device}
 use Rattle.osdp_sim.specs.Account.{Account, empty_account, with_session}
 use Rattle.osdp_sim.specs.Line.{IsSent}
 
--- a reader, and what has come of its schedule so far
-pub record Site (H : Type 0) : Type 0 where
+-- a reader's side of a site: the reader, and what has come of its schedule so far
+pub record ReaderSite (H : Type 0) : Type 0 where
   pub reader : ReaderState H
   pub account : Account
 
 -- the panel's end, the readers in the order of their numbers, the bursts that are on the way between them, and the moment
 pub record LineState (H : Type 0) : Type 0 where
   pub bus : BusState
-  pub sites : List (Site H)
+  pub sites : List (ReaderSite H)
   pub to_readers : List (List ℕ)
   pub to_bus : List (List ℕ)
   pub clock : ℕ
@@ -40,7 +40,7 @@ module _ {H : Type 0} where
   abbrev pub begun_device : BusConfig → Given H → Device
   begun_device config given = device_begins 0 (new_device (address_of given) config)
 
-  abbrev pub new_site : Given H → Site H
+  abbrev pub new_site : Given H → ReaderSite H
   new_site given = record { reader = new_reader given.0 given.2 given.1; account = with_session empty_account }
 
   -- entry 0 is that of the first reader
@@ -57,7 +57,7 @@ module _ {H : Type 0} where
   }
 
   abbrev pub accounts : LineState H → List Account
-  accounts s = map (λ (site : Site H). site.account) s.sites
+  accounts s = map (λ (site : ReaderSite H). site.account) s.sites
 
   -- each burst on the line is one packet
   pub record AreSent (s : LineState H) : Type 0 where

@@ -26,7 +26,7 @@ use Rattle.osdp_sim.specs.declared.step.Move.{Move}
 use Rattle.osdp_sim.specs.declared.step.Move.TheVariants.{Damage}
 use Rattle.osdp_sim.specs.declared.step.SimStep.{SimStep}
 use Rattle.osdp_sim.specs.declared.step.SimStep.TheVariants.{Issue, Queue, Busy, Wait, ToReader, ToController, Reopen}
-use Rattle.osdp_sim_bus.specs.State.{LineState, Site}
+use Rattle.osdp_sim_bus.specs.State.{LineState, ReaderSite}
 
 -- damage is bytes
 abbrev pub DamageIsBytes : Move → Type 0
@@ -51,33 +51,33 @@ module _ {H : Type 0} where
   abbrev pub where_there : ℕ → (ℕ → LineState H) → LineState H → LineState H
   where_there number change s = if is_there number s then change (number - 1) else s
 
-  abbrev pub changed_site : ℕ → (Site H → Site H) → List (Site H) → List (Site H)
+  abbrev pub changed_site : ℕ → (ReaderSite H → ReaderSite H) → List (ReaderSite H) → List (ReaderSite H)
   changed_site place change sites = option_map_or (λ site. slice_set sites place (change site)) (slice_get sites place) sites
 
-  abbrev pub changes_site : ℕ → (Site H → Site H) → LineState H → LineState H
+  abbrev pub changes_site : ℕ → (ReaderSite H → ReaderSite H) → LineState H → LineState H
   changes_site place change s = record s { sites = changed_site place change s.sites }
 
   -- ---- one reader
 
-  abbrev pub site_issues : Command → Site H → Site H
+  abbrev pub site_issues : Command → ReaderSite H → ReaderSite H
   site_issues command site = record site { account = with_issued command site.account }
 
-  abbrev pub site_queues_unless : Bool → Event → Site H → Site H
+  abbrev pub site_queues_unless : Bool → Event → ReaderSite H → ReaderSite H
   site_queues_unless true event site = site
   site_queues_unless false event site =
       record { reader = readers.after_submit event site.reader; account = with_queued event site.account }
 
-  abbrev pub site_queues : Event → Site H → Site H
+  abbrev pub site_queues : Event → ReaderSite H → ReaderSite H
   site_queues event site =
       site_queues_unless (length site.reader.queue.events == site.reader.queue.capacity) event site
 
-  abbrev pub site_is_busy : Bool → Site H → Site H
+  abbrev pub site_is_busy : Bool → ReaderSite H → ReaderSite H
   site_is_busy busy site = record site { reader = readers.after_set_busy busy site.reader }
 
-  abbrev pub site_is_told : Report → Site H → Site H
+  abbrev pub site_is_told : Report → ReaderSite H → ReaderSite H
   site_is_told report site = record site { account = with_report (Some report) site.account }
 
-  abbrev pub site_begins : Site H → Site H
+  abbrev pub site_begins : ReaderSite H → ReaderSite H
   site_begins site = record site { account = with_session site.account }
 
   -- ---- the line
@@ -89,12 +89,12 @@ module _ {H : Type 0} where
       changes_site place (site_issues command) (record s { bus = after_submit_at place command s.bus })
 
   -- the report that waits, if any, is told to the account of its entry's reader
-  abbrev pub told : Option (ℕ × Report) → LineState H → LineState H
-  told None s = s
-  told (Some (entry, report)) s = changes_site entry (site_is_told report) s
+  abbrev pub report_told : Option (ℕ × Report) → LineState H → LineState H
+  report_told None s = s
+  report_told (Some (entry, report)) s = changes_site entry (site_is_told report) s
 
   abbrev pub takes_report : LineState H → LineState H
-  takes_report s = told s.bus.devices.report (record s { bus = after_next_report s.bus })
+  takes_report s = report_told s.bus.devices.report (record s { bus = after_next_report s.bus })
 
   -- a tick of the bus at this moment
   abbrev pub ticked : BusTicked → ℕ → LineState H → LineState H
@@ -122,7 +122,7 @@ module _ {H : Type 0} where
 
   module _ (answer_of : H → Command → Answer) (after : H → Command → H) where
     -- a reader hears a packet ..
-    abbrev pub site_hears : Packet → Site H → Site H
+    abbrev pub site_hears : Packet → ReaderSite H → ReaderSite H
     site_hears p site =
         let outcome = reader.hears answer_of after site.reader p in
         record {
@@ -131,7 +131,7 @@ module _ {H : Type 0} where
         }
 
     -- .. and answers it, or doesn't
-    abbrev pub site_says : Packet → Site H → List (List ℕ)
+    abbrev pub site_says : Packet → ReaderSite H → List (List ℕ)
     site_says p site = sent (reader.hears answer_of after site.reader p).reply
 
     -- all readers hear a packet, in their order, and what each of them answers goes out
@@ -169,6 +169,6 @@ module _ {H : Type 0} where
     StepFits (Busy number busy) s = Unit {0}
     StepFits (Wait wait) s = IfSome (bus_ticks (moment_after wait s.clock) s.bus).sent IsPacket
     StepFits (ToReader move) s =
-        All (λ (site : Site H). SaysFit answer_of after (packets_in (handed move s.to_readers)) site.reader) s.sites
+        All (λ (site : ReaderSite H). SaysFit answer_of after (packets_in (handed move s.to_readers)) site.reader) s.sites
     StepFits (ToController move) s = DamageIsBytes move
     StepFits (Reopen number) s = Unit {0}

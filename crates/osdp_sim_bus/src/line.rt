@@ -8,7 +8,7 @@ ghost use Rattle.osdp_sim.specs.Steps.{SaysFit};
 ghost use Rattle.osdp_sim_bus.specs.Room.{HasPlace, sites_of};
 ghost use Rattle.osdp_sim_bus.specs.Steps.{hears_run, site_hears, site_says};
 
-use crate::site::Site;
+use crate::site::ReaderSite;
 use osdp_bus::Bus;
 use osdp_frame::{Burst, FrameView};
 use osdp_reader::{Handler, Heard};
@@ -43,7 +43,7 @@ pub fn hand_in(bus: &mut Bus, run: &[u8], now: u64)
 
 /// All readers hear a packet, in their order, and what each of them answers goes out. What the last of them made of it stands in `heard`.
 pub fn hear_all<H: Handler>(
-    sites: &mut [Site<H>],
+    sites: &mut [ReaderSite<H>],
     packet: &FrameView<'_>,
     heard: &mut Heard,
     line: &mut VecDeque<Burst>,
@@ -60,7 +60,7 @@ pub fn hear_all<H: Handler>(
 }
 
 /// Makes a place in each list of each account.
-pub fn grow_all<H: Handler>(sites: &mut [Site<H>]) -> Result<(), AllocError>
+pub fn grow_all<H: Handler>(sites: &mut [ReaderSite<H>]) -> Result<(), AllocError>
     ensures same { sites_of sites.new ≡ sites_of sites.old }
     ensures places { OnOk result (All HasPlace sites.new) }
 {

@@ -13,7 +13,7 @@ ghost use Rattle.osdp_sim_bus.specs.Steps.{StepFits, after_step, fault_of};
 
 use crate::settings::are_readers;
 use crate::simulation::Simulation;
-use crate::site::Site;
+use crate::site::ReaderSite;
 use osdp_bus::{Bus, BusConfig, BusFault};
 use osdp_frame::{Address, Burst};
 use osdp_reader::{Handler, Heard, ReaderConfig};
@@ -101,7 +101,7 @@ impl<H: Handler> SimulatedLine for Run<H> {
         self.simulation.change(step);
     }
 
-    fn told(self) -> Vec<Account> {
+    fn into_told(self) -> Vec<Account> {
         let Run { simulation, told } = self;
         accounts(simulation.sites, told)
     }
@@ -182,7 +182,7 @@ fn add_all<H: Handler>(
     alloc: Global,
     bus: Bus,
     readers: Vec<(ReaderConfig, usize, H)>,
-) -> Result<(Bus, Vec<Site<H>>), Cause>
+) -> Result<(Bus, Vec<ReaderSite<H>>), Cause>
     requires { bus ≡ new_bus bus.config }
     ensures bus { IfOk result (λ made. made.0 ≡ begun_bus bus.config readers.items) }
     ensures sites { IfOk result (λ made. sites_of made.1.items ≡ map new_site readers.items) }
@@ -192,7 +192,7 @@ fn add_all<H: Handler>(
     let mut sites = Vec::new(alloc);
     for (config, events, handler) in readers {
         add(&mut bus, config.address)?;
-        let site = Site::new(alloc, config, events, handler)?;
+        let site = ReaderSite::new(alloc, config, events, handler)?;
         if sites.push(site).is_err() {
             return Err(Cause::NoMemory);
         }
@@ -213,7 +213,7 @@ fn add(bus: &mut Bus, address: Address) -> Result<(), Cause>
 }
 
 /// The readers' accounts, in this room.
-fn accounts<H: Handler>(sites: Vec<Site<H>>, told: Vec<Account>) -> Vec<Account>
+fn accounts<H: Handler>(sites: Vec<ReaderSite<H>>, told: Vec<Account>) -> Vec<Account>
     requires empty { told.items ≡ [] }
     requires room { length sites.items ≤ vec_capacity told }
     ensures { lists_of_all result.items ≡ map (λ site. site.account) (sites_of sites.items) }

@@ -7,7 +7,7 @@ ghost use Rattle.osdp_sim_bus.specs.State.{AreSent, LineState};
 ghost use Rattle.osdp_sim_bus.specs.Steps.{DamageIsBytes, StepFits, after_step, is_quiet, is_there, refuses_reopen, takes_report};
 
 use crate::line::{grow_all, hand_in, handed, hear_all};
-use crate::site::Site;
+use crate::site::ReaderSite;
 use osdp_bus::Bus;
 use osdp_frame::Burst;
 use osdp_msg::{Command, Event};
@@ -24,7 +24,7 @@ pub struct Simulation<H: Handler> {
     /// The panel's end. Its entries are the readers' places.
     pub bus: Bus,
     /// The readers in the order of their numbers, which count from 1.
-    pub sites: Vec<Site<H>>,
+    pub sites: Vec<ReaderSite<H>>,
     /// The bursts on their way to the readers, the first in front.
     pub to_readers: VecDeque<Burst>,
     /// The bursts on their way to the bus, the first in front.

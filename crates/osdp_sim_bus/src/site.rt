@@ -18,21 +18,21 @@ use osdp_sim::{Account, Cause};
 use std::alloc::Global;
 use std::collections::VecDeque;
 
-/// A reader, and what has come of its schedule so far.
+/// A reader's side of a site: the reader, and what has come of its schedule so far.
 #[derive(Drop)]
-pub struct Site<H: Handler> {
+pub struct ReaderSite<H: Handler> {
     pub reader: Reader<H>,
     pub account: Account,
 }
 
-impl<H: Handler> Site<H> {
+impl<H: Handler> ReaderSite<H> {
     /// A new reader, whose first session begins.
     pub fn new(
         alloc: Global,
         config: ReaderConfig,
         events: usize,
         handler: H,
-    ) -> Result<Site<H>, Cause>
+    ) -> Result<ReaderSite<H>, Cause>
         ensures made { IfOk result (λ site. site_of site ≡ new_site (config, events, handler)) }
         ensures cause { IfErr result (λ cause. cause ≡ NoMemory) }
     {
@@ -44,7 +44,7 @@ impl<H: Handler> Site<H> {
             return Err(Cause::NoMemory);
         }
         account.begin();
-        Ok(Site { reader, account })
+        Ok(ReaderSite { reader, account })
     }
 
     /// The device submits an event; a refused one is dropped.

@@ -26,7 +26,7 @@ use Rattle.osdp_sim.specs.Account.{Account}
 use Rattle.osdp_sim.specs.declared.step.SimStep.{SimStep}
 use Rattle.osdp_sim.specs.declared.step.SimStep.TheVariants.{Issue, Queue}
 use Rattle.osdp_sim_bus.specs.Runs.{run, steps_done}
-use Rattle.osdp_sim_bus.specs.State.{Given, LineState, Site, begun_device, new_site, set_up}
+use Rattle.osdp_sim_bus.specs.State.{Given, LineState, ReaderSite, begun_device, new_site, set_up}
 use Rattle.osdp_sim_bus.specs.Steps.{after_step, changed_site, is_there, issued, site_issues, site_queues, site_queues_unless}
 use Rattle.osdp_sim_laws.specs.Accepted.{but_poll, commands_for, events_for}
 use Rattle.osdp_sim_laws.proofs.Accepting.{Accepts, IsNoOrder, accepted, counts, none_accepted, one_accepted, one_less, one_refused, submit_is}
@@ -41,17 +41,17 @@ module _ {H : Type 0} (answer_of : H → Command → Answer) (after : H → Comm
 
   -- in the end the site at the place has these of the commands
   pub record AcceptsIssued (room k : ℕ) (all before : List Command) (s : LineState H) : Type 0 where
-    pub site : Site H
+    pub site : ReaderSite H
     pub there : slice_get s.sites k ≡ Some site
     pub accepts : Accepts room all before site.account.issued
 
   -- so from each state that these steps are taken from
   abbrev RestAccepts : ℕ → List SimStep → Type 0
-  RestAccepts k list = (n : ℕ) (s : LineState H) (d : Device) (u : Site H) → device_of k s.bus ≡ Some d → slice_get s.sites k ≡ Some u
+  RestAccepts k list = (n : ℕ) (s : LineState H) (d : Device) (u : ReaderSite H) → device_of k s.bus ≡ Some d → slice_get s.sites k ≡ Some u
       → length d.controller.waiting ≤ n → Each IsNoComset (commands_for (suc k) list)
       → AcceptsIssued (d.controller.capacity - n) k (commands_for (suc k) list) u.account.issued (run answer_of after list s)
 
-  carried : (k : ℕ) (list : List SimStep) → RestAccepts k list → (n : ℕ) (s t : LineState H) (d : Device) (u : Site H) → device_of k s.bus ≡ Some d
+  carried : (k : ℕ) (list : List SimStep) → RestAccepts k list → (n : ℕ) (s t : LineState H) (d : Device) (u : ReaderSite H) → device_of k s.bus ≡ Some d
       → slice_get s.sites k ≡ Some u → length d.controller.waiting ≤ n → Each IsNoComset (commands_for (suc k) list)
       → Keeps k s.bus.devices.entries t.bus.devices.entries → StaysAt (SameIssued answer_of after) k s.sites t.sites
       → AcceptsIssued (d.controller.capacity - n) k (commands_for (suc k) list) u.account.issued (run answer_of after list t)
@@ -66,7 +66,7 @@ module _ {H : Type 0} (answer_of : H → Command → Answer) (after : H → Comm
             (subst (λ cs. Accepts (e.0.controller.capacity - n) (commands_for (suc k) list) cs last.site.account.issued) v.2 last.accepts);
       }
 
-  idle_accepts : (k : ℕ) (list : List SimStep) → RestAccepts k list → (step : SimStep) → IsNoOrder step → (n : ℕ) (s : LineState H) (d : Device) (u : Site H)
+  idle_accepts : (k : ℕ) (list : List SimStep) → RestAccepts k list → (step : SimStep) → IsNoOrder step → (n : ℕ) (s : LineState H) (d : Device) (u : ReaderSite H)
       → device_of k s.bus ≡ Some d → slice_get s.sites k ≡ Some u → length d.controller.waiting ≤ n → Each IsNoComset (commands_for (suc k) list)
       → AcceptsIssued (d.controller.capacity - n) k (commands_for (suc k) list) u.account.issued (run answer_of after (step ∷ list) s)
   idle_accepts k list rest step idles n s d u at sited few none =
@@ -87,7 +87,7 @@ module _ {H : Type 0} (answer_of : H → Command → Answer) (after : H → Comm
       ap (λ o. slice_get (option_map_or (λ x. record s.bus { devices = record s.bus.devices { entries = slice_set s.bus.devices.entries k (device_submits c x) } }) o s.bus).devices.entries k) at
       ∙ get_set k d (device_submits c d) s.bus.devices.entries at
 
-  module _ (k : ℕ) (c : Command) (list : List SimStep) (rest : RestAccepts k list) (n : ℕ) (s : LineState H) (d : Device) (u : Site H)
+  module _ (k : ℕ) (c : Command) (list : List SimStep) (rest : RestAccepts k list) (n : ℕ) (s : LineState H) (d : Device) (u : ReaderSite H)
       (at : device_of k s.bus ≡ Some d) (sited : slice_get s.sites k ≡ Some u) (few : length d.controller.waiting ≤ n) where
     abbrev Goal : List Command → Option BusFault → Type 0
     Goal cs fault = AcceptsIssued (d.controller.capacity - n) k (cs ++ commands_for (suc k) list) u.account.issued (run answer_of after list (issued fault k c s))
@@ -183,10 +183,10 @@ module _ {H : Type 0} (answer_of : H → Command → Answer) (after : H → Comm
   -- ---- whatever there is room for, some of the commands, in their order
 
   abbrev RestAmong : ℕ → List SimStep → Type 0
-  RestAmong k list = (s : LineState H) (d : Device) (u : Site H) → device_of k s.bus ≡ Some d → slice_get s.sites k ≡ Some u
+  RestAmong k list = (s : LineState H) (d : Device) (u : ReaderSite H) → device_of k s.bus ≡ Some d → slice_get s.sites k ≡ Some u
       → AcceptsIssued 0 k (commands_for (suc k) list) u.account.issued (run answer_of after list s)
 
-  carried_among : (k : ℕ) (list : List SimStep) → RestAmong k list → (s t : LineState H) (d : Device) (u : Site H) → device_of k s.bus ≡ Some d
+  carried_among : (k : ℕ) (list : List SimStep) → RestAmong k list → (s t : LineState H) (d : Device) (u : ReaderSite H) → device_of k s.bus ≡ Some d
       → slice_get s.sites k ≡ Some u → Keeps k s.bus.devices.entries t.bus.devices.entries → StaysAt (SameIssued answer_of after) k s.sites t.sites
       → AcceptsIssued 0 k (commands_for (suc k) list) u.account.issued (run answer_of after list t)
   carried_among k list rest s t d u at sited keeps stays =
@@ -199,14 +199,14 @@ module _ {H : Type 0} (answer_of : H → Command → Answer) (after : H → Comm
         accepts = subst (λ cs. Accepts 0 (commands_for (suc k) list) cs last.site.account.issued) v.2 last.accepts;
       }
 
-  idle_among : (k : ℕ) (list : List SimStep) → RestAmong k list → (step : SimStep) → IsNoOrder step → (s : LineState H) (d : Device) (u : Site H)
+  idle_among : (k : ℕ) (list : List SimStep) → RestAmong k list → (step : SimStep) → IsNoOrder step → (s : LineState H) (d : Device) (u : ReaderSite H)
       → device_of k s.bus ≡ Some d → slice_get s.sites k ≡ Some u
       → AcceptsIssued 0 k (commands_for (suc k) list) u.account.issued (run answer_of after (step ∷ list) s)
   idle_among k list rest step idles s d u at sited =
       carried_among k list rest s (after_step answer_of after step s) d u at sited
       ((idle_device answer_of after) k step s idles) ((idle_sites answer_of after) (SameIssued answer_of after) (issued_idle answer_of after) k step s idles)
 
-  module _ (k : ℕ) (c : Command) (list : List SimStep) (rest : RestAmong k list) (s : LineState H) (d : Device) (u : Site H)
+  module _ (k : ℕ) (c : Command) (list : List SimStep) (rest : RestAmong k list) (s : LineState H) (d : Device) (u : ReaderSite H)
       (at : device_of k s.bus ≡ Some d) (sited : slice_get s.sites k ≡ Some u) where
     abbrev Among : List Command → Option BusFault → Type 0
     Among cs fault = AcceptsIssued 0 k (cs ++ commands_for (suc k) list) u.account.issued (run answer_of after list (issued fault k c s))
@@ -276,15 +276,15 @@ module _ {H : Type 0} (answer_of : H → Command → Answer) (after : H → Comm
   -- ---- events
 
   pub record AcceptsQueued (room k : ℕ) (all before : List Event) (s : LineState H) : Type 0 where
-    pub site : Site H
+    pub site : ReaderSite H
     pub there : slice_get s.sites k ≡ Some site
     pub accepts : Accepts room all before site.account.queued
 
   abbrev RestQueues : ℕ → List SimStep → Type 0
-  RestQueues k list = (n : ℕ) (s : LineState H) (u : Site H) → slice_get s.sites k ≡ Some u → length u.reader.queue.events ≤ n
+  RestQueues k list = (n : ℕ) (s : LineState H) (u : ReaderSite H) → slice_get s.sites k ≡ Some u → length u.reader.queue.events ≤ n
       → AcceptsQueued (u.reader.queue.capacity - n) k (events_for (suc k) list) u.account.queued (run answer_of after list s)
 
-  kept : (k : ℕ) (list : List SimStep) → RestQueues k list → (n : ℕ) (s t : LineState H) (u : Site H) → slice_get s.sites k ≡ Some u
+  kept : (k : ℕ) (list : List SimStep) → RestQueues k list → (n : ℕ) (s t : LineState H) (u : ReaderSite H) → slice_get s.sites k ≡ Some u
       → length u.reader.queue.events ≤ n → StaysAt (NoneQueued answer_of after) k s.sites t.sites
       → AcceptsQueued (u.reader.queue.capacity - n) k (events_for (suc k) list) u.account.queued (run answer_of after list t)
   kept k list rest n s t u sited few stays =
@@ -297,7 +297,7 @@ module _ {H : Type 0} (answer_of : H → Command → Answer) (after : H → Comm
             (subst (λ es. Accepts (v.0.reader.queue.capacity - n) (events_for (suc k) list) es last.site.account.queued) v.2.queued last.accepts);
       }
 
-  idle_kept : (k : ℕ) (list : List SimStep) → RestQueues k list → (step : SimStep) → IsNoOrder step → (n : ℕ) (s : LineState H) (u : Site H)
+  idle_kept : (k : ℕ) (list : List SimStep) → RestQueues k list → (step : SimStep) → IsNoOrder step → (n : ℕ) (s : LineState H) (u : ReaderSite H)
       → slice_get s.sites k ≡ Some u → length u.reader.queue.events ≤ n
       → AcceptsQueued (u.reader.queue.capacity - n) k (events_for (suc k) list) u.account.queued (run answer_of after (step ∷ list) s)
   idle_kept k list rest step idles n s u sited few =
@@ -320,9 +320,9 @@ module _ {H : Type 0} (answer_of : H → Command → Answer) (after : H → Comm
       (where_sites answer_of after) (NoneQueued answer_of after) (events_idle answer_of after) k (is_there (suc j) s) s (record s { sites = changed_site (suc j - 1) (site_queues e) s.sites })
       (other_changed (NoneQueued answer_of after) (events_idle answer_of after).same k (suc j - 1) (site_queues e) s.sites (λ is. other (omega (arith, is))))
 
-  module _ (k : ℕ) (e : Event) (list : List SimStep) (rest : RestQueues k list) (n : ℕ) (s : LineState H) (u : Site H)
+  module _ (k : ℕ) (e : Event) (list : List SimStep) (rest : RestQueues k list) (n : ℕ) (s : LineState H) (u : ReaderSite H)
       (sited : slice_get s.sites k ≡ Some u) (few : length u.reader.queue.events ≤ n) where
-    abbrev queued_to : (Site H → Site H) → LineState H
+    abbrev queued_to : (ReaderSite H → ReaderSite H) → LineState H
     queued_to change = record s { sites = changed_site k change s.sites }
 
     by_full : (full : Bool) → (full ≡ true → length u.reader.queue.events ≡ u.reader.queue.capacity) → (t : LineState H)
@@ -394,12 +394,12 @@ module _ {H : Type 0} (answer_of : H → Command → Answer) (after : H → Comm
         let queued = accepts_events k list 0 s (new_site given) site_at (omega arith) in
         let a = queued.site.account in (
           a,
-          slice_get-map (λ (u : Site H). u.account) final.sites k ∙ ap (option_map (λ (u : Site H). u.account)) queued.there,
+          slice_get-map (λ (u : ReaderSite H). u.account) final.sites k ∙ ap (option_map (λ (u : ReaderSite H). u.account)) queued.there,
           record {
             among =
                 let orders = commands_for (suc k) list in
                 let issued = some_commands k list s (begun_device config given) (new_site given) device_at site_at in
-                subst (λ (v : Site H). IsAmong v.account.issued orders) (same_site (sym issued.there ∙ queued.there))
+                subst (λ (v : ReaderSite H). IsAmong v.account.issued orders) (same_site (sym issued.there ∙ queued.there))
                 (subst (λ cs. IsAmong cs orders) (sym issued.accepts.list) issued.accepts.among);
             issued = λ plain.
                 let orders = commands_for (suc k) list in
@@ -407,14 +407,14 @@ module _ {H : Type 0} (answer_of : H → Command → Answer) (after : H → Comm
                 (each_of IsNoComset orders plain) in
                 let one : issued.site ≡ queued.site = same_site (sym issued.there ∙ queued.there) in
                 accepted config.capacity orders a.issued
-                (subst (λ (v : Site H). Accepts config.capacity orders [] v.account.issued) one
+                (subst (λ (v : ReaderSite H). Accepts config.capacity orders [] v.account.issued) one
                 (subst (λ n. Accepts n orders [] issued.site.account.issued) (none_less config.capacity) issued.accepts));
             queued = accepted given.1 (events_for (suc k) list) a.queued
                 (subst (λ n. Accepts n (events_for (suc k) list) [] a.queued) (none_less given.1) queued.accepts);
           },
         )
       where
-        same_site : {u v : Site H} → Some u ≡ Some v → u ≡ v
+        same_site : {u v : ReaderSite H} → Some u ≡ Some v → u ≡ v
         same_site is = cc
 
         none_less : (n : ℕ) → n - 0 ≡ n

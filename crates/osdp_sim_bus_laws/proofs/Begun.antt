@@ -18,8 +18,8 @@ use Rattle.osdp_sim.specs.Steps.{moment_after}
 use Rattle.osdp_sim.specs.declared.step.SimStep.{SimStep}
 use Rattle.osdp_sim.specs.declared.step.SimStep.TheVariants.{Busy, Issue, Queue, Reopen, ToController, ToReader, Wait}
 use Rattle.osdp_sim_bus.specs.Runs.{run, steps_done}
-use Rattle.osdp_sim_bus.specs.State.{Given, LineState, Site, accounts, new_site, set_up}
-use Rattle.osdp_sim_bus.specs.Steps.{after_step, all_hear, all_hear_each, changed_site, hears_run, is_there, issued, reopened, site_begins, site_hears, site_is_busy, site_is_told, site_issues, site_queues, site_queues_unless, told, waited}
+use Rattle.osdp_sim_bus.specs.State.{Given, LineState, ReaderSite, accounts, new_site, set_up}
+use Rattle.osdp_sim_bus.specs.Steps.{after_step, all_hear, all_hear_each, changed_site, hears_run, is_there, issued, reopened, report_told, site_begins, site_hears, site_is_busy, site_is_told, site_issues, site_queues, site_queues_unless, waited}
 use Rattle.osdp_sim_laws.specs.Begun.{AreBegun}
 use Rattle.osdp_sim_laws.proofs.Accepting.{counts}
 use Rattle.osdp_sim_laws.proofs.Begun.{Grows, are_begun, begun_by, grows_by_command, grows_by_event, grows_by_report, grows_by_session, grows_on, has_grown, stays}
@@ -35,20 +35,20 @@ same_item is = cc
 
 module _ {H : Type 0} (answer_of : H → Command → Answer) (after : H → Command → H) (k : ℕ) where
   -- no session begins
-  abbrev Stays : Site H → Site H → Type 0
+  abbrev Stays : ReaderSite H → ReaderSite H → Type 0
   Stays u v = Grows [] u.account v.account
 
-  same : (u : Site H) → Stays u u
+  same : (u : ReaderSite H) → Stays u u
   same u = stays u.account u.account refl refl refl
 
-  both : (u v w : Site H) → Stays u v → Stays v w → Stays u w
+  both : (u v w : ReaderSite H) → Stays u v → Stays v w → Stays u w
   both u v w one more = grows_on [] [] u.account v.account w.account one more
 
   where_stays : (there : Bool) (s t : LineState H) → StaysAt Stays k s.sites t.sites → StaysAt Stays k s.sites (if there then t else s).sites
   where_stays true s t is = is
   where_stays false s t is = stays_all Stays same k s.sites
 
-  told_stays : (o : Option (ℕ × Report)) (s : LineState H) → StaysAt Stays k s.sites (told o s).sites
+  told_stays : (o : Option (ℕ × Report)) (s : LineState H) → StaysAt Stays k s.sites (report_told o s).sites
   told_stays None s = stays_all Stays same k s.sites
   told_stays (Some (entry, r)) s = stays_changed Stays same k entry (site_is_told r) s.sites (λ u. grows_by_report (Some r) u.account)
 
@@ -65,17 +65,17 @@ module _ {H : Type 0} (answer_of : H → Command → Answer) (after : H → Comm
   issued_stays (Some fault) place c s = stays_all Stays same k s.sites
   issued_stays None place c s = stays_changed Stays same k place (site_issues c) s.sites (λ u. grows_by_command c u.account)
 
-  queued_stays : (full : Bool) (e : Event) (u : Site H) → Stays u (site_queues_unless full e u)
+  queued_stays : (full : Bool) (e : Event) (u : ReaderSite H) → Stays u (site_queues_unless full e u)
   queued_stays true e u = same u
   queued_stays false e u = grows_by_event e u.account
 
   -- the account at the place, where a step begins its session again or doesn't
-  abbrev GrowsBy : SimStep → LineState H → Site H → Type 0
+  abbrev GrowsBy : SimStep → LineState H → ReaderSite H → Type 0
   GrowsBy step s u =
-      (v : Site H) × (slice_get (after_step answer_of after step s).sites k ≡ Some v) × Grows (begun_by (suc k) step u.account) u.account v.account
+      (v : ReaderSite H) × (slice_get (after_step answer_of after step s).sites k ≡ Some v) × Grows (begun_by (suc k) step u.account) u.account v.account
 
-  begun_here : (s : LineState H) (u : Site H) → slice_get s.sites k ≡ Some u
-      → (v : Site H) × (slice_get (after_step answer_of after (Reopen (suc k)) s).sites k ≡ Some v) × Grows (lengths_of u.account ∷ []) u.account v.account
+  begun_here : (s : LineState H) (u : ReaderSite H) → slice_get s.sites k ≡ Some u
+      → (v : ReaderSite H) × (slice_get (after_step answer_of after (Reopen (suc k)) s).sites k ≡ Some v) × Grows (lengths_of u.account ∷ []) u.account v.account
   begun_here s u at =
       let less : suc k - 1 ≡ k = omega arith in
       let there = there_is answer_of after k u s at in (
@@ -92,19 +92,19 @@ module _ {H : Type 0} (answer_of : H → Command → Answer) (after : H → Comm
       where_stays (is_there (suc j) s) s (reopened (suc j - 1) s)
       (other_changed Stays same k (suc j - 1) site_begins s.sites (λ is. other (omega (arith, is))))
 
-  reopen_grows : (number : ℕ) (s : LineState H) (u : Site H) → slice_get s.sites k ≡ Some u → GrowsBy (Reopen number) s u
+  reopen_grows : (number : ℕ) (s : LineState H) (u : ReaderSite H) → slice_get s.sites k ≡ Some u → GrowsBy (Reopen number) s u
   reopen_grows number s u at = by_number (number == suc k) refl
     where
       by_number : (named : Bool) → (number == suc k) ≡ named
-          → (v : Site H) × (slice_get (after_step answer_of after (Reopen number) s).sites k ≡ Some v)
+          → (v : ReaderSite H) × (slice_get (after_step answer_of after (Reopen number) s).sites k ≡ Some v)
           × Grows (if named then lengths_of u.account ∷ [] else []) u.account v.account
       by_number true is =
-          subst (λ i. (v : Site H) × (slice_get (after_step answer_of after (Reopen i) s).sites k ≡ Some v)
+          subst (λ i. (v : ReaderSite H) × (slice_get (after_step answer_of after (Reopen i) s).sites k ≡ Some v)
           × Grows (lengths_of u.account ∷ []) u.account v.account) (sym (counts number (suc k) is)) (begun_here s u at)
       by_number false is =
           other_stays number s (λ e. let named = eq-eqb number (suc k) e in absurd (let both = sym is ∙ named in cc)) u at
 
-  step_grows : (step : SimStep) (s : LineState H) (u : Site H) → slice_get s.sites k ≡ Some u → GrowsBy step s u
+  step_grows : (step : SimStep) (s : LineState H) (u : ReaderSite H) → slice_get s.sites k ≡ Some u → GrowsBy step s u
   step_grows (Issue number c) s u at =
       let next = issued (submit_refusal_at (number - 1) c s.bus) (number - 1) c s in
       where_stays (is_there number s) s next (issued_stays (submit_refusal_at (number - 1) c s.bus) (number - 1) c s) u at
@@ -128,11 +128,11 @@ module _ {H : Type 0} (answer_of : H → Command → Answer) (after : H → Comm
 
   -- the account of the reader at the place
   abbrev pub Tells : LineState H → Account → Type 0
-  Tells s a = (u : Site H) × (slice_get s.sites k ≡ Some u) × (a ≡ u.account)
+  Tells s a = (u : ReaderSite H) × (slice_get s.sites k ≡ Some u) × (a ≡ u.account)
 
   one_account : (s : LineState H) (a b : Account) → Tells s a → Tells s b → a ≡ b
   one_account s a b (u, at, is) (v, also, other) =
-      is ∙ ap (λ (w : Site H). w.account) (same_item (sym at ∙ also)) ∙ sym other
+      is ∙ ap (λ (w : ReaderSite H). w.account) (same_item (sym at ∙ also)) ∙ sym other
 
   grow : (step : SimStep) (s : LineState H) (a : Account) → Tells s a
       → (b : Account) × Tells (after_step answer_of after step s) b × Grows (begun_by (suc k) step a) a b

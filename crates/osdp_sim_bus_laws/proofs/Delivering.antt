@@ -27,7 +27,7 @@ use Rattle.osdp_sim.specs.Steps.{SaysFit, damage_fault}
 use Rattle.osdp_sim.specs.declared.step.Move as way
 use Rattle.osdp_sim.specs.declared.step.Move.TheVariants.{Deliver, Drop, Repeat, Damage}
 use Rattle.osdp_sim.proofs.Bursts.{no_packets}
-use Rattle.osdp_sim_bus.specs.State.{LineState, Site}
+use Rattle.osdp_sim_bus.specs.State.{LineState, ReaderSite}
 use Rattle.osdp_sim_bus.specs.Steps as steps
 use Rattle.osdp_sim_bus.specs.Steps.{DamageIsBytes, all_hear, all_hear_each, hears_run, takes_report}
 use Rattle.osdp_sim_laws.specs.Moves.{delivery}
@@ -44,8 +44,8 @@ module _ {H : Type 0} (answer_of : H → Command → Answer) (after : H → Comm
   -- ---- to the readers
 
   -- what the readers say can be spelled
-  all_packets : (p : Packet) (k : ℕ) (us : List (Site H)) (ts : List (line.Site H)) → SitesOf us ts
-      → Each (λ (u : Site H). IfSome (reader.hears answer_of after u.reader p).reply IsPacket) us
+  all_packets : (p : Packet) (k : ℕ) (us : List (ReaderSite H)) (ts : List (line.Site H)) → SitesOf us ts
+      → Each (λ (u : ReaderSite H). IfSome (reader.hears answer_of after u.reader p).reply IsPacket) us
       → Each IsPacket (packets_on (said_from answer_of after Delivered k p ts))
   all_packets p k [] [] all fits = tt
   all_packets p k [] (t ∷ ts) all fits = absurd all
@@ -83,7 +83,7 @@ module _ {H : Type 0} (answer_of : H → Command → Answer) (after : H → Comm
   -- a packet comes through to all of them
   pub all_hear_it : (p : Packet) (rest : List (ℕ × Packet)) (bursts : List (List ℕ)) (s : LineState H) (n : Net H)
       → bursts ≡ map spelling (packets_on rest) → Each IsPacket (packets_on rest)
-      → Each (λ (u : Site H). SaysFit answer_of after (p ∷ []) u.reader) s.sites → FollowsSites s n
+      → Each (λ (u : ReaderSite H). SaysFit answer_of after (p ∷ []) u.reader) s.sites → FollowsSites s n
       → FollowsSites (all_hear answer_of after p (record s { to_readers = bursts }))
       (record n { sites = map (hearing answer_of after p rest) n.sites; to_panel = n.to_panel ++ said_from answer_of after Delivered 0 p n.sites })
   all_hear_it p rest bursts s n is asked fits h =
@@ -99,8 +99,8 @@ module _ {H : Type 0} (answer_of : H → Command → Answer) (after : H → Comm
             ∙ sym (both_on n.to_panel said);
         asked = asked;
         answered = subst (Each IsPacket) (sym (on_both n.to_panel said)) (each_append IsPacket (packets_on n.to_panel) (packets_on said) h.answered
-            (all_packets p 0 s.sites n.sites h.sites (each_map (λ (u : Site H). SaysFit answer_of after (p ∷ []) u.reader)
-            (λ (u : Site H). IfSome (reader.hears answer_of after u.reader p).reply IsPacket) (λ u fit. fit.1) s.sites fits)));
+            (all_packets p 0 s.sites n.sites h.sites (each_map (λ (u : ReaderSite H). SaysFit answer_of after (p ∷ []) u.reader)
+            (λ (u : ReaderSite H). IfSome (reader.hears answer_of after u.reader p).reply IsPacket) (λ u fit. fit.1) s.sites fits)));
       }
 
   -- .. or nothing does
@@ -132,8 +132,8 @@ module _ {H : Type 0} (answer_of : H → Command → Answer) (after : H → Comm
   }
 
   -- the premise of the moves
-  pub says_fit : (how : Delivery) (p : Packet) (us : List (Site H)) (ts : List (line.Site H)) → SitesOf us ts
-      → Each (λ (u : Site H). SaysFit answer_of after (p ∷ []) u.reader) us
+  pub says_fit : (how : Delivery) (p : Packet) (us : List (ReaderSite H)) (ts : List (line.Site H)) → SitesOf us ts
+      → Each (λ (u : ReaderSite H). SaysFit answer_of after (p ∷ []) u.reader) us
       → Each (λ (t : line.Site H). SaysWhatFitsIf answer_of after how (p ∷ []) t.reader) ts
   says_fit how p [] [] all fits = tt
   says_fit how p [] (t ∷ ts) all fits = absurd all
@@ -161,13 +161,13 @@ module _ {H : Type 0} (answer_of : H → Command → Answer) (after : H → Comm
   lost_by k p (t ∷ ts) = lost_by (suc k) p ts
 
   pub to_readers : ReadsPackets → (move : way.Move) (s : LineState H) (n : Net H) → damage_fault move ≡ None
-      → Each (λ (u : Site H). SaysFit answer_of after (packets_in (handed move s.to_readers)) u.reader) s.sites → FollowsSites s n
+      → Each (λ (u : ReaderSite H). SaysFit answer_of after (packets_in (handed move s.to_readers)) u.reader) s.sites → FollowsSites s n
       → Comes answer_of after (each_reads (delivery move) 0 (length s.sites))
       (all_hear_each answer_of after (packets_in (handed move s.to_readers)) (record s { to_readers = left move s.to_readers })) n
   to_readers reads move s n well fits h =
       subst (λ l. Comes answer_of after (each_reads (delivery move) 0 (length s.sites))
       (all_hear_each answer_of after (packets_in (handed move l)) (record s { to_readers = left move l })) n) (sym h.to_readers)
-      (by_front h.said move refl well h.asked (subst (λ l. Each (λ (u : Site H). SaysFit answer_of after (packets_in (handed move l)) u.reader) s.sites) h.to_readers fits))
+      (by_front h.said move refl well h.asked (subst (λ l. Each (λ (u : ReaderSite H). SaysFit answer_of after (packets_in (handed move l)) u.reader) s.sites) h.to_readers fits))
     where
       count : length s.sites ≡ length n.sites
       count = same_count s.sites n.sites h.sites
@@ -201,12 +201,12 @@ module _ {H : Type 0} (answer_of : H → Command → Answer) (after : H → Comm
       through : (how : Delivery) (p : ℕ × Packet) (rest kept : List (ℕ × Packet)) → h.said ≡ p ∷ rest → IsPacket p.1 → Each IsPacket (packets_on kept)
           → map (read_by answer_of after how p rest) n.sites ≡ map (hearing answer_of after p.1 kept) n.sites
           → said_from answer_of after how 0 p.1 n.sites ≡ said_from answer_of after Delivered 0 p.1 n.sites
-          → Each (λ (u : Site H). SaysFit answer_of after (packets_in (spelling p.1)) u.reader) s.sites
+          → Each (λ (u : ReaderSite H). SaysFit answer_of after (packets_in (spelling p.1)) u.reader) s.sites
           → Comes answer_of after (each_reads how 0 (length s.sites))
           (all_hear_each answer_of after (packets_in (spelling p.1)) (record s { to_readers = map spelling (packets_on kept) })) n
       through how p rest kept front packet asked same says fits =
           let one = reads.one p.1 packet in
-          let fit = subst (λ qs. Each (λ (u : Site H). SaysFit answer_of after qs u.reader) s.sites) one fits in
+          let fit = subst (λ qs. Each (λ (u : ReaderSite H). SaysFit answer_of after qs u.reader) s.sites) one fits in
           let new : LineState H = all_hear answer_of after p.1 (record s { to_readers = map spelling (packets_on kept) }) in
           subst (λ qs. Comes answer_of after (each_reads how 0 (length s.sites))
           (all_hear_each answer_of after qs (record s { to_readers = map spelling (packets_on kept) })) n) (sym one)
@@ -225,7 +225,7 @@ module _ {H : Type 0} (answer_of : H → Command → Answer) (after : H → Comm
           }
 
       by_front : (ps : List (ℕ × Packet)) (move : way.Move) → h.said ≡ ps → damage_fault move ≡ None → Each IsPacket (packets_on ps)
-          → Each (λ (u : Site H). SaysFit answer_of after (packets_in (handed move (map spelling (packets_on ps)))) u.reader) s.sites
+          → Each (λ (u : ReaderSite H). SaysFit answer_of after (packets_in (handed move (map spelling (packets_on ps)))) u.reader) s.sites
           → Comes answer_of after (each_reads (delivery move) 0 (length s.sites))
           (all_hear_each answer_of after (packets_in (handed move (map spelling (packets_on ps))))
           (record s { to_readers = left move (map spelling (packets_on ps)) })) n

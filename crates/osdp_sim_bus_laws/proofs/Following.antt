@@ -23,7 +23,7 @@ use Rattle.osdp_shared_line.specs.Line.{Net, NetMove, Queue, Reopen, SetBusy, Su
 use Rattle.osdp_bus_links.specs.Links.{IsBusOf, IsNoRefusalOf, IsSubmitted, SubmitsAsAMove, TellsEach, TicksAsAMove, device_of, one_ticks, packets_on, tick_moves, who_ticks}
 use Rattle.osdp_bus_links.specs.Premises.{AllOthersFit, IsScheduled, OthersFit}
 use Rattle.osdp_sim.specs.Line.{sent}
-use Rattle.osdp_sim_bus.specs.State.{LineState, Site}
+use Rattle.osdp_sim_bus.specs.State.{LineState, ReaderSite}
 use Rattle.osdp_sim_bus.specs.Steps as steps
 use Rattle.osdp_sim_bus.specs.Steps.{changes_site, is_there, issued, site_is_busy, site_issues, site_queues, site_queues_unless, takes_report, waited, where_there}
 use Rattle.osdp_sim_laws.proofs.Accounts.{tells_issued, tells_queued}
@@ -40,7 +40,7 @@ module _ {H : Type 0} where
       let here : v ≡ t = cc in ap (λ d. d ∷ map device_of ts) (ap device_of here ∙ sym same)
   kept_devices (suc k) t next (v ∷ ts) at same = ap (λ ds. device_of v ∷ ds) (kept_devices k t next ts at same)
 
-  told_is : (r : Option (ℕ × Report)) (w : LineState H) → steps.told r w ≡ record w { sites = told_sites 0 r w.sites }
+  told_is : (r : Option (ℕ × Report)) (w : LineState H) → steps.report_told r w ≡ record w { sites = told_sites 0 r w.sites }
   told_is None w = ap (λ us. record w { sites = us }) (sym (none_told 0 w.sites))
   told_is (Some (entry, r)) w = ap (λ us. record w { sites = us }) (told_from 0 entry entry r w.sites (omega arith))
 
@@ -92,7 +92,7 @@ module _ {H : Type 0} (answer_of : H → Command → Answer) (after : H → Comm
   submits_by c t fault =
       line.keeping (line.reserved_unless fault (line.asked_for (comset_of c) t.reserved) t.reserved) (line.left_by t (link.submits fault c (line.link_of t [] [])))
 
-  submitted_as : (c : Command) (u : Site H) (t : line.Site H) → controllers.submit_refusal c t.controller ≡ None → IsSiteOf u t
+  submitted_as : (c : Command) (u : ReaderSite H) (t : line.Site H) → controllers.submit_refusal c t.controller ≡ None → IsSiteOf u t
       → IsSiteOf (site_issues c u) (submits answer_of after c t)
   submitted_as c u t none is = subst (λ fault. IsSiteOf (site_issues c u) (submits_by c t fault)) (sym none) (record {
     reader = is.reader;
@@ -146,11 +146,11 @@ module _ {H : Type 0} (answer_of : H → Command → Answer) (after : H → Comm
 
   -- ---- what changes one reader
 
-  one_reader : (place : ℕ) (m : NetMove H) (change : Site H → Site H) (does : line.Site H → line.Site H) (s : LineState H) (n : Net H)
+  one_reader : (place : ℕ) (m : NetMove H) (change : ReaderSite H → ReaderSite H) (does : line.Site H → line.Site H) (s : LineState H) (n : Net H)
       → IsScheduled m → OthersFit answer_of after m n
       → line.after_net answer_of after m n ≡ line.change_at place (site_at place n.sites) does n
       → ((t : line.Site H) → device_of (does t) ≡ device_of t) → ((t : line.Site H) → (does t).coming ≡ t.coming)
-      → ((u : Site H) (t : line.Site H) → IsSiteOf u t → IsSiteOf (change u) (does t))
+      → ((u : ReaderSite H) (t : line.Site H) → IsSiteOf u t → IsSiteOf (change u) (does t))
       → FollowsSites s n → Comes (m ∷ []) (changes_site place change s) n
   one_reader place m change does s n scheduled fits is same unread follows h = record {
     scheduled = (scheduled, tt);
@@ -171,7 +171,7 @@ module _ {H : Type 0} (answer_of : H → Command → Answer) (after : H → Comm
   abbrev queues_by : Bool → Event → line.Site H → line.Site H
   queues_by full e t = line.left_by t (link.queues full e (line.link_of t [] []))
 
-  queued_as : (full : Bool) (e : Event) (u : Site H) (t : line.Site H) → IsSiteOf u t → IsSiteOf (site_queues_unless full e u) (queues_by full e t)
+  queued_as : (full : Bool) (e : Event) (u : ReaderSite H) (t : line.Site H) → IsSiteOf u t → IsSiteOf (site_queues_unless full e u) (queues_by full e t)
   queued_as true e u t is = record { reader = is.reader; tells = is.tells; ended = is.ended; causes = is.causes }
   queued_as false e u t is = record {
     reader = ap (readers.after_submit e) is.reader;

@@ -16,8 +16,8 @@ use Rattle.osdp_sim.specs.Line.{handed, left}
 use Rattle.osdp_sim.specs.Steps.{moment_after}
 use Rattle.osdp_sim.specs.declared.step.SimStep.{SimStep}
 use Rattle.osdp_sim.specs.declared.step.SimStep.TheVariants.{Issue, Queue, Busy, Wait, ToReader, ToController, Reopen}
-use Rattle.osdp_sim_bus.specs.State.{LineState, Site}
-use Rattle.osdp_sim_bus.specs.Steps.{after_step, all_hear, all_hear_each, changed_site, hears_run, is_there, issued, reopened, site_begins, site_hears, site_is_busy, site_is_told, site_issues, site_queues, site_queues_unless, told, waited}
+use Rattle.osdp_sim_bus.specs.State.{LineState, ReaderSite}
+use Rattle.osdp_sim_bus.specs.Steps.{after_step, all_hear, all_hear_each, changed_site, hears_run, is_there, issued, reopened, report_told, site_begins, site_hears, site_is_busy, site_is_told, site_issues, site_queues, site_queues_unless, waited}
 use Rattle.osdp_sim_laws.proofs.Accepting.{IsNoOrder, outcome_few}
 use Rattle.osdp_sim_laws.proofs.Accounts.{report_leaves}
 use Rattle.osdp_sim_bus_laws.proofs.Places.{StaysAt, other_changed, stays_all, stays_changed, stays_each, stays_then, within}
@@ -27,16 +27,16 @@ module _ {H : Type 0} (answer_of : H → Command → Answer) (after : H → Comm
   -- ---- what nothing but an order or an event changes
 
   -- of a site
-  pub record IsIdle (R : Site H → Site H → Type 0) : Type 0 where
-    pub same : (u : Site H) → R u u
-    pub both : (u v w : Site H) → R u v → R v w → R u w
-    pub hears : (p : Packet) (u : Site H) → R u (site_hears answer_of after p u)
-    pub told : (r : Report) (u : Site H) → R u (site_is_told r u)
-    pub busy : (busy : Bool) (u : Site H) → R u (site_is_busy busy u)
-    pub begins : (u : Site H) → R u (site_begins u)
+  pub record IsIdle (R : ReaderSite H → ReaderSite H → Type 0) : Type 0 where
+    pub same : (u : ReaderSite H) → R u u
+    pub both : (u v w : ReaderSite H) → R u v → R v w → R u w
+    pub hears : (p : Packet) (u : ReaderSite H) → R u (site_hears answer_of after p u)
+    pub told : (r : Report) (u : ReaderSite H) → R u (site_is_told r u)
+    pub busy : (busy : Bool) (u : ReaderSite H) → R u (site_is_busy busy u)
+    pub begins : (u : ReaderSite H) → R u (site_begins u)
 
   -- .. as the commands issued to it
-  abbrev pub SameIssued : Site H → Site H → Type 0
+  abbrev pub SameIssued : ReaderSite H → ReaderSite H → Type 0
   SameIssued u v = v.account.issued ≡ u.account.issued
 
   pub issued_idle : IsIdle SameIssued
@@ -50,7 +50,7 @@ module _ {H : Type 0} (answer_of : H → Command → Answer) (after : H → Comm
   }
 
   -- .. or its events: no more wait, and none is queued
-  pub record NoneQueued (u v : Site H) : Type 0 where
+  pub record NoneQueued (u v : ReaderSite H) : Type 0 where
     pub waiting : length v.reader.queue.events ≤ length u.reader.queue.events
     pub room : v.reader.queue.capacity ≡ u.reader.queue.capacity
     pub queued : v.account.queued ≡ u.account.queued
@@ -67,12 +67,12 @@ module _ {H : Type 0} (answer_of : H → Command → Answer) (after : H → Comm
     begins = λ u. record { waiting = omega arith; room = refl; queued = refl };
   }
 
-  module _ (R : Site H → Site H → Type 0) (idle : IsIdle R) (k : ℕ) where
+  module _ (R : ReaderSite H → ReaderSite H → Type 0) (idle : IsIdle R) (k : ℕ) where
     pub where_sites : (there : Bool) (s t : LineState H) → StaysAt R k s.sites t.sites → StaysAt R k s.sites (if there then t else s).sites
     where_sites true s t is = is
     where_sites false s t is = stays_all R idle.same k s.sites
 
-    pub told_sites : (o : Option (ℕ × Report)) (s : LineState H) → StaysAt R k s.sites (told o s).sites
+    pub told_sites : (o : Option (ℕ × Report)) (s : LineState H) → StaysAt R k s.sites (report_told o s).sites
     told_sites None s = stays_all R idle.same k s.sites
     told_sites (Some (entry, r)) s = stays_changed R idle.same k entry (site_is_told r) s.sites (idle.told r)
 
@@ -108,7 +108,7 @@ module _ {H : Type 0} (answer_of : H → Command → Answer) (after : H → Comm
   where_device k false s t is = keeps_all k s.bus.devices.entries
 
   pub told_device : (k : ℕ) (o : Option (ℕ × Report)) (s : LineState H) (ds : List Device) → Keeps k ds s.bus.devices.entries
-      → Keeps k ds (told o s).bus.devices.entries
+      → Keeps k ds (report_told o s).bus.devices.entries
   told_device k None s ds is = is
   told_device k (Some (entry, r)) s ds is = is
 
@@ -138,7 +138,7 @@ module _ {H : Type 0} (answer_of : H → Command → Answer) (after : H → Comm
 
   -- ---- an order for another reader, or an event
 
-  pub there_is : (k : ℕ) (u : Site H) (s : LineState H) → slice_get s.sites k ≡ Some u → is_there (suc k) s ≡ true
+  pub there_is : (k : ℕ) (u : ReaderSite H) (s : LineState H) → slice_get s.sites k ≡ Some u → is_there (suc k) s ≡ true
   there_is k u s at =
       let few = within k u s.sites at in
       is_both (nat_le 1 (suc k)) (nat_le (suc k) (length s.sites)) (le-leb 1 (suc k) (omega arith)) (le-leb (suc k) (length s.sites) (omega (arith, few)))
@@ -164,7 +164,7 @@ module _ {H : Type 0} (answer_of : H → Command → Answer) (after : H → Comm
       let both = other_issued k (suc j - 1) fault c s (λ e. other (omega (arith, e))) in
       (where_device k (is_there (suc j) s) s next both.0, where_sites SameIssued issued_idle k (is_there (suc j) s) s next both.1)
 
-  pub queued_same : (full : Bool) (e : Event) (u : Site H) → SameIssued u (site_queues_unless full e u)
+  pub queued_same : (full : Bool) (e : Event) (u : ReaderSite H) → SameIssued u (site_queues_unless full e u)
   queued_same true e u = refl
   queued_same false e u = refl
 

@@ -23,8 +23,8 @@ use Rattle.osdp_sim.specs.declared.step.SimStep.{SimStep}
 use Rattle.osdp_sim.specs.declared.step.SimStep.TheVariants as step
 use Rattle.osdp_sim_bus.specs.Runs as simulation
 use Rattle.osdp_sim_bus.specs.Runs.{steps_done}
-use Rattle.osdp_sim_bus.specs.State.{Given, LineState, Site, new_site, set_up}
-use Rattle.osdp_sim_bus.specs.Steps.{after_step, all_hear, all_hear_each, changed_site, hears_run, is_there, issued, site_hears, site_is_busy, site_is_told, site_issues, site_queues, site_queues_unless, told, waited}
+use Rattle.osdp_sim_bus.specs.State.{Given, LineState, ReaderSite, new_site, set_up}
+use Rattle.osdp_sim_bus.specs.Steps.{after_step, all_hear, all_hear_each, changed_site, hears_run, is_there, issued, report_told, site_hears, site_is_busy, site_is_told, site_issues, site_queues, site_queues_unless, waited}
 use Rattle.osdp_sim_laws.specs.Accounts.{AreOver, IsInSession, IsOf}
 use Rattle.osdp_sim_laws.proofs.Ends.{sessions_of_report}
 use Rattle.osdp_sim_laws.proofs.Holding.{of_one}
@@ -48,17 +48,17 @@ HasOne a = length a.sessions ≡ 1
 -- ---- no session begins
 
 module _ {H : Type 0} where
-  abbrev pub HaveOne : List (Site H) → Type 0
-  HaveOne us = Each (λ (u : Site H). HasOne u.account) us
+  abbrev pub HaveOne : List (ReaderSite H) → Type 0
+  HaveOne us = Each (λ (u : ReaderSite H). HasOne u.account) us
 
-  one_changed : (change : Site H → Site H) → ((u : Site H) → HasOne u.account → HasOne (change u).account) → (k : ℕ) (us : List (Site H))
+  one_changed : (change : ReaderSite H → ReaderSite H) → ((u : ReaderSite H) → HasOne u.account → HasOne (change u).account) → (k : ℕ) (us : List (ReaderSite H))
       → HaveOne us → HaveOne (changed_site k change us)
   one_changed change keeps k us all = by_found (slice_get us k) refl
     where
-      by_found : (o : Option (Site H)) → slice_get us k ≡ o → HaveOne (option_map_or (λ u. slice_set us k (change u)) o us)
+      by_found : (o : Option (ReaderSite H)) → slice_get us k ≡ o → HaveOne (option_map_or (λ u. slice_set us k (change u)) o us)
       by_found None is = all
       by_found (Some u) is =
-          set_each (λ (v : Site H). HasOne v.account) k (change u) us all (keeps u (get_each (λ (v : Site H). HasOne v.account) k u us all is))
+          set_each (λ (v : ReaderSite H). HasOne v.account) k (change u) us all (keeps u (get_each (λ (v : ReaderSite H). HasOne v.account) k u us all is))
 
   one_where : (there : Bool) (new old : LineState H) → HaveOne new.sites → HaveOne old.sites → HaveOne (if there then new else old).sites
   one_where true new old all same = all
@@ -69,16 +69,16 @@ module _ {H : Type 0} where
   one_issued (Some fault) k command s all = all
   one_issued None k command s all = one_changed (site_issues command) (λ u is. is) k s.sites all
 
-  one_queued : (full : Bool) (event : Event) (u : Site H) → HasOne u.account → HasOne (site_queues_unless full event u).account
+  one_queued : (full : Bool) (event : Event) (u : ReaderSite H) → HasOne u.account → HasOne (site_queues_unless full event u).account
   one_queued true event u is = is
   one_queued false event u is = is
 
-  one_told : (report : Option (ℕ × Report)) (s : LineState H) → HaveOne s.sites → HaveOne (told report s).sites
+  one_told : (report : Option (ℕ × Report)) (s : LineState H) → HaveOne s.sites → HaveOne (report_told report s).sites
   one_told None s all = all
   one_told (Some (entry, report)) s all =
       one_changed (site_is_told report) (λ u is. ap length (sessions_of_report (Some report) u.account) ∙ is) entry s.sites all
 
-  one_each : (us : List (Site H)) → HaveOne us → Each HasOne (map (λ (u : Site H). u.account) us)
+  one_each : (us : List (ReaderSite H)) → HaveOne us → Each HasOne (map (λ (u : ReaderSite H). u.account) us)
   one_each [] all = tt
   one_each (u ∷ us) all = (all.0, one_each us all.1)
 
@@ -87,7 +87,7 @@ module _ {H : Type 0} where
   one_first (given ∷ readers) = (refl, one_first readers)
 
   module _ (answer_of : H → Command → Answer) (after : H → Command → H) where
-    one_heard : (p : Packet) (us : List (Site H)) → HaveOne us → HaveOne (map (site_hears answer_of after p) us)
+    one_heard : (p : Packet) (us : List (ReaderSite H)) → HaveOne us → HaveOne (map (site_hears answer_of after p) us)
     one_heard p [] all = tt
     one_heard p (u ∷ us) all = (all.0, one_heard p us all.1)
 

@@ -28,7 +28,7 @@ use Rattle.osdp_sim.specs.declared.step.SimStep.{SimStep}
 use Rattle.osdp_sim_bus.specs.Laws.{HasAnAccountEach}
 use Rattle.osdp_sim_bus.specs.Runs as simulation
 use Rattle.osdp_sim_bus.specs.Runs.{AreSettings, FitAlong, Stops, is_well, lists_of_all, steps_done}
-use Rattle.osdp_sim_bus.specs.State.{Given, LineState, Site, accounts, set_up}
+use Rattle.osdp_sim_bus.specs.State.{Given, LineState, ReaderSite, accounts, set_up}
 use Rattle.osdp_sim_laws.specs.Accounts.{IsInARow, IsNoRefusal, LastsOrHasEnded}
 use Rattle.osdp_sim_laws.proofs.Holding.{each_one, last_one, one_unsettled, told_first}
 use Rattle.osdp_sim_bus_laws.specs.Accounts.{BusAnswer, EachMeets, IsAnswer, StaysInARow, WasSetUp, accounts_in}
@@ -37,14 +37,14 @@ use Rattle.osdp_sim_bus_laws.proofs.Beginning.{first_net, first_site, follows_fi
 use Rattle.osdp_sim_bus_laws.proofs.Sites.{counts_alike, get_site}
 
 module _ {H : Type 0} where
-  pub account_at : (k : ℕ) (u : Site H) (us : List (Site H)) → slice_get us k ≡ Some u
-      → slice_get (map (λ (site : Site H). site.account) us) k ≡ Some u.account
+  pub account_at : (k : ℕ) (u : ReaderSite H) (us : List (ReaderSite H)) → slice_get us k ≡ Some u
+      → slice_get (map (λ (site : ReaderSite H). site.account) us) k ≡ Some u.account
   account_at k u us is =
-      slice_get-map (λ (site : Site H). site.account) us k ∙ ap (option_map (λ (site : Site H). site.account)) is
+      slice_get-map (λ (site : ReaderSite H). site.account) us k ∙ ap (option_map (λ (site : ReaderSite H). site.account)) is
 
   module _ (answer_of : H → Command → Answer) (after : H → Command → H) where
     -- the account of a reader, from what holds of its site
-    site_in_a_row : (config : ReaderConfig) (handler : H) (k : ℕ) (u : Site H) (t : line.Site H) (n : Net H) → IsSiteOf u t
+    site_in_a_row : (config : ReaderConfig) (handler : H) (k : ℕ) (u : ReaderSite H) (t : line.Site H) (n : Net H) → IsSiteOf u t
         → AreOnce answer_of after config handler (t.account ∷ t.earlier) → AreUndisturbed (t.account ∷ t.earlier) → AreInARow t.account t.earlier
         → LastsOrLeaves t.controller.session.state (view k t n) → IsInARow answer_of after config handler u.account
     site_in_a_row config handler k u t n is once so row lasts =

@@ -23,7 +23,7 @@ use Rattle.osdp_shared_line.specs.Line.{changed, site_at, tagged}
 use Rattle.osdp_bus_links.specs.Links.{IsNoRefusalOf, IsTold, TellsFrom, packets_on, report_for}
 use Rattle.osdp_sim.specs.Account.{with_report}
 use Rattle.osdp_sim.specs.Line.{sent}
-use Rattle.osdp_sim_bus.specs.State.{Site}
+use Rattle.osdp_sim_bus.specs.State.{ReaderSite}
 use Rattle.osdp_sim_bus.specs.Steps.{changed_site, site_hears, site_is_told, site_says}
 use Rattle.osdp_sim_laws.specs.Accounts.{IsOf}
 use Rattle.osdp_sim_bus_laws.specs.Moves.{IsSiteOf, SitesOf, count}
@@ -46,22 +46,22 @@ plain_for k (Some (entry, r)) plain = by_test (entry == k)
     by_test false = tt
 
 module _ {H : Type 0} where
-  pub get_site : (k : ℕ) (t : line.Site H) (us : List (Site H)) (ts : List (line.Site H)) → SitesOf us ts → site_at k ts ≡ Some t
-      → (u : Site H) × (slice_get us k ≡ Some u) × IsSiteOf u t
+  pub get_site : (k : ℕ) (t : line.Site H) (us : List (ReaderSite H)) (ts : List (line.Site H)) → SitesOf us ts → site_at k ts ≡ Some t
+      → (u : ReaderSite H) × (slice_get us k ≡ Some u) × IsSiteOf u t
   get_site k t [] [] all is = absurd cc
   get_site k t [] (v ∷ ts) all is = absurd all
   get_site k t (u ∷ us) [] all is = absurd all
   get_site zero t (u ∷ us) (v ∷ ts) all is = let same : v ≡ t = cc in (u, refl, subst (IsSiteOf u) same all.0)
   get_site (suc k) t (u ∷ us) (v ∷ ts) all is = get_site k t us ts all.1 is
 
-  pub get_nobody : (k : ℕ) (us : List (Site H)) (ts : List (line.Site H)) → SitesOf us ts → site_at k ts ≡ None → slice_get us k ≡ None
+  pub get_nobody : (k : ℕ) (us : List (ReaderSite H)) (ts : List (line.Site H)) → SitesOf us ts → site_at k ts ≡ None → slice_get us k ≡ None
   get_nobody k [] [] all is = refl
   get_nobody k [] (v ∷ ts) all is = absurd all
   get_nobody k (u ∷ us) [] all is = absurd all
   get_nobody zero (u ∷ us) (v ∷ ts) all is = absurd cc
   get_nobody (suc k) (u ∷ us) (v ∷ ts) all is = get_nobody k us ts all.1 is
 
-  pub set_site : (k : ℕ) (u : Site H) (t : line.Site H) (us : List (Site H)) (ts : List (line.Site H)) → SitesOf us ts → IsSiteOf u t
+  pub set_site : (k : ℕ) (u : ReaderSite H) (t : line.Site H) (us : List (ReaderSite H)) (ts : List (line.Site H)) → SitesOf us ts → IsSiteOf u t
       → SitesOf (slice_set us k u) (changed k t ts)
   set_site k u t [] [] all is = tt
   set_site k u t [] (v ∷ ts) all is = absurd all
@@ -70,27 +70,27 @@ module _ {H : Type 0} where
   set_site (suc k) u t (w ∷ us) (v ∷ ts) all is = (all.0, set_site k u t us ts all.1 is)
 
   -- one of them changes as its site does, or there is none
-  pub one_changes : (k : ℕ) (change : Site H → Site H) (t next : line.Site H) (us : List (Site H)) (ts : List (line.Site H)) → SitesOf us ts
-      → site_at k ts ≡ Some t → ((u : Site H) → IsSiteOf u t → IsSiteOf (change u) next) → SitesOf (changed_site k change us) (changed k next ts)
+  pub one_changes : (k : ℕ) (change : ReaderSite H → ReaderSite H) (t next : line.Site H) (us : List (ReaderSite H)) (ts : List (line.Site H)) → SitesOf us ts
+      → site_at k ts ≡ Some t → ((u : ReaderSite H) → IsSiteOf u t → IsSiteOf (change u) next) → SitesOf (changed_site k change us) (changed k next ts)
   one_changes k change t next us ts all is does =
       let old = get_site k t us ts all is in
       subst (λ o. SitesOf (option_map_or (λ u. slice_set us k (change u)) o us) (changed k next ts)) (sym old.1)
       (set_site k (change old.0) next us ts all (does old.0 old.2))
 
-  pub none_changes : (k : ℕ) (change : Site H → Site H) (us : List (Site H)) (ts : List (line.Site H)) → SitesOf us ts → site_at k ts ≡ None
+  pub none_changes : (k : ℕ) (change : ReaderSite H → ReaderSite H) (us : List (ReaderSite H)) (ts : List (line.Site H)) → SitesOf us ts → site_at k ts ≡ None
       → changed_site k change us ≡ us
   none_changes k change us ts all is = ap (λ o. option_map_or (λ u. slice_set us k (change u)) o us) (get_nobody k us ts all is)
 
   -- ---- a report is told
 
-  abbrev pub told_as : Option Report → Site H → Site H
+  abbrev pub told_as : Option Report → ReaderSite H → ReaderSite H
   told_as r u = record u { account = with_report r u.account }
 
-  abbrev pub told_sites : ℕ → Option (ℕ × Report) → List (Site H) → List (Site H)
+  abbrev pub told_sites : ℕ → Option (ℕ × Report) → List (ReaderSite H) → List (ReaderSite H)
   told_sites k r [] = []
   told_sites k r (u ∷ us) = told_as (report_for k r) u ∷ told_sites (suc k) r us
 
-  site_told : (r : Option Report) (said : List (ℕ × Packet)) (u : Site H) (s t : line.Site H) → IsTold r said s t → Each refusals.IsNoRefusal (option_to_list r ++ []) → IsSiteOf u s
+  site_told : (r : Option Report) (said : List (ℕ × Packet)) (u : ReaderSite H) (s t : line.Site H) → IsTold r said s t → Each refusals.IsNoRefusal (option_to_list r ++ []) → IsSiteOf u s
       → IsSiteOf (told_as r u) t
   site_told r said u s t is plain h = record {
     reader = h.reader ∙ sym is.reader;
@@ -106,7 +106,7 @@ module _ {H : Type 0} where
     causes = causes_of r u.account plain h.causes;
   }
 
-  pub all_told : (k : ℕ) (r : Option (ℕ × Report)) (said : List (ℕ × Packet)) (us : List (Site H)) (ss ts : List (line.Site H)) → IsNoRefusalOf r
+  pub all_told : (k : ℕ) (r : Option (ℕ × Report)) (said : List (ℕ × Packet)) (us : List (ReaderSite H)) (ss ts : List (line.Site H)) → IsNoRefusalOf r
       → SitesOf us ss → TellsFrom k r said ss ts → SitesOf (told_sites k r us) ts
   all_told k r said [] [] [] plain all told = tt
   all_told k r said [] [] (t ∷ ts) plain all told = absurd told
@@ -125,17 +125,17 @@ module _ {H : Type 0} where
   all_coming k r before said (s ∷ ss) (t ∷ ts) told all =
       (told.0.coming ∙ ap (λ ps. ps ++ said) all.0, all_coming (suc k) r before said ss ts told.1 all.1)
 
-  pub none_told : (k : ℕ) (us : List (Site H)) → told_sites k None us ≡ us
+  pub none_told : (k : ℕ) (us : List (ReaderSite H)) → told_sites k None us ≡ us
   none_told k [] = refl
   none_told k (u ∷ us) = ap (λ vs. u ∷ vs) (none_told (suc k) us)
 
-  none_after : (k entry : ℕ) (r : Report) (us : List (Site H)) → entry < k → told_sites k (Some (entry, r)) us ≡ us
+  none_after : (k entry : ℕ) (r : Report) (us : List (ReaderSite H)) → entry < k → told_sites k (Some (entry, r)) us ≡ us
   none_after k entry r [] lt = refl
   none_after k entry r (u ∷ us) lt =
       ap (λ b. told_as (cond b (Some r) None) u ∷ told_sites (suc k) (Some (entry, r)) us) (is_false entry k (λ e. absurd (omega (arith, lt, e))))
       ∙ ap (λ vs. u ∷ vs) (none_after (suc k) entry r us (omega (arith, lt)))
 
-  pub told_from : (k i entry : ℕ) (r : Report) (us : List (Site H)) → entry ≡ k + i → changed_site i (site_is_told r) us ≡ told_sites k (Some (entry, r)) us
+  pub told_from : (k i entry : ℕ) (r : Report) (us : List (ReaderSite H)) → entry ≡ k + i → changed_site i (site_is_told r) us ≡ told_sites k (Some (entry, r)) us
   told_from k i entry r [] at = refl
   told_from k zero entry r (u ∷ us) at =
       sym (ap (λ b. told_as (cond b (Some r) None) u ∷ told_sites (suc k) (Some (entry, r)) us) (is_true entry k (omega (arith, at)))
@@ -145,7 +145,7 @@ module _ {H : Type 0} where
       ∙ ap (λ vs. u ∷ vs) (told_from (suc k) i entry r us (omega (arith, at)))
       ∙ sym (ap (λ b. told_as (cond b (Some r) None) u ∷ told_sites (suc k) (Some (entry, r)) us) (is_false entry k (λ e. absurd (omega (arith, at, e)))))
     where
-      later : (o : Option (Site H)) (vs : List (Site H))
+      later : (o : Option (ReaderSite H)) (vs : List (ReaderSite H))
           → option_map_or (λ v. slice_set (u ∷ vs) (suc i) (site_is_told r v)) o (u ∷ vs)
           ≡ u ∷ option_map_or (λ v. slice_set vs i (site_is_told r v)) o vs
       later None vs = refl
@@ -153,7 +153,7 @@ module _ {H : Type 0} where
 
 -- ---- there are as many of the one as of the other
 
-pub same_count : {H : Type 0} (us : List (Site H)) (ts : List (line.Site H)) → SitesOf us ts → length us ≡ length ts
+pub same_count : {H : Type 0} (us : List (ReaderSite H)) (ts : List (line.Site H)) → SitesOf us ts → length us ≡ length ts
 same_count [] [] all = refl
 same_count [] (t ∷ ts) all = absurd all
 same_count (u ∷ us) [] all = absurd all
@@ -170,7 +170,7 @@ both_on xs ys = ap (map spelling) (map-append (λ (q : ℕ × Packet). q.1) xs y
 
 module _ {H : Type 0} where
   -- none of them hears it
-  pub none_heard : (rest : List (ℕ × Packet)) (us : List (Site H)) (ts : List (line.Site H)) → SitesOf us ts
+  pub none_heard : (rest : List (ℕ × Packet)) (us : List (ReaderSite H)) (ts : List (line.Site H)) → SitesOf us ts
       → SitesOf us (map (λ (t : line.Site H). record t { coming = rest }) ts)
   none_heard rest [] [] all = tt
   none_heard rest [] (t ∷ ts) all = absurd all
@@ -179,7 +179,7 @@ module _ {H : Type 0} where
       (record { reader = all.0.reader; tells = all.0.tells; ended = all.0.ended; causes = all.0.causes }, none_heard rest us ts all.1)
 
 module _ {H : Type 0} (answer_of : H → Command → Answer) (after : H → Command → H) where
-  site_heard : (p : Packet) (rest : List (ℕ × Packet)) (u : Site H) (t : line.Site H) → IsSiteOf u t
+  site_heard : (p : Packet) (rest : List (ℕ × Packet)) (u : ReaderSite H) (t : line.Site H) → IsSiteOf u t
       → IsSiteOf (site_hears answer_of after p u) (hearing answer_of after p rest t)
   site_heard p rest u t h =
       let o = reader.hears answer_of after t.reader p in
@@ -190,14 +190,14 @@ module _ {H : Type 0} (answer_of : H → Command → Answer) (after : H → Comm
         causes = h.causes;
       })
 
-  pub all_heard : (p : Packet) (rest : List (ℕ × Packet)) (us : List (Site H)) (ts : List (line.Site H)) → SitesOf us ts
+  pub all_heard : (p : Packet) (rest : List (ℕ × Packet)) (us : List (ReaderSite H)) (ts : List (line.Site H)) → SitesOf us ts
       → SitesOf (map (site_hears answer_of after p) us) (map (hearing answer_of after p rest) ts)
   all_heard p rest [] [] all = tt
   all_heard p rest [] (t ∷ ts) all = absurd all
   all_heard p rest (u ∷ us) [] all = absurd all
   all_heard p rest (u ∷ us) (t ∷ ts) all = (site_heard p rest u t all.0, all_heard p rest us ts all.1)
 
-  pub all_said : (p : Packet) (k : ℕ) (us : List (Site H)) (ts : List (line.Site H)) → SitesOf us ts
+  pub all_said : (p : Packet) (k : ℕ) (us : List (ReaderSite H)) (ts : List (line.Site H)) → SitesOf us ts
       → flat_map (site_says answer_of after p) us ≡ map spelling (packets_on (said_from answer_of after Delivered k p ts))
   all_said p k [] [] all = refl
   all_said p k [] (t ∷ ts) all = absurd all

@@ -35,7 +35,7 @@ use Rattle.osdp_sim.specs.Line.{handed}
 use Rattle.osdp_sim.specs.Steps.{SaysFit, moment_after}
 use Rattle.osdp_sim.specs.declared.step.SimStep.{SimStep}
 use Rattle.osdp_sim.specs.declared.step.SimStep.TheVariants as step
-use Rattle.osdp_sim_bus.specs.State.{LineState, Site}
+use Rattle.osdp_sim_bus.specs.State.{LineState, ReaderSite}
 use Rattle.osdp_sim_bus.specs.Steps as steps
 use Rattle.osdp_sim_bus.specs.Steps.{StepFits, after_step, fault_of, is_quiet, is_there, reopened, site_begins}
 use Rattle.osdp_sim_laws.proofs.Accounts.{tells_session}
@@ -83,7 +83,7 @@ module _ {H : Type 0} (answer_of : H → Command → Answer) (after : H → Comm
   abbrev begins_by : Option ControllerFault → ℕ → line.Site H → line.Site H
   begins_by fault now t = line.left_by t (link.reopens fault [] [] now (line.link_of t [] []))
 
-  site_begun : (now : ℕ) (u : Site H) (t : line.Site H) → is_closed t.controller.session.state ≡ true
+  site_begun : (now : ℕ) (u : ReaderSite H) (t : line.Site H) → is_closed t.controller.session.state ≡ true
       → Leaves t.account t.controller.waiting t.reader.queue.events → IsUndisturbed t.account → IsSiteOf u t
       → IsSiteOf (site_begins u) (begins_by None now t)
   site_begun now u t closed leaves so is =
@@ -160,7 +160,7 @@ module _ {H : Type 0} (answer_of : H → Command → Answer) (after : H → Comm
     step_comes (step.Busy number busy) s n well fits known h = setting answer_of after number busy s n h
     step_comes (step.Wait wait) s n well fits known h = waiting answer_of after given.ticks (moment_after wait s.clock) s n fits h
     step_comes (step.ToReader move) s n well fits known h =
-        to_readers answer_of after given.reads move s n well (each_of (λ (u : Site H). SaysFit answer_of after (packets_in (handed move s.to_readers)) u.reader) s.sites fits) h
+        to_readers answer_of after given.reads move s n well (each_of (λ (u : ReaderSite H). SaysFit answer_of after (packets_in (handed move s.to_readers)) u.reader) s.sites fits) h
     step_comes (step.ToController move) s n well fits known h =
         to_bus answer_of after given.hears given.reads given.spells n.to_panel move s n refl well fits given.no_bytes
         (each_of (λ (q : ℕ × Packet). IsPlainlySaid q.1) n.to_panel known.plain) h

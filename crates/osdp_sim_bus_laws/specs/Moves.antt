@@ -23,7 +23,7 @@ use Rattle.osdp_sim.specs.declared.step.SimStep.{SimStep}
 use Rattle.osdp_sim.specs.declared.step.SimStep.TheVariants.{Issue, Queue, Busy, Wait, ToReader, ToController, Reopen}
 use Rattle.osdp_sim_bus.specs.Runs as simulation
 use Rattle.osdp_sim_bus.specs.Runs.{AreSettings, FitAlong}
-use Rattle.osdp_sim_bus.specs.State.{Given, LineState, Site, set_up}
+use Rattle.osdp_sim_bus.specs.State.{Given, LineState, ReaderSite, set_up}
 use Rattle.osdp_sim_bus.specs.Steps.{StepFits, after_step, fault_of, is_there}
 use Rattle.osdp_sim_laws.specs.Accounts.{IsNoRefusal, IsOf}
 use Rattle.osdp_sim_laws.specs.Moves.{delivery}
@@ -65,13 +65,13 @@ module _ {H : Type 0} where
   -- ---- a simulation and its sites
 
   -- a reader is that of a site, and its account holds what the sessions of the site came to: each has ended once, or each but the last
-  pub record IsSiteOf (u : Site H) (t : line.Site H) : Type 0 where
+  pub record IsSiteOf (u : ReaderSite H) (t : line.Site H) : Type 0 where
     pub reader : u.reader ≡ t.reader
     pub tells : IsOf u.account t.account t.earlier
     pub ended : length u.account.ends + 1 ≡ length u.account.sessions + count (is_closed t.controller.session.state)
     pub causes : AllByRecursion IsNoRefusal u.account.ends
 
-  abbrev pub SitesOf : List (Site H) → List (line.Site H) → Type 0
+  abbrev pub SitesOf : List (ReaderSite H) → List (line.Site H) → Type 0
   SitesOf [] [] = Unit {0}
   SitesOf (u ∷ us) (t ∷ ts) = IsSiteOf u t × SitesOf us ts
   SitesOf _ _ = ⊥

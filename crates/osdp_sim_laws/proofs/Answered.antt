@@ -12,7 +12,7 @@ use Rattle.osdp_link_laws.proofs.Lines.{each_all, each_append, each_of}
 use Rattle.osdp_sim.specs.Account.{Account, lists_of}
 use Rattle.osdp_sim.specs.Rounds.{rounds}
 use Rattle.osdp_sim.specs.declared.step.SimStep.{SimStep}
-use Rattle.osdp_sim_laws.specs.Accounts.{HoldsOnce, IsInSession, IsOnce}
+use Rattle.osdp_sim_laws.specs.Accounts.{AnswersHoldOnce, IsInSession, IsOnce}
 use Rattle.osdp_sim_laws.specs.Progress.{AnswerRecovers, IsDone, Recovers, clear, done}
 use Rattle.osdp_sim_laws.proofs.Clearing.{losses_within}
 use Rattle.osdp_sim_laws.proofs.Coming.{rounds_within}
@@ -53,7 +53,7 @@ module _ {H : Type 0} (answer_of : H → Command → Answer) (after : H → Comm
       (each_append IsInSession (steps ++ clear steps) (rounds m wait)
       (each_append IsInSession steps (clear steps) (each_of IsInSession steps within) (tt, losses_within steps)) (rounds_within m wait))
 
-  pub answer_recovers : Recovers answer_of after → HoldsOnce answer_of after → AnswerRecovers answer_of after
+  pub answer_recovers : Recovers answer_of after → AnswersHoldOnce answer_of after → AnswerRecovers answer_of after
   answer_recovers recovers holds config handler steps m wait account is within same long none lasts =
       let all_steps = (steps ++ clear steps) ++ rounds m wait in
       let a = lists_of account in

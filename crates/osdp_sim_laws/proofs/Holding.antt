@@ -32,7 +32,7 @@ use Rattle.osdp_sim.specs.declared.fault.Fault.{Fault}
 use Rattle.osdp_sim.specs.declared.config.SimConfig.{SimConfig}
 use Rattle.osdp_sim.specs.declared.step.SimStep.{SimStep}
 use Rattle.osdp_sim.specs.declared.step.SimStep.TheVariants.{Issue, Queue, Busy, Wait, ToReader, ToController, Reopen}
-use Rattle.osdp_sim_laws.specs.Accounts.{IsInARow, IsInSession, IsNoRefusal, IsOf, IsOnce, IsAnswer, LastsOrHasEnded, StaysInARow, HoldsOnce, WasSetUp, account_in}
+use Rattle.osdp_sim_laws.specs.Accounts.{IsInARow, IsInSession, IsNoRefusal, IsOf, IsOnce, IsAnswer, LastsOrHasEnded, StaysInARow, AnswersHoldOnce, WasSetUp, account_in}
 use Rattle.osdp_sim_laws.specs.OneLink.{OneLink}
 use Rattle.osdp_sim_laws.specs.Progress.{IsRun}
 use Rattle.osdp_sim_laws.specs.Moves.{ScheduleIsMoves, step_clock, first_link, move_of, moves_of}
@@ -286,7 +286,7 @@ module _ {H : Type 0} (answer_of : H → Command → Answer) (after : H → Comm
   all_in_a_row given config handler steps answer is was =
       answers (IsInARow answer_of after config.reader handler) config handler steps answer is was (in_a_row given config handler (steps_done steps answer))
 
-  pub all_once : OneLink answer_of after → HoldsOnce answer_of after
+  pub all_once : OneLink answer_of after → AnswersHoldOnce answer_of after
   all_once given config handler steps answer is was within =
       answers (IsOnce answer_of after config.reader handler) config handler steps answer is was
       (λ done. once given config handler (steps_done steps answer) done within)

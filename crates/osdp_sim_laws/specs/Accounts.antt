@@ -137,7 +137,7 @@ module _ {H : Type 0} (answer_of : H → Command → Answer) (after : H → Comm
   StaysInARow = (config : SimConfig) (handler : H) (steps : List SimStep) (answer : Result declared.Account (Fault declared.Account))
       → IsAnswer config handler steps answer → WasSetUp answer → IsInARow config.reader handler (account_in answer)
 
-  abbrev pub HoldsOnce : Type 0
-  HoldsOnce = (config : SimConfig) (handler : H) (steps : List SimStep) (answer : Result declared.Account (Fault declared.Account))
+  abbrev pub AnswersHoldOnce : Type 0
+  AnswersHoldOnce = (config : SimConfig) (handler : H) (steps : List SimStep) (answer : Result declared.Account (Fault declared.Account))
       → IsAnswer config handler steps answer → WasSetUp answer → All IsInSession (steps_done steps answer)
       → IsOnce config.reader handler (account_in answer)

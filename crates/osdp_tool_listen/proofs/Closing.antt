@@ -12,7 +12,7 @@ use Rattle.osdp_tool_listen.specs.declared.mode.MonitorMode.{MonitorMode}
 use Rattle.osdp_tool_listen.specs.declared.session.Session.{Session}
 use Rattle.osdp_tool_listen.specs.Ending.{CameIn, Ends, IsBadAt, IsTold, IsToldInPart, input_report, is_wrong_input}
 use Rattle.osdp_tool_listen.specs.Events.{Broken, End, Following, Piece, after_pieces, are_good, bad_at_end, bad_in, end_events, input_events, last_events, nothing_cut, pieces_events}
-use Rattle.osdp_tool_listen.specs.Reading.{Broke, Follows, HasBroken, HasRead, HasTold, ReadsAll, TellsEvents, after_failed_read}
+use Rattle.osdp_tool_listen.specs.Reading.{Broke, HasBroken, HasRead, HasTold, HasToldPieces, ReadsAll, TellsEvents, after_failed_read}
 use Rattle.osdp_tool_listen.specs.Session.{cut_of}
 use Rattle.osdp_tool_listen.proofs.Pieces.{part_of, told_more}
 

@@ -14,7 +14,7 @@ use Rattle.osdp_tool_listen.specs.declared.mode.MonitorMode.{MonitorMode}
 use Rattle.osdp_tool_listen.specs.declared.session.Session.{Session}
 use Rattle.osdp_tool_listen.specs.Ending.{CameIn, IsToldInPart, Told, input_report}
 use Rattle.osdp_tool_listen.specs.Events.{Cut, Following, More, Piece, after_piece, after_pieces, are_good, bad_in, bytes_of, moments_of, nothing_cut, piece_events, pieces_events}
-use Rattle.osdp_tool_listen.specs.Reading.{Broke, Follows, HasBroken, HasRead, HasTold, ReadsAll, TellsPiece}
+use Rattle.osdp_tool_listen.specs.Reading.{Broke, HasBroken, HasRead, HasTold, HasToldPieces, ReadsAll, TellsPiece}
 use Rattle.osdp_tool_listen.specs.Session.{Breaks, Goes, IsNew, IsReady, TakesPiece, cut_of}
 
 -- ---- one piece more
@@ -87,7 +87,7 @@ came_kept tells first last i0 i1 i2 pieces came kept = record { taken = Consumes
 
 -- ---- what was told of them
 
-pub follows_none : (s : Session) (now : Option (List ℕ)) → IsNew s → IsReady s → Follows s.mode [] s now now
+pub follows_none : (s : Session) (now : Option (List ℕ)) → IsNew s → IsReady s → HasToldPieces s.mode [] s now now
 unfolding after_events events_report after_pieces pieces_events are_good
 follows_none s now new ready = record {
   mode_is = refl;
@@ -107,7 +107,7 @@ bad_is : (mode : MonitorMode) (pieces : List Piece) (piece : Piece) (s : Session
 bad_is mode pieces piece s same cut = ap (λ (m : MonitorMode). bad_in m.hex (cut_of s) piece) same ∙ ap (λ c. bad_in mode.hex c piece) cut
 
 hears_told : (mode : MonitorMode) (pieces : List Piece) (piece : Piece) (s next : Session) (start now after : Option (List ℕ)) (text : List ℕ)
-    → Follows mode pieces s start now → Hears (piece_events s.mode (cut_of s) piece) s.line next.line [] text → Appends now after text
+    → HasToldPieces mode pieces s start now → Hears (piece_events s.mode (cut_of s) piece) s.line next.line [] text → Appends now after text
     → HasTold mode (pieces_events mode nothing_cut (pieces ++ piece ∷ [])) next start after
 hears_told mode pieces piece s next start now after text f h wrote =
     let events = piece_events mode (after_pieces mode nothing_cut pieces) piece in
@@ -116,7 +116,7 @@ hears_told mode pieces piece s next start now after text f h wrote =
     (subst (λ l. Hears l s.line next.line [] text) (events_are mode pieces piece s f.mode_is f.cut) h) wrote)
 
 pub follows_more : (mode : MonitorMode) (pieces : List Piece) (piece : Piece) (s next : Session) (start now after : Option (List ℕ)) (text : List ℕ)
-    → Follows mode pieces s start now → TakesPiece true piece s next [] text → Appends now after text → Follows mode (pieces ++ piece ∷ []) next start after
+    → HasToldPieces mode pieces s start now → TakesPiece true piece s next [] text → Appends now after text → HasToldPieces mode (pieces ++ piece ∷ []) next start after
 follows_more mode pieces piece s next start now after text f (goes, none) wrote = record {
   mode_is = goes.mode ∙ f.mode_is;
   cut = goes.cut ∙ ap (λ m. after_piece m (cut_of s) piece) f.mode_is ∙ ap (λ c. after_piece mode c piece) f.cut ∙ sym (after_pieces-more mode nothing_cut pieces piece);
@@ -126,7 +126,7 @@ follows_more mode pieces piece s next start now after text f (goes, none) wrote 
 }
 
 pub broke_in : (mode : MonitorMode) (pieces : List Piece) (piece : Piece) (s next : Session) (start now after : Option (List ℕ)) (text : List ℕ)
-    → Follows mode pieces s start now → TakesPiece false piece s next [] text → Appends now after text → Broke mode pieces piece next start after
+    → HasToldPieces mode pieces s start now → TakesPiece false piece s next [] text → Appends now after text → Broke mode pieces piece next start after
 broke_in mode pieces piece s next start now after text f b wrote = record {
   told = hears_told mode pieces piece s next start now after text f b.hears wrote;
   good = f.good;
@@ -169,7 +169,7 @@ report_more mode pieces piece =
     ∙ events_report-append mode.packets nothing_yet (pieces_events mode nothing_cut pieces) (piece_events mode (after_pieces mode nothing_cut pieces) piece)
 
 text_is : (mode : MonitorMode) (pieces : List Piece) (piece : Piece) (s next : Session) (start now : Option (List ℕ)) (text : List ℕ)
-    → Follows mode pieces s start now → Hears (piece_events s.mode (cut_of s) piece) s.line next.line [] text
+    → HasToldPieces mode pieces s start now → Hears (piece_events s.mode (cut_of s) piece) s.line next.line [] text
     → text ≡ events_report mode.packets (after_events nothing_yet (pieces_events mode nothing_cut pieces)) (piece_events mode (after_pieces mode nothing_cut pieces) piece)
 text_is mode pieces piece s next start now text f h =
     h.text ∙ ap (λ q. events_report q (hearing_of s.line) (piece_events s.mode (cut_of s) piece)) f.told.prints
@@ -183,7 +183,7 @@ hears_of false piece s next text breaks = breaks.hears
 
 -- the write failed
 pub part_written : {M : Type 0} (tells : M → ℕ → M → Type 0) (mode : MonitorMode) (first last : M) (i0 i2 start now after : Option (List ℕ)) (pieces : List Piece) (piece : Piece)
-    (s next : Session) (good : Bool) (text : List ℕ) (count : ℕ) → CameIn tells first last i0 i2 (pieces ++ piece ∷ []) → Follows mode pieces s start now
+    (s next : Session) (good : Bool) (text : List ℕ) (count : ℕ) → CameIn tells first last i0 i2 (pieces ++ piece ∷ []) → HasToldPieces mode pieces s start now
     → TakesPiece good piece s next [] text → Appends now after (take count text) → IsToldInPart tells mode first last i0 i2 start after
 part_written tells mode first last i0 i2 start now after pieces piece s next good text count came f takes wrote =
     part_of tells mode first last i0 i2 start now after pieces (piece ∷ []) More text count (omega arith) came f.told.written
@@ -193,7 +193,7 @@ part_written tells mode first last i0 i2 start now after pieces piece s next goo
 
 -- nothing of the piece was written
 pub part_kept : {M : Type 0} (tells : M → ℕ → M → Type 0) (mode : MonitorMode) (first last : M) (i0 i2 start now after : Option (List ℕ)) (pieces : List Piece) (piece : Piece)
-    (s : Session) → CameIn tells first last i0 i2 (pieces ++ piece ∷ []) → Follows mode pieces s start now → Keeps now after
+    (s : Session) → CameIn tells first last i0 i2 (pieces ++ piece ∷ []) → HasToldPieces mode pieces s start now → Keeps now after
     → IsToldInPart tells mode first last i0 i2 start after
 part_kept tells mode first last i0 i2 start now after pieces piece s came f kept =
     part_of tells mode first last i0 i2 start now after pieces (piece ∷ []) More _ 0 (omega arith) came f.told.written (report_more mode pieces piece)
@@ -201,7 +201,7 @@ part_kept tells mode first last i0 i2 start now after pieces piece s came f kept
 
 -- no piece more was taken
 pub part_here : {M : Type 0} (tells : M → ℕ → M → Type 0) (mode : MonitorMode) (first last : M) (i0 i2 start now : Option (List ℕ)) (pieces : List Piece) (s : Session)
-    → CameIn tells first last i0 i2 pieces → Follows mode pieces s start now → IsToldInPart tells mode first last i0 i2 start now
+    → CameIn tells first last i0 i2 pieces → HasToldPieces mode pieces s start now → IsToldInPart tells mode first last i0 i2 start now
 part_here tells mode first last i0 i2 start now pieces s came f =
     part_of tells mode first last i0 i2 start now now pieces [] More [] 0 (omega arith) (subst (λ l. CameIn tells first last i0 i2 l) (sym (append-nil pieces)) came) f.told.written
     (ap (input_report More mode) (append-nil pieces) ∙ more_report mode pieces ∙ sym (append-nil (events_report mode.packets nothing_yet (pieces_events mode nothing_cut pieces))))
@@ -214,7 +214,7 @@ module _ {M : Type 0} (tells : M → ℕ → M → Type 0) (mode : MonitorMode) 
   read_none s is new ready = record {
     pieces = [];
     came = came_none tells first i0;
-    follows = subst (λ m. Follows m [] s start start) is (follows_none s start new ready);
+    follows = subst (λ m. HasToldPieces m [] s start start) is (follows_none s start new ready);
   }
 
   pub read_on : (mid last : M) (i1 i2 now after : Option (List ℕ)) (s next : Session) (piece : Piece) (failed : Bool) → HasRead tells mode first mid i0 i1 start now s

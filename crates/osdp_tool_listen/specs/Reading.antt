@@ -64,7 +64,7 @@ pub record HasTold (mode : MonitorMode) (events : List LineEvent) (s : Session) 
   pub written : Appends start now (events_report mode.packets nothing_yet events)
 
 -- these pieces were told, in which no bad line has ended
-pub record Follows (mode : MonitorMode) (pieces : List Piece) (s : Session) (start now : Option (List ℕ)) : Type 0 where
+pub record HasToldPieces (mode : MonitorMode) (pieces : List Piece) (s : Session) (start now : Option (List ℕ)) : Type 0 where
   pub mode_is : s.mode ≡ mode
   pub cut : cut_of s ≡ after_pieces mode nothing_cut pieces
   pub told : HasTold mode (pieces_events mode nothing_cut pieces) s start now
@@ -82,7 +82,7 @@ module _ {M : Type 0} (tells : M → ℕ → M → Type 0) (mode : MonitorMode) 
   pub record HasRead (s : Session) : Type 0 where
     pub pieces : List Piece
     pub came : CameIn tells clock_before clock_after input_before input_after pieces
-    pub follows : Follows mode pieces s before after
+    pub follows : HasToldPieces mode pieces s before after
 
   pub record HasBroken (s : Session) : Type 0 where
     pub front : List Piece

@@ -5,7 +5,7 @@ use Rattle.osdp_frame.specs.Packet.{Packet}
 use Rattle.osdp_monitor.specs.declared.found.Found.{Found}
 use Rattle.osdp_monitor.specs.declared.found.Notice.{Notice}
 use Rattle.osdp_monitor.specs.declared.found.Notice.TheVariants.{Opened, Moved}
-use Rattle.osdp_monitor.specs.Saying.{asked, told}
+use Rattle.osdp_monitor.specs.Saying.{asked, reply_told}
 use Rattle.osdp_msg.specs.declared.command.Command.{Command}
 use Rattle.osdp_msg.specs.declared.command.Command.TheVariants.{Poll}
 use Rattle.osdp_msg.specs.declared.fault.MsgFault.{MsgFault}
@@ -77,7 +77,7 @@ after_reply kind found c = record c {
 
 abbrev pub after_packet : Packet → Bool → Found → Counts → Counts
 after_packet p copy found c =
-    if p.reply then after_reply (kind_of_reply (told p)) found c else after_sent p copy found c
+    if p.reply then after_reply (kind_of_reply (reply_told p)) found c else after_sent p copy found c
 
 abbrev pub no_counts : Counts
 no_counts = record {

@@ -1,7 +1,7 @@
 //! What is counted of an address.
 
 ghost use Rattle.std.specs.Prelude.{◌≡◌};
-ghost use Rattle.osdp_monitor.specs.Saying.{asked, told};
+ghost use Rattle.osdp_monitor.specs.Saying.{asked, reply_told};
 ghost use Rattle.osdp_tool_monitor.specs.Counts.{is_poll, kind_of_reply, more_if};
 
 use osdp_frame::FrameView;
@@ -65,7 +65,7 @@ fn is_poll(packet: &FrameView<'_>) -> bool
 
 /// How a reply is counted.
 fn kind_of_reply(packet: &FrameView<'_>) -> ReplyKind
-    ensures { result ≡ kind_of_reply (told packet.now) }
+    ensures { result ≡ kind_of_reply (reply_told packet.now) }
 {
     by_reading(&Reply::read(packet.code(), packet.payload()))
 }

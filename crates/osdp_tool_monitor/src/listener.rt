@@ -46,8 +46,8 @@ impl Listener {
         ensures tells { IfOk result (λ l. tells_all l ≡ packets) }
         ensures fault { IfErr result (λ fault. fault ≡ ToolFault.NoMemory) }
     {
-        let monitor = told(Monitor::new(alloc))?;
-        let counts = told(vec![in alloc; Counts::NONE; ADDRESSES])?;
+        let monitor = or_fault(Monitor::new(alloc))?;
+        let counts = or_fault(vec![in alloc; Counts::NONE; ADDRESSES])?;
         Ok(Listener {
             packets,
             monitor,
@@ -204,7 +204,7 @@ fn has_room(tally: &Tally) -> bool
 }
 
 /// Without memory nothing more is told.
-fn told<T: Drop>(done: Result<T, AllocError>) -> Result<T, ToolFault>
+fn or_fault<T: Drop>(done: Result<T, AllocError>) -> Result<T, ToolFault>
     ensures value { (x : T) → result ≡ Ok x → done ≡ Ok x }
     ensures fault { IfErr result (λ fault. fault ≡ ToolFault.NoMemory) }
 {

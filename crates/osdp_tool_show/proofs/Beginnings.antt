@@ -4,7 +4,7 @@ use Rattle.std.specs.Io.KnownBytes.{Appends, append_known}
 use Rattle.std.proofs.KnownBytes.{Appends-nil, Appends-trans}
 use Rattle.osdp_tool_streams.specs.Watched.{AppendsPart}
 use Rattle.osdp_tool_show.specs.declared.report.Report.{Report}
-use Rattle.osdp_tool_show.specs.Machine.{told}
+use Rattle.osdp_tool_show.specs.Machine.{written_or_held}
 use Rattle.osdp_tool_show.specs.Written.{IsBeginning, StopsWithin}
 
 -- what follows from how a call stopped
@@ -22,7 +22,7 @@ known_appends None bytes = tt
 known_appends (Some x) bytes = refl
 
 -- what was written is a beginning of what was told
-pub begun_told : (contents : Option (List ℕ)) (report : Report) → IsBeginning contents (told contents report)
+pub begun_told : (contents : Option (List ℕ)) (report : Report) → IsBeginning contents (written_or_held contents report)
 begun_told None report = tt
 begun_told (Some x) report = (string_bytes report.text, refl)
 
@@ -62,9 +62,9 @@ stops_after start mid now front text all rest h b e =
     (Appends-trans start mid (append_known mid text) front text h (known_appends mid text)) b e
 
 -- nothing was written since
-pub stops_at_once : (contents : Option (List ℕ)) (report : Report) (all : List ℕ) → StopsWithin (told contents report) contents all
+pub stops_at_once : (contents : Option (List ℕ)) (report : Report) (all : List ℕ) → StopsWithin (written_or_held contents report) contents all
 stops_at_once contents report all =
-    stops_by (told contents report) (told contents report) contents [] all all (Appends-nil (told contents report)) (begun_told contents report) refl
+    stops_by (written_or_held contents report) (written_or_held contents report) contents [] all all (Appends-nil (written_or_held contents report)) (begun_told contents report) refl
 
 -- a text that was told, and no more
 pub stops_all : (start whole now : Option (List ℕ)) (text : List ℕ) → Appends start whole text → IsBeginning now whole → StopsWithin start now text

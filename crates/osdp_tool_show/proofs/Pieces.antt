@@ -24,15 +24,15 @@ use Rattle.osdp_tool_lines.specs.Told.{shown_lines, after_runs, runs_lines, tall
 use Rattle.osdp_tool_lines.proofs.Lines.{tally_after_all-nil, shown_lines-nil}
 use Rattle.osdp_tool_show.specs.declared.capture.Capture.{Capture}
 use Rattle.osdp_tool_show.specs.declared.report.Report.{Report}
-use Rattle.osdp_tool_show.specs.Machine.{told, IsSettled, Stands, Took, EndedRun}
-use Rattle.osdp_tool_show.specs.Capture.{load, LineStands, OpenLine, Follows, Stops, FollowsIf, TookPiece}
+use Rattle.osdp_tool_show.specs.Machine.{written_or_held, IsSettled, Stands, Took, EndedRun}
+use Rattle.osdp_tool_show.specs.Capture.{load, LineStands, OpenLine, HasShown, Stops, HasShownIf, TookPiece}
 
 -- one piece after another
 pub took_both : (xs ys : List ℕ) (good : Bool) (a b c : Capture) (before middle after : Option (List ℕ))
     → TookPiece xs true a b before middle → TookPiece ys good b c middle after → TookPiece (xs ++ ys) good a c before after
 took_both xs ys good a b c before middle after first second = record {
   follows = λ full form start read f.
-      subst (λ l. FollowsIf good full form start l c after) (append_assoc read xs ys) (second.follows full form start (read ++ xs) (first.follows full form start read f));
+      subst (λ l. HasShownIf good full form start l c after) (append_assoc read xs ys) (second.follows full form start (read ++ xs) (first.follows full form start read f));
   settled = second.settled;
   form_is = second.form_is ∙ first.form_is;
   load_is = omega (arith, first.load_is, second.load_is, length-append xs ys);
@@ -40,7 +40,7 @@ took_both xs ys good a b c before middle after first second = record {
 
 pub took_nothing : (a : Capture) (before : Option (List ℕ)) → IsSettled a.framer → TookPiece [] true a a before before
 took_nothing a before settled = record {
-  follows = λ full form start read f. subst (λ l. Follows full form start l a before) (sym (append-nil read)) f;
+  follows = λ full form start read f. subst (λ l. HasShown full form start l a before) (sym (append-nil read)) f;
   settled = settled;
   form_is = refl;
   load_is = omega arith;
@@ -49,15 +49,15 @@ took_nothing a before settled = record {
 -- a capture of one form that goes on
 in_form : (kind : Form) (piece : List ℕ) (old new : Capture) (before after : Option (List ℕ)) → old.form ≡ kind → new.form ≡ old.form → IsSettled new.framer
     → load new ≤ load old + 5 * length piece
-    → ((full : Bool) (start : Option (List ℕ)) (read : List ℕ) → Follows full kind start read old before
+    → ((full : Bool) (start : Option (List ℕ)) (read : List ℕ) → HasShown full kind start read old before
     → Stands full start (ended_runs kind (read ++ piece)) (open_run kind (read ++ piece)) new.framer new.report after × OpenLine kind (read ++ piece) new
     × (first_bad_ended kind (read ++ piece) ≡ None))
     → TookPiece piece true old new before after
 in_form kind piece old new before after is form_is settled load_is goes_on = record {
   follows = λ full form start read f.
       let same : kind ≡ form = sym is ∙ f.form_is in
-      let here = goes_on full start read (subst (λ x. Follows full x start read old before) (sym same) f) in
-      subst (λ x. Follows full x start (read ++ piece) new after) same (record { form_is = form_is ∙ is; stands = here.0; open_line = here.1; good = here.2 });
+      let here = goes_on full start read (subst (λ x. HasShown full x start read old before) (sym same) f) in
+      subst (λ x. HasShown full x start (read ++ piece) new after) same (record { form_is = form_is ∙ is; stands = here.0; open_line = here.1; good = here.2 });
   settled = settled;
   form_is = form_is;
   load_is = load_is;
@@ -105,10 +105,10 @@ held_line piece old new before whole lines settled form_is ended_is framer_is re
     line_goes_on Joined read o = held read o
     line_goes_on Apart read o = held read o
 
-    goes_on : (full : Bool) (form : Form) (start : Option (List ℕ)) (read : List ℕ) → Follows full form start read old before
+    goes_on : (full : Bool) (form : Form) (start : Option (List ℕ)) (read : List ℕ) → HasShown full form start read old before
         → (ended_runs form (read ++ piece) ≡ ended_runs form read) × (open_run form (read ++ piece) ≡ open_run form read)
         × (first_bad_ended form (read ++ piece) ≡ first_bad_ended form read)
-        → Follows full form start (read ++ piece) new before
+        → HasShown full form start (read ++ piece) new before
     goes_on full form start read f same = record {
       form_is = form_is ∙ f.form_is;
       stands =
@@ -184,7 +184,7 @@ fed_bad old new now lines settled form_is says line_is ended_is framer_is report
       load_is = omega arith;
     }
   where
-    stops : (full : Bool) (form : Form) (start : Option (List ℕ)) (read : List ℕ) → Follows full form start read old now → LineStands read old
+    stops : (full : Bool) (form : Form) (start : Option (List ℕ)) (read : List ℕ) → HasShown full form start read old now → LineStands read old
         → (form ≡ Joined) ⊎ (form ≡ Apart) → Stops full form start (read ++ line_feed ∷ []) new now
     stops full form start read f o is =
         let fed = feed_bad form read is f.good (ap said (sym o.line) ∙ says) in
@@ -198,7 +198,7 @@ fed_bad old new now lines settled form_is says line_is ended_is framer_is report
           bad = fed.2 ∙ ap Some (ap (λ n. n + 1) (sym o.count) ∙ sym ended_is);
         }
 
-    by_form : (full : Bool) (form : Form) (start : Option (List ℕ)) (read : List ℕ) → Follows full form start read old now
+    by_form : (full : Bool) (form : Form) (start : Option (List ℕ)) (read : List ℕ) → HasShown full form start read old now
         → (form ≡ Joined) ⊎ (form ≡ Apart) → Stops full form start (read ++ line_feed ∷ []) new now
     by_form full Raw start read f is = elim is [ inl j ↦ cc | inr a ↦ cc ]
     by_form full Joined start read f is = stops full Joined start read f f.open_line is
@@ -249,7 +249,7 @@ none_ended = refl
 
 pub begins : (full : Bool) (capture : Capture) (start : Option (List ℕ)) → capture.line.items ≡ [] → capture.ended ≡ 0
     → capture.framer ≡ new_run → capture.report.full ≡ full → capture.report.tally ≡ no_tally → string_bytes capture.report.text ≡ []
-    → Follows full capture.form start [] capture (told start capture.report)
+    → HasShown full capture.form start [] capture (written_or_held start capture.report)
 begins full capture start line ended framer full_is tally text = record {
   form_is = refl;
   stands = record {

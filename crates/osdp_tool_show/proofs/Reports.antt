@@ -7,7 +7,7 @@ use Rattle.osdp_tool_lines.specs.Tally.{tally_after, tally_after_all}
 use Rattle.osdp_tool_lines.specs.Told.{shown_line, shown_lines}
 use Rattle.osdp_tool_lines.proofs.Lines.{tally_after_all-nil, tally_after_all-cons, tally_after_all-append, shown_lines-nil, shown_lines-cons, shown_lines-append}
 use Rattle.osdp_tool_show.specs.declared.report.Report.{Report}
-use Rattle.osdp_tool_show.specs.Machine.{told, Tells, KeepsReport}
+use Rattle.osdp_tool_show.specs.Machine.{written_or_held, Tells, KeepsReport}
 
 -- more text waits
 pub grown : (known : Option (List ℕ)) (old new line : List ℕ) → new ≡ old ++ line → Appends (append_known known old) (append_known known new) line
@@ -21,11 +21,11 @@ shown_lines-one full old part =
 
 pub tells_one : (known : Option (List ℕ)) (old new : Report) (part : RunItem) → new.full ≡ old.full → new.tally ≡ tally_after old.tally part
     → string_bytes new.text ≡ string_bytes old.text ++ shown_line old.full old.tally part
-    → Tells old new (told known old) (told known new) (part ∷ [])
+    → Tells old new (written_or_held known old) (written_or_held known new) (part ∷ [])
 tells_one known old new part full tally text = record {
   full = full;
   tally = tally ∙ sym (tally_after_all-cons old.tally part [] ∙ tally_after_all-nil (tally_after old.tally part));
-  lines = subst (Appends (told known old) (told known new)) (sym (shown_lines-one old.full old part))
+  lines = subst (Appends (written_or_held known old) (written_or_held known new)) (sym (shown_lines-one old.full old part))
       (grown known (string_bytes old.text) (string_bytes new.text) (shown_line old.full old.tally part) text);
 }
 

@@ -17,10 +17,10 @@ use Rattle.osdp_tool_lines.specs.Tally.{no_tally}
 use Rattle.osdp_tool_lines.specs.Told.{shown_lines, after_runs, runs_lines, end_line, tally_so_far, lines_so_far}
 use Rattle.osdp_tool_show.specs.declared.capture.Capture.{Capture}
 use Rattle.osdp_tool_show.specs.declared.report.Report.{Report}
-use Rattle.osdp_tool_show.specs.Machine.{told, IsSettled, Took, EndedRun, StopsIn, StopsAtRunEnd}
+use Rattle.osdp_tool_show.specs.Machine.{written_or_held, IsSettled, Took, EndedRun, StopsIn, StopsAtRunEnd}
 use Rattle.osdp_tool_show.specs.Feeds.{HasLine}
 use Rattle.osdp_tool_show.specs.Shown.{shown, shown_so_far}
-use Rattle.osdp_tool_show.specs.Capture.{Follows, TookPiece, StopsInPiece}
+use Rattle.osdp_tool_show.specs.Capture.{HasShown, TookPiece, StopsInPiece}
 use Rattle.osdp_tool_show.specs.Works.{EndsLine, StopsAtEnd, StopsClosing}
 use Rattle.osdp_tool_show.specs.Written.{StopsWithin}
 use Rattle.osdp_tool_show.proofs.Beginnings.{begun_told, stops_by, stops_longer, stops_after}
@@ -32,12 +32,12 @@ use Rattle.osdp_tool_show.proofs.Works.{fed_end, lines_closed, tally_closed}
 -- ---- within a piece
 
 -- nothing of the piece was told
-pub stops_before : (piece : List ℕ) (old : Capture) (contents : Option (List ℕ)) → StopsInPiece piece old (told contents old.report) contents
+pub stops_before : (piece : List ℕ) (old : Capture) (contents : Option (List ℕ)) → StopsInPiece piece old (written_or_held contents old.report) contents
 stops_before piece old contents = λ full form start read f. (
   [],
   piece,
   refl,
-  stops_by start (told contents old.report) contents (shown_so_far full form read) (shown_so_far full form (read ++ [])) [] f.stands.lines (begun_told contents old.report)
+  stops_by start (written_or_held contents old.report) contents (shown_so_far full form read) (shown_so_far full form (read ++ [])) [] f.stands.lines (begun_told contents old.report)
       (ap (shown_so_far full form) (append-nil read) ∙ sym (append-nil (shown_so_far full form read))),
 )
 
@@ -75,7 +75,7 @@ pub stops_raw : (piece : List ℕ) (old : Capture) (before now : Option (List �
     → StopsInPiece piece old before now
 stops_raw piece old before now raw h = λ full form start read f. (piece, [], sym (append-nil piece), by_form full form start read f (sym f.form_is ∙ raw))
   where
-    by_form : (full : Bool) (form : Form) (start : Option (List ℕ)) (read : List ℕ) → Follows full form start read old before → form ≡ Raw
+    by_form : (full : Bool) (form : Form) (start : Option (List ℕ)) (read : List ℕ) → HasShown full form start read old before → form ≡ Raw
         → StopsWithin start now (shown_so_far full form (read ++ piece))
     by_form full Raw start read f is = h full start [] read f.stands
     by_form full Joined start read f is = cc
@@ -92,7 +92,7 @@ pub stops_line : (bytes : List ℕ) (old : Capture) (before now : Option (List �
 stops_line bytes old before now lines says h = λ full form start read f.
     (line_feed ∷ [], [], refl, by_form full form start read f (λ e. lines (f.form_is ∙ e)))
   where
-    by_form : (full : Bool) (form : Form) (start : Option (List ℕ)) (read : List ℕ) → Follows full form start read old before → (form ≡ Raw → ⊥)
+    by_form : (full : Bool) (form : Form) (start : Option (List ℕ)) (read : List ℕ) → HasShown full form start read old before → (form ≡ Raw → ⊥)
         → StopsWithin start now (shown_so_far full form (read ++ line_feed ∷ []))
     by_form full Raw start read f is = absurd (is refl)
     by_form full Joined start read f is =
@@ -114,7 +114,7 @@ pub stops_line_end : (bytes : List ℕ) (old : Capture) (held : Held) (mid : Rep
 stops_line_end bytes old held mid before middle now apart says t h = λ full form start read f.
     (line_feed ∷ [], [], refl, by_form full form start read f (sym f.form_is ∙ apart))
   where
-    by_form : (full : Bool) (form : Form) (start : Option (List ℕ)) (read : List ℕ) → Follows full form start read old before → form ≡ Apart
+    by_form : (full : Bool) (form : Form) (start : Option (List ℕ)) (read : List ℕ) → HasShown full form start read old before → form ≡ Apart
         → StopsWithin start now (shown_so_far full form (read ++ line_feed ∷ []))
     by_form full Raw start read f is = cc
     by_form full Joined start read f is = cc

@@ -25,7 +25,7 @@ use Rattle.osdp_tool_show.specs.Written.{IsBeginning, StopsWithin}
 use Rattle.osdp_tool_show.proofs.Beginnings.{begun_all, stops_by}
 use Rattle.osdp_tool_show.specs.Shown.{shown, shown_so_far}
 use Rattle.osdp_tool_show.specs.Ending.{streamed, EndsAtBadLine, EndsAtFailedRead, EndsPartWay}
-use Rattle.osdp_tool_show.specs.Capture.{Follows, FollowsIf, TookPiece, TookPart, StopsInPiece}
+use Rattle.osdp_tool_show.specs.Capture.{HasShown, HasShownIf, TookPiece, TookPart, StopsInPiece}
 use Rattle.osdp_tool_show.specs.Works.{Works, Answered, Closed, EndedInput, EndsLine, ReadToEnd, ReadToBadLine, ReadToLimit, ReadToFailure, ReadPart, StopsAtEnd, StopsClosing}
 use Rattle.osdp_tool_show.proofs.Pieces.{took_both, nothing_bad, told_nothing}
 
@@ -163,7 +163,7 @@ ends_raw old before raw settled = record {
   load_is = omega arith;
 }
   where
-    by_form : (full : Bool) (form : Form) (start : Option (List ℕ)) (read : List ℕ) → Follows full form start read old before → form ≡ Raw
+    by_form : (full : Bool) (form : Form) (start : Option (List ℕ)) (read : List ℕ) → HasShown full form start read old before → form ≡ Raw
         → EndedInput full form start read true old before
     by_form full Raw start read f is = record { ended = []; open_bytes = read; runs = refl; bad = refl; stands = f.stands }
     by_form full Joined start read f is = cc
@@ -190,7 +190,7 @@ ends_line good old new before after is t = record {
     }
 
     by_good : (g : Bool) (full : Bool) (form : Form) (start : Option (List ℕ)) (read : List ℕ) → EndsAsFed form read
-        → FollowsIf g full form start (read ++ line_feed ∷ []) new after → EndedInput full form start read g new after
+        → HasShownIf g full form start (read ++ line_feed ∷ []) new after → EndedInput full form start read g new after
     by_good true full form start read fed f = ended true full form start read fed f.good f.stands
     by_good false full form start read fed f = ended false full form start read fed f.bad f.stands
 
@@ -198,7 +198,7 @@ ends_line good old new before after is t = record {
 
 -- a call stopped once the input had ended
 part_at_end : (full : Bool) (form : Form) (limit : ℕ) (start before middle written input_before input_after : Option (List ℕ)) (input_failed output_failed : Bool)
-    (old mid : Capture) → ReadToEnd limit old mid input_before input_after before middle → StopsAtEnd mid middle written → Follows full form start [] old before
+    (old mid : Capture) → ReadToEnd limit old mid input_before input_after before middle → StopsAtEnd mid middle written → HasShown full form start [] old before
     → EndsPartWay full form limit (streamed input_before input_after input_failed) (streamed start written output_failed)
 part_at_end full form limit start before middle written ib ia input_failed output_failed old mid r h f =
     let within = r.within in
@@ -212,7 +212,7 @@ part_at_end full form limit start before middle written ib ia input_failed outpu
 
 -- .. within a piece
 pub part_in_piece : (full : Bool) (form : Form) (limit : ℕ) (start before written input_before input_after : Option (List ℕ)) (input_failed output_failed : Bool)
-    (old : Capture) → ReadPart limit old input_before input_after before written → Follows full form start [] old before
+    (old : Capture) → ReadPart limit old input_before input_after before written → HasShown full form start [] old before
     → EndsPartWay full form limit (streamed input_before input_after input_failed) (streamed start written output_failed)
 part_in_piece full form limit start before written ib ia input_failed output_failed old r f =
     let g = r.stops full form start r.read (r.took.follows full form start [] f) in
@@ -228,7 +228,7 @@ part_in_piece full form limit start before written ib ia input_failed output_fai
 
 -- what is known where a bad line ended the input
 at_bad_line : (full : Bool) (form : Form) (limit : ℕ) (start before middle input_before input_after : Option (List ℕ)) (old mid : Capture)
-    → (r : ReadToBadLine limit old mid input_before input_after before middle) → Follows full form start [] old before
+    → (r : ReadToBadLine limit old mid input_before input_after before middle) → HasShown full form start [] old before
     → (first_bad_ended form r.earlier ≡ None)
     × Stands full start (ended_runs form (r.earlier ++ take r.most r.piece)) (open_run form (r.earlier ++ take r.most r.piece)) mid.framer mid.report middle
     × ((first_bad form (r.earlier ++ r.piece) ≡ Some mid.ended) × (first_bad_ended form (r.earlier ++ r.piece) ≡ Some mid.ended)
@@ -249,7 +249,7 @@ at_bad_line full form limit start before middle ib ia old mid r f =
 
 -- .. once a bad line had ended the input
 pub part_at_bad_line : (full : Bool) (form : Form) (limit : ℕ) (start before middle written input_before input_after : Option (List ℕ)) (input_failed output_failed : Bool)
-    (old mid : Capture) → ReadToBadLine limit old mid input_before input_after before middle → StopsClosing mid middle written → Follows full form start [] old before
+    (old mid : Capture) → ReadToBadLine limit old mid input_before input_after before middle → StopsClosing mid middle written → HasShown full form start [] old before
     → EndsPartWay full form limit (streamed input_before input_after input_failed) (streamed start written output_failed)
 part_at_bad_line full form limit start before middle written ib ia input_failed output_failed old mid r h f =
     let here = at_bad_line full form limit start before middle ib ia old mid r f in
@@ -265,7 +265,7 @@ part_at_bad_line full form limit start before middle written ib ia input_failed 
 
 -- .. past the limit
 pub part_past_limit : (full : Bool) (form : Form) (limit : ℕ) (start before middle written input_before input_after : Option (List ℕ)) (input_failed output_failed : Bool)
-    (old mid : Capture) → ReadToLimit limit old mid input_before input_after before middle → IsBeginning written middle → Follows full form start [] old before
+    (old mid : Capture) → ReadToLimit limit old mid input_before input_after before middle → IsBeginning written middle → HasShown full form start [] old before
     → EndsPartWay full form limit (streamed input_before input_after input_failed) (streamed start written output_failed)
 part_past_limit full form limit start before middle written ib ia input_failed output_failed old mid r h f =
     let here = r.took.follows full form start [] f in
@@ -325,7 +325,7 @@ stopped full form limit start written ib ia input_failed was failed r fault is s
 
 pub works_at_end : (full : Bool) (form : Form) (limit : ℕ) (start before middle written input_before input_after : Option (List ℕ)) (input_failed was output_failed : Bool)
     (old mid : Capture) (result : Result Bool ToolFault) → ReadToEnd limit old mid input_before input_after before middle → input_failed ≡ false → was ≡ false
-    → Answered mid result was output_failed middle written → Follows full form start [] old before
+    → Answered mid result was output_failed middle written → HasShown full form start [] old before
     → Works full form limit (streamed input_before input_after input_failed) (streamed start written output_failed) result
 works_at_end full form limit start before middle written ib ia input_failed was output_failed old mid (Ok refused) r well quiet a f =
     let here = a.1 full form start r.read (r.took.follows full form start [] f) in
@@ -363,7 +363,7 @@ works_at_end full form limit start before middle written ib ia input_failed was 
 
 pub works_at_bad_line : (full : Bool) (form : Form) (limit : ℕ) (start before middle written input_before input_after : Option (List ℕ)) (input_failed output_failed : Bool)
     (old mid new : Capture) → ReadToBadLine limit old mid input_before input_after before middle → input_failed ≡ false → output_failed ≡ false
-    → Closed mid new middle written → Follows full form start [] old before
+    → Closed mid new middle written → HasShown full form start [] old before
     → EndsAtBadLine full form limit (streamed input_before input_after input_failed) (streamed start written output_failed) new.ended
 works_at_bad_line full form limit start before middle written ib ia input_failed output_failed old mid new r well well_too c f =
     let here = at_bad_line full form limit start before middle ib ia old mid r f in
@@ -405,7 +405,7 @@ written_or_part (Err e) middle written kept stops = stops
 
 pub works_at_failed_read : (full : Bool) (form : Form) (limit : ℕ) (start before middle written input_before input_after : Option (List ℕ)) (input_failed was output_failed : Bool)
     (old mid : Capture) (r : Result (Unit {0}) ToolFault) → ReadToFailure limit old mid input_before input_after before middle → input_failed ≡ true
-    → IsStep r was output_failed → IfErr r (λ fault. fault ≡ WriteFailed) → OnOk r (Keeps middle written) → OnErr r (IsBeginning written middle) → Follows full form start [] old before
+    → IsStep r was output_failed → IfErr r (λ fault. fault ≡ WriteFailed) → OnOk r (Keeps middle written) → OnErr r (IsBeginning written middle) → HasShown full form start [] old before
     → EndsAtFailedRead full form limit (streamed input_before input_after input_failed) (streamed start written output_failed)
 works_at_failed_read full form limit start before middle written ib ia input_failed was output_failed old mid r read failed step fault kept stops f =
     let here = read.took.follows full form start [] f in

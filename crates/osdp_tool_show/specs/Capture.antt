@@ -27,7 +27,7 @@ OpenLine Joined read capture = LineStands read capture
 OpenLine Apart read capture = LineStands read capture
 
 -- these bytes have been read, no bad line among them has ended, and the items that they decide have been told
-pub record Follows (full : Bool) (form : Form) (start : Option (List ℕ)) (read : List ℕ) (capture : Capture) (now : Option (List ℕ)) : Type 0 where
+pub record HasShown (full : Bool) (form : Form) (start : Option (List ℕ)) (read : List ℕ) (capture : Capture) (now : Option (List ℕ)) : Type 0 where
   pub form_is : capture.form ≡ form
   pub stands : Stands full start (ended_runs form read) (open_run form read) capture.framer capture.report now
   pub open_line : OpenLine form read capture
@@ -38,14 +38,14 @@ pub record Stops (full : Bool) (form : Form) (start : Option (List ℕ)) (read :
   pub stands : Stands full start (ended_runs form read) (open_run form read) capture.framer capture.report now
   pub bad : first_bad_ended form read ≡ Some capture.ended
 
-abbrev pub FollowsIf : Bool → Bool → Form → Option (List ℕ) → List ℕ → Capture → Option (List ℕ) → Type 0
-FollowsIf true full form start read capture now = Follows full form start read capture now
-FollowsIf false full form start read capture now = Stops full form start read capture now
+abbrev pub HasShownIf : Bool → Bool → Form → Option (List ℕ) → List ℕ → Capture → Option (List ℕ) → Type 0
+HasShownIf true full form start read capture now = HasShown full form start read capture now
+HasShownIf false full form start read capture now = Stops full form start read capture now
 
 -- the capture went on by these bytes; good is whether no bad line ended
 pub record TookPiece (piece : List ℕ) (good : Bool) (old new : Capture) (before after : Option (List ℕ)) : Type 0 where
   pub follows : (full : Bool) (form : Form) (start : Option (List ℕ)) (read : List ℕ)
-      → Follows full form start read old before → FollowsIf good full form start (read ++ piece) new after
+      → HasShown full form start read old before → HasShownIf good full form start (read ++ piece) new after
   pub settled : IsSettled new.framer
   pub form_is : new.form ≡ old.form
   pub load_is : load new ≤ load old + 5 * length piece
@@ -58,5 +58,5 @@ TookPart piece false old new before after = (most : ℕ) × TookPiece (take most
 
 -- a call stopped within a piece: what was written is a beginning of the text of what was read before with a front of the piece
 abbrev pub StopsInPiece : List ℕ → Capture → Option (List ℕ) → Option (List ℕ) → Type 0
-StopsInPiece piece old before now = (full : Bool) (form : Form) (start : Option (List ℕ)) (read : List ℕ) → Follows full form start read old before
+StopsInPiece piece old before now = (full : Bool) (form : Form) (start : Option (List ℕ)) (read : List ℕ) → HasShown full form start read old before
     → (front : List ℕ) × (rest : List ℕ) × (piece ≡ front ++ rest) × StopsWithin start now (shown_so_far full form (read ++ front))

@@ -14,8 +14,8 @@ use Rattle.osdp_tool_show.specs.declared.report.Report.{Report}
 use Rattle.osdp_tool_show.specs.Written.{StopsWithin}
 
 -- what was written and what waits to be
-abbrev pub told : Option (List ℕ) → Report → Option (List ℕ)
-told contents report = append_known contents (string_bytes report.text)
+abbrev pub written_or_held : Option (List ℕ) → Report → Option (List ℕ)
+written_or_held contents report = append_known contents (string_bytes report.text)
 
 -- a step went well, or told of its output or of memory; the output fails only where that is told
 abbrev pub IsStep : {T : Type 0} → Result T ToolFault → Bool → Bool → Type 0

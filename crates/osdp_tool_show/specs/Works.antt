@@ -13,7 +13,7 @@ use Rattle.osdp_tool_show.specs.declared.reading.Ending.TheVariants.{AtEnd, AtBa
 use Rattle.osdp_tool_show.specs.Machine.{IsSettled, Stands}
 use Rattle.osdp_tool_show.specs.Shown.{shown, shown_so_far, is_refused_input}
 use Rattle.osdp_tool_show.specs.Written.{StopsWithin}
-use Rattle.osdp_tool_show.specs.Capture.{load, Follows, TookPiece, StopsInPiece}
+use Rattle.osdp_tool_show.specs.Capture.{load, HasShown, TookPiece, StopsInPiece}
 use Rattle.osdp_tool_show.specs.Ending.{Stream, piece_size, Ends, EndsPartWay}
 
 -- the run has ended, and all that waited is written, with the counts where they are wanted
@@ -37,7 +37,7 @@ pub record EndedInput (full : Bool) (form : Form) (start : Option (List ℕ)) (r
 
 pub record EndsLine (good : Bool) (old new : Capture) (before after : Option (List ℕ)) : Type 0 where
   pub ends : (full : Bool) (form : Form) (start : Option (List ℕ)) (read : List ℕ)
-      → Follows full form start read old before → EndedInput full form start read good new after
+      → HasShown full form start read old before → EndedInput full form start read good new after
   pub settled : IsSettled new.framer
   pub load_is : load new ≤ load old + 5
 
@@ -101,7 +101,7 @@ ReadTo AtFailedRead limit old new input_before input_after before after was_fail
 -- the input ended here, and a call stopped while it told of that: what was written is a beginning of the text of the input, as one that goes
 -- on or as one that has ended
 abbrev pub StopsAtEnd : Capture → Option (List ℕ) → Option (List ℕ) → Type 0
-StopsAtEnd old before now = (full : Bool) (form : Form) (start : Option (List ℕ)) (read : List ℕ) → Follows full form start read old before
+StopsAtEnd old before now = (full : Bool) (form : Form) (start : Option (List ℕ)) (read : List ℕ) → HasShown full form start read old before
     → StopsWithin start now (shown_so_far full form read) ⊎ StopsWithin start now (shown full form read)
 
 -- a run was to end here, with the counts after it
@@ -113,10 +113,10 @@ StopsClosing old before now = (full : Bool) (start : Option (List ℕ)) (ended :
 -- the answer at the end of an input, told and written: it holds at whatever the capture followed
 abbrev pub Answered : Capture → Result Bool ToolFault → Bool → Bool → Option (List ℕ) → Option (List ℕ) → Type 0
 Answered old (Ok refused) was_failed failed before written = (failed ≡ was_failed)
-    × ((full : Bool) (form : Form) (start : Option (List ℕ)) (read : List ℕ) → Follows full form start read old before
+    × ((full : Bool) (form : Form) (start : Option (List ℕ)) (read : List ℕ) → HasShown full form start read old before
     → (first_bad form read ≡ None) × (refused ≡ is_refused_input form read) × Appends start written (shown full form read))
 Answered old (Err (NotHex line)) was_failed failed before written = (failed ≡ was_failed)
-    × ((full : Bool) (form : Form) (start : Option (List ℕ)) (read : List ℕ) → Follows full form start read old before
+    × ((full : Bool) (form : Form) (start : Option (List ℕ)) (read : List ℕ) → HasShown full form start read old before
     → (first_bad form read ≡ Some line) × Appends start written (shown full form read))
 Answered old (Err WriteFailed) was_failed failed before written = (failed ≡ true) × StopsAtEnd old before written
 Answered old (Err NoMemory) was_failed failed before written = (failed ≡ was_failed) × StopsAtEnd old before written

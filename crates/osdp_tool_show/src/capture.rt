@@ -3,7 +3,7 @@
 ghost use Rattle.std.specs.Prelude.{◌≡◌, ◌+◌, ◌*◌, ◌<◌, ◌^◌, ◌++◌, ℕ, List, [], ◌∷◌, Bool, true, false, length, Option, string_bytes, OnOk, OnErr, IfOk, IfErr, MatchOption};
 ghost use Rattle.osdp_tool_streams.specs.Watched.{inner_of, has_failed};
 ghost use Rattle.osdp_tool_input.specs.Cut.{line_feed, IsLine};
-ghost use Rattle.osdp_tool_show.specs.Machine.{told, IsStep, IsSettled};
+ghost use Rattle.osdp_tool_show.specs.Machine.{written_or_held, IsStep, IsSettled};
 ghost use Rattle.osdp_tool_show.specs.Feeds.{HasLine};
 
 use crate::report::Report;
@@ -39,11 +39,11 @@ pub struct Capture {
 }
 
 impl Capture {
-    ghost use Rattle.osdp_tool_show.specs.Capture.{load, Follows, TookPiece, TookPart, StopsInPiece};
+    ghost use Rattle.osdp_tool_show.specs.Capture.{load, HasShown, TookPiece, TookPart, StopsInPiece};
 
     /// Nothing has been read.
     pub fn new(alloc: Global, full: bool, form: Form) -> Result<Capture, ToolFault>
-        ensures follows { IfOk result (λ capture. (start : Option (List ℕ)) → Follows full form start [] capture (told start capture.report)) }
+        ensures follows { IfOk result (λ capture. (start : Option (List ℕ)) → HasShown full form start [] capture (written_or_held start capture.report)) }
         ensures settled { IfOk result (λ capture. IsSettled capture.framer) }
         ensures load { IfOk result (λ capture. load capture ≡ 0) }
         ensures form { IfOk result (λ capture. capture.form ≡ form) }
@@ -91,9 +91,9 @@ impl Capture {
         requires load { load self.old + 5 * length characters.now < 2 ^ 61 }
         ensures step { IsStep result (has_failed output.old) (has_failed output.new) }
         ensures took { IfOk result (λ good. TookPiece (characters.now ++ line_feed ∷ []) good self.old self.new
-            (told (W.contents (inner_of output.old)) self.old.report) (told (W.contents (inner_of output.new)) self.new.report)) }
+            (written_or_held (W.contents (inner_of output.old)) self.old.report) (written_or_held (W.contents (inner_of output.new)) self.new.report)) }
         ensures stops { OnErr result (StopsInPiece (characters.now ++ line_feed ∷ []) self.old
-            (told (W.contents (inner_of output.old)) self.old.report) (W.contents (inner_of output.new))) }
+            (written_or_held (W.contents (inner_of output.old)) self.old.report) (W.contents (inner_of output.new))) }
     {
         let good = match read_line(&self.digits, &mut self.line, characters, &mut self.bytes) {
             Ok(good) => good,
@@ -125,8 +125,8 @@ impl Capture {
         requires load { load self.old + 5 * length piece.now < 2 ^ 61 }
         ensures step { IsStep result (has_failed output.old) (has_failed output.new) }
         ensures took { IfOk result (λ good. TookPart piece.now good self.old self.new
-            (told (W.contents (inner_of output.old)) self.old.report) (told (W.contents (inner_of output.new)) self.new.report)) }
-        ensures stops { OnErr result (StopsInPiece piece.now self.old (told (W.contents (inner_of output.old)) self.old.report) (W.contents (inner_of output.new))) }
+            (written_or_held (W.contents (inner_of output.old)) self.old.report) (written_or_held (W.contents (inner_of output.new)) self.new.report)) }
+        ensures stops { OnErr result (StopsInPiece piece.now self.old (written_or_held (W.contents (inner_of output.old)) self.old.report) (W.contents (inner_of output.new))) }
     {
         let mut at = 0;
         'lines: while let Some(length) = line_length(&piece[at..]) {
@@ -152,9 +152,9 @@ impl Capture {
         requires load { load self.old + 5 * length piece.now < 2 ^ 61 }
         ensures step { IsStep result (has_failed output.old) (has_failed output.new) }
         ensures took { IfOk result (λ good. TookPart piece.now good self.old self.new
-            (told (W.contents (inner_of output.old)) self.old.report) (told (W.contents (inner_of output.new)) self.new.report)) }
+            (written_or_held (W.contents (inner_of output.old)) self.old.report) (written_or_held (W.contents (inner_of output.new)) self.new.report)) }
         ensures waits { IfOk result (λ good. length piece.now < room → string_bytes self.new.report.text ≡ []) }
-        ensures stops { OnErr result (StopsInPiece piece.now self.old (told (W.contents (inner_of output.old)) self.old.report) (W.contents (inner_of output.new))) }
+        ensures stops { OnErr result (StopsInPiece piece.now self.old (written_or_held (W.contents (inner_of output.old)) self.old.report) (W.contents (inner_of output.new))) }
     {
         let good = match self.form {
             Form::Raw => {
@@ -180,8 +180,8 @@ impl Capture {
         requires load { load self.old < 2 ^ 61 }
         ensures step { IsStep result (has_failed output.old) (has_failed output.new) }
         ensures ends { IfOk result (λ good. EndsLine good self.old self.new
-            (told (W.contents (inner_of output.old)) self.old.report) (told (W.contents (inner_of output.new)) self.new.report)) }
-        ensures stops { OnErr result (StopsAtEnd self.old (told (W.contents (inner_of output.old)) self.old.report) (W.contents (inner_of output.new))) }
+            (written_or_held (W.contents (inner_of output.old)) self.old.report) (written_or_held (W.contents (inner_of output.new)) self.new.report)) }
+        ensures stops { OnErr result (StopsAtEnd self.old (written_or_held (W.contents (inner_of output.old)) self.old.report) (W.contents (inner_of output.new))) }
     {
         match self.form {
             Form::Raw => Ok(true),
@@ -197,8 +197,8 @@ impl Capture {
         requires load { load self.old < 2 ^ 61 }
         ensures step { IsStep result (has_failed output.old) (has_failed output.new) }
         ensures closed { OnOk result (Closed self.old self.new
-            (told (W.contents (inner_of output.old)) self.old.report) (W.contents (inner_of output.new))) }
-        ensures stops { OnErr result (StopsClosing self.old (told (W.contents (inner_of output.old)) self.old.report) (W.contents (inner_of output.new))) }
+            (written_or_held (W.contents (inner_of output.old)) self.old.report) (W.contents (inner_of output.new))) }
+        ensures stops { OnErr result (StopsClosing self.old (written_or_held (W.contents (inner_of output.old)) self.old.report) (W.contents (inner_of output.new))) }
     {
         end_run(&mut self.framer, &mut self.report, output)?;
         self.report.end(output)

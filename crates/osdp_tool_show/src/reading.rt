@@ -3,7 +3,7 @@
 ghost use Rattle.std.specs.Prelude.{◌≡◌, ◌+◌, ◌*◌, ◌<◌, ◌≤◌, ◌^◌, ◌↔◌, ℕ, List, [], length, take, Bool, Option, is_err, true, false, if◌then◌else◌, Result, IfOk, OnOk, OnErr, IfErr};
 ghost use Rattle.osdp_tool_input.specs.declared.form.Form.{Form};
 ghost use Rattle.osdp_tool_streams.specs.Watched.{inner_of, has_failed};
-ghost use Rattle.osdp_tool_show.specs.Machine.{told, IsStep, IsSettled};
+ghost use Rattle.osdp_tool_show.specs.Machine.{written_or_held, IsStep, IsSettled};
 
 use crate::capture::Capture;
 use osdp_tool_streams::{Piece, ToolFault, Watched, read_piece};
@@ -22,7 +22,7 @@ pub enum Ending {
 }
 
 impl Capture {
-    ghost use Rattle.osdp_tool_show.specs.Capture.{load, Follows};
+    ghost use Rattle.osdp_tool_show.specs.Capture.{load, HasShown};
     ghost use Rattle.osdp_tool_show.specs.Ending.{streamed, watched};
     ghost use Rattle.osdp_tool_show.specs.Works.{ReadTo, ReadPart, Works, Answered};
 
@@ -42,10 +42,10 @@ impl Capture {
         ensures load { OnOk result (load self.new ≤ load self.old + 5 * limit) }
         ensures read { IfOk result (λ ending. ReadTo ending limit self.old self.new
             (R.remaining (inner_of input.old)) (R.remaining (inner_of input.new))
-            (told (W.contents (inner_of output.old)) self.old.report) (told (W.contents (inner_of output.new)) self.new.report)
+            (written_or_held (W.contents (inner_of output.old)) self.old.report) (written_or_held (W.contents (inner_of output.new)) self.new.report)
             (has_failed input.old) (has_failed input.new)) }
         ensures stops { OnErr result (ReadPart limit self.old (R.remaining (inner_of input.old)) (R.remaining (inner_of input.new))
-            (told (W.contents (inner_of output.old)) self.old.report) (W.contents (inner_of output.new))) }
+            (written_or_held (W.contents (inner_of output.old)) self.old.report) (W.contents (inner_of output.new))) }
     {
         let mut piece = [0u8; 65536];
         let mut left = limit;
@@ -77,7 +77,7 @@ impl Capture {
         requires input { has_failed input.old ≡ false }
         requires output { has_failed output.old ≡ false }
         ensures { (full : Bool) (form : Form) (start : Option (List ℕ))
-            → Follows full form start [] self.old (told (W.contents (inner_of output.old)) self.old.report)
+            → HasShown full form start [] self.old (written_or_held (W.contents (inner_of output.old)) self.old.report)
             → Works full form limit
             (watched R.remaining input.old input.new)
             (streamed start (W.contents (inner_of output.new)) (has_failed output.new)) result }
@@ -105,7 +105,7 @@ impl Capture {
         requires settled { IsSettled self.old.framer }
         requires load { load self.old < 2 ^ 60 }
         ensures { Answered self.old result (has_failed output.old) (has_failed output.new)
-            (told (W.contents (inner_of output.old)) self.old.report) (W.contents (inner_of output.new)) }
+            (written_or_held (W.contents (inner_of output.old)) self.old.report) (W.contents (inner_of output.new)) }
     {
         let good = self.end_last_line(output)?;
         self.close(output)?;

@@ -29,16 +29,16 @@ pub struct Report {
 }
 
 impl Report {
-    ghost use Rattle.osdp_tool_show.specs.Machine.{told, IsStep, Tells, KeepsReport};
+    ghost use Rattle.osdp_tool_show.specs.Machine.{written_or_held, IsStep, Tells, KeepsReport};
 
     /// Writes out what waits.
     pub fn write_out<W: Write>(&mut self, output: &mut Watched<W>) -> Result<(), ToolFault>
         ensures step { IsStep result (has_failed output.old) (has_failed output.new) }
         ensures fault { IfErr result (λ fault. fault ≡ ToolFault.WriteFailed) }
         ensures same { OnOk result (KeepsReport self.old self.new) }
-        ensures told { OnOk result (Keeps (told (W.contents (inner_of output.old)) self.old) (told (W.contents (inner_of output.new)) self.new)) }
-        ensures written { OnOk result (Keeps (told (W.contents (inner_of output.old)) self.old) (W.contents (inner_of output.new))) }
-        ensures stops { OnErr result (IsBeginning (W.contents (inner_of output.new)) (told (W.contents (inner_of output.old)) self.old)) }
+        ensures told { OnOk result (Keeps (written_or_held (W.contents (inner_of output.old)) self.old) (written_or_held (W.contents (inner_of output.new)) self.new)) }
+        ensures written { OnOk result (Keeps (written_or_held (W.contents (inner_of output.old)) self.old) (W.contents (inner_of output.new))) }
+        ensures stops { OnErr result (IsBeginning (W.contents (inner_of output.new)) (written_or_held (W.contents (inner_of output.old)) self.old)) }
     {
         write_out(output, self.text.as_bytes())?;
         self.text.clear();
@@ -54,9 +54,9 @@ impl Report {
     ) -> Result<(), ToolFault>
         requires { counted self.old.tally + item_size (item_of item.now) < 2 ^ 63 }
         ensures step { IsStep result (has_failed output.old) (has_failed output.new) }
-        ensures tells { OnOk result (Tells self.old self.new (told (W.contents (inner_of output.old)) self.old)
-            (told (W.contents (inner_of output.new)) self.new) (item_of item.now ∷ [])) }
-        ensures stops { OnErr result (StopsWithin (told (W.contents (inner_of output.old)) self.old) (W.contents (inner_of output.new))
+        ensures tells { OnOk result (Tells self.old self.new (written_or_held (W.contents (inner_of output.old)) self.old)
+            (written_or_held (W.contents (inner_of output.new)) self.new) (item_of item.now ∷ [])) }
+        ensures stops { OnErr result (StopsWithin (written_or_held (W.contents (inner_of output.old)) self.old) (W.contents (inner_of output.new))
             (shown_lines self.old.full self.old.tally (item_of item.now ∷ []))) }
     {
         match tell(&mut self.text, self.full, &mut self.tally, item) {
@@ -73,8 +73,8 @@ impl Report {
     pub fn end<W: Write>(&mut self, output: &mut Watched<W>) -> Result<(), ToolFault>
         ensures step { IsStep result (has_failed output.old) (has_failed output.new) }
         ensures same { OnOk result (KeepsReport self.old self.new) }
-        ensures written { OnOk result (Appends (told (W.contents (inner_of output.old)) self.old) (W.contents (inner_of output.new)) (end_line self.old.full self.old.tally)) }
-        ensures stops { OnErr result (StopsWithin (told (W.contents (inner_of output.old)) self.old) (W.contents (inner_of output.new)) (end_line self.old.full self.old.tally)) }
+        ensures written { OnOk result (Appends (written_or_held (W.contents (inner_of output.old)) self.old) (W.contents (inner_of output.new)) (end_line self.old.full self.old.tally)) }
+        ensures stops { OnErr result (StopsWithin (written_or_held (W.contents (inner_of output.old)) self.old) (W.contents (inner_of output.new)) (end_line self.old.full self.old.tally)) }
     {
         match push_end(&mut self.text, self.full, &self.tally) {
             Ok(()) => {}

@@ -10,7 +10,7 @@ ghost use Rattle.osdp_tool_lines.specs.Tally.{counted};
 ghost use Rattle.osdp_tool_streams.specs.Watched.{inner_of, has_failed};
 ghost use Rattle.osdp_frame.specs.Items.{items};
 ghost use Rattle.osdp_tool_lines.specs.Told.{shown_lines};
-ghost use Rattle.osdp_tool_show.specs.Machine.{told, IsStep, Drained, IsSettled, Took, EndedRun, StopsIn, StopsAtRunEnd};
+ghost use Rattle.osdp_tool_show.specs.Machine.{written_or_held, IsStep, Drained, IsSettled, Took, EndedRun, StopsIn, StopsAtRunEnd};
 ghost use Rattle.osdp_tool_show.specs.Written.{StopsWithin};
 
 use crate::report::Report;
@@ -37,8 +37,8 @@ fn drain<W: Write>(
     requires counts { counted report.old.tally + 5 * length framer.old.bytes < 2 ^ 62 }
     ensures step { IsStep result (has_failed output.old) (has_failed output.new) }
     ensures drained { OnOk result (Drained framer.old framer.new report.old report.new
-        (told (W.contents (inner_of output.old)) report.old) (told (W.contents (inner_of output.new)) report.new)) }
-    ensures stops { OnErr result (StopsWithin (told (W.contents (inner_of output.old)) report.old) (W.contents (inner_of output.new))
+        (written_or_held (W.contents (inner_of output.old)) report.old) (written_or_held (W.contents (inner_of output.new)) report.new)) }
+    ensures stops { OnErr result (StopsWithin (written_or_held (W.contents (inner_of output.old)) report.old) (W.contents (inner_of output.new))
         (shown_lines report.old.full report.old.tally (items framer.old.ended framer.old.bytes))) }
 {
     'items: while let Some(item) = framer.next() {
@@ -69,7 +69,7 @@ fn pass_skipped(report: &mut Report, bytes: &[u8]) -> usize
     requires { counted report.old.tally + 5 * length bytes.now < 2 ^ 62 }
     ensures within { result ≤ length bytes.now }
     ensures took { (contents : Option (List ℕ)) → Took (take result bytes.now) new_run new_run report.old report.new
-        (told contents report.old) (told contents report.new) }
+        (written_or_held contents report.old) (written_or_held contents report.new) }
 {
     if report.full {
         return 0;
@@ -102,8 +102,8 @@ fn tell_whole<W: Write>(
     ensures step { IsStep result (has_failed output.old) (has_failed output.new) }
     ensures within { IfOk result (λ count. count ≤ length bytes.now) }
     ensures took { IfOk result (λ count. Took (take count bytes.now) new_run new_run report.old report.new
-        (told (W.contents (inner_of output.old)) report.old) (told (W.contents (inner_of output.new)) report.new)) }
-    ensures stops { OnErr result (StopsIn bytes.now new_run report.old (told (W.contents (inner_of output.old)) report.old) (W.contents (inner_of output.new))) }
+        (written_or_held (W.contents (inner_of output.old)) report.old) (written_or_held (W.contents (inner_of output.new)) report.new)) }
+    ensures stops { OnErr result (StopsIn bytes.now new_run report.old (written_or_held (W.contents (inner_of output.old)) report.old) (W.contents (inner_of output.new))) }
 {
     let mut at = pass_skipped(report, bytes);
     'items: loop {
@@ -128,8 +128,8 @@ fn take_whole<W: Write>(
     ensures step { IsStep result (has_failed output.old) (has_failed output.new) }
     ensures within { IfOk result (λ count. count ≤ length bytes.now) }
     ensures took { IfOk result (λ count. Took (take count bytes.now) framer.now framer.now report.old report.new
-        (told (W.contents (inner_of output.old)) report.old) (told (W.contents (inner_of output.new)) report.new)) }
-    ensures stops { OnErr result (StopsIn bytes.now framer.now report.old (told (W.contents (inner_of output.old)) report.old) (W.contents (inner_of output.new))) }
+        (written_or_held (W.contents (inner_of output.old)) report.old) (written_or_held (W.contents (inner_of output.new)) report.new)) }
+    ensures stops { OnErr result (StopsIn bytes.now framer.now report.old (written_or_held (W.contents (inner_of output.old)) report.old) (W.contents (inner_of output.new))) }
 {
     if framer.is_empty() {
         tell_whole(report, bytes, output)
@@ -151,8 +151,8 @@ fn take_held<W: Write>(
     ensures within { IfOk result (λ count. count ≤ length bytes.now) }
     ensures some { IfOk result (λ count. 0 < length bytes.now → 0 < count) }
     ensures took { IfOk result (λ count. Took (take count bytes.now) framer.old framer.new report.old report.new
-        (told (W.contents (inner_of output.old)) report.old) (told (W.contents (inner_of output.new)) report.new)) }
-    ensures stops { OnErr result (StopsIn bytes.now framer.old report.old (told (W.contents (inner_of output.old)) report.old) (W.contents (inner_of output.new))) }
+        (written_or_held (W.contents (inner_of output.old)) report.old) (written_or_held (W.contents (inner_of output.new)) report.new)) }
+    ensures stops { OnErr result (StopsIn bytes.now framer.old report.old (written_or_held (W.contents (inner_of output.old)) report.old) (W.contents (inner_of output.new))) }
 {
     if bytes.is_empty() {
         return Ok(0);
@@ -211,8 +211,8 @@ pub fn take<W: Write>(
     requires counts { counted report.old.tally + 5 * (length framer.old.bytes + length bytes.now) < 2 ^ 62 }
     ensures step { IsStep result (has_failed output.old) (has_failed output.new) }
     ensures took { OnOk result (Took bytes.now framer.old framer.new report.old report.new
-        (told (W.contents (inner_of output.old)) report.old) (told (W.contents (inner_of output.new)) report.new)) }
-    ensures stops { OnErr result (StopsIn bytes.now framer.old report.old (told (W.contents (inner_of output.old)) report.old) (W.contents (inner_of output.new))) }
+        (written_or_held (W.contents (inner_of output.old)) report.old) (written_or_held (W.contents (inner_of output.new)) report.new)) }
+    ensures stops { OnErr result (StopsIn bytes.now framer.old report.old (written_or_held (W.contents (inner_of output.old)) report.old) (W.contents (inner_of output.new))) }
 {
     let mut at = 0;
     let mut tries = 0;
@@ -236,8 +236,8 @@ pub fn end_run<W: Write>(
     requires counts { counted report.old.tally + 5 * length framer.old.bytes < 2 ^ 62 }
     ensures step { IsStep result (has_failed output.old) (has_failed output.new) }
     ensures ended { OnOk result (EndedRun framer.old framer.new report.old report.new
-        (told (W.contents (inner_of output.old)) report.old) (told (W.contents (inner_of output.new)) report.new)) }
-    ensures stops { OnErr result (StopsAtRunEnd framer.old report.old (told (W.contents (inner_of output.old)) report.old) (W.contents (inner_of output.new))) }
+        (written_or_held (W.contents (inner_of output.old)) report.old) (written_or_held (W.contents (inner_of output.new)) report.new)) }
+    ensures stops { OnErr result (StopsAtRunEnd framer.old report.old (written_or_held (W.contents (inner_of output.old)) report.old) (W.contents (inner_of output.new))) }
 {
     if !framer.is_empty() {
         framer.gap();

@@ -3,20 +3,20 @@ use Rattle.std.proofs.Math.Seq.{map-set_same}
 use Rattle.std.proofs.lemmas.List.{take_all, take_more_set}
 use Rattle.std.proofs.lemmas.List.Elements.{All-push}
 use Rattle.osdp_sim_bus.specs.Room.{HasPlace, site_of}
-use Rattle.osdp_sim_bus.specs.declared.site.Site.{Site}
+use Rattle.osdp_sim_bus.specs.declared.site.ReaderSite.{ReaderSite}
 use Rattle.osdp_sim_bus.proofs.line.grow_all.Goals as goal
 
 pub returns-in_err-grow-clause-same : goal.returns-in_err-grow-clause-same
 returns-in_err-grow-clause-same g c =
     let at = c.loop-site in
-    let next : Site _ = record { reader = (slice_index_or at.sites at.site-index c.site-item.result).reader; account = c.grow.new.self } in
+    let next : ReaderSite _ = record { reader = (slice_index_or at.sites at.site-index c.site-item.result).reader; account = c.grow.new.self } in
     map-set_same site_of at.sites at.site-index next c.site-item.result (search (rules, c.grow.ensures.same)) ∙ at.invariant.same
 
 pub loop-site-preserved : goal.loop-site-preserved
 loop-site-preserved g c =
     let at = c.loop-site in
     let within : at.site-index < length at.sites = omega (arith, c.loop-site-test.true, at.auto.sites) in
-    let next : Site _ = record { reader = (slice_index_or at.sites at.site-index c.site-item.result).reader; account = c.grow.new.self } in
+    let next : ReaderSite _ = record { reader = (slice_index_or at.sites at.site-index c.site-item.result).reader; account = c.grow.new.self } in
     record {
       same = map-set_same site_of at.sites at.site-index next c.site-item.result (search (rules, c.grow.ensures.same)) ∙ at.invariant.same;
       places = subst (All HasPlace) (sym (take_more_set at.sites at.site-index next within))

@@ -2,7 +2,7 @@ use Rattle.std.proofs.Common.{rules, ◌≡◌, length, refl}
 use Rattle.osdp_tool_streams.specs.Watched.{inner_of}
 use Rattle.osdp_frame.specs.Held.{after_gap}
 use Rattle.osdp_tool_show.specs.declared.report.Report.{Report}
-use Rattle.osdp_tool_show.specs.Machine.{told, Drained}
+use Rattle.osdp_tool_show.specs.Machine.{written_or_held, Drained}
 use Rattle.osdp_tool_show.proofs.Standing.{ended_run, run_end_stops}
 use Rattle.osdp_tool_show.proofs.Beginnings.{on_err}
 use Rattle.osdp_tool_show.proofs.WholeItems.{drained_none}
@@ -12,10 +12,10 @@ use Rattle.osdp_tool_show.proofs.runs.end_run.Goals.{then-not-is_empty+in_ok-dra
 pub returns-clause-ended : goal.returns-clause-ended
 returns-clause-ended g c =
     let joined = c.if-not-is_empty in
-    let before = told (g.W.Write.contents (inner_of c.args.output.now)) c.args.report.now in
+    let before = written_or_held (g.W.Write.contents (inner_of c.args.output.now)) c.args.report.now in
     let last : Report = record { full = joined.report.full; tally = c.end_run.new.self; text = joined.report.text } in
     let drained : Drained (after_gap c.args.framer.now) joined.framer c.args.report.now joined.report before
-    (told (g.W.Write.contents (inner_of joined.output)) joined.report) =
+    (written_or_held (g.W.Write.contents (inner_of joined.output)) joined.report) =
     elim joined.branch [
       | then-not-is_empty+in_ok-drain w ↦ search rules
       | else-not-is_empty w ↦
@@ -24,9 +24,9 @@ returns-clause-ended g c =
           search rules
     ] in
     ended_run c.args.framer.now joined.framer c.args.report.now joined.report last before
-    (told (g.W.Write.contents (inner_of joined.output)) last) c.requires.settled drained refl c.end_run.ensures
+    (written_or_held (g.W.Write.contents (inner_of joined.output)) last) c.requires.settled drained refl c.end_run.ensures
 
 pub returns-in_err-drain-clause-stops : goal.returns-in_err-drain-clause-stops
 returns-in_err-drain-clause-stops g c =
-    on_err c.from_residual.result (run_end_stops c.args.framer.now c.args.report.now (told (g.W.Write.contents (inner_of c.args.output.now)) c.args.report.now)
+    on_err c.from_residual.result (run_end_stops c.args.framer.now c.args.report.now (written_or_held (g.W.Write.contents (inner_of c.args.output.now)) c.args.report.now)
     (g.W.Write.contents (inner_of c.drain.new.output)) (search rules))

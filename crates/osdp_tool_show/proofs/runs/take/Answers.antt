@@ -3,7 +3,7 @@ use Rattle.std.proofs.lemmas.List.{length-take}
 use Rattle.osdp_tool_show.proofs.WholeItems.{took_after}
 use Rattle.osdp_tool_show.proofs.Standing.{stops_in_rest}
 use Rattle.osdp_tool_streams.specs.Watched.{inner_of}
-use Rattle.osdp_tool_show.specs.Machine.{told}
+use Rattle.osdp_tool_show.specs.Machine.{written_or_held}
 use Rattle.osdp_tool_show.proofs.Beginnings.{on_err}
 use Rattle.osdp_tool_show.proofs.runs.take.Goals as goal
 
@@ -25,13 +25,13 @@ pieces-preserved g c =
 pub returns-in_err-whole-clause-stops : goal.returns-in_err-whole-clause-stops
 returns-in_err-whole-clause-stops g c =
     on_err c.from_residual.result (stops_in_rest c.args.bytes.now c.pieces.at (length c.args.bytes.now - c.pieces.at) c.args.framer.now c.pieces.framer c.args.report.now c.pieces.report
-    (told (g.W.Write.contents (inner_of c.args.output.now)) c.args.report.now) (told (g.W.Write.contents (inner_of c.pieces.output)) c.pieces.report)
+    (written_or_held (g.W.Write.contents (inner_of c.args.output.now)) c.args.report.now) (written_or_held (g.W.Write.contents (inner_of c.pieces.output)) c.pieces.report)
     (g.W.Write.contents (inner_of c.take_whole.new.output)) (λ k. omega (arith, c.type_inv.bytes k)) c.pieces.invariant.took c.in_err-whole.ensures.stops)
 
 pub returns-in_err-at-clause-stops : goal.returns-in_err-at-clause-stops
 returns-in_err-at-clause-stops g c =
     let bytes = c.args.bytes.now in
     on_err c.from_residual-in_err-at.result (stops_in_rest bytes (c.pieces.at + c.in_ok-whole.whole) _ c.args.framer.now c.pieces.framer c.args.report.now c.take_whole.new.report
-    (told (g.W.Write.contents (inner_of c.args.output.now)) c.args.report.now) (told (g.W.Write.contents (inner_of c.take_whole.new.output)) c.take_whole.new.report)
+    (written_or_held (g.W.Write.contents (inner_of c.args.output.now)) c.args.report.now) (written_or_held (g.W.Write.contents (inner_of c.take_whole.new.output)) c.take_whole.new.report)
     (g.W.Write.contents (inner_of c.take_held.new.output)) (λ k. omega (arith, c.type_inv.bytes k))
     (took_after bytes c.pieces.at _ _ _ _ _ _ _ _ _ _ _ c.in_ok-whole.ensures.within c.pieces.invariant.took c.in_ok-whole.ensures.took) c.in_err-at.ensures.stops)

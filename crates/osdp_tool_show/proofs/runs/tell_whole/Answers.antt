@@ -4,7 +4,7 @@ use Rattle.osdp_tool_streams.specs.Watched.{inner_of}
 use Rattle.osdp_frame.specs.Held.{new_run, by_itself, decided}
 use Rattle.osdp_frame.specs.Reading.{item_size}
 use Rattle.osdp_frame.specs.Shown.{item_of}
-use Rattle.osdp_tool_show.specs.Machine.{told, Took}
+use Rattle.osdp_tool_show.specs.Machine.{written_or_held, Took}
 use Rattle.osdp_tool_show.proofs.WholeItems.{took_item, item_within}
 use Rattle.osdp_tool_show.proofs.WholeItems.{item_stops}
 use Rattle.osdp_tool_show.proofs.Beginnings.{on_err}
@@ -34,8 +34,8 @@ items-preserved g c =
     let contents = g.W.Write.contents (inner_of c.items.output) in
     let at = c.items.at in
     let part = item_of c.in-Some.item in
-    let before = told (g.W.Write.contents (inner_of c.args.output.now)) c.args.report.now in
-    let after = told (g.W.Write.contents (inner_of c.tell.new.output)) c.tell.new.self in
+    let before = written_or_held (g.W.Write.contents (inner_of c.args.output.now)) c.args.report.now in
+    let after = written_or_held (g.W.Write.contents (inner_of c.tell.new.output)) c.tell.new.self in
     let own : by_itself (decided false (drop at bytes)) ≡ Some part =
     sym (ap (λ l. by_itself (decided false l)) (take_rest bytes at)) ∙ c.in-Some.ensures in
     let there : item_size part ≤ length (drop at bytes) = item_within bytes at part (λ k. omega (arith, c.type_inv.bytes k)) own in
@@ -55,8 +55,8 @@ returns-in_err-tell-clause-stops g c =
     let contents = g.W.Write.contents (inner_of c.items.output) in
     let at = c.items.at in
     let part = item_of c.in-Some.item in
-    let before = told (g.W.Write.contents (inner_of c.args.output.now)) c.args.report.now in
+    let before = written_or_held (g.W.Write.contents (inner_of c.args.output.now)) c.args.report.now in
     let own : by_itself (decided false (drop at bytes)) ≡ Some part =
     sym (ap (λ l. by_itself (decided false l)) (take_rest bytes at)) ∙ c.in-Some.ensures in
-    on_err c.from_residual.result (item_stops bytes at c.args.report.now c.items.report before (told contents c.items.report)
+    on_err c.from_residual.result (item_stops bytes at c.args.report.now c.items.report before (written_or_held contents c.items.report)
     (g.W.Write.contents (inner_of c.tell.new.output)) part (λ k. omega (arith, c.type_inv.bytes k)) c.items.invariant.within c.items.invariant.took own c.in_err-tell.ensures.stops)

@@ -1,5 +1,5 @@
 use Rattle.std.proofs.Common.{string_bytes, subst}
-use Rattle.osdp_panel_calls.specs.Sessions.{Comes, Session, answered, does, overhears, told}
+use Rattle.osdp_panel_calls.specs.Sessions.{Comes, Session, answered, does, overhears, then_reports}
 use Rattle.osdp_panel_calls.proofs.Calls.{heard_first, on_this}
 use Rattle.osdp_panel_calls.proofs.session.LinePanel.answer.Goals as goal
 
@@ -11,6 +11,6 @@ returns c =
     let s = c.args.self.now in
     let heard = overhears call s in
     let is_told = c.in_ok-tell.ensures t1 (does call c.listen.new.self) c.in_ok-call.ensures in
-    let is_told_there = subst (λ (x : Session). Comes t1 (string_bytes c.tell.new.text) c.tell.new.self (told (does call x))) c.in_ok-listen.ensures.session is_told in
+    let is_told_there = subst (λ (x : Session). Comes t1 (string_bytes c.tell.new.text) c.tell.new.self (then_reports (does call x))) c.in_ok-listen.ensures.session is_told in
     on_this _ _ _ (c.end.ensures t0 (answered call s))
-    (heard_first t0 t1 (string_bytes c.tell.new.text) c.tell.new.self heard.text (told (does call (record s { listening = heard.after }))) c.in_ok-listen.ensures.text is_told_there)
+    (heard_first t0 t1 (string_bytes c.tell.new.text) c.tell.new.self heard.text (then_reports (does call (record s { listening = heard.after }))) c.in_ok-listen.ensures.text is_told_there)

@@ -1,7 +1,7 @@
 use Rattle.std.proofs.Common.{◌≡◌, ◌<◌, ◌-◌, ◌∙◌, length, rules, slice_set, sym}
 use Rattle.osdp_sim_bus.specs.Room.{sites_of}
 use Rattle.osdp_sim_bus.specs.Steps.{changed_site, site_begins}
-use Rattle.osdp_sim_bus.specs.declared.site.Site.{Site}
+use Rattle.osdp_sim_bus.specs.declared.site.ReaderSite.{ReaderSite}
 use Rattle.osdp_sim_bus.proofs.Places.{changed_there, there_within}
 use Rattle.osdp_sim_bus.proofs.simulation.SimulationStepTaker.reopen.Goals as goal
 
@@ -10,7 +10,7 @@ returns-then-is_there g c =
     let sites = c.args.self.now.sites.items in
     let place = c.args.number - 1 in
     let change = site_begins in
-    let next : Site _ = record { reader = c.index_mut.result.now.reader; account = c.begin-then-is_there.new.self } in
+    let next : ReaderSite _ = record { reader = c.index_mut.result.now.reader; account = c.begin-then-is_there.new.self } in
     let within : place < length sites = there_within c.args.number sites (sym c.is_there.ensures ∙ c.if-is_there.true) in
     let here : sites_of (slice_set sites place next) ≡ changed_site place change (sites_of sites) =
     changed_there change sites place c.index_mut.result.now next within (search rules) in

@@ -1,7 +1,7 @@
 use Rattle.std.proofs.Common.{refl}
 use Rattle.osdp_tool_streams.specs.Watched.{inner_of}
 use Rattle.osdp_tool_show.specs.declared.capture.Capture.{Capture}
-use Rattle.osdp_tool_show.specs.Machine.{told}
+use Rattle.osdp_tool_show.specs.Machine.{written_or_held}
 use Rattle.osdp_tool_show.proofs.Reports.{on_ok_both}
 use Rattle.osdp_tool_show.proofs.Works.{closed_by}
 use Rattle.osdp_tool_show.proofs.Beginnings.{on_err, on_err_map}
@@ -17,11 +17,11 @@ returns-clause-closed g c =
 
 pub returns-in_err-end_run-clause-stops : goal.returns-in_err-end_run-clause-stops
 returns-in_err-end_run-clause-stops g c =
-    on_err c.from_residual.result (stops_closing_run c.args.self.now (told (g.W.Write.contents (inner_of c.args.output.now)) c.args.self.now.report)
+    on_err c.from_residual.result (stops_closing_run c.args.self.now (written_or_held (g.W.Write.contents (inner_of c.args.output.now)) c.args.self.now.report)
     (g.W.Write.contents (inner_of c.end_run.new.output)) c.in_err-end_run.ensures.stops)
 
 pub returns-clause-stops : goal.returns-clause-stops
 returns-clause-stops g c =
     on_err_map c.end.result (stops_counting c.args.self.now c.end_run.new.framer c.end_run.new.report
-    (told (g.W.Write.contents (inner_of c.args.output.now)) c.args.self.now.report) (told (g.W.Write.contents (inner_of c.end_run.new.output)) c.end_run.new.report)
+    (written_or_held (g.W.Write.contents (inner_of c.args.output.now)) c.args.self.now.report) (written_or_held (g.W.Write.contents (inner_of c.end_run.new.output)) c.end_run.new.report)
     (g.W.Write.contents (inner_of c.end.new.output)) c.in_ok-end_run.ensures.ended) c.end.ensures.stops

@@ -4,7 +4,7 @@ use Rattle.osdp_tool_input.specs.Cut.{line_feed}
 use Rattle.osdp_tool_input.specs.Line.{kept, said}
 use Rattle.osdp_tool_input.proofs.Lengths.{said_short}
 use Rattle.osdp_tool_show.specs.declared.capture.Capture.{Capture}
-use Rattle.osdp_tool_show.specs.Machine.{told}
+use Rattle.osdp_tool_show.specs.Machine.{written_or_held}
 use Rattle.osdp_tool_show.proofs.Pieces.{fed_bad, fed_joined, fed_apart, holding, length-kept, says_none, says_bytes, took_ended}
 use Rattle.osdp_tool_show.proofs.Stopping.{stops_before, stops_ended_line, stops_line, stops_line_end}
 use Rattle.osdp_tool_show.proofs.Beginnings.{on_err}
@@ -42,7 +42,7 @@ returns-in-Joined-clause-took g c =
 
 pub returns-in_ok-end_run-in-Apart-clause-took : goal.returns-in_ok-end_run-in-Apart-clause-took
 returns-in_ok-end_run-in-Apart-clause-took g c =
-    let middle = told (g.W.Write.contents (inner_of c.take.new.output)) c.take.new.report in
+    let middle = written_or_held (g.W.Write.contents (inner_of c.take.new.output)) c.take.new.report in
     let mid : Capture = record c.args.self.now { framer = c.take.new.framer; report = c.take.new.report } in
     took_ended c.args.characters.now true c.args.self.now _ c.requires.load _ _ c.requires.line c.requires.lines c.requires.settled
     (fed_apart c.deref.result.now (holding c.args.self.now c.args.characters.now c.requires.load) mid _ _ middle _ c.in-Apart.is refl

@@ -1,6 +1,6 @@
 use Rattle.std.proofs.Common.{rules, take, subst, ◌∙◌}
 use Rattle.osdp_tool_streams.specs.Watched.{inner_of}
-use Rattle.osdp_tool_show.specs.Machine.{told}
+use Rattle.osdp_tool_show.specs.Machine.{written_or_held}
 use Rattle.osdp_tool_show.specs.Capture.{TookPart}
 use Rattle.osdp_tool_show.proofs.Works.{read_bad, read_end, read_failure, read_more, read_past, read_stops}
 use Rattle.osdp_tool_show.proofs.Beginnings.{on_err}
@@ -26,8 +26,8 @@ returns-in-Err-clause-read g c = (
 
 pub returns-then-not-branch-clause-read : goal.returns-then-not-branch-clause-read
 returns-then-not-branch-clause-read g c =
-    let middle = told (g.W.Write.contents (inner_of c.reads.output)) c.reads.self.report in
-    let after = told (g.W.Write.contents (inner_of c.take_read.new.output)) c.take_read.new.self.report in (
+    let middle = written_or_held (g.W.Write.contents (inner_of c.reads.output)) c.reads.self.report in
+    let after = written_or_held (g.W.Write.contents (inner_of c.take_read.new.output)) c.take_read.new.self.report in (
       read_bad c.args.limit c.reads.left c.in-Ok-Bytes.count c.read_piece.new.buffer c.args.self.now c.reads.self c.take_read.new.self
           _ _ _ _ middle after (c.read_piece.auto.buffer ∙ search rules) (rw c.in-Ok-Bytes.field-0-is at c.in-Ok-Bytes.ensures.read) c.reads.invariant.has_read
           (subst (λ good. TookPart (take c.in-Ok-Bytes.count c.read_piece.new.buffer) good c.reads.self c.take_read.new.self middle after) c.if-not-branch.true
@@ -37,8 +37,8 @@ returns-then-not-branch-clause-read g c =
 
 pub reads-preserved : goal.reads-preserved
 reads-preserved g c =
-    let middle = told (g.W.Write.contents (inner_of c.reads.output)) c.reads.self.report in
-    let after = told (g.W.Write.contents (inner_of c.take_read.new.output)) c.take_read.new.self.report in
+    let middle = written_or_held (g.W.Write.contents (inner_of c.reads.output)) c.reads.self.report in
+    let after = written_or_held (g.W.Write.contents (inner_of c.take_read.new.output)) c.take_read.new.self.report in
     record {
       has_read = read_more c.args.limit c.reads.left c.in-Ok-Bytes.count c.read_piece.new.buffer c.args.self.now c.reads.self c.take_read.new.self
           _ _ _ _ middle after (rw c.in-Ok-Bytes.field-0-is at c.in-Ok-Bytes.ensures.read) c.reads.invariant.has_read

@@ -3,7 +3,7 @@ use Rattle.std.proofs.lemmas.List.{take_rest}
 use Rattle.osdp_tool_streams.specs.Watched.{inner_of}
 use Rattle.osdp_tool_input.specs.Cut.{line_feed, IsLine}
 use Rattle.osdp_tool_show.specs.declared.capture.Capture.{Capture}
-use Rattle.osdp_tool_show.specs.Machine.{told}
+use Rattle.osdp_tool_show.specs.Machine.{written_or_held}
 use Rattle.osdp_tool_show.specs.Feeds.{HasLine}
 use Rattle.osdp_tool_show.specs.Capture.{load, TookPiece, StopsInPiece}
 use Rattle.osdp_tool_show.proofs.Pieces.{took_line, took_rest}
@@ -48,8 +48,8 @@ returns-then-not-branch-clause-took g c =
     let piece = c.args.piece.now in
     let at = c.lines.at in
     let count = c.in-Some.length in
-    let middle = told (g.W.Write.contents (inner_of c.lines.output)) c.lines.self.report in
-    let after = told (g.W.Write.contents (inner_of c.end_line.new.output)) c.end_line.new.self.report in (
+    let middle = written_or_held (g.W.Write.contents (inner_of c.lines.output)) c.lines.self.report in
+    let after = written_or_held (g.W.Write.contents (inner_of c.end_line.new.output)) c.end_line.new.self.report in (
       at + (count + 1),
       took_line piece at count false c.args.self.now c.lines.self c.end_line.new.self _ middle after (line_at piece at count c.in-Some.ensures) c.lines.invariant.took
           (subst (λ l. TookPiece (l ++ line_feed ∷ []) false c.lines.self c.end_line.new.self middle after) (part_of_slice piece at count)
@@ -62,13 +62,13 @@ lines-preserved g c =
     let piece = c.args.piece.now in
     let at = c.lines.at in
     let count = c.in-Some.length in
-    let middle = told (g.W.Write.contents (inner_of c.lines.output)) c.lines.self.report in
-    let after = told (g.W.Write.contents (inner_of c.end_line.new.output)) c.end_line.new.self.report in
+    let middle = written_or_held (g.W.Write.contents (inner_of c.lines.output)) c.lines.self.report in
+    let after = written_or_held (g.W.Write.contents (inner_of c.end_line.new.output)) c.end_line.new.self.report in
     let line = line_at piece at count c.in-Some.ensures in
     let below = line.below in
     let n = length-drop at piece in
     let end : at + (count + 1) ≡ at + count + 1 = omega arith in
-    let before = told (g.W.Write.contents (inner_of c.args.output.now)) c.args.self.now.report in
+    let before = written_or_held (g.W.Write.contents (inner_of c.args.output.now)) c.args.self.now.report in
     record {
       within = omega arith;
       took = subst (λ n. TookPiece (take n piece) true c.args.self.now c.end_line.new.self before after) end
@@ -82,21 +82,21 @@ lines-preserved g c =
 pub returns-clause-took : goal.returns-clause-took
 returns-clause-took g c =
     let contents = g.W.Write.contents (inner_of c.lines.output) in
-    let middle = told contents c.lines.self.report in
-    subst (λ (m : Option (List ℕ)). TookPiece c.args.piece.now true c.args.self.now c.hold.new.self (told (g.W.Write.contents (inner_of c.args.output.now)) c.args.self.now.report) m)
-    (ap (told contents) (sym c.in_ok-hold.ensures.report))
+    let middle = written_or_held contents c.lines.self.report in
+    subst (λ (m : Option (List ℕ)). TookPiece c.args.piece.now true c.args.self.now c.hold.new.self (written_or_held (g.W.Write.contents (inner_of c.args.output.now)) c.args.self.now.report) m)
+    (ap (written_or_held contents) (sym c.in_ok-hold.ensures.report))
     (took_rest c.args.piece.now c.lines.at c.args.self.now c.lines.self c.hold.new.self _ middle c.lines.invariant.took
     (subst (λ l. TookPiece l true c.lines.self c.hold.new.self middle middle) (take_rest c.args.piece.now c.lines.at) (c.in_ok-hold.ensures.took middle)))
 
 pub returns-in_err-end_line-clause-stops : goal.returns-in_err-end_line-clause-stops
 returns-in_err-end_line-clause-stops g c =
-    let middle = told (g.W.Write.contents (inner_of c.lines.output)) c.lines.self.report in
+    let middle = written_or_held (g.W.Write.contents (inner_of c.lines.output)) c.lines.self.report in
     let now = g.W.Write.contents (inner_of c.end_line.new.output) in
     let at = c.lines.at in
     let count = c.in-Some.length in
     let piece = c.args.piece.now in
     on_err c.from_residual.result (stops_further piece (take at piece) (take count (drop at piece) ++ line_feed ∷ []) (drop (count + 1) (drop at piece)) c.args.self.now c.lines.self
-    (told (g.W.Write.contents (inner_of c.args.output.now)) c.args.self.now.report) middle now c.lines.invariant.took
+    (written_or_held (g.W.Write.contents (inner_of c.args.output.now)) c.args.self.now.report) middle now c.lines.invariant.took
     (subst (λ l. StopsInPiece (l ++ line_feed ∷ []) c.lines.self middle now) (part_of_slice piece at count) c.in_err-end_line.ensures.stops)
     (feed_cut piece at count (line_at piece at count c.in-Some.ensures)))
 
@@ -104,6 +104,6 @@ pub returns-in_err-hold-clause-stops : goal.returns-in_err-hold-clause-stops
 returns-in_err-hold-clause-stops g c =
     let contents = g.W.Write.contents (inner_of c.lines.output) in
     let rest = drop c.lines.at c.args.piece.now in
-    on_err c.from_residual-in_err-hold.result (stops_further c.args.piece.now (take c.lines.at c.args.piece.now) rest [] c.args.self.now c.lines.self _ (told contents c.lines.self.report) contents
+    on_err c.from_residual-in_err-hold.result (stops_further c.args.piece.now (take c.lines.at c.args.piece.now) rest [] c.args.self.now c.lines.self _ (written_or_held contents c.lines.self.report) contents
     c.lines.invariant.took (stops_before rest c.lines.self contents)
     (sym (take-append-drop c.lines.at c.args.piece.now) ∙ ap (λ l. take c.lines.at c.args.piece.now ++ l) (sym (append-nil rest))))

@@ -1,6 +1,6 @@
 use Rattle.std.proofs.Common.{◌≡◌, ◌≤◌, ◌-◌, length, take, true}
 use Rattle.osdp_tool_streams.specs.Watched.{inner_of, has_failed}
-use Rattle.osdp_tool_show.specs.Machine.{told}
+use Rattle.osdp_tool_show.specs.Machine.{written_or_held}
 use Rattle.osdp_tool_show.specs.Capture.{TookPiece}
 use Rattle.osdp_tool_show.proofs.capture.Capture.take_lines.Given as goal
 
@@ -8,7 +8,7 @@ abbrev pub invariant-lines : goal.invariant-lines
 invariant-lines g l = record {
   within : l.at ≤ length l.piece;
   took : TookPiece (take l.at l.piece) true l.initial.self l.self
-      (told (g.W.Write.contents (inner_of l.initial.output)) l.initial.self.report) (told (g.W.Write.contents (inner_of l.output)) l.self.report);
+      (written_or_held (g.W.Write.contents (inner_of l.initial.output)) l.initial.self.report) (written_or_held (g.W.Write.contents (inner_of l.output)) l.self.report);
   unfailed : has_failed l.output ≡ has_failed l.initial.output;
 }
 

@@ -2,7 +2,7 @@ use Rattle.std.proofs.Common.{string_bytes}
 use Rattle.osdp_tool_lines.specs.Told.{end_line}
 use Rattle.osdp_tool_streams.specs.Watched.{inner_of}
 use Rattle.osdp_tool_show.specs.declared.report.Report.{Report}
-use Rattle.osdp_tool_show.specs.Machine.{told}
+use Rattle.osdp_tool_show.specs.Machine.{written_or_held}
 use Rattle.osdp_tool_show.proofs.Reports.{grown}
 use Rattle.osdp_tool_show.proofs.Beginnings.{on_err_map, stops_all, stops_at_once}
 use Rattle.osdp_tool_show.proofs.report.Report.end.Goals as goal
@@ -15,6 +15,6 @@ pub returns-clause-stops : goal.returns-clause-stops
 returns-clause-stops g c =
     let contents = g.W.Write.contents (inner_of c.args.output.now) in
     let mid : Report = record { full = c.args.self.now.full; tally = c.args.self.now.tally; text = c.push_end.new.text } in
-    on_err_map c.write_out.result (stops_all (told contents c.args.self.now) (told contents mid) (g.W.Write.contents (inner_of c.write_out.new.output)) _
+    on_err_map c.write_out.result (stops_all (written_or_held contents c.args.self.now) (written_or_held contents mid) (g.W.Write.contents (inner_of c.write_out.new.output)) _
     (grown contents (string_bytes c.args.self.now.text) (string_bytes c.push_end.new.text) _ c.in-Ok.ensures))
     c.write_out.ensures.stops

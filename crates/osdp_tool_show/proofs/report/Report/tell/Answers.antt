@@ -5,7 +5,7 @@ use Rattle.osdp_tool_streams.specs.Watched.{inner_of}
 use Rattle.osdp_tool_show.proofs.Reports.{tells_one, tells_kept, on_ok_both}
 use Rattle.std.proofs.Common.{[], ◌∷◌}
 use Rattle.osdp_tool_lines.specs.Told.{shown_lines}
-use Rattle.osdp_tool_show.specs.Machine.{told}
+use Rattle.osdp_tool_show.specs.Machine.{written_or_held}
 use Rattle.osdp_tool_show.proofs.Beginnings.{on_err_map, stops_all, stops_at_once}
 use Rattle.osdp_tool_show.proofs.report.Report.tell.Goals as goal
 
@@ -33,5 +33,5 @@ returns-clause-stops g c =
     let contents = g.W.Write.contents (inner_of c.args.output.now) in
     let mid : Report = record { full = c.args.self.now.full; tally = c.tell.new.tally; text = c.tell.new.text } in
     let tells = tells_one contents c.args.self.now mid (item_of c.args.item.now) refl c.in-Ok.ensures.tally c.in-Ok.ensures.line in
-    on_err_map c.write_out.result (stops_all (told contents c.args.self.now) (told contents mid) (g.W.Write.contents (inner_of c.write_out.new.output)) _ tells.lines)
+    on_err_map c.write_out.result (stops_all (written_or_held contents c.args.self.now) (written_or_held contents mid) (g.W.Write.contents (inner_of c.write_out.new.output)) _ tells.lines)
     c.write_out.ensures.stops
