@@ -12,7 +12,7 @@
   docs/PROTOCOL.md, and each topic there that has a choice of our own is named.
 - docs/PROFILE.md calls whole those codes that docs/PROTOCOL.md has in its tables of messages, and gives no code two rows.
 - Each picture of an exchange in docs/PROTOCOL.md has the steps of the script named above it, whose account examples.sh compares with a run, and tells that account.
-- docs/PROTOCOL.md and man/osdp.1 have each text that the program prints on standard error.
+- man/osdp.1 has each text that the program prints on standard error.
 - Each crate, script and folder that any page names is there; a name with `osdp_` may be one of the header for C too.
 - No page, manual page or script says "behind" or "want of memory".
 - README has at most 120 lines of at most 120 characters, docs/DEVELOPING.md at most 120, docs/ARCHITECTURE.md at most 300, docs/GUIDE.md at most 450, and no row of a
@@ -178,13 +178,10 @@ def judge_heads(all_crates):
                 faults.append(f"{file.relative_to(TOP)}: its head doesn't say what it holds")
 
 
-def judge_protocol():
-    """docs/PROTOCOL.md and man/osdp.1: each text of a fault is told, with N for its number."""
-    text = (TOP / "docs/PROTOCOL.md").read_text()
+def judge_manual():
+    """man/osdp.1: each text of a fault is told, with N for its number."""
     manual = re.sub(r'" (\w) "', r"\1", (TOP / "man/osdp.1").read_text()).replace('"', "")
     for fault in re.findall(r'#\[error\("(.*)"\)\]', (TOP / "crates/osdp_tool_streams/src/fault.rt").read_text()):
-        if f"| `{fault.replace('{0}', 'N')}` |" not in text:
-            faults.append(f"docs/PROTOCOL.md: no row for {fault}")
         if not re.search(r"\s+".join(map(re.escape, fault.replace("{0}", "N").split())), manual):
             faults.append(f"man/osdp.1: {fault} is not told")
 
@@ -375,7 +372,7 @@ if __name__ == "__main__":
     judge_architecture(every)
     judge_heads(every)
     judge_exchanges()
-    judge_protocol()
+    judge_manual()
     judge_headline()
     judge_profile()
     for each_page in PAGES:

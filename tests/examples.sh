@@ -1,6 +1,6 @@
 #!/usr/bin/env bash
-# Runs each script of examples/ and compares its account, and the picture of turns. Runs the examples of a panel and of a reader, in Python and in C over
-# the archive that `c.sh` has built, by what their users see (`examples.py`). Takes the path of the program.
+# Runs each script of examples/ and compares its account, and the pictures of turns and of a restart. Runs the examples of a panel and of a
+# reader, in Python and in C over the archive that `c.sh` has built, by what their users see (`examples.py`). Takes the path of the program.
 set -uo pipefail
 program=$(cd "$(dirname "$1")" && pwd)/$(basename "$1")
 failed=0
@@ -14,6 +14,7 @@ for script in *.script; do
 done
 
 python3 ../tests/turns.py "$program" || failed=1
+timeout 60 python3 ../tests/restart.py "$program" || failed=1
 
 work=$(mktemp -d)
 trap 'rm -rf "$work"' EXIT
