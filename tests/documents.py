@@ -14,7 +14,7 @@
 - Each picture of an exchange in docs/PROTOCOL.md has the steps of the script named above it, whose account examples.sh compares with a run, and tells that account.
 - man/osdp.1 has each text that the program prints on standard error.
 - Each crate, script and folder that any page names is there; a name with `osdp_` may be one of the header for C too.
-- No page, manual page or script says "behind" or "want of memory".
+- No page, manual page or script says "behind" or "want of memory". No sentence of a page has more than 60 words, but in the list of what is left to do.
 - README has at most 120 lines of at most 120 characters, docs/DEVELOPING.md at most 120, docs/ARCHITECTURE.md at most 300, docs/GUIDE.md at most 450, and no row of a
   table more than 200 characters."""
 import re
@@ -355,6 +355,21 @@ def judge_words():
             faults.append(f"{file.relative_to(TOP)}: says {word}")
 
 
+def sentences(text):
+    """The sentences of a page: of its paragraphs, the items of its lists and the cells of its tables. Code is left out."""
+    text = re.sub(r"^```.*?^```$", "", text, flags=re.M | re.S)
+    for part in re.split(r"\n\s*\n|^\||\n\||\n#|\n\s*(?:[-*]|\d+\.) ", text):
+        for cell in part.split(" | "):
+            yield from re.split(r"(?<=[.:?!])\s+(?=[A-Z`*\[])", " ".join(cell.split()))
+
+
+def judge_sentences(page):
+    """Any page: no sentence is longer than can be read at once."""
+    for sentence in sentences((TOP / page).read_text().split("\n## Next\n")[0]):
+        if len(sentence.split()) > 60:
+            faults.append(f"{page}: {len(sentence.split())} words: {sentence[:60]}")
+
+
 def judge_lengths():
     """The first page and the page for developers are short."""
     readme = (TOP / "README.md").read_text().splitlines()
@@ -379,6 +394,7 @@ if __name__ == "__main__":
         judge_page(each_page, every)
         judge_code(each_page)
         judge_links(each_page)
+        judge_sentences(each_page)
     judge_messages()
     judge_words()
     judge_lengths()
