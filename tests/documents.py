@@ -6,12 +6,14 @@
 - Each path that README names is there, and a law that stands in one row with a path is a law of that file.
 - docs/ARCHITECTURE.md has the picture and the table that tools/map makes of crates.txt. Each definition that it names is there.
   Each file of src/ and specs/, but for tests, says at its head what it holds.
-- docs/HEADLINE.md quotes the law `calls_hold_once` and each definition that it names, as it stands in the file named above it, and quotes no other. What these name
-  and it doesn't quote stands in its table of words, with the file that has it, and no other word does.
-- Each block of code of a page is text of the file that the line above it names. Each link of a page goes to a file, and to a heading of it. Each topic that docs/PROFILE.md names is one of
-  docs/PROTOCOL.md, and each topic there that has a choice of our own is named.
+- docs/HEADLINE.md quotes the law `calls_hold_once` and each definition that it names, as it stands in the file named above it, and quotes no other.
+  What these name and it doesn't quote stands in its table of words, with the file that has it, and no other word does. The crates of its last table
+  have the laws and definitions that the rows name.
+- Each block of code of a page is text of the file that the line above it names. Each link of a page goes to a file, and to a heading of it.
+- Each topic that docs/PROFILE.md names is one of docs/PROTOCOL.md, and each topic there that has a choice of our own is named.
 - docs/PROFILE.md calls whole those codes that docs/PROTOCOL.md has in its tables of messages, and gives no code two rows.
-- Each picture of an exchange in docs/PROTOCOL.md has the steps of the script named above it, whose account examples.sh compares with a run, and tells that account.
+- Each picture of an exchange in docs/PROTOCOL.md has the steps of the script named above it, whose account examples.sh compares with a run, and tells that account. (turns.py and
+  restart.py hold the two that show more.)
 - man/osdp.1 has each text that the program prints on standard error.
 - Each crate, script and folder that any page names is there; a name with `osdp_` may be one of the header for C too.
 - No page, manual page or script says "behind" or "want of memory". No sentence of a page has more than 60 words, but in the list of what is left to do.
@@ -66,7 +68,7 @@ def rows(body):
             yield [cell.strip() for cell in re.split(r"(?<!\\)\|", line)[1:-1]]
 
 
-def judge_row(heading, cell, known_laws, words, files):
+def judge_row(where, cell, known_laws, words, files):
     """Looks up what the last cell of a row names."""
     kind = None
     for said, name in NAMED.findall(cell):
@@ -76,11 +78,11 @@ def judge_row(heading, cell, known_laws, words, files):
             kind = None
         if "/" in name or name.endswith(".rt"):
             if not any((TOP / "crates" / crate / name).exists() for crate in files):
-                faults.append(f"docs/PROOFS.md, {heading}: there is no file {name}")
+                faults.append(f"{where}: there is no file {name}")
         elif kind == "law" and name[0].islower() and WORD.findall(name)[-1] not in known_laws:
-            faults.append(f"docs/PROOFS.md, {heading}: there is no law {name}")
+            faults.append(f"{where}: there is no law {name}")
         elif not all(word in words for word in WORD.findall(name)):
-            faults.append(f"docs/PROOFS.md, {heading}: {name} is not in {', '.join(files)}")
+            faults.append(f"{where}: {name} is not in {', '.join(files)}")
 
 
 def moves_drawn(picture):
@@ -130,7 +132,7 @@ def judge_proofs(all_crates):
         text = "\n".join(sources(crate, "src", "specs") for crate in named)
         known_laws, words = laws(text), set(WORD.findall(text))
         for cells in rows(body):
-            judge_row(heading, cells[-1], known_laws, words, named)
+            judge_row(f"docs/PROOFS.md, {heading}", cells[-1], known_laws, words, named)
     for crate in all_crates:
         for law in sorted(laws(sources(crate, "src"))):
             if not re.search(rf"`(?:\w+::)*{law}`", told.get(crate, "")):
@@ -276,6 +278,13 @@ def judge_headline():
             faults.append(f"{page}: {name} is not in {files}")
     if len(quoted) < 30:
         faults.append(f"{page}: quotes are not there")
+    carried = [cells for cells in rows(text[text.index("## From the statement") :]) if len(cells) == 3][1:]
+    for crates_cell, _, carriers in carried:
+        named = re.findall(r"`(\w+)`", crates_cell)
+        source = "\n".join(sources(crate, "src", "specs", "proofs") for crate in named)
+        judge_row(page, carriers, laws(source), set(WORD.findall(source)), named)
+    if len(carried) < 8:
+        faults.append(f"{page}: the crates from the statement to the bytes are not there")
 
 
 def topics_chosen(text):
