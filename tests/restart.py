@@ -43,12 +43,19 @@ class End:
         self.process.communicate()
 
 
+def new_reader():
+    """A reader with one output, whose power has just come."""
+    reader = End("reader", "address", "5")
+    reader.call("outputs 00")
+    return reader
+
+
 class Line:
     """Both ends, and the moment."""
 
     def __init__(self):
         self.now = 0
-        self.panel, self.reader = End("panel"), End("reader", "address", "5")
+        self.panel, self.reader = End("panel"), new_reader()
 
     def packet(self, end, way, text, number):
         """Takes the one packet that this end has sent, which must be this message."""
@@ -57,7 +64,7 @@ class Line:
         digits = end.sent.pop()
         shown = subprocess.run([PROGRAM, "show"], input=digits, capture_output=True, text=True, check=True).stdout
         if shown != f"1:0 {way} 5 seq {number} crc {text}\n":
-            fail(f"{text}, number {number}: {shown}")
+            fail(f"{text}, number {number}: {shown.strip()}")
         return digits
 
     def asks(self, text, number):
@@ -81,7 +88,7 @@ class Line:
             self.now += int(pause[1])
         elif who == "reader" and what == "restarts":
             self.reader.stop()
-            self.reader = End("reader", "address", "5")
+            self.reader = new_reader()
         elif call := re.fullmatch(r"(submit|begin)(.*)", what):
             self.panel.at(self.now, f"{call[1]} 1{call[2]}")
         else:
