@@ -121,6 +121,25 @@ printf '%s' "$poll" | cmp -s - "$work/out" || { echo 'a line that stays open: it
 exec 7>&-
 wait $! || { echo "a line that stays open: status $?"; failed=1; }
 
+# So are the packets of a first read that gives all that was asked for, 65,536 bytes: 9,362 packets, and two bytes of the next one. The bytes
+# stand in the pipe before the program begins, so that one read takes all.
+poll_packets() {
+  yes 53000700006046 | head -n "$1" | tr -d '\n' | python3 -c 'import sys; sys.stdout.buffer.write(bytes.fromhex(sys.stdin.read()))'
+}
+mkfifo "$work/full"
+exec 7<>"$work/full" 8<"$work/full"
+poll_packets 9363 | head -c 65536 >&7
+"$program" show --raw <&8 7>&- 8<&- >"$work/out" &
+for _ in 1 2 3 4 5 6 7 8 9 10; do
+  [ "$(wc -l <"$work/out")" -eq 9362 ] && break
+  sleep 0.1
+done
+[ "$(wc -l <"$work/out")" -eq 9362 ] || { echo "a full first read: $(wc -l <"$work/out") packets are shown, wanted 9362"; failed=1; }
+poll_packets 1 | tail -c 5 >&7
+exec 7>&- 8<&-
+wait $! || { echo "a full first read: status $?"; failed=1; }
+[ "$(wc -l <"$work/out")" -eq 9363 ] || { echo 'a full first read: the last packet is not shown'; failed=1; }
+
 # A reader that stops after the first line.
 yes 53000700006046 | head -n 100000 | "$program" show 2>"$work/err" | head -n 1 >"$work/out"
 status=${PIPESTATUS[2]}

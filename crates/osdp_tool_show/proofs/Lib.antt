@@ -1,6 +1,6 @@
 pub mod Beginnings
 pub mod Reports
-pub mod ShortReads
+pub mod AfterReads
 pub mod Drains
 pub mod Standing
 pub mod WholeItems

@@ -140,12 +140,11 @@ impl Capture {
         Ok(true)
     }
 
-    /// The capture goes on by what one read gave; false where a bad line has ended. Where that is less than there was room for, the
-    /// next bytes may be a while in coming, so what waits is written out.
+    /// The capture goes on by what one read gave; false where a bad line has ended. The next bytes may be a while in coming, so what waits
+    /// is written out.
     pub fn take_read<W: Write>(
         &mut self,
         piece: &[u8],
-        room: usize,
         output: &mut Watched<W>,
     ) -> Result<bool, ToolFault>
         requires settled { IsSettled self.old.framer }
@@ -153,7 +152,7 @@ impl Capture {
         ensures step { IsStep result (has_failed output.old) (has_failed output.new) }
         ensures took { IfOk result (λ good. TookPart piece.now good self.old self.new
             (written_or_held (W.contents (inner_of output.old)) self.old.report) (written_or_held (W.contents (inner_of output.new)) self.new.report)) }
-        ensures waits { IfOk result (λ good. length piece.now < room → string_bytes self.new.report.text ≡ []) }
+        ensures waits { OnOk result (string_bytes self.new.report.text ≡ []) }
         ensures stops { OnErr result (StopsInPiece piece.now self.old (written_or_held (W.contents (inner_of output.old)) self.old.report) (W.contents (inner_of output.new))) }
     {
         let good = match self.form {
@@ -163,9 +162,7 @@ impl Capture {
             }
             Form::Joined | Form::Apart => self.take_lines(piece, output)?,
         };
-        if piece.len() < room {
-            self.report.write_out(output)?;
-        }
+        self.report.write_out(output)?;
         Ok(good)
     }
 }

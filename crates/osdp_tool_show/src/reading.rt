@@ -9,9 +9,6 @@ use crate::capture::Capture;
 use osdp_tool_streams::{Piece, ToolFault, Watched, read_piece};
 use std::io::{Read, Write};
 
-/// At most so many bytes are asked for at once.
-const PIECE: usize = 65536;
-
 /// Why no more is read.
 #[derive(Clone, Copy)]
 pub enum Ending {
@@ -56,9 +53,8 @@ impl Capture {
                 Ok(Piece::PastLimit) => return Ok(Ending::PastLimit),
                 Err(_) => return Ok(Ending::AtFailedRead),
             };
-            let room = left.min(PIECE);
             left -= count;
-            if !self.take_read(&piece[..count], room, output)? {
+            if !self.take_read(&piece[..count], output)? {
                 return Ok(Ending::AtBadLine);
             }
         }

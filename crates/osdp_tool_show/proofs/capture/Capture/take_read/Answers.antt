@@ -4,7 +4,7 @@ use Rattle.osdp_tool_show.specs.Machine.{written_or_held}
 use Rattle.osdp_tool_show.specs.Capture.{TookPart}
 use Rattle.osdp_tool_show.proofs.Beginnings.{on_err}
 use Rattle.osdp_tool_show.proofs.Pieces.{took_raw}
-use Rattle.osdp_tool_show.proofs.ShortReads.{stops_written}
+use Rattle.osdp_tool_show.proofs.AfterReads.{stops_written}
 use Rattle.osdp_tool_show.proofs.Stopping.{stops_raw}
 use Rattle.osdp_tool_show.proofs.capture.Capture.take_read.Goals as goal
 use Rattle.osdp_tool_show.proofs.capture.Capture.take_read.Goals.{in-Raw+in_ok-take-in-Raw, in-Joined+in_ok-good-in-Joined}
