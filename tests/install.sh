@@ -1,7 +1,8 @@
 #!/usr/bin/env bash
 # Installs what the gate has proved into a temporary folder, and looks at what is there: the program, its pages, the library for C, with which a program
 # is compiled by pkg-config and run, the examples, and the crate for Rust, whose example is run. Installs a second time, and into a folder where nothing
-# may be written. From a tree in which nothing is proved nothing is put in place. Takes the path of the program; the archive is that which `c.sh` has built.
+# may be written. From a tree in which nothing is proved nothing is put in place, nor where a crate isn't proved. Takes the path of the program; the archive
+# is that which `c.sh` has built.
 set -u
 cd "$(dirname "$0")/.." || exit 1
 CC=${CC:-cc}
@@ -69,6 +70,23 @@ touch "$work/file"
 mkdir -p "$work/tree/include" && cp install crates.txt "$work/tree/" && cp include/osdp.h "$work/tree/include/"
 "$work/tree/install" --proved --prefix "$work/nothing" >"$work/said" 2>&1
 { [ $? -eq 1 ] && [ ! -e "$work/nothing" ]; } || fail 'from a tree in which nothing is proved something was put in place'
+
+# A crate that isn't proved: it is not counted as done, what is wrong with it is said, and nothing is put in place. `rt` is a stand-in here.
+mkdir -p "$work/stand_in" "$work/tree/crates/osdp"
+cat >"$work/stand_in/rt" <<'END'
+#!/bin/sh
+printf '== osdp_check\nfn a: proved\ncrate osdp_check: modules loaded=1 checked=1\n'
+printf '== osdp_words\n./proofs/A.antt:8:13: error: open\ncrate osdp_words: modules loaded=1 checked=1\nlogic=not-proved\n'
+printf '== summary\nosdp_check: ok\nosdp_words: failed (1)\n1 of 2 crates ok\n'
+exit 1
+END
+chmod +x "$work/stand_in/rt"
+PATH=$work/stand_in:$PATH "$work/tree/install" --jobs 1 --prefix "$work/nothing" >"$work/said" 2>&1
+[ $? -eq 1 ] || fail 'where a crate is not proved the status is not 1'
+grep -q '^1 of [0-9]* osdp_check ' "$work/said" || fail 'a crate that is proved is not counted'
+grep -q '^[0-9]* of [0-9]* osdp_words' "$work/said" && fail 'a crate that is not proved is counted'
+grep -qF '== osdp_words ./proofs/A.antt:8:13: error: open' "$work/said" || fail 'it does not say what is not proved'
+[ ! -e "$work/nothing" ] || fail 'where a crate is not proved something was put in place'
 
 python=$(python3 -c 'import sys; print(sys.executable)')
 PATH=$work "$python" ./install --check >"$work/said" 2>&1
