@@ -67,7 +67,8 @@ touch "$work/file"
 ./install --proved --prefix "$work/file/below" >"$work/said" 2>&1
 { [ $? -eq 1 ] && [ "$(wc -l <"$work/said")" -eq 1 ]; } || { cat "$work/said"; fail 'a folder that cannot be made: not one line and status 1'; }
 
-mkdir -p "$work/tree/include" && cp install crates.txt "$work/tree/" && cp include/osdp.h "$work/tree/include/"
+mkdir -p "$work/tree/include" "$work/tree/rust" && cp install crates.txt "$work/tree/" && cp include/osdp.h "$work/tree/include/"
+cp rust/Cargo.toml "$work/tree/rust/"
 "$work/tree/install" --proved --prefix "$work/nothing" >"$work/said" 2>&1
 { [ $? -eq 1 ] && [ ! -e "$work/nothing" ]; } || fail 'from a tree in which nothing is proved something was put in place'
 
@@ -88,10 +89,15 @@ grep -q '^[0-9]* of [0-9]* osdp_words' "$work/said" && fail 'a crate that is not
 grep -qF '== osdp_words ./proofs/A.antt:8:13: error: open' "$work/said" || fail 'it does not say what is not proved'
 [ ! -e "$work/nothing" ] || fail 'where a crate is not proved something was put in place'
 
+# a cargo that is too old for the crate for Rust
+printf '#!/bin/sh\necho "cargo 1.85.0"\n' >"$work/stand_in/cargo" && chmod +x "$work/stand_in/cargo"
+PATH=$work/stand_in:$PATH ./install --check >"$work/said" 2>&1
+grep -q '^missing, and can be done without: cargo [0-9.]* or later: ' "$work/said" || fail '--check does not say that cargo is too old'
+
 python=$(python3 -c 'import sys; print(sys.executable)')
 PATH=$work "$python" ./install --check >"$work/said" 2>&1
 [ $? -eq 1 ] || fail 'on a machine without tools --check ends well'
-for package in gcc binutils man-db pkgconf cargo; do
+for package in gcc binutils man-db pkgconf rustup; do
   grep -q "Debian package $package\$" "$work/said" || fail "--check does not name the package $package"
 done
 
