@@ -129,8 +129,9 @@ poll_packets() {
 mkfifo "$work/full"
 exec 7<>"$work/full" 8<"$work/full"
 poll_packets 9363 | head -c 65536 >&7
-"$program" show --raw <&8 7>&- 8<&- >"$work/out" &
-for _ in 1 2 3 4 5 6 7 8 9 10; do
+: >"$work/out"
+"$program" show --raw <&8 7>&- 8<&- >>"$work/out" &
+for _ in {1..100}; do
   [ "$(wc -l <"$work/out")" -eq 9362 ] && break
   sleep 0.1
 done
