@@ -37,6 +37,17 @@
  * - Moments are taken after the read, of a clock that doesn't go backwards. One wrong moment that lies far ahead ends every session, and stays the greatest one
  *   seen: until the clock reaches it, time stands still for the machine. Free it then, and make it anew.
  * - A machine that isn't freed is leaked.
+ *
+ * What is promised of a line, where both ends are these machines and one panel speaks: in each session orders are taken once and in order, each settled with the
+ * answer that the device gave, and events are told once and in order, but those that a restart of the device threw away. No order that the panel accepted is
+ * taken twice (docs/HEADLINE.md). That holds of any calls, at any moments, however bytes are cut. Four things are asked, and these are the program's part of them:
+ *
+ * - In order. Bytes are handed in as they come, each once, to the machine whose line they came on.
+ * - Quiet opening. What was said before a session's opening doesn't come after it: the quiet wait is longer than a line, or a radio on it, holds a packet back.
+ * - Addresses. No two devices are given one address. After an order that sets one, and until the session after it has opened, the device may be at either: write
+ *   both down before the order goes out, give neither to another device, and retarget to these two alone. A panel that starts again takes each device where it
+ *   was, or where such an order may have taken it. A device that starts again starts at the address that it has kept.
+ * - Set-up. Devices are added at different addresses, each with its device there, before anything is said.
  */
 #ifndef OSDP_H
 #define OSDP_H
