@@ -10,6 +10,7 @@
   What these name and it doesn't quote stands in its table of words, with the file that has it, and no other word does. The crates of its last table
   have the laws and definitions that the rows name.
 - Each block of code of a page is text of the file that the line above it names. Each link of a page goes to a file, and to a heading of it.
+  Where a page begins with its contents they have each of its parts.
 - Each topic that docs/PROFILE.md names is one of docs/PROTOCOL.md, and each topic there that has a choice of our own is named.
 - docs/PROFILE.md calls whole those codes that docs/PROTOCOL.md has in its tables of messages, and gives no code two rows.
 - Each picture of an exchange in docs/PROTOCOL.md has the steps of the script named above it, whose account examples.sh compares with a run, and tells that account. (turns.py and
@@ -205,7 +206,12 @@ def anchor(heading):
 
 
 def judge_links(page):
-    """Any page: what its links go to is there."""
+    """Any page: what its links go to is there. Where it begins with its contents each part is among them."""
+    text = (TOP / page).read_text()
+    if "\n| Part | What it is for |\n" in text:
+        for heading in re.findall(r"^## (.*)$", text, re.M):
+            if f"](#{anchor(heading)})" not in text:
+                faults.append(f"{page}: its contents don't have {heading}")
     for path, part in re.findall(r"\]\(([^)#:]*)(?:#([^)]*))?\)", (TOP / page).read_text()):
         file = ((TOP / page).parent / path).resolve() if path else TOP / page
         if not file.exists():
