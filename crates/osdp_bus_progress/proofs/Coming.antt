@@ -61,7 +61,7 @@ use Rattle.osdp_bus_progress.proofs.Bursts.{at_each}
 use Rattle.osdp_bus_progress.proofs.Ends.{NoEnd, lasts_there, none_before_rounds}
 use Rattle.osdp_bus_progress.proofs.Round.{fits_first, fits_then, AtRest, LinkLaws, site_within, sited}
 use Rattle.osdp_bus_progress.proofs.Rounds.{HasRounds, all_rounds, all_turns}
-use Rattle.osdp_bus_progress.proofs.Turns.{IsTurn, once_around, some_turn}
+use Rattle.osdp_bus_progress.proofs.Turns.{IsAway, IsTurn, once_around, some_turn}
 
 -- ---- lists
 
@@ -136,49 +136,55 @@ module _ {H : Type 0} (answer_of : H → Command → Answer) (after : H → Comm
       (in_time : progress.ComesThroughInTime answer_of after) (stays : StayWhereTheyAre answer_of after) (ranges : StaysInRange)
       (comes : ComesDue) where
     module _ (config : BusConfig) (readers : List (Given H)) (steps : List SimStep) (m wait : ℕ)
-        (is : IsRun answer_of after config readers (steps ++ rounds m wait)) (within : All IsInSession steps)
-        (long : longest_wait (controller_config 0 config) ≤ wait)
-        (clear : IsClear (simulation.run answer_of after steps (set_up config readers))) where
-      abbrev start : LineState H
+        (is : IsRun answer_of after config readers (steps ++ rounds m wait)) (within : All IsInSession steps) where
+      abbrev pub start : LineState H
       start = set_up config readers
 
-      abbrev s : LineState H
+      abbrev pub s : LineState H
       s = simulation.run answer_of after steps start
 
-      abbrev later : LineState H
+      abbrev pub later : LineState H
       later = simulation.run answer_of after (rounds m wait) s
 
-      abbrev first : Net H
+      abbrev pub first : Net H
       first = first_net config readers
 
-      up : IsSetUp first
+      pub up : IsSetUp first
       up = is_set_up config readers is.settings
 
-      -- the steps, and the first so many of the rounds after them, are moves of all sites
-      done : (r : ℕ) → r ≤ m → AreItsMoves answer_of after (steps ++ rounds r wait) start first
-      done r few =
+      -- the steps, and the first so many of the rounds after them
+      pub fewer : (r : ℕ) → r ≤ m → IsRun answer_of after config readers (steps ++ rounds r wait)
+      fewer r few =
           let all = subst (λ l. IsRun answer_of after config readers (steps ++ l)) (split_rounds r m wait few) is in
           let before = subst (IsRun answer_of after config readers) (sym (append_assoc steps (rounds r wait) (rounds (m - r) wait))) all in
-          schedules (steps ++ rounds r wait) start first up (none_is_kept config readers) (follows_first config readers)
-          (well_on (after_step answer_of after) fault_of (steps ++ rounds r wait) (rounds (m - r) wait) start before.well).0
-          (holds_on (after_step answer_of after) (StepFits answer_of after) (steps ++ rounds r wait) (rounds (m - r) wait) start before.fits).0
+          record {
+            settings = before.settings;
+            well = (well_on (after_step answer_of after) fault_of (steps ++ rounds r wait) (rounds (m - r) wait) start before.well).0;
+            fits = (holds_on (after_step answer_of after) (StepFits answer_of after) (steps ++ rounds r wait) (rounds (m - r) wait) start before.fits).0;
+          }
+
+      -- they are moves of all sites
+      done : (r : ℕ) → r ≤ m → AreItsMoves answer_of after (steps ++ rounds r wait) start first
+      done r few =
+          let before = fewer r few in
+          schedules (steps ++ rounds r wait) start first up (none_is_kept config readers) (follows_first config readers) before.well before.fits
 
       no_rounds : moves_of answer_of after (steps ++ rounds 0 wait) start ≡ moves_of answer_of after steps start
       no_rounds = ap (λ l. moves_of answer_of after l start) (append-nil steps)
 
-      abbrev n : Net H
+      abbrev pub n : Net H
       n = run answer_of after (moves_of answer_of after steps start) first
 
-      abbrev round_moves : ℕ → List (NetMove H)
+      abbrev pub round_moves : ℕ → List (NetMove H)
       round_moves r = moves_of answer_of after (rounds r wait) s
 
       -- what comes of the steps and so many rounds, in two
-      both_are : (r : ℕ) → run answer_of after (moves_of answer_of after (steps ++ rounds r wait) start) first ≡ run answer_of after (round_moves r) n
+      pub both_are : (r : ℕ) → run answer_of after (moves_of answer_of after (steps ++ rounds r wait) start) first ≡ run answer_of after (round_moves r) n
       both_are r =
           ap (λ ms. run answer_of after ms first) (moves_more answer_of after steps (rounds r wait) start)
           ∙ net_run_more answer_of after (moves_of answer_of after steps start) (round_moves r) first
 
-      goes : (r : ℕ) → r ≤ m → FollowsSites (simulation.run answer_of after (rounds r wait) s) (run answer_of after (round_moves r) n)
+      pub goes : (r : ℕ) → r ≤ m → FollowsSites (simulation.run answer_of after (rounds r wait) s) (run answer_of after (round_moves r) n)
       goes r few =
           subst (λ t. FollowsSites t (run answer_of after (round_moves r) n)) (runs_on (after_step answer_of after) steps (rounds r wait) start)
           (subst (FollowsSites (simulation.run answer_of after (steps ++ rounds r wait) start)) (both_are r) (done r few).follows)
@@ -189,25 +195,25 @@ module _ {H : Type 0} (answer_of : H → Command → Answer) (after : H → Comm
       fits : NetMovesFit answer_of after (moves_of answer_of after steps start) first
       fits = fits_first answer_of after (moves_of answer_of after steps start) (round_moves m) first all_fit
 
-      rounds_fit : NetMovesFit answer_of after (round_moves m) n
+      pub rounds_fit : NetMovesFit answer_of after (round_moves m) n
       rounds_fit = fits_then answer_of after (moves_of answer_of after steps start) (round_moves m) first all_fit
 
       follows : FollowsSites s n
       follows = goes 0 (omega arith)
 
       -- each reader has its site from the beginning on
-      counted : length s.sites ≡ length readers
+      pub counted : length s.sites ≡ length readers
       counted = sym (mapped_count (λ (site : ReaderSite H). site.account) s.sites) ∙ counts config readers steps
         where
           mapped_count : {A B : Type 0} (f : A → B) (xs : List A) → length (map f xs) ≡ length xs
           mapped_count f [] = refl
           mapped_count f (x ∷ xs) = ap suc (mapped_count f xs)
 
-      sites_count : length n.sites ≡ length readers
+      pub sites_count : length n.sites ≡ length readers
       sites_count = sym (same_count s.sites n.sites follows.sites) ∙ counted
 
       -- its link so far
-      record HasLink (k : ℕ) (t : line.Site H) : Type 0 where
+      pub record HasLink (k : ℕ) (t : line.Site H) : Type 0 where
         pub given : Given H
         pub begins : site_at k first.sites ≡ Some (first_site config given)
         pub its : IsItsLink answer_of after k (first_site config given) (moves_of answer_of after steps start) first
@@ -215,7 +221,7 @@ module _ {H : Type 0} (answer_of : H → Command → Answer) (after : H → Comm
         pub row : AreItsSessions answer_of after k (first_site config given) t (moves_of answer_of after steps start) first
         pub steady : Each IsSteady (runs.moves_of answer_of after k (moves_of answer_of after steps start) first)
 
-      link_at : (k : ℕ) (t : line.Site H) → site_at k n.sites ≡ Some t → HasLink k t
+      pub link_at : (k : ℕ) (t : line.Site H) → site_at k n.sites ≡ Some t → HasLink k t
       link_at k t at =
           let few = site_within k t n.sites at in
           let same = sites_count in
@@ -234,152 +240,168 @@ module _ {H : Type 0} (answer_of : H → Command → Answer) (after : H → Comm
                 (moves_usual answer_of after ms k first (each_of IsScheduled ms (subst (λ r. All IsScheduled r) no_rounds (done 0 (omega arith)).scheduled)));
           }
 
-      ready_at : (k : ℕ) (u : ReaderSite H) → slice_get s.sites k ≡ Some u → IsReady u
-      ready_at k u at = get_each IsReady k u s.sites (each_of IsReady s.sites clear.readers) at
-
-      empty : IsEmpty n
-      empty = record {
-        coming = λ k t at. at_each (λ (u : line.Site H). u.coming ≡ follows.said) k t n.sites follows.coming at ∙ none_on follows.said (sym follows.to_readers ∙ clear.to_readers);
-        to_panel = none_on n.to_panel (sym follows.to_bus ∙ clear.to_bus);
-      }
-
-      clear_at : (k : ℕ) (t : line.Site H) → site_at k n.sites ≡ Some t → progress.IsClear (view k t n)
-      clear_at k t at =
-          let l = link_at k t at in
-          let u = get_site k t s.sites n.sites follows.sites at in
-          let ready = ready_at k u.0 u.1 in
-          let ms = runs.moves_of answer_of after k (moves_of answer_of after steps start) first in
-          let old = view k (first_site config l.given) first in
-          let begun = up.begins k (first_site config l.given) l.begins in
-          let issued = each_of SetsNoAddress u.0.account.issued ready.issued in
-          let submitted = subst (Each SetsNoAddress) (u.2.tells.issued ∙ sym l.row.commands) issued in
-          let stay = stays old ms begun l.its.fits (each_all SetsNoAddress (old.controller.waiting ++ all_submitted answer_of after ms old) submitted)
-          (set_no_other old.reader.config.address old.controller.session.config.address ms l.steady) in
-          let moved = l.moved in
-          record {
-            to_reader = ap (own k) (empty.coming k t at);
-            to_controller = ap (own k) empty.to_panel;
-            address = ap (λ (v : Link H). v.reader.config.address) moved ∙ stay.0 ∙ up.together k (first_site config l.given) l.begins ∙ sym stay.1
-                ∙ sym (ap (λ (v : Link H). v.controller.session.config.address) moved);
-            ready = sym (ap (λ r. r.busy) u.2.reader) ∙ ready.ready;
-            issued = each_all SetsNoAddress t.account.issued
-                (each_rest SetsNoAddress (ended_commands t.earlier) t.account.issued (subst (Each SetsNoAddress) u.2.tells.issued issued));
-          }
-
-      entries_count : length s.bus.devices.entries ≡ length readers
-      entries_count = ap length follows.bus.entries ∙ length-map n.sites device_of ∙ sites_count
-
-      at_rest : (k : ℕ) (t : line.Site H) → site_at k n.sites ≡ Some t → NoEnd k later → (entry : ℕ) → entry < length readers → IsTurn entry s.bus
-          → AtRest answer_of after laws (length readers) wait k entry s n
-      at_rest k t at none entry below turn = record {
-        follows = follows;
-        apart = apart_all answer_of after laws.known (moves_of answer_of after steps start) first fits (apart_first first up);
-        in_time = run_at_all answer_of after ranges wait steps start (each_of IsInSession steps within) (first_at answer_of after ranges wait config readers long);
-        empty = empty;
-        led = λ i u there. let l = link_at i u there in record {
-          first = view i (first_site config l.given) first;
-          moves = runs.moves_of answer_of after i (moves_of answer_of after steps start) first;
-          begins = up.begins i (first_site config l.given) l.begins;
-          fits = l.its.fits;
-          leads = l.moved;
-        };
-        clear = λ i u there unended. clear_at i u there;
-        lasts = none_before_rounds answer_of after k m wait s none;
-        there = (t, at);
-        count_is = sites_count;
-        below = below;
-        turn = turn;
-      }
-
       -- one session each
-      one_at : (k : ℕ) (u : ReaderSite H) → slice_get s.sites k ≡ Some u → HasOne u.account
+      pub one_at : (k : ℕ) (u : ReaderSite H) → slice_get s.sites k ≡ Some u → HasOne u.account
       one_at k u at =
           get_each (λ (v : ReaderSite H). HasOne v.account) k u s.sites
           (one_run answer_of after steps start (each_of IsInSession steps within) (one_first readers)) at
 
-      one_later : (k : ℕ) (u : ReaderSite H) → slice_get later.sites k ≡ Some u → HasOne u.account
+      pub one_later : (k : ℕ) (u : ReaderSite H) → slice_get later.sites k ≡ Some u → HasOne u.account
       one_later k u at =
           get_each (λ (v : ReaderSite H). HasOne v.account) k u later.sites
           (one_run answer_of after (rounds m wait) s (rounds_within m wait)
           (one_run answer_of after steps start (each_of IsInSession steps within) (one_first readers))) at
 
-      -- the rounds of one reader
-      its_rounds : (k : ℕ) (t : line.Site H) → site_at k n.sites ≡ Some t → NoEnd k later
-          → HasRounds answer_of after laws ranges comes (length readers) wait k t m (length readers - 1) s n
-      its_rounds k t at none =
-          let few = site_within k t n.sites at in
-          let same = sites_count in
-          let entries = entries_count in
-          let turn = some_turn s.bus (omega (arith, few, same, entries)) in
-          let below : turn.0 < length readers = let under = turn.1 in omega (arith, under, entries) in
-          all_rounds answer_of after laws ranges comes (length readers) wait k m turn.0 (length readers - 1) s n
-          (at_rest k t at none turn.0 below turn.2) goes rounds_fit none t at (once_around (length readers) turn.0 k below (omega (arith, few, same)))
+      module _ (long : longest_wait (controller_config 0 config) ≤ wait)
+          (clear : IsClear (simulation.run answer_of after steps (set_up config readers))) where
+        ready_at : (k : ℕ) (u : ReaderSite H) → slice_get s.sites k ≡ Some u → IsReady u
+        ready_at k u at = get_each IsReady k u s.sites (each_of IsReady s.sites clear.readers) at
 
-      comes_on : (k : ℕ) (u v : ReaderSite H) → slice_get s.sites k ≡ Some u → slice_get later.sites k ≡ Some v → v.account.ends ≡ []
-          → ComesOn m (length readers) u.account v.account
-      comes_on k u v at there none =
-          let no_end : NoEnd k later = λ w here. subst (λ (x : ReaderSite H). x.account.ends ≡ []) (some_same v w (sym there ∙ here)) none in
-          let few = get_within k u s.sites at in
-          let same = counted in
-          let total = sites_count in
-          let t = sited k n.sites (omega (arith, few, same, total)) in
-          let l = link_at k t.0 t.1 in
-          let has = its_rounds k t.0 t.1 no_end in
-          let ms = runs.moves_of answer_of after k (moves_of answer_of after steps start) first in
-          let old = view k (first_site config l.given) first in
-          let begun = up.begins k (first_site config l.given) l.begins in
-          let last_net = run answer_of after (round_moves m) n in
-          let last_follows = goes m (omega arith) in
-          let machine = controller_config l.given.0.address config in
-          let range : IsInRange old.controller.session = ranges.later (new_machine machine config.capacity) (Begin 0 ∷ []) (ranges.new machine config.capacity) in
-          let through = in_time old ms has.moments begun range l.its.fits
-          (subst progress.IsClear l.moved (clear_at k t.0 t.1))
-          (subst (progress.AreLate answer_of after has.moments) l.moved has.late)
-          (subst (MovesFit answer_of after (progress.rounds has.moments)) l.moved has.fits) in
-          let last = has.seen_then.site in
-          let then_ : view k last last_net ≡ link.run answer_of after (progress.rounds has.moments) (link.run answer_of after ms old) =
-          has.seen_then.seen ∙ ap (link.run answer_of after (progress.rounds has.moments)) l.moved in
-          let u_is = get_site k t.0 s.sites n.sites follows.sites t.1 in
-          let v_is = get_site k last later.sites last_net.sites last_follows.sites has.seen_then.there in
-          let u_same : u_is.0 ≡ u = some_same u_is.0 u (sym u_is.1 ∙ at) in
-          let v_same : v_is.0 ≡ v = some_same v_is.0 v (sym v_is.1 ∙ there) in
-          let u_long = as_long u_is.0.account t.0.account t.0.earlier (none_earlier u_is.0.account t.0.account t.0.earlier u_is.2.tells (one_at k u_is.0 u_is.1)) u_is.2.tells in
-          let v_long = as_long v_is.0.account last.account last.earlier (none_earlier v_is.0.account last.account last.earlier v_is.2.tells (one_later k v_is.0 v_is.1)) v_is.2.tells in
-          let so = moves_so answer_of after (progress.rounds has.moments) (link.run answer_of after ms old) (rounds_ordinary H has.moments)
-          (moves_so answer_of after ms old (steady_ordinary ms l.steady) (begins_so old begun)) in
-          let kept : last.account.kept ≡ last.account.queued = subst (λ (x : Link H). x.account.kept ≡ x.account.queued) (sym then_) so.0.kept in
-          let turns = m / length readers in
-          let part = share m (length readers) in
-          let enough : turns ≤ length has.moments = has.enough turns (omega (arith, part)) in
-          subst (λ (x : ReaderSite H). ComesOn m (length readers) x.account v.account) u_same
-          (subst (λ (y : ReaderSite H). ComesOn m (length readers) u_is.0.account y.account) v_same
-          (elim through [
-            | inl closed ↦ absurd (lasts_there k later last_net last_follows no_end last has.seen_then.there (ap (λ (x : Link H). x.controller.session.state) then_ ∙ closed))
-            | inr on ↦ (
-                let counted_on : progress.ComeOn has.moments t.0.account last.account =
-                subst (λ (x : Link H). progress.ComeOn has.moments x.account last.account) (sym l.moved)
-                (subst (λ (x : Link H). progress.ComeOn has.moments (link.run answer_of after ms old).account x.account) (sym then_) on) in
-                omega (arith, counted_on, enough, u_long.settled, u_long.reported, v_long.settled, v_long.reported, v_long.issued, v_long.queued, ap length kept))
-          ]))
+        empty : IsEmpty n
+        empty = record {
+          coming = λ k t at. at_each (λ (u : line.Site H). u.coming ≡ follows.said) k t n.sites follows.coming at ∙ none_on follows.said (sym follows.to_readers ∙ clear.to_readers);
+          to_panel = none_on n.to_panel (sym follows.to_bus ∙ clear.to_bus);
+        }
 
-      -- the last round ends at rest, where this reader's session lasts
-      rests : (k : ℕ) (v : ReaderSite H) → slice_get later.sites k ≡ Some v → v.account.ends ≡ [] → k < length readers → 1 ≤ m → IsAtRest later
-      rests k v there none few some =
-          let no_end : NoEnd k later = λ w here. subst (λ (x : ReaderSite H). x.account.ends ≡ []) (some_same v w (sym there ∙ here)) none in
-          let total = sites_count in
-          let t = sited k n.sites (omega (arith, few, total)) in
-          let has = its_rounds k t.0 t.1 no_end in
-          let last = has.seen_then.site in
-          let last_net = run answer_of after (round_moves m) n in
-          let last_follows = goes m (omega arith) in
-          let said : last_follows.said ≡ [] =
-          sym (at_each (λ (u : line.Site H). u.coming ≡ last_follows.said) k last last_net.sites last_follows.coming has.seen_then.there)
-          ∙ has.empty.coming k last has.seen_then.there in
-          record {
-            to_readers = last_follows.to_readers ∙ ap (λ l. map spelling (packets_on l)) said;
-            to_bus = last_follows.to_bus ∙ ap (λ l. map spelling (packets_on l)) has.empty.to_panel;
-            free = has.free some;
-          }
+        clear_at : (k : ℕ) (t : line.Site H) → site_at k n.sites ≡ Some t → progress.IsClear (view k t n)
+        clear_at k t at =
+            let l = link_at k t at in
+            let u = get_site k t s.sites n.sites follows.sites at in
+            let ready = ready_at k u.0 u.1 in
+            let ms = runs.moves_of answer_of after k (moves_of answer_of after steps start) first in
+            let old = view k (first_site config l.given) first in
+            let begun = up.begins k (first_site config l.given) l.begins in
+            let issued = each_of SetsNoAddress u.0.account.issued ready.issued in
+            let submitted = subst (Each SetsNoAddress) (u.2.tells.issued ∙ sym l.row.commands) issued in
+            let stay = stays old ms begun l.its.fits (each_all SetsNoAddress (old.controller.waiting ++ all_submitted answer_of after ms old) submitted)
+            (set_no_other old.reader.config.address old.controller.session.config.address ms l.steady) in
+            let moved = l.moved in
+            record {
+              to_reader = ap (own k) (empty.coming k t at);
+              to_controller = ap (own k) empty.to_panel;
+              address = ap (λ (v : Link H). v.reader.config.address) moved ∙ stay.0 ∙ up.together k (first_site config l.given) l.begins ∙ sym stay.1
+                  ∙ sym (ap (λ (v : Link H). v.controller.session.config.address) moved);
+              ready = sym (ap (λ r. r.busy) u.2.reader) ∙ ready.ready;
+              issued = each_all SetsNoAddress t.account.issued
+                  (each_rest SetsNoAddress (ended_commands t.earlier) t.account.issued (subst (Each SetsNoAddress) u.2.tells.issued issued));
+            }
+
+        entries_count : length s.bus.devices.entries ≡ length readers
+        entries_count = ap length follows.bus.entries ∙ length-map n.sites device_of ∙ sites_count
+
+        at_rest : (k : ℕ) (t : line.Site H) → site_at k n.sites ≡ Some t → NoEnd k later → (entry : ℕ) → entry < length readers → IsTurn entry s.bus
+            → AtRest answer_of after laws (length readers) wait k entry s n
+        at_rest k t at none entry below turn = record {
+          follows = follows;
+          apart = apart_all answer_of after laws.known (moves_of answer_of after steps start) first fits (apart_first first up);
+          in_time = run_at_all answer_of after ranges wait steps start (each_of IsInSession steps within) (first_at answer_of after ranges wait config readers long);
+          empty = empty;
+          led = λ i u there. let l = link_at i u there in record {
+            first = view i (first_site config l.given) first;
+            moves = runs.moves_of answer_of after i (moves_of answer_of after steps start) first;
+            begins = up.begins i (first_site config l.given) l.begins;
+            fits = l.its.fits;
+            leads = l.moved;
+          };
+          clear = λ i u there unended. clear_at i u there;
+          lasts = none_before_rounds answer_of after k m wait s none;
+          there = (t, at);
+          count_is = sites_count;
+          below = below;
+          turn = turn;
+        }
+
+        -- whose turn it is, and how many of others come before that of the reader at place k
+        pub record HasTurn (k : ℕ) : Type 0 where
+          pub entry : ℕ
+          pub rest : AtRest answer_of after laws (length readers) wait k entry s n
+          pub away : IsAway (length readers) entry k (length readers - 1)
+
+        pub its_turn : (k : ℕ) (t : line.Site H) → site_at k n.sites ≡ Some t → NoEnd k later → HasTurn k
+        its_turn k t at none =
+            let few = site_within k t n.sites at in
+            let same = sites_count in
+            let entries = entries_count in
+            let turn = some_turn s.bus (omega (arith, few, same, entries)) in
+            let below : turn.0 < length readers = let under = turn.1 in omega (arith, under, entries) in
+            record {
+              entry = turn.0;
+              rest = at_rest k t at none turn.0 below turn.2;
+              away = once_around (length readers) turn.0 k below (omega (arith, few, same));
+            }
+
+        -- the rounds of one reader
+        its_rounds : (k : ℕ) (t : line.Site H) → site_at k n.sites ≡ Some t → NoEnd k later
+            → HasRounds answer_of after laws ranges comes (length readers) wait k t m (length readers - 1) s n
+        its_rounds k t at none =
+            let turn = its_turn k t at none in
+            all_rounds answer_of after laws ranges comes (length readers) wait k m turn.entry (length readers - 1) s n turn.rest goes rounds_fit none t at turn.away
+
+        comes_on : (k : ℕ) (u v : ReaderSite H) → slice_get s.sites k ≡ Some u → slice_get later.sites k ≡ Some v → v.account.ends ≡ []
+            → ComesOn m (length readers) u.account v.account
+        comes_on k u v at there none =
+            let no_end : NoEnd k later = λ w here. subst (λ (x : ReaderSite H). x.account.ends ≡ []) (some_same v w (sym there ∙ here)) none in
+            let few = get_within k u s.sites at in
+            let same = counted in
+            let total = sites_count in
+            let t = sited k n.sites (omega (arith, few, same, total)) in
+            let l = link_at k t.0 t.1 in
+            let has = its_rounds k t.0 t.1 no_end in
+            let ms = runs.moves_of answer_of after k (moves_of answer_of after steps start) first in
+            let old = view k (first_site config l.given) first in
+            let begun = up.begins k (first_site config l.given) l.begins in
+            let last_net = run answer_of after (round_moves m) n in
+            let last_follows = goes m (omega arith) in
+            let machine = controller_config l.given.0.address config in
+            let range : IsInRange old.controller.session = ranges.later (new_machine machine config.capacity) (Begin 0 ∷ []) (ranges.new machine config.capacity) in
+            let through = in_time old ms has.moments begun range l.its.fits
+            (subst progress.IsClear l.moved (clear_at k t.0 t.1))
+            (subst (progress.AreLate answer_of after has.moments) l.moved has.late)
+            (subst (MovesFit answer_of after (progress.rounds has.moments)) l.moved has.fits) in
+            let last = has.seen_then.site in
+            let then_ : view k last last_net ≡ link.run answer_of after (progress.rounds has.moments) (link.run answer_of after ms old) =
+            has.seen_then.seen ∙ ap (link.run answer_of after (progress.rounds has.moments)) l.moved in
+            let u_is = get_site k t.0 s.sites n.sites follows.sites t.1 in
+            let v_is = get_site k last later.sites last_net.sites last_follows.sites has.seen_then.there in
+            let u_same : u_is.0 ≡ u = some_same u_is.0 u (sym u_is.1 ∙ at) in
+            let v_same : v_is.0 ≡ v = some_same v_is.0 v (sym v_is.1 ∙ there) in
+            let u_long = as_long u_is.0.account t.0.account t.0.earlier (none_earlier u_is.0.account t.0.account t.0.earlier u_is.2.tells (one_at k u_is.0 u_is.1)) u_is.2.tells in
+            let v_long = as_long v_is.0.account last.account last.earlier (none_earlier v_is.0.account last.account last.earlier v_is.2.tells (one_later k v_is.0 v_is.1)) v_is.2.tells in
+            let so = moves_so answer_of after (progress.rounds has.moments) (link.run answer_of after ms old) (rounds_ordinary H has.moments)
+            (moves_so answer_of after ms old (steady_ordinary ms l.steady) (begins_so old begun)) in
+            let kept : last.account.kept ≡ last.account.queued = subst (λ (x : Link H). x.account.kept ≡ x.account.queued) (sym then_) so.0.kept in
+            let turns = m / length readers in
+            let part = share m (length readers) in
+            let enough : turns ≤ length has.moments = has.enough turns (omega (arith, part)) in
+            subst (λ (x : ReaderSite H). ComesOn m (length readers) x.account v.account) u_same
+            (subst (λ (y : ReaderSite H). ComesOn m (length readers) u_is.0.account y.account) v_same
+            (elim through [
+              | inl closed ↦ absurd (lasts_there k later last_net last_follows no_end last has.seen_then.there (ap (λ (x : Link H). x.controller.session.state) then_ ∙ closed))
+              | inr on ↦ (
+                  let counted_on : progress.ComeOn has.moments t.0.account last.account =
+                  subst (λ (x : Link H). progress.ComeOn has.moments x.account last.account) (sym l.moved)
+                  (subst (λ (x : Link H). progress.ComeOn has.moments (link.run answer_of after ms old).account x.account) (sym then_) on) in
+                  omega (arith, counted_on, enough, u_long.settled, u_long.reported, v_long.settled, v_long.reported, v_long.issued, v_long.queued, ap length kept))
+            ]))
+
+        -- the last round ends at rest, where this reader's session lasts
+        rests : (k : ℕ) (v : ReaderSite H) → slice_get later.sites k ≡ Some v → v.account.ends ≡ [] → k < length readers → 1 ≤ m → IsAtRest later
+        rests k v there none few some =
+            let no_end : NoEnd k later = λ w here. subst (λ (x : ReaderSite H). x.account.ends ≡ []) (some_same v w (sym there ∙ here)) none in
+            let total = sites_count in
+            let t = sited k n.sites (omega (arith, few, total)) in
+            let has = its_rounds k t.0 t.1 no_end in
+            let last = has.seen_then.site in
+            let last_net = run answer_of after (round_moves m) n in
+            let last_follows = goes m (omega arith) in
+            let said : last_follows.said ≡ [] =
+            sym (at_each (λ (u : line.Site H). u.coming ≡ last_follows.said) k last last_net.sites last_follows.coming has.seen_then.there)
+            ∙ has.empty.coming k last has.seen_then.there in
+            record {
+              to_readers = last_follows.to_readers ∙ ap (λ l. map spelling (packets_on l)) said;
+              to_bus = last_follows.to_bus ∙ ap (λ l. map spelling (packets_on l)) has.empty.to_panel;
+              free = has.free some;
+            }
 
     pub each_round_rests : EachRoundRests answer_of after
     each_round_rests config readers steps m wait is within long clear k a there none =

@@ -6,5 +6,6 @@ pub mod Round
 pub mod Rounds
 pub mod Bursts
 pub mod Coming
+pub mod OneMore
 pub mod Clearing
 pub mod Answered

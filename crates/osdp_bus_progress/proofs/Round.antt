@@ -34,7 +34,7 @@ use Rattle.osdp_shared_line.specs.Views.{view}
 use Rattle.osdp_shared_line.proofs.Apart.{Apart, reader_address}
 use Rattle.osdp_shared_line.proofs.Rounds.{IsRound, one_round}
 use Rattle.osdp_shared_line.proofs.Sites.{some_same}
-use Rattle.osdp_bus_links.specs.Links.{device_of, one_ticks}
+use Rattle.osdp_bus_links.specs.Links.{device_of, one_ticks, who_ticks}
 use Rattle.osdp_bus_links.proofs.Devices.{get_device, get_none}
 use Rattle.osdp_sim.specs.Line.{handed}
 use Rattle.osdp_sim.specs.Rounds.{rounds}
@@ -140,7 +140,7 @@ module _ {H : Type 0} (answer_of : H → Command → Answer) (after : H → Comm
       by_site None none = absurd (let gone = get_none i n.sites none in cc)
       by_site (Some t) there = (t, there, some_same d (device_of t) (sym entries ∙ get_device i t n.sites there))
 
-  entry_there : (s : LineState H) (n : Net H) → FollowsSites s n → (i : ℕ) (t : line.Site H) → site_at i n.sites ≡ Some t
+  pub entry_there : (s : LineState H) (n : Net H) → FollowsSites s n → (i : ℕ) (t : line.Site H) → site_at i n.sites ≡ Some t
       → slice_get s.bus.devices.entries i ≡ Some (device_of t)
   entry_there s n h i t there = ap (λ ds. slice_get ds i) h.bus.entries ∙ get_device i t n.sites there
 
@@ -167,6 +167,9 @@ module _ {H : Type 0} (answer_of : H → Command → Answer) (after : H → Comm
       pub late : (t : line.Site H) → site_at k n.sites ≡ Some t
           → later_by (longest_wait t.controller.session.config) t.controller.session ≤ now
       pub free : holder (after_round wait s).bus ≡ None
+      pub who : who_ticks (moment_after wait s.clock) s.bus ≡ Some at
+      pub own : (t : line.Site H) → site_at k n.sites ≡ Some t → at ≡ k
+          → (is_due now t.controller ≡ true) × EndsOrRests answer_of after (link.run answer_of after (progress.round now) (view k t n))
 
     module _ (m entry : ℕ) (s : LineState H) (n : Net H) (h : AtRest count wait k entry s n)
         (goes : FollowsSites (after_round wait s) (run answer_of after (moves_of answer_of after (rounds 1 wait) s) n))
@@ -311,12 +314,17 @@ module _ {H : Type 0} (answer_of : H → Command → Answer) (after : H → Comm
                 (some_same is.site t (sym is.there ∙ there)) is.seen,
           )
 
-      -- the one that had its turn: clear and at rest, unless its session has ended
+      -- the one that has its turn is due
+      own_due : (i : ℕ) (t : line.Site H) → site_at i n.sites ≡ Some t → at ≡ i → is_due now t.controller ≡ true
+      own_due i t there own =
+          let same : t ≡ its_site.0 = some_same t its_site.0 (sym there ∙ ap (λ j. site_at j n.sites) (sym own) ∙ its_site.1) in
+          subst (λ (u : line.Site H). is_due now u.controller ≡ true) (sym same) its_due
+
+      -- after it: clear and at rest, unless its session has ended
       own_after : (i : ℕ) (old : line.Site H) → site_at i n.sites ≡ Some old → at ≡ i
           → EndsOrRests answer_of after (link.run answer_of after (progress.round now) (view i old n))
       own_after i old there own =
-          let same : old ≡ its_site.0 = some_same old its_site.0 (sym there ∙ ap (λ j. site_at j n.sites) (sym own) ∙ its_site.1) in
-          let due : is_due now (view i old n).controller ≡ true = subst (λ (u : line.Site H). is_due now u.controller ≡ true) (sym same) its_due in
+          let due : is_due now (view i old n).controller ≡ true = own_due i old there own in
           round_rests answer_of after laws.rests now (view i old n) (h.led i old there) (h.clear i old there (open_if_due now (view i old n) due)) due
           (subst (λ b. MovesFit answer_of after (cond b (progress.round now) []) (view i old n)) (is_true at i own) (round i old there).fits)
 
@@ -417,4 +425,6 @@ module _ {H : Type 0} (answer_of : H → Command → Answer) (after : H → Comm
             };
             late = late_all k;
             free = nobody_holds s3.bus free_after;
+            who = ticks_one.who;
+            own = λ t is same. (own_due k t is same, own_after k t is same);
           }

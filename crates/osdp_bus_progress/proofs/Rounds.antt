@@ -1,5 +1,5 @@
--- Rounds of a bus: each is an exchange of one entry, and the turn goes around those whose sessions last.
-use Rattle.std.proofs.Common.{◌≡◌, ◌≤◌, ◌<◌, ◌+◌, ◌-◌, ℕ, zero, suc, cond, List, [], ◌∷◌, length, Some, None, refl, sym, subst, ap, ◌∙◌, inl, inr, arith}
+-- Rounds of a bus: each is an exchange of one entry, the turn goes around those whose sessions last, and an entry that had one is idle.
+use Rattle.std.proofs.Common.{◌≡◌, ◌≤◌, ◌<◌, ◌+◌, ◌-◌, ◌⊎◌, ℕ, zero, suc, cond, eqb, List, [], ◌∷◌, length, Some, None, refl, sym, subst, ap, ◌∙◌, inl, inr, arith}
 use Rattle.std.proofs.lemmas.Bool.Decides.{eqb_tells}
 use Rattle.osdp_msg.specs.declared.command.Command.{Command}
 use Rattle.osdp_controller_laws.specs.Calls.{ComesDue, StaysInRange}
@@ -22,8 +22,10 @@ use Rattle.osdp_sim.specs.Rounds.{rounds}
 use Rattle.osdp_sim_bus.specs.Runs as simulation
 use Rattle.osdp_sim_bus.specs.State.{LineState}
 use Rattle.osdp_sim_bus_laws.specs.Moves.{FollowsSites, moves_of}
+use Rattle.osdp_shared_line.proofs.Sites.{some_same}
+use Rattle.osdp_bus_progress.specs.Resting.{IsItsRound}
 use Rattle.osdp_bus_progress.proofs.Round.{AtRest, LinkLaws, fits_then, NextRound, after_round, next_round, round_net, site_within}
-use Rattle.osdp_bus_progress.proofs.Ends.{NoEnd, none_before_rounds}
+use Rattle.osdp_bus_progress.proofs.Ends.{NoEnd, lasts_there, none_before_rounds}
 use Rattle.osdp_bus_progress.proofs.Turns.{IsAway, away_next, once_around}
 
 -- so many turns of each of so many entries
@@ -169,4 +171,102 @@ module _ {H : Type 0} (answer_of : H → Command → Answer) (after : H → Comm
           | inr differs ↦ (
               let less = away_next count entry it.at k it.next away h.below it.few there (it.before differs.1) it.after_it is in
               other_round m entry s n it t at differs.1 away less.0 (later (away - 1) less.1))
+        ]
+
+    -- ---- between the rounds
+
+    -- what stands after so many rounds
+    pub record Stands (m : ℕ) (s : LineState H) (n : Net H) : Type 0 where
+      pub entry : ℕ
+      pub rest : AtRest answer_of after laws count wait k entry (simulation.run answer_of after (rounds m wait) s) (Later m s n)
+
+    pub stands : (m entry : ℕ) (s : LineState H) (n : Net H) → AtRest answer_of after laws count wait k entry s n → Goes m s n
+        → NetMovesFit answer_of after (moves_of answer_of after (rounds m wait) s) n → NoEnd k (simulation.run answer_of after (rounds m wait) s) → Stands m s n
+    stands zero entry s n h goes fits lasts = record { entry = entry; rest = h }
+    stands (suc m) entry s n h goes fits lasts =
+        let it = next_round answer_of after laws ranges comes count wait k m entry s n h (goes 1 (omega arith)) fits (none_before_rounds answer_of after k m wait _ lasts) in
+        let more = stands m it.next (after_round answer_of after laws wait s) (round_net answer_of after laws count it.at it.now n) it.rest (goes_later m entry s n it goes)
+        (fits_later m entry s n it fits) lasts in
+        record {
+          entry = more.entry;
+          rest = subst (AtRest answer_of after laws count wait k more.entry (simulation.run answer_of after (rounds (suc m) wait) s))
+              (sym (goes_on m entry s n it h.there.0 h.there.1)) more.rest;
+        }
+
+    -- the controller of the reader at place k waits for no answer
+    abbrev pub Idles : Net H → Type 0
+    Idles n = (t : line.Site H) → site_at k n.sites ≡ Some t → progress.IsAtRest (view k t n)
+
+    -- so it is after a round of its own, and stays so in a round of another
+    idle_next : (m entry : ℕ) (s : LineState H) (n : Net H) (it : NextRound answer_of after laws ranges comes count wait k m entry s n)
+        → AtRest answer_of after laws count wait k entry s n → NoEnd k (after_round answer_of after laws wait s) → Idles n ⊎ (it.at ≡ k)
+        → Idles (round_net answer_of after laws count it.at it.now n)
+    idle_next m entry s n it h lasts known t at =
+        let net = round_net answer_of after laws count it.at it.now n in
+        let old = h.there in
+        let seen = (it.each k old.0 old.1).seen in
+        let is : view k t net ≡ link.run answer_of after (cond (eqb it.at k) (progress.round it.now) []) (view k old.0 n) =
+        subst (λ u. view k u net ≡ link.run answer_of after (cond (eqb it.at k) (progress.round it.now) []) (view k old.0 n))
+        (some_same seen.site t (sym seen.there ∙ at)) seen.seen in
+        elim (eqb_tells it.at k) [
+          | inl equal ↦ (
+              let own = is ∙ ap (λ b. link.run answer_of after (cond b (progress.round it.now) []) (view k old.0 n)) equal.0 in
+              elim (it.own old.0 old.1 equal.1).1 [
+                | inl closed ↦ absurd (lasts_there k (after_round answer_of after laws wait s) net it.rest.follows lasts t at
+                    (ap (λ (l : Link H). l.controller.session.state) own ∙ closed))
+                | inr calm ↦ subst progress.IsAtRest (sym own) calm.1
+              ])
+          | inr differs ↦ (
+              let stays = is ∙ ap (λ b. link.run answer_of after (cond b (progress.round it.now) []) (view k old.0 n)) differs.0 in
+              elim known [
+                | inl idle ↦ subst progress.IsAtRest (sym stays) (idle old.0 old.1)
+                | inr own ↦ absurd (differs.1 own)
+              ])
+        ]
+
+    -- it is idle, or one of these rounds is its own
+    abbrev pub IdlesOrWill : ℕ → LineState H → Net H → Type 0
+    IdlesOrWill m s n = Idles n ⊎ ((j : ℕ) × (j < m) × IsItsRound k wait (simulation.run answer_of after (rounds j wait) s))
+
+    will_next : (m entry : ℕ) (s : LineState H) (n : Net H) (it : NextRound answer_of after laws ranges comes count wait k m entry s n)
+        → AtRest answer_of after laws count wait k entry s n → NoEnd k (after_round answer_of after laws wait s) → IdlesOrWill (suc m) s n
+        → IdlesOrWill m (after_round answer_of after laws wait s) (round_net answer_of after laws count it.at it.now n)
+    will_next m entry s n it h lasts (inl idle) = inl (idle_next m entry s n it h lasts (inl idle))
+    will_next m entry s n it h lasts (inr (zero, few, own)) = inl (idle_next m entry s n it h lasts (inr (some_same it.at k (sym it.who ∙ own))))
+    will_next m entry s n it h lasts (inr (suc j, few, own)) = inr (j, omega (arith, few), own)
+
+    pub idles_later : (m entry : ℕ) (s : LineState H) (n : Net H) → AtRest answer_of after laws count wait k entry s n → Goes m s n
+        → NetMovesFit answer_of after (moves_of answer_of after (rounds m wait) s) n → NoEnd k (simulation.run answer_of after (rounds m wait) s)
+        → IdlesOrWill m s n → Idles (Later m s n)
+    idles_later zero entry s n h goes fits lasts (inl idle) = idle
+    idles_later zero entry s n h goes fits lasts (inr (j, few, own)) = absurd (omega (arith, few))
+    idles_later (suc m) entry s n h goes fits lasts will =
+        let before = none_before_rounds answer_of after k m wait _ lasts in
+        let it = next_round answer_of after laws ranges comes count wait k m entry s n h (goes 1 (omega arith)) fits before in
+        subst Idles (sym (goes_on m entry s n it h.there.0 h.there.1))
+        (idles_later m it.next (after_round answer_of after laws wait s) (round_net answer_of after laws count it.at it.now n) it.rest
+        (goes_later m entry s n it goes) (fits_later m entry s n it fits) lasts (will_next m entry s n it h before will))
+
+    -- after so many turns of others at most it has its round
+    pub its_round : (away entry : ℕ) (s : LineState H) (n : Net H) → AtRest answer_of after laws count wait k entry s n → Goes (suc away) s n
+        → NetMovesFit answer_of after (moves_of answer_of after (rounds (suc away) wait) s) n
+        → NoEnd k (simulation.run answer_of after (rounds (suc away) wait) s) → k < count → IsAway count entry k away
+        → (j : ℕ) × (j ≤ away) × IsItsRound k wait (simulation.run answer_of after (rounds j wait) s)
+    its_round zero entry s n h goes fits lasts there is =
+        let it = next_round answer_of after laws ranges comes count wait k 0 entry s n h (goes 1 (omega arith)) fits (none_before_rounds answer_of after k 0 wait _ lasts) in
+        elim (eqb_tells it.at k) [
+          | inl equal ↦ (0, omega arith, it.who ∙ ap Some equal.1)
+          | inr differs ↦ absurd (let less = away_next count entry it.at k it.next 0 h.below it.few there (it.before differs.1) it.after_it is in omega (arith, less.0))
+        ]
+    its_round (suc away) entry s n h goes fits lasts there is =
+        let it = next_round answer_of after laws ranges comes count wait k (suc away) entry s n h (goes 1 (omega arith)) fits
+        (none_before_rounds answer_of after k (suc away) wait _ lasts) in
+        elim (eqb_tells it.at k) [
+          | inl equal ↦ (0, omega arith, it.who ∙ ap Some equal.1)
+          | inr differs ↦ (
+              let less = away_next count entry it.at k it.next (suc away) h.below it.few there (it.before differs.1) it.after_it is in
+              let one : suc away - 1 ≡ away = omega arith in
+              let found = its_round away it.next (after_round answer_of after laws wait s) (round_net answer_of after laws count it.at it.now n) it.rest
+              (goes_later (suc away) entry s n it goes) (fits_later (suc away) entry s n it fits) lasts there (subst (IsAway count it.next k) one less.1) in
+              (suc found.0, omega (arith, found.1.0), found.1.1))
         ]

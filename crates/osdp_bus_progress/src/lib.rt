@@ -3,7 +3,7 @@
 #![tactic(auto)]
 
 ghost use Rattle.osdp_bus_progress.specs.Progress.{EachAnswerRecovers, EachComesThrough, EachRecovers};
-ghost use Rattle.osdp_bus_progress.specs.Resting.{ClearsTheLine, EachRoundRests};
+ghost use Rattle.osdp_bus_progress.specs.Resting.{ClearsTheLine, EachHasItsRound, EachIsIdle, EachRoundBringsOneMore, EachRoundRests};
 
 use osdp_reader::Handler;
 
@@ -35,6 +35,26 @@ pub fn rests_between_rounds<H: Handler>()
     osdp_sim_bus_laws::schedules_are_moves::<H>();
     osdp_sim_bus::laws::has_an_account_each::<H>();
     osdp_sim_bus::laws::tells_at_once::<H>();
+    osdp_shared_line::each_is_a_link::<H>();
+    osdp_shared_line::promises::each_has_sessions_in_a_row::<H>();
+    osdp_link_laws::reads_what_is_asked();
+    osdp_link_laws::comes_through::<H>();
+    osdp_link_laws::stay_where_they_are::<H>();
+    osdp_controller_laws::stays_in_range();
+    osdp_controller_laws::ticks_come_due();
+}
+
+/// Whose round each is, and what it brings, after steps that leave nothing on the line, as `each_comes_through` asks. A round is of the reader whose
+/// controller ticks in it. Of as many rounds as there are readers each reader has one, wherever they begin, where its session has not ended. Once it
+/// has had one its controller is idle after each round, and each round of it but its first settles or reports one more of its commands and events than the
+/// rounds before it had, unless all are.
+pub fn each_round_brings_one_more<H: Handler>()
+    ensures turn { EachHasItsRound H.answer_of H.after }
+    ensures idle { EachIsIdle H.answer_of H.after }
+    ensures more { EachRoundBringsOneMore H.answer_of H.after }
+{
+    osdp_sim_bus_laws::schedules_are_moves::<H>();
+    osdp_sim_bus::laws::has_an_account_each::<H>();
     osdp_shared_line::each_is_a_link::<H>();
     osdp_shared_line::promises::each_has_sessions_in_a_row::<H>();
     osdp_link_laws::reads_what_is_asked();

@@ -1,0 +1,249 @@
+-- Between rounds of a bus: each reader has its round, its controller is idle after it, and each round of it but the first brings one more.
+use Rattle.std.proofs.Common.{◌≡◌, ◌≤◌, ◌<◌, ◌+◌, ◌-◌, ◌++◌, ℕ, zero, suc, true, cond, All, List, [], ◌∷◌, length, Some, inl, inr, refl, sym, subst, ap, ◌∙◌, arith, append_assoc}
+use Rattle.std.specs.Prelude.{min, slice_get}
+use Rattle.osdp_msg.specs.declared.command.Command.{Command}
+use Rattle.osdp_controller.specs.Machine.{is_due}
+use Rattle.osdp_controller.specs.declared.state.State.TheVariants.{Idle}
+use Rattle.osdp_controller_laws.specs.Calls.{ComesDue, StaysInRange}
+use Rattle.osdp_reader.specs.declared.handler.Answer.{Answer}
+use Rattle.osdp_bus.specs.declared.config.BusConfig.{BusConfig}
+use Rattle.osdp_bus.specs.declared.device.Device.{Device}
+use Rattle.osdp_link_laws.specs.Addresses.{StayWhereTheyAre}
+use Rattle.osdp_link_laws.specs.Headline.{MovesFit}
+use Rattle.osdp_link_laws.specs.Link as link
+use Rattle.osdp_link_laws.specs.Link.{Link}
+use Rattle.osdp_link_laws.specs.Progress as progress
+use Rattle.osdp_link_laws.proofs.Lines.{each_all, each_append, each_of}
+use Rattle.osdp_link_laws.proofs.Numbers.{is_true}
+use Rattle.osdp_link_laws.proofs.Ordinary.{moves_so}
+use Rattle.osdp_link_laws.proofs.OrdinaryRuns.{begins_so, steady_ordinary}
+use Rattle.osdp_shared_line.specs.Addresses.{NetMovesFit}
+use Rattle.osdp_shared_line.specs.Line.{Net, run, site_at}
+use Rattle.osdp_shared_line.specs.Runs as runs
+use Rattle.osdp_shared_line.specs.Runs.{EachHasSessionsInARow, EachIsALink}
+use Rattle.osdp_shared_line.specs.Views.{view}
+use Rattle.osdp_shared_line.proofs.Sites.{some_same}
+use Rattle.osdp_bus_links.specs.Links.{device_of}
+use Rattle.osdp_sim.specs.Account.{Account}
+use Rattle.osdp_sim.specs.Rounds.{rounds}
+use Rattle.osdp_sim.specs.declared.step.SimStep.{SimStep}
+use Rattle.osdp_sim.proofs.Schedules.{runs_on}
+use Rattle.osdp_sim_bus.specs.Laws.{HasAnAccountEach}
+use Rattle.osdp_sim_bus.specs.Runs as simulation
+use Rattle.osdp_sim_bus.specs.State.{Given, LineState, ReaderSite, accounts, set_up}
+use Rattle.osdp_sim_bus.specs.Steps.{after_step}
+use Rattle.osdp_sim_laws.specs.Accounts.{IsInSession}
+use Rattle.osdp_sim_laws.specs.Resting.{BringsOneMore}
+use Rattle.osdp_sim_laws.proofs.Coming.{rounds_within}
+use Rattle.osdp_sim_bus_laws.specs.Moves.{FollowsSites, SchedulesAreMoves, moves_of}
+use Rattle.osdp_sim_bus_laws.proofs.Beginning.{first_net, first_site}
+use Rattle.osdp_sim_bus_laws.proofs.OneSession.{none_earlier}
+use Rattle.osdp_sim_bus_laws.proofs.Sites.{get_site}
+use Rattle.osdp_bus_progress.specs.Progress.{IsRun}
+use Rattle.osdp_bus_progress.specs.Resting.{AreRounds, EachHasItsRound, EachIsIdle, EachRoundBringsOneMore, HasNotEnded, IsIdle, IsItsRound, after_rounds}
+use Rattle.osdp_bus_progress.proofs.Coming as coming
+use Rattle.osdp_bus_progress.proofs.Coming.{as_long, get_within, split_rounds, unmapped}
+use Rattle.osdp_bus_progress.proofs.Ends.{NoEnd, lasts_there, none_before_rounds}
+use Rattle.osdp_bus_progress.proofs.Round.{AtRest, LinkLaws, after_round, entry_there, next_round, round_net, sited}
+use Rattle.osdp_bus_progress.proofs.Rounds.{Idles, idles_later, its_round, stands}
+use Rattle.osdp_bus_progress.proofs.Turns.{once_around}
+
+-- so many rounds, and then more
+two_parts : (m more wait : ℕ) → rounds (m + more) wait ≡ rounds m wait ++ rounds more wait
+two_parts m more wait =
+    let left : m + more - m ≡ more = omega arith in
+    split_rounds m (m + more) wait (omega arith) ∙ ap (λ c. rounds m wait ++ rounds c wait) left
+
+-- one more of this session is settled or reported, or all are
+abbrev MoreByOne : link.Account → link.Account → Type 0
+MoreByOne a b = min (length a.settled + length a.reported + 1) (length b.issued + length b.kept) ≤ length b.settled + length b.reported
+
+module _ {H : Type 0} (answer_of : H → Command → Answer) (after : H → Command → H) where
+  -- the reader at place k has this account, and no end in it
+  no_end : (k : ℕ) (a : Account) (w : LineState H) → HasNotEnded k a w → NoEnd k w
+  no_end k a w is u here =
+      let it = unmapped (λ (site : ReaderSite H). site.account) k a w.sites is.there in
+      subst (λ (x : ReaderSite H). x.account.ends ≡ []) (some_same it.0 u (sym it.1 ∙ here)) (ap (λ (b : Account). b.ends) it.2 ∙ is.lasts)
+
+  module _ (schedules : SchedulesAreMoves answer_of after) (counts : HasAnAccountEach answer_of after)
+      (links : EachIsALink answer_of after) (rows : EachHasSessionsInARow answer_of after) (laws : LinkLaws answer_of after)
+      (in_time : progress.ComesThroughInTime answer_of after) (stays : StayWhereTheyAre answer_of after) (ranges : StaysInRange)
+      (comes : ComesDue) where
+    module _ (config : BusConfig) (readers : List (Given H)) (steps : List SimStep) (wait k : ℕ) where
+      abbrev start : LineState H
+      start = set_up config readers
+
+      abbrev first : Net H
+      first = first_net config readers
+
+      -- the line after the steps and so many rounds, and the sites then
+      abbrev line_at : ℕ → LineState H
+      line_at m = after_rounds answer_of after config readers steps m wait
+
+      abbrev sites_at : ℕ → Net H
+      sites_at m = run answer_of after (moves_of answer_of after (steps ++ rounds m wait) start) first
+
+      below : (m : ℕ) (a : Account) → HasNotEnded k a (line_at m) → k < length readers
+      below m a is =
+          let few = get_within k a (accounts (line_at m)) is.there in
+          let many : length (accounts (line_at m)) ≡ length readers = counts config readers (steps ++ rounds m wait) in
+          omega (arith, few, many)
+
+      both : (m more : ℕ) → steps ++ rounds (m + more) wait ≡ (steps ++ rounds m wait) ++ rounds more wait
+      both m more = ap (λ l. steps ++ l) (two_parts m more wait) ∙ sym (append_assoc steps (rounds m wait) (rounds more wait))
+
+      later_is : (m more : ℕ) → line_at (m + more) ≡ simulation.run answer_of after (rounds more wait) (line_at m)
+      later_is m more =
+          ap (λ l. simulation.run answer_of after l start) (both m more) ∙ runs_on (after_step answer_of after) (steps ++ rounds m wait) (rounds more wait) start
+
+      -- between some rounds and more of them, where the session of the reader at place k lasts
+      record IsBetween (m : ℕ) : Type 0 where
+        pub entry : ℕ
+        pub rest : AtRest answer_of after laws (length readers) wait k entry (line_at m) (sites_at m)
+        pub idles : (r : ℕ) → r < m → IsItsRound k wait (line_at r) → Idles answer_of after laws ranges comes (length readers) wait k (sites_at m)
+
+      between : (m : ℕ) → AreRounds answer_of after config readers steps m wait → NoEnd k (line_at m) → k < length readers → IsBetween m
+      between m are none few =
+          let same = coming.sites_count answer_of after schedules counts links rows laws in_time stays ranges comes config readers steps m wait are.run_is are.within in
+          let earlier = run answer_of after (moves_of answer_of after steps start) first in
+          let s = simulation.run answer_of after steps start in
+          let t = sited k earlier.sites (omega (arith, few, same)) in
+          let goes = coming.goes answer_of after schedules counts links rows laws in_time stays ranges comes config readers steps m wait are.run_is are.within in
+          let fit = coming.rounds_fit answer_of after schedules counts links rows laws in_time stays ranges comes config readers steps m wait are.run_is are.within in
+          let both_are = coming.both_are answer_of after schedules counts links rows laws in_time stays ranges comes config readers steps m wait are.run_is are.within m in
+          let ran = runs_on (after_step answer_of after) steps (rounds m wait) start in
+          let last = subst (NoEnd k) ran none in
+          let turn = coming.its_turn answer_of after schedules counts links rows laws in_time stays ranges comes config readers steps m wait are.run_is are.within are.long are.clear k t.0 t.1 last in
+          let there = stands answer_of after laws ranges comes (length readers) wait k m turn.entry s earlier turn.rest goes fit last in
+          record {
+            entry = there.entry;
+            rest = subst (AtRest answer_of after laws (length readers) wait k there.entry (line_at m)) (sym both_are)
+                (subst (λ (x : LineState H). AtRest answer_of after laws (length readers) wait k there.entry x
+                (run answer_of after (moves_of answer_of after (rounds m wait) s) earlier)) (sym ran) there.rest);
+            idles = λ r few_then own.
+                let own_then = subst (IsItsRound k wait) (runs_on (after_step answer_of after) steps (rounds r wait) start) own in
+                subst (Idles answer_of after laws ranges comes (length readers) wait k) (sym both_are)
+                (idles_later answer_of after laws ranges comes (length readers) wait k m turn.entry s earlier turn.rest goes fit last
+                (inr (r, few_then, own_then)));
+          }
+
+      -- the steps with some rounds, and then more rounds
+      module _ (m more : ℕ) (are : AreRounds answer_of after config readers steps (m + more) wait) where
+        are_first : AreRounds answer_of after config readers steps m wait
+        are_first = record {
+          run_is = coming.fewer answer_of after schedules counts links rows laws in_time stays ranges comes config readers steps (m + more) wait are.run_is are.within m (omega arith);
+          within = are.within;
+          long = are.long;
+          clear = are.clear;
+        }
+
+        is_later : IsRun answer_of after config readers ((steps ++ rounds m wait) ++ rounds more wait)
+        is_later = subst (IsRun answer_of after config readers) (both m more) are.run_is
+
+        within : All IsInSession (steps ++ rounds m wait)
+        within =
+            each_all IsInSession (steps ++ rounds m wait)
+            (each_append IsInSession steps (rounds m wait) (each_of IsInSession steps are.within) (rounds_within m wait))
+
+        goes_later : (r : ℕ) → r ≤ more
+            → FollowsSites (simulation.run answer_of after (rounds r wait) (line_at m)) (run answer_of after (moves_of answer_of after (rounds r wait) (line_at m)) (sites_at m))
+        goes_later r few = coming.goes answer_of after schedules counts links rows laws in_time stays ranges comes config readers (steps ++ rounds m wait) more wait is_later within r few
+
+        fits_later : NetMovesFit answer_of after (moves_of answer_of after (rounds more wait) (line_at m)) (sites_at m)
+        fits_later = coming.rounds_fit answer_of after schedules counts links rows laws in_time stays ranges comes config readers (steps ++ rounds m wait) more wait is_later within
+
+        -- of as many rounds as there are readers one is its own
+        has_round : NoEnd k (simulation.run answer_of after (rounds more wait) (line_at m)) → k < length readers → more ≡ length readers
+            → (j : ℕ) × (j < more) × IsItsRound k wait (simulation.run answer_of after (rounds j wait) (line_at m))
+        has_round none few all =
+            let is = between m are_first (none_before_rounds answer_of after k more wait (line_at m) none) few in
+            let one : more ≡ suc (length readers - 1) = omega (arith, few, all) in
+            let found = its_round answer_of after laws ranges comes (length readers) wait k (length readers - 1) is.entry (line_at m) (sites_at m) is.rest
+            (λ r le. goes_later r (omega (arith, le, one)))
+            (subst (λ c. NetMovesFit answer_of after (moves_of answer_of after (rounds c wait) (line_at m)) (sites_at m)) one fits_later)
+            (subst (λ c. NoEnd k (simulation.run answer_of after (rounds c wait) (line_at m))) one none) few
+            (once_around (length readers) is.entry k is.rest.below few) in
+            (found.0, omega (arith, found.1.0, one), found.1.1)
+
+      -- one round more, which is its own and not the first
+      module _ (from_rest : progress.ComesThroughFromRest answer_of after) (m : ℕ) (are : AreRounds answer_of after config readers steps (m + 1) wait) where
+        abbrev next_line : LineState H
+        next_line = after_round answer_of after laws wait (line_at m)
+
+        one_more : (r : ℕ) → r < m → IsItsRound k wait (line_at r) → IsItsRound k wait (line_at m) → k < length readers → NoEnd k next_line
+            → (u v : ReaderSite H) → slice_get (line_at m).sites k ≡ Some u → slice_get next_line.sites k ≡ Some v → BringsOneMore u.account v.account
+        one_more r earlier had own few none u v at there =
+            let s = line_at m in
+            let n = sites_at m in
+            let more = steps ++ rounds m wait in
+            let is = is_later m 1 are in
+            let inside = within m 1 are in
+            let stands_here = between m (are_first m 1 are) (none_before_rounds answer_of after k 1 wait s none) few in
+            let rest = stands_here.rest in
+            let it = next_round answer_of after laws ranges comes (length readers) wait k 0 stands_here.entry s n rest (goes_later m 1 are 1 (omega arith))
+            (fits_later m 1 are) none in
+            let same : it.at ≡ k = some_same it.at k (sym it.who ∙ own) in
+            let now = it.now in
+            let t = rest.there in
+            let l = coming.link_at answer_of after schedules counts links rows laws in_time stays ranges comes config readers more 1 wait is inside k t.0 t.1 in
+            let up = coming.up answer_of after schedules counts links rows laws in_time stays ranges comes config readers more 1 wait is inside in
+            let ms = runs.moves_of answer_of after k (moves_of answer_of after more start) first in
+            let old = view k (first_site config l.given) first in
+            let begun = up.begins k (first_site config l.given) l.begins in
+            let so = moves_so answer_of after ms old (steady_ordinary ms l.steady) (begins_so old begun) in
+            let calm = rest.clear k t.0 t.1 (lasts_there k s n rest.follows rest.lasts t.0 t.1) in
+            let idle = stands_here.idles r earlier had t.0 t.1 in
+            let fits = subst (λ b. MovesFit answer_of after (cond b (progress.round now) []) (view k t.0 n)) (is_true it.at k same) (it.each k t.0 t.1).fits in
+            let brought = from_rest old ms (now ∷ []) begun l.its.fits (subst progress.IsClear l.moved calm) (subst progress.IsAtRest l.moved idle)
+            (inl so.0.restarts) (subst (λ (x : Link H). is_due now x.controller ≡ true) l.moved (it.own t.0 t.1 same).0, tt)
+            (subst (MovesFit answer_of after (progress.round now)) l.moved fits) in
+            let seen = (it.each k t.0 t.1).seen in
+            let last = seen.site in
+            let net = round_net answer_of after laws (length readers) it.at now n in
+            let through : view k last net ≡ link.run answer_of after (progress.round now) (link.run answer_of after ms old) =
+            seen.seen ∙ ap (λ b. link.run answer_of after (cond b (progress.round now) []) (view k t.0 n)) (is_true it.at k same)
+            ∙ ap (link.run answer_of after (progress.round now)) l.moved in
+            let so_last = moves_so answer_of after (progress.round now) (link.run answer_of after ms old) (tt, (tt, (tt, tt))) so in
+            let kept : last.account.kept ≡ last.account.queued = subst (λ (x : Link H). x.account.kept ≡ x.account.queued) (sym through) so_last.0.kept in
+            let counted : MoreByOne t.0.account last.account =
+            subst (λ (x : Link H). MoreByOne x.account last.account) (sym l.moved)
+            (subst (λ (x : Link H). MoreByOne (link.run answer_of after ms old).account x.account) (sym through) brought) in
+            let u_is = get_site k t.0 s.sites n.sites rest.follows.sites t.1 in
+            let v_is = get_site k last next_line.sites net.sites it.rest.follows.sites seen.there in
+            let u_long = as_long answer_of after u_is.0.account t.0.account t.0.earlier (none_earlier u_is.0.account t.0.account t.0.earlier u_is.2.tells
+            (coming.one_at answer_of after schedules counts links rows laws in_time stays ranges comes config readers more 1 wait is inside k u_is.0 u_is.1)) u_is.2.tells in
+            let v_long = as_long answer_of after v_is.0.account last.account last.earlier (none_earlier v_is.0.account last.account last.earlier v_is.2.tells
+            (coming.one_later answer_of after schedules counts links rows laws in_time stays ranges comes config readers more 1 wait is inside k v_is.0 v_is.1)) v_is.2.tells in
+            subst (λ (x : ReaderSite H). BringsOneMore x.account v.account) (some_same u_is.0 u (sym u_is.1 ∙ at))
+            (subst (λ (y : ReaderSite H). BringsOneMore u_is.0.account y.account) (some_same v_is.0 v (sym v_is.1 ∙ there))
+            (omega (arith, counted, u_long.settled, u_long.reported, v_long.settled, v_long.reported, v_long.issued, v_long.queued, ap length kept)))
+
+    pub each_has_its_round : EachHasItsRound answer_of after
+    each_has_its_round config readers steps m wait k a are lasts =
+        let is = later_is config readers steps wait k m (length readers) in
+        let none = subst (NoEnd k) is (no_end k a (after_rounds answer_of after config readers steps (m + length readers) wait) lasts) in
+        let few = below config readers steps wait k (m + length readers) a lasts in
+        let found = has_round config readers steps wait k m (length readers) are none few refl in
+        (m + found.0, omega arith, omega (arith, found.1.0), subst (IsItsRound k wait) (sym (later_is config readers steps wait k m found.0)) found.1.1)
+
+    pub each_is_idle : EachIsIdle answer_of after
+    each_is_idle config readers steps r m wait k a are few own lasts d there =
+        let s = after_rounds answer_of after config readers steps m wait in
+        let is = between config readers steps wait k m are (no_end k a s lasts) (below config readers steps wait k m a lasts) in
+        let t = is.rest.there in
+        let same : device_of t.0 ≡ d =
+        some_same (device_of t.0) d (sym (entry_there answer_of after laws s (sites_at config readers steps wait k m) is.rest.follows k t.0 t.1) ∙ there) in
+        subst (λ (e : Device). (due : ℕ) × (e.controller.session.state ≡ Idle due)) same (is.idles r few own t.0 t.1)
+
+    pub each_round_brings_one_more : progress.ComesThroughFromRest answer_of after → EachRoundBringsOneMore answer_of after
+    each_round_brings_one_more from_rest config readers steps r m wait k old new are few had own at lasts =
+        let one : suc m ≡ m + 1 = omega arith in
+        let last = ap (λ c. after_rounds answer_of after config readers steps c wait) one ∙ later_is config readers steps wait k m 1 in
+        let next = after_round answer_of after laws wait (after_rounds answer_of after config readers steps m wait) in
+        let there = subst (λ (w : LineState H). slice_get (accounts w) k ≡ Some new) last lasts.there in
+        let u = unmapped (λ (site : ReaderSite H). site.account) k old (after_rounds answer_of after config readers steps m wait).sites at in
+        let v = unmapped (λ (site : ReaderSite H). site.account) k new next.sites there in
+        subst (λ a. BringsOneMore a new) u.2
+        (subst (λ b. BringsOneMore u.0.account b) v.2
+        (one_more config readers steps wait k from_rest m (subst (λ c. AreRounds answer_of after config readers steps c wait) one are) r few had own
+        (below config readers steps wait k (suc m) new lasts) (no_end k new next (record { there = there; lasts = lasts.lasts })) u.0 v.0 u.1 v.1))
