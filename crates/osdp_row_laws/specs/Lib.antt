@@ -1,3 +1,4 @@
 pub mod Rounds
 pub mod Recovering
 pub mod Taken
+pub mod Turns

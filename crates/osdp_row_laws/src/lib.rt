@@ -8,6 +8,7 @@
 ghost use Rattle.osdp_row_laws.specs.Recovering.{FourRoundsBringThree, SixRoundsBringThreeOfTwo};
 ghost use Rattle.osdp_row_laws.specs.Rounds.{ThreeRoundsSettleTwoAndReportOne};
 ghost use Rattle.osdp_row_laws.specs.Taken.{OfTwoTakenOneIsSettled};
+ghost use Rattle.osdp_row_laws.specs.Turns.{ItsSecondRoundSettles, OneOfTwoIsItsRound};
 
 use osdp_script_reader::ScriptReader;
 
@@ -37,6 +38,21 @@ pub fn six_rounds_bring_three_of_two()
     osdp_sim_bus_laws::each_accepts_by_room::<ScriptReader>();
     osdp_bus_progress::each_recovers::<ScriptReader>();
     osdp_sim_bus::laws::has_an_account_each::<ScriptReader>();
+}
+
+/// An OUT for a reader at 5 and a BUZ for one at 6, and four rounds of 400 ms: of the third and the fourth one is the first reader's, where its session
+/// lasts.
+pub fn one_of_two_is_its_round()
+    ensures { OneOfTwoIsItsRound }
+{
+    osdp_bus_progress::each_round_brings_one_more::<ScriptReader>();
+}
+
+/// The same bus: once the first reader has had two rounds its OUT is settled, and its controller is idle, where its session lasts.
+pub fn its_second_round_settles()
+    ensures { ItsSecondRoundSettles }
+{
+    osdp_bus_progress::each_round_brings_one_more::<ScriptReader>();
 }
 
 /// Whatever is lost in one session of a reader at 5: where an OUT and then a BUZ were taken, the OUT was settled by ACK. So one taken command at most
