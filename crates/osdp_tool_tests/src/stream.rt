@@ -64,6 +64,18 @@ fn each_failed_read_ends_the_input(rt: HostRuntime) -> Result<(), Fail> {
 }
 
 #[test]
+fn an_error_is_the_streams_own(rt: HostRuntime) {
+    let mut pieces = make_pieces(&DIGITS, 4, 1, ErrorKind::Interrupted);
+    let mut input = Watched::new(&mut pieces);
+    let mut piece = [0u8; 4];
+    let kind = match input.read(&mut piece) {
+        Ok(_) => ErrorKind::Other,
+        Err(error) => error.kind(),
+    };
+    assert!(rt; kind == ErrorKind::Interrupted);
+}
+
+#[test]
 fn output_is_written_whole(rt: HostRuntime) {
     let mut sink = make_sink(rt.alloc(), 3, 0, None, false);
     let mut output = Watched::new(&mut sink);
