@@ -90,7 +90,7 @@ get_within zero x (y ∷ xs) at = omega arith
 get_within (suc k) x (y ∷ xs) at = omega (arith, get_within k x xs at)
 
 -- so many rounds, and the others
-split_rounds : (r m wait : ℕ) → r ≤ m → rounds m wait ≡ rounds r wait ++ rounds (m - r) wait
+pub split_rounds : (r m wait : ℕ) → r ≤ m → rounds m wait ≡ rounds r wait ++ rounds (m - r) wait
 split_rounds zero m wait few = let all : m - 0 ≡ m = omega arith in sym (ap (λ k. rounds k wait) all)
 split_rounds (suc r) zero wait few = absurd (omega (arith, few))
 split_rounds (suc r) (suc m) wait few =
@@ -114,13 +114,13 @@ share m count = subst (λ all. all ≤ m) (sym (all_is (m / count) count)) (div-
 module _ {H : Type 0} (answer_of : H → Command → Answer) (after : H → Command → H) where
   -- ---- the lists of one session
 
-  record AsLong (a : Account) (t : link.Account) : Type 0 where
+  pub record AsLong (a : Account) (t : link.Account) : Type 0 where
     pub settled : length a.settled ≡ length t.settled
     pub reported : length a.reported ≡ length t.reported
     pub issued : length a.issued ≡ length t.issued
     pub queued : length a.queued ≡ length t.queued
 
-  as_long : (a : Account) (t : link.Account) (earlier : List link.Account) → earlier ≡ [] → IsOf a t earlier → AsLong a t
+  pub as_long : (a : Account) (t : link.Account) (earlier : List link.Account) → earlier ≡ [] → IsOf a t earlier → AsLong a t
   as_long a t (u ∷ earlier) none lists = absurd cc
   as_long a t [] none lists =
       let gone : lists.queued.0 ≡ [] = lists.queued.1.1 in

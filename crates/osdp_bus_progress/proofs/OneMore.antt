@@ -163,7 +163,7 @@ module _ {H : Type 0} (answer_of : H → Command → Answer) (after : H → Comm
             (subst (λ c. NetMovesFit answer_of after (moves_of answer_of after (rounds c wait) (line_at m)) (sites_at m)) one fits_later)
             (subst (λ c. NoEnd k (simulation.run answer_of after (rounds c wait) (line_at m))) one none) few
             (once_around (length readers) is.entry k is.rest.below few) in
-            (found.0, omega (arith, found.1.0, one), found.1.1)
+            (found.0, omega (arith, found.1, one), found.2)
 
       -- one round more, which is its own and not the first
       module _ (from_rest : progress.ComesThroughFromRest answer_of after) (m : ℕ) (are : AreRounds answer_of after config readers steps (m + 1) wait) where
@@ -224,7 +224,7 @@ module _ {H : Type 0} (answer_of : H → Command → Answer) (after : H → Comm
         let none = subst (NoEnd k) is (no_end k a (after_rounds answer_of after config readers steps (m + length readers) wait) lasts) in
         let few = below config readers steps wait k (m + length readers) a lasts in
         let found = has_round config readers steps wait k m (length readers) are none few refl in
-        (m + found.0, omega arith, omega (arith, found.1.0), subst (IsItsRound k wait) (sym (later_is config readers steps wait k m found.0)) found.1.1)
+        (m + found.0, omega arith, omega (arith, found.1), subst (IsItsRound k wait) (sym (later_is config readers steps wait k m found.0)) found.2)
 
     pub each_is_idle : EachIsIdle answer_of after
     each_is_idle config readers steps r m wait k a are few own lasts d there =

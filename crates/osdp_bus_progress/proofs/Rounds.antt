@@ -253,14 +253,14 @@ module _ {H : Type 0} (answer_of : H → Command → Answer) (after : H → Comm
         → NoEnd k (simulation.run answer_of after (rounds (suc away) wait) s) → k < count → IsAway count entry k away
         → (j : ℕ) × (j ≤ away) × IsItsRound k wait (simulation.run answer_of after (rounds j wait) s)
     its_round zero entry s n h goes fits lasts there is =
-        let it = next_round answer_of after laws ranges comes count wait k 0 entry s n h (goes 1 (omega arith)) fits (none_before_rounds answer_of after k 0 wait _ lasts) in
+        let it = next_round answer_of after laws ranges comes count wait k 0 entry s n h (goes 1 (omega arith)) fits (none_before_rounds answer_of after k 0 wait (after_round answer_of after laws wait s) lasts) in
         elim (eqb_tells it.at k) [
           | inl equal ↦ (0, omega arith, it.who ∙ ap Some equal.1)
           | inr differs ↦ absurd (let less = away_next count entry it.at k it.next 0 h.below it.few there (it.before differs.1) it.after_it is in omega (arith, less.0))
         ]
     its_round (suc away) entry s n h goes fits lasts there is =
         let it = next_round answer_of after laws ranges comes count wait k (suc away) entry s n h (goes 1 (omega arith)) fits
-        (none_before_rounds answer_of after k (suc away) wait _ lasts) in
+        (none_before_rounds answer_of after k (suc away) wait (after_round answer_of after laws wait s) lasts) in
         elim (eqb_tells it.at k) [
           | inl equal ↦ (0, omega arith, it.who ∙ ap Some equal.1)
           | inr differs ↦ (
@@ -268,5 +268,5 @@ module _ {H : Type 0} (answer_of : H → Command → Answer) (after : H → Comm
               let one : suc away - 1 ≡ away = omega arith in
               let found = its_round away it.next (after_round answer_of after laws wait s) (round_net answer_of after laws count it.at it.now n) it.rest
               (goes_later (suc away) entry s n it goes) (fits_later (suc away) entry s n it fits) lasts there (subst (IsAway count it.next k) one less.1) in
-              (suc found.0, omega (arith, found.1.0), found.1.1))
+              (suc found.0, omega (arith, found.1), found.2))
         ]
