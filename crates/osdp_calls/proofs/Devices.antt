@@ -1,15 +1,24 @@
 -- Each call of a device is a list of moves of its site.
-use Rattle.std.proofs.Common.{◌≡◌, ◌≤◌, ℕ, false, List, ◌++◌, length, All, Option, Some, None, IfSome, refl, sym, subst, ap, ◌∙◌}
+use Rattle.std.proofs.Common.{◌≡◌, ◌≤◌, ℕ, Bool, true, false, cond, List, [], ◌∷◌, ◌++◌, length, All, Option, Some, None, IfSome, refl, sym, subst, ap, ◌∙◌}
+use Rattle.std.specs.Prelude.{◌==◌}
 use Rattle.osdp_msg.specs.ReplyTable.{ReplyFits}
 use Rattle.osdp_msg.specs.declared.command.Command.{Command}
+use Rattle.osdp_msg.specs.declared.event.Event.{Event}
+use Rattle.osdp_bus.specs.declared.device.Device.{Device}
 use Rattle.osdp_device.specs.Receiving.{Received}
 use Rattle.osdp_device.specs.Telling.{items_of, next_told}
+use Rattle.osdp_link_laws.specs.Link as link
+use Rattle.osdp_link_laws.specs.Sessions.{unless_full}
 use Rattle.osdp_link_laws.proofs.Lines.{each_of}
+use Rattle.osdp_reader.specs.State.{ReaderState, after_set_handler, after_submit}
 use Rattle.osdp_reader.specs.Table.{hears}
 use Rattle.osdp_reader.specs.declared.handler.Answer.{Answer}
-use Rattle.osdp_shared_line.specs.Line.{Net, changed, site_at}
+use Rattle.osdp_shared_line.specs.Line as line
+use Rattle.osdp_shared_line.specs.Line.{Net, Queue, Site, after_net, changed, left_by, link_of, site_at}
 use Rattle.osdp_shared_line.proofs.Sites.{at_changed, some_same}
-use Rattle.osdp_calls.specs.Calls.{after_next, answers, by_device, changes_at, first_answered, last_of, on_station, read_up_to, reply_to}
+use Rattle.osdp_calls.specs.Accepted.{queued_at}
+use Rattle.osdp_calls.specs.Calls as calls
+use Rattle.osdp_calls.specs.Calls.{SubmitEvent, after_next, answers, by_device, changes_at, first_answered, last_of, on_station, queues, read_up_to, reply_to}
 use Rattle.osdp_calls.specs.Lines.{Burst, InUse, Station, is_past_for_device}
 use Rattle.osdp_calls.specs.Premises.{NextInOrder, NextInRange}
 use Rattle.osdp_calls.proofs.Losing.{changed_twice}
@@ -17,15 +26,77 @@ use Rattle.osdp_calls.proofs.Matching.{FoundAt, Nobody, Somebody, found}
 use Rattle.osdp_calls.proofs.Nexts.{read_to, reads_all, then_refines}
 use Rattle.osdp_calls.proofs.Replying.{next_reader, reader_with}
 use Rattle.osdp_calls.proofs.Same.{IsNetOf}
-use Rattle.osdp_calls.proofs.Stations.{Refines, Sites, by_none, station_changes}
+use Rattle.osdp_calls.proofs.Stations.{Refines, Sites, both_change, by_none, station_changes}
+use Rattle.osdp_calls.proofs.Steps.{StepsTo, by_own, one_queue, queue_no_command, site_queues}
 
 module _ {H : Type 0} (answer_of : H → Command → Answer) (after : H → Command → H) where
+  -- ---- events, and another handler
+
+  queued_so : (full : Bool) (event : Event) (l : InUse H) (k : ℕ) (d : Device) (t : Station H) (s : Site H) → Sites l k d t s
+      → Sites l k d (queues full event t) (left_by s (link.queues full event (link_of s [] [])))
+  queued_so true event l k d t s is = is
+  queued_so false event l k d t s is = record {
+    controller = is.controller;
+    reserved = is.reserved;
+    reader = ap (after_submit event) is.reader;
+    coming = is.coming;
+    account = ap (λ (a : link.Account). record a { queued = a.queued ++ event ∷ []; kept = a.kept ++ event ∷ [] }) is.account;
+    earlier = is.earlier;
+    place = is.place;
+    stored = is.stored;
+  }
+
+  takes_same : (k : ℕ) (event : Event) (l : InUse H) (n : Net H) → IsNetOf l n
+      → site_queues (site_at k n.sites) event ≡ queued_at (site_at k l.stations) event
+  takes_same k event l n h = by_found (found (Sites l) k l.bus.devices.entries l.stations n.sites h.sites)
+    where
+      by_found : FoundAt (Sites l) k k l.bus.devices.entries l.stations n.sites
+          → site_queues (site_at k n.sites) event ≡ queued_at (site_at k l.stations) event
+      by_found (Nobody a b c) = ap (λ o. site_queues o event) c ∙ sym (ap (λ o. queued_at o event) b)
+      by_found (Somebody d t s a b c is) =
+          ap (λ o. site_queues o event) c
+          ∙ ap (λ (r : ReaderState H). unless_full (length r.queue.events == r.queue.capacity) event) is.reader
+          ∙ sym (ap (λ o. queued_at o event) b)
+
+  pub queueing : (k : ℕ) (event : Event) (l : InUse H) (n : Net H) → IsNetOf l n
+      → StepsTo answer_of after (SubmitEvent k event) l n (on_station k (λ t. queues (length t.reader.queue.events == t.reader.queue.capacity) event t) l)
+  queueing k event l n h = record {
+    net = after_net answer_of after (Queue k event) n;
+    moves = Queue k event ∷ [];
+    fit = (tt, tt);
+    run = refl;
+    same = both_change k (λ t. queues (length t.reader.queue.events == t.reader.queue.capacity) event t) (line.calls answer_of after (link.Queue event)) l n h
+        (λ d t s is. subst (λ b. Sites l k d (queues b event t) (line.calls answer_of after (link.Queue event) s))
+        (ap (λ (r : ReaderState H). length r.queue.events == r.queue.capacity) is.reader)
+        (queued_so (length s.reader.queue.events == s.reader.queue.capacity) event l k d t s is));
+    kinds = (refl, tt);
+    submitted = λ j. queue_no_command answer_of after k j event n;
+    queued = λ j. one_queue answer_of after k j event n ∙ ap (λ xs. cond (k == j) xs []) (takes_same k event l n h);
+  }
+
+  pub handling : (k : ℕ) (handler : H) (l : InUse H) (n : Net H) → IsNetOf l n
+      → StepsTo answer_of after (calls.SetHandler k handler) l n (on_station k (λ t. record t { reader = after_set_handler handler t.reader }) l)
+  handling k handler l n h =
+      by_own answer_of after (calls.SetHandler k handler) (line.SetHandler k handler) l n
+      (on_station k (λ t. record t { reader = after_set_handler handler t.reader }) l) (λ j. refl) (λ j. refl) tt refl tt
+      (both_change k (λ t. record t { reader = after_set_handler handler t.reader }) (line.calls answer_of after (link.SetHandler handler)) l n h
+      (λ d t s is. record {
+        controller = is.controller;
+        reserved = is.reserved;
+        reader = ap (after_set_handler handler) is.reader;
+        coming = is.coming;
+        account = is.account;
+        earlier = is.earlier;
+        place = is.place;
+        stored = is.stored;
+      }))
+
   -- what has come on a line is nothing to the net
-  pub lines_change : (k : ℕ) (change : Received → Received) (l : InUse H) (n : Net H) → IsNetOf l n
-      → Refines answer_of after n (on_station k (λ t. record t { line = change t.line }) l)
+  pub lines_change : (k : ℕ) (change : Station H → Received) (l : InUse H) (n : Net H) → IsNetOf l n
+      → Refines answer_of after n (on_station k (λ t. record t { line = change t }) l)
   lines_change k change l n h =
-      by_none answer_of after (on_station k (λ t. record t { line = change t.line }) l) n
-      (station_changes k (λ t. record t { line = change t.line }) l n h (λ d t s is. record {
+      by_none answer_of after (on_station k (λ t. record t { line = change t }) l) n
+      (station_changes k (λ t. record t { line = change t }) l n h (λ d t s is. record {
         controller = is.controller;
         reserved = is.reserved;
         reader = is.reader;
@@ -63,7 +134,7 @@ module _ {H : Type 0} (answer_of : H → Command → Answer) (after : H → Comm
           let t1 : Station H = record (answers answer_of after o t) { reader = reader_with answer_of after o t.reader; place = last_of places t.place } in
           let with_line : Received → Station H = λ q. record t1 { line = q } in
           let held : Received = record t.line { held = told.held } in
-          let second = then_refines answer_of after n l1 (on_station k (λ u. record u { line = held }) l1) first (λ m h1. lines_change k (λ q. held) l1 m h1) in
+          let second = then_refines answer_of after n l1 (on_station k (λ u. record u { line = held }) l1) first (λ m h1. lines_change k (λ u. held) l1 m h1) in
           subst (λ (r : _). Refines answer_of after n (record l {
             stations = changed k (record (answers answer_of after o t) { reader = r; line = held; place = last_of places t.place }) l.stations;
             said = l.said ++ by_device k (reply_to answer_of after o t.reader);

@@ -1,156 +1,295 @@
 -- Every list of calls that keep the premises is a list of moves of a net, so what holds of each site holds of each entry.
-use Rattle.std.proofs.Common.{◌≡◌, ℕ, List, [], ◌∷◌, ◌++◌, Some, sym, subst, ap, ◌∙◌}
+use Rattle.std.proofs.Common.{◌≡◌, ℕ, List, [], ◌∷◌, ◌++◌, Option, Some, None, refl, sym, subst, ap, ◌∙◌, inl, inr}
 use Rattle.osdp_msg.specs.declared.command.Command.{Command}
+use Rattle.osdp_msg.specs.declared.event.Event.{Event}
+use Rattle.osdp_controller.specs.Machine.{Machine}
+use Rattle.osdp_controller.specs.declared.state.State.{State}
+use Rattle.osdp_controller.specs.declared.state.State.TheVariants.{Closed, Quiet, Idle, Waiting, Pausing}
+use Rattle.osdp_bus.specs.Buses.{device_of}
+use Rattle.osdp_bus.specs.declared.device.Device.{Device}
 use Rattle.osdp_bus_laws.specs.Calls as bus
+use Rattle.osdp_device.specs.Deciding.{passed}
 use Rattle.osdp_device.specs.Receiving.{after_silence, after_take, after_tick}
 use Rattle.osdp_link_laws.specs.Headline.{EachIsOnce, IsBeginning, IsWithout}
-use Rattle.osdp_link_laws.specs.Link.{Account}
-use Rattle.osdp_link_laws.specs.Sessions.{AreInARow, IsAmong, all_taken, ended_commands, unsettled_in}
-use Rattle.osdp_link_laws.proofs.Lines.{each_of}
+use Rattle.osdp_link_laws.specs.Link as link
+use Rattle.osdp_link_laws.specs.Link.{Account, Link, Move}
+use Rattle.osdp_link_laws.specs.Sessions as sessions
+use Rattle.osdp_link_laws.specs.Sessions.{AreInARow, HaveLeft, IsAmong, LastsOrLeaves, Leaves, all_submitted, all_taken, ended_commands, queued, submitted, unsettled_in}
+use Rattle.osdp_link_laws.proofs.Lines.{each_append, each_map, each_of}
 use Rattle.osdp_link_laws.proofs.Stages.{Each}
 use Rattle.osdp_reader.specs.State.{ReaderState}
 use Rattle.osdp_reader.specs.declared.handler.Answer.{Answer}
-use Rattle.osdp_shared_line.specs.Addresses.{NoTwoAreTogether}
-use Rattle.osdp_shared_line.specs.Line.{Net, Site, run, site_at}
-use Rattle.osdp_shared_line.specs.Runs.{EachHasSessionsInARow, EachHoldsOnce}
+use Rattle.osdp_shared_line.specs.Addresses.{NetMovesFit, NoTwoAreTogether, NobodyElseHears}
+use Rattle.osdp_shared_line.specs.Line.{Net, NetMove, RestartPanel, Site, after_net, run, site_at}
+use Rattle.osdp_shared_line.specs.Runs.{EachHasSessionsInARow, EachHoldsOnce, moves_of}
+use Rattle.osdp_shared_line.specs.Views.{EachMoveIsItsOwn, view}
 use Rattle.osdp_shared_line.proofs.Sites.{some_same}
-use Rattle.osdp_calls.specs.Calls.{Call, Next, NewDevice, NewPanel, OfPanel, SetBusy, SetHandler, Silence, Step, SubmitEvent, Take, TickDevice, after_call, after_calls}
+use Rattle.osdp_calls.specs.Accepted.{accepted_by, all_accepted, all_queued, queued_by}
+use Rattle.osdp_calls.specs.Calls.{Call, Next, NewDevice, NewPanel, OfPanel, Pending, SetBusy, SetHandler, Silence, Step, SubmitEvent, Take, TickDevice, after_call, after_calls}
 use Rattle.osdp_calls.specs.Lines.{InUse, Station}
 use Rattle.osdp_calls.specs.Premises.{Addresses, AllKeep, InOrder, InRange, IsSetUp, QuietOpening}
-use Rattle.osdp_calls.specs.Promises.{CallsHoldOnce, CallsKeepApart}
-use Rattle.osdp_calls.proofs.Devices.{lines_change, nexting}
+use Rattle.osdp_calls.specs.Promises.{CallsHoldOnce, CallsKeepApart, link_of_entry, state_until}
+use Rattle.osdp_calls.proofs.Counting.{LinkGivesNone, all_heard, counted, in_link, in_net, in_net_more, net_none}
+use Rattle.osdp_calls.proofs.Devices.{handling, lines_change, nexting, queueing}
+use Rattle.osdp_calls.proofs.Losing.{fit_then, run_then}
 use Rattle.osdp_calls.proofs.Matching.{FoundAt, Nobody, Somebody, found}
-use Rattle.osdp_calls.proofs.Nexts.{then_refines}
 use Rattle.osdp_calls.proofs.Orders.{beginning, retargeting, submitting, withdrawing}
 use Rattle.osdp_calls.proofs.Panel.{at_seen}
-use Rattle.osdp_calls.proofs.Powers.{device_anew, panel_anew}
+use Rattle.osdp_calls.proofs.Powers.{device_anew, panel_anew, waiting_too}
 use Rattle.osdp_calls.proofs.Runs.{NotPast, reads_bytes, reads_end}
-use Rattle.osdp_calls.proofs.Same.{IsNetOf}
+use Rattle.osdp_calls.proofs.Same.{Controls, IsNetOf}
 use Rattle.osdp_calls.proofs.Setting.{Starts, first_net, first_site, first_there, starts}
-use Rattle.osdp_calls.proofs.Stations.{Refines, Sites, busying, by_none, handling, queueing}
+use Rattle.osdp_calls.proofs.Stations.{Refines, Sites, busying, by_none}
+use Rattle.osdp_calls.proofs.Steps.{IsOf, IsOfOne, StepsTo, by_plain, queues_none, submits_none}
 use Rattle.osdp_calls.proofs.Ticks.{ticking}
 
 module _ {H : Type 0} (answer_of : H → Command → Answer) (after : H → Command → H) where
   -- ---- a call
 
+  -- a call of the panel that accepts no command
+  reads : (call : bus.Call) (places : List ℕ) (l : InUse H) (n : Net H) → ((k : ℕ) → accepted_by k (OfPanel call) l ≡ [])
+      → Refines answer_of after n (after_call answer_of after (OfPanel call) places l)
+      → StepsTo answer_of after (OfPanel call) l n (after_call answer_of after (OfPanel call) places l)
+  reads call places l n none r =
+      by_plain answer_of after (OfPanel call) l n (after_call answer_of after (OfPanel call) places l) none (λ k. refl) r
+
   panel_call : (call : bus.Call) (places : List ℕ) (l : InUse H) (n : Net H) → IsNetOf l n → InOrder (OfPanel call) places l
       → Each (NotPast l) places → Addresses (OfPanel call) l → InRange answer_of after (OfPanel call) l
-      → Refines answer_of after n (after_call answer_of after (OfPanel call) places l)
+      → StepsTo answer_of after (OfPanel call) l n (after_call answer_of after (OfPanel call) places l)
   panel_call (bus.Add address) places l n h order past addresses range = absurd range
-  panel_call (bus.Begin entry now) [] l n h order past addresses range = beginning answer_of after entry now l n h
+  panel_call (bus.Begin entry now) [] l n h order past addresses range =
+      reads (bus.Begin entry now) [] l n (λ k. refl) (beginning answer_of after entry now l n h)
   panel_call (bus.Begin entry now) (i ∷ places) l n h order past addresses range = absurd order
   panel_call (bus.Submit entry command) [] l n h order past addresses range = submitting answer_of after entry command l n h range addresses
   panel_call (bus.Submit entry command) (i ∷ places) l n h order past addresses range = absurd order
   panel_call (bus.Withdraw entry) [] l n h order past addresses range = withdrawing answer_of after entry l n h
   panel_call (bus.Withdraw entry) (i ∷ places) l n h order past addresses range = absurd order
-  panel_call (bus.Retarget entry address) [] l n h order past addresses range = retargeting answer_of after entry address l n h addresses
+  panel_call (bus.Retarget entry address) [] l n h order past addresses range =
+      reads (bus.Retarget entry address) [] l n (λ k. refl) (retargeting answer_of after entry address l n h addresses)
   panel_call (bus.Retarget entry address) (i ∷ places) l n h order past addresses range = absurd order
-  panel_call (bus.OnBytes bytes now) places l n h order past addresses range = reads_bytes answer_of after bytes now places l n h order past
+  panel_call (bus.OnBytes bytes now) places l n h order past addresses range =
+      reads (bus.OnBytes bytes now) places l n (λ k. refl) (reads_bytes answer_of after bytes now places l n h order past)
   panel_call (bus.OnSilence now) places l n h order past addresses range =
-      reads_end answer_of after places (record l { bus = Rattle.osdp_bus.specs.Buses.seen now l.bus }) n (at_seen now l n h) order past
-  panel_call (bus.Tick now) places l n h order past addresses range = ticking answer_of after now places l n h order past
+      reads (bus.OnSilence now) places l n (λ k. refl)
+      (reads_end answer_of after places (record l { bus = Rattle.osdp_bus.specs.Buses.seen now l.bus }) n (at_seen now l n h) order past)
+  panel_call (bus.Tick now) places l n h order past addresses range =
+      reads (bus.Tick now) places l n (λ k. refl) (ticking answer_of after now places l n h order past)
   panel_call bus.NextReport [] l n h order past addresses range =
-      by_none answer_of after (after_call answer_of after (OfPanel bus.NextReport) [] l) n
-      (record { sites = h.sites; to_panel = h.to_panel; place = h.place; openings = h.openings; said = h.said })
+      reads bus.NextReport [] l n (λ k. refl) (by_none answer_of after (after_call answer_of after (OfPanel bus.NextReport) [] l) n
+      (record { sites = h.sites; to_panel = h.to_panel; place = h.place; openings = h.openings; said = h.said }))
   panel_call bus.NextReport (i ∷ places) l n h order past addresses range = absurd order
 
+  -- a call of a device that takes no event
+  device_reads : (call : Call H) (next l : InUse H) (n : Net H) → ((k : ℕ) → accepted_by k call l ≡ []) → ((k : ℕ) → queued_by k call l ≡ [])
+      → Refines answer_of after n next → StepsTo answer_of after call l n next
+  device_reads call next l n no_command no_event r = by_plain answer_of after call l n next no_command no_event r
+
   pub one_call : (call : Call H) (places : List ℕ) (l : InUse H) (n : Net H) → IsNetOf l n → InOrder call places l → QuietOpening call places l
-      → Addresses call l → InRange answer_of after call l → Refines answer_of after n (after_call answer_of after call places l)
+      → Addresses call l → InRange answer_of after call l → StepsTo answer_of after call l n (after_call answer_of after call places l)
   one_call (OfPanel call) places l n h order quiet addresses range =
       panel_call call places l n h order (each_of (NotPast l) places quiet) addresses range
   one_call (SubmitEvent k event) places l n h order quiet addresses range = queueing answer_of after k event l n h
-  one_call (SetBusy k busy) places l n h order quiet addresses range = busying answer_of after k busy l n h
+  one_call (SetBusy k busy) places l n h order quiet addresses range =
+      device_reads (SetBusy k busy) (after_call answer_of after (SetBusy k busy) places l) l n (λ j. refl) (λ j. refl) (busying answer_of after k busy l n h)
   one_call (SetHandler k handler) places l n h order quiet addresses range = handling answer_of after k handler l n h
-  one_call (Take k bytes now) places l n h order quiet addresses range = lines_change answer_of after k (after_take bytes now) l n h
-  one_call (TickDevice k now) places l n h order quiet addresses range = lines_change answer_of after k (after_tick now) l n h
-  one_call (Silence k now) places l n h order quiet addresses range = lines_change answer_of after k (after_silence now) l n h
-  one_call (Next k) places l n h order quiet addresses range = nexting answer_of after k places l n h order quiet range
+  one_call (Take k bytes now) places l n h order quiet addresses range =
+      device_reads (Take k bytes now) (after_call answer_of after (Take k bytes now) places l) l n (λ j. refl) (λ j. refl)
+      (lines_change answer_of after k (λ t. after_take bytes now t.line) l n h)
+  one_call (TickDevice k now) places l n h order quiet addresses range =
+      device_reads (TickDevice k now) (after_call answer_of after (TickDevice k now) places l) l n (λ j. refl) (λ j. refl)
+      (lines_change answer_of after k (λ t. after_tick now t.line) l n h)
+  one_call (Silence k now) places l n h order quiet addresses range =
+      device_reads (Silence k now) (after_call answer_of after (Silence k now) places l) l n (λ j. refl) (λ j. refl)
+      (lines_change answer_of after k (λ t. after_silence now t.line) l n h)
+  one_call (Next k) places l n h order quiet addresses range =
+      device_reads (Next k) (after_call answer_of after (Next k) places l) l n (λ j. refl) (λ j. refl)
+      (nexting answer_of after k places l n h order quiet range)
+  one_call (Pending k) places l n h order quiet addresses range =
+      device_reads (Pending k) (after_call answer_of after (Pending k) places l) l n (λ j. refl) (λ j. refl)
+      (lines_change answer_of after k (λ t. record t.line { held = passed t.reader t.line.held }) l n h)
   one_call (NewDevice k address handler room gap) places l n h order quiet addresses range =
       device_anew answer_of after k address handler room gap l n h addresses range
   one_call (NewPanel config xs) places l n h order quiet addresses range = panel_anew answer_of after config xs l n h addresses range
 
-  pub all_calls : (steps : List (Step H)) (l : InUse H) (n : Net H) → IsNetOf l n → AllKeep answer_of after steps l
-      → Refines answer_of after n (after_calls answer_of after steps l)
-  all_calls [] l n h keep = by_none answer_of after l n h
+  -- ---- a list of calls
+
+  pub record Came (steps : List (Step H)) (l : InUse H) (n : Net H) : Type 0 where
+    pub net : Net H
+    pub moves : List (NetMove H)
+    pub fit : NetMovesFit answer_of after moves n
+    pub run : run answer_of after moves n ≡ net
+    pub same : IsNetOf (after_calls answer_of after steps l) net
+    pub kinds : Each (IsOfOne steps) moves
+    pub submitted : (k : ℕ) → in_net answer_of after submitted k moves n ≡ all_accepted answer_of after k steps l
+    pub queued : (k : ℕ) → in_net answer_of after queued k moves n ≡ all_queued answer_of after k steps l
+
+  pub all_calls : (steps : List (Step H)) (l : InUse H) (n : Net H) → IsNetOf l n → AllKeep answer_of after steps l → Came steps l n
+  all_calls [] l n h keep =
+      record { net = n; moves = []; fit = tt; run = refl; same = h; kinds = tt; submitted = λ k. refl; queued = λ k. refl }
   all_calls (step ∷ steps) l n h keep =
       let next = after_call answer_of after step.call step.places l in
-      then_refines answer_of after n next (after_calls answer_of after steps next)
-      (one_call step.call step.places l n h keep.0.in_order keep.0.quiet_opening keep.0.addresses keep.0.in_range)
-      (λ m h1. all_calls steps next m h1 keep.1)
+      let a = one_call step.call step.places l n h keep.0.in_order keep.0.quiet_opening keep.0.addresses keep.0.in_range in
+      let b = all_calls steps next a.net a.same keep.1 in
+      record {
+        net = b.net;
+        moves = a.moves ++ b.moves;
+        fit = fit_then answer_of after a.moves b.moves n a.fit (subst (NetMovesFit answer_of after b.moves) (sym a.run) b.fit);
+        run = run_then answer_of after a.moves b.moves n ∙ ap (run answer_of after b.moves) a.run ∙ b.run;
+        same = b.same;
+        kinds = each_append (IsOfOne (step ∷ steps)) a.moves b.moves
+            (each_map (IsOf step.call) (IsOfOne (step ∷ steps)) (λ move is. inl is) a.moves a.kinds)
+            (each_map (IsOfOne steps) (IsOfOne (step ∷ steps)) (λ move is. inr is) b.moves b.kinds);
+        submitted = λ k. in_net_more answer_of after submitted k a.moves b.moves n
+            ∙ (λ i. a.submitted k i ++ (ap (in_net answer_of after submitted k b.moves) a.run ∙ b.submitted k) i);
+        queued = λ k. in_net_more answer_of after queued k a.moves b.moves n
+            ∙ (λ i. a.queued k i ++ (ap (in_net answer_of after queued k b.moves) a.run ∙ b.queued k) i);
+      }
 
   -- ---- so each entry is a site
 
   pub record Comes (l : InUse H) (steps : List (Step H)) : Type 0 where
     pub start : Starts answer_of after l
-    pub refined : Refines answer_of after (first_net start.config l.stations) (after_calls answer_of after steps l)
+    pub came : Came steps l (after_net answer_of after (RestartPanel start.settings) (first_net start.config l.stations))
 
   pub comes : (l : InUse H) (steps : List (Step H)) → IsSetUp l → AllKeep answer_of after steps l → Comes l steps
   comes l steps up keep =
       let s = starts answer_of after l up in
       record {
         start = s;
-        refined = then_refines answer_of after (first_net s.config l.stations) l (after_calls answer_of after steps l) s.refined
-            (λ m h. all_calls steps l m h keep);
+        came = all_calls steps l (after_net answer_of after (RestartPanel s.settings) (first_net s.config l.stations)) s.same keep;
       }
 
-  pub record IsItsSite (k : ℕ) (t : Station H) (n : Net H) : Type 0 where
+  pub record IsItsSite (k : ℕ) (t : Station H) (l : InUse H) (n : Net H) : Type 0 where
     pub site : Site H
     pub there : site_at k n.sites ≡ Some site
     pub reader : site.reader ≡ t.reader
     pub account : site.account ≡ t.account
     pub earlier : site.earlier ≡ t.earlier
+    pub entry : Device
+    pub is_entry : device_of k l.bus ≡ Some entry
+    pub controller : Controls t.begun l.bus.greatest entry.controller site.controller
 
-  pub its_site : (k : ℕ) (t : Station H) (l : InUse H) (n : Net H) → IsNetOf l n → site_at k l.stations ≡ Some t → IsItsSite k t n
+  pub its_site : (k : ℕ) (t : Station H) (l : InUse H) (n : Net H) → IsNetOf l n → site_at k l.stations ≡ Some t → IsItsSite k t l n
   its_site k t l n h is = by_found (found (Sites l) k l.bus.devices.entries l.stations n.sites h.sites)
     where
-      by_found : FoundAt (Sites l) k k l.bus.devices.entries l.stations n.sites → IsItsSite k t n
+      by_found : FoundAt (Sites l) k k l.bus.devices.entries l.stations n.sites → IsItsSite k t l n
       by_found (Nobody a b c) = absurd (let e = sym b ∙ is in cc)
       by_found (Somebody d t1 s a b c has) =
-          let same = some_same t1 t (sym b ∙ is) in
+          let mine : Sites l k d t s = subst (λ u. Sites l k d u s) (some_same t1 t (sym b ∙ is)) has in
           record {
             site = s;
             there = c;
-            reader = has.reader ∙ ap (λ (u : Station H). u.reader) same;
-            account = has.account ∙ ap (λ (u : Station H). u.account) same;
-            earlier = has.earlier ∙ ap (λ (u : Station H). u.earlier) same;
+            reader = mine.reader;
+            account = mine.account;
+            earlier = mine.earlier;
+            entry = d;
+            is_entry = a;
+            controller = mine.controller;
           }
 
-  pub calls_hold : EachHoldsOnce answer_of after → EachHasSessionsInARow answer_of after → CallsHoldOnce answer_of after
-  calls_hold once row l steps up keep k first last is there =
+  -- ---- a session that lasts, or what it leaves
+
+  lasts_same : (st : State) (a b : Link H) → a.account ≡ b.account → a.controller.waiting ≡ b.controller.waiting
+      → a.reader.queue.events ≡ b.reader.queue.events → LastsOrLeaves st a → LastsOrLeaves st b
+  lasts_same Closed a b account waiting events is = subst (λ (p : Account × List Command × List Event). Leaves p.0 p.1 p.2) (λ i. (account i, waiting i, events i)) is
+  lasts_same (Quiet until) a b account waiting events is =
+      subst (λ (t : Account). (t.unsettled ≡ []) × (t.forgotten ≡ []) × (t.removed ≡ [])) account is
+  lasts_same (Idle due) a b account waiting events is =
+      subst (λ (t : Account). (t.unsettled ≡ []) × (t.forgotten ≡ []) × (t.removed ≡ [])) account is
+  lasts_same (Waiting until sends o) a b account waiting events is =
+      subst (λ (t : Account). (t.unsettled ≡ []) × (t.forgotten ≡ []) × (t.removed ≡ [])) account is
+  lasts_same (Pausing until o) a b account waiting events is =
+      subst (λ (t : Account). (t.unsettled ≡ []) × (t.forgotten ≡ []) × (t.removed ≡ [])) account is
+
+  state_same : (o : Option ℕ) (top : ℕ) (m c : Machine) → Controls o top m c → c.session.state ≡ state_until o m.session.state
+  state_same None top m c is = ap (λ (x : Machine). x.session.state) is.same
+  state_same (Some began) top m c is = ap (λ (x : Machine). x.session.state) is.same
+
+  lasts_here : (t : Station H) (d : Device) (top : ℕ) (s : Site H) (b : Link H) → Controls t.begun top d.controller s.controller
+      → s.controller.session.state ≡ b.controller.session.state → s.account ≡ t.account → s.reader ≡ t.reader
+      → b.account ≡ s.account → b.controller.waiting ≡ s.controller.waiting → b.reader ≡ s.reader
+      → LastsOrLeaves s.controller.session.state b → LastsOrLeaves (state_until t.begun d.controller.session.state) (link_of_entry d t)
+  lasts_here t d top s b control state account reader account_too waiting_same reader_too is =
+      lasts_same (state_until t.begun d.controller.session.state) b (link_of_entry d t) (account_too ∙ account)
+      (waiting_same ∙ waiting_too t.begun top d.controller s.controller control)
+      (ap (λ (r : ReaderState H). r.queue.events) (reader_too ∙ reader))
+      (subst (λ st. LastsOrLeaves st b) (state_same t.begun top d.controller s.controller control) is)
+
+  -- ---- the promises
+
+  given_in : (own : EachMoveIsItsOwn answer_of after) → (nobody : NobodyElseHears answer_of after) → {A : Type 0} (f : Move H → Link H → List A)
+      → ((m : Move H) (l : Link H) → LinkGivesNone m → f m l ≡ []) → (l : InUse H) (steps : List (Step H)) (c : Comes l steps) (k : ℕ) (t : Station H)
+      → site_at k l.stations ≡ Some t
+      → counted answer_of after f (moves_of answer_of after k (RestartPanel c.start.settings ∷ c.came.moves) (first_net c.start.config l.stations))
+      (view k (first_site c.start.config t) (first_net c.start.config l.stations))
+      ≡ in_net answer_of after f k c.came.moves (after_net answer_of after (RestartPanel c.start.settings) (first_net c.start.config l.stations))
+  given_in own nobody f none l steps c k t is =
+      let n0 = first_net c.start.config l.stations in
+      let restart = RestartPanel c.start.settings in
+      let moves = restart ∷ c.came.moves in
+      in_link answer_of after f own k moves n0 (first_site c.start.config t)
+      (all_heard answer_of after nobody n0 c.start.is_set_up [] moves (c.start.fits, c.came.fit)) (c.start.fits, c.came.fit)
+      (first_there c.start.config k t l.stations is)
+      ∙ in_net_more answer_of after f k (restart ∷ []) c.came.moves n0
+      ∙ ap (λ xs. xs ++ in_net answer_of after f k c.came.moves (after_net answer_of after restart n0))
+      (net_none answer_of after f none k (restart ∷ []) n0 (tt, tt))
+
+  pub commands_counted : (ms : List (Move H)) (l : Link H) → all_submitted answer_of after ms l ≡ counted answer_of after submitted ms l
+  commands_counted [] l = refl
+  commands_counted (m ∷ ms) l = ap (λ xs. submitted m l ++ xs) (commands_counted ms (link.after_move answer_of after m l))
+
+  pub events_counted : (ms : List (Move H)) (l : Link H) → sessions.all_queued answer_of after ms l ≡ counted answer_of after queued ms l
+  events_counted [] l = refl
+  events_counted (m ∷ ms) l = ap (λ xs. queued m l ++ xs) (events_counted ms (link.after_move answer_of after m l))
+
+  pub calls_hold : EachMoveIsItsOwn answer_of after → NobodyElseHears answer_of after → EachHoldsOnce answer_of after
+      → EachHasSessionsInARow answer_of after → CallsHoldOnce answer_of after
+  calls_hold own nobody once row l steps up keep k first last is there =
       let c = comes l steps up keep in
       let n0 = first_net c.start.config l.stations in
-      let r = c.refined.reached in
+      let restart = RestartPanel c.start.settings in
+      let moves = restart ∷ c.came.moves in
+      let fit : NetMovesFit answer_of after moves n0 = (c.start.fits, c.came.fit) in
       let ls = after_calls answer_of after steps l in
-      let s = its_site k last ls c.refined.net c.refined.same there in
-      let first_there_is = first_there c.start.config k first l.stations is in
-      let at : site_at k (run answer_of after r.moves n0).sites ≡ Some s.site = ap (λ (m : Net H). site_at k m.sites) r.run ∙ s.there in
-      let held = once n0 r.moves c.start.is_set_up r.fit k (first_site c.start.config first) s.site first_there_is at in
-      let rows = row n0 r.moves c.start.is_set_up r.fit k (first_site c.start.config first) s.site first_there_is at in
-      let taken : (left_out : List Command) × (others : List Command)
-      × IsAmong left_out (unsettled_in (s.site.account ∷ s.site.earlier))
-      × IsWithout left_out (ended_commands s.site.earlier ++ s.site.account.issued) others
-      × IsBeginning (all_taken (s.site.account ∷ s.site.earlier)) others =
-      subst (λ all. (left_out : List Command) × (others : List Command)
-      × IsAmong left_out (unsettled_in (s.site.account ∷ s.site.earlier))
-      × IsWithout left_out all others
-      × IsBeginning (all_taken (s.site.account ∷ s.site.earlier)) others) rows.commands rows.taken in
+      let s = its_site k last ls c.came.net c.came.same there in
+      let f = first_site c.start.config first in
+      let from = first_there c.start.config k first l.stations is in
+      let at : site_at k (run answer_of after moves n0).sites ≡ Some s.site = ap (λ (m : Net H). site_at k m.sites) c.came.run ∙ s.there in
+      let held = once n0 moves c.start.is_set_up fit k f s.site from at in
+      let rows = row n0 moves c.start.is_set_up fit k f s.site from at in
+      let ms = moves_of answer_of after k moves n0 in
+      let commands : all_submitted answer_of after ms (view k f n0) ≡ all_accepted answer_of after k steps l =
+      commands_counted ms (view k f n0) ∙ given_in own nobody submitted submits_none l steps c k first is ∙ c.came.submitted k in
+      let events : first.reader.queue.events ++ sessions.all_queued answer_of after ms (view k f n0)
+      ≡ first.reader.queue.events ++ all_queued answer_of after k steps l =
+      ap (λ xs. first.reader.queue.events ++ xs)
+      (events_counted ms (view k f n0) ∙ given_in own nobody queued queues_none l steps c k first is ∙ c.came.queued k) in
       record {
         once = subst EachIsOnce (λ i. s.account i ∷ s.earlier i) held;
         row = subst (λ (p : Account × List Account). AreInARow p.0 p.1) (λ i. (s.account i, s.earlier i)) rows.row;
-        taken = subst (λ (p : Account × List Account). (left_out : List Command) × (others : List Command)
-            × IsAmong left_out (unsettled_in (p.0 ∷ p.1))
-            × IsWithout left_out (ended_commands p.1 ++ p.0.issued) others
-            × IsBeginning (all_taken (p.0 ∷ p.1)) others) (λ i. (s.account i, s.earlier i)) taken;
+        commands = sym commands ∙ rows.commands ∙ (λ i. ended_commands (s.earlier i) ++ (s.account i).issued);
+        events = subst (λ (p : List Event × Account × List Account). (gone : List Event) × HaveLeft p.0 p.2 gone × (p.0 ≡ gone ++ p.1.queued))
+            (λ i. (events i, s.account i, s.earlier i)) rows.events;
+        taken = subst (λ (p : List Command × Account × List Account). (left_out : List Command) × (others : List Command)
+            × IsAmong left_out (unsettled_in (p.1 ∷ p.2))
+            × IsWithout left_out p.0 others
+            × IsBeginning (all_taken (p.1 ∷ p.2)) others) (λ i. (commands i, s.account i, s.earlier i)) rows.taken;
+        lasts = (
+          s.entry,
+          s.is_entry,
+          lasts_here last s.entry ls.bus.greatest s.site (view k s.site (run answer_of after moves n0)) s.controller refl s.account s.reader
+              refl refl refl rows.lasts,
+        );
       }
 
   pub calls_apart : NoTwoAreTogether answer_of after → CallsKeepApart answer_of after
   calls_apart apart l steps up keep j k s t other at there e =
       let c = comes l steps up keep in
       let n0 = first_net c.start.config l.stations in
-      let r = c.refined.reached in
+      let restart = RestartPanel c.start.settings in
       let ls = after_calls answer_of after steps l in
-      let a = its_site j s ls c.refined.net c.refined.same at in
-      let b = its_site k t ls c.refined.net c.refined.same there in
-      apart n0 r.moves c.start.is_set_up r.fit j k a.site b.site other
-      (ap (λ (m : Net H). site_at j m.sites) r.run ∙ a.there) (ap (λ (m : Net H). site_at k m.sites) r.run ∙ b.there)
+      let a = its_site j s ls c.came.net c.came.same at in
+      let b = its_site k t ls c.came.net c.came.same there in
+      apart n0 (restart ∷ c.came.moves) c.start.is_set_up (c.start.fits, c.came.fit) j k a.site b.site other
+      (ap (λ (m : Net H). site_at j m.sites) c.came.run ∙ a.there) (ap (λ (m : Net H). site_at k m.sites) c.came.run ∙ b.there)
       (ap (λ (x : ReaderState H). x.config.address) a.reader ∙ e ∙ sym (ap (λ (x : ReaderState H). x.config.address) b.reader))

@@ -2,6 +2,8 @@ mod Losing
 mod Matching
 mod Same
 mod Stations
+mod Counting
+mod Steps
 mod Ahead
 mod Replying
 mod Nexts
@@ -16,4 +18,10 @@ mod Orders
 mod Powers
 mod Setting
 mod Holding
+mod Costing
 mod Sayings
+mod Handing
+mod Turning
+mod Ends
+mod Refusing
+mod OneDevice

@@ -4,9 +4,11 @@ use Rattle.osdp_frame.specs.Packet.{Packet}
 use Rattle.osdp_msg.specs.declared.command.Command.{Command}
 use Rattle.osdp_reader.specs.declared.handler.Answer.{Answer}
 use Rattle.osdp_link_laws.specs.Link.{lost_at}
+use Rattle.osdp_link_laws.proofs.Lines.{each_append}
+use Rattle.osdp_link_laws.proofs.Stages.{Each}
 use Rattle.osdp_shared_line.specs.Addresses.{NetMoveFits, NetMovesFit}
 use Rattle.osdp_shared_line.specs.Line as line
-use Rattle.osdp_shared_line.specs.Line.{LoseToPanel, LoseToReader, Net, NetMove, Site, after_net, changed, run, site_at}
+use Rattle.osdp_shared_line.specs.Line.{LoseToPanel, LoseToReader, Net, NetMove, Queue, RestartPanel, RestartReader, SetHandler, Site, Submit, Withdraw, after_net, changed, run, site_at}
 use Rattle.osdp_shared_line.proofs.Sites.{at_changed}
 use Rattle.osdp_calls.specs.Lines.{Burst, those}
 
@@ -42,6 +44,16 @@ pub lost_middle : {A : Type 0} (xs : List A) (x : A) (ys : List A) → lost_at (
 lost_middle [] x ys = refl
 lost_middle (z ∷ xs) x ys = ap (λ l. z ∷ l) (lost_middle xs x ys)
 
+-- a move that gives no command and no event, sets no handler, takes nothing back and restarts nobody
+abbrev pub IsPlain : {H : Type 0} → NetMove H → Type 0
+IsPlain (Submit k command) = ⊥
+IsPlain (Queue k event) = ⊥
+IsPlain (SetHandler k handler) = ⊥
+IsPlain (Withdraw k) = ⊥
+IsPlain (RestartReader k address handler room) = ⊥
+IsPlain (RestartPanel settings) = ⊥
+IsPlain _ = Unit {0}
+
 module _ {H : Type 0} (answer_of : H → Command → Answer) (after : H → Command → H) where
   -- ---- what moves come to
 
@@ -49,15 +61,16 @@ module _ {H : Type 0} (answer_of : H → Command → Answer) (after : H → Comm
     pub moves : List (NetMove H)
     pub fit : NetMovesFit answer_of after moves n
     pub run : run answer_of after moves n ≡ m
+    pub plain : Each IsPlain moves
 
   pub stays : (n : Net H) → Reaches n n
-  stays n = record { moves = []; fit = tt; run = refl }
+  stays n = record { moves = []; fit = tt; run = refl; plain = tt }
 
-  run_then : (ms more : List (NetMove H)) (n : Net H) → run answer_of after (ms ++ more) n ≡ run answer_of after more (run answer_of after ms n)
+  pub run_then : (ms more : List (NetMove H)) (n : Net H) → run answer_of after (ms ++ more) n ≡ run answer_of after more (run answer_of after ms n)
   run_then [] more n = refl
   run_then (m ∷ ms) more n = run_then ms more (after_net answer_of after m n)
 
-  fit_then : (ms more : List (NetMove H)) (n : Net H) → NetMovesFit answer_of after ms n → NetMovesFit answer_of after more (run answer_of after ms n)
+  pub fit_then : (ms more : List (NetMove H)) (n : Net H) → NetMovesFit answer_of after ms n → NetMovesFit answer_of after more (run answer_of after ms n)
       → NetMovesFit answer_of after (ms ++ more) n
   fit_then [] more n first last = last
   fit_then (m ∷ ms) more n first last = (first.0, fit_then ms more (after_net answer_of after m n) first.1 last)
@@ -67,10 +80,11 @@ module _ {H : Type 0} (answer_of : H → Command → Answer) (after : H → Comm
     moves = x.moves ++ y.moves;
     fit = fit_then x.moves y.moves a x.fit (subst (NetMovesFit answer_of after y.moves) (sym x.run) y.fit);
     run = run_then x.moves y.moves a ∙ ap (run answer_of after y.moves) x.run ∙ y.run;
+    plain = each_append IsPlain x.moves y.moves x.plain y.plain;
   }
 
-  pub one_move : (move : NetMove H) (n : Net H) → NetMoveFits answer_of after move n → Reaches n (after_net answer_of after move n)
-  one_move move n fits = record { moves = move ∷ []; fit = (fits, tt); run = refl }
+  pub one_move : (move : NetMove H) (n : Net H) → IsPlain move → NetMoveFits answer_of after move n → Reaches n (after_net answer_of after move n)
+  one_move move n plain fits = record { moves = move ∷ []; fit = (fits, tt); run = refl; plain = (plain, tt) }
 
   -- ---- losses
 
@@ -86,7 +100,7 @@ module _ {H : Type 0} (answer_of : H → Command → Answer) (after : H → Comm
   lose_to_panel us vs front n (SubLeave x xs ys sub) =
       then_reaches (with_panel (front ++ x ∷ ys) n) (with_panel (front ++ ys) n) (with_panel (front ++ xs) n)
       (subst (λ l. Reaches (with_panel (front ++ x ∷ ys) n) (with_panel l n)) (lost_middle front x ys)
-      (one_move (LoseToPanel (length front)) (with_panel (front ++ x ∷ ys) n) tt))
+      (one_move (LoseToPanel (length front)) (with_panel (front ++ x ∷ ys) n) tt tt))
       (lose_to_panel xs ys front n sub)
 
   abbrev pub with_coming : ℕ → Site H → List (ℕ × Packet) → Net H → Net H
@@ -112,5 +126,5 @@ module _ {H : Type 0} (answer_of : H → Command → Answer) (after : H → Comm
   lose_to_reader k s us vs front n is (SubLeave x xs ys sub) =
       then_reaches (with_coming k s (front ++ x ∷ ys) n) (with_coming k s (front ++ ys) n) (with_coming k s (front ++ xs) n)
       (subst (λ m. Reaches (with_coming k s (front ++ x ∷ ys) n) m) (lose_one k s front ys x n is)
-      (one_move (LoseToReader k (length front)) (with_coming k s (front ++ x ∷ ys) n) tt))
+      (one_move (LoseToReader k (length front)) (with_coming k s (front ++ x ∷ ys) n) tt tt))
       (lose_to_reader k s xs ys front n is sub)

@@ -165,7 +165,7 @@ module _ {H : Type 0} where
             device_said k o.reply l1 n1 replies.said read in
             let there_too : line.hears_at answer_of after k p s n ≡ record n1 { to_panel = n1.to_panel ++ tagged k (option_to_list o.reply) } =
             ap (λ (r : ReaderState H). record n1 { to_panel = n1.to_panel ++ tagged k (option_to_list (hears answer_of after r p).reply) }) at.reader in
-            by_move answer_of after (ToReader k Repeated) (device_says k (option_to_list o.reply) l1) n
+            by_move answer_of after (ToReader k Repeated) (device_says k (option_to_list o.reply) l1) n tt
             (λ s1 at1. subst (λ u. SaysWhatFitsIf answer_of after Repeated (in_front u.coming) u.reader) (some_same s s1 (sym c ∙ at1))
             (subst (λ qs. SaysWhatFitsIf answer_of after Repeated (in_front qs) s.reader) (sym coming)
             (subst (λ q. IfSome (hears answer_of after s.reader q).said ReplyFits) (sym same)

@@ -21,6 +21,7 @@ use Rattle.osdp_bus.specs.Machine.{after_begin_at, after_submit_at, begin_refusa
 use Rattle.osdp_bus.specs.declared.device.Device.{Device}
 use Rattle.osdp_bus.specs.declared.fault.BusFault.{BusFault}
 use Rattle.osdp_bus.specs.declared.fault.BusFault.TheVariants.{AddressTaken}
+use Rattle.osdp_bus_laws.specs.Calls as panel
 use Rattle.osdp_link_laws.specs.Link as link
 use Rattle.osdp_reader.specs.declared.handler.Answer.{Answer}
 use Rattle.osdp_shared_line.specs.Addresses as addresses
@@ -28,7 +29,7 @@ use Rattle.osdp_shared_line.specs.Addresses.{HasNoOther, Sets, Somewhere, asked_
 use Rattle.osdp_shared_line.specs.Line as line
 use Rattle.osdp_shared_line.specs.Line.{Net, Retarget, Site, Submit, Withdraw, after_net, changed, site_at}
 use Rattle.osdp_shared_line.proofs.Sites.{some_same}
-use Rattle.osdp_calls.specs.Calls.{change_at, changes_at, is_to_begin, issues, takes_back, withdrawn}
+use Rattle.osdp_calls.specs.Calls.{OfPanel, change_at, changes_at, is_to_begin, issues, takes_back, withdrawn}
 use Rattle.osdp_calls.specs.Lines.{InUse, Station}
 use Rattle.osdp_calls.specs.Premises.{IsAsked, IsNoOthers, IsSaid, IsThere, MayBeAt}
 use Rattle.osdp_calls.proofs.Controllers.{closed_of, config_same, is_to_open, retargeted_same, submitted_same, waiting_same, withdrawn_same}
@@ -36,6 +37,7 @@ use Rattle.osdp_calls.proofs.Matching.{And, Done, FoundAt, Match, Nobody, Somebo
 use Rattle.osdp_calls.proofs.Panel.{at_seen}
 use Rattle.osdp_calls.proofs.Same.{Controls, IsNetOf, IsSame, IsToOpen}
 use Rattle.osdp_calls.proofs.Stations.{Refines, Sites, by_move, by_none}
+use Rattle.osdp_calls.proofs.Steps.{StepsTo, by_own, by_plain, by_refusal, by_submit}
 
 some_fault : (o : Option ControllerFault) → option_map bus_fault o ≡ None → o ≡ None
 some_fault None none = refl
@@ -220,14 +222,14 @@ module _ {H : Type 0} where
 
     pub submitting : (k : ℕ) (command : Command) (l : InUse H) (n : Net H) → IsNetOf l n → CommandFits command
         → (submit_refusal_at k command l.bus ≡ None → (asked : Communication) → comset_of command ≡ Some asked → IsNoOthers k asked.address l)
-        → Refines answer_of after n (record l {
+        → StepsTo answer_of after (OfPanel (panel.Submit k command)) l n (record l {
           bus = changed_unless (submit_refusal_at k command l.bus) l.bus (after_submit_at k command l.bus);
           stations = changed_unless (submit_refusal_at k command l.bus) l.stations (change_at k (issues command) l.stations);
         })
     submitting k command l n h fits addresses = by_fault (submit_refusal_at k command l.bus) refl
       where
         by_found : submit_refusal_at k command l.bus ≡ None → FoundAt (Sites l) k k l.bus.devices.entries l.stations n.sites
-            → Refines answer_of after n (record l { bus = after_submit_at k command l.bus; stations = change_at k (issues command) l.stations })
+            → StepsTo answer_of after (OfPanel (panel.Submit k command)) l n (record l { bus = after_submit_at k command l.bus; stations = change_at k (issues command) l.stations })
         by_found is (Nobody a b c) = absurd (let e = sym (ap (λ o. bus.submit_refusal_of k command o l.bus) a) ∙ is in cc)
         by_found is (Somebody d t s a b c has) =
             let taken = bus.is_comset_refused (comset_of command) k d l.bus in
@@ -249,11 +251,12 @@ module _ {H : Type 0} where
             }) same in
             let e : Device = bus.device_submits command d in
             let u : Station H = issues command t in
-            subst (Refines answer_of after n) (sym (changes_one k (bus.device_submits command) (issues command) l d t a b))
-            (by_move answer_of after (Submit k command) (record l {
+            subst (StepsTo answer_of after (OfPanel (panel.Submit k command)) l n) (sym (changes_one k (bus.device_submits command) (issues command) l d t a b))
+            (by_submit answer_of after k command s l n (record l {
               bus = record l.bus { devices = record l.bus.devices { entries = slice_set l.bus.devices.entries k e } };
               stations = changed k u l.stations;
-            }) n (fits, λ s2 asked at2 ok moves. no_other k asked.address l n h (addresses is asked moves))
+            }) c (refused_same (comset_of command) k d t s l n h has ∙ accepted.0) same is
+            (fits, λ s2 asked at2 ok moves. no_other k asked.address l n h (addresses is asked moves))
             (subst (IsNetOf (record l {
               bus = record l.bus { devices = record l.bus.devices { entries = slice_set l.bus.devices.entries k e } };
               stations = changed k u l.stations;
@@ -274,11 +277,11 @@ module _ {H : Type 0} where
               said = h.said;
             })))
 
-        by_fault : (f : Option BusFault) → submit_refusal_at k command l.bus ≡ f → Refines answer_of after n (record l {
+        by_fault : (f : Option BusFault) → submit_refusal_at k command l.bus ≡ f → StepsTo answer_of after (OfPanel (panel.Submit k command)) l n (record l {
           bus = changed_unless f l.bus (after_submit_at k command l.bus);
           stations = changed_unless f l.stations (change_at k (issues command) l.stations);
         })
-        by_fault (Some fault) is = by_none answer_of after l n h
+        by_fault (Some fault) is = by_refusal answer_of after k command fault l n is h
         by_fault None is = by_found is (found (Sites l) k l.bus.devices.entries l.stations n.sites h.sites)
 
     -- ---- a command is taken back
@@ -287,7 +290,7 @@ module _ {H : Type 0} where
     frees_same None r = refl
     frees_same (Some command) r = refl
 
-    pub withdrawing : (k : ℕ) (l : InUse H) (n : Net H) → IsNetOf l n → Refines answer_of after n (record l {
+    pub withdrawing : (k : ℕ) (l : InUse H) (n : Net H) → IsNetOf l n → StepsTo answer_of after (OfPanel (panel.Withdraw k)) l n (record l {
       bus = bus.after_withdraw_at k l.bus;
       stations = change_at k (takes_back (withdrawn (bus.withdrawal_at k l.bus))) l.stations;
     })
@@ -297,7 +300,7 @@ module _ {H : Type 0} where
         to o = record l { bus = changes_device k bus.device_withdraws l.bus; stations = change_at k (takes_back (withdrawn (bus.withdrawal_of o))) l.stations }
 
         by_begun : (d : Device) (t : Station H) (s : Site H) → slice_get l.bus.devices.entries k ≡ Some d → site_at k l.stations ≡ Some t
-            → site_at k n.sites ≡ Some s → Sites l k d t s → (o : Option ℕ) → t.begun ≡ o → Refines answer_of after n (record l {
+            → site_at k n.sites ≡ Some s → Sites l k d t s → (o : Option ℕ) → t.begun ≡ o → StepsTo answer_of after (OfPanel (panel.Withdraw k)) l n (record l {
               bus = record l.bus { devices = record l.bus.devices { entries = slice_set l.bus.devices.entries k (bus.device_withdraws d) } };
               stations = changed k (takes_back (option_to_list (bus.withdrawn_of d)) t) l.stations;
             })
@@ -307,10 +310,10 @@ module _ {H : Type 0} where
             let u : Station H = takes_back (option_to_list (bus.withdrawn_of d)) t in
             let same : controllers.withdrawn_in s.controller.session.state s.controller.waiting ≡ bus.withdrawn_of d =
             ap (λ (x : Machine). controllers.withdrawn_in x.session.state x.waiting) control.same in
-            by_move answer_of after (Withdraw k) (record l {
+            by_own answer_of after (OfPanel (panel.Withdraw k)) (Withdraw k) l n (record l {
               bus = record l.bus { devices = record l.bus.devices { entries = slice_set l.bus.devices.entries k e } };
               stations = changed k u l.stations;
-            }) n tt
+            }) (λ j. refl) (λ j. refl) tt refl tt
             (subst (IsNetOf (record l {
               bus = record l.bus { devices = record l.bus.devices { entries = slice_set l.bus.devices.entries k e } };
               stations = changed k u l.stations;
@@ -342,31 +345,31 @@ module _ {H : Type 0} where
             let stays : takes_back (option_to_list (bus.withdrawn_of d)) t ≡ t =
             (λ i. record t { account = record t.account { removed = t.account.removed ++ map link.Withdrawn (option_to_list (nothing i)) } })
             ∙ ap (λ xs. record t { account = record t.account { removed = xs } }) (append-nil t.account.removed) in
-            subst (λ x. Refines answer_of after n (record l {
+            subst (λ x. StepsTo answer_of after (OfPanel (panel.Withdraw k)) l n (record l {
               bus = record l.bus { devices = record l.bus.devices { entries = x } };
               stations = changed k (takes_back (option_to_list (bus.withdrawn_of d)) t) l.stations;
             })) (sym (ap (slice_set l.bus.devices.entries k) kept ∙ set_same k d l.bus.devices.entries a))
-            (subst (λ x. Refines answer_of after n (record l { stations = x })) (sym (ap (λ x. changed k x l.stations) stays ∙ changed_same k t l.stations b))
-            (by_none answer_of after l n h))
+            (subst (λ x. StepsTo answer_of after (OfPanel (panel.Withdraw k)) l n (record l { stations = x })) (sym (ap (λ x. changed k x l.stations) stays ∙ changed_same k t l.stations b))
+            (by_plain answer_of after (OfPanel (panel.Withdraw k)) l n l (λ j. refl) (λ j. refl) (by_none answer_of after l n h)))
 
-        by_found : FoundAt (Sites l) k k l.bus.devices.entries l.stations n.sites → Refines answer_of after n (record l {
+        by_found : FoundAt (Sites l) k k l.bus.devices.entries l.stations n.sites → StepsTo answer_of after (OfPanel (panel.Withdraw k)) l n (record l {
           bus = bus.after_withdraw_at k l.bus;
           stations = change_at k (takes_back (withdrawn (bus.withdrawal_at k l.bus))) l.stations;
         })
         by_found (Nobody a b c) =
-            subst (λ x. Refines answer_of after n x)
+            subst (λ x. StepsTo answer_of after (OfPanel (panel.Withdraw k)) l n x)
             (λ i. record l {
               bus = Rattle.std.specs.Option.option_map_or (λ (e : Device). record l.bus {
                 devices = record l.bus.devices { entries = slice_set l.bus.devices.entries k (bus.device_withdraws e) };
               }) (sym a i) l.bus;
               stations = changes_at k (takes_back (withdrawn (bus.withdrawal_at k l.bus))) (sym b i) l.stations;
-            }) (by_none answer_of after l n h)
+            }) (by_plain answer_of after (OfPanel (panel.Withdraw k)) l n l (λ j. refl) (λ j. refl) (by_none answer_of after l n h))
         by_found (Somebody d t s a b c has) =
-            subst (λ o. Refines answer_of after n (record l {
+            subst (λ o. StepsTo answer_of after (OfPanel (panel.Withdraw k)) l n (record l {
               bus = bus.after_withdraw_at k l.bus;
               stations = change_at k (takes_back (withdrawn (bus.withdrawal_of o))) l.stations;
             })) (sym a)
-            (subst (Refines answer_of after n) (sym (changes_one k bus.device_withdraws (takes_back (option_to_list (bus.withdrawn_of d))) l d t a b))
+            (subst (StepsTo answer_of after (OfPanel (panel.Withdraw k)) l n) (sym (changes_one k bus.device_withdraws (takes_back (option_to_list (bus.withdrawn_of d))) l d t a b))
             (by_begun d t s a b c has t.begun refl))
 
     -- ---- another address
@@ -412,7 +415,7 @@ module _ {H : Type 0} where
                 devices = record l.bus.devices { entries = slice_set l.bus.devices.entries k (bus.device_retargets address f) };
               }) o l.bus;
             })) (sym a)
-            (by_move answer_of after (Retarget k address) l1 n (λ s2 at2 ok. no_other k address l n h (free is))
+            (by_move answer_of after (Retarget k address) l1 n tt (λ s2 at2 ok. no_other k address l n h (free is))
             (subst (IsNetOf l1) (sym next) (record {
               sites = subst (λ ts. Match (Sites l1) 0 (slice_set l.bus.devices.entries k e) ts (changed k s1 n.sites)) (changed_same k t l.stations b)
                   (set (Sites l) k e t s1 l.bus.devices.entries l.stations n.sites h.sites (record {

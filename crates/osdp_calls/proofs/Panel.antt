@@ -196,7 +196,7 @@ module _ {H : Type 0} where
             let same_heard : hears p top s.controller.session ≡ heard = hears_same p top d.controller s.controller control in
             let e : Device = record { controller = record d.controller { session = heard.session }; reserved = reserved_after heard.report d.reserved } in
             let u : Station H = record t { account = after_report heard.report t.account } in
-            by_move answer_of after (ToPanel Repeated top) (by_heard k d heard) n tt
+            by_move answer_of after (ToPanel Repeated top) (by_heard k d heard) n tt tt
             (subst (IsNetOf (by_heard k d heard)) (sym next) (record {
               sites = subst (λ ts. Match (Sites l) 0 (slice_set l.bus.devices.entries k e) ts (changed k (gets p top s) n.sites)) (sym (one_told k heard.report t l.stations there))
                   (set (Sites l) k e u (gets p top s) l.bus.devices.entries l.stations n.sites h.sites (record {

@@ -18,7 +18,7 @@ use Rattle.osdp_shared_line.specs.Addresses.{IsNameOf, Somewhere}
 use Rattle.osdp_shared_line.specs.Line as line
 use Rattle.osdp_shared_line.specs.Line.{Net, RestartPanel, RestartReader, Site, address_of, after_net, all_restart, restarts, site_at}
 use Rattle.osdp_shared_line.proofs.Sites.{some_same}
-use Rattle.osdp_calls.specs.Calls.{all_forget, made_anew, on_station, panel_made_anew}
+use Rattle.osdp_calls.specs.Calls.{NewDevice, NewPanel, all_forget, made_anew, on_station, panel_made_anew}
 use Rattle.osdp_calls.specs.Lines.{InUse, Station}
 use Rattle.osdp_calls.specs.Premises.{IsFreeFor, PanelIsApart}
 use Rattle.osdp_calls.proofs.Controllers.{config_same, equal_same}
@@ -26,7 +26,8 @@ use Rattle.osdp_calls.proofs.Matching.{And, Done, FoundAt, Match, Nobody, Somebo
 use Rattle.osdp_calls.proofs.Nexts.{each_at}
 use Rattle.osdp_calls.proofs.Orders.{no_other}
 use Rattle.osdp_calls.proofs.Same.{Controls, IsNetOf, IsSiteOf}
-use Rattle.osdp_calls.proofs.Stations.{Refines, Sites, both_change, by_move}
+use Rattle.osdp_calls.proofs.Stations.{Sites, both_change}
+use Rattle.osdp_calls.proofs.Steps.{StepsTo, by_own}
 
 -- the settings of the controllers of a bus with these addresses
 abbrev pub address_at : ℕ → List ℕ → ℕ
@@ -62,11 +63,11 @@ are_settings config a is lt = record {
   limit = is.controllers.limit;
 }
 
-outstanding_same : (o : Option ℕ) (top : ℕ) (m c : Machine) → Controls o top m c → link.outstanding_command c.session.state ≡ link.outstanding_command m.session.state
+pub outstanding_same : (o : Option ℕ) (top : ℕ) (m c : Machine) → Controls o top m c → link.outstanding_command c.session.state ≡ link.outstanding_command m.session.state
 outstanding_same None top m c is = ap (λ (x : Machine). link.outstanding_command x.session.state) is.same
 outstanding_same (Some began) top m c is = ap (λ (x : Machine). link.outstanding_command x.session.state) is.same ∙ sym (ap link.outstanding_command is.quiet)
 
-waiting_too : (o : Option ℕ) (top : ℕ) (m c : Machine) → Controls o top m c → c.waiting ≡ m.waiting
+pub waiting_too : (o : Option ℕ) (top : ℕ) (m c : Machine) → Controls o top m c → c.waiting ≡ m.waiting
 waiting_too None top m c is = ap (λ (d : Machine). d.waiting) is.same
 waiting_too (Some began) top m c is = ap (λ (d : Machine). d.waiting) is.same
 
@@ -80,13 +81,10 @@ module _ {H : Type 0} where
   module _ (answer_of : H → Command → Answer) (after : H → Command → H) where
     -- ---- a device
 
-    pub device_anew : (k address : ℕ) (handler : H) (room gap : ℕ) (l : InUse H) (n : Net H) → IsNetOf l n
-        → ((t : Station H) → site_at k l.stations ≡ Some t → (t.reader.config.address ≡ address) ⊎ IsFreeFor k address t l)
-        → (address < 127) × (1 ≤ room) × (room ≤ 1024) → Refines answer_of after n (on_station k (made_anew address handler room gap) l)
-    device_anew k address handler room gap l n h free fits =
-        by_move answer_of after (RestartReader k address handler room) (on_station k (made_anew address handler room gap) l) n
-        (λ s at. (fits, by_found s at (found (Sites l) k l.bus.devices.entries l.stations n.sites h.sites)))
-        (both_change k (made_anew address handler room gap) (line.calls answer_of after (link.RestartReader address handler room)) l n h (λ d t s is. record {
+    pub new_device_is : (k address : ℕ) (handler : H) (room gap : ℕ) (l : InUse H) (n : Net H) → IsNetOf l n
+        → IsNetOf (on_station k (made_anew address handler room gap) l) (after_net answer_of after (RestartReader k address handler room) n)
+    new_device_is k address handler room gap l n h =
+        both_change k (made_anew address handler room gap) (line.calls answer_of after (link.RestartReader address handler room)) l n h (λ d t s is. record {
           controller = is.controller;
           reserved = is.reserved;
           reader = ap (λ (r : ReaderState H). new_reader (record r.config { address = address }) handler room) is.reader;
@@ -95,7 +93,13 @@ module _ {H : Type 0} where
           earlier = is.earlier;
           place = is.place;
           stored = tt;
-        }))
+        })
+
+    pub new_device_fits : (k address : ℕ) (handler : H) (room : ℕ) (l : InUse H) (n : Net H) → IsNetOf l n
+        → ((t : Station H) → site_at k l.stations ≡ Some t → (t.reader.config.address ≡ address) ⊎ IsFreeFor k address t l)
+        → (address < 127) × (1 ≤ room) × (room ≤ 1024) → addresses.NetMoveFits answer_of after (RestartReader k address handler room) n
+    new_device_fits k address handler room l n h free fits =
+        λ s at. (fits, by_found s at (found (Sites l) k l.bus.devices.entries l.stations n.sites h.sites))
       where
         by_found : (s : Site H) → site_at k n.sites ≡ Some s → FoundAt (Sites l) k k l.bus.devices.entries l.stations n.sites
             → (s.reader.config.address ≡ address) ⊎ addresses.IsFreeFor k address s n
@@ -117,6 +121,13 @@ module _ {H : Type 0} where
                 frees.entries j d1 other a (sym (ap (λ (x : _). x.address) (config_same t1.begun l.bus.greatest d1.controller s2.controller has.controller))
                 ∙ ap address_of (some_same s2 u (sym c ∙ there)) ∙ is)
             by_name frees j u other there (Somebody d1 t1 s2 a b c has) (inr may) = no_other k address l n h frees.devices j u other there may
+
+    pub device_anew : (k address : ℕ) (handler : H) (room gap : ℕ) (l : InUse H) (n : Net H) → IsNetOf l n
+        → ((t : Station H) → site_at k l.stations ≡ Some t → (t.reader.config.address ≡ address) ⊎ IsFreeFor k address t l)
+        → (address < 127) × (1 ≤ room) × (room ≤ 1024) → StepsTo answer_of after (NewDevice k address handler room gap) l n (on_station k (made_anew address handler room gap) l)
+    device_anew k address handler room gap l n h free fits =
+        by_own answer_of after (NewDevice k address handler room gap) (RestartReader k address handler room) l n (on_station k (made_anew address handler room gap) l)
+        (λ j. refl) (λ j. refl) tt (gap, refl) (new_device_fits k address handler room l n h free fits) (new_device_is k address handler room gap l n h)
 
     -- ---- the panel
 
@@ -155,9 +166,10 @@ module _ {H : Type 0} where
         ∙ ap (λ b. (controller_config b config, config.capacity)) (some_same (address_at k xs) a (sym (there_is k xs (within k a xs is)) ∙ is))
 
     pub panel_anew : (config : BusConfig) (xs : List ℕ) (l : InUse H) (n : Net H) → IsNetOf l n → PanelIsApart xs l
-        → IsBusConfig config × All (λ a. a < 127) xs × (length xs ≡ length l.stations) → Refines answer_of after n (panel_made_anew config xs l)
+        → IsBusConfig config × All (λ a. a < 127) xs × (length xs ≡ length l.stations) → StepsTo answer_of after (NewPanel config xs) l n (panel_made_anew config xs l)
     panel_anew config xs l n h apart fits =
-        by_move answer_of after (RestartPanel (settings_of config xs)) (panel_made_anew config xs l) n
+        by_own answer_of after (NewPanel config xs) (RestartPanel (settings_of config xs)) l n (panel_made_anew config xs l)
+        (λ j. refl) (λ j. refl) tt (config, xs, refl)
         (λ k s at. (
           are_settings config (address_at k xs) fits.0 (each_at (λ a. a < 127) k (address_at k xs) xs (each_of (λ a. a < 127) xs fits.1) (there_is k xs (count k s at))),
           λ j t other there. by_name k j other (there_is k xs (count k s at)) t there (found (Sites l) j l.bus.devices.entries l.stations n.sites h.sites),

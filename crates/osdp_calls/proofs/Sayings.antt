@@ -3,9 +3,13 @@ use Rattle.std.proofs.Common.{◌≡◌, ◌||◌, ℕ, not, Bool, true, false, 
 use Rattle.std.specs.Option.{option_map}
 use Rattle.std.specs.Prelude.{option_to_list}
 use Rattle.osdp_frame.specs.Held.{Held, later}
+use Rattle.osdp_frame.specs.Items.{whole_packets}
 use Rattle.osdp_frame.specs.Packet.{Packet}
 use Rattle.osdp_frame.specs.Reading.{RunItem, PacketItem, SkippedItem, RefusedItem}
 use Rattle.osdp_msg.specs.declared.command.Command.{Command}
+use Rattle.osdp_msg.specs.declared.command.Command.TheVariants.{Poll}
+use Rattle.osdp_msg.specs.declared.event.Event.{Event}
+use Rattle.osdp_msg.specs.declared.reply.Reply.{Reply}
 use Rattle.osdp_bus.specs.Buses.{BusState, has_report, holder, new_bus, seen}
 use Rattle.osdp_bus.specs.Hearing.{ends_run}
 use Rattle.osdp_bus.specs.Machine.{after_add, changed_unless, new_device}
@@ -13,18 +17,21 @@ use Rattle.osdp_bus.specs.Ticking.{BusTicked, bus_ticks, is_due_at, is_held_and_
 use Rattle.osdp_bus.specs.declared.config.BusConfig.{BusConfig}
 use Rattle.osdp_bus_laws.specs.Calls as bus
 use Rattle.osdp_bus_laws.specs.Turns.{judged}
-use Rattle.osdp_device.specs.Saying.{said_to, speaks, unless_silent}
+use Rattle.osdp_device.specs.Saying.{but_poll, said_to, speaks, taken_by, unless_silent}
 use Rattle.osdp_device.specs.Telling as telling
 use Rattle.osdp_device.specs.Telling.{items_of, told_by}
-use Rattle.osdp_link_laws.proofs.Lines.{each_all}
+use Rattle.osdp_link_laws.specs.Link.{Account, front_of, taken, taken_command}
+use Rattle.osdp_link_laws.proofs.Lines.{each_all, each_of}
+use Rattle.osdp_link_laws.proofs.Stages.{Each}
 use Rattle.osdp_reader.specs.State.{ReaderState}
-use Rattle.osdp_reader.specs.Table.{kind_of, outcome}
+use Rattle.osdp_reader.specs.Table.{hears, kind_of, outcome}
 use Rattle.osdp_reader.specs.declared.handler.Answer.{Answer}
 use Rattle.osdp_reader.specs.declared.kind.Kind.{Kind}
 use Rattle.osdp_reader.specs.declared.kind.Kind.TheVariants as kind
-use Rattle.osdp_calls.specs.Calls.{after_next, asked_at, asked_by_holder, begins_with, begun_of, by_device, first_answered, panel_says, read_up_to, reply_to}
-use Rattle.osdp_calls.specs.Lines.{Burst, InUse, bus_with}
-use Rattle.osdp_calls.specs.Sayings.{AddsMakeTheBus, IsSaidBy, NoneRefused, SaysWhatGoesOut}
+use Rattle.osdp_calls.specs.Calls.{after_next, answers, asked_at, asked_by_holder, begins_with, begun_of, by_device, first_answered, panel_says, read_up_to, reply_to}
+use Rattle.osdp_calls.specs.Lines.{Burst, InUse, Station, bus_with}
+use Rattle.osdp_calls.specs.Sayings.{AddsMakeTheBus, ByDevice, IsSaid, NoneRefused, ReadsToFirst, SaysWhatGoesOut, acted_on, after_hearing}
+use Rattle.osdp_calls.proofs.Replying.{next_reader, reader_with}
 
 -- ---- who is asked says what goes out
 
@@ -80,20 +87,20 @@ adds_make_the_bus config xs none = adds_after config xs [] none
 module _ {H : Type 0} (answer_of : H → Command → Answer) (after : H → Command → H) where
   -- ---- the panel
 
-  says : (o : Option ℕ) (t : BusTicked) (l : InUse H) (old : List Burst) → l.said ≡ old → Asked t o
-      → IsSaidBy true (option_to_list t.sent) old (panel_says o t.sent l).said
-  says None t l old is none =
-      subst (λ p. IsSaidBy true (option_to_list p) old (panel_says None p l).said) (sym none)
-      (record { bursts = []; more = is ∙ sym (append-nil old); are = refl; ends = each_all (λ (b : Burst). b.by_panel ≡ true) [] tt })
-  says (Some entry) t l old is asked = by_sent t.sent
+  says : (who : Option ℕ) (o : Option ℕ) (t : BusTicked) (l : InUse H) (old : List Burst) → l.said ≡ old → who ≡ o → Asked t o
+      → IsSaid (λ (b : Burst). (b.by_panel ≡ true) × (who ≡ Some b.entry)) (option_to_list t.sent) old (panel_says o t.sent l).said
+  says who None t l old is same none =
+      subst (λ p. IsSaid (λ (b : Burst). (b.by_panel ≡ true) × (who ≡ Some b.entry)) (option_to_list p) old (panel_says None p l).said) (sym none)
+      (record { bursts = []; more = is ∙ sym (append-nil old); are = refl; who = each_all (λ (b : Burst). (b.by_panel ≡ true) × (who ≡ Some b.entry)) [] tt })
+  says who (Some entry) t l old is same asked = by_sent t.sent
     where
-      by_sent : (p : Option Packet) → IsSaidBy true (option_to_list p) old (panel_says (Some entry) p l).said
-      by_sent None = record { bursts = []; more = is ∙ sym (append-nil old); are = refl; ends = each_all (λ (b : Burst). b.by_panel ≡ true) [] tt }
+      by_sent : (p : Option Packet) → IsSaid (λ (b : Burst). (b.by_panel ≡ true) × (who ≡ Some b.entry)) (option_to_list p) old (panel_says (Some entry) p l).said
+      by_sent None = record { bursts = []; more = is ∙ sym (append-nil old); are = refl; who = each_all (λ (b : Burst). (b.by_panel ≡ true) × (who ≡ Some b.entry)) [] tt }
       by_sent (Some p) = record {
         bursts = record { by_panel = true; entry = entry; packet = p } ∷ [];
         more = ap (λ bs. bs ++ record { by_panel = true; entry = entry; packet = p } ∷ []) is;
         are = refl;
-        ends = each_all (λ (b : Burst). b.by_panel ≡ true) (record { by_panel = true; entry = entry; packet = p } ∷ []) (refl, tt);
+        who = each_all (λ (b : Burst). (b.by_panel ≡ true) × (who ≡ Some b.entry)) (record { by_panel = true; entry = entry; packet = p } ∷ []) ((refl, same), tt);
       }
 
   -- ---- a device
@@ -120,33 +127,117 @@ module _ {H : Type 0} (answer_of : H → Command → Answer) (after : H → Comm
       by_kind kind.Busy is rest = refl
       by_kind kind.Wrong is rest = refl
 
-  device_bursts : (k : ℕ) (ps : List Packet) (old : List Burst) → IsSaidBy false ps old (old ++ by_device k ps)
+  -- what is read ends with the first that is answered
+  reads_to_first : (parts : List RunItem) (r : ReaderState H) → ReadsToFirst r (whole_packets parts) (read_up_to r parts) (first_answered r (read_up_to r parts))
+  reads_to_first [] r = (refl, each_all (λ p. speaks (kind_of r p) ≡ false) [] tt)
+  reads_to_first (SkippedItem byte ∷ parts) r = reads_to_first parts r
+  reads_to_first (RefusedItem fault ∷ parts) r = reads_to_first parts r
+  reads_to_first (PacketItem p ∷ parts) r = by_test (speaks (kind_of r p)) refl (reads_to_first parts r)
+    where
+      Goal : Bool → Type 0
+      Goal x = ReadsToFirst r (p ∷ whole_packets parts) (p ∷ cond x [] (read_up_to r parts))
+          (cond x (Some p) (first_answered r (cond x [] (read_up_to r parts))))
+
+      more : (o : Option Packet) → speaks (kind_of r p) ≡ false → ReadsToFirst r (whole_packets parts) (read_up_to r parts) o
+          → ReadsToFirst r (p ∷ whole_packets parts) (p ∷ read_up_to r parts) o
+      more None silent is = (
+        ap (λ l. p ∷ l) is.0,
+        each_all (λ q. speaks (kind_of r q) ≡ false) (p ∷ whole_packets parts)
+            (silent, each_of (λ q. speaks (kind_of r q) ≡ false) (whole_packets parts) is.1),
+      )
+      more (Some q) silent is = (
+        p ∷ is.0,
+        is.1,
+        ap (λ l. p ∷ l) is.2,
+        ap (λ l. p ∷ l) is.3,
+        each_all (λ q. speaks (kind_of r q) ≡ false) (p ∷ is.0) (silent, each_of (λ q. speaks (kind_of r q) ≡ false) is.0 is.4),
+        is.5,
+      )
+
+      by_test : (x : Bool) → speaks (kind_of r p) ≡ x → ReadsToFirst r (whole_packets parts) (read_up_to r parts) (first_answered r (read_up_to r parts)) → Goal x
+      by_test true is rest = ([], whole_packets parts, refl, refl, each_all (λ q. speaks (kind_of r q) ≡ false) [] tt, is)
+      by_test false is rest = more (first_answered r (read_up_to r parts)) is rest
+
+  -- silent packets leave the reader as it is
+  silent_stays : (r : ReaderState H) (p : Packet) (k : Kind) → speaks k ≡ false → (outcome answer_of after k r p).reader ≡ r
+  silent_stays r p kind.Silent is = refl
+  silent_stays r p kind.Secured is = absurd cc
+  silent_stays r p kind.Zero is = absurd cc
+  silent_stays r p kind.Repeat is = absurd cc
+  silent_stays r p kind.Taken is = absurd cc
+  silent_stays r p kind.Busy is = absurd cc
+  silent_stays r p kind.Wrong is = absurd cc
+
+  hears_each : (parts : List RunItem) (r : ReaderState H)
+      → after_hearing answer_of after (read_up_to r parts) r ≡ reader_with answer_of after (first_answered r (read_up_to r parts)) r
+  hears_each [] r = refl
+  hears_each (SkippedItem byte ∷ parts) r = hears_each parts r
+  hears_each (RefusedItem fault ∷ parts) r = hears_each parts r
+  hears_each (PacketItem p ∷ parts) r = by_test (speaks (kind_of r p)) refl (hears_each parts r)
+    where
+      by_test : (x : Bool) → speaks (kind_of r p) ≡ x
+          → after_hearing answer_of after (read_up_to r parts) r ≡ reader_with answer_of after (first_answered r (read_up_to r parts)) r
+          → after_hearing answer_of after (cond x [] (read_up_to r parts)) (hears answer_of after r p).reader
+          ≡ reader_with answer_of after (cond x (Some p) (first_answered r (cond x [] (read_up_to r parts)))) r
+      by_test true is rest = refl
+      by_test false is rest = ap (after_hearing answer_of after (read_up_to r parts)) (silent_stays r p (kind_of r p) is) ∙ rest
+
+  -- ---- what is taken
+
+  command_so : (c : Command) (said : Option Reply) (front : List Event) (a : Account)
+      → (taken_command c said front a).taken ≡ a.taken ++ option_to_list (but_poll (Some c))
+  command_so Poll said front a = sym (append-nil a.taken)
+  command_so _ said front a = refl
+
+  taken_so : (k : Kind) (c : Option Command) (said : Option Reply) (front : List Event) (a : Account)
+      → (taken k c said front a).taken ≡ a.taken ++ option_to_list (taken_by k c)
+  taken_so kind.Taken None said front a = sym (append-nil a.taken)
+  taken_so kind.Taken (Some c) said front a = command_so c said front a
+  taken_so kind.Silent c said front a = sym (append-nil a.taken)
+  taken_so kind.Secured c said front a = sym (append-nil a.taken)
+  taken_so kind.Zero c said front a = sym (append-nil a.taken)
+  taken_so kind.Repeat c said front a = sym (append-nil a.taken)
+  taken_so kind.Busy c said front a = sym (append-nil a.taken)
+  taken_so kind.Wrong c said front a = sym (append-nil a.taken)
+
+  acts_so : (o : Option Packet) (t : Station H)
+      → (answers answer_of after o t).account.taken ≡ t.account.taken ++ acted_on (option_map (said_to answer_of after t.reader) o)
+  acts_so None t = sym (append-nil t.account.taken)
+  acts_so (Some p) t =
+      let outcome = hears answer_of after t.reader p in
+      taken_so (kind_of t.reader p) outcome.command outcome.said (front_of t.reader) t.account
+
+  device_bursts : (k : ℕ) (ps : List Packet) (old : List Burst) → IsSaid (ByDevice k) ps old (old ++ by_device k ps)
   device_bursts k ps old = record {
     bursts = by_device k ps;
     more = refl;
     are = packets ps;
-    ends = each_all (λ (b : Burst). b.by_panel ≡ false) (by_device k ps) (ends ps);
+    who = each_all (ByDevice k) (by_device k ps) (ends ps);
   }
     where
       packets : (ps : List Packet) → map (λ (b : Burst). b.packet) (by_device k ps) ≡ ps
       packets [] = refl
       packets (p ∷ ps) = ap (λ l. p ∷ l) (packets ps)
 
-      ends : (ps : List Packet) → Rattle.osdp_link_laws.proofs.Stages.Each (λ (b : Burst). b.by_panel ≡ false) (by_device k ps)
+      ends : (ps : List Packet) → Each (ByDevice k) (by_device k ps)
       ends [] = tt
-      ends (p ∷ ps) = (refl, ends ps)
+      ends (p ∷ ps) = ((refl, refl), ends ps)
 
   pub says_what_goes_out : (l : InUse H) → SaysWhatGoesOut answer_of after l
   says_what_goes_out l = record {
-    panel = λ now places. says (asked_at now l.bus) (bus_ticks now l.bus) (record l {
+    panel = λ now places. says (asked_at now l.bus) (asked_at now l.bus) (bus_ticks now l.bus) (record l {
       bus = (bus_ticks now l.bus).bus;
       stations = Rattle.osdp_calls.specs.Calls.noted (bus.Tick now) l.bus l.stations;
       place = Rattle.osdp_calls.specs.Calls.last_of places l.place;
-    }) l.said refl (asked_says now l.bus);
+    }) l.said refl refl (asked_says now l.bus);
     device = λ k places t is. record {
       answered = first_answered t.reader (read_up_to t.reader (items_of t.line.held));
+      read = reads_to_first (items_of t.line.held) t.reader;
+      reader = next_reader answer_of after (items_of t.line.held) t.reader t.line.held ∙ sym (hears_each (items_of t.line.held) t.reader);
       response = response_is (items_of t.line.held) t.reader t.line.held;
-      said = subst (λ o. IsSaidBy false (reply_to answer_of after (first_answered t.reader (read_up_to t.reader (items_of t.line.held))) t.reader) l.said
+      acts = acts_so (first_answered t.reader (read_up_to t.reader (items_of t.line.held))) t
+          ∙ ap (λ o. t.account.taken ++ acted_on o) (sym (response_is (items_of t.line.held) t.reader t.line.held));
+      said = subst (λ o. IsSaid (ByDevice k) (reply_to answer_of after (first_answered t.reader (read_up_to t.reader (items_of t.line.held))) t.reader) l.said
           (after_next answer_of after k places o l).said) (sym is)
           (device_bursts k (reply_to answer_of after (first_answered t.reader (read_up_to t.reader (items_of t.line.held))) t.reader) l.said);
     };

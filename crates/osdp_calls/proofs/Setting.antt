@@ -18,11 +18,9 @@ use Rattle.osdp_shared_line.proofs.Sites.{some_same}
 use Rattle.osdp_calls.specs.Lines.{InUse, Opening, Burst, Station, ahead_of_device, ahead_of_panel}
 use Rattle.osdp_calls.specs.Premises.{IsSetUp}
 use Rattle.osdp_calls.proofs.Controllers.{equal_same}
-use Rattle.osdp_calls.proofs.Losing.{one_move}
 use Rattle.osdp_calls.proofs.Matching.{And, Done, Match}
 use Rattle.osdp_calls.proofs.Powers.{address_at, are_settings, settings_of}
 use Rattle.osdp_calls.proofs.Same.{Controls, IsNetOf, IsRightly, IsSiteOf}
-use Rattle.osdp_calls.proofs.Stations.{Refines}
 
 module _ {H : Type 0} where
   abbrev pub address_of : Station H → ℕ
@@ -101,7 +99,9 @@ module _ {H : Type 0} where
     pub record Starts (l : InUse H) : Type 0 where
       pub config : BusConfig
       pub is_set_up : addresses.IsSetUp (first_net config l.stations)
-      pub refined : Refines answer_of after (first_net config l.stations) l
+      pub settings : ℕ → ControllerConfig × ℕ
+      pub fits : addresses.NetMoveFits answer_of after (RestartPanel settings) (first_net config l.stations)
+      pub same : IsNetOf l (after_net answer_of after (RestartPanel settings) (first_net config l.stations))
 
     pub starts : (l : InUse H) → IsSetUp l → Starts l
     starts l up = record {
@@ -131,26 +131,24 @@ module _ {H : Type 0} where
             up.apart j k a.0 b.0 other a.1 b.1
             (sym (ap (λ (x : Site H). x.controller.session.config.address) a.2) ∙ e ∙ ap (λ (x : Site H). x.controller.session.config.address) b.2);
       };
-      refined = record {
-        net = n1;
-        reached = one_move answer_of after (RestartPanel (settings_of up.config (map address_of l.stations))) n0 fits;
-        same = subst (λ b. IsNetOf (record l { bus = b }) n1) (sym up.bus) (record {
-          sites = made_first up.config (settings_of up.config (map address_of l.stations)) l.openings l.said 0 l.stations up.said
-              (λ k t is. ap (settings_of up.config (map address_of l.stations)) (let e : 0 + k ≡ k = omega arith in e)
-              ∙ ap (λ a. (controller_config a up.config, up.config.capacity)) (address_there k t l.stations is))
-              (λ k t is. record {
-                stored = up.stored k t is;
-                place = (up.place k t is).0;
-                begun = (up.place k t is).1;
-                account = (up.account k t is).0;
-                earlier = (up.account k t is).1;
-              });
-          to_panel = ap (ahead_of_panel l.place l.openings) (sym up.said);
-          place = subst (λ p. p ≤ length l.said) (sym up.read) (omega arith);
-          openings = subst (Rattle.osdp_link_laws.proofs.Stages.Each (λ (o : Opening). o.place ≤ length l.said)) (sym up.openings) tt;
-          said = subst (Rattle.osdp_link_laws.proofs.Stages.Each IsRightly) (sym up.said) tt;
-        });
-      };
+      settings = settings_of up.config (map address_of l.stations);
+      fits = fits;
+      same = subst (λ b. IsNetOf (record l { bus = b }) n1) (sym up.bus) (record {
+        sites = made_first up.config (settings_of up.config (map address_of l.stations)) l.openings l.said 0 l.stations up.said
+            (λ k t is. ap (settings_of up.config (map address_of l.stations)) (let e : 0 + k ≡ k = omega arith in e)
+            ∙ ap (λ a. (controller_config a up.config, up.config.capacity)) (address_there k t l.stations is))
+            (λ k t is. record {
+              stored = up.stored k t is;
+              place = (up.place k t is).0;
+              begun = (up.place k t is).1;
+              account = (up.account k t is).0;
+              earlier = (up.account k t is).1;
+            });
+        to_panel = ap (ahead_of_panel l.place l.openings) (sym up.said);
+        place = subst (λ p. p ≤ length l.said) (sym up.read) (omega arith);
+        openings = subst (Rattle.osdp_link_laws.proofs.Stages.Each (λ (o : Opening). o.place ≤ length l.said)) (sym up.openings) tt;
+        said = subst (Rattle.osdp_link_laws.proofs.Stages.Each IsRightly) (sym up.said) tt;
+      });
     }
       where
         n0 : Net H

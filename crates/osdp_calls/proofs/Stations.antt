@@ -1,4 +1,4 @@
--- Calls of a device that read nothing: events, busy or not, another handler, and bytes that come in.
+-- What changes a station and its site alone, and what calls come to.
 use Rattle.std.proofs.Common.{ℕ, Bool, true, false, [], ◌∷◌, ◌++◌, length, sym, subst, ap}
 use Rattle.std.specs.Prelude.{◌==◌}
 use Rattle.osdp_msg.specs.declared.command.Command.{Command}
@@ -12,7 +12,7 @@ use Rattle.osdp_shared_line.specs.Line as line
 use Rattle.osdp_shared_line.specs.Line.{Net, NetMove, Queue, SetBusy, SetHandler, Site, after_net, changed, left_by, link_of, site_at}
 use Rattle.osdp_calls.specs.Calls.{changes_at, on_station, queues}
 use Rattle.osdp_calls.specs.Lines.{InUse, Station}
-use Rattle.osdp_calls.proofs.Losing.{Reaches, one_move, stays}
+use Rattle.osdp_calls.proofs.Losing.{IsPlain, Reaches, one_move, stays}
 use Rattle.osdp_calls.proofs.Matching.{FoundAt, Match, Nobody, Somebody, changed_same, found, set_station}
 use Rattle.osdp_calls.proofs.Same.{IsNetOf, IsSiteOf}
 
@@ -65,63 +65,22 @@ module _ {H : Type 0} where
       pub reached : Reaches answer_of after n net
       pub same : IsNetOf l net
 
-    pub by_move : (move : NetMove H) (l : InUse H) (n : Net H) → NetMoveFits answer_of after move n → IsNetOf l (after_net answer_of after move n)
+    pub by_move : (move : NetMove H) (l : InUse H) (n : Net H) → IsPlain move → NetMoveFits answer_of after move n → IsNetOf l (after_net answer_of after move n)
         → Refines n l
-    by_move move l n fits same = record { net = after_net answer_of after move n; reached = one_move answer_of after move n fits; same = same }
+    by_move move l n plain fits same = record { net = after_net answer_of after move n; reached = one_move answer_of after move n plain fits; same = same }
 
     pub by_none : (l : InUse H) (n : Net H) → IsNetOf l n → Refines n l
     by_none l n same = record { net = n; reached = stays answer_of after n; same = same }
 
-    -- ---- events
-
-    queued_so : (full : Bool) (event : Event) (l : InUse H) (k : ℕ) (d : Device) (t : Station H) (s : Site H) → Sites l k d t s
-        → Sites l k d (queues full event t) (left_by s (link.queues full event (link_of s [] [])))
-    queued_so true event l k d t s is = is
-    queued_so false event l k d t s is = record {
-      controller = is.controller;
-      reserved = is.reserved;
-      reader = ap (after_submit event) is.reader;
-      coming = is.coming;
-      account = ap (λ (a : link.Account). record a { queued = a.queued ++ event ∷ []; kept = a.kept ++ event ∷ [] }) is.account;
-      earlier = is.earlier;
-      place = is.place;
-      stored = is.stored;
-    }
-
-    pub queueing : (k : ℕ) (event : Event) (l : InUse H) (n : Net H) → IsNetOf l n
-        → Refines n (on_station k (λ t. queues (length t.reader.queue.events == t.reader.queue.capacity) event t) l)
-    queueing k event l n h =
-        by_move (Queue k event) (on_station k (λ t. queues (length t.reader.queue.events == t.reader.queue.capacity) event t) l) n tt
-        (both_change k (λ t. queues (length t.reader.queue.events == t.reader.queue.capacity) event t) (line.calls answer_of after (link.Queue event)) l n h
-        (λ d t s is. subst (λ b. Sites l k d (queues b event t) (line.calls answer_of after (link.Queue event) s))
-        (ap (λ (r : _). length r.queue.events == r.queue.capacity) is.reader)
-        (queued_so (length s.reader.queue.events == s.reader.queue.capacity) event l k d t s is)))
-
     pub busying : (k : ℕ) (busy : Bool) (l : InUse H) (n : Net H) → IsNetOf l n
         → Refines n (on_station k (λ t. record t { reader = after_set_busy busy t.reader }) l)
     busying k busy l n h =
-        by_move (SetBusy k busy) (on_station k (λ t. record t { reader = after_set_busy busy t.reader }) l) n tt
+        by_move (SetBusy k busy) (on_station k (λ t. record t { reader = after_set_busy busy t.reader }) l) n tt tt
         (both_change k (λ t. record t { reader = after_set_busy busy t.reader }) (line.calls answer_of after (link.SetBusy busy)) l n h
         (λ d t s is. record {
           controller = is.controller;
           reserved = is.reserved;
           reader = ap (after_set_busy busy) is.reader;
-          coming = is.coming;
-          account = is.account;
-          earlier = is.earlier;
-          place = is.place;
-          stored = is.stored;
-        }))
-
-    pub handling : (k : ℕ) (handler : H) (l : InUse H) (n : Net H) → IsNetOf l n
-        → Refines n (on_station k (λ t. record t { reader = after_set_handler handler t.reader }) l)
-    handling k handler l n h =
-        by_move (SetHandler k handler) (on_station k (λ t. record t { reader = after_set_handler handler t.reader }) l) n tt
-        (both_change k (λ t. record t { reader = after_set_handler handler t.reader }) (line.calls answer_of after (link.SetHandler handler)) l n h
-        (λ d t s is. record {
-          controller = is.controller;
-          reserved = is.reserved;
-          reader = ap (after_set_handler handler) is.reader;
           coming = is.coming;
           account = is.account;
           earlier = is.earlier;

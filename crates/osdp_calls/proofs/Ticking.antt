@@ -196,7 +196,7 @@ module _ {H : Type 0} where
         by_frame None none so =
             let l1 = ticked_bus k d (ticks l.bus.greatest d.controller.session d.controller.waiting) l in
             subst (λ o. Refines answer_of after n (panel_says (Some k) o l1)) (sym none)
-            (by_move answer_of after (Tick k l.bus.greatest) l1 n tt
+            (by_move answer_of after (Tick k l.bus.greatest) l1 n tt tt
             (subst (IsNetOf l1) (sym (next ∙ ap (λ o. record n { sites = map (is_told (tagged k (option_to_list o))) (changed k (line.ticks answer_of after l.bus.greatest s) n.sites) }) none))
             (nothing_said l1 (record n { sites = changed k (line.ticks answer_of after l.bus.greatest s) n.sites }) first)))
         by_frame (Some p) some so =
@@ -204,7 +204,7 @@ module _ {H : Type 0} where
             let command : p.reply ≡ false = subst (λ o. IfSome o (λ q. q.reply ≡ false)) some so in
             subst (λ o. Refines answer_of after n (panel_says (Some k) o l1)) (sym some)
             (subst (λ o. Refines answer_of after n (record (begins_with k p o l1) { said = l1.said ++ from_panel k p ∷ [] })) (sym not_begun)
-            (by_move answer_of after (Tick k l.bus.greatest) (record l1 { said = l1.said ++ from_panel k p ∷ [] }) n tt
+            (by_move answer_of after (Tick k l.bus.greatest) (record l1 { said = l1.said ++ from_panel k p ∷ [] }) n tt tt
             (subst (IsNetOf (record l1 { said = l1.said ++ from_panel k p ∷ [] }))
             (sym (next ∙ ap (λ o. record n { sites = map (is_told (tagged k (option_to_list o))) (changed k (line.ticks answer_of after l.bus.greatest s) n.sites) }) some))
             (panel_said k p l1 (record n { sites = changed k (line.ticks answer_of after l.bus.greatest s) n.sites }) command first))))
@@ -259,7 +259,7 @@ module _ {H : Type 0} where
         let reopened : after_net answer_of after (Reopen k began) m ≡ m1 =
         ap (λ o. line.change_at k o (line.calls answer_of after (link.Reopen began)) m) c
         ∙ ap (λ f. record m { sites = changed k (line.left_by s (link.reopens f [] [] began (line.link_of s [] []))) m.sites }) shut in
-        let first : Reaches answer_of after m m1 = subst (Reaches answer_of after m) reopened (one_move answer_of after (Reopen k began) m quiet) in
+        let first : Reaches answer_of after m m1 = subst (Reaches answer_of after m) reopened (one_move answer_of after (Reopen k began) m tt quiet) in
         let there : site_at k m1.sites ≡ Some s1 = at_changed k s1 s m.sites c in
         let eq : ticks g s1.controller.session s1.controller.waiting ≡ opened d.controller g = opened_ticks began g d.controller s.controller control ∙ ticked in
         let s2 : Site H = line.ticks answer_of after g s1 in
@@ -268,7 +268,7 @@ module _ {H : Type 0} where
         ap (λ o. line.tick_at answer_of after k g o m1) there
         ∙ ap (λ (z : Ticked). record m1 { sites = map (is_told (tagged k (option_to_list z.step.frame))) (changed k s2 (changed k s1 m.sites)) }) eq
         ∙ ap (λ ss. record m { sites = map (is_told ((k, opening_packet d.controller) ∷ [])) ss }) (changed_twice k s2 s1 m.sites) in
-        let second : Reaches answer_of after m1 m2 = subst (Reaches answer_of after m1) next (one_move answer_of after (Tick k g) m1 tt) in
+        let second : Reaches answer_of after m1 m2 = subst (Reaches answer_of after m1) next (one_move answer_of after (Tick k g) m1 tt tt) in
         let waiting : s.controller.waiting ≡ d.controller.waiting = ap (λ (x : Machine). x.waiting) control.same in
         let room : s.controller.capacity ≡ d.controller.capacity = ap (λ (x : Machine). x.capacity) control.same in
         let y : Ticked = opened d.controller g in

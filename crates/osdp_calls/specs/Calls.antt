@@ -17,6 +17,7 @@ use Rattle.osdp_bus.specs.declared.fault.BusFault.{BusFault}
 use Rattle.osdp_bus_laws.specs.Calls as bus
 use Rattle.osdp_bus_laws.specs.Reports.{told_in}
 use Rattle.osdp_bus_laws.specs.Turns.{judged}
+use Rattle.osdp_device.specs.Deciding.{passed}
 use Rattle.osdp_device.specs.Receiving.{after_silence, after_take, after_tick, new_line}
 use Rattle.osdp_device.specs.Saying.{speaks}
 use Rattle.osdp_device.specs.Telling.{items_of, next_told}
@@ -39,6 +40,7 @@ pub data Call (H : Type 0) : Type 0 where
   TickDevice : ℕ → ℕ → Call H
   Silence : ℕ → ℕ → Call H
   Next : ℕ → Call H
+  Pending : ℕ → Call H
   NewDevice : ℕ → ℕ → H → ℕ → ℕ → Call H
   NewPanel : BusConfig → List ℕ → Call H
 
@@ -266,6 +268,7 @@ module _ {H : Type 0} where
     after_call (TickDevice k now) places l = on_station k (λ t. record t { line = after_tick now t.line }) l
     after_call (Silence k now) places l = on_station k (λ t. record t { line = after_silence now t.line }) l
     after_call (Next k) places l = after_next k places (site_at k l.stations) l
+    after_call (Pending k) places l = on_station k (λ t. record t { line = record t.line { held = passed t.reader t.line.held } }) l
     after_call (NewDevice k address handler room gap) places l = on_station k (made_anew address handler room gap) l
     after_call (NewPanel config addresses) places l = panel_made_anew config addresses l
 

@@ -3,3 +3,10 @@ pub mod Calls
 pub mod Premises
 pub mod Promises
 pub mod Sayings
+pub mod Accepted
+pub mod Restarts
+pub mod Handing
+pub mod Turning
+pub mod Ends
+pub mod Refusals
+pub mod OneDevice

@@ -1,6 +1,7 @@
 -- What goes out at a call is what is said, and entries that are added one by one are those of a line's set-up.
-use Rattle.std.specs.Prelude.{◌≡◌, ℕ, Bool, true, false, All, List, [], ◌∷◌, ◌++◌, map, Option, Some, None, option_to_list}
+use Rattle.std.specs.Prelude.{◌≡◌, ℕ, true, false, All, List, [], ◌∷◌, ◌++◌, map, Option, Some, None, option_to_list}
 use Rattle.std.specs.Option.{option_map}
+use Rattle.osdp_frame.specs.Items.{whole_packets}
 use Rattle.osdp_frame.specs.Packet.{Packet}
 use Rattle.osdp_msg.specs.declared.command.Command.{Command}
 use Rattle.osdp_bus.specs.Buses.{BusState, new_bus}
@@ -8,19 +9,29 @@ use Rattle.osdp_bus.specs.Machine.{add_refusal, after_add}
 use Rattle.osdp_bus.specs.Ticking.{bus_ticks}
 use Rattle.osdp_bus.specs.declared.config.BusConfig.{BusConfig}
 use Rattle.osdp_bus_laws.specs.Calls as bus
-use Rattle.osdp_device.specs.Saying.{said_to}
-use Rattle.osdp_device.specs.Telling.{next_told}
+use Rattle.osdp_device.specs.Saying.{Said, said_to, speaks, taken_by}
+use Rattle.osdp_device.specs.Telling.{items_of, next_told}
+use Rattle.osdp_reader.specs.State.{ReaderState}
+use Rattle.osdp_reader.specs.Table.{hears, kind_of}
 use Rattle.osdp_reader.specs.declared.handler.Answer.{Answer}
 use Rattle.osdp_shared_line.specs.Line.{site_at}
-use Rattle.osdp_calls.specs.Calls.{Next, OfPanel, after_call, reply_to}
+use Rattle.osdp_calls.specs.Calls.{Next, OfPanel, after_call, asked_at, nexts, read_up_to, reply_to}
 use Rattle.osdp_calls.specs.Lines.{Burst, InUse, Station, bus_with}
 
--- these packets were said by one side, after all others
-pub record IsSaidBy (by_panel : Bool) (packets : List Packet) (old new : List Burst) : Type 0 where
+-- these packets were said after all others, each by such an end and for such an entry
+pub record IsSaid (Who : Burst → Type 0) (packets : List Packet) (old new : List Burst) : Type 0 where
   pub bursts : List Burst
   pub more : new ≡ old ++ bursts
   pub are : map (λ (b : Burst). b.packet) bursts ≡ packets
-  pub ends : All (λ (b : Burst). b.by_panel ≡ by_panel) bursts
+  pub who : All Who bursts
+
+-- by the panel, for the entry whose controller ticked
+abbrev pub ByPanel : ℕ → BusState → Burst → Type 0
+ByPanel now bus b = (b.by_panel ≡ true) × (asked_at now bus ≡ Some b.entry)
+
+-- by the device of an entry
+abbrev pub ByDevice : ℕ → Burst → Type 0
+ByDevice k b = (b.by_panel ≡ false) × (b.entry ≡ k)
 
 -- none of these addresses is refused
 abbrev pub NoneRefused : List ℕ → BusState → Type 0
@@ -32,14 +43,39 @@ abbrev pub AddsMakeTheBus : Type 0
 AddsMakeTheBus = (config : BusConfig) (addresses : List ℕ) → NoneRefused addresses (new_bus config)
     → bus.after_calls (map bus.Add addresses) (new_bus config) ≡ bus_with config addresses
 
+module _ {H : Type 0} where
+  -- of these packets an end reads all up to and including the first that its reader answers, or all where it answers none
+  abbrev pub ReadsToFirst : ReaderState H → List Packet → List Packet → Option Packet → Type 0
+  ReadsToFirst r all read None = (read ≡ all) × All (λ p. speaks (kind_of r p) ≡ false) all
+  ReadsToFirst r all read (Some p) =
+      (before : List Packet) × (rest : List Packet) × (read ≡ before ++ p ∷ []) × (all ≡ read ++ rest)
+      × All (λ q. speaks (kind_of r q) ≡ false) before × (speaks (kind_of r p) ≡ true)
+
+  -- a reader that has heard all of these
+  abbrev pub after_hearing : (H → Command → Answer) → (H → Command → H) → List Packet → ReaderState H → ReaderState H
+  after_hearing answer_of after [] r = r
+  after_hearing answer_of after (p ∷ ps) r = after_hearing answer_of after ps (hears answer_of after r p).reader
+
+-- the command that a program acts on, once, by a response: one that was taken, but POLL
+abbrev pub acted_on : Option Said → List Command
+acted_on None = []
+acted_on (Some said) = option_to_list (taken_by said.kind said.command)
+
 module _ {H : Type 0} (answer_of : H → Command → Answer) (after : H → Command → H) where
-  -- a `next` answers a packet, or none; its response is that answer, and its bytes are the packet that is said
+  -- Of the packets that the bytes held decide a `next` hands those that are read to the reader, up to and including the first that it answers. Its
+  -- response is that answer, and its bytes are the packet that is said. The command that a program acts on by the response is the one that
+  -- counts as taken: a program acts once for each of these.
   pub record NextSays (k : ℕ) (places : List ℕ) (t : Station H) (l : InUse H) : Type 0 where
     pub answered : Option Packet
+    pub read : ReadsToFirst t.reader (whole_packets (items_of t.line.held)) (read_up_to t.reader (items_of t.line.held)) answered
+    pub reader : (next_told answer_of after t.reader t.line.held).reader
+        ≡ after_hearing answer_of after (read_up_to t.reader (items_of t.line.held)) t.reader
     pub response : (next_told answer_of after t.reader t.line.held).said ≡ option_map (said_to answer_of after t.reader) answered
-    pub said : IsSaidBy false (reply_to answer_of after answered t.reader) l.said (after_call answer_of after (Next k) places l).said
+    pub acts : (nexts answer_of after places t).account.taken
+        ≡ t.account.taken ++ acted_on (next_told answer_of after t.reader t.line.held).said
+    pub said : IsSaid (ByDevice k) (reply_to answer_of after answered t.reader) l.said (after_call answer_of after (Next k) places l).said
 
   pub record SaysWhatGoesOut (l : InUse H) : Type 0 where
     pub panel : (now : ℕ) (places : List ℕ)
-        → IsSaidBy true (option_to_list (bus_ticks now l.bus).sent) l.said (after_call answer_of after (OfPanel (bus.Tick now)) places l).said
+        → IsSaid (ByPanel now l.bus) (option_to_list (bus_ticks now l.bus).sent) l.said (after_call answer_of after (OfPanel (bus.Tick now)) places l).said
     pub device : (k : ℕ) (places : List ℕ) (t : Station H) → site_at k l.stations ≡ Some t → NextSays k places t l

@@ -2,16 +2,26 @@
 //! nothing: their contracts are laws.
 #![tactic(auto)]
 
+ghost use Rattle.osdp_bus.specs.Buses.{BusState};
+ghost use Rattle.osdp_calls.specs.Ends.{BusIsReached, GoByTheirOwn, OneExchange};
+ghost use Rattle.osdp_calls.specs.Handing.{HandsOver};
 ghost use Rattle.osdp_calls.specs.Lines.{InUse};
+ghost use Rattle.osdp_calls.specs.OneDevice.{OneDeviceHoldsOnce};
 ghost use Rattle.osdp_calls.specs.Promises.{CallsHoldOnce, CallsKeepApart};
+ghost use Rattle.osdp_calls.specs.Refusals.{CallsRefuseNoNumber};
+ghost use Rattle.osdp_calls.specs.Restarts.{NewDeviceCosts, NewDeviceReportsNoMore, NewPanelCosts};
 ghost use Rattle.osdp_calls.specs.Sayings.{AddsMakeTheBus, SaysWhatGoesOut};
+ghost use Rattle.osdp_calls.specs.Turning.{TurnsByCalls};
+ghost use Rattle.osdp_device.specs.declared.program.ProgramAnswers.{ProgramAnswers};
 
 use osdp_reader::Handler;
 
 /// Of every list of these calls of a panel's program and its devices' programs, restarts of either among them, that keeps the premises, and of
 /// each entry: in each session commands are taken once and in order, settled with the answers that the device gave to them then, and events are
 /// reported once and in order, but those that a restart of the device threw away before they were offered. What a session leaves the next one
-/// begins with. Over all sessions no command is taken twice, by its place among those that have ended and those of the last session.
+/// begins with. Each command that `submit` accepted has one place: with the session in which it has ended, or among those of the last one; and so
+/// has each event that `submit_event` accepted. Over all sessions no command is taken twice, by its place. While the last session lasts it has
+/// told no command unsettled, and none is forgotten or removed; where it has ended it leaves what the next one begins with.
 ///
 /// The premises: what an end reads was said before, and nothing that it reads was said before what it has read already; once the opening ID of
 /// a session has gone out, nothing said before for or by its reader, or to or from its address, is read any more by its reader or by the
@@ -22,6 +32,8 @@ use osdp_reader::Handler;
 pub fn calls_hold_once<H: Handler>()
     ensures { CallsHoldOnce H.answer_of H.after }
 {
+    osdp_shared_line::each_move_is_its_own::<H>();
+    osdp_shared_line::nobody_else_hears::<H>();
     osdp_shared_line::promises::each_holds_once::<H>();
     osdp_shared_line::promises::each_has_sessions_in_a_row::<H>();
 }
@@ -43,3 +55,57 @@ pub fn says_what_goes_out<H: Handler>()
 pub fn adds_make_the_bus()
     ensures { AddsMakeTheBus }
 {}
+
+/// What a call of the panel reads is what it hands to the controllers, packet after packet; at a tick one controller ticks after that. The
+/// reports of the call are what they tell then.
+pub fn hands_over_what_is_read()
+    ensures { (b : BusState) → HandsOver b }
+{}
+
+/// What restarts cost an entry. Of its device: the events in its queue, but the one in front where it has offered that in this session, and at most
+/// its session; and nothing else is reported in that session but what was offered before and what is queued since. Of the panel: the
+/// command that was outstanding, and those that waited.
+pub fn restarts_cost<H: Handler>()
+    ensures device { NewDeviceCosts H.answer_of H.after }
+    ensures since { NewDeviceReportsNoMore H.answer_of H.after }
+    ensures panel { NewPanelCosts H.answer_of H.after }
+{
+    osdp_shared_line::each_move_is_its_own::<H>();
+    osdp_shared_line::nobody_else_hears::<H>();
+    osdp_shared_line::restarts::each_restart_costs::<H>();
+}
+
+/// A turn of a device whose program sets the answers, and what it does after `take`, are lists of these calls.
+pub fn turns_are_calls()
+    ensures { (l : InUse ProgramAnswers) → TurnsByCalls l }
+{}
+
+/// The bus of a line in use is, as long as the panel is not made anew, what the panel's calls make of it, and a device is what the calls of its
+/// entry make of it, whatever the others call. So whatever a program does by such calls, the theorem speaks of its bus, or of its device.
+///
+/// The bus is that of a list of calls of a new one, also where the panel is made anew, if its entries could be added as they stand. So what holds after
+/// every list of calls of a bus holds of it: one exchange is outstanding at most.
+pub fn ends_go_by_their_own_calls<H: Handler>()
+    ensures own { (l : InUse H) → GoByTheirOwn H.answer_of H.after l }
+    ensures bus { BusIsReached H.answer_of H.after }
+    ensures exchange { OneExchange H.answer_of H.after }
+{
+    osdp_bus_laws::one_exchange_is_outstanding();
+}
+
+/// Under the same premises no session of an entry in which its device has not restarted ends because the device refused a number, whatever the
+/// panel's program calls next.
+pub fn refuses_no_number<H: Handler>()
+    ensures { CallsRefuseNoNumber H.answer_of H.after }
+{
+    osdp_shared_line::nobody_else_hears::<H>();
+    osdp_shared_line::promises::each_refuses_no_number::<H>();
+}
+
+/// Of an entry whose device is never made anew, and whose program sets no handler, whatever the others do: its commands are settled with the
+/// answers of its settings and its one handler, in order, and its events are a beginning of all that were queued.
+pub fn one_device_holds_once<H: Handler>()
+    ensures { OneDeviceHoldsOnce H.answer_of H.after }
+{
+    osdp_shared_line::restarts::each_of_one_handler_holds_once::<H>();
+}

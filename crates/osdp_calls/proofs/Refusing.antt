@@ -1,0 +1,275 @@
+-- What a controller tells of a packet that it reads is what its link's controller tells of it, so it is no refused number.
+use Rattle.std.proofs.Common.{◌≡◌, ◌≢◌, ℕ, ◌+◌, max, not, Bool, true, false, cond, All, IfSome, List, [], ◌∷◌, ◌++◌, Option, Some, None, refl, sym, subst, ap, ◌∙◌, arith, inl, inr}
+use Rattle.std.proofs.lemmas.Bool.Decides.{eqb_tells}
+use Rattle.std.specs.Prelude.{◌==◌, ◌&&◌, slice_get}
+use Rattle.osdp_frame.specs.Packet.{Packet}
+use Rattle.osdp_msg.specs.declared.command.Command.{Command}
+use Rattle.osdp_controller.specs.Answers.{meaning_of}
+use Rattle.osdp_controller.specs.Hearing.{Heard, hears, hears_in, ignores, is_from_reader}
+use Rattle.osdp_controller.specs.Sessions as clocks
+use Rattle.osdp_controller.specs.declared.report.Report.{Report}
+use Rattle.osdp_controller.specs.declared.report.Report.TheVariants as report
+use Rattle.osdp_controller.specs.declared.session.Session.{Session}
+use Rattle.osdp_controller.specs.declared.state.State.TheVariants.{Closed}
+use Rattle.osdp_bus.specs.Buses.{BusState, Devices, device_of, seen}
+use Rattle.osdp_bus.specs.Devices.{first_from, is_at, step_of}
+use Rattle.osdp_bus.specs.Hearing.{hears_packet}
+use Rattle.osdp_bus.specs.declared.device.Device.{Device}
+use Rattle.osdp_bus_laws.specs.Calls as bus
+use Rattle.osdp_bus_laws.specs.Reports.{told_at, told_by_device, told_by_entry, told_by_ticking, told_in, told_with}
+use Rattle.osdp_link_laws.specs.Link as link
+use Rattle.osdp_link_laws.specs.Link.{Account, Repeated, after_report}
+use Rattle.osdp_link_laws.specs.Refusals.{IsNoRefusal, told_by_front}
+use Rattle.osdp_link_laws.proofs.Lines.{each_all, each_append, each_map, each_of}
+use Rattle.osdp_link_laws.proofs.Reports.{tick_so}
+use Rattle.osdp_link_laws.proofs.Stages.{Each}
+use Rattle.osdp_reader.specs.declared.handler.Answer.{Answer}
+use Rattle.osdp_shared_line.specs.Addresses.{IsSetUp, NetMovesFit, NobodyElseHears}
+use Rattle.osdp_shared_line.specs.Line.{Net, NetMove, RestartPanel, Site, address_of, run, site_at}
+use Rattle.osdp_shared_line.specs.Runs.{EachRefusesNoNumber}
+use Rattle.osdp_shared_line.specs.Views.{HeardByOwn, own}
+use Rattle.osdp_shared_line.proofs.Sites.{changed_from, some_same}
+use Rattle.osdp_calls.specs.Calls.{after_calls, all_hear, asked_at, change_at, changes_at, hears_of, read_by}
+use Rattle.osdp_calls.specs.Handing.{heard, told_by_all}
+use Rattle.osdp_calls.specs.Lines.{Burst, InUse, Station, is_past_for_panel}
+use Rattle.osdp_calls.specs.Premises.{AreSaid}
+use Rattle.osdp_calls.specs.Refusals.{CallsRefuseNoNumber}
+use Rattle.osdp_calls.proofs.Ahead.{panel_front}
+use Rattle.osdp_calls.proofs.Controllers.{config_same, hears_same, ignored_command, ignored_quiet}
+use Rattle.osdp_calls.proofs.Handing.{hands_over}
+use Rattle.osdp_calls.proofs.Holding.{comes}
+use Rattle.osdp_calls.proofs.Losing.{Reaches, fit_then, run_then}
+use Rattle.osdp_calls.proofs.Nexts.{each_at, place_within}
+use Rattle.osdp_calls.proofs.Panel.{AtAddress, NoneThere, OneThere, at_address, at_seen, hears_one, panel_on, reads_here}
+use Rattle.osdp_calls.proofs.Runs.{NotPast}
+use Rattle.osdp_calls.proofs.Same.{Controls, IsNetOf, IsRightly, IsSame, IsToOpen}
+use Rattle.osdp_calls.proofs.Setting.{first_net, first_site, first_there}
+use Rattle.osdp_calls.proofs.Stations.{Refines, Sites}
+
+-- ---- what a controller passes over tells nothing
+
+abbrev NoRefusal : Option Report → Type 0
+NoRefusal o = IfSome o IsNoRefusal
+
+-- of the entry at this place
+abbrev Tells : ℕ → ℕ × Report → Type 0
+Tells k said = said.0 ≡ k → IsNoRefusal said.1
+
+ignored_none : (h : Heard) (s : Session) → h ≡ ignores s → NoRefusal h.report
+ignored_none h s is = subst (λ (x : Heard). NoRefusal x.report) (sym is) tt
+
+ignored_elsewhere : (p : Packet) (now : ℕ) (s : Session) → (p.address == s.config.address) ≡ false → hears p now s ≡ ignores (clocks.seen now s)
+ignored_elsewhere p now s is =
+    ap (λ b. cond ((p.reply && b) && not p.block) (hears_in s.state p.sequence (meaning_of p) (clocks.seen now s)) (ignores (clocks.seen now s))) is
+    ∙ by_reply p.reply
+  where
+    by_reply : (r : Bool) → cond ((r && false) && not p.block) (hears_in s.state p.sequence (meaning_of p) (clocks.seen now s)) (ignores (clocks.seen now s))
+        ≡ ignores (clocks.seen now s)
+    by_reply true = refl
+    by_reply false = refl
+
+ignored_closed : (p : Packet) (now : ℕ) (s : Session) → s.state ≡ Closed → hears p now s ≡ ignores (clocks.seen now s)
+ignored_closed p now s is =
+    ap (λ st. cond (is_from_reader p s) (hears_in st p.sequence (meaning_of p) (clocks.seen now s)) (ignores (clocks.seen now s))) is
+    ∙ either (is_from_reader p s)
+  where
+    either : (b : Bool) → cond b (ignores (clocks.seen now s)) (ignores (clocks.seen now s)) ≡ ignores (clocks.seen now s)
+    either true = refl
+    either false = refl
+
+told_each : (P : ℕ × Report → Type 0) (k : ℕ) (o : Option Report) → IfSome o (λ r. P (k, r)) → Each P (told_at k o)
+told_each P k None is = tt
+told_each P k (Some r) is = (is, tt)
+
+-- reports change no count of restarts
+report_restarts : (o : Report) (a : Account) → (after_report (Some o) a).restarts ≡ a.restarts
+report_restarts (report.Opened id) a = refl
+report_restarts (report.Settled command answer) a = refl
+report_restarts (report.Moved command answered) a = refl
+report_restarts (report.Event event) a = refl
+report_restarts (report.PollAnswered answer) a = refl
+report_restarts (report.Unread command code) a = refl
+report_restarts (report.Lost cause command) a = refl
+
+-- a tick of a controller tells of no refused number
+ticks_tell : (k : ℕ) (o : Option ℕ) (b : BusState) → Each (Tells k) (told_by_ticking o b)
+ticks_tell k None b = tt
+ticks_tell k (Some entry) b = by_device (device_of entry b)
+  where
+    by_device : (o : Option Device) → Each (Tells k) (told_by_device entry o b)
+    by_device None = tt
+    by_device (Some d) =
+        told_each (Tells k) entry (step_of b.greatest d).report
+        (tick_so (λ o. IfSome o (λ r. entry ≡ k → IsNoRefusal r)) tt (λ x here. tt) d.controller.session.state
+        (clocks.seen b.greatest d.controller.session) d.controller.waiting)
+
+module _ {H : Type 0} where
+  -- the device of this place has not restarted in its session
+  abbrev Unbroken : ℕ → List (Station H) → Type 0
+  Unbroken k ts = (t : Station H) → site_at k ts ≡ Some t → t.account.restarts ≡ 0
+
+  hears_unbroken : (k i : ℕ) (r : Report) (o : Option (Station H)) (ts : List (Station H)) → site_at i ts ≡ o → Unbroken k ts
+      → Unbroken k (changes_at i (hears_of r) o ts)
+  hears_unbroken k i r None ts at is = is
+  hears_unbroken k i r (Some u) ts at is = λ t there. elim (changed_from k i (hears_of r u) u t ts at there) [
+    | inl here ↦
+        ap (λ (x : Station H). x.account.restarts) here.1 ∙ report_restarts r u.account ∙ is u (subst (λ j. site_at j ts ≡ Some u) (sym here.0) at)
+    | inr other ↦ is t other.1
+  ]
+
+  all_unbroken : (k : ℕ) (told : List (ℕ × Report)) (ts : List (Station H)) → Unbroken k ts → Unbroken k (all_hear told ts)
+  all_unbroken k [] ts is = is
+  all_unbroken k (said ∷ more) ts is =
+      all_unbroken k more (change_at said.0 (hears_of said.1) ts) (hears_unbroken k said.0 said.1 (site_at said.0 ts) ts refl is)
+
+  module _ (answer_of : H → Command → Answer) (after : H → Command → H) (nobody : NobodyElseHears answer_of after)
+      (none : EachRefusesNoNumber answer_of after) where
+    -- a net that a line at set-up comes to
+    record Reached (n0 n : Net H) : Type 0 where
+      moves : List (NetMove H)
+      fit : NetMovesFit answer_of after moves n0
+      is : run answer_of after moves n0 ≡ n
+
+    reached_more : (n0 n m : Net H) → Reached n0 n → Reaches answer_of after n m → Reached n0 m
+    reached_more n0 n m x y = record {
+      moves = x.moves ++ y.moves;
+      fit = fit_then answer_of after x.moves y.moves n0 x.fit (subst (NetMovesFit answer_of after y.moves) (sym x.is) y.fit);
+      is = run_then answer_of after x.moves y.moves n0 ∙ ap (run answer_of after y.moves) x.is ∙ y.run;
+    }
+
+    module _ (n0 : Net H) (up : IsSetUp n0) (k : ℕ) (first : Site H) (was : site_at k n0.sites ≡ Some first) where
+      -- a reply that is in front for the panel
+      own_reply : (p : Packet) (b : Burst) (rest : List (ℕ × Packet)) (now : ℕ) (s : Site H) (n : Net H) → Reached n0 n → site_at k n.sites ≡ Some s
+          → n.to_panel ≡ (b.entry, b.packet) ∷ rest → b.packet ≡ p → s.account.restarts ≡ 0 → (b.entry == k) ≡ true
+          → NoRefusal (hears p now s.controller.session).report
+      own_reply p b rest now s n r there front same unbroken mine =
+          let told = none n0 r.moves up r.fit k first s was (ap (λ (m : Net H). site_at k m.sites) r.is ∙ there) unbroken (link.ToController Repeated now) in
+          subst (λ q. NoRefusal (hears q now s.controller.session).report) same
+          (subst (λ x. NoRefusal (told_by_front Repeated (cond x (b.packet ∷ own k rest) (own k rest)) now s.controller.session)) mine
+          (subst (λ qs. NoRefusal (told_by_front Repeated (own k qs) now s.controller.session)) front
+          (subst (λ (m : Net H). NoRefusal (told_by_front Repeated (own k m.to_panel) now s.controller.session)) r.is told)))
+
+      other_reply : (p : Packet) (b : Burst) (rest : List (ℕ × Packet)) (now : ℕ) (s : Site H) (n : Net H) → Reached n0 n → site_at k n.sites ≡ Some s
+          → n.to_panel ≡ (b.entry, b.packet) ∷ rest → b.packet ≡ p → b.entry ≢ k → NoRefusal (hears p now s.controller.session).report
+      other_reply p b rest now s n r there front same differs =
+          elim (eqb_tells p.address (address_of s)) [
+            | inl here ↦
+                let heard = subst (λ (m : Net H). HeardByOwn m) r.is (nobody n0 r.moves up r.fit).heard in
+                let each = each_of (λ (q : ℕ × Packet). (j : ℕ) (u : Site H) → j ≢ q.0 → site_at j n.sites ≡ Some u → address_of u ≡ q.1.address
+                → u.controller.session.state ≡ Closed) ((b.entry, b.packet) ∷ rest)
+                (subst (λ qs. All (λ (q : ℕ × Packet). (j : ℕ) (u : Site H) → j ≢ q.0 → site_at j n.sites ≡ Some u → address_of u ≡ q.1.address
+                → u.controller.session.state ≡ Closed) qs) front heard.controllers) in
+                let shut = each.0 k s (λ e. differs (sym e)) there (sym here.1 ∙ sym (ap (λ (q : Packet). q.address) same)) in
+                ignored_none (hears p now s.controller.session) (clocks.seen now s.controller.session) (ignored_closed p now s.controller.session shut)
+            | inr away ↦
+                ignored_none (hears p now s.controller.session) (clocks.seen now s.controller.session)
+                (ignored_elsewhere p now s.controller.session away.0)
+          ]
+
+      -- ---- what one packet brings
+
+      one_tells : (p : Packet) (b : Burst) (l : InUse H) (n : Net H) → IsNetOf l n → Reached n0 n → site_at l.place l.said ≡ Some b → b.packet ≡ p
+          → is_past_for_panel l.openings l.place b ≡ false → Unbroken k l.stations
+          → Each (Tells k)
+          (told_by_entry p l.bus.greatest (first_from 0 (is_at p.address) l.bus.devices.entries) l.bus.devices)
+      one_tells p b l n h r said_it same past unbroken =
+          by_place (at_address l p l.bus.greatest 0 l.bus.devices.entries l.stations n.sites h.sites)
+        where
+          heard_so : (j : ℕ) (d : Device) (t : Station H) (s : Site H) → site_at j l.stations ≡ Some t → site_at j n.sites ≡ Some s → Sites l j d t s
+              → j ≡ k → (x : Bool) → p.reply ≡ x → (o : Option ℕ) → t.begun ≡ o → NoRefusal (hears p l.bus.greatest d.controller.session).report
+          heard_so j d t s there c is here false command o begun =
+              ignored_none (hears p l.bus.greatest d.controller.session) (clocks.seen l.bus.greatest d.controller.session)
+              (ignored_command p l.bus.greatest d.controller.session command)
+          heard_so j d t s there c is here true reply (Some began) begun =
+              let control : IsToOpen began l.bus.greatest d.controller s.controller = subst (λ o. Controls o l.bus.greatest d.controller s.controller) begun is.controller in
+              ignored_none (hears p l.bus.greatest d.controller.session) (clocks.seen l.bus.greatest d.controller.session)
+              (ignored_quiet p l.bus.greatest d.controller.session
+              (clocks.later d.controller.session.config.quiet_wait (clocks.seen began (record d.controller.session { greatest = control.moment }))) control.quiet)
+          heard_so j d t s there c is here true reply None begun =
+              let control : IsSame l.bus.greatest d.controller s.controller = subst (λ o. Controls o l.bus.greatest d.controller s.controller) begun is.controller in
+              let by_device_said : b.by_panel ≡ false =
+              not_panel b.by_panel (sym (each_at IsRightly l.place b l.said h.said said_it) ∙ ap (λ (q : Packet). q.reply) same ∙ reply) in
+              let front = panel_front l.place l.openings l.said b said_it by_device_said past in
+              let mine : site_at k n.sites ≡ Some s = subst (λ i. site_at i n.sites ≡ Some s) here c in
+              let quiet : s.account.restarts ≡ 0 =
+              ap (λ (a : Account). a.restarts) is.account ∙ unbroken t (subst (λ i. site_at i l.stations ≡ Some t) here there) in
+              subst (λ (x : Heard). NoRefusal x.report) (hears_same p l.bus.greatest d.controller s.controller control)
+              (elim (eqb_tells b.entry k) [
+                | inl own_one ↦ own_reply p b front.0 l.bus.greatest s n r mine (h.to_panel ∙ front.1) same quiet own_one.0
+                | inr differs ↦ other_reply p b front.0 l.bus.greatest s n r mine (h.to_panel ∙ front.1) same differs.1
+              ])
+            where
+              not_panel : (x : Bool) → not x ≡ true → x ≡ false
+              not_panel true e = absurd cc
+              not_panel false e = refl
+
+          by_report : (j : ℕ) (d : Device) (t : Station H) (s : Site H) → site_at j l.stations ≡ Some t → site_at j n.sites ≡ Some s → Sites l j d t s
+              → (o : Option Report) → (hears p l.bus.greatest d.controller.session).report ≡ o → Each (Tells k) (told_at j o)
+          by_report j d t s there c is None e = tt
+          by_report j d t s there c is (Some x) e =
+              ((λ here. subst NoRefusal e (heard_so j d t s there c is here p.reply refl t.begun refl)), tt)
+
+          by_place : AtAddress l p l.bus.greatest 0 l.bus.devices.entries l.stations n.sites
+              → Each (Tells k) (told_by_entry p l.bus.greatest (first_from 0 (is_at p.address) l.bus.devices.entries) l.bus.devices)
+          by_place (NoneThere nobody_there) = subst (λ o. Each (Tells k) (told_by_entry p l.bus.greatest o l.bus.devices)) (sym nobody_there) tt
+          by_place (OneThere i j at d t s some a there c is got) =
+              let here : j ≡ i = omega (arith, at) in
+              subst (λ o. Each (Tells k) (told_by_entry p l.bus.greatest o l.bus.devices)) (sym (some ∙ ap Some here))
+              (subst (λ o. Each (Tells k) (told_with p l.bus.greatest i o)) (sym a)
+              (by_report i d t s there c (subst (λ x. Sites l x d t s) here is) (hears p l.bus.greatest d.controller.session).report refl))
+
+      -- ---- all that are read
+
+      all_tell : (ps : List Packet) (places : List ℕ) (l : InUse H) (n : Net H) → IsNetOf l n → Reached n0 n → AreSaid l.said ps places l.place
+          → Each (NotPast l) places → Unbroken k l.stations
+          → Each (Tells k) (told_by_all l.bus.greatest ps l.bus.devices)
+      all_tell [] places l n h r all past unbroken = tt
+      all_tell (p ∷ ps) [] l n h r all past unbroken = absurd all
+      all_tell (p ∷ ps) (i ∷ places) l n h r all past unbroken =
+          let inside = place_within i all.0 l.said all.1 in
+          let l1 = record l { place = i } in
+          let l2 = hears_one answer_of after p l1 in
+          let on = panel_on answer_of after i l n h all.3 (omega (arith, inside)) in
+          let r1 = reached_more n0 n on.net r on.reached in
+          let read = reads_here answer_of after p all.0 l1 on.net on.same all.1 all.2 (past.0 all.0 all.1) in
+          let told = told_by_entry p l.bus.greatest (first_from 0 (is_at p.address) l.bus.devices.entries) l.bus.devices in
+          each_append (Tells k) told
+          (told_by_all l.bus.greatest ps (hears_packet p l.bus.greatest l.bus.devices))
+          (one_tells p all.0 l1 on.net on.same r1 all.1 all.2 (past.0 all.0 all.1) unbroken)
+          (all_tell ps places l2 read.net read.same (reached_more n0 on.net read.net r1 read.reached) all.4 past.1 (all_unbroken k told l.stations unbroken))
+
+  -- of a call, where packets that it reads tell of none
+  call_tells : (k : ℕ) (places : List ℕ) (l : InUse H)
+      → ((now : ℕ) (ps : List Packet) → AreSaid l.said ps places l.place → Each (Tells k) (told_by_all (max l.bus.greatest now) ps l.bus.devices))
+      → (call : bus.Call) → AreSaid l.said (read_by call l.bus) places l.place → Each (Tells k) (told_in call l.bus)
+  call_tells k places l reads (bus.OnBytes bytes now) order =
+      subst (Each (Tells k)) (sym ((hands_over l.bus).bytes bytes now).1) (reads now (read_by (bus.OnBytes bytes now) l.bus) order)
+  call_tells k places l reads (bus.OnSilence now) order =
+      subst (Each (Tells k)) (sym ((hands_over l.bus).silence now).1) (reads now (read_by (bus.OnSilence now) l.bus) order)
+  call_tells k places l reads (bus.Tick now) order =
+      let told = ((hands_over l.bus).tick now).2 in
+      let ps = read_by (bus.Tick now) l.bus in
+      let before = heard (bus.Tick now) now l.bus in
+      subst (Each (Tells k)) (sym told)
+      (each_append (Tells k) (told_by_all (max l.bus.greatest now) ps l.bus.devices) (told_by_ticking (asked_at now l.bus) before)
+      (reads now ps order) (ticks_tell k (asked_at now l.bus) before))
+  call_tells k places l reads (bus.Add address) order = tt
+  call_tells k places l reads (bus.Begin entry now) order = tt
+  call_tells k places l reads (bus.Submit entry command) order = tt
+  call_tells k places l reads (bus.Withdraw entry) order = tt
+  call_tells k places l reads (bus.Retarget entry address) order = tt
+  call_tells k places l reads bus.NextReport order = tt
+
+  pub calls_refuse_no_number : (answer_of : H → Command → Answer) (after : H → Command → H) → NobodyElseHears answer_of after
+      → EachRefusesNoNumber answer_of after → CallsRefuseNoNumber answer_of after
+  calls_refuse_no_number answer_of after nobody none l steps up keep k first t was is zero call places keeps =
+      let ls = after_calls answer_of after steps l in
+      let c = comes answer_of after l steps up keep in
+      let past = each_of (NotPast ls) places keeps.quiet_opening in
+      each_all (Tells k) (told_in call ls.bus)
+      (call_tells k places ls
+      (λ now ps order. all_tell answer_of after nobody none (first_net c.start.config l.stations) c.start.is_set_up k (first_site c.start.config first)
+      (first_there c.start.config k first l.stations was) ps places (record ls { bus = seen now ls.bus }) c.came.net (at_seen now ls c.came.net c.came.same)
+      (record { moves = RestartPanel c.start.settings ∷ c.came.moves; fit = (c.start.fits, c.came.fit); is = c.came.run }) order past
+      (λ u there. ap (λ (x : Station H). x.account.restarts) (some_same u t (sym there ∙ is)) ∙ zero))
+      call keeps.in_order)
