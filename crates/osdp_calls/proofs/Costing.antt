@@ -1,13 +1,11 @@
 -- What a restart costs an entry is what it costs the site.
-use Rattle.std.proofs.Common.{◌≡◌, ◌≢◌, ◌<◌, ℕ, zero, suc, ◌+◌, List, [], ◌∷◌, ◌++◌, length, All, Some, None, refl, sym, subst, ap, ◌∙◌, append_assoc, arith, inl, inr}
+use Rattle.std.proofs.Common.{◌≡◌, ◌<◌, ℕ, zero, suc, ◌+◌, List, [], ◌∷◌, ◌++◌, length, Some, None, refl, sym, subst, ap, ◌∙◌, append_assoc, arith, inl, inr}
 use Rattle.std.specs.Prelude.{map, option_to_list, slice_get}
 use Rattle.osdp_msg.specs.declared.command.Command.{Command}
 use Rattle.osdp_msg.specs.declared.event.Event.{Event}
 use Rattle.osdp_controller.specs.Machine.{AreSettings}
 use Rattle.osdp_controller.specs.declared.config.ControllerConfig.{ControllerConfig}
-use Rattle.osdp_bus.specs.Buses.{device_of}
 use Rattle.osdp_bus.specs.Machine.{new_device}
-use Rattle.osdp_bus.specs.declared.config.BusConfig.{BusConfig}
 use Rattle.osdp_bus.specs.declared.device.Device.{Device}
 use Rattle.osdp_link_laws.specs.Costs.{ControllerCosts, ReaderCosts}
 use Rattle.osdp_link_laws.specs.Effects.{SameCommands}
@@ -20,21 +18,19 @@ use Rattle.osdp_link_laws.proofs.Lines.{each_all, each_map, each_of}
 use Rattle.osdp_link_laws.proofs.Stages.{Each}
 use Rattle.osdp_reader.specs.State.{ReaderState}
 use Rattle.osdp_reader.specs.declared.handler.Answer.{Answer}
-use Rattle.osdp_shared_line.specs.Addresses.{NetMovesFit, NobodyElseHears, Somewhere}
+use Rattle.osdp_shared_line.specs.Addresses.{NetMovesFit, NobodyElseHears}
 use Rattle.osdp_shared_line.specs.Line as line
 use Rattle.osdp_shared_line.specs.Line.{Net, NetMove, RestartPanel, RestartReader, Site, after_net, all_restart, changed, restarts, run, site_at}
-use Rattle.osdp_shared_line.specs.Restarts as sites
 use Rattle.osdp_shared_line.specs.Restarts.{EachPanelRestartCosts, EachReaderRestartCosts, EachReportsNoMore, KeepsReaderOf}
 use Rattle.osdp_shared_line.specs.Runs.{moves_of}
 use Rattle.osdp_shared_line.specs.Views.{EachMoveIsItsOwn, view}
 use Rattle.osdp_shared_line.proofs.Sites.{at_changed, some_same}
 use Rattle.osdp_calls.specs.Accepted.{all_queued}
-use Rattle.osdp_calls.specs.Calls.{Call, NewDevice, NewPanel, Step, after_call, after_calls, all_forget, changes_at, forgets, made_anew}
-use Rattle.osdp_calls.specs.Lines.{InUse, Station}
-use Rattle.osdp_calls.specs.Premises.{AllKeep, IsSetUp, Keeps}
+use Rattle.osdp_calls.specs.Calls.{NewDevice, Step, after_call, after_calls, all_forget, changes_at, forgets, made_anew}
+use Rattle.osdp_calls.specs.Lines.{Station}
 use Rattle.osdp_calls.specs.Promises.{link_of_entry}
-use Rattle.osdp_calls.specs.Restarts.{IsBeforeAndAfter, KeepsDevice, NewDeviceCosts, NewDeviceReportsNoMore, NewPanelCosts}
-use Rattle.osdp_calls.proofs.Counting.{AllHeard, all_heard, in_link, in_net}
+use Rattle.osdp_calls.specs.Restarts.{KeepsDevice, NewDeviceCosts, NewDeviceReportsNoMore, NewPanelCosts}
+use Rattle.osdp_calls.proofs.Counting.{AllHeard, all_heard, in_link}
 use Rattle.osdp_calls.proofs.Holding.{all_calls, comes, events_counted, its_site}
 use Rattle.osdp_calls.proofs.Losing.{fit_then, run_then}
 use Rattle.osdp_calls.proofs.Nexts.{each_at}

@@ -7,13 +7,13 @@ use Rattle.osdp_frame.specs.Reading.{RunItem, PacketItem, SkippedItem, RefusedIt
 use Rattle.osdp_controller.specs.declared.report.Report.{Report}
 use Rattle.osdp_bus.specs.Buses.{BusState, Devices, device_of, has_report, holder, is_silent, seen, waiting_after}
 use Rattle.osdp_bus.specs.Devices.{device_ticks, first_from, is_at, step_of}
-use Rattle.osdp_bus.specs.Hearing.{ends_run, ends_silent, hears_item, hears_items, hears_packet}
+use Rattle.osdp_bus.specs.Hearing.{ends_run, ends_silent, hears_items, hears_packet}
 use Rattle.osdp_bus.specs.Ticking.{BusTicked, bus_ticks, is_due_at, is_held_and_due, next_due, stays, ticks_at, ticks_by, ticks_with}
 use Rattle.osdp_bus.specs.declared.device.Device.{Device}
 use Rattle.osdp_bus_laws.specs.Calls as bus
 use Rattle.osdp_bus_laws.specs.Reports.{told_at, told_by_device, told_by_end, told_by_entry, told_by_holder, told_by_items, told_by_silence, told_by_tick, told_by_ticking, told_in}
 use Rattle.osdp_bus_laws.specs.Turns.{judged}
-use Rattle.osdp_calls.specs.Calls.{asked_at, asked_by_holder, read_at_end, read_at_silence, read_at_tick, read_by, read_by_holder, read_of_bytes}
+use Rattle.osdp_calls.specs.Calls.{asked_at, asked_by_holder, read_at_end, read_at_silence, read_at_tick, read_by, read_by_holder}
 use Rattle.osdp_calls.specs.Handing.{HandsOver, heard, hears_all, told_by_all}
 
 hears_parts : (now : ℕ) (parts : List RunItem) (ds : Devices) → hears_items now parts ds ≡ hears_all now (whole_packets parts) ds

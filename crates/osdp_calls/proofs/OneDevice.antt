@@ -1,5 +1,5 @@
 -- A device that never changes is one whose site never does.
-use Rattle.std.proofs.Common.{◌≡◌, ◌≢◌, ℕ, List, [], ◌∷◌, All, Some, subst, ap, ◌∙◌, inl, inr}
+use Rattle.std.proofs.Common.{ℕ, List, [], ◌∷◌, subst, ap, ◌∙◌, inl, inr}
 use Rattle.osdp_msg.specs.declared.command.Command.{Command}
 use Rattle.osdp_link_laws.specs.OneHandler.{AreOnce}
 use Rattle.osdp_link_laws.proofs.Lines.{each_all, each_map, each_of}

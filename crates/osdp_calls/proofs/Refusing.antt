@@ -1,7 +1,7 @@
 -- What a controller tells of a packet that it reads is what its link's controller tells of it, so it is no refused number.
-use Rattle.std.proofs.Common.{◌≡◌, ◌≢◌, ℕ, ◌+◌, max, not, Bool, true, false, cond, All, IfSome, List, [], ◌∷◌, ◌++◌, Option, Some, None, refl, sym, subst, ap, ◌∙◌, arith, inl, inr}
+use Rattle.std.proofs.Common.{◌≡◌, ◌≢◌, ℕ, max, not, Bool, true, false, cond, All, IfSome, List, [], ◌∷◌, ◌++◌, Option, Some, None, refl, sym, subst, ap, ◌∙◌, arith, inl, inr}
 use Rattle.std.proofs.lemmas.Bool.Decides.{eqb_tells}
-use Rattle.std.specs.Prelude.{◌==◌, ◌&&◌, slice_get}
+use Rattle.std.specs.Prelude.{◌==◌, ◌&&◌}
 use Rattle.osdp_frame.specs.Packet.{Packet}
 use Rattle.osdp_msg.specs.declared.command.Command.{Command}
 use Rattle.osdp_controller.specs.Answers.{meaning_of}
@@ -11,7 +11,7 @@ use Rattle.osdp_controller.specs.declared.report.Report.{Report}
 use Rattle.osdp_controller.specs.declared.report.Report.TheVariants as report
 use Rattle.osdp_controller.specs.declared.session.Session.{Session}
 use Rattle.osdp_controller.specs.declared.state.State.TheVariants.{Closed}
-use Rattle.osdp_bus.specs.Buses.{BusState, Devices, device_of, seen}
+use Rattle.osdp_bus.specs.Buses.{BusState, device_of, seen}
 use Rattle.osdp_bus.specs.Devices.{first_from, is_at, step_of}
 use Rattle.osdp_bus.specs.Hearing.{hears_packet}
 use Rattle.osdp_bus.specs.declared.device.Device.{Device}
@@ -20,7 +20,7 @@ use Rattle.osdp_bus_laws.specs.Reports.{told_at, told_by_device, told_by_entry, 
 use Rattle.osdp_link_laws.specs.Link as link
 use Rattle.osdp_link_laws.specs.Link.{Account, Repeated, after_report}
 use Rattle.osdp_link_laws.specs.Refusals.{IsNoRefusal, told_by_front}
-use Rattle.osdp_link_laws.proofs.Lines.{each_all, each_append, each_map, each_of}
+use Rattle.osdp_link_laws.proofs.Lines.{each_all, each_append, each_of}
 use Rattle.osdp_link_laws.proofs.Reports.{tick_so}
 use Rattle.osdp_link_laws.proofs.Stages.{Each}
 use Rattle.osdp_reader.specs.declared.handler.Answer.{Answer}
@@ -35,7 +35,7 @@ use Rattle.osdp_calls.specs.Lines.{Burst, InUse, Station, is_past_for_panel}
 use Rattle.osdp_calls.specs.Premises.{AreSaid}
 use Rattle.osdp_calls.specs.Refusals.{CallsRefuseNoNumber}
 use Rattle.osdp_calls.proofs.Ahead.{panel_front}
-use Rattle.osdp_calls.proofs.Controllers.{config_same, hears_same, ignored_command, ignored_quiet}
+use Rattle.osdp_calls.proofs.Controllers.{hears_same, ignored_command, ignored_quiet}
 use Rattle.osdp_calls.proofs.Handing.{hands_over}
 use Rattle.osdp_calls.proofs.Holding.{comes}
 use Rattle.osdp_calls.proofs.Losing.{Reaches, fit_then, run_then}
@@ -44,7 +44,7 @@ use Rattle.osdp_calls.proofs.Panel.{AtAddress, NoneThere, OneThere, at_address, 
 use Rattle.osdp_calls.proofs.Runs.{NotPast}
 use Rattle.osdp_calls.proofs.Same.{Controls, IsNetOf, IsRightly, IsSame, IsToOpen}
 use Rattle.osdp_calls.proofs.Setting.{first_net, first_site, first_there}
-use Rattle.osdp_calls.proofs.Stations.{Refines, Sites}
+use Rattle.osdp_calls.proofs.Stations.{Sites}
 
 -- ---- what a controller passes over tells nothing
 

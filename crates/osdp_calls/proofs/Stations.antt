@@ -1,16 +1,14 @@
 -- What changes a station and its site alone, and what calls come to.
-use Rattle.std.proofs.Common.{ℕ, Bool, true, false, [], ◌∷◌, ◌++◌, length, sym, subst, ap}
-use Rattle.std.specs.Prelude.{◌==◌}
+use Rattle.std.proofs.Common.{ℕ, Bool, sym, subst, ap}
 use Rattle.osdp_msg.specs.declared.command.Command.{Command}
-use Rattle.osdp_msg.specs.declared.event.Event.{Event}
 use Rattle.osdp_bus.specs.declared.device.Device.{Device}
 use Rattle.osdp_link_laws.specs.Link as link
-use Rattle.osdp_reader.specs.State.{after_set_busy, after_set_handler, after_submit}
+use Rattle.osdp_reader.specs.State.{after_set_busy}
 use Rattle.osdp_reader.specs.declared.handler.Answer.{Answer}
 use Rattle.osdp_shared_line.specs.Addresses.{NetMoveFits}
 use Rattle.osdp_shared_line.specs.Line as line
 use Rattle.osdp_shared_line.specs.Line.{Net, NetMove, Queue, SetBusy, SetHandler, Site, after_net, changed, left_by, link_of, site_at}
-use Rattle.osdp_calls.specs.Calls.{changes_at, on_station, queues}
+use Rattle.osdp_calls.specs.Calls.{changes_at, on_station}
 use Rattle.osdp_calls.specs.Lines.{InUse, Station}
 use Rattle.osdp_calls.proofs.Losing.{IsPlain, Reaches, one_move, stays}
 use Rattle.osdp_calls.proofs.Matching.{FoundAt, Match, Nobody, Somebody, changed_same, found, set_station}

@@ -1,5 +1,5 @@
 -- What one call comes to: moves of its own kind alone, and what they give is what the call has accepted.
-use Rattle.std.proofs.Common.{◌≡◌, ◌≢◌, ℕ, Bool, true, false, cond, List, [], ◌∷◌, ◌++◌, length, Option, Some, None, refl, sym, subst, ap, ◌∙◌, append-nil, inl, inr}
+use Rattle.std.proofs.Common.{◌≡◌, ℕ, true, false, cond, List, [], ◌∷◌, ◌++◌, length, Option, Some, None, refl, sym, subst, ap, ◌∙◌, append-nil, inl, inr}
 use Rattle.std.proofs.lemmas.Bool.Decides.{eqb_tells}
 use Rattle.std.specs.Prelude.{◌==◌}
 use Rattle.osdp_msg.specs.declared.command.Command.{Command}
@@ -15,12 +15,11 @@ use Rattle.osdp_link_laws.specs.Link.{Link, Move}
 use Rattle.osdp_link_laws.specs.Sessions.{accepted, queued, submitted, unless_full}
 use Rattle.osdp_link_laws.proofs.Lines.{both, each_map}
 use Rattle.osdp_link_laws.proofs.Stages.{Each}
-use Rattle.osdp_reader.specs.State.{ReaderState}
 use Rattle.osdp_reader.specs.declared.handler.Answer.{Answer}
 use Rattle.osdp_shared_line.specs.Addresses.{NetMoveFits, NetMovesFit, Somewhere}
 use Rattle.osdp_shared_line.specs.Line.{LoseToPanel, LoseToReader, Net, NetMove, Queue, Reopen, RestartPanel, RestartReader, Retarget, SetBusy, Site, Submit, Tick, ToPanel, ToReader, Withdraw, after_net, is_comset_refused, run, site_at}
 use Rattle.osdp_shared_line.specs.Line as line
-use Rattle.osdp_shared_line.specs.Views.{move_of, one_if, view}
+use Rattle.osdp_shared_line.specs.Views.{one_if, view}
 use Rattle.osdp_calls.specs.Accepted.{accepted_by, queued_by}
 use Rattle.osdp_calls.specs.Calls as calls
 use Rattle.osdp_calls.specs.Calls.{Call, NewDevice, NewPanel, OfPanel, Step, SubmitEvent}

@@ -1,5 +1,5 @@
 -- What a turn does is what its calls do.
-use Rattle.std.proofs.Common.{◌≡◌, ℕ, List, [], ◌∷◌, Option, Some, None, refl, sym, subst, ap, ◌∙◌}
+use Rattle.std.proofs.Common.{◌≡◌, ℕ, List, [], ◌∷◌, Option, Some, None, refl, ap, ◌∙◌}
 use Rattle.osdp_msg.specs.declared.command.Command.{Command}
 use Rattle.osdp_device.specs.Deciding.{passed, pending_of, settles, turned_by}
 use Rattle.osdp_device.specs.Program.{program_after, program_answer}

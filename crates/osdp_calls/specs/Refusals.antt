@@ -1,5 +1,5 @@
 -- No session in which the device has not restarted ends because it refused a number.
-use Rattle.std.specs.Prelude.{◌≡◌, ℕ, All, List, ◌∷◌, Some}
+use Rattle.std.specs.Prelude.{◌≡◌, ℕ, All, List, Some}
 use Rattle.osdp_msg.specs.declared.command.Command.{Command}
 use Rattle.osdp_controller.specs.declared.report.Report.{Report}
 use Rattle.osdp_bus_laws.specs.Calls as bus

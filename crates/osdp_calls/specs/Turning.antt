@@ -1,6 +1,6 @@
 -- A turn of a device whose program sets the answers is a list of calls: bytes are taken, and then the next packet is answered, or the turn
 -- stops before a command about which the program is asked.
-use Rattle.std.specs.Prelude.{◌≡◌, ℕ, List, [], ◌∷◌, Option, Some, None}
+use Rattle.std.specs.Prelude.{◌≡◌, ℕ, List, [], ◌∷◌, Option, Some}
 use Rattle.osdp_msg.specs.declared.command.Command.{Command}
 use Rattle.osdp_device.specs.Deciding.{pending_of, turned}
 use Rattle.osdp_device.specs.Program.{program_after, program_answer}
