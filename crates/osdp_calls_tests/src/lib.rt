@@ -1,5 +1,6 @@
-//! A panel and two devices by calls that look random: bytes in pieces, pauses, noise, lost, cut, damaged and repeated bursts, withdrawn
-//! orders, restarts of either end. Each promise is asked of what the calls themselves answer.
+//! A panel and two devices by calls that look random: each promise is asked of what the calls answer.
+//!
+//! Bytes come in pieces, after noise, cut, damaged, again, late or not at all. Orders are withdrawn, devices are busy, and each end restarts.
 #![tactic(auto)]
 
 #[cfg(test)]
