@@ -11,7 +11,7 @@ import sys
 from pathlib import Path
 
 TOP = Path(__file__).resolve().parent.parent
-BLOCK = re.compile(r"([^\n]*\n)?\n```(console|sh)\n(.*?)^```$", re.M | re.S)
+BLOCK = re.compile(r"((?:[^\n]+\n)*)\n?```(console|sh)\n(.*?)^```$", re.M | re.S)
 faults = 0
 
 
@@ -41,7 +41,7 @@ def judge_page(page, environment):
     count = 0
     for above, kind, text in BLOCK.findall((TOP / page).read_text()):
         if kind == "sh":
-            if "not run" not in (above + text).lower() and not re.search(r"\brt |\.ci/run|must-fail", text):
+            if "not run" not in " ".join((above + text).lower().split()) and not re.search(r"\brt |\.ci/run|must-fail", text):
                 tell(page, f"a block that is not run doesn't say so: {text.splitlines()[0]}")
             continue
         for command, wanted in commands(text):
