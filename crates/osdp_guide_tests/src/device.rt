@@ -1,14 +1,11 @@
 //! A device: what it is, its loop, and outputs that are on for a time.
 
 use arrayvec::ArrayVec;
-use osdp_device::{Device, DeviceStatus, taken};
-use osdp_frame::{Address, MAX_PACKET};
-use osdp_msg::{Capability, Command, Event, Keypad, MAX_DATA, OutputRecord, PdCap, PdId, Raw};
-use osdp_reader::{Reader, ReaderConfig, Response};
+use osdp_device::{
+    Address, Capability, Command, Device, Event, Keypad, MAX_DATA, Order, OutputRecord, PdCap,
+    PdId, ProgramAnswers, Raw, Reader, ReaderConfig, Response, Turn, order_of, ordered,
+};
 use std::alloc::Global;
-
-/// What a turn writes, with room for the largest packet.
-pub type Bytes = ArrayVec<u8, MAX_PACKET>;
 
 /// For how many outputs there is room.
 const ROOM: usize = 8;
@@ -68,19 +65,19 @@ pub fn new_device(
     address: Address,
     inputs: u8,
     outputs: u8,
-) -> Option<Device<DeviceStatus>> {
+) -> Option<Device<ProgramAnswers>> {
     if usize::from(outputs) > ROOM {
         return None;
     }
-    let mut status = DeviceStatus::new();
-    status.inputs = all_off(inputs);
-    status.outputs = all_off(outputs);
-    let reader = Reader::new(alloc, new_config(address, inputs, outputs), status, 64).ok()?;
+    let mut program = ProgramAnswers::new();
+    program.status.inputs = all_off(inputs);
+    program.status.outputs = all_off(outputs);
+    let reader = Reader::new(alloc, new_config(address, inputs, outputs), program, 64).ok()?;
     Device::new(reader, 20)
 }
 
 /// A card was read: it waits until a POLL has taken it.
-pub fn card_was_read(device: &mut Device<DeviceStatus>) {
+pub fn card_was_read(device: &mut Device<ProgramAnswers>) {
     if let Some(card) = Raw::new(0, 0, 26, &[0x12, 0x34, 0x56, 0x40]) {
         // where there is no room the event comes back, and the device may beep
         let _ = device.reader.submit_event(Event::Raw(card));
@@ -88,7 +85,7 @@ pub fn card_was_read(device: &mut Device<DeviceStatus>) {
 }
 
 /// Keys were pressed, each a byte in ASCII.
-pub fn keys_were_pressed(device: &mut Device<DeviceStatus>, keys: &[u8]) {
+pub fn keys_were_pressed(device: &mut Device<ProgramAnswers>, keys: &[u8]) {
     let mut digits = ArrayVec::new();
     if digits.try_extend_from_slice(keys).is_ok() {
         let pressed = Keypad { reader: 0, digits };
@@ -97,8 +94,8 @@ pub fn keys_were_pressed(device: &mut Device<DeviceStatus>, keys: &[u8]) {
 }
 
 /// An input is on or off: ISTAT is answered so from now on, and an event tells the states of all inputs.
-pub fn input_was_switched(device: &mut Device<DeviceStatus>, input: usize, is_on: bool) {
-    let inputs = &mut device.reader.handler_mut().inputs;
+pub fn input_was_switched(device: &mut Device<ProgramAnswers>, input: usize, is_on: bool) {
+    let inputs = &mut device.reader.handler_mut().status.inputs;
     if let Some(state) = inputs.get_mut(input) {
         *state = u8::from(is_on);
     }
@@ -118,18 +115,10 @@ fn drive(until: &mut Option<u64>, record: &OutputRecord, now: u64) {
     }
 }
 
-/// Whether an answer says that nothing was done: the code of a reply is its sixth byte, and 0x41 is that of a NAK.
-fn is_refused(response: &Response) -> bool {
-    response.bytes().get(5) == Some(&0x41)
-}
-
-/// What the device does with an answer. A command is told as taken once, one that is refused too.
+/// What the device does with an answer: an OUT is done once, and not where it was refused.
 fn act(relays: &mut Relays, response: &Response, now: u64) {
-    if is_refused(response) {
-        return;
-    }
-    if let Some(Command::Output(outputs)) = taken(response) {
-        for record in outputs.records() {
+    if let (Order::Once, Some(Command::Output(out))) = (order_of(response), ordered(response)) {
+        for record in out.records() {
             if let Some(until) = relays.until.get_mut(usize::from(record.output)) {
                 drive(until, record, now);
             }
@@ -138,8 +127,8 @@ fn act(relays: &mut Relays, response: &Response, now: u64) {
 }
 
 /// Time passes: that of an output may be over. OSTAT is answered by what is set here.
-fn pass(device: &mut Device<DeviceStatus>, relays: &mut Relays, now: u64) {
-    let states = device.reader.handler_mut().outputs.as_mut_slice();
+fn pass(device: &mut Device<ProgramAnswers>, relays: &mut Relays, now: u64) {
+    let states = device.reader.handler_mut().status.outputs.as_mut_slice();
     for (state, until) in states.iter_mut().zip(relays.until.iter_mut()) {
         if until.is_some_and(|until| until <= now) {
             *until = None;
@@ -148,20 +137,22 @@ fn pass(device: &mut Device<DeviceStatus>, relays: &mut Relays, now: u64) {
     }
 }
 
-/// The device's loop, once: it reads, answers, and acts. What it writes.
+/// The device's loop, once: it reads, answers, and acts. What it writes is the response of the turn.
 pub fn device_turn(
-    device: &mut Device<DeviceStatus>,
+    device: &mut Device<ProgramAnswers>,
     relays: &mut Relays,
     bytes: &[u8],
     now: u64,
-) -> Bytes {
-    let mut written = Bytes::new();
+    turn: &mut Turn,
+) {
     pass(device, relays, now);
-    device.take(bytes, now);
     device.tick(now);
-    if let Some(response) = device.next() {
-        let _ = written.try_extend_from_slice(response.bytes());
-        act(relays, &response, now);
+    device.turn(bytes, now, turn);
+    if turn.pending.is_some() {
+        // nothing else is set for the command, so the status answers it
+        device.turn(&[], now, turn);
     }
-    written
+    if let Some(response) = &turn.response {
+        act(relays, response, now);
+    }
 }

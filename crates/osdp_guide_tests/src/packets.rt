@@ -1,8 +1,7 @@
 //! A device by packets: what it answers, byte for byte, that an order which comes again is done once, and its events.
 
 use crate::device::{Relays, device_turn, input_was_switched, keys_were_pressed, new_device};
-use osdp_device::{Device, DeviceStatus};
-use osdp_frame::Address;
+use osdp_device::{Address, Device, ProgramAnswers, Turn};
 use std::alloc::Global;
 use std::process::Abort;
 
@@ -21,7 +20,7 @@ fn new_one(
     alloc: Global,
     inputs: u8,
     outputs: u8,
-) -> (Device<DeviceStatus>, Relays) {
+) -> (Device<ProgramAnswers>, Relays) {
     let address = Address::new(5).expect(rt, "an address");
     let device = new_device(alloc, address, inputs, outputs).expect(rt, "a device");
     (device, Relays::off())
@@ -30,14 +29,17 @@ fn new_one(
 /// Packets come one after the other: each row has its moment, the packet, and the answer.
 fn are_answered(
     rt: &impl Abort,
-    device: &mut Device<DeviceStatus>,
+    device: &mut Device<ProgramAnswers>,
     relays: &mut Relays,
     rows: &[(u64, &str, &str)],
 ) {
+    let mut turn = Turn::new();
     for (now, packet, answer) in rows {
         let (mut given, mut wanted) = ([0; 32], [0; 32]);
-        let written = device_turn(device, relays, bytes_of(rt, packet, &mut given), *now);
-        assert_eq!(rt; written.as_slice(), bytes_of(rt, answer, &mut wanted));
+        let packet = bytes_of(rt, packet, &mut given);
+        device_turn(device, relays, packet, *now, &mut turn);
+        let response = turn.response.as_ref().expect(rt, "a response");
+        assert_eq!(rt; response.bytes(), bytes_of(rt, answer, &mut wanted));
     }
 }
 

@@ -1,21 +1,20 @@
 //! A panel's own part: what it does with each report.
 
-use osdp_bus::{Bus, BusConfig, BusFault, Entry};
-use osdp_controller::Report;
-use osdp_frame::{Address, Burst, CheckKind};
-use osdp_msg::{Command, Event, OutputRecord, Outputs, Raw};
-use osdp_panel::take_turn;
+use osdp_panel::{
+    Address, BusConfig, BusFault, CheckKind, Command, Entry, Event, OutputRecord, Outputs, Panel,
+    Raw, Report, Turn,
+};
 use std::alloc::Global;
 
 /// How many orders may wait for one door.
 const ORDERS: usize = 64;
 
-/// A bus with one door, whose session begins now.
-pub fn new_panel(alloc: Global, address: Address, now: u64) -> Result<(Bus, Entry), BusFault> {
-    let mut bus = Bus::new(alloc, BusConfig::new(CheckKind::Crc, ORDERS))?;
-    let door = bus.add(address)?;
-    bus.begin(door, now)?;
-    Ok((bus, door))
+/// A panel with one door, whose session begins now.
+pub fn new_panel(alloc: Global, address: Address, now: u64) -> Result<(Panel, Entry), BusFault> {
+    let mut panel = Panel::new(alloc, BusConfig::new(CheckKind::Crc, ORDERS))?;
+    let door = panel.add(address)?;
+    panel.begin(door, now)?;
+    Ok((panel, door))
 }
 
 /// Whether the card may enter: here one card of 26 bits may.
@@ -24,34 +23,34 @@ fn may_enter(card: &Raw) -> bool {
 }
 
 /// Orders the door's strike, its output 0, on for three seconds.
-fn open(bus: &mut Bus, door: Entry) {
+fn open(panel: &mut Panel, door: Entry) {
     let strike = OutputRecord {
         output: 0,
         control: 5,
         timer: 30,
     };
     if let Some(outputs) = Outputs::new(&[strike]) {
-        let _ = bus.submit(door, Command::Output(outputs));
+        let _ = panel.submit(door, Command::Output(outputs));
     }
 }
 
 /// The door was out of reach: the orders that waited are stale, and the session begins again.
-fn begin_again(bus: &mut Bus, door: Entry, now: u64) {
+fn begin_again(panel: &mut Panel, door: Entry, now: u64) {
     for _ in 0..ORDERS {
-        let _ = bus.withdraw(door);
+        let _ = panel.withdraw(door);
     }
-    let _ = bus.begin(door, now);
+    let _ = panel.begin(door, now);
 }
 
 /// What the panel does with a report.
-pub fn decide(bus: &mut Bus, door: Entry, report: &Report, now: u64) {
+pub fn decide(panel: &mut Panel, door: Entry, report: &Report, now: u64) {
     match report {
         Report::Event(Event::Raw(card)) => {
             if may_enter(card) {
-                open(bus, door);
+                open(panel, door);
             }
         }
-        Report::Lost(..) | Report::Moved(..) => begin_again(bus, door, now),
+        Report::Lost(..) | Report::Moved(..) => begin_again(panel, door, now),
         Report::Opened(_)
         | Report::Settled(..)
         | Report::Event(_)
@@ -60,14 +59,10 @@ pub fn decide(bus: &mut Bus, door: Entry, report: &Report, now: u64) {
     }
 }
 
-/// The panel's loop, once: it reads, takes its turn, and decides. What it writes.
-pub fn panel_turn(bus: &mut Bus, door: Entry, bytes: &[u8], now: u64) -> Option<Burst> {
-    let turn = take_turn(bus, bytes, now);
-    if let Some((_, report)) = &turn.heard {
-        decide(bus, door, report, now);
+/// The panel's loop, once: it reads, takes its turn, and decides. What it writes is the burst of the turn.
+pub fn panel_turn(panel: &mut Panel, door: Entry, bytes: &[u8], now: u64, turn: &mut Turn) {
+    panel.turn(bytes, now, turn);
+    for (_, report) in [&turn.heard, &turn.ticked].into_iter().flatten() {
+        decide(panel, door, report, now);
     }
-    if let Some((_, report)) = &turn.ticked {
-        decide(bus, door, report, now);
-    }
-    turn.burst
 }

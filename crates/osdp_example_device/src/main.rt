@@ -1,0 +1,100 @@
+//! A device with two outputs at address 5, called by lines (`osdp_example_lines`). A line `card 12345640` says that a card was read. A line is answered by
+//! `send` and the bytes that go out, by `on` and each output that is switched on, and last by `done`.
+#![tactic(auto)]
+
+use arrayvec::ArrayVec;
+use osdp_device::{
+    Address, Answer, Command, Device, Event, NakReason, Order, PdCap, PdId, ProgramAnswers, Raw,
+    Reader, ReaderConfig, Response, Turn, order_of, ordered,
+};
+use osdp_example_lines::{Line, read_line, send};
+use std::alloc::Global;
+use std::io;
+
+/// A device whose program decides what is said to an OUT.
+type Doors = Device<ProgramAnswers>;
+
+/// Whether an output may be switched so: for a time, or off. A door may not stand open for good.
+fn may_be_done(output: u8, control: u8) -> bool {
+    output < 2 && (control == 1 || control == 5)
+}
+
+/// A device to which nothing has come. None where there is no memory.
+fn new_device(alloc: Global) -> Option<Doors> {
+    let (address, capabilities) = (Address::new(5)?, ArrayVec::new());
+    let id = PdId {
+        vendor: [0x53, 0x49, 0x4D],
+        model: 0,
+        version: 0,
+        serial: 1,
+        firmware_major: 0,
+        firmware_minor: 0,
+        firmware_build: 0,
+    };
+    let caps = PdCap { capabilities };
+    let config = ReaderConfig { address, id, caps };
+    let mut program = ProgramAnswers::new();
+    let _ = program.status.outputs.try_extend_from_slice(&[0, 0]);
+    Device::new(Reader::new(alloc, config, program, 64).ok()?, 20)
+}
+
+/// An OUT that may not be done is refused before it is answered. All else is answered as it was set.
+fn decide(device: &mut Doors, command: &Command) {
+    if let Command::Output(out) = command {
+        for record in out.records() {
+            if !may_be_done(record.output, record.control) {
+                let _ = device.answer_next(Answer::Refuse(NakReason::RecordNotProcessed));
+            }
+        }
+    }
+}
+
+/// What the device says goes out, and then it does what it is to do.
+fn take(rt: &HostRuntime, response: &Response) -> io::Result<()> {
+    send(rt, response.bytes())?;
+    if let (Order::Once, Some(Command::Output(out))) = (order_of(response), ordered(response)) {
+        for record in out.records().iter().filter(|record| record.control == 5) {
+            println!(rt; "on {}", record.output)?;
+        }
+    }
+    Ok(())
+}
+
+/// Bytes have come up to a moment, or none. A turn says one thing; a line has 4,096 bytes at most, so that there are fewer than 10,000.
+fn hear(rt: &HostRuntime, device: &mut Doors, mut bytes: &[u8], now: u64) -> io::Result<()> {
+    let mut turn = Turn::new();
+    device.tick(now);
+    for _ in 0..10_000 {
+        device.turn(bytes, now, &mut turn);
+        bytes = &bytes[turn.taken..];
+        match (&turn.pending, &turn.response) {
+            (Some(command), _) => decide(device, command),
+            (None, Some(response)) => take(rt, response)?,
+            (None, None) if bytes.is_empty() => break,
+            (None, None) => {}
+        }
+    }
+    Ok(())
+}
+
+fn main(rt: HostRuntime) -> io::Result<()> {
+    let mut device = new_device(rt.alloc()).ok_or(io::ErrorKind::OutOfMemory)?;
+    for line in rt.lines(rt.alloc()) {
+        match read_line(rt.alloc(), line?.as_str())? {
+            Line::Turn(now, bytes) => hear(&rt, &mut device, bytes.as_slice(), now)?,
+            Line::Card(bytes) => {
+                if let Some(card) = Raw::new(0, 0, 26, bytes.as_slice()) {
+                    let _ = device.reader.submit_event(Event::Raw(card));
+                }
+            }
+            Line::Other => println!(rt; "refused line")?,
+        }
+        println!(rt; "done")?;
+    }
+    Ok(())
+}
+
+#[test]
+fn a_door_does_not_stand_open(rt: HostRuntime) {
+    assert!(rt; may_be_done(0, 5) && may_be_done(1, 1) && !may_be_done(0, 2) && !may_be_done(2, 5));
+}
