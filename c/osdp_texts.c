@@ -25,6 +25,8 @@ const char *osdp_status_text(osdp_status status)
         return "no command waits for an answer";
     case OSDP_OTHER_MESSAGE:
         return "the message is another one";
+    case OSDP_MOMENT_TOO_FAR:
+        return "the moment lies too far ahead";
     case OSDP_UNKNOWN_CODE:
         return "the code is in no table";
     case OSDP_BAD_LENGTH:

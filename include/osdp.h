@@ -9,33 +9,38 @@
  * and writes what it is given.
  *
  * Units.      Moments and times are in milliseconds, of any clock that doesn't go backwards; a moment that lies before the greatest
- *             one seen counts as that one. Lengths and counts are in bytes where nothing else is said.
+ *             one seen counts as that one, and one that lies a day after it is refused (`clock_limit`). Lengths and counts are in bytes where nothing else is said.
  * Ownership.  A handle is two words that the caller owns. All zeros is none: no machine. `new` puts a machine on the heap and into
  *             the handle, `free` takes it away. Bytes, texts and structs stay the caller's: nothing keeps a pointer after a call.
  * Results.    Each call that can be refused gives a status. A refused call has changed nothing: no machine, no handle, and nothing
  *             that it would have written, except where it says so.
  * Writing.    A struct is written whole but for its arrays: of an array as many bytes as its length says are written, and the others
  *             stay as they were. Nothing beyond a struct is written. No struct that a call reads or writes has padding.
- * Heap.       `osdp_panel_new` takes 43,088 bytes in two blocks, and `osdp_panel_add` 1,648 for each command that may wait, in one.
- *             `osdp_device_new` takes 20,360 bytes, and 1,456 for each event that may wait, in two blocks. `free` gives all back. No other call
+ * Heap.       `osdp_panel_new` takes 43,112 bytes in two blocks, and `osdp_panel_add` 1,648 for each command that may wait, in one.
+ *             `osdp_device_new` takes 20,384 bytes, and 1,456 for each event that may wait, in two blocks. `free` gives all back. No other call
  *             takes memory. Where there is none, a call says so, and nothing has changed.
  * Stack.      `osdp_device_new` takes 98 KiB of stack, each other call at most 68 KiB, as measured on 64-bit x86.
  * Targets.    64-bit x86 and ARM, where a `size_t` has 64 bits.
  *
- * What the caller owes, which no proof checks, and what happens otherwise:
+ * What the caller owes. No proof checks it. Each has what happens otherwise:
  *
  * - A handle is all zeros, or what the calls on it left there. A copy that is used beside it, or words that were changed, are memory that was freed: anything may
  *   happen. The two handles have fields of their own, so that the compiler sees a cast from one to the other.
- * - A handle is used by one thread at a time, one call at a time, and in no signal handler: each call takes the machine out of its handle while it runs. Another
- *   thread may take it over where the heap is one that threads may share.
- * - Each pointer is good and aligned: to as much as the call reads or writes, and to memory that is initialised where it is read. It isn't null, also for no bytes:
- *   the code that was compiled takes that for granted.
- * - What one call writes overlaps nothing else that the same call gets. So the bytes of an answer aren't given to `osdp_device_step` together with the struct that
- *   they stand in: copy them, or take another struct.
- * - The stack has room (see above). `struct osdp_report` and `struct osdp_answer` have 2.9 KB each: make them static where a task's stack is small.
- * - `rattle_alloc` and `rattle_dealloc` (below) are a heap, and `memcpy`, `memmove` and `memset` are those of C.
- * - Moments are taken after the read, of a clock that doesn't go backwards. One wrong moment that lies far ahead ends every session, and stays the greatest one
- *   seen: until the clock reaches it, time stands still for the machine. Free it then, and make it anew.
+ * - A handle is used by one thread at a time, one call at a time, and in no signal handler: each call takes the machine out of its handle while it runs. So two calls
+ *   at once find no machine (OSDP_NO_MACHINE), or both find it, and anything may happen. Another thread may take a handle over where the heap is one that threads may share.
+ * - Each pointer is good and aligned: to as much as the call reads or writes, and to memory that is initialised where it is read; else anything may happen. One to bytes,
+ *   a text or records may be null where their length is 0, by the functions at the end of this page; no other may be null.
+ * - What one call writes overlaps nothing else that the same call gets: else anything may be written. So the bytes of an answer aren't given to `osdp_device_step`
+ *   together with the struct that they stand in: copy them, or take another struct.
+ * - The stack has room (see above): else other memory is overwritten. `struct osdp_report` and `struct osdp_answer` have 2.9 KB each: make them static where a task's
+ *   stack is small.
+ * - `rattle_alloc` and `rattle_dealloc` (below) are a heap, and `memcpy`, `memmove` and `memset` are those of C: else anything may happen.
+ * - Moments are taken after the read, of a clock that doesn't go backwards. From a moment that is too early gaps and waits are over too late, and from one that is too
+ *   late, too early: then packets are cut in two, and answers that come are not waited for. One that lies more than `clock_limit` after the greatest one seen is refused
+ *   (OSDP_MOMENT_TOO_FAR), and nothing has changed: the clock has failed, or the host has slept. In the second case tell `osdp_panel_set_moment` or
+ *   `osdp_device_set_moment` the moment, and go on; a panel's sessions are then likely told lost. The first moment may be any, so take that one with care: until the
+ *   clock reaches the greatest one seen, time stands still for the machine.
+ * - Bursts go out at once, whole and in their order: else the other end reads a packet that was not said, or none.
  * - A machine that isn't freed is leaked.
  *
  * What is promised of a line, where both ends are these machines and one panel speaks: in each session orders are taken once and in order, each settled with the
@@ -83,6 +88,8 @@ typedef enum osdp_status {
     OSDP_NOT_ASKED = 7,
     /* The message is another than the call reads. */
     OSDP_OTHER_MESSAGE = 8,
+    /* The moment lies further after the greatest one seen than `clock_limit` allows. */
+    OSDP_MOMENT_TOO_FAR = 9,
 
     /* M1: the code isn't in the table of commands, or of replies. */
     OSDP_UNKNOWN_CODE = 11,
@@ -211,10 +218,10 @@ struct osdp_burst {
  * OSDP_UNKNOWN_CODE (M1), OSDP_BAD_LENGTH (M2), OSDP_BAD_COUNT (M3): the code and data stand for no command.
  * OSDP_TOO_SMALL: the text is longer than the room; its length is written, and no text.
  */
-osdp_status osdp_command_text(uint8_t code, const uint8_t *data, size_t length, char *text, size_t room, size_t *text_length);
+static inline osdp_status osdp_command_text(uint8_t code, const uint8_t *data, size_t length, char *text, size_t room, size_t *text_length);
 
 /* The same of a reply. An event's text is that of the reply that tells it, as in `KEYPAD 0 31`. */
-osdp_status osdp_reply_text(uint8_t code, const uint8_t *data, size_t length, char *text, size_t room, size_t *text_length);
+static inline osdp_status osdp_reply_text(uint8_t code, const uint8_t *data, size_t length, char *text, size_t room, size_t *text_length);
 
 /* ---- The fields of a message ---- */
 
@@ -356,8 +363,8 @@ osdp_status osdp_output_of(const struct osdp_message *command, size_t at, struct
  *
  * OSDP_BAD_LENGTH (M2): there is no record, or more than 358 of an OUT or 102 of a LED; nothing is written.
  */
-osdp_status osdp_out(const struct osdp_output *outputs, size_t count, struct osdp_message *command);
-osdp_status osdp_led(const struct osdp_led *leds, size_t count, struct osdp_message *command);
+static inline osdp_status osdp_out(const struct osdp_output *outputs, size_t count, struct osdp_message *command);
+static inline osdp_status osdp_led(const struct osdp_led *leds, size_t count, struct osdp_message *command);
 void osdp_buzzer(const struct osdp_buzzer *buzzer, struct osdp_message *command);
 void osdp_text(const struct osdp_text *text, struct osdp_message *command);
 void osdp_comset(uint8_t address, uint32_t baud_rate, struct osdp_message *command);
@@ -377,7 +384,7 @@ enum {
     OSDP_CHECK_CRC = 1
 };
 
-/* The settings of a panel. Times are in milliseconds, 1 to 3,600,000. 36 bytes. */
+/* The settings of a panel. Times are in milliseconds, 1 to 3,600,000 where nothing else is said. 40 bytes. */
 struct osdp_panel_config {
     /* OSDP_CHECK_SUM or OSDP_CHECK_CRC: which check the frames end with. */
     uint32_t check;
@@ -397,9 +404,11 @@ struct osdp_panel_config {
     uint32_t gap;
     /* How many commands may wait for each device, 1 to 1,024. */
     uint32_t capacity;
+    /* How far a moment may lie after the greatest one seen; 0 stands for a day. */
+    uint32_t clock_limit;
 };
 
-/* Writes the default settings: a CRC, 200, 50, 3, 50, 20, 400, 20, and room for 64 commands. */
+/* Writes the default settings: a CRC, 200, 50, 3, 50, 20, 400, 20, room for 64 commands, and a day. */
 void osdp_panel_defaults(struct osdp_panel_config *config);
 
 /*
@@ -424,7 +433,7 @@ osdp_status osdp_panel_add(osdp_panel *panel, uint32_t address, size_t *entry);
 /*
  * Begins a session of a device: it is left quiet for `quiet_wait`, then the opening ID goes out in its turn.
  *
- * OSDP_NO_MACHINE. OSDP_NO_ENTRY (B4). OSDP_NOT_CLOSED (C5): its session has begun.
+ * OSDP_NO_MACHINE. OSDP_MOMENT_TOO_FAR. OSDP_NO_ENTRY (B4). OSDP_NOT_CLOSED (C5): its session has begun.
  */
 osdp_status osdp_panel_begin(osdp_panel *panel, size_t entry, uint64_t now);
 
@@ -435,14 +444,14 @@ osdp_status osdp_panel_begin(osdp_panel *panel, size_t entry, uint64_t now);
  * OSDP_NO_ENTRY (B4). OSDP_ADDRESS_TAKEN (B3): a COMSET to an address of another device or reserved for one, or where one is reserved
  * for this device already. OSDP_POLL_SUBMITTED (C4): a POLL. OSDP_COMMANDS_FULL (C3).
  */
-osdp_status osdp_panel_submit(osdp_panel *panel, size_t entry, uint8_t code, const uint8_t *data, size_t length);
+static inline osdp_status osdp_panel_submit(osdp_panel *panel, size_t entry, uint8_t code, const uint8_t *data, size_t length);
 
 /*
  * The same of a command's text, such as `OUT 0:5:30`. Its words have one or more spaces between each two, and it ends after `length` bytes.
  *
  * OSDP_NO_MACHINE. OSDP_BAD_TEXT: it is the text of no command. The others are those of `osdp_panel_submit`.
  */
-osdp_status osdp_panel_submit_text(osdp_panel *panel, size_t entry, const char *text, size_t length);
+static inline osdp_status osdp_panel_submit_text(osdp_panel *panel, size_t entry, const char *text, size_t length);
 
 /*
  * Takes back the command that has waited longest for a device: it won't be sent. None (`present` is 0) where none waits, or where its session
@@ -464,15 +473,22 @@ osdp_status osdp_panel_retarget(osdp_panel *panel, size_t entry, uint32_t addres
  * Bytes have come from the line, in any pieces. Each packet that they finish goes to the device of its address. No bytes move the
  * greatest moment seen alone.
  *
- * OSDP_NO_MACHINE.
+ * OSDP_NO_MACHINE. OSDP_MOMENT_TOO_FAR.
  */
-osdp_status osdp_panel_bytes(osdp_panel *panel, const uint8_t *bytes, size_t length, uint64_t now);
+static inline osdp_status osdp_panel_bytes(osdp_panel *panel, const uint8_t *bytes, size_t length, uint64_t now);
 
-/* The line was seen silent: the run of bytes is over, and what was begun is no packet. OSDP_NO_MACHINE. */
+/* The line was seen silent: the run of bytes is over, and what was begun is no packet. OSDP_NO_MACHINE. OSDP_MOMENT_TOO_FAR. */
 osdp_status osdp_panel_silence(osdp_panel *panel, uint64_t now);
 
-/* What is due at a moment: a burst to write. While a report waits, none. OSDP_NO_MACHINE. */
+/* What is due at a moment: a burst to write. While a report waits, none. OSDP_NO_MACHINE. OSDP_MOMENT_TOO_FAR. */
 osdp_status osdp_panel_tick(osdp_panel *panel, uint64_t now, struct osdp_burst *burst);
+
+/*
+ * A moment is seen, however far it lies after the greatest one: of a host that slept. One that lies before the greatest changes nothing.
+ *
+ * OSDP_NO_MACHINE.
+ */
+osdp_status osdp_panel_set_moment(osdp_panel *panel, uint64_t now);
 
 /* A moment, where there is one. 16 bytes. */
 struct osdp_moment {
@@ -555,7 +571,7 @@ typedef struct osdp_device {
     size_t device_live;
 } osdp_device;
 
-/* What a reader is. 24 bytes. */
+/* What a reader is. 28 bytes. */
 struct osdp_device_config {
     /* The address on the line, 0 to 126. */
     uint32_t address;
@@ -563,9 +579,11 @@ struct osdp_device_config {
     uint32_t capacity;
     /* After how many milliseconds of silence a run of bytes is over, 1 to 3,600,000. */
     uint32_t gap;
-    /* What it answers to ID: the serial number, */
+    /* The serial number, which it answers to ID. */
     uint32_t serial;
-    /* the maker's code, */
+    /* How many milliseconds a moment may lie after the greatest one seen; 0 stands for a day. */
+    uint32_t clock_limit;
+    /* What else it answers to ID: the maker's code, */
     uint8_t vendor[3];
     /* the maker's numbers of the model and of its version, */
     uint8_t model;
@@ -589,7 +607,7 @@ struct osdp_device_config {
  * OSDP_IN_USE: the handle holds a reader, which stays. OSDP_BAD_LENGTH (M2): the capabilities have more than 1,432 bytes, or a number that isn't a
  * multiple of three. OSDP_DEVICE_OUT_OF_RANGE (N3): the address, the capacity or the gap. OSDP_DEVICE_NO_MEMORY (N1).
  */
-osdp_status osdp_device_new(
+static inline osdp_status osdp_device_new(
     osdp_device *device, const struct osdp_device_config *config, const uint8_t *capabilities, size_t length);
 
 /* Frees a reader and all that belongs to it; the handle is none after it. OSDP_NO_MACHINE. */
@@ -601,9 +619,9 @@ osdp_status osdp_device_free(osdp_device *device);
  *
  * OSDP_NO_MACHINE. OSDP_BAD_LENGTH (M2): more than 1,432.
  */
-osdp_status osdp_device_set_inputs(osdp_device *device, const uint8_t *states, size_t length);
-osdp_status osdp_device_set_outputs(osdp_device *device, const uint8_t *states, size_t length);
-osdp_status osdp_device_set_readers(osdp_device *device, const uint8_t *states, size_t length);
+static inline osdp_status osdp_device_set_inputs(osdp_device *device, const uint8_t *states, size_t length);
+static inline osdp_status osdp_device_set_outputs(osdp_device *device, const uint8_t *states, size_t length);
+static inline osdp_status osdp_device_set_readers(osdp_device *device, const uint8_t *states, size_t length);
 
 /* Sets what LSTAT is answered from now on: 1 where the device is tampered with, 1 where its power fails, else 0. OSDP_NO_MACHINE. */
 osdp_status osdp_device_set_local(osdp_device *device, uint8_t tamper, uint8_t power);
@@ -618,14 +636,14 @@ osdp_status osdp_device_set_busy(osdp_device *device, uint32_t busy);
  * OSDP_NO_MACHINE. OSDP_UNKNOWN_CODE (M1), OSDP_BAD_LENGTH (M2), OSDP_BAD_COUNT (M3): the code and data stand for no reply. OSDP_NO_EVENT: for one that
  * tells no event. OSDP_EVENTS_FULL (N2).
  */
-osdp_status osdp_device_event(osdp_device *device, uint8_t code, const uint8_t *data, size_t length);
+static inline osdp_status osdp_device_event(osdp_device *device, uint8_t code, const uint8_t *data, size_t length);
 
 /*
  * The same of an event's text, such as `KEYPAD 0 31`. Its words have one or more spaces between each two, and it ends after `length` bytes.
  *
  * OSDP_NO_MACHINE. OSDP_BAD_TEXT: it is the text of no event. OSDP_EVENTS_FULL (N2).
  */
-osdp_status osdp_device_event_text(osdp_device *device, const char *text, size_t length);
+static inline osdp_status osdp_device_event_text(osdp_device *device, const char *text, size_t length);
 
 /* The address that the device has now. OSDP_NO_MACHINE. */
 osdp_status osdp_device_address(osdp_device *device, uint32_t *address);
@@ -710,21 +728,24 @@ struct osdp_answer {
  *         }
  *     }
  *
- * OSDP_NO_MACHINE.
+ * OSDP_NO_MACHINE. OSDP_MOMENT_TOO_FAR.
  */
-osdp_status osdp_device_step(
+static inline osdp_status osdp_device_step(
     osdp_device *device, const uint8_t *bytes, size_t length, uint64_t now, size_t *taken, struct osdp_answer *answer);
 
 /*
  * No bytes have come up to a moment: a run after which the line was silent for the gap is over. What the reader says is written as by `osdp_device_step`;
  * where something is said, `osdp_device_step` with no bytes is called until nothing is.
  *
- * OSDP_NO_MACHINE.
+ * OSDP_NO_MACHINE. OSDP_MOMENT_TOO_FAR.
  */
 osdp_status osdp_device_tick(osdp_device *device, uint64_t now, struct osdp_answer *answer);
 
-/* The line was seen silent: the run is over. Else as `osdp_device_tick`. OSDP_NO_MACHINE. */
+/* The line was seen silent: the run is over. Else as `osdp_device_tick`. OSDP_NO_MACHINE. OSDP_MOMENT_TOO_FAR. */
 osdp_status osdp_device_silence(osdp_device *device, uint64_t now, struct osdp_answer *answer);
+
+/* A moment is seen, however far it lies after the greatest one: as `osdp_panel_set_moment`. OSDP_NO_MACHINE. */
+osdp_status osdp_device_set_moment(osdp_device *device, uint64_t now);
 
 /*
  * The command that the next packet will have acted on, where the reader doesn't answer it by itself; none (`present` is 0) where there is no such
@@ -745,9 +766,9 @@ osdp_status osdp_device_pending(osdp_device *device, struct osdp_message *comman
  */
 osdp_status osdp_device_answer_done(osdp_device *device);
 osdp_status osdp_device_answer_local(osdp_device *device, uint8_t tamper, uint8_t power);
-osdp_status osdp_device_answer_list(osdp_device *device, const uint8_t *states, size_t length);
+static inline osdp_status osdp_device_answer_list(osdp_device *device, const uint8_t *states, size_t length);
 osdp_status osdp_device_answer_refused(osdp_device *device, uint8_t reason);
-osdp_status osdp_device_answer_maker(osdp_device *device, const uint8_t *vendor, const uint8_t *bytes, size_t length);
+static inline osdp_status osdp_device_answer_maker(osdp_device *device, const uint8_t *vendor, const uint8_t *bytes, size_t length);
 
 /* ---- What the archive needs from outside ---- */
 
@@ -766,6 +787,139 @@ struct osdp_block {
  */
 struct osdp_block rattle_alloc(size_t size, size_t align);
 void rattle_dealloc(void *block);
+
+/* ---- Null pointers for no bytes ---- */
+
+/*
+ * The functions of the archive take no null pointer. Those above that may get one, since there are no bytes, are these: a null pointer becomes one to some byte, of
+ * which nothing is read or written where the length is 0.
+ */
+osdp_status osdp_command_text_nonnull(uint8_t code, const uint8_t *data, size_t length, char *text, size_t room, size_t *text_length);
+osdp_status osdp_reply_text_nonnull(uint8_t code, const uint8_t *data, size_t length, char *text, size_t room, size_t *text_length);
+osdp_status osdp_out_nonnull(const struct osdp_output *outputs, size_t count, struct osdp_message *command);
+osdp_status osdp_led_nonnull(const struct osdp_led *leds, size_t count, struct osdp_message *command);
+osdp_status osdp_panel_submit_nonnull(osdp_panel *panel, size_t entry, uint8_t code, const uint8_t *data, size_t length);
+osdp_status osdp_panel_submit_text_nonnull(osdp_panel *panel, size_t entry, const char *text, size_t length);
+osdp_status osdp_panel_bytes_nonnull(osdp_panel *panel, const uint8_t *bytes, size_t length, uint64_t now);
+osdp_status osdp_device_new_nonnull(osdp_device *device, const struct osdp_device_config *config, const uint8_t *capabilities, size_t length);
+osdp_status osdp_device_set_inputs_nonnull(osdp_device *device, const uint8_t *states, size_t length);
+osdp_status osdp_device_set_outputs_nonnull(osdp_device *device, const uint8_t *states, size_t length);
+osdp_status osdp_device_set_readers_nonnull(osdp_device *device, const uint8_t *states, size_t length);
+osdp_status osdp_device_event_nonnull(osdp_device *device, uint8_t code, const uint8_t *data, size_t length);
+osdp_status osdp_device_event_text_nonnull(osdp_device *device, const char *text, size_t length);
+osdp_status osdp_device_step_nonnull(osdp_device *device, const uint8_t *bytes, size_t length, uint64_t now, size_t *taken, struct osdp_answer *answer);
+osdp_status osdp_device_answer_list_nonnull(osdp_device *device, const uint8_t *states, size_t length);
+osdp_status osdp_device_answer_maker_nonnull(osdp_device *device, const uint8_t *vendor, const uint8_t *bytes, size_t length);
+
+static inline const uint8_t *osdp_some_bytes(const uint8_t *bytes)
+{
+    static const uint8_t none[1] = { 0 };
+    return bytes != NULL ? bytes : none;
+}
+
+static inline const char *osdp_some_text(const char *text)
+{
+    static const char none[1] = { 0 };
+    return text != NULL ? text : none;
+}
+
+static inline char *osdp_some_room(char *room)
+{
+    static char none[1] = { 0 };
+    return room != NULL ? room : none;
+}
+
+static inline const struct osdp_output *osdp_some_outputs(const struct osdp_output *outputs)
+{
+    static const struct osdp_output none[1] = { { 0, 0, 0 } };
+    return outputs != NULL ? outputs : none;
+}
+
+static inline const struct osdp_led *osdp_some_leds(const struct osdp_led *leds)
+{
+    static const struct osdp_led none[1] = { { 0, 0, 0, 0, 0, 0, 0, 0, 0, 0, 0, 0, 0 } };
+    return leds != NULL ? leds : none;
+}
+
+static inline osdp_status osdp_command_text(uint8_t code, const uint8_t *data, size_t length, char *text, size_t room, size_t *text_length)
+{
+    return osdp_command_text_nonnull(code, osdp_some_bytes(data), length, osdp_some_room(text), room, text_length);
+}
+
+static inline osdp_status osdp_reply_text(uint8_t code, const uint8_t *data, size_t length, char *text, size_t room, size_t *text_length)
+{
+    return osdp_reply_text_nonnull(code, osdp_some_bytes(data), length, osdp_some_room(text), room, text_length);
+}
+
+static inline osdp_status osdp_out(const struct osdp_output *outputs, size_t count, struct osdp_message *command)
+{
+    return osdp_out_nonnull(osdp_some_outputs(outputs), count, command);
+}
+
+static inline osdp_status osdp_led(const struct osdp_led *leds, size_t count, struct osdp_message *command)
+{
+    return osdp_led_nonnull(osdp_some_leds(leds), count, command);
+}
+
+static inline osdp_status osdp_panel_submit(osdp_panel *panel, size_t entry, uint8_t code, const uint8_t *data, size_t length)
+{
+    return osdp_panel_submit_nonnull(panel, entry, code, osdp_some_bytes(data), length);
+}
+
+static inline osdp_status osdp_panel_submit_text(osdp_panel *panel, size_t entry, const char *text, size_t length)
+{
+    return osdp_panel_submit_text_nonnull(panel, entry, osdp_some_text(text), length);
+}
+
+static inline osdp_status osdp_panel_bytes(osdp_panel *panel, const uint8_t *bytes, size_t length, uint64_t now)
+{
+    return osdp_panel_bytes_nonnull(panel, osdp_some_bytes(bytes), length, now);
+}
+
+static inline osdp_status osdp_device_new(osdp_device *device, const struct osdp_device_config *config, const uint8_t *capabilities, size_t length)
+{
+    return osdp_device_new_nonnull(device, config, osdp_some_bytes(capabilities), length);
+}
+
+static inline osdp_status osdp_device_set_inputs(osdp_device *device, const uint8_t *states, size_t length)
+{
+    return osdp_device_set_inputs_nonnull(device, osdp_some_bytes(states), length);
+}
+
+static inline osdp_status osdp_device_set_outputs(osdp_device *device, const uint8_t *states, size_t length)
+{
+    return osdp_device_set_outputs_nonnull(device, osdp_some_bytes(states), length);
+}
+
+static inline osdp_status osdp_device_set_readers(osdp_device *device, const uint8_t *states, size_t length)
+{
+    return osdp_device_set_readers_nonnull(device, osdp_some_bytes(states), length);
+}
+
+static inline osdp_status osdp_device_event(osdp_device *device, uint8_t code, const uint8_t *data, size_t length)
+{
+    return osdp_device_event_nonnull(device, code, osdp_some_bytes(data), length);
+}
+
+static inline osdp_status osdp_device_event_text(osdp_device *device, const char *text, size_t length)
+{
+    return osdp_device_event_text_nonnull(device, osdp_some_text(text), length);
+}
+
+static inline osdp_status osdp_device_step(osdp_device *device, const uint8_t *bytes, size_t length, uint64_t now, size_t *taken, struct osdp_answer *answer)
+{
+    return osdp_device_step_nonnull(device, osdp_some_bytes(bytes), length, now, taken, answer);
+}
+
+static inline osdp_status osdp_device_answer_list(osdp_device *device, const uint8_t *states, size_t length)
+{
+    return osdp_device_answer_list_nonnull(device, osdp_some_bytes(states), length);
+}
+
+static inline osdp_status osdp_device_answer_maker(osdp_device *device, const uint8_t *vendor, const uint8_t *bytes, size_t length)
+{
+    return osdp_device_answer_maker_nonnull(device, vendor, osdp_some_bytes(bytes), length);
+}
 
 #ifdef __cplusplus
 }

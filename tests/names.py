@@ -100,6 +100,7 @@ def parts(text, end):
 def header():
     """What the header declares: its functions, constants and structs."""
     text = re.sub(r"/\*.*?\*/", "", (TOP / "include/osdp.h").read_text(), flags=re.S)
+    text = re.sub(r"^static inline [^;{]*;", "", text, flags=re.M)  # what the header itself defines, over functions of the archive
     functions = {}
     for gives, name, takes in re.findall(r"^([\w ]+?[ *])((?:osdp|rattle)_\w+)\(([^)]*)\);", text, re.M | re.S):
         functions[name] = ([c_field(one) for one in parts(takes, ",") if one != "void"], TYPES.get(gives.strip(), gives.strip()))

@@ -87,6 +87,8 @@ int main(int count, char **words)
         if (osdp_device_tick(&device, now, &answer) == OSDP_OK) {
             take_answer(&answer);
             hear(bytes, 0, now);
+        } else {
+            (void)osdp_device_set_moment(&device, now); /* the program was stopped for more than a day */
         }
     }
 }

@@ -83,7 +83,9 @@ int main(int count, char **words)
         }
         size_t length = read_port(port, &lines, next > now ? next - now : 0, bytes, sizeof bytes);
         now = moment(); /* after the read: not before it */
-        (void)osdp_panel_bytes(&panel, bytes, length, now);
+        if (osdp_panel_bytes(&panel, bytes, length, now) == OSDP_MOMENT_TOO_FAR) {
+            (void)osdp_panel_set_moment(&panel, now); /* the program was stopped for more than a day */
+        }
         take_reports(now);
         begin(now);
         (void)osdp_panel_tick(&panel, now, &burst);

@@ -129,7 +129,9 @@ static void turn(struct lines *lines)
     uint8_t bytes[4096];
     size_t count = read_port(port, lines, until_due(), bytes, sizeof bytes);
     uint64_t now = moment(); /* after the read: not before it */
-    (void)osdp_panel_bytes(&panel, bytes, count, now);
+    if (osdp_panel_bytes(&panel, bytes, count, now) == OSDP_MOMENT_TOO_FAR) {
+        (void)osdp_panel_set_moment(&panel, now); /* the program was stopped for more than a day */
+    }
     take_reports();
     take_orders(lines);
     begin_sessions(now);

@@ -166,6 +166,8 @@ static void turn(struct lines *lines)
     if (osdp_device_tick(&reader, now, &answer) == OSDP_OK) {
         act(&answer, now);
         hear(bytes, 0, now);
+    } else {
+        (void)osdp_device_set_moment(&reader, now); /* the program was stopped for more than a day */
     }
 }
 

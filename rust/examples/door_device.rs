@@ -50,7 +50,7 @@ fn take(device: &mut Device, port: &mut Port, answer: &Answer) -> Done {
 /// Hands bytes to the device, until nothing is said to them.
 fn hear(device: &mut Device, port: &mut Port, mut bytes: &[u8], now: Moment) -> Done {
     loop {
-        let (taken, answer) = device.step(bytes, now);
+        let (taken, answer) = device.step(bytes, now)?;
         bytes = &bytes[taken..];
         match answer {
             Some(answer) => take(device, port, &answer)?,
@@ -79,7 +79,7 @@ fn main() -> Done {
             },
             Came::Nothing => {}
         }
-        if let Some(answer) = device.tick(now) {
+        if let Some(answer) = device.tick(now)? {
             take(&mut device, &mut port, &answer)?;
             hear(&mut device, &mut port, &[], now)?;
         }

@@ -76,13 +76,13 @@ fn main() -> Result<(), Box<dyn std::error::Error>> {
         let came = port.wait(until)?;
         let now = port.now(); // after the read: not before it
         match &came {
-            Came::Bytes(bytes) => panel.on_bytes(bytes, now),
+            Came::Bytes(bytes) => panel.on_bytes(bytes, now)?,
             Came::Line(line) => println!("refused line {line}"),
             Came::Nothing => {}
         }
         take_reports(&mut panel, &mut door, now)?;
         begin(&mut panel, &mut door, now)?;
-        if let Some(burst) = panel.tick(now) {
+        if let Some(burst) = panel.tick(now)? {
             port.write(&burst)?;
         }
         take_reports(&mut panel, &mut door, now)?;

@@ -30,14 +30,19 @@ impl Line {
 }
 
 /// Hands bytes to the device, puts its answers on the line, and counts how often the door was opened.
-fn device_hears(device: &mut Device, mut bytes: &[u8], now: Moment, line: &mut Line) -> usize {
+fn device_hears(
+    device: &mut Device,
+    mut bytes: &[u8],
+    now: Moment,
+    line: &mut Line,
+) -> Result<usize, Error> {
     let mut opened = 0;
     loop {
-        let (taken, answer) = device.step(bytes, now);
+        let (taken, answer) = device.step(bytes, now)?;
         bytes = &bytes[taken..];
         let Some(answer) = answer else {
             if bytes.is_empty() {
-                return opened;
+                return Ok(opened);
             }
             continue;
         };
@@ -57,6 +62,7 @@ fn main() -> Result<(), Error> {
         address: 5,
         capacity: 64,
         gap: Duration::from_millis(20),
+        clock_limit: Duration::from_secs(60),
         vendor: *b"SIM",
         model: 1,
         version: 1,
@@ -74,7 +80,7 @@ fn main() -> Result<(), Error> {
     let (mut cards, mut settled, mut opened) = (0, 0, 0);
     let mut line = Line::default();
     for _ in 0..1000 {
-        panel.on_bytes(&std::mem::take(&mut line.bytes), now);
+        panel.on_bytes(&std::mem::take(&mut line.bytes), now)?;
         while let Some((entry, report)) = panel.next_report() {
             match report {
                 Report::Opened(id) => println!("opened by {id:?}"),
@@ -91,8 +97,8 @@ fn main() -> Result<(), Error> {
                 other => panic!("{other:?}"),
             }
         }
-        match panel.tick(now) {
-            Some(burst) => opened += device_hears(&mut device, &burst, now, &mut line),
+        match panel.tick(now)? {
+            Some(burst) => opened += device_hears(&mut device, &burst, now, &mut line)?,
             None if line.bytes.is_empty() => {
                 now = panel
                     .next_deadline()

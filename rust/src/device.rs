@@ -19,6 +19,8 @@ pub struct DeviceConfig<'a> {
     pub capacity: u32,
     /// After how long a silence a run of bytes is over: 1 ms to an hour, in whole milliseconds.
     pub gap: Duration,
+    /// How far a moment may lie after the greatest one seen, up to 49 days; no time stands for a day.
+    pub clock_limit: Duration,
     /// The maker's code.
     pub vendor: [u8; 3],
     /// The maker's number of the model.
@@ -34,12 +36,13 @@ pub struct DeviceConfig<'a> {
 }
 
 impl DeviceConfig<'_> {
-    /// A device at an address, with room for 64 events, a gap of 20 ms, and all other numbers 0. It tells no capabilities.
+    /// A device at an address, with room for 64 events, a gap of 20 ms, a clock limit of a day, and all other numbers 0. It tells no capabilities.
     pub const fn new(address: u8) -> DeviceConfig<'static> {
         DeviceConfig {
             address,
             capacity: 64,
             gap: Duration::from_millis(20),
+            clock_limit: Duration::from_secs(86_400),
             vendor: [0; 3],
             model: 0,
             version: 0,
@@ -181,6 +184,7 @@ impl Device {
             capacity: config.capacity,
             gap: milliseconds(config.gap),
             serial: config.serial,
+            clock_limit: milliseconds(config.clock_limit),
             vendor: config.vendor,
             model: config.model,
             version: config.version,
@@ -191,7 +195,7 @@ impl Device {
         let capabilities = config.capabilities.as_flattened();
         // SAFETY: the handle is none, and the pointers are good for as much as the call is told.
         check(unsafe {
-            sys::osdp_device_new(
+            sys::osdp_device_new_nonnull(
                 &mut reader.0,
                 &raw,
                 capabilities.as_ptr(),
@@ -208,7 +212,9 @@ impl Device {
     /// `BadLength` for more than 1,432.
     pub fn set_inputs(&mut self, states: &[u8]) -> Result<(), Error> {
         // SAFETY: the handle is ours alone, and so many states are there.
-        check(unsafe { sys::osdp_device_set_inputs(&mut self.0, states.as_ptr(), states.len()) })
+        check(unsafe {
+            sys::osdp_device_set_inputs_nonnull(&mut self.0, states.as_ptr(), states.len())
+        })
     }
 
     /// Sets what OSTAT is answered: a byte for each output, 1 where it is on. OUT is refused where one of its outputs isn't there.
@@ -218,7 +224,9 @@ impl Device {
     /// `BadLength` for more than 1,432.
     pub fn set_outputs(&mut self, states: &[u8]) -> Result<(), Error> {
         // SAFETY: the handle is ours alone, and so many states are there.
-        check(unsafe { sys::osdp_device_set_outputs(&mut self.0, states.as_ptr(), states.len()) })
+        check(unsafe {
+            sys::osdp_device_set_outputs_nonnull(&mut self.0, states.as_ptr(), states.len())
+        })
     }
 
     /// Sets what RSTAT is answered: a byte for each reader, 0 where it works.
@@ -228,7 +236,9 @@ impl Device {
     /// `BadLength` for more than 1,432.
     pub fn set_readers(&mut self, states: &[u8]) -> Result<(), Error> {
         // SAFETY: the handle is ours alone, and so many states are there.
-        check(unsafe { sys::osdp_device_set_readers(&mut self.0, states.as_ptr(), states.len()) })
+        check(unsafe {
+            sys::osdp_device_set_readers_nonnull(&mut self.0, states.as_ptr(), states.len())
+        })
     }
 
     /// Sets what LSTAT is answered: whether the device is tampered with, and whether its power fails.
@@ -250,7 +260,9 @@ impl Device {
     /// `UnknownCode`, `BadLength`, `BadCount`, `NoEvent`, `Full`.
     pub fn event(&mut self, code: u8, data: &[u8]) -> Result<(), Error> {
         // SAFETY: the handle is ours alone, and the data have so many bytes.
-        check(unsafe { sys::osdp_device_event(&mut self.0, code, data.as_ptr(), data.len()) })
+        check(unsafe {
+            sys::osdp_device_event_nonnull(&mut self.0, code, data.as_ptr(), data.len())
+        })
     }
 
     /// Puts an event, by its text, after those that wait.
@@ -260,7 +272,9 @@ impl Device {
     /// `BadText`, `Full`.
     pub fn event_text(&mut self, text: &str) -> Result<(), Error> {
         // SAFETY: the handle is ours alone, and the text has so many bytes.
-        check(unsafe { sys::osdp_device_event_text(&mut self.0, text.as_ptr().cast(), text.len()) })
+        check(unsafe {
+            sys::osdp_device_event_text_nonnull(&mut self.0, text.as_ptr().cast(), text.len())
+        })
     }
 
     /// How many events wait, the one that is offered included.
@@ -303,12 +317,12 @@ impl Device {
                     sys::osdp_device_answer_local(device, tamper.into(), power.into())
                 }
                 DeviceAnswer::List(states) => {
-                    sys::osdp_device_answer_list(device, states.as_ptr(), states.len())
+                    sys::osdp_device_answer_list_nonnull(device, states.as_ptr(), states.len())
                 }
                 DeviceAnswer::Refused(reason) => {
                     sys::osdp_device_answer_refused(device, reason.number() as u8)
                 }
-                DeviceAnswer::Maker(vendor, bytes) => sys::osdp_device_answer_maker(
+                DeviceAnswer::Maker(vendor, bytes) => sys::osdp_device_answer_maker_nonnull(
                     device,
                     vendor.as_ptr(),
                     bytes.as_ptr(),
@@ -322,16 +336,16 @@ impl Device {
     /// the first that it answers. Call it again with the others, at the same moment, until all are taken and nothing is said.
     ///
     /// ```no_run
-    /// # use osdp::{Answer, Command, Device, Moment, Order};
+    /// # use osdp::{Answer, Command, Device, Error, Moment, Order};
     /// # fn write(_: &[u8]) {}
     /// # fn act(_: &Command) {}
-    /// fn hear(device: &mut Device, mut bytes: &[u8], now: Moment) {
+    /// fn hear(device: &mut Device, mut bytes: &[u8], now: Moment) -> Result<(), Error> {
     ///     loop {
-    ///         let (taken, answer) = device.step(bytes, now);
+    ///         let (taken, answer) = device.step(bytes, now)?;
     ///         bytes = &bytes[taken..];
     ///         match answer {
     ///             Some(answer) => obey(&answer),
-    ///             None if bytes.is_empty() => break,
+    ///             None if bytes.is_empty() => return Ok(()),
     ///             None => {}
     ///         }
     ///     }
@@ -346,12 +360,16 @@ impl Device {
     ///     }
     /// }
     /// ```
-    pub fn step(&mut self, bytes: &[u8], now: Moment) -> (usize, Option<Answer>) {
+    ///
+    /// # Errors
+    ///
+    /// `MomentTooFar`.
+    pub fn step(&mut self, bytes: &[u8], now: Moment) -> Result<(usize, Option<Answer>), Error> {
         let mut taken = 0;
         let mut answer = no_answer();
-        // SAFETY: the handle is ours alone, and what is written is apart. It holds a machine, so the call isn't refused.
-        let _ = unsafe {
-            sys::osdp_device_step(
+        // SAFETY: the handle is ours alone, and what is written is apart.
+        check(unsafe {
+            sys::osdp_device_step_nonnull(
                 &mut self.0,
                 bytes.as_ptr(),
                 bytes.len(),
@@ -359,25 +377,39 @@ impl Device {
                 &mut taken,
                 &mut answer,
             )
-        };
-        (taken, answer_of(&answer))
+        })?;
+        Ok((taken, answer_of(&answer)))
     }
 
     /// No bytes have come up to a moment: a run after which the line was silent for the gap is over. Where something is said, call `step` with
     /// no bytes until nothing is.
-    pub fn tick(&mut self, now: Moment) -> Option<Answer> {
+    ///
+    /// # Errors
+    ///
+    /// `MomentTooFar`.
+    pub fn tick(&mut self, now: Moment) -> Result<Option<Answer>, Error> {
         let mut answer = no_answer();
-        // SAFETY: the handle is ours alone, and the answer is one. It holds a machine, so the call isn't refused.
-        let _ = unsafe { sys::osdp_device_tick(&mut self.0, now.as_millis(), &mut answer) };
-        answer_of(&answer)
+        // SAFETY: the handle is ours alone, and the answer is one.
+        check(unsafe { sys::osdp_device_tick(&mut self.0, now.as_millis(), &mut answer) })?;
+        Ok(answer_of(&answer))
     }
 
     /// The line was seen silent: the run is over. Else as `tick`.
-    pub fn silence(&mut self, now: Moment) -> Option<Answer> {
+    ///
+    /// # Errors
+    ///
+    /// `MomentTooFar`.
+    pub fn silence(&mut self, now: Moment) -> Result<Option<Answer>, Error> {
         let mut answer = no_answer();
-        // SAFETY: the handle is ours alone, and the answer is one. It holds a machine, so the call isn't refused.
-        let _ = unsafe { sys::osdp_device_silence(&mut self.0, now.as_millis(), &mut answer) };
-        answer_of(&answer)
+        // SAFETY: the handle is ours alone, and the answer is one.
+        check(unsafe { sys::osdp_device_silence(&mut self.0, now.as_millis(), &mut answer) })?;
+        Ok(answer_of(&answer))
+    }
+
+    /// A moment is seen, however far it lies after the greatest one: of a host that slept.
+    pub fn set_moment(&mut self, now: Moment) {
+        // SAFETY: the handle is ours alone. It holds a machine, so the call isn't refused.
+        let _ = unsafe { sys::osdp_device_set_moment(&mut self.0, now.as_millis()) };
     }
 }
 

@@ -35,6 +35,8 @@ pub enum Error {
     NotClosed,
     /// No command waits for an answer.
     NotAsked,
+    /// The moment lies further after the greatest one seen than the setting allows: a clock has failed, or the host slept.
+    MomentTooFar,
     /// A status that this crate doesn't know.
     Other(u32),
 }
@@ -56,6 +58,7 @@ impl fmt::Display for Error {
             Error::PollSubmitted => "a POLL can't be submitted",
             Error::NotClosed => "the session isn't closed",
             Error::NotAsked => "no command waits for an answer",
+            Error::MomentTooFar => "the moment lies too far ahead",
             Error::Other(status) => return write!(f, "status {status}"),
         })
     }
@@ -81,6 +84,7 @@ pub(crate) fn check(status: sys::osdp_status) -> Result<(), Error> {
         sys::OSDP_POLL_SUBMITTED => Error::PollSubmitted,
         sys::OSDP_NOT_CLOSED => Error::NotClosed,
         sys::OSDP_NOT_ASKED => Error::NotAsked,
+        sys::OSDP_MOMENT_TOO_FAR => Error::MomentTooFar,
         other => Error::Other(other),
     })
 }

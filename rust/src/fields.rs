@@ -195,6 +195,42 @@ pub struct PdId {
     pub firmware: [u8; 3],
 }
 
+/// What a device can do in one respect.
+#[derive(Clone, Copy, Debug, PartialEq, Eq)]
+pub struct Capability {
+    /// What it is about; `docs/PROTOCOL.md` has the functions.
+    pub function: u8,
+    /// How far it goes.
+    pub level: u8,
+    /// How many there are.
+    pub count: u8,
+}
+
+/// What a device can do, in the order in which it tells it.
+#[derive(Clone, Copy, Debug, PartialEq, Eq)]
+pub struct Capabilities(Bytes);
+
+impl Capabilities {
+    /// These. None where there are more than 477.
+    pub fn new(capabilities: &[Capability]) -> Option<Capabilities> {
+        let mut held = Bytes::new(&[])?;
+        held.length = u16::try_from(capabilities.len() * 3).ok()?;
+        for (place, told) in held.bytes.chunks_exact_mut(3).zip(capabilities) {
+            place.copy_from_slice(&[told.function, told.level, told.count]);
+        }
+        (usize::from(held.length) <= held.bytes.len()).then_some(Capabilities(held))
+    }
+
+    /// One by one.
+    pub fn iter(&self) -> impl Iterator<Item = Capability> + '_ {
+        self.0.chunks_exact(3).map(|told| Capability {
+            function: told[0],
+            level: told[1],
+            count: told[2],
+        })
+    }
+}
+
 /// A reply. Each can be made, so that a program's decisions can be tested without a line.
 #[derive(Clone, Copy, Debug, PartialEq, Eq)]
 #[non_exhaustive]
@@ -206,18 +242,28 @@ pub enum Reply {
     Nak(NakReason),
     /// What the device is.
     PdId(PdId),
+    /// What the device can do.
+    PdCap(Capabilities),
+    /// Whether the device is tampered with, and whether its power fails: 1, else 0.
+    LocalState(u8, u8),
     /// A byte for each input: 1 where it is active.
     Inputs(Bytes),
     /// A byte for each output: 1 where it is on.
     Outputs(Bytes),
+    /// A byte for each reader: 0 where it works.
+    Readers(Bytes),
     /// A card's bits.
     Raw(Card),
+    /// A card's characters: the reader of the device, the direction in which it was drawn, and the characters.
+    Formatted(u8, u8, Bytes),
     /// Pressed keys, at a reader of the device.
     Keypad(u8, Bytes),
     /// The address, and the rate in baud, from now on.
     Com(u8, u32),
     /// Not taken: to be sent again.
     Busy,
+    /// The maker's own: his code, and his bytes.
+    Maker([u8; 3], Bytes),
     /// Another reply, a NAK for another reason among them.
     Other(RawReply),
 }
@@ -265,6 +311,22 @@ impl Reply {
                     firmware: [id.firmware_major, id.firmware_minor, id.firmware_build],
                 })
             }
+            sys::OSDP_PDCAP => Reply::PdCap(Capabilities(Bytes::new(reply.data())?)),
+            sys::OSDP_LSTATR => match reply.data() {
+                [tamper, power] => Reply::LocalState(*tamper, *power),
+                _ => return None,
+            },
+            sys::OSDP_RSTATR => Reply::Readers(Bytes::new(reply.data())?),
+            sys::OSDP_FMT => match reply.data() {
+                [reader, direction, _, characters @ ..] => {
+                    Reply::Formatted(*reader, *direction, Bytes::new(characters)?)
+                }
+                _ => return None,
+            },
+            sys::OSDP_MFGREP => match reply.data() {
+                [a, b, c, bytes @ ..] => Reply::Maker([*a, *b, *c], Bytes::new(bytes)?),
+                _ => return None,
+            },
             sys::OSDP_ISTATR => Reply::Inputs(Bytes::new(reply.data())?),
             sys::OSDP_OSTATR => Reply::Outputs(Bytes::new(reply.data())?),
             sys::OSDP_RAW => Reply::Raw(Card(read(reply, sys::osdp_raw_of)?)),

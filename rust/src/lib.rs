@@ -53,13 +53,13 @@
 //!     let until = [panel.next_deadline(), begins].into_iter().flatten().min();
 //!     let count = read(&mut bytes, until); // waits for bytes, at most until that moment
 //!     let now = now();
-//!     panel.on_bytes(&bytes[..count], now);
+//!     panel.on_bytes(&bytes[..count], now)?;
 //!     begins = take_reports(&mut panel, now)?.or(begins);
 //!     if begins.is_some_and(|at| at <= now) {
 //!         begin_again(&mut panel, door, now)?;
 //!         begins = None;
 //!     }
-//!     if let Some(burst) = panel.tick(now) {
+//!     if let Some(burst) = panel.tick(now)? {
 //!         write(&burst);
 //!     }
 //!     begins = take_reports(&mut panel, now)?.or(begins);
@@ -84,7 +84,9 @@ mod time;
 
 pub use device::{Answer, Device, DeviceAnswer, DeviceConfig, Moved, Order, Said};
 pub use error::Error;
-pub use fields::{Buzzer, Bytes, Card, Led, NakReason, Output, PdId, Reply, Text};
+pub use fields::{
+    Buzzer, Bytes, Capabilities, Capability, Card, Led, NakReason, Output, PdId, Reply, Text,
+};
 pub use message::{Burst, Command, RawReply};
 pub use panel::{Check, Entry, LostCause, Panel, PanelConfig, Report};
 pub use time::Moment;

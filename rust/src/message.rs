@@ -148,12 +148,12 @@ macro_rules! message {
 
 message! {
     /// A command: what a panel sends.
-    Command, osdp_command_text
+    Command, osdp_command_text_nonnull
 }
 
 message! {
     /// A reply as its code and data. `Reply::read` gives its fields.
-    RawReply, osdp_reply_text
+    RawReply, osdp_reply_text_nonnull
 }
 
 impl Command {
@@ -165,7 +165,7 @@ impl Command {
     pub fn out(outputs: &[Output]) -> Result<Command, Error> {
         let mut message = no_message();
         // SAFETY: an `Output` is an `osdp_output`, so many are there, and the message is apart.
-        check(unsafe { sys::osdp_out(outputs.as_ptr(), outputs.len(), &mut message) })?;
+        check(unsafe { sys::osdp_out_nonnull(outputs.as_ptr(), outputs.len(), &mut message) })?;
         Ok(Command(message))
     }
 
@@ -177,7 +177,7 @@ impl Command {
     pub fn led(leds: &[Led]) -> Result<Command, Error> {
         let mut message = no_message();
         // SAFETY: a `Led` is an `osdp_led`, so many are there, and the message is apart.
-        check(unsafe { sys::osdp_led(leds.as_ptr(), leds.len(), &mut message) })?;
+        check(unsafe { sys::osdp_led_nonnull(leds.as_ptr(), leds.len(), &mut message) })?;
         Ok(Command(message))
     }
 

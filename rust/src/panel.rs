@@ -34,6 +34,8 @@ pub struct PanelConfig {
     pub gap: Duration,
     /// How many commands may wait for each device, 1 to 1,024.
     pub capacity: u32,
+    /// How far a moment may lie after the greatest one seen, up to 49 days; no time stands for a day.
+    pub clock_limit: Duration,
 }
 
 /// A time of a setting, as the archive takes it; one that is too long is above what it takes.
@@ -53,6 +55,7 @@ impl PanelConfig {
             quiet_wait: milliseconds(self.quiet_wait),
             gap: milliseconds(self.gap),
             capacity: self.capacity,
+            clock_limit: milliseconds(self.clock_limit),
         }
     }
 }
@@ -75,6 +78,7 @@ impl Default for PanelConfig {
             quiet_wait: Duration::from_millis(config.quiet_wait.into()),
             gap: Duration::from_millis(config.gap.into()),
             capacity: config.capacity,
+            clock_limit: Duration::from_millis(config.clock_limit.into()),
         }
     }
 }
@@ -210,7 +214,7 @@ impl Panel {
     ///
     /// # Errors
     ///
-    /// `NoEntry`, `NotClosed`.
+    /// `NoEntry`, `NotClosed`, `MomentTooFar`.
     pub fn begin(&mut self, entry: Entry, now: Moment) -> Result<(), Error> {
         let index = self.index(entry)?;
         // SAFETY: the handle is ours alone.
@@ -227,7 +231,7 @@ impl Panel {
         let (code, data) = (command.code(), command.data());
         // SAFETY: the handle is ours alone, and the data have so many bytes.
         check(unsafe {
-            sys::osdp_panel_submit(&mut self.handle, index, code, data.as_ptr(), data.len())
+            sys::osdp_panel_submit_nonnull(&mut self.handle, index, code, data.as_ptr(), data.len())
         })
     }
 
@@ -240,7 +244,12 @@ impl Panel {
         let index = self.index(entry)?;
         // SAFETY: the handle is ours alone, and the text has so many bytes.
         check(unsafe {
-            sys::osdp_panel_submit_text(&mut self.handle, index, text.as_ptr().cast(), text.len())
+            sys::osdp_panel_submit_text_nonnull(
+                &mut self.handle,
+                index,
+                text.as_ptr().cast(),
+                text.len(),
+            )
         })
     }
 
@@ -317,30 +326,44 @@ impl Panel {
     }
 
     /// Bytes have come from the line, in any pieces.
-    pub fn on_bytes(&mut self, bytes: &[u8], now: Moment) {
-        // SAFETY: the handle is ours alone, and so many bytes are there. It holds a machine, so the call isn't refused.
-        let _ = unsafe {
-            sys::osdp_panel_bytes(
-                &mut self.handle,
-                bytes.as_ptr(),
-                bytes.len(),
-                now.as_millis(),
-            )
-        };
+    ///
+    /// # Errors
+    ///
+    /// `MomentTooFar`.
+    pub fn on_bytes(&mut self, bytes: &[u8], now: Moment) -> Result<(), Error> {
+        let (start, length) = (bytes.as_ptr(), bytes.len());
+        // SAFETY: the handle is ours alone, and so many bytes are there.
+        check(unsafe {
+            sys::osdp_panel_bytes_nonnull(&mut self.handle, start, length, now.as_millis())
+        })
     }
 
     /// The line was seen silent: the run of bytes is over.
-    pub fn on_silence(&mut self, now: Moment) {
-        // SAFETY: the handle is ours alone. It holds a machine, so the call isn't refused.
-        let _ = unsafe { sys::osdp_panel_silence(&mut self.handle, now.as_millis()) };
+    ///
+    /// # Errors
+    ///
+    /// `MomentTooFar`.
+    pub fn on_silence(&mut self, now: Moment) -> Result<(), Error> {
+        // SAFETY: the handle is ours alone.
+        check(unsafe { sys::osdp_panel_silence(&mut self.handle, now.as_millis()) })
     }
 
     /// What is due at a moment: a burst to write. While a report waits, none.
-    pub fn tick(&mut self, now: Moment) -> Option<Burst> {
+    ///
+    /// # Errors
+    ///
+    /// `MomentTooFar`.
+    pub fn tick(&mut self, now: Moment) -> Result<Option<Burst>, Error> {
         let mut burst = no_burst();
-        // SAFETY: the handle is ours alone, and the burst is one. It holds a machine, so the call isn't refused.
-        let _ = unsafe { sys::osdp_panel_tick(&mut self.handle, now.as_millis(), &mut burst) };
-        Burst::from_sys(&burst)
+        // SAFETY: the handle is ours alone, and the burst is one.
+        check(unsafe { sys::osdp_panel_tick(&mut self.handle, now.as_millis(), &mut burst) })?;
+        Ok(Burst::from_sys(&burst))
+    }
+
+    /// A moment is seen, however far it lies after the greatest one: of a host that slept.
+    pub fn set_moment(&mut self, now: Moment) {
+        // SAFETY: the handle is ours alone. It holds a machine, so the call isn't refused.
+        let _ = unsafe { sys::osdp_panel_set_moment(&mut self.handle, now.as_millis()) };
     }
 
     /// The moment at which `tick` is to be called next, if no call comes before.

@@ -13,6 +13,7 @@ pub const OSDP_NO_EVENT: u32 = 4;
 pub const OSDP_TOO_SMALL: u32 = 5;
 pub const OSDP_NOT_ASKED: u32 = 7;
 pub const OSDP_OTHER_MESSAGE: u32 = 8;
+pub const OSDP_MOMENT_TOO_FAR: u32 = 9;
 pub const OSDP_UNKNOWN_CODE: u32 = 11;
 pub const OSDP_BAD_LENGTH: u32 = 12;
 pub const OSDP_BAD_COUNT: u32 = 13;
@@ -155,6 +156,7 @@ pub struct osdp_panel_config {
     pub gap: u32,
     /// How many commands may wait for each device, 1 to 1,024.
     pub capacity: u32,
+    pub clock_limit: u32,
 }
 
 #[repr(C)]
@@ -188,6 +190,7 @@ pub struct osdp_device_config {
     pub capacity: u32,
     pub gap: u32,
     pub serial: u32,
+    pub clock_limit: u32,
     pub vendor: [u8; 3],
     pub model: u8,
     pub version: u8,
@@ -339,15 +342,15 @@ const _: () = assert!(size_of::<osdp_text>() == 261);
 const _: () = assert!(size_of::<osdp_message>() == 1436);
 const _: () = assert!(size_of::<osdp_burst>() == 1444);
 const _: () = assert!(size_of::<osdp_panel>() == 16);
-const _: () = assert!(size_of::<osdp_panel_config>() == 36);
+const _: () = assert!(size_of::<osdp_panel_config>() == 40);
 const _: () = assert!(size_of::<osdp_moment>() == 16);
 const _: () = assert!(size_of::<osdp_report>() == 2888);
 const _: () = assert!(size_of::<osdp_device>() == 16);
-const _: () = assert!(size_of::<osdp_device_config>() == 24);
+const _: () = assert!(size_of::<osdp_device_config>() == 28);
 const _: () = assert!(size_of::<osdp_answer>() == 2900);
 
 unsafe extern "C" {
-    pub fn osdp_command_text(
+    pub fn osdp_command_text_nonnull(
         code: u8,
         data: *const u8,
         length: usize,
@@ -355,7 +358,7 @@ unsafe extern "C" {
         room: usize,
         text_length: *mut usize,
     ) -> osdp_status;
-    pub fn osdp_reply_text(
+    pub fn osdp_reply_text_nonnull(
         code: u8,
         data: *const u8,
         length: usize,
@@ -369,14 +372,14 @@ unsafe extern "C" {
     pub fn osdp_panel_free(panel: *mut osdp_panel) -> osdp_status;
     pub fn osdp_panel_add(panel: *mut osdp_panel, address: u32, entry: *mut usize) -> osdp_status;
     pub fn osdp_panel_begin(panel: *mut osdp_panel, entry: usize, now: u64) -> osdp_status;
-    pub fn osdp_panel_submit(
+    pub fn osdp_panel_submit_nonnull(
         panel: *mut osdp_panel,
         entry: usize,
         code: u8,
         data: *const u8,
         length: usize,
     ) -> osdp_status;
-    pub fn osdp_panel_submit_text(
+    pub fn osdp_panel_submit_text_nonnull(
         panel: *mut osdp_panel,
         entry: usize,
         text: *const c_char,
@@ -388,13 +391,14 @@ unsafe extern "C" {
         command: *mut osdp_message,
     ) -> osdp_status;
     pub fn osdp_panel_retarget(panel: *mut osdp_panel, entry: usize, address: u32) -> osdp_status;
-    pub fn osdp_panel_bytes(
+    pub fn osdp_panel_bytes_nonnull(
         panel: *mut osdp_panel,
         bytes: *const u8,
         length: usize,
         now: u64,
     ) -> osdp_status;
     pub fn osdp_panel_silence(panel: *mut osdp_panel, now: u64) -> osdp_status;
+    pub fn osdp_panel_set_moment(panel: *mut osdp_panel, now: u64) -> osdp_status;
     pub fn osdp_panel_tick(panel: *mut osdp_panel, now: u64, burst: *mut osdp_burst)
     -> osdp_status;
     pub fn osdp_panel_next_deadline(
@@ -403,43 +407,43 @@ unsafe extern "C" {
     ) -> osdp_status;
     pub fn osdp_panel_next_report(panel: *mut osdp_panel, report: *mut osdp_report) -> osdp_status;
 
-    pub fn osdp_device_new(
+    pub fn osdp_device_new_nonnull(
         device: *mut osdp_device,
         config: *const osdp_device_config,
         capabilities: *const u8,
         length: usize,
     ) -> osdp_status;
     pub fn osdp_device_free(device: *mut osdp_device) -> osdp_status;
-    pub fn osdp_device_set_inputs(
+    pub fn osdp_device_set_inputs_nonnull(
         device: *mut osdp_device,
         states: *const u8,
         length: usize,
     ) -> osdp_status;
-    pub fn osdp_device_set_outputs(
+    pub fn osdp_device_set_outputs_nonnull(
         device: *mut osdp_device,
         states: *const u8,
         length: usize,
     ) -> osdp_status;
-    pub fn osdp_device_set_readers(
+    pub fn osdp_device_set_readers_nonnull(
         device: *mut osdp_device,
         states: *const u8,
         length: usize,
     ) -> osdp_status;
     pub fn osdp_device_set_local(device: *mut osdp_device, tamper: u8, power: u8) -> osdp_status;
     pub fn osdp_device_set_busy(device: *mut osdp_device, busy: u32) -> osdp_status;
-    pub fn osdp_device_event(
+    pub fn osdp_device_event_nonnull(
         device: *mut osdp_device,
         code: u8,
         data: *const u8,
         length: usize,
     ) -> osdp_status;
-    pub fn osdp_device_event_text(
+    pub fn osdp_device_event_text_nonnull(
         device: *mut osdp_device,
         text: *const c_char,
         length: usize,
     ) -> osdp_status;
     pub fn osdp_device_waiting(device: *mut osdp_device, count: *mut usize) -> osdp_status;
-    pub fn osdp_device_step(
+    pub fn osdp_device_step_nonnull(
         device: *mut osdp_device,
         bytes: *const u8,
         length: usize,
@@ -469,13 +473,16 @@ unsafe extern "C" {
         at: usize,
         output: *mut osdp_output,
     ) -> osdp_status;
-    pub fn osdp_out(
+    pub fn osdp_out_nonnull(
         outputs: *const osdp_output,
         count: usize,
         command: *mut osdp_message,
     ) -> osdp_status;
-    pub fn osdp_led(leds: *const osdp_led, count: usize, command: *mut osdp_message)
-    -> osdp_status;
+    pub fn osdp_led_nonnull(
+        leds: *const osdp_led,
+        count: usize,
+        command: *mut osdp_message,
+    ) -> osdp_status;
     pub fn osdp_buzzer(buzzer: *const osdp_buzzer, command: *mut osdp_message);
     pub fn osdp_text(text: *const osdp_text, command: *mut osdp_message);
     pub fn osdp_comset(address: u8, baud_rate: u32, command: *mut osdp_message);
@@ -496,18 +503,19 @@ unsafe extern "C" {
         closed: *mut u32,
     ) -> osdp_status;
     pub fn osdp_device_address(device: *mut osdp_device, address: *mut u32) -> osdp_status;
+    pub fn osdp_device_set_moment(device: *mut osdp_device, now: u64) -> osdp_status;
     pub fn osdp_device_pending(device: *mut osdp_device, command: *mut osdp_message)
     -> osdp_status;
     pub fn osdp_device_answer_done(device: *mut osdp_device) -> osdp_status;
     pub fn osdp_device_answer_local(device: *mut osdp_device, tamper: u8, power: u8)
     -> osdp_status;
-    pub fn osdp_device_answer_list(
+    pub fn osdp_device_answer_list_nonnull(
         device: *mut osdp_device,
         states: *const u8,
         length: usize,
     ) -> osdp_status;
     pub fn osdp_device_answer_refused(device: *mut osdp_device, reason: u8) -> osdp_status;
-    pub fn osdp_device_answer_maker(
+    pub fn osdp_device_answer_maker_nonnull(
         device: *mut osdp_device,
         vendor: *const u8,
         bytes: *const u8,

@@ -50,12 +50,12 @@ fn said(packet: &[u8], answer: DeviceAnswer<'_>) -> Option<Vec<u8>> {
     device.set_outputs(&[0]).ok()?;
     let now = Moment::from_millis(0);
     assert_eq!(device.answer_next(answer), Err(Error::NotAsked));
-    let (_, asked) = device.step(packet, now);
+    let (_, asked) = device.step(packet, now).ok()?;
     assert!(
         matches!(asked?.order, Some(Order::Pending(command)) if device.pending() == Some(command))
     );
     device.answer_next(answer).ok()?;
-    let said = device.step(&[], now).1?.burst?.to_vec();
+    let said = device.step(&[], now).ok()?.1?.burst?.to_vec();
     assert_eq!(device.answer_next(answer), Err(Error::NotAsked));
     Some(said)
 }

@@ -12,9 +12,9 @@ fn answer_to(packet: &[u8]) -> Option<Answer> {
     let mut device = Device::new(&DEVICE).ok()?;
     device.set_outputs(&[0]).ok()?;
     let now = Moment::from_millis(0);
-    let (_, asked) = device.step(packet, now);
+    let (_, asked) = device.step(packet, now).ok()?;
     assert!(matches!(asked?.order, Some(Order::Pending(_))));
-    device.step(&[], now).1
+    device.step(&[], now).ok()?.1
 }
 
 #[test]

@@ -344,8 +344,33 @@ static void reports(void)
     demand(osdp_panel_free(&panel) == OSDP_OK);
 }
 
+/* A pointer may be null where its length is 0: each call does what it does for no bytes. */
+static void nulls(void)
+{
+    static struct osdp_message command;
+    static struct osdp_answer answer;
+    osdp_panel asks = { 0 };
+    osdp_device told = { 0 };
+    struct osdp_panel_config config = panel_config();
+    struct osdp_device_config what = reader_config();
+    size_t length = 9, entry;
+    demand(osdp_command_text(0x60, NULL, 0, NULL, 0, &length) == OSDP_TOO_SMALL && length == 4);
+    demand(osdp_reply_text(0x40, NULL, 0, NULL, 0, &length) == OSDP_TOO_SMALL && length == 3);
+    demand(osdp_out(NULL, 0, &command) == OSDP_BAD_LENGTH && osdp_led(NULL, 0, &command) == OSDP_BAD_LENGTH);
+    demand(osdp_panel_new(&asks, &config) == OSDP_OK && osdp_panel_add(&asks, 5, &entry) == OSDP_OK);
+    demand(osdp_panel_submit(&asks, 0, 0x64, NULL, 0) == OSDP_OK && osdp_panel_submit_text(&asks, 0, NULL, 0) == OSDP_BAD_TEXT);
+    demand(osdp_panel_bytes(&asks, NULL, 0, 0) == OSDP_OK && osdp_panel_free(&asks) == OSDP_OK);
+    demand(osdp_device_new(&told, &what, NULL, 0) == OSDP_OK && osdp_device_event_text(&told, NULL, 0) == OSDP_BAD_TEXT);
+    demand(osdp_device_event(&told, 0x40, NULL, 0) == OSDP_NO_EVENT && osdp_device_set_inputs(&told, NULL, 0) == OSDP_OK);
+    demand(osdp_device_set_outputs(&told, NULL, 0) == OSDP_OK && osdp_device_set_readers(&told, NULL, 0) == OSDP_OK);
+    demand(osdp_device_step(&told, NULL, 0, 0, &length, &answer) == OSDP_OK && length == 0 && answer.kind == OSDP_SAID_NONE);
+    demand(osdp_device_answer_list(&told, NULL, 0) == OSDP_NOT_ASKED);
+    demand(osdp_device_answer_maker(&told, what.vendor, NULL, 0) == OSDP_NOT_ASKED && osdp_device_free(&told) == OSDP_OK);
+}
+
 int main(void)
 {
+    nulls();
     capacities();
     addresses();
     states();

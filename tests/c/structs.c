@@ -10,9 +10,9 @@
 #include "osdp.h"
 
 _Static_assert(sizeof(struct osdp_message) == 1436 && sizeof(struct osdp_burst) == 1444, "messages and bursts");
-_Static_assert(sizeof(struct osdp_panel) == 16 && sizeof(struct osdp_panel_config) == 36, "panels");
+_Static_assert(sizeof(struct osdp_panel) == 16 && sizeof(struct osdp_panel_config) == 40, "panels");
 _Static_assert(sizeof(struct osdp_moment) == 16 && sizeof(struct osdp_report) == 2888, "reports");
-_Static_assert(sizeof(struct osdp_device) == 16 && sizeof(struct osdp_device_config) == 24, "readers");
+_Static_assert(sizeof(struct osdp_device) == 16 && sizeof(struct osdp_device_config) == 28, "readers");
 _Static_assert(sizeof(struct osdp_answer) == 2900, "answers");
 _Static_assert(sizeof(struct osdp_raw) == 1434 && sizeof(struct osdp_keypad) == 257 && sizeof(struct osdp_states) == 1434, "fields");
 _Static_assert(sizeof(struct osdp_pd_id) == 12 && sizeof(struct osdp_nak) == 1434 && sizeof(struct osdp_output) == 4, "fields");
@@ -176,7 +176,7 @@ static void no_machines(struct osdp_panel *panel, struct osdp_device *reader)
 static void new_machines(struct osdp_panel *panel, struct osdp_device *reader)
 {
     struct osdp_panel_config config, config_before;
-    struct osdp_device_config what = { 5, 3, 20, 0x04030201, { 0x53, 0x49, 0x4D }, 7, 8, 9, 10, 11 }, what_before = what;
+    struct osdp_device_config what = { 5, 3, 20, 0x04030201, 0, { 0x53, 0x49, 0x4D }, 7, 8, 9, 10, 11 }, what_before = what;
     osdp_panel_defaults(&config);
     config_before = config;
     demand(osdp_panel_new(panel, &config) == OSDP_OK && !is_zero(panel, sizeof *panel));

@@ -1,5 +1,5 @@
 -- The calls of a panel.
-use Rattle.std.specs.Prelude.{◌≡◌, ℕ, Bool, if◌then◌else◌, List, [], length, option_map, Option, None, Some, Result, Ok, Err}
+use Rattle.std.specs.Prelude.{◌≡◌, ℕ, Bool, true, false, if◌then◌else◌, List, [], length, option_map, Option, None, Some, Result, Ok, Err}
 use Rattle.osdp_frame.specs.Packet.{Packet}
 use Rattle.osdp_frame.specs.Spelling.{Spells}
 use Rattle.osdp_msg.specs.declared.command.Command.{Command}
@@ -9,13 +9,16 @@ use Rattle.osdp_bus.specs.declared.config.BusConfig.{BusConfig}
 use Rattle.osdp_bus.specs.declared.fault.BusFault.{BusFault}
 use Rattle.osdp_bus.specs.declared.fault.BusFault.TheVariants.{NoEntry, OutOfRange}
 use Rattle.osdp_bus.specs.declared.device.Device.{Device}
-use Rattle.osdp_bus.specs.Buses.{BusState, device_of}
+use Rattle.osdp_bus.specs.Buses.{BusState, device_of, seen}
 use Rattle.osdp_bus.specs.Deadlines.{IsDeadline}
 use Rattle.osdp_bus.specs.Devices.{address_of}
 use Rattle.osdp_bus.specs.Hearing.{after_bytes, after_silence}
 use Rattle.osdp_bus.specs.Machine.{AddEnds, NewEnds, after_begin_at, after_next_report, after_retarget_at, after_submit_at, after_withdraw_at, begin_refusal_at, changed_unless, retarget_refusal_at, submit_refusal_at, withdrawal_at}
 use Rattle.osdp_bus.specs.Ticking.{bus_ticks}
 use Rattle.osdp_controller.specs.States.{is_closed}
+use Rattle.osdp_c_handle.specs.Clocks.{accepts, new_clock, sees}
+use Rattle.osdp_c_handle.specs.declared.clock.Clock.{Clock}
+use Rattle.osdp_c_handle.specs.declared.machine.PanelMachine.{PanelMachine}
 use Rattle.osdp_c_values.specs.declared.arrays.BurstStruct.{BurstStruct}
 use Rattle.osdp_c_values.specs.declared.message.MessageStruct.{MessageStruct}
 use Rattle.osdp_c_values.specs.declared.moment.MomentStruct.{MomentStruct}
@@ -25,7 +28,7 @@ use Rattle.osdp_c_values.specs.declared.status.Status.{Status}
 use Rattle.osdp_c_values.specs.declared.status.Status.TheVariants as status
 use Rattle.osdp_c_values.specs.Moments.{moment_struct}
 use Rattle.osdp_c_values.specs.Reports.{report_struct}
-use Rattle.osdp_c_values.specs.Settings.{bus_config_of}
+use Rattle.osdp_c_values.specs.Settings.{bus_config_of, limit_of}
 use Rattle.osdp_c_values.specs.Statuses.{number}
 use Rattle.osdp_c_values.specs.Structs.{burst_of, command_struct}
 use Rattle.osdp_c.specs.Calls.{Done}
@@ -47,29 +50,54 @@ done_status (Err fault) = status.Panel fault
 abbrev pub unless_refused : Option BusFault → BusState → BusState → Done BusState
 unless_refused refusal b after = record { status = status_of refusal; machine = changed_unless refusal b after }
 
+-- a call on the bus that comes at no moment
+abbrev pub on_bus : (BusState → Done BusState) → PanelMachine → Done PanelMachine
+on_bus call m = record { status = (call m.bus).status; machine = record m { bus = (call m.bus).machine } }
+
+-- what such a call writes
+abbrev pub of_bus : {O : Type 0} → (BusState → O → O) → PanelMachine → O → O
+of_bus write m out = write m.bus out
+
+-- the moment of a call is seen where it is done
+abbrev pub sees_if_done : ℕ → Status → Clock → Clock
+sees_if_done now status.Done c = sees now c
+sees_if_done now refused c = c
+
+-- a call on the bus at a moment; one that lies too far after the greatest one seen is refused
+abbrev pub at_moment : ℕ → (BusState → Done BusState) → PanelMachine → Done PanelMachine
+at_moment now call m =
+    if accepts now m.clock then record {
+      status = (call m.bus).status;
+      machine = record { bus = (call m.bus).machine; clock = sees_if_done now (call m.bus).status m.clock };
+    } else record { status = status.MomentTooFar; machine = m }
+
+-- a moment is seen, however far it lies after the greatest one
+abbrev pub sets_moment : ℕ → PanelMachine → Done PanelMachine
+sets_moment now m = record { status = status.Done; machine = record { bus = seen now m.bus; clock = sees now m.clock } }
+
 -- how a new bus ends, and what the handle holds then
 abbrev pub made_status : Result BusState BusFault → Status
 made_status (Ok b) = status.Done
 made_status (Err fault) = status.Panel fault
 
-abbrev pub made_in : Result BusState BusFault → Option BusState
-made_in (Ok b) = Some b
-made_in (Err fault) = None
+abbrev pub made_in : ℕ → Result BusState BusFault → Option PanelMachine
+made_in limit (Ok b) = Some (record { bus = b; clock = new_clock limit })
+made_in limit (Err fault) = None
 
 -- a new bus, by settings that may be none
 abbrev pub MadeAs : Option BusConfig → Result BusState BusFault → Type 0
 MadeAs None r = r ≡ Err OutOfRange
 MadeAs (Some config) r = NewEnds config r
 
--- the same in a handle
-abbrev pub MadeBy : Option BusConfig → ℕ → Option BusState → Type 0
-MadeBy config answer after =
-    (r : Result BusState BusFault) × MadeAs config r × (answer ≡ number (made_status r)) × (after ≡ made_in r)
+-- the same in a handle, with the limit of its clock
+abbrev pub MadeBy : Option BusConfig → ℕ → ℕ → Option PanelMachine → Type 0
+MadeBy config limit answer after =
+    (r : Result BusState BusFault) × MadeAs config r × (answer ≡ number (made_status r)) × (after ≡ made_in limit r)
 
 -- a handle in use keeps what it holds
-abbrev pub NewPanelEnds : PanelSettings → Option BusState → ℕ → Option BusState → Type 0
-NewPanelEnds settings (Some b) answer after = (answer ≡ number status.InUse) × (after ≡ Some b)
-NewPanelEnds settings None answer after = MadeBy (bus_config_of settings) answer after
+abbrev pub NewPanelEnds : PanelSettings → Option PanelMachine → ℕ → Option PanelMachine → Type 0
+NewPanelEnds settings (Some m) answer after = (answer ≡ number status.InUse) × (after ≡ Some m)
+NewPanelEnds settings None answer after = MadeBy (bus_config_of settings) (limit_of settings.clock_limit) answer after
 
 abbrev pub added_status : Result ℕ BusFault → Status
 added_status (Ok entry) = status.Done
@@ -80,11 +108,11 @@ abbrev pub added_entry : Result ℕ BusFault → ℕ → ℕ
 added_entry (Ok entry) out = entry
 added_entry (Err fault) out = out
 
-abbrev pub AddsTo : ℕ → Option BusState → ℕ → Option BusState → ℕ → ℕ → Type 0
+abbrev pub AddsTo : ℕ → Option PanelMachine → ℕ → Option PanelMachine → ℕ → ℕ → Type 0
 AddsTo address None answer after out out' = (answer ≡ number status.NoMachine) × (after ≡ None) × (out' ≡ out)
-AddsTo address (Some b) answer after out out' =
-    (r : Result ℕ BusFault) × (b' : BusState) × AddEnds address b b' r
-    × (answer ≡ number (added_status r)) × (after ≡ Some b') × (out' ≡ added_entry r out)
+AddsTo address (Some m) answer after out out' =
+    (r : Result ℕ BusFault) × (b' : BusState) × AddEnds address m.bus b' r
+    × (answer ≡ number (added_status r)) × (after ≡ Some (record m { bus = b' })) × (out' ≡ added_entry r out)
 
 abbrev pub begins : ℕ → ℕ → BusState → Done BusState
 begins entry now b = unless_refused (begin_refusal_at entry b) b (after_begin_at entry now b)
@@ -136,9 +164,9 @@ abbrev pub reports : BusState → Done BusState
 reports b = does (after_next_report b)
 
 -- the moment of the next tick is written
-abbrev pub IsDueIn : Option BusState → MomentStruct → MomentStruct → Type 0
+abbrev pub IsDueIn : Option PanelMachine → MomentStruct → MomentStruct → Type 0
 IsDueIn None out out' = out' ≡ out
-IsDueIn (Some b) out out' = (due : Option ℕ) × IsDeadline b due × (out' ≡ moment_struct due)
+IsDueIn (Some m) out out' = (due : Option ℕ) × IsDeadline m.bus due × (out' ≡ moment_struct due)
 
 -- the report that waits is written
 abbrev pub writes_report : BusState → ReportStruct → ReportStruct
@@ -149,9 +177,14 @@ abbrev pub IsSentIn : Option Packet → BurstStruct → BurstStruct → Type 0
 IsSentIn None out out' = out' ≡ burst_of [] out
 IsSentIn (Some p) out out' = (bytes : List ℕ) × Spells p bytes × (out' ≡ burst_of bytes out)
 
-abbrev pub IsBurstIn : ℕ → Option BusState → BurstStruct → BurstStruct → Type 0
+-- where the moment isn't accepted, what was there stays
+abbrev pub IsSentIf : Bool → Option Packet → BurstStruct → BurstStruct → Type 0
+IsSentIf false sent out out' = out' ≡ out
+IsSentIf true sent out out' = IsSentIn sent out out'
+
+abbrev pub IsBurstIn : ℕ → Option PanelMachine → BurstStruct → BurstStruct → Type 0
 IsBurstIn now None out out' = out' ≡ out
-IsBurstIn now (Some b) out out' = IsSentIn (bus_ticks now b).sent out out'
+IsBurstIn now (Some m) out out' = IsSentIf (accepts now m.clock) (bus_ticks now m.bus).sent out out'
 
 -- how many devices there are
 abbrev pub writes_entries : BusState → ℕ → ℕ

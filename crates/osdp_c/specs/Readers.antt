@@ -1,7 +1,7 @@
 -- The calls of a reader.
 use Rattle.std.specs.Prelude.{◌≡◌, ℕ, ◌≤◌, not, ◌==◌, nat_le, Bool, List, length, if◌then◌else◌, Option, None, Some, option_map, Result, Ok, Err}
 use Rattle.arrayvec.specs.ArrayVec.{ArrayVec}
-use Rattle.osdp_device.specs.Receiving.{IsGap, Received, after_silence, after_take, after_tick, count_taken, new_line}
+use Rattle.osdp_device.specs.Receiving.{IsGap, Received, after_silence, after_take, after_tick, count_taken, new_line, seen}
 use Rattle.osdp_device.specs.Deciding.{Turned, is_asked, pending_of, passed, turned, with_question}
 use Rattle.osdp_device.specs.Program.{new_program}
 use Rattle.osdp_device.specs.declared.program.ProgramAnswers.{ProgramAnswers}
@@ -23,6 +23,7 @@ use Rattle.osdp_reader.specs.declared.handler.Answer.TheVariants as answer
 use Rattle.osdp_reader.specs.declared.fault.ReaderFault.TheVariants.{NoMemory, OutOfRange}
 use Rattle.osdp_reader.specs.State.{ReaderState, after_set_busy, after_set_handler, after_submit, new_reader}
 use Rattle.osdp_c_handle.specs.declared.machine.ReaderMachine.{ReaderMachine}
+use Rattle.osdp_c_handle.specs.Clocks.{accepts, new_clock, sees}
 use Rattle.osdp_c_values.specs.declared.answer.AnswerStruct.{AnswerStruct}
 use Rattle.osdp_c_values.specs.declared.settings.ReaderSettings.{ReaderSettings}
 use Rattle.osdp_c_values.specs.declared.status.Status.{Status}
@@ -30,7 +31,7 @@ use Rattle.osdp_c_values.specs.declared.status.Status.TheVariants as status
 use Rattle.osdp_c_values.specs.declared.message.MessageStruct.{MessageStruct}
 use Rattle.osdp_c_values.specs.Answers.{turn_struct}
 use Rattle.osdp_c_values.specs.Structs.{command_struct}
-use Rattle.osdp_c_values.specs.Settings.{id_of}
+use Rattle.osdp_c_values.specs.Settings.{id_of, limit_of}
 use Rattle.osdp_c_values.specs.Statuses.{number}
 use Rattle.osdp_c.specs.Calls.{Done}
 use Rattle.osdp_c.specs.declared.reader_calls.StateList.{StateList}
@@ -59,6 +60,7 @@ new_machine s caps = record {
     reader = new_reader (record { address = s.address; id = id_of s; caps = caps }) new_program s.capacity;
     line = new_line s.gap;
   };
+  clock = new_clock (limit_of s.clock_limit);
 }
 
 -- how a new reader comes about: what it can do is read, then the settings are judged, before memory is asked for
@@ -88,7 +90,7 @@ NewReaderEnds s body None answer after =
 
 -- the reader is another; what has come on its line stays
 abbrev pub sets : ReaderState ProgramAnswers → ReaderMachine → ReaderMachine
-sets r m = record { device = record { reader = r; line = m.device.line } }
+sets r m = record m { device = record { reader = r; line = m.device.line } }
 
 abbrev pub does : ReaderMachine → Done ReaderMachine
 does m = record { status = status.Done; machine = m }
@@ -167,7 +169,7 @@ abbrev pub next_of : ReaderMachine → Received → Turned
 next_of m l = turned m.device.reader l.held
 
 abbrev pub reads_next : ReaderMachine → Received → Done ReaderMachine
-reads_next m l = does (record {
+reads_next m l = does (record m {
   device = record { reader = (next_of m l).reader; line = record l { held = (next_of m l).held } };
 })
 
@@ -176,7 +178,7 @@ writes_next m l out = turn_struct (next_of m l).pending (next_of m l).said out
 
 -- what isn't answered is passed over, and the command that is pending is written
 abbrev pub looks : ReaderMachine → Done ReaderMachine
-looks m = does (record {
+looks m = does (record m {
   device = record { reader = m.device.reader; line = record m.device.line { held = passed m.device.reader m.device.line.held } };
 })
 
@@ -216,6 +218,23 @@ maker_answer vendor bytes = if nat_le (length bytes) most_maker_bytes then Some 
 
 abbrev pub answers_maker : List ℕ → List ℕ → ReaderMachine → Done ReaderMachine
 answers_maker vendor bytes m = answers_if (maker_answer vendor bytes) m
+
+-- a call at a moment, which is seen then; one that lies too far after the greatest one seen is refused
+abbrev pub at_moment : ℕ → (ReaderMachine → Done ReaderMachine) → ReaderMachine → Done ReaderMachine
+at_moment now call m =
+    if accepts now m.clock then call (record m { clock = sees now m.clock })
+    else record { status = status.MomentTooFar; machine = m }
+
+-- what such a call writes; where it is refused, what was there stays
+abbrev pub writes_at : {O : Type 0} → ℕ → (ReaderMachine → O → O) → ReaderMachine → O → O
+writes_at now write m out = if accepts now m.clock then write m out else out
+
+-- a moment is seen, however far it lies after the greatest one
+abbrev pub sets_moment : ℕ → ReaderMachine → Done ReaderMachine
+sets_moment now m = does (record m {
+  device = record { reader = m.device.reader; line = seen now m.device.line };
+  clock = sees now m.clock;
+})
 
 -- once bytes have come up to a moment, once none have, and once the line was seen silent
 abbrev pub steps : List ℕ → ℕ → ReaderMachine → Done ReaderMachine

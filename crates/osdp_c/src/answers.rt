@@ -59,7 +59,7 @@ pub extern "C" fn osdp_device_answer_local(
 
 /// It is answered by a byte for each input, output or reader.
 #[unsafe(no_mangle)]
-pub extern "C" fn osdp_device_answer_list(
+pub extern "C" fn osdp_device_answer_list_nonnull(
     alloc: Global,
     reader: &mut ReaderHandle,
     states: &[u8],
@@ -92,7 +92,7 @@ pub extern "C" fn osdp_device_answer_refused(
 
 /// It is answered by the maker's own reply.
 #[unsafe(no_mangle)]
-pub extern "C" fn osdp_device_answer_maker(
+pub extern "C" fn osdp_device_answer_maker_nonnull(
     alloc: Global,
     reader: &mut ReaderHandle,
     vendor: &[u8; 3],

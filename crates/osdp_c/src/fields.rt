@@ -74,7 +74,7 @@ pub extern "C" fn osdp_output_of(
 
 /// Writes an OUT of these records.
 #[unsafe(no_mangle)]
-pub extern "C" fn osdp_out(outputs: &[OutputStruct], message: &mut MessageStruct) -> u32
+pub extern "C" fn osdp_out_nonnull(outputs: &[OutputStruct], message: &mut MessageStruct) -> u32
     ensures { IsRead (made_out outputs.now message.old) result message.new }
 {
     message.make_out(outputs).number()
@@ -82,7 +82,7 @@ pub extern "C" fn osdp_out(outputs: &[OutputStruct], message: &mut MessageStruct
 
 /// Writes a LED of these records.
 #[unsafe(no_mangle)]
-pub extern "C" fn osdp_led(leds: &[LedStruct], message: &mut MessageStruct) -> u32
+pub extern "C" fn osdp_led_nonnull(leds: &[LedStruct], message: &mut MessageStruct) -> u32
     ensures { IsRead (made_led leds.now message.old) result message.new }
 {
     message.make_led(leds).number()

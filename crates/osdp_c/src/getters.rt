@@ -3,7 +3,7 @@
 ghost use Rattle.std.specs.Prelude.{◌≡◌, option_map};
 ghost use Rattle.osdp_bus.specs.Buses.{device_of};
 ghost use Rattle.osdp_c.specs.Calls.{IsDone, calls, writes};
-ghost use Rattle.osdp_c.specs.Panels.{closed_number, does, looks_at, told_or, writes_address, writes_closed, writes_entries, writes_waiting};
+ghost use Rattle.osdp_c.specs.Panels.{closed_number, does, looks_at, of_bus, on_bus, told_or, writes_address, writes_closed, writes_entries, writes_waiting};
 
 use crate::held::on_held;
 use osdp_bus::{Bus, BusFault, Entry};
@@ -60,11 +60,11 @@ pub extern "C" fn osdp_panel_entries(
     panel: &mut PanelHandle,
     count: &mut usize,
 ) -> u32
-    ensures panel { IsDone (calls does panel.old.slot.machine) result panel.new.slot.machine }
-    ensures written { count.new ≡ writes writes_entries panel.old.slot.machine count.old }
+    ensures panel { IsDone (calls (on_bus does) panel.old.slot.machine) result panel.new.slot.machine }
+    ensures written { count.new ≡ writes (of_bus writes_entries) panel.old.slot.machine count.old }
 {
-    on_held!(panel, alloc, |bus| {
-        *count = bus.entries();
+    on_held!(panel, alloc, |machine| {
+        *count = machine.bus.entries();
         Status::Done
     })
 }
@@ -77,10 +77,14 @@ pub extern "C" fn osdp_panel_address(
     entry: Entry,
     address: &mut u32,
 ) -> u32
-    ensures panel { IsDone (calls (looks_at entry) panel.old.slot.machine) result panel.new.slot.machine }
-    ensures written { address.new ≡ writes (writes_address entry) panel.old.slot.machine address.old }
+    ensures panel { IsDone (calls (on_bus (looks_at entry)) panel.old.slot.machine) result panel.new.slot.machine }
+    ensures written { address.new ≡ writes (of_bus (writes_address entry)) panel.old.slot.machine address.old }
 {
-    on_held!(panel, alloc, |bus| write_address(&bus, entry, address))
+    on_held!(
+        panel,
+        alloc,
+        |machine| write_address(&machine.bus, entry, address)
+    )
 }
 
 /// Writes how many commands wait for a device.
@@ -91,10 +95,14 @@ pub extern "C" fn osdp_panel_waiting(
     entry: Entry,
     count: &mut usize,
 ) -> u32
-    ensures panel { IsDone (calls (looks_at entry) panel.old.slot.machine) result panel.new.slot.machine }
-    ensures written { count.new ≡ writes (writes_waiting entry) panel.old.slot.machine count.old }
+    ensures panel { IsDone (calls (on_bus (looks_at entry)) panel.old.slot.machine) result panel.new.slot.machine }
+    ensures written { count.new ≡ writes (of_bus (writes_waiting entry)) panel.old.slot.machine count.old }
 {
-    on_held!(panel, alloc, |bus| write_waiting(&bus, entry, count))
+    on_held!(
+        panel,
+        alloc,
+        |machine| write_waiting(&machine.bus, entry, count)
+    )
 }
 
 /// Writes whether the session of a device is closed.
@@ -105,8 +113,12 @@ pub extern "C" fn osdp_panel_is_closed(
     entry: Entry,
     closed: &mut u32,
 ) -> u32
-    ensures panel { IsDone (calls (looks_at entry) panel.old.slot.machine) result panel.new.slot.machine }
-    ensures written { closed.new ≡ writes (writes_closed entry) panel.old.slot.machine closed.old }
+    ensures panel { IsDone (calls (on_bus (looks_at entry)) panel.old.slot.machine) result panel.new.slot.machine }
+    ensures written { closed.new ≡ writes (of_bus (writes_closed entry)) panel.old.slot.machine closed.old }
 {
-    on_held!(panel, alloc, |bus| write_closed(&bus, entry, closed))
+    on_held!(
+        panel,
+        alloc,
+        |machine| write_closed(&machine.bus, entry, closed)
+    )
 }

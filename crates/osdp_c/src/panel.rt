@@ -1,21 +1,22 @@
 //! The calls of a panel, for C.
 
-ghost use Rattle.std.specs.Prelude.{◌≡◌, Option, Some};
+ghost use Rattle.std.specs.Prelude.{◌≡◌, IfOk, Option, Some};
 ghost use Rattle.std.specs.Result.{result_map_both};
 ghost use Rattle.osdp_msg.specs.declared.command.Command.{Command as Ordered};
 ghost use Rattle.osdp_bus.specs.Settings.{default_config};
 ghost use Rattle.osdp_frame.specs.declared.check_kind.CheckKind.TheVariants.{Crc};
-ghost use Rattle.osdp_c_values.specs.Settings.{bus_config_of};
+ghost use Rattle.osdp_c_values.specs.Settings.{bus_config_of, day, limit_of};
+ghost use Rattle.osdp_c_handle.specs.Clocks.{new_clock};
 ghost use Rattle.osdp_c.specs.Addresses.{device_address};
 ghost use Rattle.osdp_c.specs.Calls.{IsDone, calls, frees, writes};
 ghost use Rattle.osdp_c.specs.CommandTexts.{IsReadCommand};
-ghost use Rattle.osdp_c.specs.Panels.{AddsTo, IsBurstIn, IsDueIn, MadeAs, NewPanelEnds, begins, does, falls_silent, hears, reports, retargets, submits_data, submits_text, ticks, withdraws, writes_report, writes_withdrawn};
+ghost use Rattle.osdp_c.specs.Panels.{AddsTo, IsBurstIn, IsDueIn, MadeAs, NewPanelEnds, at_moment, begins, does, falls_silent, hears, of_bus, on_bus, reports, retargets, sets_moment, submits_data, submits_text, ticks, withdraws, writes_report, writes_withdrawn};
 
 use crate::held::on_held;
 use crate::panel_calls;
 use crate::read::read_command;
 use osdp_bus::{Bus, BusFault, Entry};
-use osdp_c_handle::PanelHandle;
+use osdp_c_handle::{Clock, PanelHandle, PanelMachine};
 use osdp_c_values::{
     BurstStruct, MessageStruct, MomentStruct, PanelSettings, ReportStruct, Status,
 };
@@ -24,20 +25,26 @@ use std::alloc::Global;
 /// Writes the default settings: those of a bus with a CRC, and room for 64 commands.
 #[unsafe(no_mangle)]
 pub extern "C" fn osdp_panel_defaults(settings: &mut PanelSettings)
-    ensures { bus_config_of settings.new ≡ Some (default_config Crc 64) }
+    ensures bus { bus_config_of settings.new ≡ Some (default_config Crc 64) }
+    ensures clock { settings.new.clock_limit ≡ day }
 {
     settings.set_defaults();
 }
 
-/// A bus on the heap.
-fn new_bus(alloc: Global, settings: &PanelSettings) -> Result<Box<Bus>, BusFault>
-    ensures { MadeAs (bus_config_of settings.now) (result_map_both (λ b. b.value) (λ fault. fault) result) }
+/// A bus on the heap, which has seen no moment.
+fn new_machine(alloc: Global, settings: &PanelSettings) -> Result<Box<PanelMachine>, BusFault>
+    ensures bus { MadeAs (bus_config_of settings.now) (result_map_both (λ m. m.value.bus) (λ fault. fault) result) }
+    ensures clock { IfOk result (λ m. m.value.clock ≡ new_clock (limit_of settings.now.clock_limit)) }
 {
     let Some(config) = settings.to_config() else {
         return Err(BusFault::OutOfRange);
     };
-    match Box::new(alloc, Bus::new(alloc, config)?) {
-        Ok(bus) => Ok(bus),
+    let machine = PanelMachine {
+        bus: Bus::new(alloc, config)?,
+        clock: Clock::new(settings.clock_limit()),
+    };
+    match Box::new(alloc, machine) {
+        Ok(machine) => Ok(machine),
         Err(_) => Err(BusFault::NoMemory),
     }
 }
@@ -54,9 +61,9 @@ pub extern "C" fn osdp_panel_new(
     if panel.is_live() {
         return Status::InUse.number();
     }
-    match new_bus(alloc, settings) {
-        Ok(bus) => {
-            panel.put(bus);
+    match new_machine(alloc, settings) {
+        Ok(machine) => {
+            panel.put(machine);
             Status::Done.number()
         }
         Err(fault) => Status::Panel(fault).number(),
@@ -87,7 +94,7 @@ pub extern "C" fn osdp_panel_add(
     on_held!(
         panel,
         alloc,
-        |bus| match panel_calls::add(&mut bus, address) {
+        |machine| match panel_calls::add(&mut machine.bus, address) {
             Ok(number) => {
                 *entry = number;
                 Status::Done
@@ -105,45 +112,49 @@ pub extern "C" fn osdp_panel_begin(
     entry: Entry,
     now: u64,
 ) -> u32
-    ensures { IsDone (calls (begins entry now) panel.old.slot.machine) result panel.new.slot.machine }
+    ensures { IsDone (calls (at_moment now (begins entry now)) panel.old.slot.machine) result panel.new.slot.machine }
 {
-    on_held!(panel, alloc, |bus| panel_calls::begin(&mut bus, entry, now))
+    on_held!(
+        panel,
+        alloc,
+        |machine| panel_calls::begin(&mut machine, entry, now)
+    )
 }
 
 /// Puts a command after those that wait for a device, by its code and data.
 #[unsafe(no_mangle)]
-pub extern "C" fn osdp_panel_submit(
+pub extern "C" fn osdp_panel_submit_nonnull(
     alloc: Global,
     panel: &mut PanelHandle,
     entry: Entry,
     code: u8,
     body: &[u8],
 ) -> u32
-    ensures { IsDone (calls (submits_data entry code body.now) panel.old.slot.machine) result panel.new.slot.machine }
+    ensures { IsDone (calls (on_bus (submits_data entry code body.now)) panel.old.slot.machine) result panel.new.slot.machine }
 {
     on_held!(
         panel,
         alloc,
-        |bus| panel_calls::submit_data(&mut bus, entry, code, body)
+        |machine| panel_calls::submit_data(&mut machine.bus, entry, code, body)
     )
 }
 
 /// Puts a command after those that wait for a device, by its text.
 #[unsafe(no_mangle)]
-pub extern "C" fn osdp_panel_submit_text(
+pub extern "C" fn osdp_panel_submit_text_nonnull(
     alloc: Global,
     panel: &mut PanelHandle,
     entry: Entry,
     text: &[u8],
 ) -> u32
     ensures { (read : Option Ordered) × IsReadCommand text.now read
-        × IsDone (calls (submits_text entry read) panel.old.slot.machine) result panel.new.slot.machine }
+        × IsDone (calls (on_bus (submits_text entry read)) panel.old.slot.machine) result panel.new.slot.machine }
 {
     let read = read_command(text);
     on_held!(
         panel,
         alloc,
-        |bus| panel_calls::submit_read(&mut bus, entry, read)
+        |machine| panel_calls::submit_read(&mut machine.bus, entry, read)
     )
 }
 
@@ -155,13 +166,13 @@ pub extern "C" fn osdp_panel_withdraw(
     entry: Entry,
     command: &mut MessageStruct,
 ) -> u32
-    ensures panel { IsDone (calls (withdraws entry) panel.old.slot.machine) result panel.new.slot.machine }
-    ensures written { command.new ≡ writes (writes_withdrawn entry) panel.old.slot.machine command.old }
+    ensures panel { IsDone (calls (on_bus (withdraws entry)) panel.old.slot.machine) result panel.new.slot.machine }
+    ensures written { command.new ≡ writes (of_bus (writes_withdrawn entry)) panel.old.slot.machine command.old }
 {
     on_held!(
         panel,
         alloc,
-        |bus| panel_calls::withdraw(&mut bus, entry, command)
+        |machine| panel_calls::withdraw(&mut machine.bus, entry, command)
     )
 }
 
@@ -173,40 +184,42 @@ pub extern "C" fn osdp_panel_retarget(
     entry: Entry,
     address: u32,
 ) -> u32
-    ensures { IsDone (calls (retargets entry (device_address address)) panel.old.slot.machine) result panel.new.slot.machine }
+    ensures { IsDone (calls (on_bus (retargets entry (device_address address))) panel.old.slot.machine) result panel.new.slot.machine }
 {
     on_held!(
         panel,
         alloc,
-        |bus| panel_calls::retarget(&mut bus, entry, address)
+        |machine| panel_calls::retarget(&mut machine.bus, entry, address)
     )
 }
 
 /// Bytes have come from the line, in any pieces.
 #[unsafe(no_mangle)]
-pub extern "C" fn osdp_panel_bytes(
+pub extern "C" fn osdp_panel_bytes_nonnull(
     alloc: Global,
     panel: &mut PanelHandle,
     bytes: &[u8],
     now: u64,
 ) -> u32
-    ensures { IsDone (calls (hears bytes.now now) panel.old.slot.machine) result panel.new.slot.machine }
+    ensures { IsDone (calls (at_moment now (hears bytes.now now)) panel.old.slot.machine) result panel.new.slot.machine }
 {
-    on_held!(panel, alloc, |bus| {
-        bus.on_bytes(bytes, now);
-        Status::Done
-    })
+    on_held!(
+        panel,
+        alloc,
+        |machine| panel_calls::hear(&mut machine, bytes, now)
+    )
 }
 
 /// The line was seen silent.
 #[unsafe(no_mangle)]
 pub extern "C" fn osdp_panel_silence(alloc: Global, panel: &mut PanelHandle, now: u64) -> u32
-    ensures { IsDone (calls (falls_silent now) panel.old.slot.machine) result panel.new.slot.machine }
+    ensures { IsDone (calls (at_moment now (falls_silent now)) panel.old.slot.machine) result panel.new.slot.machine }
 {
-    on_held!(panel, alloc, |bus| {
-        bus.on_silence(now);
-        Status::Done
-    })
+    on_held!(
+        panel,
+        alloc,
+        |machine| panel_calls::fall_silent(&mut machine, now)
+    )
 }
 
 /// What is due at a moment: writes the burst to send.
@@ -217,13 +230,14 @@ pub extern "C" fn osdp_panel_tick(
     now: u64,
     burst: &mut BurstStruct,
 ) -> u32
-    ensures panel { IsDone (calls (ticks now) panel.old.slot.machine) result panel.new.slot.machine }
+    ensures panel { IsDone (calls (at_moment now (ticks now)) panel.old.slot.machine) result panel.new.slot.machine }
     ensures written { IsBurstIn now panel.old.slot.machine burst.old burst.new }
 {
-    on_held!(panel, alloc, |bus| {
-        burst.set_sent(bus.tick(now));
-        Status::Done
-    })
+    on_held!(
+        panel,
+        alloc,
+        |machine| panel_calls::tick(&mut machine, now, burst)
+    )
 }
 
 /// Writes the moment at which `osdp_panel_tick` is to be called next.
@@ -233,11 +247,11 @@ pub extern "C" fn osdp_panel_next_deadline(
     panel: &mut PanelHandle,
     deadline: &mut MomentStruct,
 ) -> u32
-    ensures panel { IsDone (calls does panel.old.slot.machine) result panel.new.slot.machine }
+    ensures panel { IsDone (calls (on_bus does) panel.old.slot.machine) result panel.new.slot.machine }
     ensures written { IsDueIn panel.old.slot.machine deadline.old deadline.new }
 {
-    on_held!(panel, alloc, |bus| {
-        deadline.set(bus.next_deadline());
+    on_held!(panel, alloc, |machine| {
+        deadline.set(machine.bus.next_deadline());
         Status::Done
     })
 }
@@ -249,11 +263,22 @@ pub extern "C" fn osdp_panel_next_report(
     panel: &mut PanelHandle,
     report: &mut ReportStruct,
 ) -> u32
-    ensures panel { IsDone (calls reports panel.old.slot.machine) result panel.new.slot.machine }
-    ensures written { report.new ≡ writes writes_report panel.old.slot.machine report.old }
+    ensures panel { IsDone (calls (on_bus reports) panel.old.slot.machine) result panel.new.slot.machine }
+    ensures written { report.new ≡ writes (of_bus writes_report) panel.old.slot.machine report.old }
 {
-    on_held!(panel, alloc, |bus| {
-        report.set(bus.next_report());
+    on_held!(panel, alloc, |machine| {
+        report.set(machine.bus.next_report());
+        Status::Done
+    })
+}
+
+/// Sees a moment, however far it lies after the greatest one.
+#[unsafe(no_mangle)]
+pub extern "C" fn osdp_panel_set_moment(alloc: Global, panel: &mut PanelHandle, now: u64) -> u32
+    ensures { IsDone (calls (sets_moment now) panel.old.slot.machine) result panel.new.slot.machine }
+{
+    on_held!(panel, alloc, |machine| {
+        panel_calls::set_moment(&mut machine, now);
         Status::Done
     })
 }

@@ -3,10 +3,13 @@
 ghost use Rattle.std.specs.Prelude.{◌≡◌};
 ghost use Rattle.osdp_bus.specs.Machine.{AddEnds};
 ghost use Rattle.osdp_c.specs.Addresses.{device_address};
-ghost use Rattle.osdp_c.specs.Panels.{begins, done_status, retargets, submits, submits_data, submits_text, withdraws, writes_withdrawn};
+ghost use Rattle.osdp_bus.specs.Ticking.{bus_ticks};
+ghost use Rattle.osdp_c_handle.specs.Clocks.{accepts};
+ghost use Rattle.osdp_c.specs.Panels.{IsSentIf, at_moment, begins, done_status, falls_silent, hears, retargets, sets_moment, submits, submits_data, submits_text, ticks, withdraws, writes_withdrawn};
 
 use osdp_bus::{Bus, BusFault, Entry};
-use osdp_c_values::{MessageStruct, Status};
+use osdp_c_handle::PanelMachine;
+use osdp_c_values::{BurstStruct, MessageStruct, Status};
 use osdp_frame::Address;
 use osdp_msg::Command;
 
@@ -36,11 +39,68 @@ pub(crate) fn add(bus: &mut Bus, address: u32) -> Result<Entry, BusFault>
 }
 
 /// Begins a session.
-pub(crate) fn begin(bus: &mut Bus, entry: Entry, now: u64) -> Status
-    ensures status { result ≡ (begins entry now bus.old).status }
-    ensures bus { bus.new ≡ (begins entry now bus.old).machine }
+pub(crate) fn begin(machine: &mut PanelMachine, entry: Entry, now: u64) -> Status
+    ensures status { result ≡ (at_moment now (begins entry now) machine.old).status }
+    ensures machine { machine.new ≡ (at_moment now (begins entry now) machine.old).machine }
 {
-    done_status(bus.begin(entry, now))
+    if !machine.clock.accepts(now) {
+        return Status::MomentTooFar;
+    }
+    match machine.bus.begin(entry, now) {
+        Ok(()) => {
+            machine.clock.see(now);
+            Status::Done
+        }
+        Err(fault) => Status::Panel(fault),
+    }
+}
+
+/// Bytes have come from the line.
+pub(crate) fn hear(machine: &mut PanelMachine, bytes: &[u8], now: u64) -> Status
+    ensures status { result ≡ (at_moment now (hears bytes.now now) machine.old).status }
+    ensures machine { machine.new ≡ (at_moment now (hears bytes.now now) machine.old).machine }
+{
+    if !machine.clock.accepts(now) {
+        return Status::MomentTooFar;
+    }
+    machine.clock.see(now);
+    machine.bus.on_bytes(bytes, now);
+    Status::Done
+}
+
+/// The line was seen silent.
+pub(crate) fn fall_silent(machine: &mut PanelMachine, now: u64) -> Status
+    ensures status { result ≡ (at_moment now (falls_silent now) machine.old).status }
+    ensures machine { machine.new ≡ (at_moment now (falls_silent now) machine.old).machine }
+{
+    if !machine.clock.accepts(now) {
+        return Status::MomentTooFar;
+    }
+    machine.clock.see(now);
+    machine.bus.on_silence(now);
+    Status::Done
+}
+
+/// What is due at a moment, and writes the burst to send.
+pub(crate) fn tick(machine: &mut PanelMachine, now: u64, burst: &mut BurstStruct) -> Status
+    ensures status { result ≡ (at_moment now (ticks now) machine.old).status }
+    ensures machine { machine.new ≡ (at_moment now (ticks now) machine.old).machine }
+    ensures written { IsSentIf (accepts now machine.old.clock) (bus_ticks now machine.old.bus).sent burst.old burst.new }
+{
+    if !machine.clock.accepts(now) {
+        return Status::MomentTooFar;
+    }
+    machine.clock.see(now);
+    burst.set_sent(machine.bus.tick(now));
+    Status::Done
+}
+
+/// A moment is seen, however far it lies after the greatest one.
+pub(crate) fn set_moment(machine: &mut PanelMachine, now: u64)
+    ensures { machine.new ≡ (sets_moment now machine.old).machine }
+{
+    machine.clock.see(now);
+    machine.bus.on_bytes(&[], now);
 }
 
 /// Puts a command after those that wait for a device.

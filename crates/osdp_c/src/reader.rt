@@ -6,7 +6,7 @@ ghost use Rattle.osdp_msg.specs.ReplyTable.{reply_of};
 ghost use Rattle.osdp_c_values.specs.declared.status.Status.{Status as Answered};
 ghost use Rattle.osdp_c.specs.Calls.{IsDone, calls, frees, writes};
 ghost use Rattle.osdp_c.specs.CommandTexts.{IsReadEvent};
-ghost use Rattle.osdp_c.specs.Readers.{IsEventRead, NewReaderEnds, does, falls_silent, sets_busy, sets_inputs, sets_local, sets_outputs, sets_readers, steps, submits_read, submits_text, ticks, writes_silence, writes_step, writes_address, writes_taken, writes_tick, writes_waiting};
+ghost use Rattle.osdp_c.specs.Readers.{IsEventRead, NewReaderEnds, at_moment, does, falls_silent, sets_busy, sets_inputs, sets_local, sets_moment, sets_outputs, sets_readers, steps, submits_read, submits_text, ticks, writes_at, writes_silence, writes_step, writes_address, writes_taken, writes_tick, writes_waiting};
 
 use crate::held::on_held;
 use crate::read::read_event;
@@ -18,7 +18,7 @@ use std::alloc::Global;
 
 /// A reader to which nothing has come.
 #[unsafe(no_mangle)]
-pub extern "C" fn osdp_device_new(
+pub extern "C" fn osdp_device_new_nonnull(
     alloc: Global,
     reader: &mut ReaderHandle,
     settings: &ReaderSettings,
@@ -51,7 +51,7 @@ pub extern "C" fn osdp_device_free(alloc: Global, reader: &mut ReaderHandle) -> 
 
 /// Sets the state of each input.
 #[unsafe(no_mangle)]
-pub extern "C" fn osdp_device_set_inputs(
+pub extern "C" fn osdp_device_set_inputs_nonnull(
     alloc: Global,
     reader: &mut ReaderHandle,
     states: &[u8],
@@ -67,7 +67,7 @@ pub extern "C" fn osdp_device_set_inputs(
 
 /// Sets the state of each output.
 #[unsafe(no_mangle)]
-pub extern "C" fn osdp_device_set_outputs(
+pub extern "C" fn osdp_device_set_outputs_nonnull(
     alloc: Global,
     reader: &mut ReaderHandle,
     states: &[u8],
@@ -83,7 +83,7 @@ pub extern "C" fn osdp_device_set_outputs(
 
 /// Sets the state of each reader.
 #[unsafe(no_mangle)]
-pub extern "C" fn osdp_device_set_readers(
+pub extern "C" fn osdp_device_set_readers_nonnull(
     alloc: Global,
     reader: &mut ReaderHandle,
     states: &[u8],
@@ -126,7 +126,7 @@ pub extern "C" fn osdp_device_set_busy(alloc: Global, reader: &mut ReaderHandle,
 
 /// Puts an event after those that wait, by the code and data of the reply that tells it.
 #[unsafe(no_mangle)]
-pub extern "C" fn osdp_device_event(
+pub extern "C" fn osdp_device_event_nonnull(
     alloc: Global,
     reader: &mut ReaderHandle,
     code: u8,
@@ -145,7 +145,7 @@ pub extern "C" fn osdp_device_event(
 
 /// Puts an event after those that wait, by its text.
 #[unsafe(no_mangle)]
-pub extern "C" fn osdp_device_event_text(
+pub extern "C" fn osdp_device_event_text_nonnull(
     alloc: Global,
     reader: &mut ReaderHandle,
     text: &[u8],
@@ -195,7 +195,7 @@ pub extern "C" fn osdp_device_address(
 
 /// Bytes have come up to a moment: writes how many were taken, and what the reader says.
 #[unsafe(no_mangle)]
-pub extern "C" fn osdp_device_step(
+pub extern "C" fn osdp_device_step_nonnull(
     alloc: Global,
     reader: &mut ReaderHandle,
     bytes: &[u8],
@@ -203,14 +203,15 @@ pub extern "C" fn osdp_device_step(
     taken: &mut usize,
     answer: &mut AnswerStruct,
 ) -> u32
-    ensures reader { IsDone (calls (steps bytes.now now) reader.old.slot.machine) result reader.new.slot.machine }
-    ensures taken { taken.new ≡ writes (writes_taken bytes.now now) reader.old.slot.machine taken.old }
-    ensures written { answer.new ≡ writes (writes_step bytes.now now) reader.old.slot.machine answer.old }
+    ensures reader { IsDone (calls (at_moment now (steps bytes.now now)) reader.old.slot.machine) result reader.new.slot.machine }
+    ensures taken { taken.new ≡ writes (writes_at now (writes_taken bytes.now now)) reader.old.slot.machine taken.old }
+    ensures written { answer.new ≡ writes (writes_at now (writes_step bytes.now now)) reader.old.slot.machine answer.old }
 {
-    on_held!(reader, alloc, |machine| {
-        reader_calls::step(&mut machine, bytes, now, taken, answer);
-        Status::Done
-    })
+    on_held!(
+        reader,
+        alloc,
+        |machine| reader_calls::step(&mut machine, bytes, now, taken, answer)
+    )
 }
 
 /// No bytes have come up to a moment: writes what the reader says.
@@ -221,13 +222,14 @@ pub extern "C" fn osdp_device_tick(
     now: u64,
     answer: &mut AnswerStruct,
 ) -> u32
-    ensures reader { IsDone (calls (ticks now) reader.old.slot.machine) result reader.new.slot.machine }
-    ensures written { answer.new ≡ writes (writes_tick now) reader.old.slot.machine answer.old }
+    ensures reader { IsDone (calls (at_moment now (ticks now)) reader.old.slot.machine) result reader.new.slot.machine }
+    ensures written { answer.new ≡ writes (writes_at now (writes_tick now)) reader.old.slot.machine answer.old }
 {
-    on_held!(reader, alloc, |machine| {
-        reader_calls::tick(&mut machine, now, answer);
-        Status::Done
-    })
+    on_held!(
+        reader,
+        alloc,
+        |machine| reader_calls::tick(&mut machine, now, answer)
+    )
 }
 
 /// The line was seen silent: writes what the reader says.
@@ -238,11 +240,23 @@ pub extern "C" fn osdp_device_silence(
     now: u64,
     answer: &mut AnswerStruct,
 ) -> u32
-    ensures reader { IsDone (calls (falls_silent now) reader.old.slot.machine) result reader.new.slot.machine }
-    ensures written { answer.new ≡ writes (writes_silence now) reader.old.slot.machine answer.old }
+    ensures reader { IsDone (calls (at_moment now (falls_silent now)) reader.old.slot.machine) result reader.new.slot.machine }
+    ensures written { answer.new ≡ writes (writes_at now (writes_silence now)) reader.old.slot.machine answer.old }
+{
+    on_held!(
+        reader,
+        alloc,
+        |machine| reader_calls::silence(&mut machine, now, answer)
+    )
+}
+
+/// Sees a moment, however far it lies after the greatest one.
+#[unsafe(no_mangle)]
+pub extern "C" fn osdp_device_set_moment(alloc: Global, reader: &mut ReaderHandle, now: u64) -> u32
+    ensures { IsDone (calls (sets_moment now) reader.old.slot.machine) result reader.new.slot.machine }
 {
     on_held!(reader, alloc, |machine| {
-        reader_calls::silence(&mut machine, now, answer);
+        reader_calls::set_moment(&mut machine, now);
         Status::Done
     })
 }

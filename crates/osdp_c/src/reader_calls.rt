@@ -3,10 +3,10 @@
 ghost use Rattle.std.specs.Prelude.{◌≡◌, ◌↔◌, IsTrue};
 ghost use Rattle.std.specs.Result.{result_map_both};
 ghost use Rattle.osdp_msg.specs.ReplyTable.{reply_of};
-ghost use Rattle.osdp_c.specs.Readers.{AreSettings, IsEventRead, MadeAs, MadeWith, answers, answers_if, caps_of, falls_silent, list_answer, looks, maker_answer, reads_next, sets_local, sets_states, states_of, steps, submits, submits_read, submits_text, ticks, writes_next, writes_pending, writes_silence, writes_step, writes_taken, writes_tick};
+ghost use Rattle.osdp_c.specs.Readers.{AreSettings, IsEventRead, MadeAs, MadeWith, answers, answers_if, at_moment, caps_of, falls_silent, list_answer, looks, maker_answer, reads_next, sets_local, sets_moment, sets_states, states_of, steps, submits, submits_read, submits_text, ticks, writes_at, writes_next, writes_pending, writes_silence, writes_step, writes_taken, writes_tick};
 
 use arrayvec::ArrayVec;
-use osdp_c_handle::ReaderMachine;
+use osdp_c_handle::{Clock, ReaderMachine};
 use osdp_c_values::{AnswerStruct, MessageStruct, ReaderSettings, Status};
 use osdp_device::{Device, ProgramAnswers, Turn};
 use osdp_frame::Address;
@@ -58,7 +58,10 @@ fn new_machine(
     let capacity = settings.capacity as usize;
     let reader = Reader::new(alloc, config, ProgramAnswers::new(), capacity)?;
     match Device::new(reader, settings.gap) {
-        Some(device) => Ok(ReaderMachine { device }),
+        Some(device) => Ok(ReaderMachine {
+            device,
+            clock: Clock::new(settings.clock_limit()),
+        }),
         None => Err(ReaderFault::OutOfRange),
     }
 }
@@ -194,31 +197,57 @@ pub(crate) fn step(
     now: u64,
     taken: &mut usize,
     answer: &mut AnswerStruct,
-)
-    ensures machine { machine.new ≡ (steps bytes.now now machine.old).machine }
-    ensures taken { taken.new ≡ writes_taken bytes.now now machine.old taken.old }
-    ensures written { answer.new ≡ writes_step bytes.now now machine.old answer.old }
+) -> Status
+    ensures status { result ≡ (at_moment now (steps bytes.now now) machine.old).status }
+    ensures machine { machine.new ≡ (at_moment now (steps bytes.now now) machine.old).machine }
+    ensures taken { taken.new ≡ writes_at now (writes_taken bytes.now now) machine.old taken.old }
+    ensures written { answer.new ≡ writes_at now (writes_step bytes.now now) machine.old answer.old }
 {
+    if !machine.clock.accepts(now) {
+        return Status::MomentTooFar;
+    }
+    machine.clock.see(now);
     *taken = machine.device.take(bytes, now);
     answer_next(machine, answer);
+    Status::Done
 }
 
 /// No bytes have come up to a moment: writes what is said.
-pub(crate) fn tick(machine: &mut ReaderMachine, now: u64, answer: &mut AnswerStruct)
-    ensures machine { machine.new ≡ (ticks now machine.old).machine }
-    ensures written { answer.new ≡ writes_tick now machine.old answer.old }
+pub(crate) fn tick(machine: &mut ReaderMachine, now: u64, answer: &mut AnswerStruct) -> Status
+    ensures status { result ≡ (at_moment now (ticks now) machine.old).status }
+    ensures machine { machine.new ≡ (at_moment now (ticks now) machine.old).machine }
+    ensures written { answer.new ≡ writes_at now (writes_tick now) machine.old answer.old }
 {
+    if !machine.clock.accepts(now) {
+        return Status::MomentTooFar;
+    }
+    machine.clock.see(now);
     machine.device.tick(now);
     answer_next(machine, answer);
+    Status::Done
 }
 
 /// The line was seen silent: writes what is said.
-pub(crate) fn silence(machine: &mut ReaderMachine, now: u64, answer: &mut AnswerStruct)
-    ensures machine { machine.new ≡ (falls_silent now machine.old).machine }
-    ensures written { answer.new ≡ writes_silence now machine.old answer.old }
+pub(crate) fn silence(machine: &mut ReaderMachine, now: u64, answer: &mut AnswerStruct) -> Status
+    ensures status { result ≡ (at_moment now (falls_silent now) machine.old).status }
+    ensures machine { machine.new ≡ (at_moment now (falls_silent now) machine.old).machine }
+    ensures written { answer.new ≡ writes_at now (writes_silence now) machine.old answer.old }
 {
+    if !machine.clock.accepts(now) {
+        return Status::MomentTooFar;
+    }
+    machine.clock.see(now);
     machine.device.silence(now);
     answer_next(machine, answer);
+    Status::Done
+}
+
+/// A moment is seen, however far it lies after the greatest one.
+pub(crate) fn set_moment(machine: &mut ReaderMachine, now: u64)
+    ensures { machine.new ≡ (sets_moment now machine.old).machine }
+{
+    machine.clock.see(now);
+    machine.device.take(&[], now);
 }
 
 /// Passes over what isn't answered, and writes the command that is pending.

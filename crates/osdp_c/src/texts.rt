@@ -7,7 +7,7 @@ use osdp_c_values::{write_command_text, write_reply_text};
 
 /// Writes the text of the command that a code and data stand for, and its length.
 #[unsafe(no_mangle)]
-pub extern "C" fn osdp_command_text(
+pub extern "C" fn osdp_command_text_nonnull(
     code: u8,
     body: &[u8],
     text: &mut [u8],
@@ -20,7 +20,12 @@ pub extern "C" fn osdp_command_text(
 
 /// Writes the text of the reply that a code and data stand for, and its length.
 #[unsafe(no_mangle)]
-pub extern "C" fn osdp_reply_text(code: u8, body: &[u8], text: &mut [u8], count: &mut usize) -> u32
+pub extern "C" fn osdp_reply_text_nonnull(
+    code: u8,
+    body: &[u8],
+    text: &mut [u8],
+    count: &mut usize,
+) -> u32
     ensures { ReplyTextAnswered code body.now result text.old text.new count.old count.new }
 {
     write_reply_text(code, body, text, count).number()

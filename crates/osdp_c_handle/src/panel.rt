@@ -2,12 +2,12 @@
 
 ghost use Rattle.std.specs.Prelude.{◌≡◌, ◌==◌, not, Option, None, Some, IsSome, is_some, option_map};
 ghost use Rattle.std.specs.Coded.{coded_option};
-ghost use Rattle.osdp_bus.specs.Buses.{BusState};
-ghost use Rattle.osdp_bus.specs.contracts.bus.Bus.{the_row};
+ghost use Rattle.osdp_c_handle.specs.declared.machine.PanelMachine.{PanelMachine as Held};
+ghost use Rattle.osdp_c_handle.specs.contracts.machine.PanelMachine.{the_row};
 ghost use Rattle.osdp_c_handle.specs.Owning.{slot_owns};
 
 use crate::loose::Loose;
-use osdp_bus::Bus;
+use crate::machine::PanelMachine;
 use std::alloc::Global;
 use std::marker::Model;
 use std::mem::replace;
@@ -18,7 +18,7 @@ use std::ptr::null_mut;
 #[derive(Drop)]
 pub struct PanelSlot {
     at: *mut u8,
-    pub ghost machine: { Option BusState } by { coded_option the_row.coded },
+    pub ghost machine: { Option Held } by { coded_option the_row.coded },
 }
 
 impl Model for PanelSlot {
@@ -34,7 +34,7 @@ impl PanelSlot {
     }
 
     /// A panel.
-    fn of(machine: Loose<Bus, Global>) -> PanelSlot
+    fn of(machine: Loose<PanelMachine, Global>) -> PanelSlot
         ensures { result.machine ≡ Some machine.value }
     {
         let Loose { at, alloc: _ } = machine;
@@ -42,13 +42,13 @@ impl PanelSlot {
     }
 
     /// The panel that is there.
-    fn into_loose(self, alloc: Global) -> Loose<Bus, Global>
+    fn into_loose(self, alloc: Global) -> Loose<PanelMachine, Global>
         requires { IsSome self.machine }
         ensures { self.machine ≡ Some result.value }
     {
         let PanelSlot { at } = self;
         Loose {
-            at: at as *mut Bus,
+            at: at as *mut PanelMachine,
             alloc,
         }
     }
@@ -74,7 +74,7 @@ impl PanelHandle {
     }
 
     /// Takes the panel out, where there is one. The handle is none then.
-    pub fn take(&mut self, alloc: Global) -> Option<Box<Bus>>
+    pub fn take(&mut self, alloc: Global) -> Option<Box<PanelMachine>>
         ensures machine { option_map (λ b. b.value) result ≡ self.old.slot.machine }
         ensures none { self.new.slot.machine ≡ None }
     {
@@ -90,7 +90,7 @@ impl PanelHandle {
     }
 
     /// Puts a panel in.
-    pub fn put(&mut self, machine: Box<Bus>)
+    pub fn put(&mut self, machine: Box<PanelMachine>)
         requires { self.old.slot.machine ≡ None }
         ensures { self.new.slot.machine ≡ Some machine.value }
     {

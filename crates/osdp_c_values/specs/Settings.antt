@@ -36,3 +36,11 @@ id_of s = record {
   firmware_minor = s.firmware_minor;
   firmware_build = s.firmware_build;
 }
+
+-- a day, in milliseconds
+abbrev pub day : ℕ
+day = 86400000
+
+-- how far a moment may lie after the greatest one seen, by a setting
+abbrev pub limit_of : ℕ → ℕ
+limit_of setting = if setting == 0 then day else setting

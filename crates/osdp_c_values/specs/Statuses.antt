@@ -7,7 +7,7 @@ use Rattle.osdp_msg.specs.declared.fault.MsgFault.TheVariants as message
 use Rattle.osdp_reader.specs.declared.fault.ReaderFault.{ReaderFault}
 use Rattle.osdp_reader.specs.declared.fault.ReaderFault.TheVariants as reader
 use Rattle.osdp_c_values.specs.declared.status.Status.{Status}
-use Rattle.osdp_c_values.specs.declared.status.Status.TheVariants.{Done, NoMachine, InUse, BadText, NoEvent, TooSmall, NotAsked, OtherMessage, Message, Panel, Reader, EventsFull}
+use Rattle.osdp_c_values.specs.declared.status.Status.TheVariants.{Done, NoMachine, InUse, BadText, NoEvent, TooSmall, NotAsked, OtherMessage, MomentTooFar, Message, Panel, Reader, EventsFull}
 
 -- M1 to M3
 abbrev pub message_status : MsgFault → ℕ
@@ -40,6 +40,7 @@ number NoEvent = 4
 number TooSmall = 5
 number NotAsked = 7
 number OtherMessage = 8
+number MomentTooFar = 9
 number (Message fault) = message_status fault
 number (Panel fault) = bus_status fault
 number (Reader fault) = reader_status fault

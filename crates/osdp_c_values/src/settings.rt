@@ -3,7 +3,7 @@
 ghost use Rattle.std.specs.Prelude.{◌≡◌, Some};
 ghost use Rattle.osdp_bus.specs.Settings.{default_config};
 ghost use Rattle.osdp_frame.specs.declared.check_kind.CheckKind.TheVariants.{Crc};
-ghost use Rattle.osdp_c_values.specs.Settings.{bus_config_of, check_of, id_of};
+ghost use Rattle.osdp_c_values.specs.Settings.{bus_config_of, check_of, day, id_of, limit_of};
 
 use osdp_bus::BusConfig;
 use osdp_frame::CheckKind;
@@ -31,6 +31,18 @@ pub struct PanelSettings {
     pub gap: u32,
     /// How many commands may wait for each device, 1 to 1024.
     pub capacity: u32,
+    /// How far a moment may lie after the greatest one seen; 0 stands for a day.
+    pub clock_limit: u32,
+}
+
+/// A day, in milliseconds.
+const DAY: u32 = 86_400_000;
+
+/// How far a moment may lie after the greatest one seen, by a setting.
+fn limit_of(setting: u32) -> u32
+    ensures { result ≡ limit_of setting }
+{
+    if setting == 0 { DAY } else { setting }
 }
 
 /// Which check a number stands for.
@@ -47,7 +59,8 @@ fn check_of(number: u32) -> CheckKind
 impl PanelSettings {
     /// Writes the default settings of a bus: a CRC, and room for 64 commands.
     pub fn set_defaults(&mut self)
-        ensures { bus_config_of self.new ≡ Some (default_config Crc 64) }
+        ensures bus { bus_config_of self.new ≡ Some (default_config Crc 64) }
+        ensures clock { self.new.clock_limit ≡ day }
     {
         self.check = 1;
         self.reply_wait = 200;
@@ -58,6 +71,14 @@ impl PanelSettings {
         self.quiet_wait = 400;
         self.gap = 20;
         self.capacity = 64;
+        self.clock_limit = DAY;
+    }
+
+    /// How far a moment may lie after the greatest one seen.
+    pub fn clock_limit(&self) -> u32
+        ensures { result ≡ limit_of self.now.clock_limit }
+    {
+        limit_of(self.clock_limit)
     }
 
     /// The settings of a bus that they stand for. None where the check, the sends or the BUSYs have no such number.
@@ -93,6 +114,8 @@ pub struct ReaderSettings {
     pub gap: u32,
     /// The serial number.
     pub serial: u32,
+    /// How far a moment may lie after the greatest one seen, in milliseconds; 0 stands for a day.
+    pub clock_limit: u32,
     /// The maker's code.
     pub vendor: [u8; 3],
     /// The maker's number of the model.
@@ -108,6 +131,13 @@ pub struct ReaderSettings {
 }
 
 impl ReaderSettings {
+    /// How far a moment may lie after the greatest one seen.
+    pub fn clock_limit(&self) -> u32
+        ensures { result ≡ limit_of self.now.clock_limit }
+    {
+        limit_of(self.clock_limit)
+    }
+
     /// What the reader answers to ID.
     pub fn to_id(&self) -> PdId
         ensures { result ≡ id_of self.now }

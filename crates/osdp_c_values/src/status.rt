@@ -26,6 +26,8 @@ pub enum Status {
     NotAsked,
     /// The message is another than the call reads.
     OtherMessage,
+    /// The moment lies too far after the greatest one seen.
+    MomentTooFar,
     /// The code and data stand for no message.
     Message(MsgFault),
     /// A panel's refusal.
@@ -87,6 +89,7 @@ impl Status {
             Status::TooSmall => 5,
             Status::NotAsked => 7,
             Status::OtherMessage => 8,
+            Status::MomentTooFar => 9,
             Status::Message(fault) => message_number(fault),
             Status::Panel(fault) => bus_number(fault),
             Status::Reader(fault) => reader_number(fault),

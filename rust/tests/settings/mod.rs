@@ -7,6 +7,7 @@ pub const DEVICE: DeviceConfig<'static> = DeviceConfig {
     address: 5,
     capacity: 4,
     gap: Duration::from_millis(20),
+    clock_limit: Duration::from_millis(1000),
     vendor: [1, 2, 3],
     model: 1,
     version: 1,

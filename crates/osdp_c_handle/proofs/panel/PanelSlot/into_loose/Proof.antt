@@ -26,7 +26,7 @@ use Rattle.std.proofs.alloc.Global.TheLaws as heap_laws
 use Rattle.std.specs.declared.option.Option.TheVariants.{Some}
 use Rattle.std.specs.contracts.impls.GlobalAllocator.TheImpl.{ghosts}
 use Rattle.std_alloc.specs.Box.Ownership.{box_owns}
-use Rattle.osdp_bus.specs.contracts.bus.Bus as machine
+use Rattle.osdp_c_handle.specs.contracts.machine.PanelMachine as machine
 use Rattle.osdp_c_handle.proofs.Words.{two_words, words_fit, loose_closes, slot_opens}
 use Rattle.osdp_c_handle.specs.contracts.panel.PanelSlot as slot
 use Rattle.osdp_c_handle.specs.contracts.panel.PanelSlot.into_loose.{ended, clauses}

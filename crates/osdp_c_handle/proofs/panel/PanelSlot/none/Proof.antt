@@ -21,7 +21,7 @@ use Rattle.core.proofs.atomic.Steps.{Ptr-Good}
 use Rattle.std.proofs.raw_atomic.Walks.{proved_at, leaves}
 use Rattle.std.specs.declared.option.Option.{Option}
 use Rattle.std.specs.declared.option.Option.TheVariants.{None}
-use Rattle.osdp_bus.specs.contracts.bus.Bus as machine
+use Rattle.osdp_c_handle.specs.contracts.machine.PanelMachine as machine
 use Rattle.osdp_c_handle.specs.contracts.panel.PanelSlot as slot
 use Rattle.osdp_c_handle.specs.contracts.panel.PanelSlot.none.{ended, clauses}
 use Rattle.osdp_c_handle.specs.contracts.panel.PanelSlot.none.Key.{name as #self}

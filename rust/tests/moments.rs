@@ -1,0 +1,45 @@
+//! A moment that lies too far after the greatest one seen is refused, and changes nothing; one that is set outright is seen.
+mod settings;
+
+use osdp::{Device, Error, Moment, Panel, PanelConfig};
+use settings::DEVICE;
+use std::time::Duration;
+
+fn at(milliseconds: u64) -> Moment {
+    Moment::from_millis(milliseconds)
+}
+
+#[test]
+fn a_panel_refuses_what_lies_too_far_ahead() {
+    let mut panel = Panel::new(&PanelConfig {
+        clock_limit: Duration::from_secs(1),
+        ..PanelConfig::default()
+    })
+    .unwrap();
+    let door = panel.add(5).unwrap();
+    let begin = 1 << 40; // the first moment may be any
+    assert_eq!(panel.begin(door, at(begin)), Ok(()));
+    let late = at(begin + 1001);
+    assert_eq!(panel.tick(late).err(), Some(Error::MomentTooFar));
+    assert_eq!(panel.on_bytes(&[0xFF], late), Err(Error::MomentTooFar));
+    assert_eq!(panel.on_silence(at(u64::MAX)), Err(Error::MomentTooFar));
+    // the opening ID is due 400 ms after `begin`, as if no other moment had come
+    assert_eq!(panel.next_deadline(), Some(at(begin + 400)));
+    assert!(panel.tick(at(begin + 400)).unwrap().is_some());
+    panel.set_moment(at(begin + 5000));
+    assert!(panel.tick(at(begin + 6000)).is_ok());
+}
+
+#[test]
+fn a_device_too() {
+    let mut device = Device::new(&DEVICE).unwrap();
+    assert!(device.tick(at(1 << 40)).is_ok());
+    let late = at((1 << 40) + 1001);
+    assert_eq!(device.tick(late).err(), Some(Error::MomentTooFar));
+    assert_eq!(device.silence(late).err(), Some(Error::MomentTooFar));
+    let step = device.step(&[0x53], late);
+    assert_eq!(step.err(), Some(Error::MomentTooFar));
+    device.set_moment(late);
+    let (taken, answer) = device.step(&[0x53], late).unwrap();
+    assert!(taken == 1 && answer.is_none());
+}
