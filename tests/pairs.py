@@ -1,7 +1,7 @@
 #!/usr/bin/env python3
 """Each small panel with each small device, over a line of two terminals: `pairs.py PROGRAMS_IN_C PROGRAMS_IN_RUST CRATES`, three folders.
 
-The programs are those of examples/ and of crates/: a panel that opens a door for two cards, and a device with two outputs, in C, in Rust and, where its crates are there, in Rattle. Those in
+The programs are those of examples/ and of crates/: a panel that opens a door for two cards, and a device with two outputs, in C, in Rust and in Rattle. Those in
 C and Rust run on a terminal. Those in Rattle are called by lines, as a program on a port calls them. In each pair a card that is unknown opens nothing,
 and each of the two that are known opens the door once."""
 import os
@@ -112,8 +112,7 @@ def main():
             "Rust": lambda role=role: OnPort(rust / f"door_{role}"),
         }
         program = crates / f"osdp_example_{role}/out/osdp_example_{role}"
-        if program.parent.parent.exists():
-            ends[role]["Rattle"] = lambda program=program: ByLines(program)
+        ends[role]["Rattle"] = lambda program=program: ByLines(program)
     faults = 0
     for one, new_panel in ends["panel"].items():
         for other, new_device in ends["device"].items():

@@ -1,9 +1,9 @@
 #!/usr/bin/env bash
-# Each small panel of the guide with each small device (`pairs.py`). Before that, the decision of each program in C by its
+# Each small panel of the guide with each small device (`pairs.py`), nine pairs. Before that, the decision of each program in C by its
 # own unit test; those of the others are tested by `c.sh` and with their crates. Takes the path of the program, beside which the crates stand. The archive is the one
 # that `c.sh` has built.
 set -u
-crates=$(cd "$(dirname "$1")/../.." && pwd)
+crates=$(cd "$(dirname "$1")/../.." && pwd) || exit 1
 cd "$(dirname "$0")/.." || exit 1
 work=$(mktemp -d)
 trap 'rm -rf "$work"' EXIT
@@ -12,8 +12,7 @@ for name in door_panel door_device; do
   "${CC:-cc}" -std=c11 -Wall -Wextra -Werror -pedantic -DUNIT_TEST -Iinclude -Iexamples/c -o "$work/unit" "examples/c/$name.c" && "$work/unit" ||
     { echo "pairs.sh: the decision of $name.c is another"; failed=1; }
 done
-for name in examples/c/door_*.c rust/examples/door_*.rs "$crates"/osdp_example_*/src/main.rt; do
-  [ -e "$name" ] || continue
+for name in examples/c/door_*.c rust/examples/door_*.rs crates/osdp_example_{panel,device}/src/main.rt; do
   [ "$(wc -l <"$name")" -le 100 ] || { echo "pairs.sh: $name has more than 100 lines"; failed=1; }
 done
 export OSDP_C_LIB_DIR=$PWD/crates/osdp_c/out

@@ -45,11 +45,7 @@ fn begin_again(panel: &mut Panel, door: Entry, now: u64) {
 /// What the panel does with a report.
 pub fn decide(panel: &mut Panel, door: Entry, report: &Report, now: u64) {
     match report {
-        Report::Event(Event::Raw(card)) => {
-            if may_enter(card) {
-                open(panel, door);
-            }
-        }
+        Report::Event(Event::Raw(card)) if may_enter(card) => open(panel, door),
         Report::Lost(..) | Report::Moved(..) => begin_again(panel, door, now),
         Report::Opened(_)
         | Report::Settled(..)
