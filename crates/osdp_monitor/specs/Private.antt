@@ -9,6 +9,11 @@ abbrev pub kept_packet : Bool → Packet → Option Packet
 kept_packet true p = Some p
 kept_packet false p = None
 
+-- its number
+abbrev pub number_of : Option Packet → Option ℕ
+number_of None = None
+number_of (Some p) = Some p.sequence
+
 abbrev pub IsKept : Bool → Packet → Type 0
 IsKept true p = IsPacket p
 IsKept false p = Unit {0}

@@ -1,16 +1,17 @@
 //! What is known of one address.
 
-ghost use Rattle.std.specs.Prelude.{◌≡◌, []};
+ghost use Rattle.std.specs.Prelude.{◌≡◌, [], is_some};
 ghost use Rattle.osdp_monitor.specs.Known.{nothing_known};
 ghost use Rattle.osdp_monitor.specs.Line.{after_reply_if, expected_if, found_in_reply, found_in_sent, is_last, moves_to, reply_notice};
 ghost use Rattle.osdp_monitor.specs.Panel.{after_another, after_sent};
+ghost use Rattle.osdp_frame.specs.Packet.{Packet};
 ghost use Rattle.osdp_monitor.specs.Private.{IsSpelledIf};
 ghost use Rattle.osdp_monitor.specs.Reader.{after_answer, reader_accused, repeat_reply};
 ghost use Rattle.osdp_monitor.specs.Saying.{reply_told, said};
 
 use crate::accusation::Accusation;
-use crate::found::{Found, Notice};
-use crate::kept::{KeptPacket, same_packet};
+use crate::found::{Found, NOTHING, Notice};
+use crate::kept::KeptPacket;
 use crate::panel::{is_number, sent_after};
 use crate::reader::{answer_accused, busy_accused, refusal_accused};
 use crate::said::{Said, is_nak, moved_by, read_command, said_in};
@@ -68,15 +69,12 @@ impl Device {
     fn found_in_sent(&self, packet: &FrameView<'_>) -> Found
         ensures { result ≡ found_in_sent self.now packet.now }
     {
-        let Some(last) = self.last.view() else {
-            return Found {
-                accusation: None,
-                notice: None,
-            };
+        let Some(number) = self.last.number() else {
+            return NOTHING;
         };
         let is_missed = !self.replied && !self.missed;
         Found {
-            accusation: sent_after(&last, self.answered, packet),
+            accusation: sent_after(&self.last, number, self.answered, packet),
             notice: if is_missed {
                 Some(Notice::Unanswered)
             } else {
@@ -89,27 +87,24 @@ impl Device {
     pub fn is_last(&self, packet: &FrameView<'_>) -> bool
         ensures { result ≡ is_last self.now.last packet.now }
     {
-        match self.last.view() {
-            Some(last) => same_packet(&last, packet),
-            None => false,
-        }
+        self.last.is(packet)
     }
 
     /// A packet was sent to it.
     pub fn send(&mut self, packet: &FrameView<'_>)
         ensures { self.new ≡ after_sent self.old.last self.old packet.now }
     {
-        let Some(last) = self.last.view() else {
+        let Some(number) = self.last.number() else {
             self.forget();
             self.last.keep(packet);
             return;
         };
-        if same_packet(&last, packet) {
+        if self.last.is(packet) {
             self.missed = !self.replied;
             self.replied = false;
             return;
         }
-        let keeps = packet.seq().get() != 0 && (self.replied || is_number(self.taken, last.seq()));
+        let keeps = packet.seq().get() != 0 && (self.replied || is_number(self.taken, number));
         self.send_another(keeps, packet);
     }
 
@@ -127,15 +122,11 @@ impl Device {
         }
     }
 
-    /// The reply that a packet must have, where it is known to be a repeat.
-    fn repeat_reply(&self, packet: &FrameView<'_>) -> Option<FrameView<'_>>
-        ensures { result ≡ repeat_reply self.now packet.now }
+    /// Whether a packet with this number is known to be a repeat, and the reply that it must have is stored.
+    fn is_repeat(&self, number: Seq) -> bool
+        ensures { (p : Packet) → p.sequence ≡ number → result ≡ is_some (repeat_reply self.now p) }
     {
-        if packet.seq().get() != 0 && is_number(self.taken, packet.seq()) {
-            self.stored.view()
-        } else {
-            None
-        }
+        number.get() != 0 && is_number(self.taken, number) && self.stored.number().is_some()
     }
 
     /// What the reader is accused of for a reply to its last packet.
@@ -152,12 +143,12 @@ impl Device {
         if self.replied && !matches!(said, Said::Damage) {
             return Some(Accusation::SecondReply);
         }
-        let stored = self.repeat_reply(last);
+        let is_repeat = self.is_repeat(last.seq());
         match said {
-            Said::Busy => busy_accused(stored.is_some(), last, reply),
+            Said::Busy => busy_accused(is_repeat, last, reply),
             Said::Damage => None,
             Said::Refusal => refusal_accused(last, reply),
-            Said::Answer => answer_accused(&stored, self.taken, last, reply, read),
+            Said::Answer => answer_accused(is_repeat, &self.stored, self.taken, last, reply, read),
         }
     }
 
@@ -166,9 +157,11 @@ impl Device {
         requires { read.now ≡ reply_told reply.now }
         ensures { result ≡ moves_to self.now.last reply.now }
     {
-        let last = self.last.view()?;
         match read {
-            Ok(Reply::Com(_)) => moved_by(&read_command(&last), read, reply.address()),
+            Ok(Reply::Com(_)) => {
+                let last = self.last.view()?;
+                moved_by(&read_command(&last), read, reply.address())
+            }
             _ => None,
         }
     }
@@ -209,10 +202,7 @@ impl Device {
         ensures { result ≡ found_in_reply self.now.last self.now reply.now }
     {
         let Some(last) = self.last.view() else {
-            return Found {
-                accusation: None,
-                notice: None,
-            };
+            return NOTHING;
         };
         let moved = self.moves_to(reply, read);
         Found {
@@ -226,11 +216,10 @@ impl Device {
         requires { read.now ≡ reply_told reply.now }
         ensures { self.new ≡ after_reply_if self.old.last self.old reply.now }
     {
-        let Some(last) = self.last.view() else {
+        let Some(number) = self.last.number() else {
             return;
         };
-        let number = last.seq();
-        let is_repeat = self.repeat_reply(&last).is_some();
+        let is_repeat = self.is_repeat(number);
         match said_in(read) {
             Said::Busy => self.replied = true,
             Said::Damage => {}

@@ -1,14 +1,15 @@
 //! What is known of each address of a line.
 
-ghost use Rattle.std.specs.Prelude.{◌≡◌, ◌<◌, length, IfNone, IfOk, IfSome, OnErr, OnOk};
+ghost use Rattle.std.specs.Prelude.{◌≡◌, ◌<◌, [], length, IfNone, IfOk, IfSome, OnErr, OnOk};
 ghost use Rattle.osdp_monitor.specs.Known.{nothing_known};
-ghost use Rattle.osdp_monitor.specs.Line.{after_reply_if, devices_after_reply, devices_after_sent, known_at, no_knowledge};
+ghost use Rattle.osdp_monitor.specs.Line.{after_reply_if, devices_after_reply, devices_after_sent, expected_if, found_in_reply, known_at, no_knowledge};
 ghost use Rattle.osdp_monitor.specs.Panel.{after_sent};
-ghost use Rattle.osdp_monitor.specs.Private.{known_of};
+ghost use Rattle.osdp_monitor.specs.Private.{IsSpelledIf, known_of};
 ghost use Rattle.osdp_monitor.specs.Saying.{reply_told};
 
 use crate::device::Device;
-use osdp_frame::{Address, FrameView};
+use crate::found::{Found, NOTHING};
+use osdp_frame::{Address, Burst, FrameView};
 use osdp_msg::{MsgFault, Reply};
 use std::alloc::{AllocError, Global};
 
@@ -79,8 +80,29 @@ impl Devices {
         }
     }
 
-    /// A device has replied to its last packet, where that is known.
-    pub fn reply(&mut self, packet: &FrameView<'_>, read: &Result<Reply, MsgFault>)
+    /// A device has replied to its last packet, where that is known: what is found in the reply, and the bytes of the packet that had to come.
+    pub fn reply(
+        &mut self,
+        packet: &FrameView<'_>,
+        read: &Result<Reply, MsgFault>,
+        expected: &mut Burst,
+    ) -> Found
+        requires read { read.now ≡ reply_told packet.now }
+        requires none { expected.old.items ≡ [] }
+        ensures found { let k = devices_in self.old packet.now.address in result ≡ found_in_reply k.last k packet.now }
+        ensures expected { IsSpelledIf (expected_if (devices_in self.old packet.now.address) result.accusation) expected.new.items }
+        ensures after { devices_in self.new ≡ devices_after_reply packet.now (devices_in self.old) }
+    {
+        let found = match self.get(packet.address()) {
+            Some(device) => device.judge_reply(packet, read, expected),
+            None => NOTHING,
+        };
+        self.take_reply(packet, read);
+        found
+    }
+
+    /// What is known after it.
+    fn take_reply(&mut self, packet: &FrameView<'_>, read: &Result<Reply, MsgFault>)
         requires { read.now ≡ reply_told packet.now }
         ensures { devices_in self.new ≡ devices_after_reply packet.now (devices_in self.old) }
     {

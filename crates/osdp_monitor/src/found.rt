@@ -23,3 +23,9 @@ pub struct Found {
     /// What else is worth a look.
     pub notice: Option<Notice>,
 }
+
+/// Nothing is found.
+pub(crate) const NOTHING: Found = Found {
+    accusation: None,
+    notice: None,
+};

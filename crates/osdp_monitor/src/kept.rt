@@ -1,8 +1,9 @@
 //! A packet that is kept in a place of its own.
 
-ghost use Rattle.std.specs.Prelude.{◌≡◌, None, Some, is_some};
-ghost use Rattle.osdp_monitor.specs.Known.{same_check, same_packet};
-ghost use Rattle.osdp_frame.specs.Packed.{packed};
+ghost use Rattle.std.specs.Prelude.{◌≡◌, None, Some};
+ghost use Rattle.osdp_monitor.specs.Known.{same_check};
+ghost use Rattle.osdp_monitor.specs.Line.{is_last};
+ghost use Rattle.osdp_monitor.specs.Private.{number_of};
 
 use arrayvec::ArrayVec;
 use osdp_frame::{Address, CheckKind, FrameView, MAX_BODY, Seq};
@@ -62,8 +63,13 @@ impl KeptPacket {
         self.check = packet.check();
         self.block = packet.has_block();
         self.reserved = packet.reserved();
-        self.body.clear();
-        let _ = self.body.try_extend_from_slice(packet.body());
+        let body = packet.body();
+        if self.body.len() == body.len() {
+            self.body.as_mut_slice().copy_from_slice(body);
+        } else {
+            self.body.clear();
+            let _ = self.body.try_extend_from_slice(body);
+        }
     }
 
     /// Keeps none any more.
@@ -71,6 +77,27 @@ impl KeptPacket {
         ensures { self.new ≡ None }
     {
         self.is_kept = false;
+    }
+
+    /// Its number.
+    pub fn number(&self) -> Option<Seq>
+        ensures { result ≡ number_of self.now }
+    {
+        if self.is_kept { Some(self.seq) } else { None }
+    }
+
+    /// Whether a packet is kept, and it has the bytes of this one. They are compared where they lie.
+    pub fn is(&self, packet: &FrameView<'_>) -> bool
+        ensures { result ≡ is_last self.now packet.now }
+    {
+        self.is_kept
+            && self.reply == packet.is_reply()
+            && self.address.get() == packet.address().get()
+            && self.seq.get() == packet.seq().get()
+            && same_check(self.check, packet.check())
+            && self.block == packet.has_block()
+            && self.reserved == packet.reserved()
+            && self.body.as_slice() == packet.body()
     }
 
     /// The packet, lent.
@@ -98,17 +125,4 @@ pub(crate) fn same_check(check: CheckKind, other: CheckKind) -> bool
     ensures { result ≡ same_check check other }
 {
     check.size() == other.size()
-}
-
-/// Whether two packets have the same bytes.
-pub(crate) fn same_packet(packet: &FrameView<'_>, other: &FrameView<'_>) -> bool
-    ensures { result ≡ same_packet packet.now other.now }
-{
-    packet.is_reply() == other.is_reply()
-        && packet.address().get() == other.address().get()
-        && packet.seq().get() == other.seq().get()
-        && same_check(packet.check(), other.check())
-        && packet.has_block() == other.has_block()
-        && packet.reserved() == other.reserved()
-        && packet.body() == other.body()
 }

@@ -1,21 +1,16 @@
 //! The listener.
 
-ghost use Rattle.std.specs.Prelude.{◌≡◌, ◌<◌, true, false, [], IfOk, OnErr, OnOk};
+ghost use Rattle.std.specs.Prelude.{◌≡◌, ◌<◌, Ok, true, false, [], IfOk, OnErr, OnOk};
 ghost use Rattle.osdp_monitor.specs.Line.{after_packet, after_skipped, copies_last, expected_in, found_in, no_knowledge};
 ghost use Rattle.osdp_monitor.specs.Private.{IsSpelledIf};
 ghost use Rattle.osdp_monitor.specs.Saying.{is_foreign};
 
 use crate::devices::Devices;
-use crate::found::Found;
-use crate::said::{is_unknown, read_command, read_reply};
+use crate::found::{Found, NOTHING};
+use crate::said::{asks_unknown, is_ack, is_unknown, read_reply};
 use osdp_frame::{Burst, FrameView};
+use osdp_msg::{MsgFault, Reply};
 use std::alloc::{AllocError, Global};
-
-/// Nothing is found.
-const NOTHING: Found = Found {
-    accusation: None,
-    notice: None,
-};
 
 /// So many bytes the smallest packet has.
 const SMALLEST: u8 = 7;
@@ -27,7 +22,9 @@ const SMALLEST: u8 = 7;
 pub struct Monitor {
     devices: Devices,
     skipped: u8,
+    ack: Result<Reply, MsgFault>,
     ghost few: { skipped < 7 },
+    ghost lent: { ack ≡ Ok Reply.Ack },
 }
 
 impl Monitor {
@@ -40,6 +37,7 @@ impl Monitor {
         Ok(Monitor {
             devices: Devices::new(alloc)?,
             skipped: 0,
+            ack: Ok(Reply::Ack),
         })
     }
 
@@ -57,7 +55,9 @@ impl Monitor {
         ensures after { OnOk result (knowledge_of self.new ≡ after_packet (knowledge_of self.old) packet.now) }
         ensures kept { OnErr result (knowledge_of self.new ≡ knowledge_of self.old) }
     {
-        expected.clear();
+        if !expected.is_empty() {
+            expected.clear();
+        }
         if !packet.address().is_device() {
             self.forget();
             return Ok(NOTHING);
@@ -92,8 +92,28 @@ impl Monitor {
         self.skipped = 0;
     }
 
-    /// Takes a reply of a device.
+    /// Takes a reply of a device. Most are an ACK, of which nothing is read.
     fn hear_reply(&mut self, packet: &FrameView<'_>, expected: &mut Burst) -> Found
+        requires device { packet.now.address < 127 }
+        requires reply { packet.now.reply ≡ true }
+        requires open { packet.now.block ≡ false }
+        requires none { expected.old.items ≡ [] }
+        ensures found { result ≡ found_in (knowledge_of self.old) packet.now }
+        ensures expected { IsSpelledIf (expected_in (knowledge_of self.old) packet.now) expected.new.items }
+        ensures after { knowledge_of self.new ≡ after_packet (knowledge_of self.old) packet.now }
+    {
+        if is_ack(packet) {
+            let found = self.devices.reply(packet, &self.ack, expected);
+            self.skipped = 0;
+            return found;
+        }
+        self.hear_other(packet, expected)
+    }
+
+    /// Takes a reply that is read.
+    // It stands by itself, since what is read has as many bytes as the largest reply.
+    #[inline(never)]
+    fn hear_other(&mut self, packet: &FrameView<'_>, expected: &mut Burst) -> Found
         requires device { packet.now.address < 127 }
         requires reply { packet.now.reply ≡ true }
         requires open { packet.now.block ≡ false }
@@ -107,11 +127,7 @@ impl Monitor {
             self.pass(packet);
             return NOTHING;
         }
-        let found = match self.devices.get(packet.address()) {
-            Some(device) => device.judge_reply(packet, &read, expected),
-            None => NOTHING,
-        };
-        self.devices.reply(packet, &read);
+        let found = self.devices.reply(packet, &read, expected);
         self.skipped = 0;
         found
     }
@@ -131,7 +147,7 @@ impl Monitor {
         ensures after { OnOk result (knowledge_of self.new ≡ after_packet (knowledge_of self.old) packet.now) }
         ensures kept { OnErr result (knowledge_of self.new ≡ knowledge_of self.old) }
     {
-        if is_unknown(&read_command(packet)) {
+        if asks_unknown(packet) {
             self.pass(packet);
             return Ok(NOTHING);
         }

@@ -2,12 +2,12 @@
 
 ghost use Rattle.std.specs.Prelude.{◌≡◌, is_some};
 ghost use Rattle.osdp_monitor.specs.Known.{Known};
-ghost use Rattle.osdp_monitor.specs.Reader.{answer_accused, busy_accused, fit_accused, is_event_at_zero, is_plain, reading_accused, refusal_accused, repeat_reply, taken_accused, turn_accused};
-ghost use Rattle.osdp_monitor.specs.Saying.{reply_told};
+ghost use Rattle.osdp_monitor.specs.Reader.{answer_accused, busy_accused, fit_accused, is_event_at_zero, is_plain, refusal_accused, repeat_reply, taken_accused, turn_accused};
+ghost use Rattle.osdp_monitor.specs.Saying.{asked, reply_told};
 
 use crate::accusation::Accusation;
-use crate::kept::{same_check, same_packet};
-use crate::said::read_command;
+use crate::kept::{KeptPacket, same_check};
+use crate::said::{is_poll, read_command};
 use osdp_frame::{FrameView, Seq};
 use osdp_msg::{Command, MsgFault, Reply, fits};
 
@@ -77,6 +77,17 @@ fn fit_accused(command: &Result<Command, MsgFault>, reply: &Reply, number: u8) -
     }
 }
 
+/// A reply that can be read fits the command of the packet, where that can be read. Most are an ACK to a POLL, which fits: nothing is read of the
+/// packet then.
+fn packet_accused(packet: &FrameView<'_>, reply: &Reply) -> Option<Accusation>
+    ensures { result ≡ fit_accused (asked packet.now) reply.now packet.now.sequence }
+{
+    if matches!(reply, Reply::Ack) && is_poll(packet) {
+        return None;
+    }
+    fit_accused(&read_command(packet), reply, packet.seq().get())
+}
+
 /// The packet was taken now, as a new one.
 fn taken_accused(
     packet: &FrameView<'_>,
@@ -90,7 +101,7 @@ fn taken_accused(
         return Some(Accusation::AnotherCheck);
     }
     match read {
-        Ok(reply) => fit_accused(&read_command(packet), reply, packet.seq().get()),
+        Ok(reply) => packet_accused(packet, reply),
         Err(_) => Some(Accusation::UnreadReply),
     }
 }
@@ -124,17 +135,19 @@ fn turn_accused(
 
 /// A known repeat has the stored reply byte for byte, and nothing else is asked of it.
 pub(crate) fn answer_accused(
-    stored: &Option<FrameView<'_>>,
+    is_repeat: bool,
+    stored: &KeptPacket,
     taken: Option<Seq>,
     packet: &FrameView<'_>,
     reply: &FrameView<'_>,
     read: &Result<Reply, MsgFault>,
 ) -> Option<Accusation>
     requires { read.now ≡ reply_told reply.now }
-    ensures { (k : Known) → k.taken ≡ taken → result ≡ answer_accused stored.now k packet.now reply.now }
+    ensures { (k : Known) → k.taken ≡ taken → k.stored ≡ stored.now → is_repeat ≡ is_some (repeat_reply k packet.now)
+        → result ≡ answer_accused (repeat_reply k packet.now) k packet.now reply.now }
 {
-    if let Some(stored) = stored {
-        return if same_packet(stored, reply) {
+    if is_repeat {
+        return if stored.is(reply) {
             None
         } else {
             Some(Accusation::AnotherReply)

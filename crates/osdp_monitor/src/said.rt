@@ -1,6 +1,6 @@
 //! What packets say to somebody who listens.
 
-ghost use Rattle.std.specs.Prelude.{◌≡◌, ℕ};
+ghost use Rattle.std.specs.Prelude.{◌≡◌, ℕ, Ok, true};
 ghost use Rattle.osdp_controller.specs.Answers.{meaning_by_reading, meaning_by_reason};
 ghost use Rattle.osdp_monitor.specs.Reader.{is_nak};
 ghost use Rattle.osdp_monitor.specs.Saying.{asked, is_foreign, is_unknown, moved_by, reply_told, said_by};
@@ -19,6 +19,20 @@ pub enum Said {
     Refusal,
     /// Any other reply, also one that can't be read.
     Answer,
+}
+
+/// Whether a packet to a device is a POLL: its code and its length tell.
+pub(crate) fn is_poll(packet: &FrameView<'_>) -> bool
+    ensures { result ≡ true → asked packet.now ≡ Ok Command.Poll }
+{
+    packet.code() == 0x60 && packet.payload().len() == 0
+}
+
+/// Whether a packet from a device is an ACK.
+pub(crate) fn is_ack(packet: &FrameView<'_>) -> bool
+    ensures { result ≡ true → reply_told packet.now ≡ Ok Reply.Ack }
+{
+    packet.code() == 0x40 && packet.payload().len() == 0
 }
 
 /// The reply that a packet from a device is.
@@ -43,6 +57,13 @@ pub(crate) fn is_unknown<M>(read: &Result<M, MsgFault>) -> bool
         Ok(_) | Err(MsgFault::Length | MsgFault::Count) => false,
         Err(MsgFault::UnknownCode) => true,
     }
+}
+
+/// Whether the tables don't have the code of a packet to a device.
+pub(crate) fn asks_unknown(packet: &FrameView<'_>) -> bool
+    ensures { result ≡ is_unknown (asked packet.now) }
+{
+    !is_poll(packet) && is_unknown(&read_command(packet))
 }
 
 /// What a reply says, by what is read of it.
