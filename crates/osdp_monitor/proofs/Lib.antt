@@ -1,3 +1,4 @@
+pub mod Bare
 pub mod Blocks
 pub mod Comparing
 pub mod Passing

@@ -1,6 +1,7 @@
 //! The listener.
 
 ghost use Rattle.std.specs.Prelude.{◌≡◌, ◌<◌, Ok, true, false, [], IfOk, OnErr, OnOk};
+ghost use Rattle.osdp_msg.specs.declared.reply.Reply.TheVariants.{Ack};
 ghost use Rattle.osdp_monitor.specs.Line.{after_packet, after_skipped, copies_last, expected_in, found_in, no_knowledge};
 ghost use Rattle.osdp_monitor.specs.Private.{IsSpelledIf};
 ghost use Rattle.osdp_monitor.specs.Saying.{is_foreign};
@@ -24,7 +25,7 @@ pub struct Monitor {
     skipped: u8,
     ack: Result<Reply, MsgFault>,
     ghost few: { skipped < 7 },
-    ghost lent: { ack ≡ Ok Reply.Ack },
+    ghost lent: { ack ≡ Ok Ack },
 }
 
 impl Monitor {

@@ -22,6 +22,7 @@ pub enum Said {
 }
 
 /// Whether a packet to a device is a POLL: its code and its length tell.
+#[tactic(auto, using(crate::proofs::Bare::poll_is))]
 pub(crate) fn is_poll(packet: &FrameView<'_>) -> bool
     ensures { result ≡ true → asked packet.now ≡ Ok Command.Poll }
 {
@@ -29,6 +30,7 @@ pub(crate) fn is_poll(packet: &FrameView<'_>) -> bool
 }
 
 /// Whether a packet from a device is an ACK.
+#[tactic(auto, using(crate::proofs::Bare::ack_is))]
 pub(crate) fn is_ack(packet: &FrameView<'_>) -> bool
     ensures { result ≡ true → reply_told packet.now ≡ Ok Reply.Ack }
 {

@@ -6,7 +6,7 @@ ghost use Rattle.osdp_tool_monitor.specs.Counts.{is_poll, kind_of_reply, more_if
 
 use osdp_frame::FrameView;
 use osdp_monitor::{Found, Notice};
-use osdp_msg::{Command, MsgFault, Reply};
+use osdp_msg::{MsgFault, Reply};
 
 /// What is counted of an address. A count stays at the greatest number of 64 bits.
 #[derive(Clone, Copy, Debug, PartialEq, Eq)]
@@ -53,18 +53,29 @@ pub(crate) fn more_if(test: bool, count: u64) -> u64
     }
 }
 
-/// Whether a packet to a device is a POLL.
+/// Whether a packet to a device is a POLL: its code and its length tell.
+#[tactic(auto, using(crate::proofs::ByCode::poll_by_code))]
 fn is_poll(packet: &FrameView<'_>) -> bool
     ensures { result ≡ is_poll (asked packet.now) }
 {
-    matches!(
-        Command::read(packet.code(), packet.payload()),
-        Ok(Command::Poll)
-    )
+    packet.code() == 0x60 && packet.payload().len() == 0
 }
 
-/// How a reply is counted.
+/// How a reply is counted. Of most kinds the code tells, and nothing is read.
+#[tactic(auto, using(crate::proofs::ByCode::other_by_code))]
 fn kind_of_reply(packet: &FrameView<'_>) -> ReplyKind
+    ensures { result ≡ kind_of_reply (reply_told packet.now) }
+{
+    match packet.code() {
+        0x41 | 0x50 | 0x51 | 0x53 | 0x79 => kind_by_reading(packet),
+        _ => ReplyKind::Other,
+    }
+}
+
+/// The same of one that is read.
+// It stands by itself, since what is read has as many bytes as the largest reply.
+#[inline(never)]
+fn kind_by_reading(packet: &FrameView<'_>) -> ReplyKind
     ensures { result ≡ kind_of_reply (reply_told packet.now) }
 {
     by_reading(&Reply::read(packet.code(), packet.payload()))

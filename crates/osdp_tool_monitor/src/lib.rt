@@ -2,6 +2,7 @@
 #![tactic(auto)]
 
 mod counts;
+pub mod laws;
 mod listener;
 mod open_line;
 mod table;

@@ -131,8 +131,27 @@ fn push_expected(
     }
 }
 
-/// Writes what is found in a packet.
+/// Writes what is found in a packet. In most nothing is.
+#[inline(always)]
 pub(crate) fn push_found(
+    text: &mut String,
+    run: u64,
+    place: u64,
+    packet: &FrameView<'_>,
+    found: &Found,
+    expected: &[u8],
+) -> Result<(), AllocError>
+    ensures { OnOk result (string_bytes text.new ≡ string_bytes text.old ++ found_text run place packet.now found.now expected.now) }
+{
+    match (found.notice, found.accusation, expected) {
+        (None, None, []) => Ok(()),
+        _ => push_lines(text, run, place, packet, found, expected),
+    }
+}
+
+/// Writes the lines of what is found in a packet.
+#[inline(never)]
+fn push_lines(
     text: &mut String,
     run: u64,
     place: u64,
