@@ -23,16 +23,14 @@ prints_lem packets l [] rest p accusation is =
     let shown = shown_line packets l.tally (PacketItem p) in
     let notice = notice_line run l.tally.place p.address found.notice in
     let expected = expected_lines (expected_bytes (expected_in l.knowledge p)) p in
-    let others = items_report packets (heard_item l (PacketItem p)) rest in
-    (
+    let others = items_report packets (heard_item l (PacketItem p)) rest in (
       shown ++ notice,
       expected ++ others,
       in_parts shown notice (accusation_line run l.tally.place p found.accusation) expected others
-      ∙ ap (λ a. (shown ++ notice) ++ (accusation_line run l.tally.place p a ++ (expected ++ others))) is,
+          ∙ ap (λ a. (shown ++ notice) ++ (accusation_line run l.tally.place p a ++ (expected ++ others))) is,
     )
 prints_lem packets l (part ∷ front) rest p accusation is =
-    let later = prints_lem packets (heard_item l part) front rest p accusation is in
-    (
+    let later = prints_lem packets (heard_item l part) front rest p accusation is in (
       item_report packets l part ++ later.0,
       later.1,
       ap (λ t. item_report packets l part ++ t) later.2 ∙ sym (append_assoc (item_report packets l part) later.0 _),

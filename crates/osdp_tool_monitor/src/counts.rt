@@ -54,7 +54,7 @@ pub(crate) fn more_if(test: bool, count: u64) -> u64
 }
 
 /// Whether a packet to a device is a POLL: its code and its length tell.
-#[tactic(auto, using(crate::proofs::ByCode::poll_by_code))]
+#[tactic(auto, using(crate::proofs::ByCode::poll_then, crate::proofs::ByCode::poll_else))]
 fn is_poll(packet: &FrameView<'_>) -> bool
     ensures { result ≡ is_poll (asked packet.now) }
 {
