@@ -27,22 +27,22 @@ later_no a b le = elim (leb_tells (suc a) b) [ inl is ↦ absurd (let h = is.1 i
 pub before_no : (from i : ℕ) → i < from → nat_le from i ≡ false
 before_no from i lt = elim (leb_tells from i) [ inl is ↦ absurd (let h = is.1 in omega (arith, h, lt)) | inr other ↦ other.0 ]
 
-abbrev pub AreBehind : ℕ → List Opening → Type 0
-AreBehind count os = Each (λ (o : Opening). o.place ≤ count) os
+abbrev pub AreWithin : ℕ → List Opening → Type 0
+AreWithin count os = Each (λ (o : Opening). o.place ≤ count) os
 
 not_past : (count : ℕ) (b : Burst) (o : Opening) → o.place ≤ count → is_before o count b ≡ false
 not_past count b o le = ap (λ x. x && concerns o b) (later_no count o.place le)
 
-pub none_past_for_panel : (count : ℕ) (b : Burst) (os : List Opening) → AreBehind count os → is_past_for_panel os count b ≡ false
-none_past_for_panel count b [] behind = refl
-none_past_for_panel count b (o ∷ os) behind =
-    ap (λ x. x || is_past_for_panel os count b) (not_past count b o behind.0) ∙ none_past_for_panel count b os behind.1
+pub none_past_for_panel : (count : ℕ) (b : Burst) (os : List Opening) → AreWithin count os → is_past_for_panel os count b ≡ false
+none_past_for_panel count b [] within = refl
+none_past_for_panel count b (o ∷ os) within =
+    ap (λ x. x || is_past_for_panel os count b) (not_past count b o within.0) ∙ none_past_for_panel count b os within.1
 
-pub none_past_for_device : (k count : ℕ) (b : Burst) (os : List Opening) → AreBehind count os → is_past_for_device k os count b ≡ false
-none_past_for_device k count b [] behind = refl
-none_past_for_device k count b (o ∷ os) behind =
-    ap (λ x. ((o.entry == k) && x) || is_past_for_device k os count b) (not_past count b o behind.0)
-    ∙ ap (λ x. x || is_past_for_device k os count b) (and_false (o.entry == k)) ∙ none_past_for_device k count b os behind.1
+pub none_past_for_device : (k count : ℕ) (b : Burst) (os : List Opening) → AreWithin count os → is_past_for_device k os count b ≡ false
+none_past_for_device k count b [] within = refl
+none_past_for_device k count b (o ∷ os) within =
+    ap (λ x. ((o.entry == k) && x) || is_past_for_device k os count b) (not_past count b o within.0)
+    ∙ ap (λ x. x || is_past_for_device k os count b) (and_false (o.entry == k)) ∙ none_past_for_device k count b os within.1
 
 -- ---- reading on
 
@@ -129,12 +129,12 @@ from_panel k p = record { by_panel = true; entry = k; packet = p }
 abbrev pub from_device : ℕ → Packet → Burst
 from_device k p = record { by_panel = false; entry = k; packet = p }
 
-pub panel_told_device : (j from k : ℕ) (p : Packet) (os : List Opening) (said : List Burst) → from ≤ length said → AreBehind (length said) os
+pub panel_told_device : (j from k : ℕ) (p : Packet) (os : List Opening) (said : List Burst) → from ≤ length said → AreWithin (length said) os
     → ahead_of_device j from os (said ++ from_panel k p ∷ []) ≡ ahead_of_device j from os said ++ (k, p) ∷ []
-panel_told_device j from k p os said le behind =
+panel_told_device j from k p os said le within =
     one_more (is_ahead_of_device j from os) 0 (length said) (from_panel k p) said (omega arith)
     ∙ ap (λ x. ahead_of_device j from os said ++ one_if x (k, p))
-    (new_passes (is_past_for_device j os (length said) (from_panel k p)) from (length said) le (none_past_for_device j (length said) (from_panel k p) os behind))
+    (new_passes (is_past_for_device j os (length said) (from_panel k p)) from (length said) le (none_past_for_device j (length said) (from_panel k p) os within))
 
 pub panel_told_panel : (from k : ℕ) (p : Packet) (os : List Opening) (said : List Burst)
     → ahead_of_panel from os (said ++ from_panel k p ∷ []) ≡ ahead_of_panel from os said
@@ -146,12 +146,12 @@ pub device_told_device : (j from k : ℕ) (p : Packet) (os : List Opening) (said
 device_told_device j from k p os said =
     one_more (is_ahead_of_device j from os) 0 (length said) (from_device k p) said (omega arith) ∙ append-nil (ahead_of_device j from os said)
 
-pub device_told_panel : (from k : ℕ) (p : Packet) (os : List Opening) (said : List Burst) → from ≤ length said → AreBehind (length said) os
+pub device_told_panel : (from k : ℕ) (p : Packet) (os : List Opening) (said : List Burst) → from ≤ length said → AreWithin (length said) os
     → ahead_of_panel from os (said ++ from_device k p ∷ []) ≡ ahead_of_panel from os said ++ (k, p) ∷ []
-device_told_panel from k p os said le behind =
+device_told_panel from k p os said le within =
     one_more (is_ahead_of_panel from os) 0 (length said) (from_device k p) said (omega arith)
     ∙ ap (λ x. ahead_of_panel from os said ++ one_if x (k, p))
-    (new_passes (is_past_for_panel os (length said) (from_device k p)) from (length said) le (none_past_for_panel (length said) (from_device k p) os behind))
+    (new_passes (is_past_for_panel os (length said) (from_device k p)) from (length said) le (none_past_for_panel (length said) (from_device k p) os within))
 
 -- ---- a session opens: what was said before it
 
@@ -210,8 +210,8 @@ those_all Q f i n (b ∷ bs) at all = by_test (f i b) refl (those_all Q f (suc i
     by_test true is rest = (all i b (omega (arith, at)) is, rest)
     by_test false is rest = rest
 
-left_behind : (o : Opening) (j : ℕ) (b : Burst) → j < o.place → is_before o j b ≡ false → (b.entry ≢ o.entry) × (b.packet.address ≢ o.address)
-left_behind o j b lt is =
+not_concerned : (o : Opening) (j : ℕ) (b : Burst) → j < o.place → is_before o j b ≡ false → (b.entry ≢ o.entry) × (b.packet.address ≢ o.address)
+not_concerned o j b lt is =
     let tests = or_left (b.entry == o.entry) (b.packet.address == o.address) (sym (ap (λ x. x && concerns o b) (le-leb (suc j) o.place (omega (arith, lt)))) ∙ is) in (
       λ e. absurd (let a = tests.0 in let t = is_true b.entry o.entry e in cc),
       λ e. absurd (let a = tests.1 in let t = is_true b.packet.address o.address e in cc),
@@ -227,7 +227,7 @@ device_quiet k from o os said mine at =
     those_all (λ q. q.0 ≢ k) (is_ahead_of_device k from (o ∷ os)) 0 (length said) said (omega arith) (λ j b lt is.
     let kept = kept_by b.by_panel (nat_le from j) (is_past_for_device k (o ∷ os) j b) is in
     let both = or_left ((o.entry == k) && is_before o j b) (is_past_for_device k os j b) kept.2 in
-    let gone = left_behind o j b (omega (arith, lt, at)) (mine_past (o.entry == k) (is_before o j b) (is_true o.entry k mine) both.0) in
+    let gone = not_concerned o j b (omega (arith, lt, at)) (mine_past (o.entry == k) (is_before o j b) (is_true o.entry k mine) both.0) in
     (λ e. gone.0 (e ∙ sym mine)))
 
 pub panel_quiet : (from : ℕ) (o : Opening) (os : List Opening) (said : List Burst) → o.place ≡ length said
@@ -236,4 +236,4 @@ panel_quiet from o os said at =
     those_all (λ q. (q.0 ≢ o.entry) × (q.1.address ≢ o.address)) (is_ahead_of_panel from (o ∷ os)) 0 (length said) said (omega arith) (λ j b lt is.
     let kept = kept_by (not b.by_panel) (nat_le from j) (is_past_for_panel (o ∷ os) j b) is in
     let both = or_left (is_before o j b) (is_past_for_panel os j b) kept.2 in
-    left_behind o j b (omega (arith, lt, at)) both.0)
+    not_concerned o j b (omega (arith, lt, at)) both.0)

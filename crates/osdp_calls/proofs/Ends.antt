@@ -152,7 +152,7 @@ module _ {H : Type 0} where
   said_keeps k bus.NextReport b d l is = is
 
   module _ (answer_of : H → Command → Answer) (after : H → Command → H) where
-    next_stations : (i : ℕ) (places : List ℕ) (o : Option (Station H)) (l : InUse H)
+    pub next_stations : (i : ℕ) (places : List ℕ) (o : Option (Station H)) (l : InUse H)
         → changes_at i (nexts answer_of after places) o l.stations ≡ (after_next answer_of after i places o l).stations
     next_stations i places None l = refl
     next_stations i places (Some t) l = refl

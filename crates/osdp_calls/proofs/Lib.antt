@@ -25,3 +25,4 @@ mod Turning
 mod Ends
 mod Refusing
 mod OneDevice
+mod Undisturbed

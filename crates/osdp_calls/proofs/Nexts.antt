@@ -20,7 +20,7 @@ use Rattle.osdp_shared_line.proofs.Sites.{at_changed, some_same}
 use Rattle.osdp_calls.specs.Calls.{answers, by_device, first_answered, last_of, reply_to}
 use Rattle.osdp_calls.specs.Lines.{Burst, InUse, Opening, Station, ahead_of_device, is_past_for_device}
 use Rattle.osdp_calls.specs.Premises.{AreSaid}
-use Rattle.osdp_calls.proofs.Ahead.{AreBehind, device_front, device_further, device_told_device, device_told_panel, from_device}
+use Rattle.osdp_calls.proofs.Ahead.{AreWithin, device_front, device_further, device_told_device, device_told_panel, from_device}
 use Rattle.osdp_calls.proofs.Losing.{Reaches, changed_twice, lose_to_reader, then_reaches, with_coming}
 use Rattle.osdp_calls.proofs.Matching.{FoundAt, Nobody, Somebody, changed_same, found, matched, set_station}
 use Rattle.osdp_calls.proofs.Replying.{IsReply, hears_replies, reader_with, silent_to_replies}
@@ -45,9 +45,9 @@ pub longer : {A : Type 0} (xs ys : List A) → length xs ≤ length (xs ++ ys)
 longer [] ys = omega arith
 longer (x ∷ xs) ys = let rest = longer xs ys in omega (arith, rest)
 
-pub behind_more : (n m : ℕ) (os : List Opening) → n ≤ m → AreBehind n os → AreBehind m os
-behind_more n m [] le all = tt
-behind_more n m (o ∷ os) le all = (let h = all.0 in omega (arith, h, le), behind_more n m os le all.1)
+pub within_more : (n m : ℕ) (os : List Opening) → n ≤ m → AreWithin n os → AreWithin m os
+within_more n m [] le all = tt
+within_more n m (o ∷ os) le all = (let h = all.0 in omega (arith, h, le), within_more n m os le all.1)
 
 module _ {H : Type 0} where
   abbrev pub with_station : ℕ → Station H → InUse H → InUse H
@@ -76,7 +76,7 @@ module _ {H : Type 0} where
         }) h.sites;
     to_panel = ap (λ qs. qs ++ (k, p) ∷ []) h.to_panel ∙ sym (device_told_panel l.place k p l.openings l.said h.place h.openings);
     place = let le = h.place in let more = length_more l.said (from_device k p) in omega (arith, le, more);
-    openings = behind_more (length l.said) (length (l.said ++ from_device k p ∷ [])) l.openings (let more = length_more l.said (from_device k p) in omega (arith, more)) h.openings;
+    openings = within_more (length l.said) (length (l.said ++ from_device k p ∷ [])) l.openings (let more = length_more l.said (from_device k p) in omega (arith, more)) h.openings;
     said = each_append IsRightly l.said (from_device k p ∷ []) h.said (is, tt);
   }
 

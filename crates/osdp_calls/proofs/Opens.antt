@@ -16,7 +16,7 @@ module _ {H : Type 0} (answer_of : H → Command → Answer) (after : H → Comm
   pub opens : (o : Opening) (d : Device) (t : Station H) (s : Site H) (l : InUse H) (n : Net H) → IsNetOf l n → o.place ≤ length l.said
       → slice_get l.bus.devices.entries o.entry ≡ Some d → site_at o.entry l.stations ≡ Some t → site_at o.entry n.sites ≡ Some s → Sites l o.entry d t s
       → Refines answer_of after n (record l { openings = o ∷ l.openings })
-  opens o d t s l n h behind a b c is =
+  opens o d t s l n h within a b c is =
       let k = o.entry in
       let coming = ahead_of_device k t.place (o ∷ l.openings) l.said in
       let panel = ahead_of_panel l.place (o ∷ l.openings) l.said in
@@ -59,7 +59,7 @@ module _ {H : Type 0} (answer_of : H → Command → Answer) (after : H → Comm
               })));
           to_panel = refl;
           place = h.place;
-          openings = (behind, h.openings);
+          openings = (within, h.openings);
           said = h.said;
         };
       }

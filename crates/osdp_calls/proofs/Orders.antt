@@ -144,9 +144,6 @@ module _ {H : Type 0} where
     })
     beginning entry now l n h = by_fault (begin_refusal_at entry l.bus) refl
       where
-        at : ℕ
-        at = max l.bus.greatest now
-
         by_fault : (f : Option BusFault) → begin_refusal_at entry l.bus ≡ f → Refines answer_of after n (record l {
           bus = changed_unless f l.bus (after_begin_at entry now l.bus);
           stations = changed_unless f l.stations (change_at entry (is_to_begin (max l.bus.greatest now)) l.stations);
@@ -154,9 +151,6 @@ module _ {H : Type 0} where
         by_fault (Some fault) is = by_none answer_of after l n h
         by_fault None is = by_found (found (Sites l) entry l.bus.devices.entries l.stations n.sites h.sites)
           where
-            Goal : Type 0
-            Goal = Refines answer_of after n (record l { bus = after_begin_at entry now l.bus; stations = change_at entry (is_to_begin (max l.bus.greatest now)) l.stations })
-
             by_found : FoundAt (Sites l) entry entry l.bus.devices.entries l.stations n.sites → Refines answer_of after n (record l {
               bus = after_begin_at entry now l.bus;
               stations = change_at entry (is_to_begin (max l.bus.greatest now)) l.stations;
@@ -296,9 +290,6 @@ module _ {H : Type 0} where
     })
     withdrawing k l n h = by_found (found (Sites l) k l.bus.devices.entries l.stations n.sites h.sites)
       where
-        to : Option Device → InUse H
-        to o = record l { bus = changes_device k bus.device_withdraws l.bus; stations = change_at k (takes_back (withdrawn (bus.withdrawal_of o))) l.stations }
-
         by_begun : (d : Device) (t : Station H) (s : Site H) → slice_get l.bus.devices.entries k ≡ Some d → site_at k l.stations ≡ Some t
             → site_at k n.sites ≡ Some s → Sites l k d t s → (o : Option ℕ) → t.begun ≡ o → StepsTo answer_of after (OfPanel (panel.Withdraw k)) l n (record l {
               bus = record l.bus { devices = record l.bus.devices { entries = slice_set l.bus.devices.entries k (bus.device_withdraws d) } };

@@ -32,7 +32,7 @@ use Rattle.osdp_calls.proofs.Ahead.{device_quiet, from_panel, panel_quiet, panel
 use Rattle.osdp_calls.proofs.Controllers.{equal_same, opened_ticks, saw, ticked_same, ticks_same}
 use Rattle.osdp_calls.proofs.Losing.{Reaches, changed_twice, one_move, then_reaches}
 use Rattle.osdp_calls.proofs.Matching.{FoundAt, Match, Nobody, Somebody, changed_same, found, matched_map, set}
-use Rattle.osdp_calls.proofs.Nexts.{behind_more, length_more, then_refines}
+use Rattle.osdp_calls.proofs.Nexts.{within_more, length_more, then_refines}
 use Rattle.osdp_calls.proofs.Opens.{opens}
 use Rattle.osdp_calls.proofs.Panel.{one_told}
 use Rattle.osdp_calls.proofs.Same.{Controls, IsNetOf, IsRightly, IsSame, IsSiteOf, IsToOpen}
@@ -77,7 +77,7 @@ module _ {H : Type 0} where
         }) h.sites;
     to_panel = h.to_panel ∙ sym (panel_told_panel l.place k p l.openings l.said);
     place = let le = h.place in let more = length_more l.said (from_panel k p) in omega (arith, le, more);
-    openings = behind_more (length l.said) (length (l.said ++ from_panel k p ∷ [])) l.openings (let more = length_more l.said (from_panel k p) in omega (arith, more)) h.openings;
+    openings = within_more (length l.said) (length (l.said ++ from_panel k p ∷ [])) l.openings (let more = length_more l.said (from_panel k p) in omega (arith, more)) h.openings;
     said = each_append IsRightly l.said (from_panel k p ∷ []) h.said (command, tt);
   }
 
@@ -131,18 +131,6 @@ module _ {H : Type 0} where
 
         x : Ticked
         x = ticks l.bus.greatest d.controller.session d.controller.waiting
-
-        control : IsSame l.bus.greatest d.controller s.controller
-        control = subst (λ o. Controls o l.bus.greatest d.controller s.controller) begun is.controller
-
-        same : ticks l.bus.greatest s.controller.session s.controller.waiting ≡ ticks l.bus.greatest d.controller.session d.controller.waiting
-        same = ticks_same l.bus.greatest d.controller s.controller (subst (λ o. Controls o l.bus.greatest d.controller s.controller) begun is.controller)
-
-        after_bus : InUse H
-        after_bus = ticked_bus k d (ticks l.bus.greatest d.controller.session d.controller.waiting) l
-
-        n1 : Net H
-        n1 = record n { sites = changed k (line.ticks answer_of after l.bus.greatest s) n.sites }
 
         first : IsNetOf (ticked_bus k d (ticks l.bus.greatest d.controller.session d.controller.waiting) l)
             (record n { sites = changed k (line.ticks answer_of after l.bus.greatest s) n.sites })

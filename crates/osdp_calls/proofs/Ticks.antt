@@ -52,12 +52,6 @@ module _ {H : Type 0} (answer_of : H → Command → Answer) (after : H → Comm
   by_holder None places l n h all past = ends_and_asks (has_report (ends_run l.bus)) (next_due (ends_run l.bus)) places l n h all past
   by_holder (Some entry) places l n h all past = by_due (is_due_at entry l.bus) all
     where
-      e : BusState
-      e = ends_run l.bus
-
-      rests : Bool
-      rests = has_report (ends_run l.bus) || not (is_held_and_due entry (ends_run l.bus))
-
       by_due : (x : Bool) → AreSaid l.said (cond x (read_at_end l.bus) []) places l.place → Refines answer_of after n
           (ticked_to
           (cond x (cond (has_report (ends_run l.bus) || not (is_held_and_due entry (ends_run l.bus))) (stays (ends_run l.bus)) (ticks_at (Some entry) (ends_run l.bus))) (stays l.bus))

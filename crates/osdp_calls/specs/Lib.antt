@@ -10,3 +10,4 @@ pub mod Turning
 pub mod Ends
 pub mod Refusals
 pub mod OneDevice
+pub mod Undisturbed

@@ -12,6 +12,7 @@ ghost use Rattle.osdp_calls.specs.Refusals.{CallsRefuseNoNumber};
 ghost use Rattle.osdp_calls.specs.Restarts.{NewDeviceCosts, NewDeviceReportsNoMore, NewPanelCosts};
 ghost use Rattle.osdp_calls.specs.Sayings.{AddsMakeTheBus, SaysWhatGoesOut};
 ghost use Rattle.osdp_calls.specs.Turning.{TurnsByCalls};
+ghost use Rattle.osdp_calls.specs.Undisturbed.{OrdinaryCallsDisturbNone};
 ghost use Rattle.osdp_device.specs.declared.program.ProgramAnswers.{ProgramAnswers};
 
 use osdp_reader::Handler;
@@ -109,3 +110,9 @@ pub fn one_device_holds_once<H: Handler>()
 {
     osdp_shared_line::restarts::each_of_one_handler_holds_once::<H>();
 }
+
+/// Of an entry neither of whose ends is made anew, and of which no command is taken back, whatever the others do: no command is forgotten or
+/// removed, and no event is thrown away. This asks nothing of what the ends read.
+pub fn ordinary_is_undisturbed<H: Handler>()
+    ensures { OrdinaryCallsDisturbNone H.answer_of H.after }
+{}
