@@ -47,6 +47,16 @@ passes "$there/share/osdp/examples/c/build" "$work" -Werror
 for name in panel reader; do
   "$work/$name" --help >"$work/said" 2>&1 || fail "the installed example in C isn't built: $name"
 done
+# a copy of a small program in C, as c/README.md says, and of one in Rust, as rust/README.md says
+mkdir "$work/mine" && cp "$there/share/osdp/examples/c/"*.[ch] "$work/mine/" && cp "$work/mine/door_panel.c" "$work/mine/my_panel.c"
+(cd "$work/mine" && passes "$CC" -o my_panel my_panel.c port.c words.c trace.c settings.c $(pkg-config --cflags --libs osdp)) || fail 'a copy of a panel in C is not built'
+(
+  ln -s "$there/share/osdp" "$work/osdp" && cd "$work" && unset OSDP_C_LIB_DIR && export CARGO_NET_OFFLINE=true
+  passes cargo new --quiet --vcs none my_door && cd my_door || exit 1
+  cp ../osdp/rust/examples/door_device.rs src/main.rs && cp -r ../osdp/rust/examples/port src/
+  echo 'osdp = { path = "../osdp/rust" }' >>Cargo.toml
+  passes cargo build --quiet
+) || fail 'a copy of a device in Rust is not built'
 # a heap of the program's own takes the place of the one in the library
 passes "$CC" -std=c11 -o "$work/pool" tests/c/installed.c "$there/share/osdp/c/heap_pool.c" $(pkg-config --cflags --libs osdp) && passes "$work/pool"
 
