@@ -651,6 +651,9 @@ osdp_status osdp_device_address(osdp_device *device, uint32_t *address);
 /* How many events wait, the one that is offered included. OSDP_NO_MACHINE. */
 osdp_status osdp_device_waiting(osdp_device *device, size_t *count);
 
+/* Whether the session of a device is closed: 1 where it refuses each number but 0, as one that is new or has moved, else 0. OSDP_NO_MACHINE. */
+osdp_status osdp_device_is_closed(osdp_device *device, uint32_t *closed);
+
 /* How a packet was answered. */
 enum {
     /* Nothing is said: no packet that is answered is held any more. */

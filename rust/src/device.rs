@@ -285,6 +285,14 @@ impl Device {
         count
     }
 
+    /// Whether its session is closed: it refuses each number but 0, as one that is new or has moved.
+    pub fn is_closed(&mut self) -> bool {
+        let mut closed = 0;
+        // SAFETY: the handle is ours alone, and the number is one. It holds a machine, so the call isn't refused.
+        let _ = unsafe { sys::osdp_device_is_closed(&mut self.0, &mut closed) };
+        closed != 0
+    }
+
     /// The address that the device has now.
     pub fn address(&mut self) -> u8 {
         let mut address = 0;

@@ -503,6 +503,7 @@ unsafe extern "C" {
         closed: *mut u32,
     ) -> osdp_status;
     pub fn osdp_device_address(device: *mut osdp_device, address: *mut u32) -> osdp_status;
+    pub fn osdp_device_is_closed(device: *mut osdp_device, closed: *mut u32) -> osdp_status;
     pub fn osdp_device_set_moment(device: *mut osdp_device, now: u64) -> osdp_status;
     pub fn osdp_device_pending(device: *mut osdp_device, command: *mut osdp_message)
     -> osdp_status;

@@ -131,6 +131,22 @@ static const struct osdp_burst *answer_to(struct osdp_device *reader, uint8_t co
     return &answer.burst;
 }
 
+/* A new device's session is closed, and open once it was asked with number 0, also while it is busy. */
+static void closed(void)
+{
+    osdp_device device = { 0 };
+    struct osdp_device_config what = reader_config();
+    uint32_t told = 9;
+    demand(osdp_device_is_closed(&device, &told) == OSDP_NO_MACHINE && told == 9);
+    demand(osdp_device_new(&device, &what, NULL, 0) == OSDP_OK);
+    demand(osdp_device_is_closed(&device, &told) == OSDP_OK && told == 1);
+    (void)answer_to(&device, 0x64);
+    demand(osdp_device_is_closed(&device, &told) == OSDP_OK && told == 0);
+    demand(osdp_device_set_busy(&device, 1) == OSDP_OK);
+    demand(osdp_device_is_closed(&device, &told) == OSDP_OK && told == 0);
+    demand(osdp_device_free(&device) == OSDP_OK);
+}
+
 typedef osdp_status set_call(struct osdp_device *, const uint8_t *, size_t);
 
 /* 1,432 states are told as they were set; one more is refused, and changes nothing. */
@@ -371,6 +387,7 @@ static void nulls(void)
 int main(void)
 {
     nulls();
+    closed();
     capacities();
     addresses();
     states();

@@ -1,5 +1,5 @@
 -- The calls of a reader.
-use Rattle.std.specs.Prelude.{◌≡◌, ℕ, ◌≤◌, not, ◌==◌, nat_le, Bool, List, length, if◌then◌else◌, Option, None, Some, option_map, Result, Ok, Err}
+use Rattle.std.specs.Prelude.{◌≡◌, ℕ, ◌≤◌, not, ◌==◌, ◌&&◌, nat_le, Bool, true, false, List, [], ◌∷◌, length, if◌then◌else◌, Option, None, Some, option_map, Result, Ok, Err}
 use Rattle.arrayvec.specs.ArrayVec.{ArrayVec}
 use Rattle.osdp_device.specs.Receiving.{IsGap, Received, after_silence, after_take, after_tick, count_taken, new_line, seen}
 use Rattle.osdp_device.specs.Deciding.{Turned, is_asked, pending_of, passed, turned, with_question}
@@ -17,6 +17,12 @@ use Rattle.osdp_msg.specs.Events.{event_reply}
 use Rattle.osdp_msg.specs.ReplyTable.{reply_of}
 use Rattle.osdp_msg.specs.Limits.{most_data, most_maker_bytes}
 use Rattle.osdp_msg.specs.NakReasons.{reason_of}
+use Rattle.osdp_frame.specs.Packed.{packed}
+use Rattle.osdp_frame.specs.Packet.{Packet}
+use Rattle.osdp_frame.specs.declared.check_kind.CheckKind.TheVariants.{Sum}
+use Rattle.osdp_reader.specs.Table.{kind_of}
+use Rattle.osdp_reader.specs.declared.kind.Kind.{Kind}
+use Rattle.osdp_reader.specs.declared.kind.Kind.TheVariants.{Wrong}
 use Rattle.osdp_reader.specs.declared.fault.ReaderFault.{ReaderFault}
 use Rattle.osdp_reader.specs.declared.handler.Answer.{Answer}
 use Rattle.osdp_reader.specs.declared.handler.Answer.TheVariants as answer
@@ -162,6 +168,24 @@ writes_waiting m out = length m.device.reader.queue.events
 -- the address that the reader has now is written
 abbrev pub writes_address : ReaderMachine → ℕ → ℕ
 writes_address m out = m.device.reader.config.address
+
+-- a reader's session is closed where it refuses each number but 0, as one does that is new or has moved
+abbrev pub is_wrong : Kind → Bool
+is_wrong Wrong = true
+is_wrong kind = false
+
+abbrev pub poll_with : ℕ → ReaderState ProgramAnswers → Packet
+poll_with number r = packed false r.config.address number Sum false 0 (0x60 ∷ [])
+
+abbrev pub refuses : ℕ → ReaderState ProgramAnswers → Bool
+refuses number r = is_wrong (kind_of r (poll_with number r))
+
+abbrev pub is_closed : ReaderState ProgramAnswers → Bool
+is_closed r = refuses 1 r && (refuses 2 r && refuses 3 r)
+
+-- whether it is closed is written
+abbrev pub writes_closed : ReaderMachine → ℕ → ℕ
+writes_closed m out = if is_closed m.device.reader then 1 else 0
 
 -- the packets that are held on a line are handed to the reader, up to and including the first that it answers; where the program is to decide what is
 -- said to that, the device stops before it, once

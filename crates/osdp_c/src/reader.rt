@@ -6,7 +6,7 @@ ghost use Rattle.osdp_msg.specs.ReplyTable.{reply_of};
 ghost use Rattle.osdp_c_values.specs.declared.status.Status.{Status as Answered};
 ghost use Rattle.osdp_c.specs.Calls.{IsDone, calls, frees, writes};
 ghost use Rattle.osdp_c.specs.CommandTexts.{IsReadEvent};
-ghost use Rattle.osdp_c.specs.Readers.{IsEventRead, NewReaderEnds, at_moment, does, falls_silent, sets_busy, sets_inputs, sets_local, sets_moment, sets_outputs, sets_readers, steps, submits_read, submits_text, ticks, writes_at, writes_silence, writes_step, writes_address, writes_taken, writes_tick, writes_waiting};
+ghost use Rattle.osdp_c.specs.Readers.{IsEventRead, NewReaderEnds, at_moment, does, falls_silent, sets_busy, sets_inputs, sets_local, sets_moment, sets_outputs, sets_readers, steps, submits_read, submits_text, ticks, writes_at, writes_silence, writes_step, writes_address, writes_closed, writes_taken, writes_tick, writes_waiting};
 
 use crate::held::on_held;
 use crate::read::read_event;
@@ -257,6 +257,23 @@ pub extern "C" fn osdp_device_set_moment(alloc: Global, reader: &mut ReaderHandl
 {
     on_held!(reader, alloc, |machine| {
         reader_calls::set_moment(&mut machine, now);
+        Status::Done
+    })
+}
+
+/// Writes whether the session of a reader is closed.
+#[unsafe(no_mangle)]
+pub extern "C" fn osdp_device_is_closed(
+    alloc: Global,
+    reader: &mut ReaderHandle,
+    closed: &mut u32,
+) -> u32
+    ensures reader { IsDone (calls does reader.old.slot.machine) result reader.new.slot.machine }
+    ensures written { closed.new ≡ writes writes_closed reader.old.slot.machine closed.old }
+{
+    on_held!(reader, alloc, |machine| {
+        let told = reader_calls::is_closed(&machine.device.reader);
+        *closed = if told { 1 } else { 0 };
         Status::Done
     })
 }

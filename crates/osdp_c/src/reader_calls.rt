@@ -3,15 +3,15 @@
 ghost use Rattle.std.specs.Prelude.{◌≡◌, ◌↔◌, IsTrue};
 ghost use Rattle.std.specs.Result.{result_map_both};
 ghost use Rattle.osdp_msg.specs.ReplyTable.{reply_of};
-ghost use Rattle.osdp_c.specs.Readers.{AreSettings, IsEventRead, MadeAs, MadeWith, answers, answers_if, at_moment, caps_of, falls_silent, list_answer, looks, maker_answer, reads_next, sets_local, sets_moment, sets_states, states_of, steps, submits, submits_read, submits_text, ticks, writes_at, writes_next, writes_pending, writes_silence, writes_step, writes_taken, writes_tick};
+ghost use Rattle.osdp_c.specs.Readers.{AreSettings, IsEventRead, MadeAs, MadeWith, answers, answers_if, at_moment, caps_of, falls_silent, is_closed, list_answer, looks, maker_answer, reads_next, refuses, sets_local, sets_moment, sets_states, states_of, steps, submits, submits_read, submits_text, ticks, writes_at, writes_next, writes_pending, writes_silence, writes_step, writes_taken, writes_tick};
 
 use arrayvec::ArrayVec;
 use osdp_c_handle::{Clock, ReaderMachine};
 use osdp_c_values::{AnswerStruct, MessageStruct, ReaderSettings, Status};
 use osdp_device::{Device, ProgramAnswers, Turn};
-use osdp_frame::Address;
+use osdp_frame::{Address, CheckKind, FrameView, Seq};
 use osdp_msg::{Event, MAX_DATA, MsgFault, PdCap, Reply};
-use osdp_reader::{Answer, Reader, ReaderConfig, ReaderFault};
+use osdp_reader::{Answer, Kind, Reader, ReaderConfig, ReaderFault};
 use std::alloc::Global;
 
 /// What a reader answers to CAP, by the data of that reply.
@@ -300,4 +300,30 @@ pub(crate) fn maker_answer(vendor: &[u8; 3], bytes: &[u8]) -> Option<Answer>
         Ok(()) => Some(Answer::Maker(*vendor, list)),
         Err(_) => None,
     }
+}
+
+/// Whether a reader would refuse the number of a POLL.
+fn refuses(reader: &Reader<ProgramAnswers>, seq: Seq) -> bool
+    ensures { result ≡ refuses seq reader.now }
+{
+    let address = reader.address();
+    // The calls bring in that both are in their ranges, without which the packet might be refused.
+    let _ranges = (address.get(), seq.get());
+    let made = FrameView::new(false, address, seq, CheckKind::Sum, false, 0, &[0x60]);
+    match reader.kind(&made.unwrap()) {
+        Kind::Wrong => true,
+        _ => false,
+    }
+}
+
+/// Whether the session of a reader is closed.
+pub(crate) fn is_closed(reader: &Reader<ProgramAnswers>) -> bool
+    ensures { result ≡ is_closed reader.now }
+{
+    let (one, two, three) = (
+        Seq::new(1).unwrap(),
+        Seq::new(2).unwrap(),
+        Seq::new(3).unwrap(),
+    );
+    refuses(reader, one) && refuses(reader, two) && refuses(reader, three)
 }
