@@ -1,11 +1,12 @@
-//! Links `libosdp_c.a`: from the folder that `OSDP_C_LIB_DIR` names, or else from `lib` beside this file, where `./install` puts it, or else
+//! Links `libosdp_c.a`: from the folder that `OSDP_C_LIB_DIR` names, if it is set, or else from `lib` beside this file, where `./install` puts it, or else
 //! from where `rt lib` leaves it in this repository. It is wanted where a program is linked: `cargo check` and `cargo doc` do without.
 use std::env;
 use std::path::PathBuf;
 
 fn main() {
     println!("cargo:rerun-if-env-changed=OSDP_C_LIB_DIR");
-    let folder = match env::var_os("OSDP_C_LIB_DIR") {
+    let named = env::var_os("OSDP_C_LIB_DIR").filter(|folder| !folder.is_empty());
+    let folder = match named {
         Some(folder) => PathBuf::from(folder),
         None => {
             let here = env::var_os("CARGO_MANIFEST_DIR").expect("cargo sets this");
