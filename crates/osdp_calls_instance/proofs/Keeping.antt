@@ -25,10 +25,10 @@ use Rattle.osdp_frame.specs.declared.check_kind.CheckKind.TheVariants.{Sum}
 use Rattle.osdp_shared_line.specs.Line.{site_at}
 use Rattle.osdp_calls_instance.specs.Instance.{SomeCallsKeep, device, line_after, set_up, settings, station}
 
-none_read : (is_past : ℕ → Burst → Bool) (said : List Burst) → AreNotPast is_past said []
+pub none_read : (is_past : ℕ → Burst → Bool) (said : List Burst) → AreNotPast is_past said []
 none_read is_past said = each_all (λ i. (b : Burst) → site_at i said ≡ Some b → is_past i b ≡ false) [] tt
 
-one_read : (is_past : ℕ → Burst → Bool) (said : List Burst) (i : ℕ) → ((b : Burst) → is_past i b ≡ false) → AreNotPast is_past said (i ∷ [])
+pub one_read : (is_past : ℕ → Burst → Bool) (said : List Burst) (i : ℕ) → ((b : Burst) → is_past i b ≡ false) → AreNotPast is_past said (i ∷ [])
 one_read is_past said i fine = each_all (λ i. (b : Burst) → site_at i said ≡ Some b → is_past i b ≡ false) (i ∷ []) ((λ b is. fine b), tt)
 
 only : {A : Type 0} (x : A) (k : ℕ) (t : A) → site_at k (x ∷ []) ≡ Some t → (k ≡ 0) × (x ≡ t)
@@ -45,7 +45,7 @@ only_entry x (suc k) t is = absurd cc
 none_fits : (P : Packet → Type 0) → All P []
 none_fits P = each_all P [] tt
 
-one_fits : (P : Packet → Type 0) (p : Packet) → P p → All P (p ∷ [])
+pub one_fits : (P : Packet → Type 0) (p : Packet) → P p → All P (p ∷ [])
 one_fits P p is = each_all P (p ∷ []) (is, tt)
 
 in_time : IsBusConfig settings
@@ -72,7 +72,7 @@ vendor_bytes (suc zero) = omega arith
 vendor_bytes (suc (suc zero)) = omega arith
 vendor_bytes (suc (suc (suc i))) = omega arith
 
-id_fits : PdIdFits device.id
+pub id_fits : PdIdFits device.id
 id_fits = record {
   vendor_length = refl;
   vendor = vendor_bytes;

@@ -1,8 +1,9 @@
-//! A list of calls of a bus and a device that keeps the premises of `osdp_calls`, so that these are not empty. The function does nothing: its
-//! contract is a law.
+//! Lists of calls of a bus and its devices that keep the premises of `osdp_calls`, so that these are not empty. The functions do nothing: their
+//! contracts are laws.
 #![tactic(auto)]
 
 ghost use Rattle.osdp_calls_instance.specs.Instance.{SomeCallsKeep};
+ghost use Rattle.osdp_calls_instance.specs.TwoEntries.{TwoCallsKeep};
 
 use osdp_reader::Handler;
 
@@ -10,4 +11,10 @@ use osdp_reader::Handler;
 /// goes out and is lost. Then the device fails, and after it the panel. All of this keeps the premises, whatever the device's handler answers.
 pub fn premises_are_met<H: Handler>()
     ensures { (handler : H) → SomeCallsKeep H.answer_of H.after handler }
+{}
+
+/// With two entries: a session opens, and the device at the other address passes its opening ID over. An order is settled, a COMSET is lost and told
+/// unsettled, the panel asks at its address and goes back, and a second session opens while it is unread, and then one of the other entry.
+pub fn premises_are_met_by_two<H: Handler>()
+    ensures { (handler : H) → TwoCallsKeep H.answer_of H.after handler }
 {}

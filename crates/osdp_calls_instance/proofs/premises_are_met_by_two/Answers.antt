@@ -1,0 +1,5 @@
+use Rattle.osdp_calls_instance.proofs.TwoCalls.{two_keep}
+use Rattle.osdp_calls_instance.proofs.premises_are_met_by_two.Goals as goal
+
+pub returns : goal.returns
+returns g c = two_keep g.H.Handler.answer_of g.H.Handler.after
