@@ -1,5 +1,5 @@
 -- What is read of a POLL and of an ACK, by their codes alone.
-use Rattle.std.proofs.Common.{◌≡◌, ℕ, List, [], ◌∷◌, length, nat_eq, true, Result, Ok, refl, sym, subst, arith}
+use Rattle.std.proofs.Common.{◌≡◌, ℕ, List, [], ◌∷◌, length, nat_eq, true, Ok, refl, sym, subst, arith}
 use Rattle.std.proofs.lemmas.Bool.{eqb-true}
 use Rattle.osdp_msg.specs.CommandTable.{command_of, command_fault, command_at}
 use Rattle.osdp_msg.specs.declared.command.Command.TheVariants.{Poll}

@@ -1,5 +1,5 @@
 -- What is counted of messages, by their codes.
-use Rattle.std.proofs.Common.{◌≡◌, ℕ, List, length, nat_eq, is_some, Bool, true, false, Option, Some, None, Result, Ok, refl, sym, ap, ◌∙◌, arith}
+use Rattle.std.proofs.Common.{◌≡◌, ℕ, List, length, nat_eq, is_some, Bool, true, false, Option, Some, None, Ok, refl, sym, ap, ◌∙◌, arith}
 use Rattle.osdp_msg.specs.CommandTable.{command_of, command_fault, command_at, command_counts_agree, command_length_allowed}
 use Rattle.osdp_msg.specs.Refusal.{refusal, unless_fault}
 use Rattle.osdp_msg.specs.ReplyTable.{reply_of, reply_fault, reply_at}

@@ -1,5 +1,5 @@
 -- Open lines: items that are taken off one by one, and pieces of a run one after the other.
-use Rattle.std.proofs.Common.{◌≡◌, ℕ, ◌+◌, ◌-◌, ◌*◌, ◌<◌, ◌≤◌, ◌==◌, ◌&&◌, not, Bool, true, false, List, [], ◌∷◌, ◌++◌, length, take, drop, Option, Some, None, Result, Ok, Err, IfErr, IsErrAnd, OnOk, refl, sym, subst, ap, ◌∙◌, arith, append_assoc, append-nil, length-append, length-drop}
+use Rattle.std.proofs.Common.{◌≡◌, ℕ, ◌+◌, ◌-◌, ◌*◌, ◌<◌, ◌≤◌, ◌==◌, ◌&&◌, not, Bool, true, false, List, [], ◌∷◌, ◌++◌, length, take, drop, Some, None, Result, Ok, Err, IfErr, IsErrAnd, OnOk, refl, sym, subst, ap, ◌∙◌, arith, append_assoc, append-nil, length-append, length-drop}
 use Rattle.std.proofs.Math.Seq.{drop-drop, take-add}
 use Rattle.std.proofs.lemmas.Bool.{ne_eqb}
 use Rattle.std.proofs.lemmas.List.{drop_all, take-take, length-take}
@@ -9,7 +9,7 @@ use Rattle.osdp_frame.specs.Items.{items, left_over}
 use Rattle.osdp_frame.specs.Reading.{RunItem, item_size, total_size}
 use Rattle.osdp_frame.proofs.Head.{AreBytes-drop, AreBytes-take}
 use Rattle.osdp_frame.proofs.Decided.{undecided_none, undecided_ended}
-use Rattle.osdp_frame_laws.proofs.LawsOfSpellings.{AreBytes-append, AreBytes-nil}
+use Rattle.osdp_frame_laws.proofs.LawsOfSpellings.{AreBytes-append}
 use Rattle.osdp_frame_laws.proofs.LeftOver.{left_is, left_over-append, reading_split, total_size-append}
 use Rattle.osdp_frame_laws.proofs.Readings.{decided_nothing, is_reading, item_size-positive, item_size-decided, items-append, items_decided, items_undecided, sizes_reading}
 use Rattle.osdp_tool_lines.specs.Tally.{counted}

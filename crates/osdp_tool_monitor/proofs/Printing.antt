@@ -1,12 +1,10 @@
 -- Whoever is accused is named in what is printed.
-use Rattle.std.proofs.Common.{◌≡◌, ℕ, ◌+◌, Bool, List, [], ◌∷◌, ◌++◌, Option, Some, refl, sym, ◌∙◌, ap, append_assoc}
-use Rattle.osdp_frame.specs.Packet.{Packet}
-use Rattle.osdp_frame.specs.Reading.{PacketItem, RunItem}
-use Rattle.osdp_monitor.specs.declared.accusation.Accusation.{Accusation}
+use Rattle.std.proofs.Common.{◌≡◌, ℕ, ◌+◌, List, [], ◌∷◌, ◌++◌, sym, ◌∙◌, ap, append_assoc}
+use Rattle.osdp_frame.specs.Reading.{PacketItem}
 use Rattle.osdp_monitor.specs.Line.{after_items, expected_in, found_in}
 use Rattle.osdp_tool_lines.specs.Told.{shown_line}
 use Rattle.osdp_tool_monitor.specs.Laws.{PrintsAccusations}
-use Rattle.osdp_tool_monitor.specs.Listening.{Listening, heard_item, heard_items, item_report, items_report}
+use Rattle.osdp_tool_monitor.specs.Listening.{heard_item, heard_items, item_report, items_report}
 use Rattle.osdp_tool_monitor.specs.Text.{accusation_line, expected_bytes, expected_lines, notice_line}
 
 in_parts : (s n a e r : List ℕ) → (s ++ (n ++ (a ++ e))) ++ r ≡ (s ++ n) ++ (a ++ (e ++ r))

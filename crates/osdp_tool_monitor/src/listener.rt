@@ -129,7 +129,18 @@ impl Listener {
         Ok(lent.size())
     }
 
-    /// Takes the item of a run at a place, where the reading has come to it, and gives how many bytes it has.
+    /// Takes the item of a run at a place, where the reading has come to it, and gives how many bytes it has. The item has a packet of its own.
+    // It stands by itself, since a function writes the zeros of such a packet whenever it is called.
+    #[inline(never)]
+    fn hear_alone(&mut self, run: &[u8], at: usize, text: &mut String) -> Result<usize, ToolFault>
+        requires { at < length run.now }
+        ensures hears { IfOk result (λ size. HearsFirst (drop at run.now) self.old self.new (string_bytes text.old) (string_bytes text.new) size) }
+        ensures fault { IfErr result (IsLineFault (counted self.old.tally)) }
+    {
+        self.hear_owned(&read_at(run, at), text)
+    }
+
+    /// The same. Most items lie whole in the run, and are heard where they lie.
     fn hear_next(&mut self, run: &[u8], at: usize, text: &mut String) -> Result<usize, ToolFault>
         requires { at < length run.now }
         ensures hears { IfOk result (λ size. HearsFirst (drop at run.now) self.old self.new (string_bytes text.old) (string_bytes text.new) size) }
@@ -137,7 +148,7 @@ impl Listener {
     {
         let rest = &run[at..];
         let Some(item) = whole_item(rest) else {
-            return self.hear_owned(&read_at(run, at), text);
+            return self.hear_alone(run, at, text);
         };
         self.hear_item(&item, text)?;
         Ok(item.size())

@@ -1,4 +1,4 @@
-use Rattle.std.proofs.Common.{◌+◌, ◌*◌, ◌-◌, length, take, drop, sym, subst, ◌∙◌, arith, IfErr}
+use Rattle.std.proofs.Common.{◌+◌, ◌*◌, length, arith, IfErr}
 use Rattle.osdp_tool_monitor.specs.Hearing.{hearing_of, load}
 use Rattle.osdp_tool_monitor.specs.Listening.{IsLineFault}
 use Rattle.osdp_tool_monitor.proofs.Items.{fault_more}
