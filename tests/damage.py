@@ -12,7 +12,7 @@ import sys
 CRATES = pathlib.Path(__file__).resolve().parent.parent / "crates"
 PACKETS = CRATES / "osdp_test_packets/src/lib.rt"
 READER = CRATES / "osdp_machine_tests/src/tests/reader/damage.rt"
-BUS = CRATES / "osdp_bus_tests/src/changes.rt"
+BUS = CRATES / "osdp_port_tests/src/bus/changes.rt"
 
 
 def checksum(data):

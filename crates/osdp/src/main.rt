@@ -1,15 +1,15 @@
-//! The program `osdp`: it reads, makes and listens to packets of OSDP, runs scripts of schedules, and a panel or a reader by lines of text.
+//! The program `osdp`: packets are read, made and listened to, and scripts, panels and readers are run.
 #![tactic(auto)]
 
-use osdp_arguments::{Choice, VERSION, arguments, choose, help_text, lent};
-use osdp_line_commands::{
-    LineCommand, LineRun, WrongSetting, panel_settings, reader_settings, run_lines,
+use osdp_line_calls::{
+    LineCommand, LineDevice, LinePanel, LineRun, WrongSetting, panel_settings, reader_settings,
+    run_lines,
 };
-use osdp_panel_calls::LinePanel;
-use osdp_reader_calls::LineDevice;
-use osdp_tool::{Job, ToolFault, Watched, check, job, make, show, sim};
+use osdp_tool::{Choice, Job, VERSION, arguments, choose, help_text, job, lent, make};
 use osdp_tool_listen::{Moments, monitor, monitor_mode};
-use osdp_tool_streams::{flush_out, write_out};
+use osdp_tool_show::{check, show};
+use osdp_tool_sim::sim;
+use osdp_tool_streams::{ToolFault, Watched, flush_out, write_out};
 use std::process::ExitCode;
 use std::time::Instant;
 

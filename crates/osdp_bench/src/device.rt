@@ -6,7 +6,7 @@ use osdp_controller::{Controller, ControllerConfig};
 use osdp_frame::{Address, CheckKind, FrameView, Seq};
 use osdp_msg::Command;
 use osdp_reader::{Answer, Handler, Reader};
-use osdp_script_reader::script_config;
+use osdp_script::script_config;
 use std::alloc::Global;
 
 /// A device that does all that it is told.

@@ -4,7 +4,7 @@ use crate::device::Device;
 use osdp_controller::ControllerConfig;
 use osdp_frame::{Address, CheckKind};
 use osdp_msg::{Command, OutputRecord, Outputs};
-use osdp_script_reader::script_config;
+use osdp_script::script_config;
 use osdp_session::run_session;
 use osdp_sim::{Move, SimConfig, SimStep};
 use std::alloc::Global;

@@ -9,7 +9,7 @@ use Rattle.osdp_reader.specs.declared.handler.Answer.{Answer}
 use Rattle.osdp_reader.specs.declared.handler.Answer.TheVariants as answer
 use Rattle.osdp_door.specs.declared.door.Door.{Door}
 use Rattle.osdp_door.specs.declared.output.DoorOutput.{DoorOutput}
-use Rattle.osdp_door.specs.Known.{all_known}
+use Rattle.osdp_script.specs.Known.{all_known}
 use Rattle.osdp_door.specs.Outputs.{controlled, is_on, off, passed}
 
 abbrev pub closed_door : Door

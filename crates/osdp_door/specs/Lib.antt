@@ -1,4 +1,3 @@
-pub mod Known
 pub mod Outputs
 pub mod DoorRules
 pub mod Laws

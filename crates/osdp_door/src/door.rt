@@ -6,11 +6,11 @@ ghost use Rattle.osdp_reader.specs.declared.fault.ReaderFault.TheVariants.{OutOf
 ghost use Rattle.osdp_door.specs.DoorRules.{after_time, bit, closed_door, color_after, outputs_after, switched, with_input};
 ghost use Rattle.osdp_door.specs.Outputs.{is_on};
 
-use crate::known::are_known;
 use crate::output::DoorOutput;
 use arrayvec::ArrayVec;
 use osdp_msg::{Command, LedRecord, MAX_DATA, NakReason, OutputRecord};
 use osdp_reader::{Answer, Handler, Reader, ReaderConfig, ReaderFault};
+use osdp_script::are_known;
 use std::alloc::Global;
 
 /// How many events wait until the controller has them.

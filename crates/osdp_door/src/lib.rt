@@ -15,11 +15,9 @@
 #![tactic(auto)]
 
 mod door;
-mod known;
 mod laws;
 mod output;
 
 pub use door::{Door, new_reader};
-pub use known::are_known;
 pub use laws::{comes_back, passes_in_pieces, stays_for_good, stays_in_the_end};
 pub use output::DoorOutput;

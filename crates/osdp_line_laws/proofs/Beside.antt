@@ -16,12 +16,12 @@ use Rattle.osdp_bus_laws.proofs.Calling.{sound_call, sound_calls, sound_new}
 use Rattle.osdp_bus_laws.proofs.Moments.{moments_are_seen}
 use Rattle.osdp_bus_laws.proofs.Silences.{silences_end_runs}
 use Rattle.osdp_bus_laws.proofs.Sound.{SoundBus, either_held}
-use Rattle.osdp_panel_calls.specs.declared.call.PanelCall.{PanelCall}
-use Rattle.osdp_panel_calls.specs.declared.call.PanelCall.TheVariants.{At, Add, Begin, Submit, Withdraw, Retarget, Bytes, Silence, Tick}
-use Rattle.osdp_panel_calls.specs.Passing.{Listening, Overheard, hears_begin, hears_bytes, hears_end, hears_nothing, hears_silence, is_open, sees}
-use Rattle.osdp_panel_calls.specs.PassingLaws.{IsNotOpen}
-use Rattle.osdp_panel_calls.proofs.PassedOver.{tells_all}
-use Rattle.osdp_panel_calls.specs.Sessions.{Session, new_session, overhears}
+use Rattle.osdp_line_calls.specs.declared.panel_call.PanelCall.{PanelCall}
+use Rattle.osdp_line_calls.specs.declared.panel_call.PanelCall.TheVariants.{At, Add, Begin, Submit, Withdraw, Retarget, Bytes, Silence, Tick}
+use Rattle.osdp_line_calls.specs.Passing.{Listening, Overheard, hears_begin, hears_bytes, hears_end, hears_nothing, hears_silence, is_open, sees}
+use Rattle.osdp_line_calls.specs.PassingLaws.{IsNotOpen}
+use Rattle.osdp_line_calls.proofs.PassedOver.{tells_all}
+use Rattle.osdp_line_calls.specs.PanelSessions.{Session, new_session, overhears}
 use Rattle.osdp_line_laws.proofs.OneSession.{open_in, shut_is}
 use Rattle.osdp_line_laws.proofs.Openness.{Agree, agree_add, agree_begin, agree_bytes, agree_silence, agree_submit, agree_taken, agree_tick, agree_withdraw, open_of, room_taken, with_report}
 use Rattle.osdp_line_laws.proofs.PanelRuns.{runs_are_calls}

@@ -2,14 +2,14 @@
 use Rattle.std.proofs.Common.{◌≡◌, ◌∙◌, ◌⊎◌, ap, sym, subst, refl, ℕ, List, [], ◌∷◌, ◌++◌, inl, inr, append-nil}
 use Rattle.osdp_bus.specs.Buses.{BusState}
 use Rattle.osdp_bus_laws.specs.Calls.{Call, NextReport, after_call, after_calls}
-use Rattle.osdp_line_streams.specs.Answers.{Speaks}
-use Rattle.osdp_line_streams.specs.Calls.{Says, SaysNothing}
-use Rattle.osdp_panel_calls.specs.declared.call.PanelCall.{PanelCall}
-use Rattle.osdp_panel_calls.specs.declared.call.PanelCall.TheVariants.{At, Add, Begin, Submit, Withdraw, Retarget, Bytes, Silence, Tick}
-use Rattle.osdp_panel_calls.specs.Calls.{CallFits, call_words}
-use Rattle.osdp_panel_calls.specs.Lines.{Answers, IsAnswered, refuses}
-use Rattle.osdp_panel_calls.specs.Sessions.{Called, IsDue, Session, answered, does, ended, overhears, then_reports}
-use Rattle.osdp_panel_calls.specs.Texts.{due_line, report_line}
+use Rattle.osdp_line_calls.specs.Answers.{Speaks}
+use Rattle.osdp_line_calls.specs.Calls.{Says, SaysNothing}
+use Rattle.osdp_line_calls.specs.declared.panel_call.PanelCall.{PanelCall}
+use Rattle.osdp_line_calls.specs.declared.panel_call.PanelCall.TheVariants.{At, Add, Begin, Submit, Withdraw, Retarget, Bytes, Silence, Tick}
+use Rattle.osdp_line_calls.specs.PanelCalls.{CallFits, call_words}
+use Rattle.osdp_line_calls.specs.PanelLines.{Answers, IsAnswered, refuses}
+use Rattle.osdp_line_calls.specs.PanelSessions.{Called, IsDue, Session, answered, does, ended, overhears, then_reports}
+use Rattle.osdp_line_calls.specs.PanelTexts.{due_line, report_line}
 use Rattle.osdp_line_laws.proofs.Lines.{of_all}
 use Rattle.osdp_line_laws.specs.PanelLines.{Calls, Refused, calls_text, ordered}
 

@@ -8,15 +8,15 @@ use Rattle.osdp_device.specs.Telling.{after_items, items_of, said_to_all}
 use Rattle.osdp_device.specs.declared.status.DeviceStatus.{DeviceStatus}
 use Rattle.osdp_frame.specs.Items.{items}
 use Rattle.osdp_frame.specs.Reading.{RunItem, PacketItem, SkippedItem, RefusedItem}
-use Rattle.osdp_line_streams.specs.Answers.{Speaks}
-use Rattle.osdp_line_streams.specs.Calls.{Says, SaysNothing}
+use Rattle.osdp_line_calls.specs.Answers.{Speaks}
+use Rattle.osdp_line_calls.specs.Calls.{Says, SaysNothing}
 use Rattle.osdp_reader.specs.State.{ReaderState}
-use Rattle.osdp_reader_calls.specs.declared.call.ReaderCall.{ReaderCall}
-use Rattle.osdp_reader_calls.specs.declared.call.ReaderCall.TheVariants.{At, Bytes, Silence, Tick, Event, Busy, Inputs, Outputs, Readers, Local}
-use Rattle.osdp_reader_calls.specs.Calls.{CallFits, call_words}
-use Rattle.osdp_reader_calls.specs.Lines.{Answers, IsAnswered}
-use Rattle.osdp_reader_calls.specs.Sessions.{Called, Session, does, submit_text}
-use Rattle.osdp_reader_calls.specs.Texts.{all_lines, said_lines, waiting_line}
+use Rattle.osdp_line_calls.specs.declared.reader_call.ReaderCall.{ReaderCall}
+use Rattle.osdp_line_calls.specs.declared.reader_call.ReaderCall.TheVariants.{At, Bytes, Silence, Tick, Event, Busy, Inputs, Outputs, Readers, Local}
+use Rattle.osdp_line_calls.specs.ReaderCalls.{CallFits, call_words}
+use Rattle.osdp_line_calls.specs.ReaderLines.{Answers, IsAnswered}
+use Rattle.osdp_line_calls.specs.ReaderSessions.{Called, Session, does, submit_text}
+use Rattle.osdp_line_calls.specs.ReaderTexts.{all_lines, said_lines, waiting_line}
 use Rattle.osdp_line_laws.proofs.Lines.{of_all}
 use Rattle.osdp_line_laws.specs.ReaderLines.{Hears, Refused, Step, TakesSteps, after_step, after_steps, hears_held, hears_packets, hears_with, ordered, step_text, steps_text}
 

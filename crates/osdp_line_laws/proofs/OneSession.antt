@@ -25,8 +25,8 @@ use Rattle.osdp_msg.specs.declared.event.Event.{Event as EventOfReader}
 use Rattle.osdp_msg.specs.declared.reply.Reply.{Reply}
 use Rattle.osdp_msg.specs.declared.reply_fields.PdId.{PdId}
 use Rattle.osdp_msg.specs.Events.{event_in}
-use Rattle.osdp_panel_calls.specs.Passing.{opened_told}
-use Rattle.osdp_panel_calls.specs.PassingLaws.{IsNotOpenIn}
+use Rattle.osdp_line_calls.specs.Passing.{opened_told}
+use Rattle.osdp_line_calls.specs.PassingLaws.{IsNotOpenIn}
 
 -- an exchange of an open session is no opening
 abbrev pub is_asked : Exchange → Bool

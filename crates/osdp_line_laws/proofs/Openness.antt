@@ -27,7 +27,7 @@ use Rattle.osdp_bus_laws.proofs.OneDevice.{heard_told}
 use Rattle.osdp_bus_laws.proofs.Places.{is_false}
 use Rattle.osdp_bus_laws.proofs.Sound.{SoundBus, either_held, sound_packet, sound_seen, sound_silent}
 use Rattle.osdp_bus_laws.proofs.Turning.{set_here, set_other}
-use Rattle.osdp_panel_calls.specs.Passing.{is_open, opened_by, opened_told, set_open}
+use Rattle.osdp_line_calls.specs.Passing.{is_open, opened_by, opened_told, set_open}
 use Rattle.osdp_line_laws.proofs.OneSession.{heard_as, open_in, open_told, ticked_as}
 
 abbrev pub open_of : Option Device → Bool

@@ -1,11 +1,11 @@
 -- A run of lines to a panel, line by line.
 use Rattle.std.proofs.Common.{◌≡◌, ◌∙◌, ap, subst, refl, ℕ, List, [], ◌∷◌, ◌++◌, Option, Some, None, inl, inr}
-use Rattle.osdp_line_streams.specs.Answers.{heard}
-use Rattle.osdp_panel_calls.specs.declared.call.PanelCall.{PanelCall}
-use Rattle.osdp_panel_calls.specs.declared.call.PanelCall.TheVariants.{At, Add, Begin, Submit, Withdraw, Retarget, Bytes, Silence, Tick}
-use Rattle.osdp_panel_calls.specs.Lines.{IsAnswered, refuses}
-use Rattle.osdp_panel_calls.specs.Sessions.{Called, IsDue, Session, answered, ended, overhears}
-use Rattle.osdp_panel_calls.specs.Texts.{due_line}
+use Rattle.osdp_line_calls.specs.Answers.{heard}
+use Rattle.osdp_line_calls.specs.declared.panel_call.PanelCall.{PanelCall}
+use Rattle.osdp_line_calls.specs.declared.panel_call.PanelCall.TheVariants.{At, Add, Begin, Submit, Withdraw, Retarget, Bytes, Silence, Tick}
+use Rattle.osdp_line_calls.specs.PanelLines.{IsAnswered, refuses}
+use Rattle.osdp_line_calls.specs.PanelSessions.{Called, IsDue, Session, answered, ended, overhears}
+use Rattle.osdp_line_calls.specs.PanelTexts.{due_line}
 use Rattle.osdp_line_laws.proofs.OfPanels.{made}
 use Rattle.osdp_line_laws.specs.PanelRuns.{IsSaid, RunsAreCalls, Tells, after_said, said_text}
 

@@ -1,17 +1,17 @@
 -- A run of lines to a reader's device, line by line.
 use Rattle.std.proofs.Common.{◌≡◌, ◌∙◌, ap, refl, ℕ, List, [], ◌∷◌, ◌++◌, length, Option, Some, None, inl, inr}
-use Rattle.osdp_line_streams.specs.Answers.{heard}
+use Rattle.osdp_line_calls.specs.Answers.{heard}
 use Rattle.osdp_reader.specs.State.{ReaderState}
 use Rattle.osdp_device.specs.Receiving.{Received}
 use Rattle.osdp_device.specs.Status.{status_after, status_answer}
 use Rattle.osdp_device.specs.Hearing.{hears_bytes}
 use Rattle.osdp_device.specs.Receiving.{seen}
 use Rattle.osdp_device.specs.declared.status.DeviceStatus.{DeviceStatus}
-use Rattle.osdp_reader_calls.specs.declared.call.ReaderCall.{ReaderCall}
-use Rattle.osdp_reader_calls.specs.declared.call.ReaderCall.TheVariants.{At, Bytes, Silence, Tick, Event, Busy, Inputs, Outputs, Readers, Local}
-use Rattle.osdp_reader_calls.specs.Lines.{IsAnswered}
-use Rattle.osdp_reader_calls.specs.Sessions.{Called, Session, does}
-use Rattle.osdp_reader_calls.specs.Texts.{waiting_line}
+use Rattle.osdp_line_calls.specs.declared.reader_call.ReaderCall.{ReaderCall}
+use Rattle.osdp_line_calls.specs.declared.reader_call.ReaderCall.TheVariants.{At, Bytes, Silence, Tick, Event, Busy, Inputs, Outputs, Readers, Local}
+use Rattle.osdp_line_calls.specs.ReaderLines.{IsAnswered}
+use Rattle.osdp_line_calls.specs.ReaderSessions.{Called, Session, does}
+use Rattle.osdp_line_calls.specs.ReaderTexts.{waiting_line}
 use Rattle.osdp_line_laws.proofs.OfReaders.{call_steps}
 use Rattle.osdp_line_laws.specs.ReaderLines.{after_steps, ordered}
 use Rattle.osdp_line_laws.specs.ReaderRuns.{IsSaid, RunsAreCalls, after_all_said, after_said, all_said_text, line_after, moment_after, said_text, with_bytes}

@@ -5,14 +5,14 @@ use Rattle.osdp_bus.specs.Buses.{BusState, new_bus}
 use Rattle.osdp_bus.specs.Machine.{add_refusal, begin_refusal_at, retarget_refusal_at, submit_refusal_at, withdrawal_at}
 use Rattle.osdp_bus.specs.Ticking.{bus_ticks}
 use Rattle.osdp_bus_laws.specs.Calls.{Call, Add, Begin, Submit, Withdraw, Retarget, OnBytes, OnSilence, Tick, NextReport, after_call, after_calls}
-use Rattle.osdp_line_streams.specs.Answers.{Speaks}
-use Rattle.osdp_line_streams.specs.Calls.{Says, SaysNothing}
-use Rattle.osdp_panel_calls.specs.declared.call.PanelCall.{PanelCall}
-use Rattle.osdp_panel_calls.specs.declared.call.PanelCall.TheVariants as line
-use Rattle.osdp_panel_calls.specs.Calls.{CallFits, call_words}
-use Rattle.osdp_panel_calls.specs.Lines.{Answers}
-use Rattle.osdp_panel_calls.specs.Sessions.{IsDue, Session, new_session, overhears}
-use Rattle.osdp_panel_calls.specs.Texts.{due_line, no_line, refusal_line, report_line, send_line, withdrawal_line}
+use Rattle.osdp_line_calls.specs.Answers.{Speaks}
+use Rattle.osdp_line_calls.specs.Calls.{Says, SaysNothing}
+use Rattle.osdp_line_calls.specs.declared.panel_call.PanelCall.{PanelCall}
+use Rattle.osdp_line_calls.specs.declared.panel_call.PanelCall.TheVariants as line
+use Rattle.osdp_line_calls.specs.PanelCalls.{CallFits, call_words}
+use Rattle.osdp_line_calls.specs.PanelLines.{Answers}
+use Rattle.osdp_line_calls.specs.PanelSessions.{IsDue, Session, new_session, overhears}
+use Rattle.osdp_line_calls.specs.PanelTexts.{due_line, no_line, refusal_line, report_line, send_line, withdrawal_line}
 
 -- the call of the bus that a line orders, at the moment of the session; a moment is none
 abbrev pub ordered : PanelCall → ℕ → List Call

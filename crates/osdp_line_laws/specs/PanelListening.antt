@@ -7,11 +7,11 @@ use Rattle.osdp_bus.specs.Settings.{IsBusConfig}
 use Rattle.osdp_controller.specs.Hearing.{hears, ignores}
 use Rattle.osdp_controller.specs.Sessions.{seen}
 use Rattle.osdp_frame.specs.Packet.{Packet}
-use Rattle.osdp_line_streams.specs.Answers.{Speaks}
-use Rattle.osdp_panel_calls.specs.Lines.{Answers}
-use Rattle.osdp_panel_calls.specs.Passing.{is_open, passed_text}
-use Rattle.osdp_panel_calls.specs.PassingLaws.{IsNotOpen}
-use Rattle.osdp_panel_calls.specs.Sessions.{Session, new_session}
+use Rattle.osdp_line_calls.specs.Answers.{Speaks}
+use Rattle.osdp_line_calls.specs.PanelLines.{Answers}
+use Rattle.osdp_line_calls.specs.Passing.{is_open, passed_text}
+use Rattle.osdp_line_calls.specs.PassingLaws.{IsNotOpen}
+use Rattle.osdp_line_calls.specs.PanelSessions.{Session, new_session}
 
 pub record ListensBesideItsBus (s : Session) : Type 0 where
   -- a session is told open exactly where it is open: else it is closed, waits for quiet, or opens with number 0

@@ -1,15 +1,15 @@
 -- A run of lines to a panel, from the first to the last: which calls the lines are, what is told of them, and what the panel is after them.
 use Rattle.std.specs.Prelude.{◌≡◌, ℕ, List, [], ◌∷◌, ◌++◌, Option, Some, None}
 use Rattle.osdp_bus_laws.specs.Calls.{Call, NextReport, after_calls}
-use Rattle.osdp_line_streams.specs.Answers.{Speaks, heard}
-use Rattle.osdp_line_streams.specs.Calls.{Says, SaysNothing}
-use Rattle.osdp_panel_calls.specs.declared.call.PanelCall.{PanelCall}
-use Rattle.osdp_panel_calls.specs.declared.call.PanelCall.TheVariants as line
-use Rattle.osdp_panel_calls.specs.Calls.{CallFits, call_words}
-use Rattle.osdp_panel_calls.specs.Lines.{Answers}
-use Rattle.osdp_panel_calls.specs.Passing.{Listening, opened_by}
-use Rattle.osdp_panel_calls.specs.Sessions.{IsDue, Session, overhears}
-use Rattle.osdp_panel_calls.specs.Texts.{due_line, no_line}
+use Rattle.osdp_line_calls.specs.Answers.{Speaks, heard}
+use Rattle.osdp_line_calls.specs.Calls.{Says, SaysNothing}
+use Rattle.osdp_line_calls.specs.declared.panel_call.PanelCall.{PanelCall}
+use Rattle.osdp_line_calls.specs.declared.panel_call.PanelCall.TheVariants as line
+use Rattle.osdp_line_calls.specs.PanelCalls.{CallFits, call_words}
+use Rattle.osdp_line_calls.specs.PanelLines.{Answers}
+use Rattle.osdp_line_calls.specs.Passing.{Listening, opened_by}
+use Rattle.osdp_line_calls.specs.PanelSessions.{IsDue, Session, overhears}
+use Rattle.osdp_line_calls.specs.PanelTexts.{due_line, no_line}
 use Rattle.osdp_line_laws.specs.PanelLines.{calls_text, ordered}
 
 -- a line says this call, or none

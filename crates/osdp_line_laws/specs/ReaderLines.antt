@@ -8,18 +8,18 @@ use Rattle.osdp_device.specs.declared.status.DeviceStatus.{DeviceStatus}
 use Rattle.osdp_frame.specs.Items.{items}
 use Rattle.osdp_frame.specs.Packet.{Packet}
 use Rattle.osdp_frame.specs.Reading.{RunItem, PacketItem, SkippedItem, RefusedItem}
-use Rattle.osdp_line_streams.specs.Answers.{Speaks}
-use Rattle.osdp_line_streams.specs.Calls.{Says, SaysNothing}
+use Rattle.osdp_line_calls.specs.Answers.{Speaks}
+use Rattle.osdp_line_calls.specs.Calls.{Says, SaysNothing}
 use Rattle.osdp_msg.specs.declared.event.Event.{Event}
 use Rattle.osdp_reader.specs.State.{ReaderState, after_set_busy, after_set_handler, new_reader}
 use Rattle.osdp_reader.specs.Table.{hears, kind_of}
 use Rattle.osdp_reader.specs.declared.config.ReaderConfig.{ReaderConfig}
-use Rattle.osdp_reader_calls.specs.declared.call.ReaderCall.{ReaderCall}
-use Rattle.osdp_reader_calls.specs.declared.call.ReaderCall.TheVariants as line
-use Rattle.osdp_reader_calls.specs.Calls.{CallFits, call_words}
-use Rattle.osdp_reader_calls.specs.Lines.{Answers}
-use Rattle.osdp_reader_calls.specs.Sessions.{Session, after_event, new_session, submit_text}
-use Rattle.osdp_reader_calls.specs.Texts.{all_lines, no_line, waiting_line}
+use Rattle.osdp_line_calls.specs.declared.reader_call.ReaderCall.{ReaderCall}
+use Rattle.osdp_line_calls.specs.declared.reader_call.ReaderCall.TheVariants as line
+use Rattle.osdp_line_calls.specs.ReaderCalls.{CallFits, call_words}
+use Rattle.osdp_line_calls.specs.ReaderLines.{Answers}
+use Rattle.osdp_line_calls.specs.ReaderSessions.{Session, after_event, new_session, submit_text}
+use Rattle.osdp_line_calls.specs.ReaderTexts.{all_lines, no_line, waiting_line}
 
 -- what a reader is called with: a packet of its line, an event, which is refused where there is no room, and what its device sets
 pub data Step : Type 0 where

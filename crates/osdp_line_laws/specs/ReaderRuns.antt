@@ -3,14 +3,14 @@ use Rattle.std.specs.Prelude.{◌≡◌, ℕ, false, List, [], ◌∷◌, ◌++�
 use Rattle.osdp_device.specs.Receiving.{Received, after_silence, after_tick, ends_silent, seen}
 use Rattle.osdp_device.specs.Telling.{after_all, items_of}
 use Rattle.osdp_frame.specs.Items.{left_over}
-use Rattle.osdp_line_streams.specs.Answers.{Speaks, heard}
-use Rattle.osdp_line_streams.specs.Calls.{Says, SaysNothing}
-use Rattle.osdp_reader_calls.specs.declared.call.ReaderCall.{ReaderCall}
-use Rattle.osdp_reader_calls.specs.declared.call.ReaderCall.TheVariants as line
-use Rattle.osdp_reader_calls.specs.Calls.{CallFits, call_words}
-use Rattle.osdp_reader_calls.specs.Lines.{Answers}
-use Rattle.osdp_reader_calls.specs.Sessions.{Session}
-use Rattle.osdp_reader_calls.specs.Texts.{no_line, waiting_line}
+use Rattle.osdp_line_calls.specs.Answers.{Speaks, heard}
+use Rattle.osdp_line_calls.specs.Calls.{Says, SaysNothing}
+use Rattle.osdp_line_calls.specs.declared.reader_call.ReaderCall.{ReaderCall}
+use Rattle.osdp_line_calls.specs.declared.reader_call.ReaderCall.TheVariants as line
+use Rattle.osdp_line_calls.specs.ReaderCalls.{CallFits, call_words}
+use Rattle.osdp_line_calls.specs.ReaderLines.{Answers}
+use Rattle.osdp_line_calls.specs.ReaderSessions.{Session}
+use Rattle.osdp_line_calls.specs.ReaderTexts.{no_line, waiting_line}
 use Rattle.osdp_line_laws.specs.ReaderLines.{after_steps, ordered, steps_text}
 
 -- a line says this call, or none

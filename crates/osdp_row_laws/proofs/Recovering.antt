@@ -6,9 +6,9 @@ use Rattle.osdp_bus_progress.specs.Progress as buses
 use Rattle.osdp_bus_progress.specs.Progress.{EachAnswerRecovers, HasItsShare}
 use Rattle.osdp_link_laws.specs.OneHandler.{with_answers}
 use Rattle.osdp_link_laws.specs.Progress.{SetsNoAddress}
-use Rattle.osdp_script_reader.specs.Handler.{handler_after, handler_answer, new_handler}
-use Rattle.osdp_script_reader.specs.Identity.{script_config}
-use Rattle.osdp_script_reader.specs.declared.handler.ScriptReader.{ScriptReader}
+use Rattle.osdp_script.specs.Handler.{handler_after, handler_answer, new_handler}
+use Rattle.osdp_script.specs.Identity.{script_config}
+use Rattle.osdp_script.specs.declared.handler.ScriptReader.{ScriptReader}
 use Rattle.osdp_sim.specs.Account.{Account, lists_of}
 use Rattle.osdp_sim.specs.Rounds.{rounds}
 use Rattle.osdp_sim.specs.declared.step.Move.TheVariants.{Drop}

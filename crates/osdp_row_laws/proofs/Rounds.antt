@@ -6,7 +6,7 @@ use Rattle.osdp_link_laws.specs.OneHandler.{with_answers}
 use Rattle.osdp_link_laws.specs.Progress.{SetsNoAddress}
 use Rattle.osdp_msg.specs.declared.command.Command.{Command}
 use Rattle.osdp_msg.specs.declared.event.Event.{Event}
-use Rattle.osdp_script_reader.specs.Handler.{handler_after, handler_answer, new_handler}
+use Rattle.osdp_script.specs.Handler.{handler_after, handler_answer, new_handler}
 use Rattle.osdp_sim.specs.Account.{lists_of}
 use Rattle.osdp_sim.specs.Rounds.{clean}
 use Rattle.osdp_sim.specs.Runs.{AreSettings}

@@ -4,7 +4,7 @@ use Rattle.osdp_link_laws.specs.OneHandler.{with_answers}
 use Rattle.osdp_msg.specs.declared.command.Command.{Command}
 use Rattle.osdp_msg.specs.declared.reply.Reply.{Reply}
 use Rattle.osdp_msg.specs.declared.reply.Reply.TheVariants.{Ack}
-use Rattle.osdp_script_reader.specs.Handler.{handler_after, handler_answer, new_handler}
+use Rattle.osdp_script.specs.Handler.{handler_after, handler_answer, new_handler}
 use Rattle.osdp_sim.specs.Account.{lists_of}
 use Rattle.osdp_sim_laws.specs.Accounts.{AnswersHoldOnce}
 use Rattle.osdp_row_laws.specs.Rounds.{buz, config, out}

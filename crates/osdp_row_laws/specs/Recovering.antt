@@ -6,9 +6,9 @@ use Rattle.osdp_bus.specs.declared.config.BusConfig.{BusConfig}
 use Rattle.osdp_bus_progress.specs.Progress as buses
 use Rattle.osdp_frame.specs.declared.check_kind.CheckKind.TheVariants.{Crc}
 use Rattle.osdp_msg.specs.declared.reply.Reply.TheVariants.{Ack}
-use Rattle.osdp_script_reader.specs.Handler.{handler_after, handler_answer, new_handler}
-use Rattle.osdp_script_reader.specs.Identity.{script_config}
-use Rattle.osdp_script_reader.specs.declared.handler.ScriptReader.{ScriptReader}
+use Rattle.osdp_script.specs.Handler.{handler_after, handler_answer, new_handler}
+use Rattle.osdp_script.specs.Identity.{script_config}
+use Rattle.osdp_script.specs.declared.handler.ScriptReader.{ScriptReader}
 use Rattle.osdp_sim.specs.Account.{Account, lists_of}
 use Rattle.osdp_sim.specs.Rounds.{rounds}
 use Rattle.osdp_sim.specs.declared.account.Account as declared

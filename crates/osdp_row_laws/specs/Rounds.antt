@@ -7,8 +7,8 @@ use Rattle.osdp_msg.specs.declared.command.Command.TheVariants.{Buzzer, Output}
 use Rattle.osdp_msg.specs.declared.event.Event.{Event}
 use Rattle.osdp_msg.specs.declared.event.Event.TheVariants.{Keypad}
 use Rattle.osdp_msg.specs.declared.reply.Reply.TheVariants.{Ack}
-use Rattle.osdp_script_reader.specs.Handler.{handler_after, handler_answer, new_handler}
-use Rattle.osdp_script_reader.specs.Identity.{script_config}
+use Rattle.osdp_script.specs.Handler.{handler_after, handler_answer, new_handler}
+use Rattle.osdp_script.specs.Identity.{script_config}
 use Rattle.osdp_sim.specs.Account.{lists_of}
 use Rattle.osdp_sim.specs.Rounds.{clean}
 use Rattle.osdp_sim.specs.declared.account.Account as declared

@@ -3,7 +3,7 @@ use Rattle.std.specs.Prelude.{◌≡◌, All, List, [], ◌∷◌, Ok}
 use Rattle.osdp_msg.specs.declared.command.Command.{Command}
 use Rattle.osdp_msg.specs.declared.reply.Reply.{Reply}
 use Rattle.osdp_msg.specs.declared.reply.Reply.TheVariants.{Ack}
-use Rattle.osdp_script_reader.specs.Handler.{handler_after, handler_answer, new_handler}
+use Rattle.osdp_script.specs.Handler.{handler_after, handler_answer, new_handler}
 use Rattle.osdp_sim.specs.Account.{lists_of}
 use Rattle.osdp_sim.specs.declared.account.Account as declared
 use Rattle.osdp_sim.specs.declared.step.SimStep.{SimStep}

@@ -1,8 +1,8 @@
 -- Whose round each is, and what it brings, over the bus of a script with two readers.
 use Rattle.std.specs.Prelude.{◌≡◌, ◌≤◌, ◌<◌, ◌+◌, ℕ, suc, List, [], ◌∷◌, length, Some, slice_get}
 use Rattle.osdp_bus_progress.specs.Resting.{AreRounds, HasNotEnded, IsIdle, IsItsRound, after_rounds}
-use Rattle.osdp_script_reader.specs.Handler.{handler_after, handler_answer}
-use Rattle.osdp_script_reader.specs.declared.handler.ScriptReader.{ScriptReader}
+use Rattle.osdp_script.specs.Handler.{handler_after, handler_answer}
+use Rattle.osdp_script.specs.declared.handler.ScriptReader.{ScriptReader}
 use Rattle.osdp_sim.specs.Account.{Account}
 use Rattle.osdp_sim.specs.declared.step.SimStep.{SimStep}
 use Rattle.osdp_sim.specs.declared.step.SimStep.TheVariants.{Issue}

@@ -10,7 +10,7 @@ ghost use Rattle.osdp_row_laws.specs.Rounds.{ThreeRoundsSettleTwoAndReportOne};
 ghost use Rattle.osdp_row_laws.specs.Taken.{OfTwoTakenOneIsSettled};
 ghost use Rattle.osdp_row_laws.specs.Turns.{ItsSecondRoundSettles, OneOfTwoIsItsRound};
 
-use osdp_script_reader::ScriptReader;
+use osdp_script::ScriptReader;
 
 /// A reader at 5 with room for four events, an OUT and a BUZ for it, two events of it, and `clean 3`: where there is memory, both commands are taken
 /// and settled by ACK in their order, the first event is reported, no command is unsettled, and the session lasts.

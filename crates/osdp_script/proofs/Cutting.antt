@@ -1,8 +1,8 @@
 -- The first line of bytes, and the lines after it.
 use Rattle.std.proofs.Common.{◌≡◌, ◌≢◌, ℕ, zero, suc, ◌+◌, ◌-◌, ◌<◌, ◌≤◌, List, [], ◌∷◌, ◌++◌, length, get_or, take, drop, inl, sym, ap, ◌∙◌, arith, take-append-drop}
 use Rattle.std.proofs.lemmas.List.{drop_more, length-drop, take_all}
-use Rattle.osdp_tool_input.specs.Cut.{IsLine, ended_lines, last_line, line_feed, lines_of, unended_line}
-use Rattle.osdp_tool_input.proofs.CutLemmas.{ended_after-feed, ended_after-line, unended_after-feed, unended_after-line}
+use Rattle.osdp_tool_streams.specs.Cut.{IsLine, ended_lines, last_line, line_feed, lines_of, unended_line}
+use Rattle.osdp_tool_streams.proofs.CutLemmas.{ended_after-feed, ended_after-line, unended_after-feed, unended_after-line}
 use Rattle.osdp_script.specs.Words.{BeginsWithLine}
 
 -- a beginning without a line feed

@@ -5,3 +5,8 @@ pub mod Judging
 pub mod Passing
 pub mod InTurn
 pub mod Settings
+pub mod Switching
+pub mod OneLine
+pub mod OneScript
+pub mod PrintedLine
+pub mod ReadBack

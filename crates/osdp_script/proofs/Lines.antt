@@ -1,7 +1,7 @@
 -- Lines, read one after the other.
 use Rattle.std.proofs.Common.{◌≡◌, ℕ, ◌+◌, ◌<◌, ◌≤◌, List, [], ◌∷◌, ◌++◌, length, refl, sym, ap, subst, ◌∙◌, arith, append_assoc, append-nil}
 use Rattle.std.proofs.lemmas.List.{length-append}
-use Rattle.osdp_tool_input.specs.Cut.{lines_of}
+use Rattle.osdp_tool_streams.specs.Cut.{lines_of}
 use Rattle.osdp_script.specs.Drafts.{EndsReading}
 use Rattle.osdp_script.specs.Reading.{AreRead, IsBad, IsFirstBad, IsRead}
 use Rattle.osdp_script.specs.Script.{Plan, no_plan}

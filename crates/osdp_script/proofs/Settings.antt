@@ -2,7 +2,7 @@
 use Rattle.std.proofs.Common.{◌≢◌, ◌≤◌, ℕ, List, [], ◌∷◌, ◌++◌, length, inl, inr, sym, subst, arith, length-append}
 use Rattle.std.specs.List.{All}
 use Rattle.std.proofs.lemmas.List.Elements.{All-append, All-cons, All-head, All-nil, All-tail}
-use Rattle.osdp_tool_input.specs.Cut.{lines_of}
+use Rattle.osdp_tool_streams.specs.Cut.{lines_of}
 use Rattle.osdp_script.specs.declared.script.ScriptLine.{ScriptLine}
 use Rattle.osdp_script.specs.declared.script.ScriptLine.TheVariants.{Check, Reader, Step, Clean}
 use Rattle.osdp_script.specs.Lines.{IsSetting, LineFits}

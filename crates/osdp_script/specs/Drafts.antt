@@ -1,6 +1,6 @@
 -- How the code keeps what the lines so far say, and judges the next.
 use Rattle.std.specs.Prelude.{◌≡◌, ℕ, ◌≤◌, Bool, true, false, List, length, map}
-use Rattle.osdp_tool_input.specs.Cut.{lines_of}
+use Rattle.osdp_tool_streams.specs.Cut.{lines_of}
 use Rattle.osdp_script.specs.declared.fault.ScriptFault.{ScriptFault}
 use Rattle.osdp_script.specs.declared.fault.ScriptFault.TheVariants.{BadLine, NoMemory}
 use Rattle.osdp_script.specs.declared.draft.Draft.{Draft}

@@ -6,3 +6,10 @@ pub mod Schedule
 pub mod Drafts
 pub mod Laws
 pub mod Settings
+pub mod Known
+pub mod Outputs
+pub mod Handler
+pub mod Identity
+pub mod OutputLaws
+pub mod Meaning
+pub mod Printed

@@ -1,6 +1,6 @@
 -- The script that bytes are, or the number of the first bad line.
 use Rattle.std.specs.Prelude.{◌≡◌, ◌≢◌, ◌⊎◌, ℕ, ◌+◌, ◌<◌, true, false, All, List, [], ◌∷◌, ◌++◌, length, None, Result, Ok, Err, IsUtf8}
-use Rattle.osdp_tool_input.specs.Cut.{lines_of}
+use Rattle.osdp_tool_streams.specs.Cut.{lines_of}
 use Rattle.osdp_words.specs.Word.{AllStandFor, words_in}
 use Rattle.osdp_script.specs.declared.fault.ScriptFault.{ScriptFault}
 use Rattle.osdp_script.specs.declared.fault.ScriptFault.TheVariants.{BadLine, NoMemory}

@@ -1,6 +1,6 @@
 -- A line of a script, and its characters.
 use Rattle.std.specs.Prelude.{◌≡◌, ◌⊎◌, ℕ, ◌==◌, not, Bool, true, if◌then◌else◌, List, [], ◌∷◌, ◌++◌, filter}
-use Rattle.osdp_tool_input.specs.Cut.{line_feed}
+use Rattle.osdp_tool_streams.specs.Cut.{line_feed}
 
 -- the bytes are a line, a line feed and the rest; or they are the line alone, and nothing is left
 abbrev pub BeginsWithLine : List ℕ → List ℕ → List ℕ → Type 0

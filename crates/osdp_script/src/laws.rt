@@ -1,7 +1,8 @@
-//! What holds of the lines of a script, whatever they are. The functions do nothing: their contracts are laws.
+//! What holds of the lines of a script, whatever they are, and of a reader's outputs. The functions do nothing: their contracts are laws.
 
 ghost use Rattle.osdp_script.specs.Laws.{ReadInTurn, StaysBad};
 ghost use Rattle.osdp_script.specs.Settings.{HasReaders};
+ghost use Rattle.osdp_script.specs.OutputLaws.{LastRecordCounts};
 
 /// A line is judged by those above it and itself alone: what some lines say, and then what more of them say, is what all of them say.
 pub fn reads_in_turn()
@@ -17,4 +18,9 @@ pub fn stays_bad()
 /// So a run never refuses the settings of a script.
 pub fn has_readers()
     ensures { HasReaders }
+{}
+
+/// An output is as the last record says that switches it, and as it was where none does.
+pub fn last_record_counts()
+    ensures { LastRecordCounts }
 {}

@@ -1,7 +1,7 @@
 //! A line of a script: where it ends, and its characters.
 
 ghost use Rattle.std.specs.Prelude.{◌≡◌, ◌<◌, ◌∷◌, [], length, IfOk, IfSome, MatchOption};
-ghost use Rattle.osdp_tool_input.specs.Cut.{lines_of};
+ghost use Rattle.osdp_tool_streams.specs.Cut.{lines_of};
 ghost use Rattle.osdp_script.specs.Words.{BeginsWithLine, characters, is_passed_over};
 
 use std::alloc::{AllocError, Global};

@@ -2,3 +2,4 @@ pub mod Runs
 pub mod Sessions
 pub mod SeveralReaders
 pub mod Taken
+pub mod Counts

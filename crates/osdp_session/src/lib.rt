@@ -8,6 +8,7 @@
 ghost use Rattle.osdp_session.specs.Runs.{HoldsOfRun};
 ghost use Rattle.std.specs.Prelude.{◌<◌, ◌^◌, length};
 
+pub mod counts;
 mod laws;
 mod several_readers;
 

@@ -1,8 +1,12 @@
-//! Tests of `osdp_sim` and `osdp_script`: schedules over a simulated line, with accounts worked out by hand, and a script that is read.
+//! Tests of `osdp_sim`, `osdp_sim_bus` and `osdp_script`: schedules worked by hand over simulated lines, and scripts that are read.
+//!
+//! They stand in a crate of their own since a crate with tests is proved twice.
 #![tactic(auto)]
 
 #[cfg(test)]
 mod accounts;
+#[cfg(test)]
+mod buses;
 #[cfg(test)]
 mod refusals;
 #[cfg(test)]

@@ -9,7 +9,7 @@ use osdp_door::Door;
 use osdp_frame::{Address, CheckKind};
 use osdp_msg::PdCap;
 use osdp_reader::ReaderConfig;
-use osdp_script_reader::script_config;
+use osdp_script::script_config;
 use osdp_session::run_session;
 use osdp_sim::{Account, Fault, Lengths, SimConfig};
 use std::alloc::Global;

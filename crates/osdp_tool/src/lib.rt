@@ -1,11 +1,20 @@
-//! What the program `osdp` does: `job` reads its words, and `show`, `check`, `make` and `sim` are its commands.
-//!
-//! Each stands in a crate of its own with its contract and laws; this one names them in one place.
+//! The words of the command line: which command they choose, the helps that they ask for, and the packet that they spell for `make`.
 #![tactic(auto)]
 
-pub use osdp_tool_input::Form;
-pub use osdp_tool_job::{Job, Mode, job};
-pub use osdp_tool_make::make;
-pub use osdp_tool_show::{check, command, show};
-pub use osdp_tool_sim::sim;
-pub use osdp_tool_streams::{LIMIT, ToolFault, Watched};
+mod choice;
+mod command_line;
+mod help;
+mod jobs;
+pub mod laws;
+mod making;
+mod options;
+mod order;
+mod words;
+
+pub use choice::{Choice, Topic, choose};
+pub use command_line::{arguments, lent};
+pub use help::{VERSION, help_text};
+pub use jobs::Job;
+pub use making::make;
+pub use order::{Message, PacketOrder};
+pub use words::job;

@@ -1,11 +1,11 @@
 -- Pieces of an input, one after the other.
 use Rattle.std.proofs.Common.{◌≡◌, ℕ, ◌+◌, ◌≤◌, Bool, true, false, cond, is_some, List, [], ◌∷◌, ◌++◌, length, map, flat_map, take, Option, Some, None, Result, Ok, Err, IsErrAnd, refl, sym, subst, ap, ◌∙◌, arith, append_assoc, append-nil, length-append}
 use Rattle.std.proofs.KnownBytes.{Appends-kept, Appends-nil, Appends-trans, Consumes-kept, Consumes-nil, Consumes-trans}
+use Rattle.std.proofs.Math.Seq.{take-append-add}
 use Rattle.std.proofs.lemmas.List.{map-append}
 use Rattle.std.proofs.lemmas.List.Concat.{flat_map-append}
 use Rattle.std.specs.Io.KnownBytes.{Appends, Consumes, Keeps}
-use Rattle.osdp_line_streams.proofs.Answered.{on_err}
-use Rattle.osdp_line_streams.proofs.Stopping.{take-beyond}
+use Rattle.osdp_tool_streams.proofs.Answered.{on_err}
 use Rattle.osdp_tool_streams.specs.declared.fault.ToolFault.{ToolFault}
 use Rattle.osdp_tool_streams.specs.declared.fault.ToolFault.TheVariants.{TooLong, ReadFailed, WriteFailed, NoMemory}
 use Rattle.osdp_tool_monitor.specs.Hearing.{Hears, LineEvent, after_events, events_report, hearing_of, nothing_yet, prints_all}
@@ -156,7 +156,7 @@ part_of tells mode first last i0 i2 start now after earlier later following more
       following = following;
       count = length front + count;
       least = omega arith;
-      written = subst (λ l. Appends start after l) (sym (ap (take (length front + count)) is ∙ take-beyond front more count))
+      written = subst (λ l. Appends start after l) (sym (ap (take (length front + count)) is ∙ take-append-add front more count))
           (Appends-trans start now after front (take count more) told wrote);
     }
 

@@ -3,12 +3,12 @@ use Rattle.std.proofs.Common.{◌≡◌, ℕ, ◌+◌, ◌-◌, ◌<◌, ◌≤�
 use Rattle.std.proofs.Math.Seq.{drop-drop}
 use Rattle.std.proofs.lemmas.List.{drop_more, map-append, take_rest}
 use Rattle.std.specs.List.{AllByRecursion}
-use Rattle.osdp_tool_input.specs.Cut.{IsLine, ended_after, line_feed, unended_after}
-use Rattle.osdp_tool_input.specs.Line.{is_blank, kept, line_bytes, said}
-use Rattle.osdp_tool_input.specs.Runs.{bad_line, good_front}
-use Rattle.osdp_tool_input.proofs.CutLemmas.{ended_after-feed, ended_after-line, unended_after-feed, unended_after-line}
-use Rattle.osdp_tool_input.proofs.FormLemmas.{kept-append}
-use Rattle.osdp_tool_input.proofs.RunsLemmas.{bad_line-append, good_front-append}
+use Rattle.osdp_tool_streams.specs.Cut.{IsLine, ended_after, line_feed, unended_after}
+use Rattle.osdp_tool_streams.specs.Line.{is_blank, kept, line_bytes, said}
+use Rattle.osdp_tool_streams.specs.Runs.{bad_line, good_front}
+use Rattle.osdp_tool_streams.proofs.CutLemmas.{ended_after-feed, ended_after-line, unended_after-feed, unended_after-line}
+use Rattle.osdp_tool_streams.proofs.FormLemmas.{kept-append}
+use Rattle.osdp_tool_streams.proofs.RunsLemmas.{bad_line-append, good_front-append}
 use Rattle.osdp_tool_monitor.specs.declared.open_line.OpenLine.{OpenLine}
 use Rattle.osdp_tool_monitor.specs.Hearing.{Come, Hearing, Hears, IsOpen, LineEvent, RunEnds, TableDue, after_events, hearing_of}
 use Rattle.osdp_tool_monitor.proofs.OpenRuns.{hears_nothing, hears_then}

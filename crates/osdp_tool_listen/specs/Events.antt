@@ -1,9 +1,9 @@
 -- What happens on a line, by the pieces in which its bytes come and by their moments.
 use Rattle.std.specs.Prelude.{ℕ, ◌+◌, ◌*◌, Bool, true, false, if◌then◌else◌, List, [], ◌∷◌, ◌++◌, length, map, flat_map, Option, None, Some, is_some}
 use Rattle.osdp_frame.specs.Silence.{is_silent_for}
-use Rattle.osdp_tool_input.specs.Cut.{ended_after, unended_after}
-use Rattle.osdp_tool_input.specs.Line.{kept}
-use Rattle.osdp_tool_input.specs.Runs.{bad_line, good_front}
+use Rattle.osdp_tool_streams.specs.Cut.{ended_after, unended_after}
+use Rattle.osdp_tool_streams.specs.Line.{kept}
+use Rattle.osdp_tool_streams.specs.Runs.{bad_line, good_front}
 use Rattle.osdp_tool_monitor.specs.Hearing.{Come, LineEvent, RunEnds, TableDue}
 use Rattle.osdp_tool_listen.specs.declared.mode.MonitorMode.{MonitorMode}
 

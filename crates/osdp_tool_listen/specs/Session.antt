@@ -1,6 +1,6 @@
 -- A session of listening: what stands in it, and what each piece of the input makes of it.
 use Rattle.std.specs.Prelude.{◌≡◌, ℕ, Bool, true, false, if◌then◌else◌, List, [], ◌∷◌, Option, None, Some}
-use Rattle.osdp_tool_input.specs.Line.{kept}
+use Rattle.osdp_tool_streams.specs.Line.{kept}
 use Rattle.osdp_tool_monitor.specs.Hearing.{Hears, IsOpen, LineEvent, hearing_of, nothing_yet, prints_all}
 use Rattle.osdp_tool_listen.specs.declared.session.Session.{Session}
 use Rattle.osdp_tool_listen.specs.Events.{Cut, Piece, after_bytes, after_piece, bad_at_end, bad_in, bytes_events, closing_events, end_events, nothing_cut, piece_events}

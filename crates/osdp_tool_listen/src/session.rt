@@ -2,17 +2,16 @@
 
 ghost use Rattle.std.specs.Prelude.{◌≡◌, ◌≢◌, ◌+◌, ◌*◌, ◌<◌, ◌≤◌, ◌^◌, ◌++◌, [], ◌∷◌, List, ℕ, Err, Option, true, false, length, take, get_or, is_some, IfErr, IfOk, OnOk, MatchOption, string_bytes};
 ghost use Rattle.osdp_frame.specs.Silence.{is_silent_for};
-ghost use Rattle.osdp_tool_input.specs.Cut.{IsLine, ended_after, line_feed, unended_after};
-ghost use Rattle.osdp_tool_input.specs.Line.{kept};
-ghost use Rattle.osdp_tool_input.specs.Runs.{bad_line};
+ghost use Rattle.osdp_tool_streams.specs.Cut.{IsLine, ended_after, line_feed, unended_after};
+ghost use Rattle.osdp_tool_streams.specs.Line.{kept};
+ghost use Rattle.osdp_tool_streams.specs.Runs.{bad_line};
 ghost use Rattle.osdp_tool_listen.specs.Events.{bad_in, byte_events, gap_events, is_due, is_over, nothing_cut, run_events, table_events, tabled_after};
 ghost use Rattle.osdp_tool_monitor.specs.Hearing.{TableDue, hearing_of, load, nothing_yet, prints_all};
 
 use crate::mode::MonitorMode;
 use memchr::memchr;
-use osdp_tool_input::{Digits, keep, read_line};
 use osdp_tool_monitor::OpenLine;
-use osdp_tool_streams::ToolFault;
+use osdp_tool_streams::{Digits, ToolFault, keep, read_line};
 use std::alloc::Global;
 
 /// A session of listening.

@@ -3,9 +3,9 @@ use Rattle.std.proofs.Common.{◌≡◌, ℕ, ◌+◌, ◌*◌, ◌≤◌, Bool,
 use Rattle.std.specs.Io.KnownBytes.{Keeps}
 use Rattle.std.proofs.KnownBytes.{Appends-kept}
 use Rattle.osdp_frame.specs.Held.{Held}
-use Rattle.osdp_tool_input.specs.declared.form.Form.{Form}
-use Rattle.osdp_tool_input.specs.declared.form.Form.TheVariants.{Raw, Joined, Apart}
-use Rattle.osdp_tool_input.specs.Runs.{ended_runs, open_run}
+use Rattle.osdp_tool_streams.specs.declared.form.Form.{Form}
+use Rattle.osdp_tool_streams.specs.declared.form.Form.TheVariants.{Raw, Joined, Apart}
+use Rattle.osdp_tool_streams.specs.Runs.{ended_runs, open_run}
 use Rattle.osdp_tool_lines.specs.Tally.{counted}
 use Rattle.osdp_tool_lines.specs.declared.tally.Tally.{Tally}
 use Rattle.osdp_tool_lines.specs.Told.{lines_so_far}

@@ -11,10 +11,10 @@ use Rattle.osdp_frame.specs.Reading.{RunItem, PacketItem, SkippedItem, RefusedIt
 use Rattle.osdp_frame.proofs.Head.{AreBytes-drop}
 use Rattle.osdp_frame_laws.proofs.Readings.{sizes_reading}
 use Rattle.osdp_frame.proofs.Spelled.{length-spelled, spelled_is}
-use Rattle.osdp_tool_input.specs.declared.form.Form.{Form}
-use Rattle.osdp_tool_input.specs.declared.form.Form.TheVariants.{Raw}
-use Rattle.osdp_tool_input.specs.Runs.{runs_of, with_bytes}
-use Rattle.osdp_tool_input.proofs.Lengths.{runs_short}
+use Rattle.osdp_tool_streams.specs.declared.form.Form.{Form}
+use Rattle.osdp_tool_streams.specs.declared.form.Form.TheVariants.{Raw}
+use Rattle.osdp_tool_streams.specs.Runs.{runs_of, with_bytes}
+use Rattle.osdp_tool_streams.proofs.Lengths.{runs_short}
 use Rattle.osdp_tool_lines.specs.ItemText.{item_line}
 use Rattle.osdp_tool_lines.specs.Laws.{IsItem}
 use Rattle.osdp_tool_lines.specs.Tally.{no_tally}

@@ -12,13 +12,13 @@ use Rattle.osdp_frame_laws.proofs.LawsOfSpellings.{AreBytes-nil}
 use Rattle.osdp_frame_laws.proofs.LeftOver.{items_nothing, left_nothing}
 use Rattle.osdp_frame.specs.Held.{Held, new_run}
 use Rattle.osdp_frame.specs.Items.{items, left_over}
-use Rattle.osdp_tool_input.specs.declared.form.Form.{Form}
-use Rattle.osdp_tool_input.specs.declared.form.Form.TheVariants.{Raw, Joined, Apart}
-use Rattle.osdp_tool_input.specs.Cut.{ended_after, unended_after, line_feed, ended_lines, unended_line, IsLine}
-use Rattle.osdp_tool_input.specs.Line.{is_blank, kept, said}
-use Rattle.osdp_tool_input.specs.Runs.{good_front, bad_line, ended_runs, open_run, first_bad_ended}
-use Rattle.osdp_tool_input.proofs.FormLemmas.{ended_lines-hold, unended_line-hold, ended_lines-feed, unended_line-feed, kept-append, hold_runs, feed_joined, feed_apart, feed_bad}
-use Rattle.osdp_tool_input.proofs.Lengths.{said_short}
+use Rattle.osdp_tool_streams.specs.declared.form.Form.{Form}
+use Rattle.osdp_tool_streams.specs.declared.form.Form.TheVariants.{Raw, Joined, Apart}
+use Rattle.osdp_tool_streams.specs.Cut.{ended_after, unended_after, line_feed, ended_lines, unended_line, IsLine}
+use Rattle.osdp_tool_streams.specs.Line.{is_blank, kept, said}
+use Rattle.osdp_tool_streams.specs.Runs.{good_front, bad_line, ended_runs, open_run, first_bad_ended}
+use Rattle.osdp_tool_streams.proofs.FormLemmas.{ended_lines-hold, unended_line-hold, ended_lines-feed, unended_line-feed, kept-append, hold_runs, feed_joined, feed_apart, feed_bad}
+use Rattle.osdp_tool_streams.proofs.Lengths.{said_short}
 use Rattle.osdp_tool_lines.specs.Tally.{no_tally, counted, tally_after_all}
 use Rattle.osdp_tool_lines.specs.Told.{shown_lines, after_runs, runs_lines, tally_so_far, lines_so_far}
 use Rattle.osdp_tool_lines.proofs.Lines.{tally_after_all-nil, shown_lines-nil}

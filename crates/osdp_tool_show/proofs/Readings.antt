@@ -14,13 +14,13 @@ use Rattle.osdp_frame.proofs.Head.{AreBytes-drop}
 use Rattle.osdp_frame.proofs.Decided.{first_decided, undecided_none}
 use Rattle.osdp_frame_laws.proofs.LawsOfSpellings.{AreBytes-append, AreBytes-nil}
 use Rattle.osdp_frame_laws.proofs.Readings.{is_reading, reading_is, sizes_reading, drained_items, decided_nothing, items_undecided, items_decided, item_size-positive, item_size-decided}
-use Rattle.osdp_tool_input.specs.declared.form.Form.{Form}
-use Rattle.osdp_tool_input.specs.declared.form.Form.TheVariants.{Raw, Joined, Apart}
-use Rattle.osdp_tool_input.specs.Cut.{ended_lines, unended_line, last_line, lines_of}
-use Rattle.osdp_tool_input.specs.Line.{line_bytes}
-use Rattle.osdp_tool_input.specs.Runs.{good_front, with_bytes, runs_of, ended_runs, open_run}
-use Rattle.osdp_tool_input.proofs.CutLemmas.{ended_lines-cut}
-use Rattle.osdp_tool_input.proofs.Bytes.{is_cut, good_front-bytes}
+use Rattle.osdp_tool_streams.specs.declared.form.Form.{Form}
+use Rattle.osdp_tool_streams.specs.declared.form.Form.TheVariants.{Raw, Joined, Apart}
+use Rattle.osdp_tool_streams.specs.Cut.{ended_lines, unended_line, last_line, lines_of}
+use Rattle.osdp_tool_streams.specs.Line.{line_bytes}
+use Rattle.osdp_tool_streams.specs.Runs.{good_front, with_bytes, runs_of, ended_runs, open_run}
+use Rattle.osdp_tool_streams.proofs.CutLemmas.{ended_lines-cut}
+use Rattle.osdp_tool_streams.proofs.Bytes.{is_cut, good_front-bytes}
 use Rattle.osdp_tool_lines.specs.declared.tally.Tally.{Tally}
 use Rattle.osdp_tool_lines.specs.ItemText.{is_refusal, counts_line}
 use Rattle.osdp_tool_lines.specs.Tally.{no_tally, one_if, tally_after, tally_after_all, after_run}

@@ -4,13 +4,13 @@ use Rattle.std.proofs.lemmas.List.{take_more}
 use Rattle.osdp_frame.specs.Bytes.{AreBytes}
 use Rattle.osdp_frame.specs.Held.{Held}
 use Rattle.osdp_frame.specs.Items.{items, left_over}
-use Rattle.osdp_tool_input.specs.declared.form.Form.{Form}
-use Rattle.osdp_tool_input.specs.declared.form.Form.TheVariants.{Raw, Joined, Apart}
-use Rattle.osdp_tool_input.specs.Cut.{line_feed, unended_line, IsLine}
-use Rattle.osdp_tool_input.specs.Line.{said, line_bytes}
-use Rattle.osdp_tool_input.specs.Runs.{good_front, ended_runs, open_run, first_bad_ended, closed_runs}
-use Rattle.osdp_tool_input.proofs.FormLemmas.{feed_joined, feed_apart}
-use Rattle.osdp_tool_input.proofs.Bytes.{good_front-bytes}
+use Rattle.osdp_tool_streams.specs.declared.form.Form.{Form}
+use Rattle.osdp_tool_streams.specs.declared.form.Form.TheVariants.{Raw, Joined, Apart}
+use Rattle.osdp_tool_streams.specs.Cut.{line_feed, unended_line, IsLine}
+use Rattle.osdp_tool_streams.specs.Line.{said, line_bytes}
+use Rattle.osdp_tool_streams.specs.Runs.{good_front, ended_runs, open_run, first_bad_ended, closed_runs}
+use Rattle.osdp_tool_streams.proofs.FormLemmas.{feed_joined, feed_apart}
+use Rattle.osdp_tool_streams.proofs.Bytes.{good_front-bytes}
 use Rattle.std.specs.List.{AllByRecursion}
 use Rattle.std.specs.Option.{option_map_or}
 use Rattle.osdp_tool_lines.specs.Tally.{no_tally}

@@ -5,9 +5,9 @@ use Rattle.std.specs.Io.KnownBytes.{Appends, Consumes, IsAtEnd}
 use Rattle.std.proofs.lemmas.List.{take_all}
 use Rattle.std.proofs.Math.Seq.{take-add, take-append_seam, drop-append_seam}
 use Rattle.std.proofs.lemmas.Bool.{le-leb, lt-leb}
-use Rattle.osdp_tool_input.specs.declared.form.Form.{Form}
-use Rattle.osdp_tool_input.specs.Runs.{first_bad, first_bad_ended}
-use Rattle.osdp_tool_input.proofs.FormLemmas.{bad_stays}
+use Rattle.osdp_tool_streams.specs.declared.form.Form.{Form}
+use Rattle.osdp_tool_streams.specs.Runs.{first_bad, first_bad_ended}
+use Rattle.osdp_tool_streams.proofs.FormLemmas.{bad_stays}
 use Rattle.osdp_tool_lines.specs.Tally.{no_tally}
 use Rattle.osdp_tool_lines.specs.Told.{after_runs, runs_lines, end_line}
 use Rattle.osdp_tool_streams.specs.declared.fault.ToolFault.{ToolFault}

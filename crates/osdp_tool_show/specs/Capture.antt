@@ -1,10 +1,10 @@
 -- A capture that is read, and what has come of it.
 use Rattle.std.specs.Prelude.{◌≡◌, ℕ, ◌+◌, ◌*◌, ◌≤◌, Bool, true, false, List, ◌++◌, length, take, Option, Some, None}
-use Rattle.osdp_tool_input.specs.declared.form.Form.{Form}
-use Rattle.osdp_tool_input.specs.declared.form.Form.TheVariants.{Raw, Joined, Apart}
-use Rattle.osdp_tool_input.specs.Cut.{ended_lines, unended_line}
-use Rattle.osdp_tool_input.specs.Line.{kept}
-use Rattle.osdp_tool_input.specs.Runs.{ended_runs, open_run, first_bad_ended}
+use Rattle.osdp_tool_streams.specs.declared.form.Form.{Form}
+use Rattle.osdp_tool_streams.specs.declared.form.Form.TheVariants.{Raw, Joined, Apart}
+use Rattle.osdp_tool_streams.specs.Cut.{ended_lines, unended_line}
+use Rattle.osdp_tool_streams.specs.Line.{kept}
+use Rattle.osdp_tool_streams.specs.Runs.{ended_runs, open_run, first_bad_ended}
 use Rattle.osdp_tool_lines.specs.Tally.{counted}
 use Rattle.osdp_tool_show.specs.declared.capture.Capture.{Capture}
 use Rattle.osdp_tool_show.specs.Machine.{Stands, IsSettled}

@@ -1,6 +1,6 @@
 -- Where a line ends in a piece.
 use Rattle.std.specs.Prelude.{◌≡◌, ℕ, ◌<◌, List, length, take, get_or}
-use Rattle.osdp_tool_input.specs.Cut.{line_feed, IsLine}
+use Rattle.osdp_tool_streams.specs.Cut.{line_feed, IsLine}
 
 -- the first line feed stands after so many bytes
 pub record HasLine (bytes : List ℕ) (count : ℕ) : Type 0 where

@@ -1,10 +1,10 @@
 -- What show and check print of an input, and what they answer.
 use Rattle.std.specs.Prelude.{ℕ, Bool, ◌||◌, nat_lt, nat_le, if◌then◌else◌, List, ◌++◌, length, take, is_some, Result, Ok, Err}
 use Rattle.std.specs.Option.{option_map_or}
-use Rattle.osdp_tool_input.specs.declared.form.Form.{Form}
-use Rattle.osdp_tool_input.specs.declared.form.Form.TheVariants.{Raw, Joined, Apart}
-use Rattle.osdp_tool_input.specs.Runs.{runs_of, ended_runs, open_run, first_bad, first_bad_ended}
-use Rattle.osdp_tool_job.specs.declared.types.Mode.{Mode}
+use Rattle.osdp_tool_streams.specs.declared.form.Form.{Form}
+use Rattle.osdp_tool_streams.specs.declared.form.Form.TheVariants.{Raw, Joined, Apart}
+use Rattle.osdp_tool_streams.specs.Runs.{runs_of, ended_runs, open_run, first_bad, first_bad_ended}
+use Rattle.osdp_tool_streams.specs.declared.mode.Mode.{Mode}
 use Rattle.osdp_tool_lines.specs.declared.tally.Tally.{Tally}
 use Rattle.osdp_tool_lines.specs.Tally.{no_tally}
 use Rattle.osdp_tool_lines.specs.Told.{after_runs, runs_lines, end_line, lines_so_far}

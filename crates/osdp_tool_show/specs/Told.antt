@@ -4,11 +4,11 @@ use Rattle.std.specs.List.{concat}
 use Rattle.osdp_frame.specs.Bytes.{AreBytes}
 use Rattle.osdp_frame.specs.Reading.{RunItem, PacketItem, SkippedItem, RefusedItem, item_size, IsReading}
 use Rattle.osdp_frame.specs.Items.{Drains}
-use Rattle.osdp_tool_input.specs.declared.form.Form.{Form}
-use Rattle.osdp_tool_input.specs.declared.form.Form.TheVariants.{Raw, Joined, Apart}
-use Rattle.osdp_tool_input.specs.Cut.{IsCut, last_line}
-use Rattle.osdp_tool_input.specs.Line.{line_bytes}
-use Rattle.osdp_tool_input.specs.Runs.{with_bytes}
+use Rattle.osdp_tool_streams.specs.declared.form.Form.{Form}
+use Rattle.osdp_tool_streams.specs.declared.form.Form.TheVariants.{Raw, Joined, Apart}
+use Rattle.osdp_tool_streams.specs.Cut.{IsCut, last_line}
+use Rattle.osdp_tool_streams.specs.Line.{line_bytes}
+use Rattle.osdp_tool_streams.specs.Runs.{with_bytes}
 use Rattle.osdp_tool_lines.specs.ItemText.{is_refusal, item_line, counts_line}
 use Rattle.osdp_tool_show.specs.Shown.{shown, shown_so_far, is_refused_input}
 

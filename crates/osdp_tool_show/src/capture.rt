@@ -2,7 +2,7 @@
 
 ghost use Rattle.std.specs.Prelude.{◌≡◌, ◌+◌, ◌*◌, ◌<◌, ◌^◌, ◌++◌, ℕ, List, [], ◌∷◌, Bool, true, false, length, Option, string_bytes, OnOk, OnErr, IfOk, IfErr, MatchOption};
 ghost use Rattle.osdp_tool_streams.specs.Watched.{inner_of, has_failed};
-ghost use Rattle.osdp_tool_input.specs.Cut.{line_feed, IsLine};
+ghost use Rattle.osdp_tool_streams.specs.Cut.{line_feed, IsLine};
 ghost use Rattle.osdp_tool_show.specs.Machine.{written_or_held, IsStep, IsSettled};
 ghost use Rattle.osdp_tool_show.specs.Feeds.{HasLine};
 
@@ -10,9 +10,8 @@ use crate::report::Report;
 use crate::runs::{end_run, take};
 use memchr::memchr;
 use osdp_frame::Framer;
-use osdp_tool_input::{Digits, Form, keep, read_line};
 use osdp_tool_lines::Tally;
-use osdp_tool_streams::{ToolFault, Watched};
+use osdp_tool_streams::{Digits, Form, ToolFault, Watched, keep, read_line};
 use std::alloc::Global;
 use std::io::Write;
 

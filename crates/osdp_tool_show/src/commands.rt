@@ -8,9 +8,7 @@ ghost use Rattle.osdp_tool_show.specs.Shown.{form_of};
 ghost use Rattle.osdp_tool_show.specs.Works.{Works};
 
 use crate::capture::Capture;
-use osdp_tool_input::Form;
-use osdp_tool_job::Mode;
-use osdp_tool_streams::{LIMIT, ToolFault, Watched, finish};
+use osdp_tool_streams::{Form, LIMIT, Mode, ToolFault, Watched, finish};
 use std::alloc::Global;
 use std::io::{Read, Write};
 

@@ -1,7 +1,7 @@
 //! A capture that is read from a stream to its end.
 
 ghost use Rattle.std.specs.Prelude.{◌≡◌, ◌+◌, ◌*◌, ◌<◌, ◌≤◌, ◌^◌, ◌↔◌, ℕ, List, [], length, take, Bool, Option, is_err, true, false, if◌then◌else◌, Result, IfOk, OnOk, OnErr, IfErr};
-ghost use Rattle.osdp_tool_input.specs.declared.form.Form.{Form};
+ghost use Rattle.osdp_tool_streams.specs.declared.form.Form.{Form};
 ghost use Rattle.osdp_tool_streams.specs.Watched.{inner_of, has_failed};
 ghost use Rattle.osdp_tool_show.specs.Machine.{written_or_held, IsStep, IsSettled};
 

@@ -5,8 +5,8 @@ use Rattle.osdp_bus.specs.Settings.{default_config}
 use Rattle.osdp_bus.specs.declared.config.BusConfig.{BusConfig}
 use Rattle.osdp_script.specs.declared.script.Script.{Script}
 use Rattle.osdp_script.specs.Script.{steps_of}
-use Rattle.osdp_script_reader.specs.Handler.{handler_after, handler_answer}
-use Rattle.osdp_script_reader.specs.declared.handler.ScriptReader.{ScriptReader}
+use Rattle.osdp_script.specs.Handler.{handler_after, handler_answer}
+use Rattle.osdp_script.specs.declared.handler.ScriptReader.{ScriptReader}
 use Rattle.osdp_session.specs.Sessions.{HoldsInSessions}
 use Rattle.osdp_sim.specs.declared.account.Account as declared
 use Rattle.osdp_sim.specs.declared.fault.Cause.{Cause}
@@ -21,7 +21,7 @@ use Rattle.osdp_sim_bus_laws.specs.Accounts.{EachMeets, accounts_in}
 use Rattle.osdp_sim_bus.specs.State.{Given, accounts}
 use Rattle.osdp_sim_bus.specs.Steps.{after_step, fault_of}
 use Rattle.osdp_tool_streams.specs.declared.fault.ToolFault.{ToolFault}
-use Rattle.osdp_tool_account.specs.AccountText.{account_text, texts_from}
+use Rattle.osdp_tool_sim.specs.AccountText.{account_text, texts_from}
 use Rattle.osdp_tool_sim.specs.Several.{TellsEach, line_of, readers_from}
 use Rattle.osdp_tool_sim.specs.Steps.{EndsBy}
 use Rattle.osdp_tool_sim.specs.Told.{IsTextOfEach, TellsReaders}

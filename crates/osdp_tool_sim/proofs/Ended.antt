@@ -2,7 +2,7 @@
 use Rattle.std.proofs.Common.{ℕ, List, [], ◌∷◌, Option, Result, Ok, Err}
 use Rattle.osdp_script.specs.declared.script.Script.{Script}
 use Rattle.osdp_script.specs.Script.{steps_of}
-use Rattle.osdp_script_reader.specs.Handler.{handler_after, handler_answer}
+use Rattle.osdp_script.specs.Handler.{handler_after, handler_answer}
 use Rattle.osdp_sim.specs.Steps.{after_step, fault_of}
 use Rattle.osdp_sim.specs.declared.fault.Cause.{Cause}
 use Rattle.osdp_sim.specs.declared.step.SimStep.{SimStep}

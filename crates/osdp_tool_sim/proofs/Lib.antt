@@ -6,3 +6,6 @@ pub mod Accounts
 pub mod Ended
 pub mod Finishing
 pub mod Ranges
+pub mod Written
+pub mod OneText
+pub mod OneAccount

@@ -11,7 +11,7 @@ use Rattle.osdp_script.specs.Lines.{IsSetting}
 use Rattle.osdp_script.specs.Reading.{IsFree}
 use Rattle.osdp_script.specs.Script.{steps_of}
 use Rattle.osdp_script.specs.Settings.{AreApart, AreReaders}
-use Rattle.osdp_script_reader.specs.Handler.{handler_after, handler_answer}
+use Rattle.osdp_script.specs.Handler.{handler_after, handler_answer}
 use Rattle.osdp_sim.specs.declared.account.Account as declared
 use Rattle.osdp_sim.specs.declared.fault.Cause.{Cause}
 use Rattle.osdp_sim.specs.declared.fault.Cause.TheVariants as cause

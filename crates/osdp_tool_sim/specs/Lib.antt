@@ -4,3 +4,5 @@ pub mod One
 pub mod Several
 pub mod Told
 pub mod Ending
+pub mod AccountText
+pub mod Laws

@@ -4,9 +4,9 @@ use Rattle.osdp_controller.specs.Settings.{default_config}
 use Rattle.osdp_frame.specs.declared.check_kind.CheckKind.{CheckKind}
 use Rattle.osdp_script.specs.declared.script.Script.{Script}
 use Rattle.osdp_script.specs.Script.{steps_of}
-use Rattle.osdp_script_reader.specs.Handler.{handler_after, handler_answer, new_handler}
-use Rattle.osdp_script_reader.specs.Identity.{script_config}
-use Rattle.osdp_script_reader.specs.declared.handler.ScriptReader.{ScriptReader}
+use Rattle.osdp_script.specs.Handler.{handler_after, handler_answer, new_handler}
+use Rattle.osdp_script.specs.Identity.{script_config}
+use Rattle.osdp_script.specs.declared.handler.ScriptReader.{ScriptReader}
 use Rattle.osdp_session.specs.Sessions.{HoldsInSessions}
 use Rattle.osdp_sim.specs.declared.config.SimConfig.{SimConfig}
 use Rattle.osdp_sim.specs.Account.{Account}

@@ -5,7 +5,7 @@ use Rattle.osdp_script.specs.Reading.{IsBadLine, IsScriptOf}
 use Rattle.osdp_sim.specs.Account.{Account}
 use Rattle.osdp_tool_streams.specs.declared.fault.ToolFault.{ToolFault}
 use Rattle.osdp_tool_streams.specs.declared.fault.ToolFault.TheVariants.{BadStep, NoMemory}
-use Rattle.osdp_tool_account.specs.AccountText.{account_text, texts_from}
+use Rattle.osdp_tool_sim.specs.AccountText.{account_text, texts_from}
 use Rattle.osdp_tool_sim.specs.One.{TellsOne}
 use Rattle.osdp_tool_sim.specs.Several.{TellsEach}
 

@@ -6,14 +6,13 @@ ghost use Rattle.osdp_script.specs.Script.{steps_of};
 ghost use Rattle.osdp_tool_sim.specs.One.{config_of};
 ghost use Rattle.osdp_tool_sim.specs.Told.{IsTextOfOne};
 
+use crate::account::account_text;
 use crate::told::{COMMANDS, Told, stopped};
 use osdp_controller::ControllerConfig;
 use osdp_frame::{Address, CheckKind};
-use osdp_script::Script;
-use osdp_script_reader::{ScriptReader, script_config};
+use osdp_script::{Script, ScriptReader, script_config};
 use osdp_session::run_schedule;
 use osdp_sim::SimConfig;
-use osdp_tool_account::account_text;
 use osdp_tool_streams::ToolFault;
 use std::alloc::Global;
 

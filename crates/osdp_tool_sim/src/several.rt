@@ -5,19 +5,18 @@ ghost use Rattle.osdp_script.specs.Script.{steps_of};
 ghost use Rattle.osdp_script.specs.Settings.{AreReaders};
 ghost use Rattle.osdp_sim.specs.Account.{lists_of};
 ghost use Rattle.osdp_sim_bus.specs.Runs.{lists_of_all};
-ghost use Rattle.osdp_tool_account.specs.AccountText.{texts_from};
+ghost use Rattle.osdp_tool_sim.specs.AccountText.{texts_from};
 ghost use Rattle.osdp_tool_sim.specs.Several.{TellsEach, readers_from};
 ghost use Rattle.osdp_tool_sim.specs.Told.{IsTextOfEach};
 
+use crate::account::account_text;
 use crate::told::{COMMANDS, Told, stopped};
 use osdp_bus::BusConfig;
 use osdp_frame::Address;
 use osdp_reader::ReaderConfig;
-use osdp_script::Script;
-use osdp_script_reader::{ScriptReader, script_config};
+use osdp_script::{Script, ScriptReader, script_config};
 use osdp_session::run_bus_schedule;
 use osdp_sim::Account;
-use osdp_tool_account::account_text;
 use osdp_tool_streams::ToolFault;
 use std::alloc::{AllocError, Global};
 

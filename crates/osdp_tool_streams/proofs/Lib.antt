@@ -1,2 +1,12 @@
 pub mod TransferLemmas
 pub mod WatchedLemmas
+pub mod CutLemmas
+pub mod RunsLemmas
+pub mod FormLemmas
+pub mod Bytes
+pub mod Spelled
+pub mod BadLines
+pub mod Lengths
+pub mod Whole
+pub mod DigitValues
+pub mod Answered

@@ -2,3 +2,8 @@ pub mod FinalAnswer
 pub mod Reading
 pub mod ToolFault
 pub mod Watched
+pub mod Cut
+pub mod Line
+pub mod Digits
+pub mod Runs
+pub mod Laws

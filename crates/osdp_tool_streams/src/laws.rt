@@ -6,6 +6,7 @@ ghost use Rattle.osdp_tool_streams.specs.FinalAnswer.{TellsTruly, TellsStreamsFi
 ghost use Rattle.osdp_tool_streams.specs.ToolFault.{StatusTellsCause};
 ghost use Rattle.osdp_tool_streams.specs.Watched.{Call, FailedBySomeCall, WentThrough};
 ghost use Rattle.osdp_tool_streams.specs.declared.watch.Watched.{Watched};
+ghost use Rattle.osdp_tool_streams.specs.Laws.{LinesSay, OneCut, OneFirstBad};
 
 use crate::fault::ToolFault;
 use crate::piece::LIMIT;
@@ -37,4 +38,19 @@ pub fn final_answer_tells_streams_first<T: Drop>(
 /// The limit of an input is 67,108,864 bytes. One more is read to tell that an input is longer.
 pub fn reads_64_mebibytes()
     ensures { LIMIT ≡ 67108864 }
+{}
+
+/// A line says the bytes that its digits spell, none as a comment or a blank line, and is bad otherwise.
+pub fn lines_say()
+    ensures { LinesSay }
+{}
+
+/// An input has one cut into lines.
+pub fn one_cut()
+    ensures { OneCut }
+{}
+
+/// The number of a bad line is that of the first one, counted from 1; there is none where all lines are good.
+pub fn one_first_bad()
+    ensures { OneFirstBad }
 {}

@@ -1,5 +1,5 @@
-use osdp_tool_job::*;
-use osdp_tool_streams::ToolFault;
+use osdp_tool::{Job, job};
+use osdp_tool_streams::{Mode, ToolFault};
 use std::alloc::{AllocError, Global};
 use std::process::Abort;
 use std::test::Fail;

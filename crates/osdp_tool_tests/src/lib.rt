@@ -1,6 +1,6 @@
-//! Tests of the tool and of the crates below it through their public calls.
+//! Tests of the tool and of the monitor, and of the crates below them, through their public calls.
 //!
-//! They stand in a crate of their own since a crate with tests is proved twice. Frames and messages have crates for theirs.
+//! They stand in a crate of their own since a crate with tests is proved twice. Frames and messages have a crate for theirs.
 #![tactic(auto)]
 
 #[cfg(test)]
@@ -10,7 +10,11 @@ mod faulty;
 #[cfg(test)]
 mod job;
 #[cfg(test)]
+mod listener;
+#[cfg(test)]
 mod make;
+#[cfg(test)]
+mod monitor;
 #[cfg(test)]
 mod stream;
 #[cfg(test)]

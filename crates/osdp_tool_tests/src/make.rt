@@ -1,7 +1,7 @@
 //! Packets from words, each worked by hand, and outputs that fail.
 
 use crate::faulty::{Refusal, Sink, make_sink};
-use osdp_tool_make::*;
+use osdp_tool::make;
 use osdp_tool_streams::{ToolFault, Watched};
 use std::alloc::{AllocError, Global};
 use std::io::{ErrorKind, Write};

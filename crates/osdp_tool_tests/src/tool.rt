@@ -3,9 +3,9 @@ mod rows;
 mod streams;
 mod vectors;
 
-use osdp_tool_job::{Job, Mode};
+use osdp_tool::Job;
 use osdp_tool_show::{check, show};
-use osdp_tool_streams::{ToolFault, Watched};
+use osdp_tool_streams::{Mode, ToolFault, Watched};
 use std::alloc::Global;
 use std::io::Read;
 use std::process::Abort;

@@ -1,4 +1,4 @@
-use Rattle.osdp_reader_calls.specs.Sessions.{new_session}
+use Rattle.osdp_line_calls.specs.ReaderSessions.{new_session}
 use Rattle.osdp_line_laws.proofs.OfReaders.{of_lines}
 use Rattle.osdp_line_laws.proofs.a_device_comes_of_steps.Goals as goal
 

@@ -1,4 +1,4 @@
-use Rattle.osdp_panel_calls.specs.Sessions.{new_session}
+use Rattle.osdp_line_calls.specs.PanelSessions.{new_session}
 use Rattle.osdp_line_laws.proofs.OfPanels.{of_lines}
 use Rattle.osdp_line_laws.proofs.a_panel_comes_of_calls.Goals as goal
 

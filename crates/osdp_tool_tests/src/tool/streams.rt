@@ -4,8 +4,8 @@ ghost use Rattle.std.specs.Prelude.{◌<◌};
 
 use super::*;
 use crate::faulty::{Pieces, Refusal, Sink, make_pieces, make_sink};
-use osdp_tool_input::Form;
 use osdp_tool_show::command;
+use osdp_tool_streams::Form;
 use std::io::{ErrorKind, Write};
 
 /// A reader of the packet's line, a few bytes at a time.

@@ -1,6 +1,6 @@
 use Rattle.std.proofs.Common.{inl, inr, [], ◌∷◌}
 use Rattle.osdp_tool_streams.specs.Watched.{inner_of}
-use Rattle.osdp_tool_input.specs.Cut.{line_feed}
+use Rattle.osdp_tool_streams.specs.Cut.{line_feed}
 use Rattle.osdp_tool_show.specs.Machine.{written_or_held}
 use Rattle.osdp_tool_show.specs.Capture.{TookPiece}
 use Rattle.osdp_tool_show.specs.Works.{EndsLine}

@@ -1,8 +1,8 @@
 use Rattle.std.proofs.Common.{refl, ◌≡◌, ◌+◌, ◌++◌, ◌≤◌, ℕ, List, length, length-append, Bool, MatchOption, arith, true, false, [], ◌∷◌}
 use Rattle.osdp_tool_streams.specs.Watched.{inner_of}
-use Rattle.osdp_tool_input.specs.Cut.{line_feed}
-use Rattle.osdp_tool_input.specs.Line.{kept, said}
-use Rattle.osdp_tool_input.proofs.Lengths.{said_short}
+use Rattle.osdp_tool_streams.specs.Cut.{line_feed}
+use Rattle.osdp_tool_streams.specs.Line.{kept, said}
+use Rattle.osdp_tool_streams.proofs.Lengths.{said_short}
 use Rattle.osdp_tool_show.specs.declared.capture.Capture.{Capture}
 use Rattle.osdp_tool_show.specs.Machine.{written_or_held}
 use Rattle.osdp_tool_show.proofs.Pieces.{fed_bad, fed_joined, fed_apart, holding, length-kept, says_none, says_bytes, took_ended}

@@ -1,6 +1,0 @@
-use Rattle.std.proofs.Common.{◌≡◌, drop}
-use Rattle.osdp_door.specs.Known.{all_known}
-use Rattle.osdp_door.proofs.known.are_known.Given as goal
-
-abbrev pub invariant-loop-record : goal.invariant-loop-record
-invariant-loop-record l = all_known (drop l.record-index l.records) ≡ all_known l.records

@@ -1,0 +1,14 @@
+pub mod ReaderRows
+pub mod ReaderTurns
+pub mod ReaderCalls
+pub mod PanelRows
+pub mod PanelCalls
+mod Listening
+pub mod PassedOver
+pub mod Ranges
+pub mod Reading
+pub mod Running
+mod FirstWrong
+pub mod Speaking
+pub mod Stopping
+pub mod AnsweringLines

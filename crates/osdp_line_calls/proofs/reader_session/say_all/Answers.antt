@@ -1,0 +1,50 @@
+use Rattle.std.proofs.Common.{◌≡◌, ◌++◌, suc, length, string_bytes, Some, None, sym, ap, ◌∙◌, arith, append-nil, refl}
+use Rattle.osdp_device.specs.Receiving.{Received}
+use Rattle.osdp_frame.specs.Held.{Held}
+use Rattle.osdp_device.specs.Saying.{said_in}
+use Rattle.osdp_device.specs.Status.{status_after, status_answer}
+use Rattle.osdp_device.specs.Telling.{after_items, after_all, items_of, said_to_all}
+use Rattle.osdp_line_calls.specs.ReaderTexts.{all_lines}
+use Rattle.osdp_line_calls.proofs.ReaderTurns.{line_on, turned, written}
+use Rattle.osdp_line_calls.proofs.reader_session.say_all.Goals as goal
+
+pub responses-smaller : goal.responses-smaller
+responses-smaller c =
+    let t = turned c.responses.device.reader c.responses.device.line.held (Some (said_in c.in-Some.response)) c.next.new.self.reader c.next.new.self.line.held
+    c.in-Some.ensures.said c.next.ensures.reader (ap (λ (l : Received). l.held) c.next.ensures.line) in
+    let fewer : length (said_to_all status_answer status_after (items_of c.responses.device.line.held) c.responses.device.reader)
+    ≡ suc (length (said_to_all status_answer status_after (items_of c.next.new.self.line.held) c.next.new.self.reader)) = ap length t.said in
+    omega (arith, fewer)
+
+pub responses-preserved : goal.responses-preserved
+responses-preserved c =
+    let t = turned c.responses.device.reader c.responses.device.line.held (Some (said_in c.in-Some.response)) c.next.new.self.reader c.next.new.self.line.held
+    c.in-Some.ensures.said c.next.ensures.reader (ap (λ (l : Received). l.held) c.next.ensures.line) in
+    record {
+      text = written (string_bytes c.responses.text) (string_bytes c.push_response.new.text) _ (said_in c.in-Some.response) _ _
+          c.in_ok-push_response.ensures t.said c.responses.invariant.text;
+      reader = sym t.reader ∙ c.responses.invariant.reader;
+      left = sym t.left ∙ c.responses.invariant.left;
+      line = line_on c.args.device.now.line c.responses.device.line c.next.new.self.line _ c.responses.invariant.line c.next.ensures.line;
+    }
+
+pub returns-clause-text : goal.returns-clause-text
+returns-clause-text c =
+    let t = turned c.responses.device.reader c.responses.device.line.held None c.next.new.self.reader c.next.new.self.line.held
+    c.in_default.ensures.said c.next.ensures.reader (ap (λ (l : Received). l.held) c.next.ensures.line) in
+    let nothing = t.said ∙ ap (λ parts. said_to_all status_answer status_after parts c.next.new.self.reader) (t.all refl) in
+    sym (append-nil (string_bytes c.responses.text)) ∙ ap (λ l. string_bytes c.responses.text ++ all_lines l) (sym nothing) ∙ c.responses.invariant.text
+
+pub returns-clause-reader : goal.returns-clause-reader
+returns-clause-reader c =
+    let t = turned c.responses.device.reader c.responses.device.line.held None c.next.new.self.reader c.next.new.self.line.held
+    c.in_default.ensures.said c.next.ensures.reader (ap (λ (l : Received). l.held) c.next.ensures.line) in
+    sym (t.reader ∙ ap (λ parts. after_items status_answer status_after parts c.next.new.self.reader) (t.all refl)) ∙ c.responses.invariant.reader
+
+pub returns-clause-line : goal.returns-clause-line
+returns-clause-line c =
+    let t = turned c.responses.device.reader c.responses.device.line.held None c.next.new.self.reader c.next.new.self.line.held
+    c.in_default.ensures.said c.next.ensures.reader (ap (λ (l : Received). l.held) c.next.ensures.line) in
+    let left = sym (t.left ∙ ap (λ parts. after_all c.next.new.self.line.held parts) (t.all refl)) ∙ c.responses.invariant.left in
+    line_on c.args.device.now.line c.responses.device.line c.next.new.self.line _ c.responses.invariant.line c.next.ensures.line
+    ∙ ap (λ (h : Held). record c.args.device.now.line { held = h }) left

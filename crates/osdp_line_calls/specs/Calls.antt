@@ -1,0 +1,15 @@
+-- Which call a line is, where calls are words.
+use Rattle.std.specs.Prelude.{ℕ, ◌≤◌, List, length, IsUtf8}
+use Rattle.osdp_words.specs.Word.{AllStandFor, Word, words_in}
+use Rattle.osdp_line_calls.specs.Answers.{longest}
+
+-- the characters of a line are the words of a call
+pub record Says {C : Type 0} (words_of : C → List Word) (Fits : C → Type 0) (line : List ℕ) (call : C) : Type 0 where
+  pub short : length line ≤ longest
+  pub text : IsUtf8 line
+  pub words : AllStandFor (words_of call) (words_in line)
+  pub fits : Fits call
+
+-- the line is no call
+abbrev pub SaysNothing : {C : Type 0} → (C → List Word) → (C → Type 0) → List ℕ → Type 0
+SaysNothing {C} words_of Fits line = (call : C) → Says words_of Fits line call → ⊥

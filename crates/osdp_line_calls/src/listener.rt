@@ -1,0 +1,291 @@
+//! What is heard of the line beside the bus: the replies that sessions pass over while they aren't open.
+
+ghost use Rattle.std.specs.Prelude.{◌≡◌, ◌++◌, false, true, [], OnOk, slice_get, slice_set, string_bytes};
+ghost use Rattle.std.specs.Option.{option_map_or};
+ghost use Rattle.osdp_bus.specs.Devices.{first_from, is_at};
+ghost use Rattle.osdp_bus.specs.Machine.{begin_refusal_at};
+ghost use Rattle.osdp_bus.specs.Private.{IsHeld, IsRead, rest_of};
+ghost use Rattle.osdp_frame.specs.Items.{items, left_over};
+ghost use Rattle.osdp_frame.specs.Reading.{PacketItem};
+ghost use Rattle.osdp_frame.specs.Shown.{item_of};
+ghost use Rattle.osdp_line_calls.specs.Passing.{Listening, hears_begin, hears_bytes, hears_end, hears_run, hears_silence, is_open, new_listening, opened_by, opened_told, passed_item, passed_items, sees, then_hears};
+
+use crate::passing::push_passed;
+use osdp_bus::{Bus, Entry};
+use osdp_controller::Report;
+use osdp_frame::{Address, FrameView, Framer, Item};
+use std::alloc::AllocError;
+use std::marker::Model;
+
+/// What is heard of the line, and which sessions are open, as it was told. Moments are in milliseconds.
+///
+/// Its runs end by silences alone, and those of the bus at a tick too, where nobody holds the line: so a reply to a closed session is told in
+/// whatever pieces it comes.
+#[derive(Drop)]
+pub(crate) struct Listener {
+    framer: Framer,
+    gap: u32,
+    last: u64,
+    greatest: u64,
+    opened: [bool; 16],
+}
+
+impl Model for Listener {
+    ghost Value = { Listening };
+
+    ghost view = { λ l. record { held = l.framer.bytes; gap = l.gap; last = l.last; greatest = l.greatest; opened = l.opened } };
+
+    ghost invariant = { λ l. IsRead l.framer };
+}
+
+/// Whether the device of an entry is at this address.
+fn is_at(bus: &Bus, entry: Entry, address: Address) -> bool
+    ensures { result ≡ option_map_or (is_at address) (slice_get bus.now.devices.entries entry) false }
+{
+    match bus.address(entry) {
+        Some(at) => at.get() == address.get(),
+        None => false,
+    }
+}
+
+/// The entry of the device at this address.
+fn entry_at(bus: &Bus, address: Address) -> Option<Entry>
+    ensures { result ≡ first_from 0 (is_at address) bus.now.devices.entries }
+{
+    for entry in 0..bus.entries() {
+        if is_at(bus, entry, address) {
+            return Some(entry);
+        }
+    }
+    None
+}
+
+/// Whether the session of an entry is open.
+fn is_open(opened: &[bool; 16], entry: Entry) -> bool
+    ensures { result ≡ is_open entry opened.now }
+{
+    match opened.get(entry) {
+        Some(is) => *is,
+        None => false,
+    }
+}
+
+/// From now on the session of an entry is open, or isn't.
+fn set_open(opened: &mut [bool; 16], entry: Entry, is: bool)
+    ensures { opened.new ≡ slice_set opened.old entry is }
+{
+    if entry < opened.len() {
+        opened[entry] = is;
+    }
+}
+
+/// What a report says of its session: whether it is open from now on.
+fn opened_told(report: &Report) -> Option<bool>
+    ensures { result ≡ opened_told report.now }
+{
+    match report {
+        Report::Opened(_) => Some(true),
+        Report::Moved(..) | Report::Lost(..) => Some(false),
+        Report::Settled(..) | Report::Event(_) | Report::PollAnswered(_) | Report::Unread(..) =>
+            None,
+    }
+}
+
+/// Writes the line of a packet that is passed over, where it is one: a reply of a device whose session isn't open.
+fn push_packet(
+    text: &mut String,
+    bus: &Bus,
+    opened: &[bool; 16],
+    frame: &FrameView<'_>,
+) -> Result<(), AllocError>
+    ensures { OnOk result (string_bytes text.new ≡ string_bytes text.old ++ passed_item bus.now.devices.entries opened.now (PacketItem frame.now)) }
+{
+    if !frame.is_reply() {
+        return Ok(());
+    }
+    let Some(entry) = entry_at(bus, frame.address()) else {
+        return Ok(());
+    };
+    if is_open(opened, entry) {
+        return Ok(());
+    }
+    push_passed(text, entry, frame)
+}
+
+/// Writes the line of an item that is passed over, where it is one.
+fn push_item(
+    text: &mut String,
+    bus: &Bus,
+    opened: &[bool; 16],
+    item: &Item<'_>,
+) -> Result<(), AllocError>
+    ensures { OnOk result (string_bytes text.new ≡ string_bytes text.old ++ passed_item bus.now.devices.entries opened.now (item_of item.now)) }
+{
+    match item {
+        Item::Packet(frame) => push_packet(text, bus, opened, frame),
+        Item::Skipped(_) | Item::Refused(_) => Ok(()),
+    }
+}
+
+/// Reads all items that the bytes held decide, and writes their lines.
+fn read_items(
+    framer: &mut Framer,
+    bus: &Bus,
+    opened: &[bool; 16],
+    text: &mut String,
+) -> Result<(), AllocError>
+    requires { IsHeld framer.old }
+    ensures text { OnOk result (string_bytes text.new ≡ string_bytes text.old ++ passed_items bus.now.devices.entries opened.now (items framer.old.ended framer.old.bytes)) }
+    ensures left { OnOk result (framer.new.bytes ≡ rest_of framer.old.ended framer.old.bytes) }
+    ensures read { OnOk result (IsRead framer.new) }
+{
+    'items: while let Some(item) = framer.next() {
+        push_item(text, bus, opened, &item)?;
+        framer.advance();
+    }
+    Ok(())
+}
+
+/// Takes bytes of a run that goes on, reads the items that they decide, and writes their lines.
+fn read_bytes(
+    framer: &mut Framer,
+    bus: &Bus,
+    opened: &[bool; 16],
+    bytes: &[u8],
+    text: &mut String,
+) -> Result<(), AllocError>
+    requires { IsRead framer.old }
+    ensures text { OnOk result (string_bytes text.new ≡ string_bytes text.old ++ passed_items bus.now.devices.entries opened.now (items false (framer.old.bytes ++ bytes.now))) }
+    ensures left { OnOk result (framer.new.bytes ≡ left_over (framer.old.bytes ++ bytes.now)) }
+    ensures read { OnOk result (IsRead framer.new) }
+{
+    let mut at = 0;
+    'pieces: while at < bytes.len() {
+        at += framer.push(&bytes[at..]);
+        read_items(framer, bus, opened, text)?;
+    }
+    Ok(())
+}
+
+/// The run is over: reads what is held of it to its end.
+fn read_end(
+    framer: &mut Framer,
+    bus: &Bus,
+    opened: &[bool; 16],
+    text: &mut String,
+) -> Result<(), AllocError>
+    requires { IsRead framer.old }
+    ensures text { OnOk result (string_bytes text.new ≡ string_bytes text.old ++ passed_items bus.now.devices.entries opened.now (items true framer.old.bytes)) }
+    ensures left { OnOk result (framer.new.bytes ≡ []) }
+    ensures read { OnOk result (IsRead framer.new) }
+{
+    framer.gap();
+    read_items(framer, bus, opened, text)
+}
+
+impl Listener {
+    /// Nothing has been heard, and no session is open. A run is over after a silence of so many milliseconds.
+    pub(crate) fn new(gap: u32) -> Listener
+        ensures { result ≡ new_listening gap }
+    {
+        Listener {
+            framer: Framer::new(),
+            gap,
+            last: 0,
+            greatest: 0,
+            opened: [false; 16],
+        }
+    }
+
+    /// Takes a moment; one that lies before the greatest seen counts as that one.
+    pub(crate) fn see(&mut self, now: u64)
+        ensures { self.new ≡ sees now self.old }
+    {
+        self.greatest = self.greatest.max(now);
+    }
+
+    /// A session of this entry is to begin at a moment. Where it may not, nothing brings the moment.
+    pub(crate) fn hear_begin(&mut self, bus: &Bus, entry: Entry, now: u64)
+        ensures { self.new ≡ (hears_begin (begin_refusal_at entry bus.now) now self.old).after }
+    {
+        if bus.is_closed(entry) == Some(true) {
+            self.see(now);
+        }
+    }
+
+    /// The run is over. After an error, which is one of memory, nothing is held.
+    pub(crate) fn hear_end(&mut self, bus: &Bus, text: &mut String) -> Result<(), AllocError>
+        ensures text { OnOk result (string_bytes text.new ≡ string_bytes text.old ++ (hears_end bus.now.devices.entries self.old).text) }
+        ensures after { OnOk result (self.new ≡ (hears_end bus.now.devices.entries self.old).after) }
+    {
+        let told = read_end(&mut self.framer, bus, &self.opened, text);
+        if told.is_err() {
+            self.framer = Framer::new();
+        }
+        told
+    }
+
+    /// A run after which the line was silent for the gap is over, by the greatest moment seen. An error is that of `hear_end`.
+    pub(crate) fn hear_silence(&mut self, bus: &Bus, text: &mut String) -> Result<(), AllocError>
+        ensures text { OnOk result (string_bytes text.new ≡ string_bytes text.old ++ (hears_silence bus.now.devices.entries self.old).text) }
+        ensures after { OnOk result (self.new ≡ (hears_silence bus.now.devices.entries self.old).after) }
+    {
+        if u64::from(self.gap) <= self.greatest.saturating_sub(self.last) {
+            return self.hear_end(bus, text);
+        }
+        Ok(())
+    }
+
+    /// Bytes of a run that goes on come. An error is that of `hear_end`.
+    fn hear_run(&mut self, bus: &Bus, bytes: &[u8], text: &mut String) -> Result<(), AllocError>
+        ensures text { OnOk result (string_bytes text.new ≡ string_bytes text.old ++ (hears_run bus.now.devices.entries bytes.now self.old).text) }
+        ensures after { OnOk result (self.new ≡ (hears_run bus.now.devices.entries bytes.now self.old).after) }
+    {
+        let told = read_bytes(&mut self.framer, bus, &self.opened, bytes, text);
+        if told.is_err() {
+            self.framer = Framer::new();
+        }
+        self.last = self.greatest;
+        told
+    }
+
+    /// Bytes come: after a silence they begin another run. An error is that of `hear_end`.
+    fn hear_some(&mut self, bus: &Bus, bytes: &[u8], text: &mut String) -> Result<(), AllocError>
+        ensures text { OnOk result (string_bytes text.new ≡ string_bytes text.old ++ (then_hears (hears_silence bus.now.devices.entries self.old) (hears_run bus.now.devices.entries bytes.now)).text) }
+        ensures after { OnOk result (self.new ≡ (then_hears (hears_silence bus.now.devices.entries self.old) (hears_run bus.now.devices.entries bytes.now)).after) }
+    {
+        self.hear_silence(bus, text)?;
+        self.hear_run(bus, bytes, text)
+    }
+
+    /// Bytes come at a moment; none bring the moment alone. An error is that of `hear_end`.
+    pub(crate) fn hear_bytes(
+        &mut self,
+        bus: &Bus,
+        bytes: &[u8],
+        now: u64,
+        text: &mut String,
+    ) -> Result<(), AllocError>
+        ensures text { OnOk result (string_bytes text.new ≡ string_bytes text.old ++ (hears_bytes bus.now.devices.entries bytes.now now self.old).text) }
+        ensures after { OnOk result (self.new ≡ (hears_bytes bus.now.devices.entries bytes.now now self.old).after) }
+    {
+        self.see(now);
+        if bytes.is_empty() {
+            return Ok(());
+        }
+        self.hear_some(bus, bytes, text)
+    }
+
+    /// A report was told, which may say that a session is open, or isn't any more.
+    pub(crate) fn hear_report(&mut self, report: &Option<(Entry, Report)>)
+        ensures { self.new ≡ record self.old { opened = opened_by report.now self.old.opened } }
+    {
+        let Some((entry, report)) = report else {
+            return;
+        };
+        let Some(is) = opened_told(report) else {
+            return;
+        };
+        set_open(&mut self.opened, *entry, is);
+    }
+}

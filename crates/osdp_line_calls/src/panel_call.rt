@@ -1,0 +1,132 @@
+//! What a line may order.
+
+ghost use Rattle.std.specs.Prelude.{◌≡◌, ◌<◌, ◌^◌, ◌∷◌, ℕ, []};
+ghost use Rattle.osdp_msg.specs.declared.command.Command.{Command as Ordered};
+ghost use Rattle.osdp_msg.specs.CommandTable.{CommandFits};
+ghost use Rattle.osdp_msg.specs.CommandText.{command_words};
+ghost use Rattle.osdp_words.specs.Reading.{Reads, ReadsWords};
+ghost use Rattle.osdp_words.specs.Word.{bytes, number, texts};
+ghost use Rattle.osdp_line_calls.specs.PanelCalls.{CallFits, IsAddress, IsEntry, IsLong, call_words, entry_word};
+
+use crate::reader_call::one_word;
+use arrayvec::ArrayVec;
+use osdp_bus::Entry;
+use osdp_frame::Address;
+use osdp_msg::Command;
+use osdp_words::{byte_list, number_u8, number_u32, number_u64};
+
+/// What a line orders. An entry is that of the bus, which counts from 0; the line's word for it counts from 1.
+#[derive(Debug, Drop, PartialEq)]
+pub enum PanelCall {
+    /// The moment of the calls to come, in milliseconds.
+    At(u64),
+    /// A device at this address joins the bus.
+    Add(Address),
+    /// A session of the entry's device begins.
+    Begin(Entry),
+    /// A command waits for the entry's device.
+    Submit(Entry, Command),
+    /// The command that has waited longest for the entry's device is taken back.
+    Withdraw(Entry),
+    /// The entry's device is at this address from now on.
+    Retarget(Entry, Address),
+    /// Bytes have come.
+    Bytes(ArrayVec<u8, 4096>),
+    /// The line was seen silent.
+    Silence,
+    /// What is due at this moment.
+    Tick,
+}
+
+/// The entry whose number, from 1, a word is.
+fn parse_entry(word: &str) -> Option<Entry>
+    ensures { Reads entry_word IsEntry word.now result }
+{
+    match number_u32(word)? {
+        0 => None,
+        entry => Some(entry as usize - 1),
+    }
+}
+
+/// The address that a word is.
+fn parse_address(word: &str) -> Option<Address>
+    ensures { Reads number IsAddress word.now result }
+{
+    Address::new(number_u8(word)?)
+}
+
+/// One word, and no other: a moment.
+fn one_moment(words: &[&str]) -> Option<u64>
+    ensures { ReadsWords (λ n. number n ∷ []) (λ n. n < 2 ^ 64) (texts words.now) result }
+{
+    number_u64(one_word(words)?)
+}
+
+/// One word, and no other: an address.
+fn one_address(words: &[&str]) -> Option<Address>
+    ensures { ReadsWords (λ n. number n ∷ []) IsAddress (texts words.now) result }
+{
+    parse_address(one_word(words)?)
+}
+
+/// One word, and no other: an entry.
+fn one_entry(words: &[&str]) -> Option<Entry>
+    ensures { ReadsWords (λ n. entry_word n ∷ []) IsEntry (texts words.now) result }
+{
+    parse_entry(one_word(words)?)
+}
+
+/// One word, and no other: bytes of the line.
+fn one_list(words: &[&str]) -> Option<ArrayVec<u8, 4096>>
+    ensures { ReadsWords (λ list. bytes list.items ∷ []) (λ list. IsLong list.items) (texts words.now) result }
+{
+    byte_list(one_word(words)?)
+}
+
+/// An entry, and the words of a command.
+fn entry_and_command(words: &[&str]) -> Option<(Entry, Command)>
+    ensures { ReadsWords (λ (x : ℕ × Ordered). entry_word x.0 ∷ command_words x.1) (λ (x : ℕ × Ordered). IsEntry x.0 × CommandFits x.1) (texts words.now) result }
+{
+    let [entry, rest @ ..] = words else {
+        return None;
+    };
+    let entry = parse_entry(entry)?;
+    match Command::parse(rest) {
+        Ok(command) => Some((entry, command)),
+        Err(_) => None,
+    }
+}
+
+/// Two words, and no others: an entry and an address.
+fn entry_and_address(words: &[&str]) -> Option<(Entry, Address)>
+    ensures { ReadsWords (λ (x : ℕ × ℕ). entry_word x.0 ∷ number x.1 ∷ []) (λ (x : ℕ × ℕ). IsEntry x.0 × IsAddress x.1) (texts words.now) result }
+{
+    let [entry, address] = words else {
+        return None;
+    };
+    Some((parse_entry(entry)?, parse_address(address)?))
+}
+
+/// The call whose words begin with a name and go on with these.
+pub(crate) fn parse_row(name: &str, words: &[&str]) -> Option<PanelCall>
+    ensures { ReadsWords call_words CallFits (name.now ∷ texts words.now) result }
+{
+    match name {
+        "at" => Some(PanelCall::At(one_moment(words)?)),
+        "add" => Some(PanelCall::Add(one_address(words)?)),
+        "begin" => Some(PanelCall::Begin(one_entry(words)?)),
+        "submit" => {
+            let (entry, command) = entry_and_command(words)?;
+            Some(PanelCall::Submit(entry, command))
+        }
+        "withdraw" => Some(PanelCall::Withdraw(one_entry(words)?)),
+        "retarget" => {
+            let (entry, address) = entry_and_address(words)?;
+            Some(PanelCall::Retarget(entry, address))
+        }
+        "bytes" => Some(PanelCall::Bytes(one_list(words)?)),
+        "silence" => words.is_empty().then_some(PanelCall::Silence),
+        "tick" => words.is_empty().then_some(PanelCall::Tick),
+        _ => None,
+    }
+}

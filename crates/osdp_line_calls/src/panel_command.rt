@@ -1,0 +1,115 @@
+//! The settings of a panel, and the panel that they make.
+
+ghost use Rattle.std.specs.Prelude.{◌≡◌, ◌∷◌, [], IfErr, IfOk};
+ghost use Rattle.std.specs.Result.{result_ok};
+ghost use Rattle.osdp_bus.specs.Settings.{IsBusConfig};
+ghost use Rattle.osdp_words.specs.Reading.{ReadsWords};
+ghost use Rattle.osdp_words.specs.Word.{texts};
+ghost use Rattle.osdp_line_calls.specs.PanelSettings.{IsWrongOfPanel, ReadsPanel, entry, with_setting};
+ghost use Rattle.osdp_line_calls.specs.Runs.{IsPanelOf};
+ghost use Rattle.osdp_line_calls.specs.Settings.{SettingFits, setting_words};
+
+use crate::panel_session::LinePanel;
+use crate::run::LineCommand;
+use crate::values::{room, sends, time};
+use crate::wrong::WrongSetting;
+use osdp_bus::BusConfig;
+use osdp_frame::CheckKind;
+use osdp_tool_streams::ToolFault;
+use osdp_words::{Fields, number_u8};
+use std::alloc::Global;
+
+/// What one setting of a panel sets. Times are in milliseconds, 1 to 3,600,000.
+#[derive(Clone, Copy, Debug, PartialEq, Eq)]
+pub enum PanelSetting {
+    /// `check`: which check packets end with, `sum` or `crc`.
+    Check(CheckKind),
+    /// `reply-wait`: how long an answer is waited for.
+    ReplyWait(u32),
+    /// `poll-interval`: from an answer to the next POLL.
+    PollInterval(u32),
+    /// `sends`: how often a packet is sent while no answer comes, 1 to 255.
+    Sends(u8),
+    /// `busy-wait`: from a BUSY to the next send.
+    BusyWait(u32),
+    /// `busy-limit`: how often a reader may answer BUSY in one exchange, 0 to 255.
+    BusyLimit(u8),
+    /// `quiet-wait`: how long a device is left quiet before a session opens.
+    QuietWait(u32),
+    /// `gap`: after how long a silence a run of bytes is over.
+    Gap(u32),
+    /// `capacity`: how many commands may wait for each device, 1 to 1024.
+    Capacity(usize),
+}
+
+impl PanelSetting {
+    /// The setting of this name with this value.
+    pub fn parse(name: &str, value: &str) -> Option<PanelSetting>
+        ensures { ReadsWords (setting_words entry) (SettingFits entry) (name.now ∷ value.now ∷ []) result }
+    {
+        match name {
+            "check" => Some(PanelSetting::Check(CheckKind::named(value)?)),
+            "reply-wait" => Some(PanelSetting::ReplyWait(time(value)?)),
+            "poll-interval" => Some(PanelSetting::PollInterval(time(value)?)),
+            "sends" => Some(PanelSetting::Sends(sends(value)?)),
+            "busy-wait" => Some(PanelSetting::BusyWait(time(value)?)),
+            "busy-limit" => Some(PanelSetting::BusyLimit(number_u8(value)?)),
+            "quiet-wait" => Some(PanelSetting::QuietWait(time(value)?)),
+            "gap" => Some(PanelSetting::Gap(time(value)?)),
+            "capacity" => Some(PanelSetting::Capacity(room(value)?)),
+            _ => None,
+        }
+    }
+
+    /// Sets it.
+    fn set(self, config: &mut BusConfig)
+        ensures { config.new ≡ with_setting self config.old }
+    {
+        match self {
+            PanelSetting::Check(kind) => config.check = kind,
+            PanelSetting::ReplyWait(wait) => config.reply_wait = wait,
+            PanelSetting::PollInterval(wait) => config.poll_interval = wait,
+            PanelSetting::Sends(count) => config.sends = count,
+            PanelSetting::BusyWait(wait) => config.busy_wait = wait,
+            PanelSetting::BusyLimit(count) => config.busy_limit = count,
+            PanelSetting::QuietWait(wait) => config.quiet_wait = wait,
+            PanelSetting::Gap(wait) => config.gap = wait,
+            PanelSetting::Capacity(count) => config.capacity = count,
+        }
+    }
+}
+
+/// The bus that the words set: each name, in any order, with its value after it. What no word sets has its default, and where
+/// a name stands twice, its later value holds. Where the words are no settings, the first that are none.
+pub fn panel_settings<'a>(words: &'a [&'a str]) -> Result<BusConfig, WrongSetting<'a>>
+    ensures reads { ReadsPanel (texts words.now) (result_ok result) }
+    ensures range { IfOk result IsBusConfig }
+    ensures wrong { IfErr result (λ wrong. IsWrongOfPanel (texts words.now) wrong) }
+{
+    let mut config = BusConfig::new(CheckKind::Crc, 64);
+    let mut fields = Fields::new(words);
+    'settings: while let Some(name) = fields.word() {
+        let Some(value) = fields.word() else {
+            return Err(WrongSetting::NoValue(name));
+        };
+        let Some(setting) = PanelSetting::parse(name, value) else {
+            return Err(WrongSetting::NoSetting(name, value));
+        };
+        setting.set(&mut config);
+    }
+    Ok(config)
+}
+
+impl LineCommand for LinePanel {
+    ghost is_set_by = { IsPanelOf };
+
+    fn of_words(alloc: Global, words: &[&str]) -> Result<LinePanel, ToolFault> {
+        let Ok(config) = panel_settings(words) else {
+            return Err(ToolFault::BadWords);
+        };
+        match LinePanel::new(alloc, config) {
+            Ok(panel) => Ok(panel),
+            Err(_) => Err(ToolFault::NoMemory),
+        }
+    }
+}

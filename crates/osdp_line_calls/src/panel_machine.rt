@@ -1,0 +1,49 @@
+//! A panel as a machine that is called by lines.
+
+ghost use Rattle.std.proofs.Common.{inl, inr};
+ghost use Rattle.osdp_line_calls.specs.PanelCalls.{CallFits, call_words};
+ghost use Rattle.osdp_line_calls.specs.PanelLines.{Answers, Gives, refuses};
+ghost use Rattle.osdp_line_calls.specs.PanelSessions.{answered};
+
+use crate::call::LineCall;
+use crate::machine::LineMachine;
+use crate::panel_call::{PanelCall, parse_row};
+use crate::panel_session::LinePanel;
+use std::alloc::AllocError;
+
+impl LineCall for PanelCall {
+    ghost words_of = { call_words };
+
+    ghost fits = { CallFits };
+
+    fn parse(words: &[&str]) -> Option<PanelCall> {
+        let [name, rest @ ..] = words else {
+            return None;
+        };
+        parse_row(name, rest)
+    }
+}
+
+impl LineMachine for LinePanel {
+    type Call = PanelCall;
+
+    ghost answers = { Answers };
+
+    ghost answers_call = { λ s call. Gives (answered call s) };
+
+    ghost refuses = { λ s. Gives (refuses s) };
+
+    ghost is_ready = { λ p. Unit {0} };
+
+    ghost call_answers = { λ s next line text call says gives. record { called = gives.0; is = inl (call, says, gives.1); text_is = gives.2; next_is = gives.3 } };
+
+    ghost refusal_answers = { λ s next line text nothing gives. record { called = gives.0; is = inr (nothing, gives.1); text_is = gives.2; next_is = gives.3 } };
+
+    fn answer_call(&mut self, call: PanelCall, text: &mut String) -> Result<(), AllocError> {
+        self.answer(call, text)
+    }
+
+    fn refuse_line(&mut self, text: &mut String) -> Result<(), AllocError> {
+        self.refuse(text)
+    }
+}

@@ -1,0 +1,127 @@
+//! The lines that answer a call.
+
+ghost use Rattle.std.specs.Prelude.{◌≡◌, ◌<◌, ◌^◌, ◌++◌, [], IfSome, OnOk, Option, Some, codes, string_bytes};
+ghost use Rattle.osdp_bus.specs.Sending.{IsSentAs};
+ghost use Rattle.osdp_frame.specs.Packet.{Packet};
+ghost use Rattle.osdp_line_calls.specs.PanelTexts.{due_line, fault_name, refusal_line, report_line, send_line, told_line, with_command, withdrawal_line};
+
+use osdp_bus::{BusFault, Entry};
+use osdp_controller::Report;
+use osdp_frame::Burst;
+use osdp_msg::{Command, Reply};
+use osdp_words::ByteList;
+use std::alloc::AllocError;
+
+/// Writes the burst that goes out, where there is one.
+pub(crate) fn push_sent(text: &mut String, burst: Option<Burst>) -> Result<(), AllocError>
+    ensures { OnOk result ((sent : Option Packet) → IsSentAs sent burst → string_bytes text.new ≡ string_bytes text.old ++ send_line sent) }
+{
+    let Some(burst) = burst else {
+        return Ok(());
+    };
+    writeln!(text, "send {}", ByteList(burst.as_slice()))
+}
+
+/// Ends a line with the command that it tells of, where there is one.
+fn push_command(text: &mut String, command: Option<Command>) -> Result<(), AllocError>
+    ensures { OnOk result (string_bytes text.new ≡ string_bytes text.old ++ (with_command [] command ++ codes "\n")) }
+{
+    match command {
+        None => text.push_str("\n"),
+        Some(command) => writeln!(text, " {command}"),
+    }
+}
+
+/// Writes what an entry's controller tells.
+fn push_told(text: &mut String, entry: Entry, report: Report) -> Result<(), AllocError>
+    ensures { OnOk result (string_bytes text.new ≡ string_bytes text.old ++ told_line entry report) }
+{
+    let number = entry as u128 + 1;
+    match report {
+        Report::Opened(id) => {
+            let reply = Reply::PdId(id);
+            writeln!(text, "opened {number} {reply}")
+        }
+        Report::Settled(command, reply) => writeln!(text, "settled {number} {command} = {reply}"),
+        Report::Moved(command, answered) => {
+            let reply = Reply::Com(answered);
+            writeln!(text, "moved {number} {command} = {reply}")
+        }
+        Report::Event(event) => writeln!(text, "event {number} {event}"),
+        Report::PollAnswered(reply) => writeln!(text, "answered {number} {reply}"),
+        Report::Unread(command, code) => {
+            let bytes = [code];
+            write!(text, "unread {number} code {}", ByteList(&bytes))?;
+            push_command(text, command)
+        }
+        Report::Lost(cause, command) => {
+            let cause = cause.name();
+            write!(text, "lost {number} {cause}")?;
+            push_command(text, command)
+        }
+    }
+}
+
+/// Writes the report that was taken, where there is one.
+pub(crate) fn push_report(
+    text: &mut String,
+    report: Option<(Entry, Report)>,
+) -> Result<(), AllocError>
+    ensures { OnOk result (string_bytes text.new ≡ string_bytes text.old ++ report_line report) }
+{
+    match report {
+        None => Ok(()),
+        Some((entry, report)) => push_told(text, entry, report),
+    }
+}
+
+/// A refusal's name.
+fn fault_name(fault: BusFault) -> &'static str
+    ensures { result.now ≡ fault_name fault }
+{
+    match fault {
+        BusFault::NoMemory => "B1",
+        BusFault::TooMany => "B2",
+        BusFault::AddressTaken => "B3",
+        BusFault::NoEntry => "B4",
+        BusFault::OutOfRange => "B5",
+        BusFault::Full => "C3",
+        BusFault::PollSubmitted => "C4",
+        BusFault::NotClosed => "C5",
+    }
+}
+
+/// Writes why a call is refused.
+pub(crate) fn push_refusal(text: &mut String, fault: BusFault) -> Result<(), AllocError>
+    ensures { OnOk result (string_bytes text.new ≡ string_bytes text.old ++ refusal_line (Some fault)) }
+{
+    let name = fault_name(fault);
+    writeln!(text, "refused {name}")
+}
+
+/// Writes the command that was taken back, or why the call is refused.
+pub(crate) fn push_withdrawal(
+    text: &mut String,
+    entry: Entry,
+    taken: Result<Option<Command>, BusFault>,
+) -> Result<(), AllocError>
+    ensures { OnOk result (string_bytes text.new ≡ string_bytes text.old ++ withdrawal_line entry taken) }
+{
+    let number = entry as u128 + 1;
+    match taken {
+        Ok(None) => Ok(()),
+        Ok(Some(command)) => writeln!(text, "withdrawn {number} {command}"),
+        Err(fault) => push_refusal(text, fault),
+    }
+}
+
+/// Writes the moment of the next tick, which ends an answer.
+pub(crate) fn push_due(text: &mut String, due: Option<u64>) -> Result<(), AllocError>
+    ensures text { OnOk result (string_bytes text.new ≡ string_bytes text.old ++ due_line due) }
+    ensures range { IfSome due (λ moment. moment < 2 ^ 64) }
+{
+    match due {
+        None => text.push_str("due none\n"),
+        Some(moment) => writeln!(text, "due {moment}"),
+    }
+}

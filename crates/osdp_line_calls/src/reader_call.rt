@@ -1,0 +1,117 @@
+//! What a line may order.
+
+ghost use Rattle.std.specs.Prelude.{◌≡◌, ◌<◌, ◌^◌, ◌∷◌, ℕ, List, [], MatchOption};
+ghost use Rattle.osdp_msg.specs.Events.{EventFits, event_words};
+ghost use Rattle.osdp_words.specs.Reading.{ReadsWords};
+ghost use Rattle.osdp_words.specs.Word.{bytes, number, texts};
+ghost use Rattle.osdp_line_calls.specs.ReaderCalls.{AreStates, CallFits, IsLong, call_words, switch_word};
+
+use arrayvec::ArrayVec;
+use osdp_msg::MAX_DATA;
+use osdp_words::{byte_list, number_u8, number_u64};
+
+/// What a line orders.
+#[derive(Debug, Drop, PartialEq)]
+pub enum ReaderCall {
+    /// The moment of the calls to come, in milliseconds.
+    At(u64),
+    /// Bytes have come.
+    Bytes(ArrayVec<u8, 4096>),
+    /// The line was seen silent.
+    Silence,
+    /// No bytes have come up to now.
+    Tick,
+    /// An event for the controller.
+    Event(osdp_msg::Event),
+    /// Whether the reader is busy from now on.
+    Busy(bool),
+    /// A byte for each input, from now on.
+    Inputs(ArrayVec<u8, MAX_DATA>),
+    /// A byte for each output, from now on.
+    Outputs(ArrayVec<u8, MAX_DATA>),
+    /// A byte for each reader, from now on.
+    Readers(ArrayVec<u8, MAX_DATA>),
+    /// Tamper and power, from now on.
+    Local(u8, u8),
+}
+
+/// One word, and no other.
+pub fn one_word<'a>(words: &[&'a str]) -> Option<&'a str>
+    ensures { MatchOption result ((word : List ℕ) → texts words.now ≡ word ∷ [] → ⊥) (λ word. texts words.now ≡ word.now ∷ []) }
+{
+    match words {
+        [word] => Some(*word),
+        _ => None,
+    }
+}
+
+/// One word, and no other: a moment.
+fn parse_moment(words: &[&str]) -> Option<u64>
+    ensures { ReadsWords (λ n. number n ∷ []) (λ n. n < 2 ^ 64) (texts words.now) result }
+{
+    number_u64(one_word(words)?)
+}
+
+/// One word, and no other: bytes of the line.
+fn parse_bytes(words: &[&str]) -> Option<ArrayVec<u8, 4096>>
+    ensures { ReadsWords (λ list. bytes list.items ∷ []) (λ list. IsLong list.items) (texts words.now) result }
+{
+    byte_list(one_word(words)?)
+}
+
+/// One word, and no other: a byte for each input, output or reader.
+fn parse_states(words: &[&str]) -> Option<ArrayVec<u8, MAX_DATA>>
+    ensures { ReadsWords (λ list. bytes list.items ∷ []) (λ list. AreStates list.items) (texts words.now) result }
+{
+    byte_list(one_word(words)?)
+}
+
+/// The words of an event.
+fn parse_event(words: &[&str]) -> Option<osdp_msg::Event>
+    ensures { ReadsWords event_words EventFits (texts words.now) result }
+{
+    osdp_msg::Event::parse(words).ok()
+}
+
+/// One word, and no other: `on` or `off`.
+fn parse_switch(words: &[&str]) -> Option<bool>
+    ensures { ReadsWords (λ busy. switch_word busy ∷ []) (λ busy. Unit {0}) (texts words.now) result }
+{
+    match one_word(words)? {
+        "on" => Some(true),
+        "off" => Some(false),
+        _ => None,
+    }
+}
+
+/// Two words, and no others: tamper and power.
+fn parse_local(words: &[&str]) -> Option<(u8, u8)>
+    ensures { ReadsWords (λ (x : ℕ × ℕ). number x.0 ∷ number x.1 ∷ []) (λ (x : ℕ × ℕ). (x.0 < 2 ^ 8) × (x.1 < 2 ^ 8)) (texts words.now) result }
+{
+    let [tamper, power] = words else {
+        return None;
+    };
+    Some((number_u8(tamper)?, number_u8(power)?))
+}
+
+/// The call whose words begin with a name and go on with these.
+pub(crate) fn parse_row(name: &str, words: &[&str]) -> Option<ReaderCall>
+    ensures { ReadsWords call_words CallFits (name.now ∷ texts words.now) result }
+{
+    match name {
+        "at" => Some(ReaderCall::At(parse_moment(words)?)),
+        "bytes" => Some(ReaderCall::Bytes(parse_bytes(words)?)),
+        "silence" => words.is_empty().then_some(ReaderCall::Silence),
+        "tick" => words.is_empty().then_some(ReaderCall::Tick),
+        "event" => Some(ReaderCall::Event(parse_event(words)?)),
+        "busy" => Some(ReaderCall::Busy(parse_switch(words)?)),
+        "inputs" => Some(ReaderCall::Inputs(parse_states(words)?)),
+        "outputs" => Some(ReaderCall::Outputs(parse_states(words)?)),
+        "readers" => Some(ReaderCall::Readers(parse_states(words)?)),
+        "local" => {
+            let (tamper, power) = parse_local(words)?;
+            Some(ReaderCall::Local(tamper, power))
+        }
+        _ => None,
+    }
+}

@@ -1,0 +1,50 @@
+//! A device as a machine that is called by lines.
+
+ghost use Rattle.std.proofs.Common.{inl, inr, refl};
+ghost use Rattle.osdp_device.specs.Hearing.{IsAllRead};
+ghost use Rattle.osdp_line_calls.specs.ReaderCalls.{CallFits, call_words};
+ghost use Rattle.osdp_line_calls.specs.ReaderLines.{Answers, Gives, refuses};
+ghost use Rattle.osdp_line_calls.specs.ReaderSessions.{answered};
+
+use crate::call::LineCall;
+use crate::machine::LineMachine;
+use crate::reader_call::{ReaderCall, parse_row};
+use crate::reader_session::LineDevice;
+use std::alloc::AllocError;
+
+impl LineCall for ReaderCall {
+    ghost words_of = { call_words };
+
+    ghost fits = { CallFits };
+
+    fn parse(words: &[&str]) -> Option<ReaderCall> {
+        let [name, rest @ ..] = words else {
+            return None;
+        };
+        parse_row(name, rest)
+    }
+}
+
+impl LineMachine for LineDevice {
+    type Call = ReaderCall;
+
+    ghost answers = { Answers };
+
+    ghost answers_call = { λ s call. Gives (answered call s) };
+
+    ghost refuses = { λ s. Gives (refuses s) };
+
+    ghost is_ready = { λ d. IsAllRead d.line };
+
+    ghost call_answers = { λ s next line text call says gives. record { called = answered call s; is = inl (call, says, refl); text_is = gives.0; next_is = gives.1 } };
+
+    ghost refusal_answers = { λ s next line text nothing gives. record { called = refuses s; is = inr (nothing, refl); text_is = gives.0; next_is = gives.1 } };
+
+    fn answer_call(&mut self, call: ReaderCall, text: &mut String) -> Result<(), AllocError> {
+        self.answer(call, text)
+    }
+
+    fn refuse_line(&mut self, text: &mut String) -> Result<(), AllocError> {
+        self.refuse(text)
+    }
+}

@@ -1,0 +1,193 @@
+//! A device that is called by lines.
+
+ghost use Rattle.std.specs.Prelude.{◌≡◌, ◌↔◌, ◌⊎◌, ◌<◌, ◌++◌, IfOk, IsErrOf, OnOk, length, string_bytes};
+ghost use Rattle.osdp_device.specs.Hearing.{IsAllRead, hears_bytes, hears_silence, hears_tick, reads_all};
+ghost use Rattle.osdp_device.specs.Receiving.{IsGap};
+ghost use Rattle.osdp_device.specs.Status.{status_after, status_answer};
+ghost use Rattle.osdp_reader.specs.State.{after_set_busy, after_set_handler};
+ghost use Rattle.osdp_reader.specs.declared.fault.ReaderFault.TheVariants.{OutOfRange};
+ghost use Rattle.osdp_line_calls.specs.ReaderSessions.{Called, Comes, IsHeard, Session, after_event, answered, does, heard, new_session, submit_text};
+ghost use Rattle.osdp_line_calls.specs.ReaderLines.{refuses};
+ghost use Rattle.osdp_line_calls.specs.ReaderTexts.{all_lines, waiting_line};
+
+use crate::reader_call::ReaderCall;
+use crate::reader_say::{push_response, push_waiting};
+use osdp_device::{Device, DeviceStatus};
+use osdp_msg::Event;
+use osdp_reader::{Reader, ReaderConfig, ReaderFault};
+use std::alloc::{AllocError, Global};
+use std::marker::Model;
+
+/// A reader's device, and the moment of the calls to come.
+#[derive(Drop)]
+pub struct LineDevice {
+    device: Device<DeviceStatus>,
+    now: u64,
+}
+
+impl Model for LineDevice {
+    ghost Value = { Session };
+
+    ghost view = { λ d. record { reader = d.device.reader; line = d.device.line; now = d.now } };
+}
+
+/// Writes what the device says to all that is held.
+fn say_all(device: &mut Device<DeviceStatus>, text: &mut String) -> Result<(), AllocError>
+    ensures text { OnOk result (string_bytes text.new ≡ string_bytes text.old
+        ++ all_lines (reads_all status_answer status_after device.old.reader device.old.line).said) }
+    ensures reader { OnOk result (device.new.reader ≡ (reads_all status_answer status_after device.old.reader device.old.line).reader) }
+    ensures line { OnOk result (device.new.line ≡ (reads_all status_answer status_after device.old.reader device.old.line).line) }
+{
+    'responses: while let Some(response) = device.next() {
+        push_response(text, &response)?;
+    }
+    Ok(())
+}
+
+/// Hands bytes to the device, and writes what it says to them.
+fn hear(
+    device: &mut Device<DeviceStatus>,
+    bytes: &[u8],
+    now: u64,
+    text: &mut String,
+) -> Result<(), AllocError>
+    requires { IsAllRead device.old.line }
+    ensures { OnOk result (IsHeard (string_bytes text.old) (string_bytes text.new) device.new.reader device.new.line
+        (hears_bytes status_answer status_after bytes.now now device.old.reader device.old.line)) }
+{
+    let mut at = 0;
+    'turns: loop {
+        at += device.take(&bytes[at..], now);
+        say_all(device, text)?;
+        if at == bytes.len() {
+            return Ok(());
+        }
+    }
+}
+
+/// Puts an event after those that wait, or writes that there is no room for it.
+fn submit(
+    device: &mut Device<DeviceStatus>,
+    event: Event,
+    text: &mut String,
+) -> Result<(), AllocError>
+    ensures text { OnOk result (string_bytes text.new ≡ string_bytes text.old ++ submit_text device.old.reader) }
+    ensures reader { OnOk result (device.new.reader ≡ after_event event device.old.reader) }
+    ensures line { device.new.line ≡ device.old.line }
+{
+    match device.reader.submit_event(event) {
+        Ok(()) => Ok(()),
+        Err(_) => text.push_str("refused N2\n"),
+    }
+}
+
+impl LineDevice {
+    /// A device to whose line nothing has come, at moment 0. Its reader has room for `capacity` events, and a run of bytes is over after a
+    /// silence of `gap` milliseconds.
+    ///
+    /// OutOfRange (N3) where the address is above 126, the capacity isn't one of 1 to 1024, or the gap isn't one of 1 to 3,600,000; else
+    /// NoMemory (N1) where there is none.
+    pub fn new(
+        alloc: Global,
+        config: ReaderConfig,
+        capacity: usize,
+        gap: u32,
+    ) -> Result<LineDevice, ReaderFault>
+        ensures made { IfOk result (λ d. d ≡ new_session config capacity gap) }
+        ensures read { IfOk result (λ d. IsAllRead d.line) }
+        ensures range { IsErrOf result OutOfRange
+            ↔ ((126 < config.address) ⊎ (capacity < 1) ⊎ (1024 < capacity) ⊎ (gap < 1) ⊎ (3600000 < gap)) }
+    {
+        if !config.address.is_device() || capacity < 1 || capacity > 1024 {
+            return Err(ReaderFault::OutOfRange);
+        }
+        if gap < 1 || gap > 3_600_000 {
+            return Err(ReaderFault::OutOfRange);
+        }
+        let reader = Reader::new(alloc, config, DeviceStatus::new(), capacity)?;
+        match Device::new(reader, gap) {
+            Some(device) => Ok(LineDevice { device, now: 0 }),
+            None => Err(ReaderFault::OutOfRange),
+        }
+    }
+}
+
+impl LineDevice {
+    /// Hands bytes to the device, and writes what it says to them.
+    fn hear(&mut self, bytes: &[u8], text: &mut String) -> Result<(), AllocError>
+        requires { IsAllRead self.old.line }
+        ensures { OnOk result (Comes (string_bytes text.old) (string_bytes text.new) self.new (heard (hears_bytes status_answer status_after bytes.now self.old.now self.old.reader self.old.line) self.old)) }
+    {
+        hear(&mut self.device, bytes, self.now, text)
+    }
+
+    /// No bytes have come up to now: writes what the device says once a run has ended by that.
+    #[tactic(auto, using(crate::proofs::ReaderCalls::reads_held))]
+    fn tick(&mut self, text: &mut String) -> Result<(), AllocError>
+        ensures { OnOk result (Comes (string_bytes text.old) (string_bytes text.new) self.new (heard (hears_tick status_answer status_after self.old.now self.old.reader self.old.line) self.old)) }
+    {
+        self.device.tick(self.now);
+        say_all(&mut self.device, text)
+    }
+
+    /// The line was silent: writes what the device says once the run has ended.
+    #[tactic(auto, using(crate::proofs::ReaderCalls::reads_held))]
+    fn silence(&mut self, text: &mut String) -> Result<(), AllocError>
+        ensures { OnOk result (Comes (string_bytes text.old) (string_bytes text.new) self.new (heard (hears_silence status_answer status_after self.old.now self.old.reader self.old.line) self.old)) }
+    {
+        self.device.silence(self.now);
+        say_all(&mut self.device, text)
+    }
+
+    /// Does what a call orders, and writes what comes of it.
+    fn call(&mut self, call: ReaderCall, text: &mut String) -> Result<(), AllocError>
+        requires { IsAllRead self.old.line }
+        ensures { OnOk result (Comes (string_bytes text.old) (string_bytes text.new) self.new (does call self.old)) }
+    {
+        match call {
+            ReaderCall::At(now) => self.now = now,
+            ReaderCall::Bytes(list) => return self.hear(list.as_slice(), text),
+            ReaderCall::Silence => return self.silence(text),
+            ReaderCall::Tick => return self.tick(text),
+            ReaderCall::Event(event) => return submit(&mut self.device, event, text),
+            ReaderCall::Busy(busy) => self.device.reader.set_busy(busy),
+            ReaderCall::Inputs(list) => self.device.reader.handler_mut().inputs = list,
+            ReaderCall::Outputs(list) => self.device.reader.handler_mut().outputs = list,
+            ReaderCall::Readers(list) => self.device.reader.handler_mut().readers = list,
+            ReaderCall::Local(tamper, power) => {
+                let status = self.device.reader.handler_mut();
+                status.tamper = tamper;
+                status.power = power;
+            }
+        }
+        Ok(())
+    }
+
+    /// Writes how many events wait, which ends an answer.
+    fn end(&mut self, text: &mut String) -> Result<(), AllocError>
+        requires { IsAllRead self.old.line }
+        ensures { OnOk result (Comes (string_bytes text.old) (string_bytes text.new) self.new (record { text = waiting_line (length self.old.reader.queue.events); session = self.old })) }
+    {
+        push_waiting(text, self.device.reader.waiting())
+    }
+
+    /// Answers a call: does what it orders, writes the lines that tell what came of it, and the one that ends the answer.
+    ///
+    /// After an error, which is one of memory, the text has a beginning of the answer, and the device may hold packets that weren't read.
+    pub fn answer(&mut self, call: ReaderCall, text: &mut String) -> Result<(), AllocError>
+        requires { IsAllRead self.old.line }
+        ensures { OnOk result (Comes (string_bytes text.old) (string_bytes text.new) self.new (answered call self.old)) }
+    {
+        self.call(call, text)?;
+        self.end(text)
+    }
+
+    /// Answers a line that is no call: nothing changes.
+    pub(crate) fn refuse(&mut self, text: &mut String) -> Result<(), AllocError>
+        requires { IsAllRead self.old.line }
+        ensures { OnOk result (Comes (string_bytes text.old) (string_bytes text.new) self.new (refuses self.old)) }
+    {
+        text.push_str("refused line\n")?;
+        self.end(text)
+    }
+}

@@ -1,4 +1,0 @@
-pub mod Ranges
-pub mod Reading
-pub mod Running
-mod FirstWrong

@@ -1,6 +1,0 @@
-use Rattle.std.proofs.Common.{refl}
-use Rattle.osdp_line_commands.specs.Runs.{new_device}
-use Rattle.osdp_line_commands.proofs.reader.LineDeviceLineCommand.of_words.Goals as goal
-
-pub returns-in-Err-clause-none : goal.returns-in-Err-clause-none
-returns-in-Err-clause-none c = (new_device c.in-Ok.settings, (c.in-Ok.settings, c.in-Ok.ensures.reads.value, refl))

@@ -1,4 +1,0 @@
-pub mod Answered
-pub mod Speaking
-pub mod Stopping
-pub mod Reading

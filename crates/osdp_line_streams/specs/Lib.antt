@@ -1,4 +1,0 @@
-pub mod Answers
-pub mod Calls
-pub mod Steps
-pub mod Ending

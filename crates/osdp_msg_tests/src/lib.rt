@@ -1,7 +1,0 @@
-//! Tests of `osdp_msg` through its public calls.
-//!
-//! They stand in a crate of their own since a crate with tests is proved twice.
-#![tactic(auto)]
-
-#[cfg(test)]
-mod tests;

@@ -1,4 +1,0 @@
-pub mod Rows
-pub mod Calls
-mod Listening
-pub mod PassedOver

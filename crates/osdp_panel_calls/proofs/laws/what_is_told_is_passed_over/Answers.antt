@@ -1,5 +1,0 @@
-use Rattle.osdp_panel_calls.proofs.PassedOver.{tells_all}
-use Rattle.osdp_panel_calls.proofs.laws.what_is_told_is_passed_over.Goals as goal
-
-pub returns : goal.returns
-returns c = tells_all

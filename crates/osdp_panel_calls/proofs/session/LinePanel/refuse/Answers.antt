@@ -1,9 +1,0 @@
-use Rattle.std.proofs.Common.{string_bytes, refl}
-use Rattle.osdp_panel_calls.specs.Lines.{refuses}
-use Rattle.osdp_panel_calls.proofs.Calls.{on_this}
-use Rattle.osdp_panel_calls.proofs.session.LinePanel.refuse.Goals as goal
-
-pub returns : goal.returns
-returns c =
-    on_this _ _ _ (c.end.ensures (string_bytes c.args.text.now) (refuses c.args.self.now))
-    (record { text = c.in_ok-push_str.ensures.bytes; session = refl })

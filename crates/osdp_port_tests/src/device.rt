@@ -1,0 +1,5 @@
+//! Tests of `osdp_device` through its public calls.
+
+mod devices;
+mod moments;
+mod status;

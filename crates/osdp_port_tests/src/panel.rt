@@ -1,0 +1,5 @@
+//! Tests of `osdp_panel` through its public call: turns at a moment after each other, and ports that give nothing.
+
+mod ports;
+mod rows;
+mod turns;

@@ -1,4 +1,0 @@
-pub mod OneLine
-pub mod OneScript
-pub mod PrintedLine
-pub mod ReadBack

@@ -1,5 +1,0 @@
-use Rattle.osdp_script_laws.proofs.ReadBack.{read_back}
-use Rattle.osdp_script_laws.proofs.scripts_are_read_back.Goals as goal
-
-pub returns : goal.returns
-returns c = read_back

@@ -1,5 +1,0 @@
-use Rattle.osdp_script_reader.proofs.Switching.{last_counts}
-use Rattle.osdp_script_reader.proofs.laws.last_record_counts.Goals as goal
-
-pub returns : goal.returns
-returns c = last_counts

@@ -1,4 +1,0 @@
-pub mod Outputs
-pub mod Handler
-pub mod Identity
-pub mod Laws

@@ -1,0 +1,310 @@
+//! The texts of the helps, and the version. `tests/help.py` holds them to the manual pages, and runs their examples and recipes.
+
+ghost use Rattle.osdp_tool.specs.Help.{IsHelpOf};
+
+use crate::choice::Topic;
+
+/// The product's version, as `--version` prints it. It stands here alone; the header for C and the crate for Rust have the same number.
+pub const VERSION: &str = "osdp 0.1.0\n";
+
+const PROGRAM: &str =
+    "osdp: shows, checks and makes packets of an OSDP line, and runs panels and readers
+
+usage: osdp COMMAND [WORD]...
+
+  show     print a line for each packet, skipped byte and refused byte of a capture
+  monitor  print what happens on a line, and which end breaks its rules
+  check    print the refusals of a capture, and how many packets there are
+  make     print the digits of one packet
+  sim      run a script of a line between a controller and its readers
+  panel    run a panel by lines of text
+  reader   run a reader by lines of text
+  help     print this, or the help of a command: osdp help show
+
+  -h, --help  print this
+  --version   print the version
+
+Each command reads standard input and writes standard output. Secure Channel is not read or spoken.
+The status is 0, or 1 where show, check or monitor met a refusal, or monitor accused an end. It is 2 at bad
+words or bad input, 3 where a read or a write failed, and 4 without memory. The manual: man osdp, man
+osdp-monitor, man osdp-panel, man osdp-reader.
+";
+
+const SHOW: &str =
+    "osdp show: prints a line for each packet, each skipped byte and each refused byte of a capture
+
+usage: osdp show [--raw] [--join]
+
+  --raw   the input is bytes, as they come from a port
+  --join  all lines of digits are one run
+
+Input: lines of hexadecimal digits. Each line is a run, that is, bytes between two silences. Spaces and
+tabs are passed over, and a line that begins with # is a comment. A live line is shown as it comes.
+
+Examples:
+
+  $ echo 53 00 07 00 00 60 46 | osdp show
+  1:0 cmd 0 seq 0 sum POLL
+
+  $ printf '\\123\\0\\7\\0\\0\\140\\106' | osdp show --raw
+  1:0 cmd 0 seq 0 sum POLL
+
+A line of the output is the run and the place in it, then one of these:
+
+  cmd A seq N K T    a packet of the panel to address A, with number N, check K and message T
+  reply A seq N K T  a packet of the reader at address A
+  skip XX            a byte that begins no packet
+  refused F1, F2     a byte 53 whose packet has too small or too great a length
+  refused F3         a byte 53 whose packet has a wrong check: the line is damaged
+  refused F4         a byte 53 whose packet is cut off by the end of the run
+
+Recipes, from other texts to lines of digits:
+
+  of hexdump -C        sed 's/|.*//; s/^[0-9a-f]*//' FILE | osdp show --join
+  of xxd               sed 's/^[^:]*://; s/  .*//' FILE | osdp show --join
+  of 0x53, 0x00        sed 's/0[xX]//g; s/[,;{}]//g' FILE | osdp show
+  of 53:00:07          sed 's/[:-]//g' FILE | osdp show
+  of 10:02:33 TX: 53   sed 's/.*[RT]X: *//' FILE | osdp show
+
+Where --raw prints skip lines alone, thousands of them, the input may be text: 30 to 39 and 41 to 46 are
+the characters of digits, and 20 is a space. Then leave --raw out, or take a recipe. If it is no text,
+look at the rate and the wires: docs/INSTALLING.md, \"A device that doesn't answer\".
+";
+
+const MONITOR: &str = "osdp monitor: tells what happens on a line, and which end breaks its rules
+
+usage: osdp monitor [--hex] [--packets] [--gap N] [--every N]
+
+  --hex      the input is lines of digits, as show reads them: each line is a run
+  --packets  print each packet, skipped byte and refused byte too, as show does
+  --gap N    a run of bytes is over N milliseconds after its last ones, 1 to 3600000; else 20
+  --every N  print the table again N seconds after the last one, 1 to 3600000, as bytes come
+
+Input: bytes, as they come from a port, or lines of digits. The table comes where the input ends: end the
+program that gives the bytes. Ctrl-C ends this one, and no table is printed. man osdp-monitor says what each
+accusation means.
+
+Examples:
+
+  $ echo 53050700006041 | osdp monitor --hex
+  device  asked  polls repeats  answered  busy  nak  events  opened  moved  accused
+  5           1      1       0         0     0    0       0       0      0        0
+  runs 1 packets 1 skipped 0 refused 0 accused 0
+
+  $ printf '53050700016040\\n5305070003603E\\n' | osdp monitor --hex
+  2:0 device 5: unanswered
+  2:0 panel to 5: a number out of turn
+  device  asked  polls repeats  answered  busy  nak  events  opened  moved  accused
+  5           2      2       0         0     0    0       0       0      0        1
+  runs 2 packets 2 skipped 0 refused 0 accused 1
+";
+
+const CHECK: &str = "osdp check: prints the refusals of a capture, and then counts
+
+usage: osdp check [--raw] [--join]
+
+  --raw   the input is bytes, as they come from a port
+  --join  all lines of digits are one run
+
+Input: that of show. The last line counts the runs, the packets, the skipped bytes and the refusals.
+
+Examples:
+
+  $ echo 53000700006046 | osdp check
+  runs 1 packets 1 skipped 0 refused 0
+
+  $ echo 53000700006047 | osdp check
+  1:0 refused F3
+  runs 1 packets 0 skipped 6 refused 1
+";
+
+const MAKE: &str = "osdp make: prints the digits of one packet
+
+usage: osdp make ADDRESS NUMBER sum|crc WORD...
+
+  ADDRESS   0 to 127; 127 is each device's
+  NUMBER    the sequence number, 0 to 3
+  sum, crc  which check the packet ends with
+  WORD...   the text of a command or a reply, as show prints it
+
+Input: none. docs/PROTOCOL.md has the texts of all messages.
+
+Examples:
+
+  $ osdp make 5 1 crc OUT 0:2:0
+  53050C000568000200005183
+
+  $ osdp make 5 0 sum ID 0
+  530508000061003F
+";
+
+const SIM: &str =
+    "osdp sim: runs a script of a line between a controller and its readers, and prints what happened
+
+usage: osdp sim
+
+Input: a script, which is a line for the check, a line for each reader, and a line for each step.
+
+  check sum, check crc         which check the controller's packets end with
+  reader ADDRESS EVENTS        a reader, with room for so many events; readers count from 1
+  issue READER WORD...         a command is submitted for a reader
+  queue READER WORD...         a reader has an event to tell
+  busy READER on, off          whether a reader answers BUSY
+  wait MS                      so many milliseconds pass
+  to-reader, to-controller     then deliver, drop, repeat, or damage HEX: what becomes of the packet in front
+  clean N                      rounds without losses, with one reader alone
+  reopen READER                a session that has ended begins again
+
+Examples:
+
+  $ printf 'reader 5 4\\nqueue 1 KEYPAD 0 31\\nclean 2\\n' | osdp sim
+  reader 1 issued 0 taken 0 settled 0 unsettled 0 queued 1 reported 1
+  reported KEYPAD 0 31
+
+  $ printf 'reader 5 4\\nissue 1 OUT 0:2:0\\nclean 2\\n' | osdp sim
+  reader 1 issued 1 taken 1 settled 1 unsettled 0 queued 0 reported 0
+  taken OUT 0:2:0
+  settled OUT 0:2:0 = ACK
+";
+
+const PANEL: &str = "osdp panel: runs a panel of up to sixteen readers on one line, by lines of text
+
+usage: osdp panel [SETTING VALUE]...
+
+  check sum, check crc  which check packets end with: crc
+  reply-wait MS         how long an answer is waited for: 200
+  poll-interval MS      from an answer to the next POLL: 50
+  sends N               how often a packet is sent while no answer comes, 1 to 255: 3
+  busy-wait MS          from a BUSY to the next send: 50
+  busy-limit N          how often a reader may answer BUSY in one exchange, 0 to 255: 20
+  quiet-wait MS         how long a device is left quiet before a session opens: 400
+  gap MS                after how long a silence a run of bytes is over: 20
+  capacity N            how many commands may wait for each device, 1 to 1024: 64
+
+Input: a call on each line. Another program carries the port: share/osdp/examples/panel.py is one. Devices
+count from 1, in the order in which they were added.
+
+  at MOMENT           the moment of the lines to come, in milliseconds
+  add ADDRESS         a device joins the line
+  begin I             the session of device I begins
+  submit I WORD...    a command for it
+  withdraw I          the command that has waited longest is taken back
+  retarget I ADDRESS  the device is at this address from now on
+  bytes HEX           these bytes have come
+  silence             the line was silent
+  tick                what is due is done
+
+Commands of submit, by their texts. Times are in units of 100 ms. docs/PROTOCOL.md has each field and value.
+
+  ID 0                            what the device is: it answers PDID
+  CAP 0                           what it can do: it answers PDCAP
+  LSTAT, ISTAT, OSTAT, RSTAT      its tamper and power, its inputs, its outputs, its readers
+  OUT OUTPUT:CONTROL:TIME..       control 1 is off and 2 on for good, 5 is on and 6 off for the time
+  LED N:N:N:N:N:N:N:N:N:N:N:N:N   0:0:0:0:0:0:0:0:1:1:0:2:0 is LED 0 of reader 0, green for good
+  BUZ READER TONE ON OFF COUNT    0 2 1 1 1 is one short sound of reader 0
+  TEXT READER N N ROW COLUMN HEX  0 1 0 1 1 48454C4C4F is HELLO, to stay
+  COMSET ADDRESS RATE             the device goes to this address, 0 to 126, and rate
+  MFG VENDOR HEX                  what a maker has of its own
+
+Answers: before the last line of an answer stand lines like these.
+
+  send HEX              write these bytes to the line at once
+  opened I PDID..       the session is open
+  settled I X = Y       command X was answered Y, which may be a NAK: done where it is no NAK
+  moved I X = Y         COMSET X is done, and the session closed: once all have moved set the port, and begin
+  event I X             the device tells X, once
+  answered I X          a POLL was answered X, which is no event
+  unread I code XX..    the answer can't be read; the command that may follow may have been done or not
+  lost I CAUSE..        the session is closed: no-reply, too-busy or number-refused; a command as with unread
+  passed over I X       what the device says while no session is open: NAK 6 that it demands Secure Channel
+  withdrawn I X         command X was taken back
+  refused line          no call: its name, how many words it has, or one that is no value or out of its range
+  refused B2, B3        sixteen devices are there; the address is another device's, or reserved for one
+  refused B4, B5        there is no device I; the address is above 126
+  refused C3, C4        no room for another command; a POLL is not submitted
+  refused C5            the session is not closed
+  due MOMENT, due none  the last line: the moment of the next tick
+
+Examples:
+
+  $ printf 'add 5\\nbegin 1\\nat 400\\ntick\\n' | osdp panel
+  due none
+  due 400
+  due 400
+  send 53050900046100C125
+  due 600
+
+  $ printf 'submit 1 OUT 0:2:0\\n' | osdp panel capacity 4
+  refused B4
+  due none
+";
+
+const READER: &str = "osdp reader: runs a reader by lines of text
+
+usage: osdp reader [SETTING VALUE]...
+
+  address N       where the reader is at first, 0 to 126: 0
+  vendor HEX      the maker's code, six digits: 000000
+  model N         the maker's number of the model, 0 to 255: 0
+  version N       the maker's number of its version, 0 to 255: 0
+  serial N        the serial number: 0
+  firmware A:B:C  the three numbers of the firmware's version: 0:0:0
+  cap F:L:N       a capability more: its function, level and count
+  room N          how many events may wait, 1 to 1024: 64
+  gap MS          after how long a silence a run of bytes is over: 20
+
+Input: a call on each line. Another program carries the port: share/osdp/examples/reader.py is one.
+
+  at MOMENT                the moment of the lines to come, in milliseconds
+  bytes HEX                these bytes have come
+  silence                  the line was silent
+  tick                     no bytes have come up to this moment
+  event WORD...            an event for the panel
+  busy on, busy off        whether the reader is busy
+  inputs HEX               a byte for each input; outputs and readers likewise
+  local T P                tamper and power
+
+Events, by their texts. docs/PROTOCOL.md has every field.
+
+  KEYPAD READER HEX        keys; KEYPAD 0 31 is key 1
+  RAW READER FORMAT N HEX  a card of N bits
+  FMT READER N HEX         a card as characters, read in direction N
+  ISTATR HEX               what the inputs are now, a byte for each; OSTATR, RSTATR likewise
+  LSTATR T P               what tamper and power are now
+
+Answers: before the last line of an answer stand lines like these.
+
+  send HEX            write these bytes to the line at once
+  taken X             do command X, once; nothing where the bytes sent are a NAK, whose sixth byte is 41
+  again X             command X with number 0 may come again: do only what may be done twice for one order
+  moved ADDRESS RATE  keep both where no loss of power takes them; then send, and set the port to this rate
+  refused line        no call: its name, how many words it has, or one that is no value or out of its range
+  refused N2          no room for another event
+  waiting N           the last line: how many events wait
+
+Examples:
+
+  $ printf 'bytes 530508000061003F\\n' | osdp reader address 5
+  send 538513000045000000000000000000000000D0
+  again ID 0
+  waiting 0
+
+  $ printf 'event KEYPAD 0 31\\n' | osdp reader
+  waiting 1
+";
+
+/// The help of a topic.
+pub fn help_text(topic: Topic) -> &'static str
+    ensures { IsHelpOf topic result.now }
+{
+    match topic {
+        Topic::Program => PROGRAM,
+        Topic::Show => SHOW,
+        Topic::Monitor => MONITOR,
+        Topic::Check => CHECK,
+        Topic::Make => MAKE,
+        Topic::Sim => SIM,
+        Topic::Panel => PANEL,
+        Topic::Reader => READER,
+    }
+}

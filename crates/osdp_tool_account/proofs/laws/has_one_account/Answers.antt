@@ -1,5 +1,0 @@
-use Rattle.osdp_tool_account.proofs.OneAccount.{one_account}
-use Rattle.osdp_tool_account.proofs.laws.has_one_account.Goals as goal
-
-pub returns : goal.returns
-returns c = one_account

@@ -1,5 +1,0 @@
-use Rattle.osdp_tool_account.proofs.OneAccount.{one_each}
-use Rattle.osdp_tool_account.proofs.laws.has_one_each.Goals as goal
-
-pub returns : goal.returns
-returns c = one_each

@@ -1,2 +1,0 @@
-pub mod AccountText
-pub mod Laws

@@ -1,9 +1,0 @@
-pub mod CutLemmas
-pub mod RunsLemmas
-pub mod FormLemmas
-pub mod Bytes
-pub mod Spelled
-pub mod BadLines
-pub mod Lengths
-pub mod Whole
-pub mod DigitValues

@@ -1,9 +1,0 @@
-use Rattle.osdp_tool_input.proofs.CutLemmas.{ended_lines-cut}
-use Rattle.osdp_tool_input.proofs.Bytes.{is_cut}
-use Rattle.osdp_tool_input.proofs.laws.one_cut.Goals as goal
-
-pub returns : goal.returns
-returns c = record {
-  some = is_cut;
-  one = λ bytes lines rest cut. ended_lines-cut bytes lines rest cut.each cut.last cut.whole;
-}

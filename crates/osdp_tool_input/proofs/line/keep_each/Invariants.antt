@@ -1,8 +1,0 @@
-use Rattle.std.proofs.Common.{◌≡◌, ◌++◌, drop}
-use Rattle.osdp_tool_input.specs.Line.{kept}
-use Rattle.osdp_tool_input.proofs.line.keep_each.Given as goal
-
--- what is kept and what is to come are the whole
-abbrev pub invariant-loop-byte : goal.invariant-loop-byte
-invariant-loop-byte l =
-    l.line.items ++ kept (drop l.byte-index l.characters) ≡ l.initial.line.items ++ kept l.characters

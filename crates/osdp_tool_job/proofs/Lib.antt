@@ -1,3 +1,0 @@
-pub mod OptionLemmas
-pub mod JobLemmas
-pub mod ClapLemmas

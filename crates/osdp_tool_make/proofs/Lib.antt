@@ -1,4 +1,0 @@
-pub mod Names
-pub mod Orders
-pub mod Ordered
-pub mod Printing

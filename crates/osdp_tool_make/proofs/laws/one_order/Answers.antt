@@ -1,5 +1,0 @@
-use Rattle.osdp_tool_make.proofs.Ordered.{one_order as there_is_one}
-use Rattle.osdp_tool_make.proofs.laws.one_order.Goals as goal
-
-pub returns : goal.returns
-returns c = there_is_one

@@ -1,3 +1,0 @@
-pub mod PacketOrder
-pub mod Ending
-pub mod Laws

@@ -1,0 +1,105 @@
+-- Lines as they are written, and lists of lines one by one.
+use Rattle.std.proofs.Common.{◌≡◌, ℕ, suc, ◌+◌, ◌<◌, ◌≤◌, List, [], ◌∷◌, ◌++◌, codes, drop, length, map, get_or, refl, sym, ap, ◌∙◌, append_assoc, append-nil, add-one, drop-cons, Result, Ok, Err, OnOk}
+use Rattle.std.specs.Fmt.{decimal}
+use Rattle.std.specs.List.{flat_map}
+use Rattle.std.proofs.Math.ListN.{drop_of_length-le}
+use Rattle.osdp_msg.specs.declared.command.Command.{Command}
+use Rattle.osdp_msg.specs.declared.event.Event.{Event}
+use Rattle.osdp_msg.specs.declared.reply.Reply.{Reply}
+use Rattle.osdp_msg.specs.CommandText.{command_text, command_words}
+use Rattle.osdp_msg.specs.Events.{event_text, event_words}
+use Rattle.osdp_msg.specs.ReplyText.{reply_text, reply_words}
+use Rattle.osdp_sim.specs.Account.{Account}
+use Rattle.osdp_words.specs.Word.{Word, plain, printed, text_of}
+use Rattle.osdp_tool_sim.specs.AccountText.{command_line, counts_line, line_text, lines_text}
+
+pub command_is : (name : List ℕ) (c : Command) → line_text (command_line name c) ≡ name ++ (codes " " ++ (command_text c ++ codes "\n"))
+unfolding command_text
+command_is name c = append_assoc name (codes " " ++ text_of (command_words c)) (codes "\n")
+
+pub event_is : (name : List ℕ) (e : Event) → line_text (plain name ∷ event_words e) ≡ name ++ (codes " " ++ (event_text e ++ codes "\n"))
+unfolding reply_text
+event_is name e = append_assoc name (codes " " ++ text_of (event_words e)) (codes "\n")
+
+both_lists : (xs ys : List Word) → flat_map (λ word. codes " " ++ printed word) (xs ++ ys)
+    ≡ flat_map (λ word. codes " " ++ printed word) xs ++ flat_map (λ word. codes " " ++ printed word) ys
+both_lists [] ys = refl
+both_lists (x ∷ xs) ys =
+    ap (λ l. (codes " " ++ printed x) ++ l) (both_lists xs ys)
+    ∙ sym (append_assoc (codes " " ++ printed x) (flat_map (λ word. codes " " ++ printed word) xs) (flat_map (λ word. codes " " ++ printed word) ys))
+
+pub settled_is : (name : List ℕ) (c : Command) (r : Reply) → line_text (plain name ∷ (command_words c ++ plain (codes "=") ∷ reply_words r))
+    ≡ name ++ (codes " " ++ (command_text c ++ (codes " = " ++ (reply_text r ++ codes "\n"))))
+unfolding command_text reply_text
+settled_is name c r =
+    ap (λ l. (name ++ l) ++ codes "\n") (both_lists (command_words c) (plain (codes "=") ∷ reply_words r))
+    ∙ append_assoc name ((codes " " ++ text_of (command_words c)) ++ (codes " = " ++ text_of (reply_words r))) (codes "\n")
+    ∙ ap (λ l. name ++ (codes " " ++ l)) (append_assoc (text_of (command_words c)) (codes " = " ++ text_of (reply_words r)) (codes "\n"))
+
+pub end_is : (name word : List ℕ) → line_text (plain name ∷ plain word ∷ []) ≡ name ++ (codes " " ++ (word ++ codes "\n"))
+end_is name word = append_assoc name (codes " " ++ (word ++ [])) (codes "\n") ∙ ap (λ l. name ++ (codes " " ++ (l ++ codes "\n"))) (append-nil word)
+
+pub lines_more : {X : Type 0} (line : X → List Word) (xs : List X) (i : ℕ) (x : X) (text next whole : List ℕ) → i < length xs → x ≡ get_or xs i x
+    → next ≡ text ++ line_text (line x) → text ++ lines_text (map line (drop i xs)) ≡ whole
+    → next ++ lines_text (map line (drop (i + 1) xs)) ≡ whole
+lines_more line xs i x text next whole within is written all =
+    let cut : drop i xs ≡ x ∷ drop (i + 1) xs = split in
+    ap (λ l. l ++ lines_text (map line (drop (i + 1) xs))) written
+    ∙ append_assoc text (line_text (line x)) (lines_text (map line (drop (i + 1) xs)))
+    ∙ ap (λ l. text ++ lines_text (map line l)) (sym cut)
+    ∙ all
+  where
+    split : drop i xs ≡ x ∷ drop (i + 1) xs
+    split = rw add-one (drop-cons xs i x within ∙ ap (λ y. y ∷ drop (suc i) xs) (sym is))
+
+pub lines_done : {X : Type 0} (line : X → List Word) (xs : List X) (i : ℕ) (text whole : List ℕ) → length xs ≤ i
+    → text ++ lines_text (map line (drop i xs)) ≡ whole → text ≡ whole
+lines_done line xs i text whole past all =
+    sym (append-nil text) ∙ ap (λ l. text ++ lines_text (map line l)) (sym (drop_of_length-le xs past)) ∙ all
+
+-- the two halves of the line of counts, which are written one after the other
+halves : (old mid new n i t s u q r : List ℕ)
+    → mid ≡ old ++ (codes "reader " ++ (n ++ (codes " issued " ++ (i ++ (codes " taken " ++ (t ++ (codes " settled " ++ (s ++ (codes " unsettled " ++ u)))))))))
+    → new ≡ mid ++ (codes " queued " ++ (q ++ (codes " reported " ++ (r ++ codes "\n"))))
+    → new ≡ old ++ ((codes "reader " ++ (n ++ (codes " issued " ++ (i ++ (codes " taken " ++ (t ++ (codes " settled " ++ (s ++ (codes " unsettled " ++ (u ++ (codes " queued " ++ (q ++ (codes " reported " ++ (r ++ []))))))))))))))
+    ++ codes "\n")
+halves old mid new n i t s u q r first second = second ∙ ap (λ l. l ++ (codes " queued " ++ (q ++ (codes " reported " ++ (r ++ codes "\n"))))) first ∙ simp (append_assoc, append-nil)
+
+pub counts_are : (a : Account) (reader i t s u q r : ℕ) (old mid new : List ℕ)
+    → i ≡ length a.issued → t ≡ length a.taken → s ≡ length a.settled → u ≡ length a.unsettled → q ≡ length a.queued → r ≡ length a.reported
+    → mid ≡ old ++ (codes "reader " ++ (decimal reader ++ (codes " issued " ++ (decimal i ++ (codes " taken " ++ (decimal t ++ (codes " settled " ++ (decimal s ++ (codes " unsettled " ++ decimal u)))))))))
+    → new ≡ mid ++ (codes " queued " ++ (decimal q ++ (codes " reported " ++ (decimal r ++ codes "\n"))))
+    → new ≡ old ++ line_text (counts_line reader a)
+counts_are a reader i t s u q r old mid new ei et es eu eq er first second =
+    rw (← ei, ← et, ← es, ← eu, ← eq, ← er)
+    (halves old mid new (decimal reader) (decimal i) (decimal t) (decimal s) (decimal u) (decimal q) (decimal r) first second)
+
+pub lines_both : (xs ys : List (List Word)) → lines_text (xs ++ ys) ≡ lines_text xs ++ lines_text ys
+lines_both [] ys = refl
+lines_both (x ∷ xs) ys =
+    ap (λ l. line_text x ++ l) (lines_both xs ys) ∙ sym (append_assoc (line_text x) (lines_text xs) (lines_text ys))
+
+-- one list after the other
+pub five_lists : (head : List Word) (va vb vc vd ve : List (List Word)) (t0 t1 t2 t3 t4 t5 : List ℕ)
+    → t0 ≡ line_text head → t1 ≡ t0 ++ lines_text va → t2 ≡ t1 ++ lines_text vb → t3 ≡ t2 ++ lines_text vc
+    → t4 ≡ t3 ++ lines_text vd → t5 ≡ t4 ++ lines_text ve
+    → t5 ≡ lines_text (head ∷ (va ++ (vb ++ (vc ++ (vd ++ ve)))))
+five_lists head va vb vc vd ve t0 t1 t2 t3 t4 t5 h0 h1 h2 h3 h4 h5 =
+    h5 ∙ ap (λ l. l ++ lines_text ve) h4
+    ∙ ap (λ l. (l ++ lines_text vd) ++ lines_text ve) h3
+    ∙ ap (λ l. ((l ++ lines_text vc) ++ lines_text vd) ++ lines_text ve) h2
+    ∙ ap (λ l. (((l ++ lines_text vb) ++ lines_text vc) ++ lines_text vd) ++ lines_text ve) h1
+    ∙ ap (λ l. ((((l ++ lines_text va) ++ lines_text vb) ++ lines_text vc) ++ lines_text vd) ++ lines_text ve) h0
+    ∙ regroup (line_text head) (lines_text va) (lines_text vb) (lines_text vc) (lines_text vd) (lines_text ve)
+    ∙ ap (λ l. line_text head ++ l) (sym (
+    lines_both va (vb ++ (vc ++ (vd ++ ve)))
+    ∙ ap (λ l. lines_text va ++ l) (lines_both vb (vc ++ (vd ++ ve))
+    ∙ ap (λ l. lines_text vb ++ l) (lines_both vc (vd ++ ve)
+    ∙ ap (λ l. lines_text vc ++ l) (lines_both vd ve)))))
+  where
+    regroup : (l a b c d e : List ℕ) → ((((l ++ a) ++ b) ++ c) ++ d) ++ e ≡ l ++ (a ++ (b ++ (c ++ (d ++ e))))
+    regroup l a b c d e = simp append_assoc
+
+pub on_ok : {T E : Type 0} {P Q : Type 0} (r : Result T E) → (P → Q) → OnOk r P → OnOk r Q
+on_ok (Ok x) f p = f p
+on_ok (Err e) f p = p

@@ -1,0 +1,7 @@
+use Rattle.std.proofs.Common.{◌≡◌, false, take}
+use Rattle.osdp_tool_streams.specs.Line.{kept}
+use Rattle.osdp_tool_streams.proofs.line.has_blank.Given as goal
+
+-- what was looked at is kept whole, where no blank was found
+abbrev pub invariant-loop-byte : goal.invariant-loop-byte
+invariant-loop-byte l = l.found ≡ false → kept (take l.byte-index l.characters) ≡ take l.byte-index l.characters
