@@ -1,57 +1,68 @@
 /*
  * OSDP, the panel's and the device's end of the link, for C and for whatever calls C.
  *
- * The functions are proved: what each does is stated over the definitions of the machines, and checked by Rattle's prover. They are
- * in the archive libosdp_c.a, which `rt lib` builds from crates/osdp_c. What stands between a caller and the proof is this page.
- * `./install` puts the archive in place as libosdp.a, with a heap over malloc in it: cc FILE $(pkg-config --cflags --libs osdp).
+ * The functions are proved: what each does is stated over the definitions of the machines, and checked by Rattle's prover. They
+ * are in the archive libosdp_c.a, which `rt lib` builds from crates/osdp_c. What stands between a caller and the proof is this
+ * page. `./install` puts the archive in place as libosdp.a, with a heap over malloc in it:
+ * cc FILE $(pkg-config --cflags --libs osdp).
  *
- * Nothing here reads, writes, sleeps or keeps a clock. The program reads its port, takes the moment after the read, hands both in,
- * and writes what it is given.
+ * Nothing here reads, writes, sleeps or keeps a clock. The program reads its port, takes the moment after the read, hands both
+ * in, and writes what it is given.
  *
- * Units.      Moments and times are in milliseconds, of any clock that doesn't go backwards; a moment that lies before the greatest
- *             one seen counts as that one, and one that lies a day after it is refused (`clock_limit`). Lengths and counts are in bytes where nothing else is said.
- * Ownership.  A handle is two words that the caller owns. All zeros is none: no machine. `new` puts a machine on the heap and into
- *             the handle, `free` takes it away. Bytes, texts and structs stay the caller's: nothing keeps a pointer after a call.
- * Results.    Each call that can be refused gives a status. A refused call has changed nothing: no machine, no handle, and nothing
- *             that it would have written, except where it says so.
- * Writing.    A struct is written whole but for its arrays: of an array as many bytes as its length says are written, and the others
- *             stay as they were. Nothing beyond a struct is written. No struct that a call reads or writes has padding.
- * Heap.       `osdp_panel_new` takes 43,112 bytes in two blocks, and `osdp_panel_add` 1,648 for each command that may wait, in one.
- *             `osdp_device_new` takes 20,384 bytes, and 1,456 for each event that may wait, in two blocks. `free` gives all back. No other call
- *             takes memory. Where there is none, a call says so, and nothing has changed.
+ * Units.      Moments and times are in milliseconds, of any clock that doesn't go backwards; a moment that lies before the
+ *             greatest one seen counts as that one, and one that lies more than a day after it is refused (`clock_limit`).
+ *             Lengths and counts are in bytes where nothing else is said.
+ * Ownership.  A handle is two words that the caller owns. All zeros is none: no machine. `new` puts a machine on the heap and
+ *             into the handle, `free` takes it away. Bytes, texts and structs stay the caller's: nothing keeps a pointer after a
+ *             call.
+ * Results.    Each call that can be refused gives a status. A refused call has changed nothing: no machine, no handle, and
+ *             nothing that it would have written, except where it says so.
+ * Writing.    A struct is written whole but for its arrays: of an array as many bytes as its length says are written, and the
+ *             others stay as they were. Nothing beyond a struct is written. No struct that a call reads or writes has padding.
+ * Heap.       `osdp_panel_new` takes 43,112 bytes in two blocks, and `osdp_panel_add` 1,648 for each command that may wait, in
+ *             one. `osdp_device_new` takes 20,384 bytes, and 1,456 for each event that may wait, in two blocks. `free` gives all
+ *             back. No other call takes memory. Where there is none, a call says so, and nothing has changed.
  * Stack.      `osdp_device_new` takes 98 KiB of stack, each other call at most 68 KiB, as measured on 64-bit x86.
  * Targets.    64-bit x86 and ARM, where a `size_t` has 64 bits.
  *
  * What the caller owes. No proof checks it. Each has what happens otherwise:
  *
- * - A handle is all zeros, or what the calls on it left there. A copy that is used beside it, or words that were changed, are memory that was freed: anything may
- *   happen. The two handles have fields of their own, so that the compiler sees a cast from one to the other.
- * - A handle is used by one thread at a time, one call at a time, and in no signal handler: each call takes the machine out of its handle while it runs. So two calls
- *   at once find no machine (OSDP_NO_MACHINE), or both find it, and anything may happen. Another thread may take a handle over where the heap is one that threads may share.
- * - Each pointer is good and aligned: to as much as the call reads or writes, and to memory that is initialised where it is read; else anything may happen. One to bytes,
- *   a text or records may be null where their length is 0, by the functions at the end of this page; no other may be null.
- * - What one call writes overlaps nothing else that the same call gets: else anything may be written. So the bytes of an answer aren't given to `osdp_device_step`
- *   together with the struct that they stand in: copy them, or take another struct.
- * - The stack has room (see above): else other memory is overwritten. `struct osdp_report` and `struct osdp_answer` have 2.9 KB each: make them static where a task's
- *   stack is small.
- * - `rattle_alloc` and `rattle_dealloc` (below) are a heap, and `memcpy`, `memmove` and `memset` are those of C: else anything may happen.
- * - Moments are taken after the read, of a clock that doesn't go backwards. From a moment that is too early gaps and waits are over too late, and from one that is too
- *   late, too early: then packets are cut in two, and answers that come are not waited for. One that lies more than `clock_limit` after the greatest one seen is refused
- *   (OSDP_MOMENT_TOO_FAR), and nothing has changed: the clock has failed, or the host has slept. In the second case tell `osdp_panel_set_moment` or
- *   `osdp_device_set_moment` the moment, and go on; a panel's sessions are then likely told lost. The first moment may be any, so take that one with care: until the
- *   clock reaches the greatest one seen, time stands still for the machine.
+ * - A handle is all zeros, or what the calls on it left there. A copy that is used beside it, or words that were changed, are
+ *   memory that was freed: anything may happen. The two handles have fields of their own, so that the compiler sees a cast from
+ *   one to the other.
+ * - A handle is used by one thread at a time, one call at a time, and in no signal handler: each call takes the machine out of
+ *   its handle while it runs. So two calls at once find no machine (OSDP_NO_MACHINE), or both find it, and anything may happen.
+ *   Another thread may take a handle over where the heap is one that threads may share.
+ * - Each pointer is good and aligned: to as much as the call reads or writes, and to memory that is initialised where it is read;
+ *   else anything may happen. One to bytes, a text or records may be null where their length is 0, by the functions at the end of
+ *   this page; no other may be null.
+ * - What one call writes overlaps nothing else that the same call gets: else anything may be written. So the bytes of an answer
+ *   aren't given to `osdp_device_step` together with the struct that they stand in: copy them, or take another struct.
+ * - The stack has room (see above): else other memory is overwritten. `struct osdp_report` and `struct osdp_answer` have 2.9 KB
+ *   each: make them static where a task's stack is small.
+ * - `rattle_alloc` and `rattle_dealloc` (below) are a heap, and `memcpy`, `memmove` and `memset` are those of C: else anything
+ *   may happen.
+ * - Moments are taken after the read, of a clock that doesn't go backwards. From a moment that is too early gaps and waits are
+ *   over too late, and from one that is too late, too early: then packets are cut in two, and answers that come are not waited
+ *   for. One that lies more than `clock_limit` after the greatest one seen is refused (OSDP_MOMENT_TOO_FAR), and nothing has
+ *   changed: the clock has failed, or the host has slept. In the second case tell `osdp_panel_set_moment` or
+ *   `osdp_device_set_moment` the moment, and go on; a panel's sessions are then likely told lost. The first moment may be any, so
+ *   take that one with care: until the clock reaches the greatest one seen, time stands still for the machine.
  * - Bursts go out at once, whole and in their order: else the other end reads a packet that was not said, or none.
  * - A machine that isn't freed is leaked.
  *
- * What is promised of a line, where both ends are these machines and one panel speaks: in each session orders are taken once and in order, each settled with the
- * answer that the device gave, and events are told once and in order, but those that a restart of the device threw away. No order that the panel accepted is
- * taken twice (docs/HEADLINE.md). That holds of any calls, at any moments, however bytes are cut. Four things are asked, and these are the program's part of them:
+ * What is promised of a line, where both ends are these machines and one panel speaks: in each session orders are taken once and
+ * in order, each settled with the answer that the device gave, and events are told once and in order, but those that a restart of
+ * the device threw away. No order that the panel accepted is taken twice (docs/HEADLINE.md). That holds of any calls, at any
+ * moments, however bytes are cut. Four things are asked, and these are the program's part of them:
  *
  * - In order. Bytes are handed in as they come, each once, to the machine whose line they came on.
- * - Quiet opening. What was said before a session's opening doesn't come after it: the quiet wait is longer than a line, or a radio on it, holds a packet back.
- * - Addresses. No two devices are given one address. After an order that sets one, and until the session after it has opened, the device may be at either: write
- *   both down before the order goes out, give neither to another device, and retarget to these two alone. A panel that starts again takes each device where it
- *   was, or where such an order may have taken it. A device that starts again starts at the address that it has kept.
+ * - Quiet opening. What was said before a session's opening doesn't come after it: the quiet wait is longer than a line, or a
+ *   radio on it, holds a packet back.
+ * - Addresses. No two devices are given one address. After an order that sets one, and until the session after it has opened, the
+ *   device may be at either: write both down before the order goes out, give neither to another device, and retarget to these two
+ *   alone. A panel that starts again takes each device where it was, or where such an order may have taken it. A device that
+ *   starts again starts at the address that it has kept.
  * - Set-up. Devices are added at different addresses, each with its device there, before anything is said.
  */
 #ifndef OSDP_H
@@ -794,8 +805,8 @@ void rattle_dealloc(void *block);
 /* ---- Null pointers for no bytes ---- */
 
 /*
- * The functions of the archive take no null pointer. Those above that may get one, since there are no bytes, are these: a null pointer becomes one to some byte, of
- * which nothing is read or written where the length is 0.
+ * The functions of the archive take no null pointer. Those above that may get one, since there are no bytes, are these: a null
+ * pointer becomes one to some byte, of which nothing is read or written where the length is 0.
  */
 osdp_status osdp_command_text_nonnull(uint8_t code, const uint8_t *data, size_t length, char *text, size_t room, size_t *text_length);
 osdp_status osdp_reply_text_nonnull(uint8_t code, const uint8_t *data, size_t length, char *text, size_t room, size_t *text_length);
@@ -810,7 +821,8 @@ osdp_status osdp_device_set_outputs_nonnull(osdp_device *device, const uint8_t *
 osdp_status osdp_device_set_readers_nonnull(osdp_device *device, const uint8_t *states, size_t length);
 osdp_status osdp_device_event_nonnull(osdp_device *device, uint8_t code, const uint8_t *data, size_t length);
 osdp_status osdp_device_event_text_nonnull(osdp_device *device, const char *text, size_t length);
-osdp_status osdp_device_step_nonnull(osdp_device *device, const uint8_t *bytes, size_t length, uint64_t now, size_t *taken, struct osdp_answer *answer);
+osdp_status osdp_device_step_nonnull(
+    osdp_device *device, const uint8_t *bytes, size_t length, uint64_t now, size_t *taken, struct osdp_answer *answer);
 osdp_status osdp_device_answer_list_nonnull(osdp_device *device, const uint8_t *states, size_t length);
 osdp_status osdp_device_answer_maker_nonnull(osdp_device *device, const uint8_t *vendor, const uint8_t *bytes, size_t length);
 
@@ -909,7 +921,8 @@ static inline osdp_status osdp_device_event_text(osdp_device *device, const char
     return osdp_device_event_text_nonnull(device, osdp_some_text(text), length);
 }
 
-static inline osdp_status osdp_device_step(osdp_device *device, const uint8_t *bytes, size_t length, uint64_t now, size_t *taken, struct osdp_answer *answer)
+static inline osdp_status osdp_device_step(
+    osdp_device *device, const uint8_t *bytes, size_t length, uint64_t now, size_t *taken, struct osdp_answer *answer)
 {
     return osdp_device_step_nonnull(device, osdp_some_bytes(bytes), length, now, taken, answer);
 }
