@@ -208,7 +208,7 @@ def anchor(heading):
 def judge_links(page):
     """Any page: what its links go to is there. Where it begins with its contents each part is among them."""
     text = (TOP / page).read_text()
-    if "\n| Part | What it is for |\n" in text:
+    if re.search(r"^\| Part \| What it is for \|$|^\*\*Contents\.\*\*", text, re.M):
         for heading in re.findall(r"^## (.*)$", text, re.M):
             if f"](#{anchor(heading)})" not in text:
                 faults.append(f"{page}: its contents don't have {heading}")
