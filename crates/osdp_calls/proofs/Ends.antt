@@ -25,6 +25,7 @@ use Rattle.osdp_shared_line.proofs.Sites.{at_changed, at_other, some_same}
 use Rattle.osdp_calls.specs.Calls.{Call, NewDevice, NewPanel, Next, OfPanel, Pending, SetBusy, SetHandler, Silence, Step, SubmitEvent, Take, TickDevice, after_call, after_calls, after_next, all_forget, all_hear, asked_at, begins_session, begins_with, begun_of, change_at, changes_at, forgets, hears_of, is_to_begin, issues, last_of, made_anew, nexts, noted, panel_says, queues, said_at, takes_back, waiting_of, withdrawn}
 use Rattle.osdp_calls.specs.Ends.{BusIsReached, CanStand, GoByTheirOwn, IsThatOfABus, OneExchange, Held, KeepsPanel, device_after, device_after_all, held_by, is_of_device, one_panel_call, panel_calls, takes_event}
 use Rattle.osdp_calls.specs.Lines.{InUse, Station}
+use Rattle.osdp_calls.specs.Turning.{PanelTurnsByCalls, panel_turn_calls}
 use Rattle.osdp_calls.proofs.Sayings.{adds_make_the_bus}
 
 more_calls : (xs ys : List bus.Call) (b : BusState) → bus.after_calls (xs ++ ys) b ≡ bus.after_calls ys (bus.after_calls xs b)
@@ -282,3 +283,9 @@ module _ {H : Type 0} where
     one_exchange always config addresses l steps settings none is can =
         let r = bus_is_reached config addresses l steps settings none is can in
         subst HasOneExchange (sym r.is) (always r.config r.calls r.settings)
+
+    -- ---- a turn of a panel's loop
+
+    pub panel_turns : (l : InUse H) → PanelTurnsByCalls answer_of after l
+    panel_turns l bytes now read more =
+        all_bus (panel_turn_calls bytes now read more) l (tt, (tt, (tt, (tt, tt))))

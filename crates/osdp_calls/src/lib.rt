@@ -11,7 +11,7 @@ ghost use Rattle.osdp_calls.specs.Promises.{CallsHoldOnce, CallsKeepApart};
 ghost use Rattle.osdp_calls.specs.Refusals.{CallsRefuseNoNumber};
 ghost use Rattle.osdp_calls.specs.Restarts.{NewDeviceCosts, NewDeviceReportsNoMore, NewPanelCosts};
 ghost use Rattle.osdp_calls.specs.Sayings.{AddsMakeTheBus, SaysWhatGoesOut};
-ghost use Rattle.osdp_calls.specs.Turning.{TurnsByCalls};
+ghost use Rattle.osdp_calls.specs.Turning.{PanelTurnsByCalls, TurnsByCalls};
 ghost use Rattle.osdp_calls.specs.Undisturbed.{OrdinaryCallsDisturbNone};
 ghost use Rattle.osdp_device.specs.declared.program.ProgramAnswers.{ProgramAnswers};
 
@@ -79,6 +79,11 @@ pub fn restarts_cost<H: Handler>()
 /// A turn of a device whose program sets the answers, and what it does after `take`, are lists of these calls.
 pub fn turns_are_calls()
     ensures { (l : InUse ProgramAnswers) → TurnsByCalls l }
+{}
+
+/// A turn of a panel's loop is a list of these calls.
+pub fn panel_turns_are_calls<H: Handler>()
+    ensures { (l : InUse H) → PanelTurnsByCalls H.answer_of H.after l }
 {}
 
 /// The bus of a line in use is, as long as the panel is not made anew, what the panel's calls make of it, and a device is what the calls of its
