@@ -6,20 +6,20 @@ use std::alloc::Global;
 use std::process::Abort;
 
 /// A call that comes seldom.
-fn is_seldom(rt: &impl Abort, line: &mut Line, device: usize) {
+fn calls_seldom(rt: &impl Abort, line: &mut Line, device: usize) {
     match line.dice.roll(48) {
         0 => line.restarts_device(rt, device),
         1 => line.restarts_panel(rt),
         2 | 3 => line.withdraws(rt, device),
-        4 => line.is_busy(device, true),
-        5 => line.is_silent_for_all(rt),
+        4 => line.sets_busy(device, true),
+        5 => line.silences_all(rt),
         6 => line.loses_all(End::Panel),
         7 => line.loses_all(End::Device(device)),
-        8 => line.is_slow(End::Panel, true),
-        9 => line.is_slow(End::Device(device), true),
-        10 | 11 | 12 => line.is_slow(End::Panel, false),
-        13 | 17 | 18 => line.is_busy(device, false),
-        14 | 15 | 16 => line.is_slow(End::Device(device), false),
+        8 => line.sets_slow(End::Panel, true),
+        9 => line.sets_slow(End::Device(device), true),
+        10 | 11 | 12 => line.sets_slow(End::Panel, false),
+        13 | 17 | 18 => line.sets_busy(device, false),
+        14 | 15 | 16 => line.sets_slow(End::Device(device), false),
         it if it < 24 => line.queues(rt, device, MOST),
         it if it < 32 => line.orders(rt, device, MOST),
         _ => line.begins(device),
@@ -31,7 +31,7 @@ fn happens(rt: &impl Abort, line: &mut Line) {
     let device = line.dice.roll(2) as usize;
     line.waits();
     match line.dice.roll(40) {
-        0 | 1 => is_seldom(rt, line, device),
+        0 | 1 => calls_seldom(rt, line, device),
         it if it < 14 => line.ticks(rt),
         it if it < 26 => line.reads(rt, End::Device(device)),
         it if it < 33 => line.reads(rt, End::Device(usize::from(device == 0))),

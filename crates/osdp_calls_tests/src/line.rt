@@ -180,7 +180,8 @@ impl Line {
         }
     }
 
-    pub fn is_silent_for_all(&mut self, rt: &impl Abort) {
+    /// Each end sees the line silent.
+    pub fn silences_all(&mut self, rt: &impl Abort) {
         self.sees_silence(rt, End::Device(0));
         self.sees_silence(rt, End::Device(1));
         self.sees_silence(rt, End::Panel);
@@ -189,7 +190,7 @@ impl Line {
     /// The panel's clock: what it sends is said. Where it is the opening ID of a session, what was said before of its device is read no more.
     pub fn ticks(&mut self, rt: &impl Abort) {
         if self.first.is_fresh || self.second.is_fresh {
-            self.is_silent_for_all(rt);
+            self.silences_all(rt);
         }
         let early = if self.dice.is_once_in(50) { 500 } else { 0 };
         let sent = self.bus.tick(self.now.saturating_sub(early));
@@ -219,7 +220,7 @@ impl Line {
     }
 
     /// An end stays at a burst for a while, or goes on.
-    pub fn is_slow(&mut self, end: End, is_slow: bool) {
+    pub fn sets_slow(&mut self, end: End, is_slow: bool) {
         match end {
             End::Panel => self.is_slow = is_slow,
             End::Device(device) => self.site(device).is_slow = is_slow,
@@ -363,7 +364,8 @@ impl Line {
         }
     }
 
-    pub fn is_busy(&mut self, device: usize, is_busy: bool) {
+    /// A device is busy from now on, or ready.
+    pub fn sets_busy(&mut self, device: usize, is_busy: bool) {
         self.site(device).device.reader.set_busy(is_busy);
     }
 
@@ -377,7 +379,7 @@ impl Line {
 
     /// The panel is made anew, where nothing that was said is read any more.
     pub fn restarts_panel(&mut self, rt: &impl Abort) {
-        self.is_silent_for_all(rt);
+        self.silences_all(rt);
         self.loses_all(End::Panel);
         self.loses_all(End::Device(0));
         self.loses_all(End::Device(1));
